@@ -1,0 +1,25 @@
+//! The types that all crates of the gateway share, and the traits of the outside: an input, an
+//! output, and what a fault of either looks like.
+#![tactic(auto)]
+
+mod address;
+mod kind;
+mod fault;
+mod key_state;
+mod memory_sink;
+mod memory_source;
+mod moment;
+mod octets;
+mod sink;
+mod source;
+
+pub use address::{Absolute, Addr, GatewayId, NodeId};
+pub use kind::{CdrKind, cdr_kind};
+pub use fault::{Failed, NoMemory};
+pub use key_state::KeyState;
+pub use memory_sink::MemorySink;
+pub use memory_source::MemorySource;
+pub use moment::Moment;
+pub use octets::Octets;
+pub use sink::Sink;
+pub use source::Source;
