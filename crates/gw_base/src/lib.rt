@@ -5,21 +5,26 @@
 mod address;
 mod kind;
 mod fault;
+mod history;
 mod key_state;
 mod memory_sink;
 mod memory_source;
 mod moment;
+mod number;
 mod octets;
+pub mod scan;
 mod sink;
 mod source;
 
 pub use address::{Absolute, Addr, GatewayId, NodeId};
 pub use kind::{CdrKind, cdr_kind};
 pub use fault::{Failed, NoMemory};
+pub use history::{Absolutes, Caller, HistoryAct, HistoryEntry, PacketKey};
 pub use key_state::KeyState;
 pub use memory_sink::MemorySink;
 pub use memory_source::MemorySource;
 pub use moment::Moment;
+pub use number::{nearest_is_the_one, nearest_number};
 pub use octets::Octets;
 pub use sink::Sink;
 pub use source::Source;
