@@ -1,3 +1,4 @@
+pub mod Buffer
 pub mod CdrKind
 pub mod Faults
 pub mod History
