@@ -1,0 +1,7 @@
+//! The job of the program, over any source and any sink.
+#![tactic(auto)]
+
+mod feed;
+mod gateway_book;
+mod gtpp_message;
+mod world_script;

@@ -1,0 +1,9 @@
+//! Scripts: their lines, and the first that is refused.
+
+mod line;
+mod progress;
+mod refusal;
+mod text;
+
+pub use line::Line;
+pub use refusal::{InputKind, Refusal};
