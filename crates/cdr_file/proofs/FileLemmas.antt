@@ -1,9 +1,10 @@
 -- How many octets a file and its parts have, and how a file grows by a record.
-use Rattle.std.proofs.Common.{◌≡◌, ℕ, ◌+◌, List, [], ◌∷◌, ◌++◌, length, length-append, sum_by, refl, ap, ◌∙◌, arith}
+use Rattle.std.proofs.Common.{◌≡◌, ℕ, ◌+◌, List, [], ◌∷◌, ◌++◌, length, length-append, sum_by, ◌<◌, refl, arith}
 use Rattle.std.specs.List.{flat_map}
 use Rattle.std.proofs.lemmas.Grind.{flat_map-append}
 use Rattle.std.proofs.lemmas.List.{append-nil}
-use Rattle.std.proofs.lemmas.List.Sums.{sum_by-cons}
+use Rattle.std.proofs.lemmas.List.Sums.{sum_by-cons, sum_by_push}
+use Rattle.gw_base.specs.CdrKind.{kind_of}
 use Rattle.cdr_file.specs.declared.cdr_header.CdrHeader.{CdrHeader}
 use Rattle.cdr_file.specs.declared.closure.ClosureReason.{ClosureReason}
 use Rattle.cdr_file.specs.declared.file_header.FileHeader.{FileHeader}
@@ -48,8 +49,15 @@ length-file_octets run sequence reason settings =
 pub run_octets-append : (run : List FiledRecord) (last : FiledRecord) → run_octets (run ++ last ∷ []) ≡ run_octets run ++ cdr_octets last
 run_octets-append run last = rw (flat_map-append, append-nil)
 
+pub file_length-append : (run : List FiledRecord) (last : FiledRecord) → file_length (run ++ last ∷ []) ≡ file_length run + cdr_length last
+file_length-append run last = omega (arith, sum_by_push cdr_length run last)
+
 -- and the file was appended to at its moment
 pub last_moment-append : (run : List FiledRecord) (last : FiledRecord) → last_moment (run ++ last ∷ []) ≡ last.moment
 last_moment-append [] last = refl
 last_moment-append (first ∷ []) last = refl
 last_moment-append (first ∷ (next ∷ later)) last = last_moment-append (next ∷ later) last
+
+-- the kind of a packet's records fits the headers
+pub kind_of_fits : (format version : ℕ) → ((kind_of format version).release < 8) × ((kind_of format version).version < 32) × ((kind_of format version).format < 8)
+kind_of_fits format version = grind arith

@@ -1,2 +1,3 @@
+pub mod CountedDates
 pub mod FileLemmas
 pub mod Examples
