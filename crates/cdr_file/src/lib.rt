@@ -17,3 +17,6 @@ pub use closure::ClosureReason;
 pub use file_header::{FileHeader, write_header};
 pub use offset::Offset16;
 pub use timestamp::stamp;
+
+#[cfg(test)]
+mod tests;
