@@ -1,13 +1,13 @@
--- Counting days on gives the date that `jiff_core`'s calendar gives a day, and so its timestamp.
-use Rattle.std.proofs.Common.{◌≡◌, ℕ, zero, suc, ◌+◌, ◌-◌, ◌*◌, ◌/◌, ◌%◌, ◌^◌, ◌<◌, ◌≤◌, inl, inr, refl, arith, ℤ, pos, negsuc, ◌+ℤ◌, ◌*ℤ◌, ◌≤ℤ◌, ◌<ℤ◌, unsigned_abs}
+-- Counting days on gives the date that `jiff_core`'s calendar gives a day, and so its timestamp. The lengths of years and
+-- months are the same in both by computation.
+use Rattle.std.proofs.Common.{◌≡◌, ℕ, zero, suc, ◌+◌, ◌-◌, ◌*◌, ◌/◌, ◌%◌, ◌<◌, ◌≤◌, inl, inr, refl, arith, ℤ, pos, negsuc, ◌+ℤ◌, ◌*ℤ◌, ◌≤ℤ◌, unsigned_abs}
 use Rattle.std.proofs.lemmas.Bool.{cases_lt, lt-ltb, le-ltb}
 use Rattle.std.proofs.lemmas.Int.{by_lt_z}
-use Rattle.jiff_core.specs.Calendar.{IsCivilDate, day_count, day_of_year, days_in_month, days_in_year, days_of_months}
+use Rattle.jiff_core.specs.Calendar.{IsCivilDate, IsWithin, day_count, day_of_year, days_of_months}
 use Rattle.jiff_core.specs.Date.{epoch_day}
 use Rattle.jiff_core.specs.DateTime.{civil_nanos}
-use Rattle.jiff_core.specs.Time.{time_nanos, time_seconds}
+use Rattle.jiff_core.specs.Time.{time_seconds}
 use Rattle.jiff_core.specs.Timestamp.{nanos_of_seconds}
-use Rattle.jiff_core.specs.Calendar.{IsWithin}
 use Rattle.jiff_core.specs.declared.civil.date.Date.{Date}
 use Rattle.jiff_core.specs.declared.civil.datetime.DateTime.{DateTime}
 use Rattle.jiff_core.proofs.DateLemmas.{civil}
@@ -18,13 +18,7 @@ use Rattle.jiff_core.proofs.SignedLemmas.{signed_arith}
 use Rattle.cdr_file.specs.Timestamp.{local_second, packed_fields, sign_bit, stamp_of}
 use Rattle.cdr_file.specs.Calendar.{MonthDay, date_from_month, date_from_year, date_since_1969, days_of_month, days_of_year}
 
--- both calendars have the same years and months
-days_of_year-days_in_year : (year : ℕ) → days_of_year year ≡ days_in_year (pos year)
-days_of_year-days_in_year year = refl
-
-days_of_month-days_in_month : (year month : ℕ) → days_of_month year month ≡ days_in_month (pos year) month
-days_of_month-days_in_month year month = refl
-
+-- two dates with equal parts are equal
 same_date : (month day m d : ℕ) → month ≡ m → day ≡ d → ◌≡◌ {A = MonthDay} (record { month = month; day = day }) (record { month = m; day = d })
 same_date month day m d e f = rw (e, f) refl
 
@@ -103,6 +97,7 @@ date_from_year-is (suc later) year y m d days civil last h =
     let here = date_in_year year y m d days same civil h in
     rw (lt-ltb days (days_of_year year) here.0) here.1)
 
+-- how many days `jiff_core` counts before these years
 day_count-1969 : day_count (pos 1969) 1 1 ≡ 4_371_588
 day_count-1969 = day_count-early (pos 1969) 11968 1 1 refl (omega arith) (omega arith) (omega arith)
 

@@ -1,6 +1,5 @@
 -- How many octets a file and its parts have, and how a file grows by a record.
 use Rattle.std.proofs.Common.{◌≡◌, ℕ, ◌+◌, List, [], ◌∷◌, ◌++◌, length, length-append, sum_by, ◌<◌, refl, arith}
-use Rattle.std.specs.List.{flat_map}
 use Rattle.std.proofs.lemmas.Grind.{flat_map-append}
 use Rattle.std.proofs.lemmas.List.{append-nil}
 use Rattle.std.proofs.lemmas.List.Sums.{sum_by-cons, sum_by_push}
@@ -9,7 +8,7 @@ use Rattle.cdr_file.specs.declared.cdr_header.CdrHeader.{CdrHeader}
 use Rattle.cdr_file.specs.declared.closure.ClosureReason.{ClosureReason}
 use Rattle.cdr_file.specs.declared.file_header.FileHeader.{FileHeader}
 use Rattle.cdr_file.specs.CdrHeader.{cdr_header_octets}
-use Rattle.cdr_file.specs.FileHeader.{header_octets, no_filter_no_extension, octets_to_address}
+use Rattle.cdr_file.specs.FileHeader.{header_octets, no_filter_no_extension}
 use Rattle.cdr_file.specs.CdrFile.{FiledRecord, FileSettings, cdr_length, cdr_octets, file_header, file_length, file_octets, last_moment, node_address, run_octets}
 
 -- a CDR's header has four octets

@@ -32,7 +32,7 @@ pub struct FileHeader {
     pub reason: u8,
     /// The address of the node that made the file.
     pub address: [u8; 20],
-    /// Whether CDRs were lost, and how many: 0 for none.
+    /// The lost CDR indicator: 0 for none.
     pub lost: u8,
 }
 

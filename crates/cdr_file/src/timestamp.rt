@@ -1,6 +1,6 @@
 ghost use Rattle.std.specs.Prelude.{◌≡◌, ◌/◌, ◌%◌, ◌+ℤ◌, ◌*ℤ◌, ◌≤◌, pos, unsigned_abs};
-ghost use Rattle.jiff_core.specs.Calendar.{IsWithin};
 ghost use Rattle.cdr_file.specs.Timestamp.{packed_fields, sign_bit, stamp_of};
+ghost use Rattle.jiff_core.specs.Calendar.{IsWithin};
 ghost use Rattle.jiff_core.specs.DateTime.{civil_nanos};
 ghost use Rattle.jiff_core.specs.Timestamp.{nanos_of_seconds};
 
@@ -20,8 +20,7 @@ const SIX_BITS: u32 = 64;
 /// The timestamp of a moment by a local clock (3GPP TS 32.297, clause 6.1.1), from the top bit: the
 /// month in 4 bits, the day of the month in 5, the hour in 5, the minute in 6, the sign of the
 /// clock's offset from UTC in 1, which is 1 for plus and for zero, and the hours of the offset in 5
-/// and its minutes in 6. It says no year: the first moment is still in December at a negative
-/// offset.
+/// and its minutes in 6. It says no year: moment 0 at a negative offset is in December.
 pub fn stamp(moment: Moment, offset: Offset16) -> u32
     ensures { result ≡ stamp_of moment offset }
 {
