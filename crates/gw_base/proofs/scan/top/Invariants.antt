@@ -1,0 +1,7 @@
+use Rattle.std.proofs.Common.{◌≡◌, drop}
+use Rattle.gw_base.specs.History.{top_from, top_of}
+use Rattle.gw_base.proofs.scan.top.Given as goal
+
+-- the scan that goes on from here ends in the greatest number
+abbrev pub invariant-loop-entry : goal.invariant-loop-entry
+invariant-loop-entry l = top_from l.node.0 l.top (drop l.entry-index l.history) ≡ top_of l.node.0 l.history

@@ -1,0 +1,238 @@
+ghost use Rattle.std.specs.Prelude.{◌≡◌, ◌==◌, ◌≤◌, ◌<◌, ◌-◌, ◌^◌, length};
+ghost use Rattle.std.specs.List.{list_any};
+ghost use Rattle.gw_base.specs.History.{begins_epoch, copies_of, epoch_of, fate_of, given_state, is_close_due, moment_after, names, scan_entry, state_of, top_entry, top_of};
+
+use crate::address::{Absolute, NodeId};
+use crate::history::{HistoryAct, HistoryEntry, PacketKey};
+use crate::key_state::KeyState;
+use crate::moment::Moment;
+
+impl HistoryAct {
+    /// Whether the entry begins an epoch of a node.
+    fn begins_epoch(&self, node: NodeId) -> bool
+        ensures { result ≡ begins_epoch node.0 self.now }
+    {
+        match self {
+            HistoryAct::Path { node: named, .. } => *named == node,
+            _ => false,
+        }
+    }
+
+    /// Whether the entry names a number of a node.
+    fn names(&self, node: NodeId, number: Absolute) -> bool
+        ensures { result ≡ names node.0 number self.now }
+    {
+        match self {
+            HistoryAct::File {
+                node: named,
+                number: x,
+                ..
+            }
+            | HistoryAct::Hold {
+                node: named,
+                number: x,
+                ..
+            }
+            | HistoryAct::Seal {
+                node: named,
+                number: x,
+            } => *named == node && *x == number,
+            HistoryAct::Release {
+                node: named,
+                numbers,
+            }
+            | HistoryAct::Cancel {
+                node: named,
+                numbers,
+            } => *named == node && lists(numbers.numbers(), number),
+            _ => false,
+        }
+    }
+
+    /// The greatest number that a node's present epoch names, behind this entry.
+    fn top_behind(&self, node: NodeId, top: Option<Absolute>) -> Option<Absolute>
+        ensures { result ≡ top_entry node.0 top self.now }
+    {
+        match self {
+            HistoryAct::Path { node: named, .. } if *named == node => None,
+            HistoryAct::File {
+                node: named,
+                number,
+                ..
+            }
+            | HistoryAct::Hold {
+                node: named,
+                number,
+                ..
+            }
+            | HistoryAct::Seal {
+                node: named,
+                number,
+            } if *named == node => Some(top.map_or(*number, |t| t.max(*number))),
+            _ => top,
+        }
+    }
+
+    /// The state that the entry gives to the numbers that it names.
+    fn given_state(&self) -> KeyState
+        ensures { result ≡ given_state self.now }
+    {
+        match self {
+            HistoryAct::File { .. } => KeyState::Filed,
+            HistoryAct::Hold { .. } => KeyState::Held,
+            HistoryAct::Seal { .. } => KeyState::Sealed,
+            HistoryAct::Release { .. } => KeyState::Released,
+            HistoryAct::Cancel { .. } => KeyState::Cancelled,
+            _ => KeyState::Fresh,
+        }
+    }
+}
+
+fn lists(numbers: &[Absolute], number: Absolute) -> bool
+    ensures { result ≡ list_any (λ x. x == number) numbers.now }
+{
+    numbers.iter().any(|x| *x == number)
+}
+
+/// The number of a node's present epoch: how many Path entries of it there are.
+pub fn epoch(history: &[HistoryEntry], node: NodeId) -> u64
+    ensures value { result ≡ epoch_of node.0 history.now }
+    ensures within { result ≤ length history.now }
+{
+    let mut epoch: u64 = 0;
+    for entry in history {
+        if entry.act.begins_epoch(node) {
+            epoch += 1;
+        }
+    }
+    epoch
+}
+
+/// How far a scan for one key has come: the epoch of the key's node, and the key's state.
+#[derive(Clone, Copy, Debug, PartialEq, Eq)]
+struct KeyScan {
+    epoch: u64,
+    state: KeyState,
+}
+
+impl KeyScan {
+    /// The scan behind one more entry.
+    fn behind(self, key: PacketKey, act: &HistoryAct) -> KeyScan
+        requires { self.epoch < 2 ^ 64 - 1 }
+        ensures { result ≡ scan_entry key self act.now }
+    {
+        let names = self.epoch == key.epoch && act.names(key.node, key.number);
+        let begins = act.begins_epoch(key.node);
+        KeyScan {
+            epoch: if begins { self.epoch + 1 } else { self.epoch },
+            state: if names { act.given_state() } else { self.state },
+        }
+    }
+}
+
+/// A key's state: what the last entry of its epoch that names it gives.
+pub fn state(history: &[HistoryEntry], key: PacketKey) -> KeyState
+    ensures { result ≡ state_of key history.now }
+{
+    let mut scan = KeyScan {
+        epoch: 0,
+        state: KeyState::Fresh,
+    };
+    for entry in history {
+        scan = scan.behind(key, &entry.act);
+    }
+    scan.state
+}
+
+/// The greatest number that the File, Hold and Seal entries of a node's present epoch name.
+pub fn top(history: &[HistoryEntry], node: NodeId) -> Option<Absolute>
+    ensures { result ≡ top_of node.0 history.now }
+{
+    let mut top = None;
+    for entry in history {
+        top = entry.act.top_behind(node, top);
+    }
+    top
+}
+
+/// The moment that an entry made now bears: never less than that of the last entry.
+pub fn moment_behind(history: &[HistoryEntry], now: Moment) -> Moment
+    ensures { result ≡ moment_after history.now now }
+{
+    match history.last() {
+        Some(entry) => now.max(entry.moment),
+        None => now,
+    }
+}
+
+/// Whether a File or a Release stands after the last Close.
+pub fn is_close_due(history: &[HistoryEntry]) -> bool
+    ensures { result ≡ is_close_due history.now }
+{
+    let mut due = false;
+    for entry in history {
+        due = match entry.act {
+            HistoryAct::File { .. } | HistoryAct::Release { .. } => true,
+            HistoryAct::Close => false,
+            _ => due,
+        };
+    }
+    due
+}
+
+/// What became of a held number.
+#[derive(Clone, Copy, Debug, PartialEq, Eq)]
+pub enum HoldFate {
+    /// No later entry of its epoch names it.
+    Held,
+    /// The node's next epoch began before an entry named it.
+    Stranded,
+    /// An entry of its epoch names it.
+    Settled,
+}
+
+/// What became of a held number, by the entries behind its Hold.
+pub fn hold_fate(behind: &[HistoryEntry], node: NodeId, number: Absolute) -> HoldFate
+    ensures { result ≡ fate_of node.0 number behind.now }
+{
+    for entry in behind {
+        if entry.act.begins_epoch(node) {
+            return HoldFate::Stranded;
+        }
+        if entry.act.names(node, number) {
+            return HoldFate::Settled;
+        }
+    }
+    HoldFate::Held
+}
+
+/// How many copies a gateway holds.
+#[derive(Clone, Copy, Debug, PartialEq, Eq)]
+pub struct Copies {
+    /// Those of present epochs.
+    pub held: u64,
+    /// Those of earlier epochs, neither released nor cancelled.
+    pub stranded: u64,
+}
+
+/// The copies that are held and that are stranded.
+pub fn count_copies(history: &[HistoryEntry]) -> Copies
+    ensures { result ≡ copies_of history.now }
+{
+    let mut copies = Copies {
+        held: 0,
+        stranded: 0,
+    };
+    let mut behind = history;
+    while let Some((entry, rest)) = behind.split_first() {
+        if let HistoryAct::Hold { node, number, .. } = &entry.act {
+            match hold_fate(rest, *node, *number) {
+                HoldFate::Held => copies.held += 1,
+                HoldFate::Stranded => copies.stranded += 1,
+                HoldFate::Settled => {}
+            }
+        }
+        behind = rest;
+    }
+    copies
+}

@@ -1,0 +1,50 @@
+-- The table of answers to the commands that send a packet (3GPP TS 32.295, clause 6.2.4.5.2), by the state of the
+-- request's number. Which cause is answered in which state is this project's profile.
+use Rattle.std.specs.Prelude.{ℕ, Option, Some, None}
+use Rattle.gw_base.specs.declared.key_state.KeyState.{KeyState}
+use Rattle.gw_base.specs.declared.key_state.KeyState.TheVariants.{Fresh, Filed, Sealed, Held, Released, Cancelled}
+use Rattle.transfer_cmd.specs.declared.decision.Ask.{Ask}
+use Rattle.transfer_cmd.specs.declared.decision.Ask.TheVariants.{Send, Possible, Empty}
+
+-- the cause that is answered: 128 accepted, 252 duplicated packets already fulfilled, 253 already fulfilled, 255 not
+-- fulfilled
+abbrev pub cause_of : Ask → KeyState → ℕ
+cause_of Send Fresh = 128
+cause_of Send Filed = 253
+cause_of Send Sealed = 255
+cause_of Send Held = 252
+cause_of Send Released = 252
+cause_of Send Cancelled = 252
+cause_of Possible Fresh = 128
+cause_of Possible Filed = 253
+cause_of Possible Sealed = 255
+cause_of Possible Held = 252
+cause_of Possible Released = 252
+cause_of Possible Cancelled = 252
+cause_of Empty Fresh = 128
+cause_of Empty Filed = 253
+cause_of Empty Sealed = 128
+cause_of Empty Held = 252
+cause_of Empty Released = 252
+cause_of Empty Cancelled = 252
+
+-- the state that the number gets, where the request calls for an entry
+abbrev pub state_given : Ask → KeyState → Option KeyState
+state_given Send Fresh = Some Filed
+state_given Send Filed = None
+state_given Send Sealed = None
+state_given Send Held = None
+state_given Send Released = None
+state_given Send Cancelled = None
+state_given Possible Fresh = Some Held
+state_given Possible Filed = None
+state_given Possible Sealed = None
+state_given Possible Held = None
+state_given Possible Released = None
+state_given Possible Cancelled = None
+state_given Empty Fresh = Some Sealed
+state_given Empty Filed = None
+state_given Empty Sealed = None
+state_given Empty Held = None
+state_given Empty Released = None
+state_given Empty Cancelled = None
