@@ -1,9 +1,8 @@
 -- How many octets a file and its parts have, and how a file grows by a record.
-use Rattle.std.proofs.Common.{◌≡◌, ℕ, ◌+◌, List, [], ◌∷◌, ◌++◌, length, length-append, sum_by, ◌<◌, refl, arith}
+use Rattle.std.proofs.Common.{◌≡◌, ℕ, ◌+◌, List, [], ◌∷◌, ◌++◌, length, length-append, sum_by, refl, arith}
 use Rattle.std.proofs.lemmas.Grind.{flat_map-append}
 use Rattle.std.proofs.lemmas.List.{append-nil}
 use Rattle.std.proofs.lemmas.List.Sums.{sum_by-cons, sum_by_push}
-use Rattle.gw_base.specs.CdrKind.{kind_of}
 use Rattle.cdr_file.specs.declared.cdr_header.CdrHeader.{CdrHeader}
 use Rattle.cdr_file.specs.declared.closure.ClosureReason.{ClosureReason}
 use Rattle.cdr_file.specs.declared.file_header.FileHeader.{FileHeader}
@@ -56,7 +55,3 @@ pub last_moment-append : (run : List FiledRecord) (last : FiledRecord) → last_
 last_moment-append [] last = refl
 last_moment-append (first ∷ []) last = refl
 last_moment-append (first ∷ (next ∷ later)) last = last_moment-append (next ∷ later) last
-
--- the kind of a packet's records fits the headers
-pub kind_of_fits : (format version : ℕ) → ((kind_of format version).release < 8) × ((kind_of format version).version < 32) × ((kind_of format version).format < 8)
-kind_of_fits format version = grind arith
