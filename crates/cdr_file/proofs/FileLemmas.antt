@@ -1,14 +1,13 @@
 -- How many octets a file and its parts have, and how a file grows by a record.
-use Rattle.std.proofs.Common.{◌≡◌, ℕ, ◌+◌, List, [], ◌∷◌, ◌++◌, length, length-append, sum_by, refl, ap, ◌∙◌, arith}
-use Rattle.std.specs.List.{flat_map}
+use Rattle.std.proofs.Common.{◌≡◌, ℕ, ◌+◌, List, [], ◌∷◌, ◌++◌, length, length-append, sum_by, refl, arith}
 use Rattle.std.proofs.lemmas.Grind.{flat_map-append}
 use Rattle.std.proofs.lemmas.List.{append-nil}
-use Rattle.std.proofs.lemmas.List.Sums.{sum_by-cons}
+use Rattle.std.proofs.lemmas.List.Sums.{sum_by-cons, sum_by_push}
 use Rattle.cdr_file.specs.declared.cdr_header.CdrHeader.{CdrHeader}
 use Rattle.cdr_file.specs.declared.closure.ClosureReason.{ClosureReason}
 use Rattle.cdr_file.specs.declared.file_header.FileHeader.{FileHeader}
 use Rattle.cdr_file.specs.CdrHeader.{cdr_header_octets}
-use Rattle.cdr_file.specs.FileHeader.{header_octets, no_filter_no_extension, octets_to_address}
+use Rattle.cdr_file.specs.FileHeader.{header_octets, no_filter_no_extension}
 use Rattle.cdr_file.specs.CdrFile.{FiledRecord, FileSettings, cdr_length, cdr_octets, file_header, file_length, file_octets, last_moment, node_address, run_octets}
 
 -- a CDR's header has four octets
@@ -47,6 +46,9 @@ length-file_octets run sequence reason settings =
 -- one record more is one CDR more at the end
 pub run_octets-append : (run : List FiledRecord) (last : FiledRecord) → run_octets (run ++ last ∷ []) ≡ run_octets run ++ cdr_octets last
 run_octets-append run last = rw (flat_map-append, append-nil)
+
+pub file_length-append : (run : List FiledRecord) (last : FiledRecord) → file_length (run ++ last ∷ []) ≡ file_length run + cdr_length last
+file_length-append run last = omega (arith, sum_by_push cdr_length run last)
 
 -- and the file was appended to at its moment
 pub last_moment-append : (run : List FiledRecord) (last : FiledRecord) → last_moment (run ++ last ∷ []) ≡ last.moment

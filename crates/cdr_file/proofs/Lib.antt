@@ -1,2 +1,2 @@
+pub mod CountedDates
 pub mod FileLemmas
-pub mod Examples

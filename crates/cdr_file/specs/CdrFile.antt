@@ -52,7 +52,8 @@ header_length _ = 52
 abbrev pub cdr_length : FiledRecord → ℕ
 cdr_length filed = cdr_header_length filed.kind + length filed.octets
 
--- the kind of a run's records is that of the first. A file begins with its first record, so no file has an empty run
+-- the kind of a run is that of its first record, and so of each. A file begins with its first record: no file has an
+-- empty run, for which any value would do here and below
 abbrev pub run_kind : List FiledRecord → CdrKind
 run_kind [] = record { release = 0; version = 0; format = 0 }
 run_kind (first ∷ _) = first.kind
@@ -72,7 +73,8 @@ last_moment (_ ∷ (next ∷ later)) = last_moment (next ∷ later)
 abbrev pub file_length : List FiledRecord → ℕ
 file_length run = header_length (run_kind run) + sum_by cdr_length run
 
--- the address of a node with an IPv4 address: as the IPv6 address that stands for it, and four octets more
+-- the address of a node that has an IPv4 address: it as an IPv6 address (RFC 4291, section 2.5.5.2), filled up with
+-- zeros to 20 octets
 unfoldable pub node_address : ℕ → List ℕ
 node_address ip = replicate 10 0 ++ (255 ∷ 255 ∷ [] ++ (big_bytes 4 ip ++ replicate 4 0))
 

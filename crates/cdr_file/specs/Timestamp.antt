@@ -18,9 +18,12 @@ packed_fields date hour minute sign offset_hours offset_minutes =
     (((((date.month * 32 + date.day) * 32 + hour) * 64 + minute) * 2 + sign) * 32 + offset_hours) * 64
     + offset_minutes
 
--- the timestamp of a moment as a clock shows it that is so many minutes ahead of UTC
-unfoldable pub stamp_of : ℕ → ℤ → ℕ
-stamp_of moment offset =
-    packed_fields (date_since_1969 (local_second moment offset / 86_400))
-    (local_second moment offset % 86_400 / 3_600) (local_second moment offset % 3_600 / 60)
+-- the timestamp that a clock so many minutes ahead of UTC gives so many seconds after its 1 January 1969, 00:00:00
+abbrev pub stamp_at : ℕ → ℤ → ℕ
+stamp_at second offset =
+    packed_fields (date_since_1969 (second / 86_400)) (second % 86_400 / 3_600) (second % 3_600 / 60)
     (sign_bit offset) (unsigned_abs offset / 60) (unsigned_abs offset % 60)
+
+-- the timestamp of a moment by a clock that is so many minutes ahead of UTC
+unfoldable pub stamp_of : ℕ → ℤ → ℕ
+stamp_of moment offset = stamp_at (local_second moment offset) offset

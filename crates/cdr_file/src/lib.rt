@@ -8,6 +8,7 @@
 mod cdr_header;
 mod closure;
 mod file_header;
+mod laws;
 mod octet;
 mod offset;
 mod timestamp;
@@ -15,5 +16,9 @@ mod timestamp;
 pub use cdr_header::{CdrHeader, write_cdr};
 pub use closure::ClosureReason;
 pub use file_header::{FileHeader, write_header};
+pub use laws::file_octets_law;
 pub use offset::Offset16;
 pub use timestamp::stamp;
+
+#[cfg(test)]
+mod tests;
