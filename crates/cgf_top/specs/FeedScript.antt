@@ -1,9 +1,8 @@
 -- The scripts of `feed`: what their lines say, and the first line that is refused.
-use Rattle.std.specs.Prelude.{ℕ, ◌+◌, Bool, true, false, ◌&&◌, ◌||◌, ◌==◌, nat_lt, if◌then◌else◌, List, [], ◌∷◌, length, Option, Some, None, option_map, Result, Ok, Err, codes}
-use Rattle.std.specs.Option.{option_map_or}
+use Rattle.std.specs.Prelude.{ℕ, ◌+◌, ◌<◌, ◌≤◌, Bool, true, false, ◌&&◌, ◌||◌, ◌==◌, nat_lt, if◌then◌else◌, List, [], ◌∷◌, length, Option, Some, None, option_map, unwrap_or, Result, Ok, Err, codes}
 use Rattle.std.specs.Str.{bytes_eq}
 use Rattle.gw_base.specs.declared.address.Addr.{Addr}
-use Rattle.cgf_top.specs.Packet.{packet_of}
+use Rattle.cgf_top.specs.Packet.{built_records_of}
 use Rattle.cgf_top.specs.Request.{RequestForm, request_of}
 use Rattle.cgf_top.specs.ScriptText.{RawLine, address_of, is_blank, line_content, line_size, number_up_to, octets_of, raw_lines, words_of, ◌>>=◌}
 use Rattle.cgf_top.specs.declared.gtpp_message.request.Command.{Command}
@@ -48,8 +47,8 @@ line_of content = if is_blank content then Some line.Blank else worded_line (wor
 
 -- how many records a request sends
 abbrev pub sent_records : Command → List ℕ → ℕ
-sent_records Send value = option_map_or (λ packet. length packet.records) (packet_of value) 0
-sent_records Possible value = option_map_or (λ packet. length packet.records) (packet_of value) 0
+sent_records Send value = unwrap_or (built_records_of value) 0
+sent_records Possible value = unwrap_or (built_records_of value) 0
 sent_records Cancel value = 0
 sent_records Release value = 0
 
@@ -74,6 +73,11 @@ behind_line p line.Blank = Some p
 behind_line p (line.At moment) = if p.begun then None else Some (record p { begun = true })
 behind_line p (line.Datagram sender octets) = if p.ended then None else behind_request p sender (request_of octets)
 behind_line p line.End = if p.ended then None else Some (record p { begun = true; ended = true })
+
+-- what holds of every script so far
+pub record IsWithinBounds (p : Progress) : Type 0 where
+  pub datagrams : p.datagrams ≤ 10000
+  pub records : p.records < 1000
 
 -- The lines of a text.
 
