@@ -18,6 +18,7 @@ pub struct Packet {
 
 /// The format of the records that scripts may send so far, ASN.1 BER, and its version.
 const BUILT_FORMAT: u8 = 1;
+
 const BUILT_VERSION: u16 = 0x0600;
 
 /// The packet that a value spells.

@@ -102,9 +102,7 @@ fn sent_records(request: &Request<'_>) -> u64
     ensures within { result < 256 }
 {
     match request.command {
-        Command::Send | Command::Possible => {
-            built_records(request.value).map_or(0, u64::from)
-        }
+        Command::Send | Command::Possible => { built_records(request.value).map_or(0, u64::from) }
         Command::Cancel | Command::Release => 0,
     }
 }

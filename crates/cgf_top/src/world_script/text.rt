@@ -8,6 +8,7 @@ use gw_base::{Addr, NoMemory};
 use std::alloc::Global;
 
 const LINE_FEED: u8 = b'\n';
+
 const CARRIAGE_RETURN: u8 = b'\r';
 
 /// A line of a text, without the line feed.
