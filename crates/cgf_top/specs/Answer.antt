@@ -47,12 +47,15 @@ act_of ask.Empty node number packet = act.Seal node number
 abbrev pub is_in_range : ℕ → Bool
 is_in_range number = nat_le 32768 number && nat_lt number (2 ^ 63)
 
+abbrev pub answer_with : ℕ → Option HistoryAct → Answer
+answer_with cause act = record { cause = cause; act = act }
+
 -- the answer by the table; where it calls for an entry whose number is out of range, no resources are available
 abbrev pub sent : Ask → KeyState → NodeId → ℕ → List ℕ → Answer
 sent asked state node number packet =
-    if is_none (state_given asked state) then record { cause = cause_of asked state; act = None }
-    else if is_in_range number then record { cause = cause_of asked state; act = Some (act_of asked node number packet) }
-    else record { cause = 199; act = None }
+    if is_none (state_given asked state) then answer_with (cause_of asked state) None
+    else if is_in_range number then answer_with (cause_of asked state) (Some (act_of asked node number packet))
+    else answer_with 199 None
 
 -- Requests that name a list of numbers.
 
@@ -84,9 +87,9 @@ changing true node numbers = act.Release node numbers
 changing false node numbers = act.Cancel node numbers
 
 abbrev pub judged : Verdict → Bool → NodeId → List ℕ → Answer
-judged Wrong release node held = record { cause = 254; act = None }
-judged Before release node held = record { cause = 252; act = None }
-judged Change release node held = record { cause = 128; act = Some (changing release node held) }
+judged Wrong release node held = answer_with 254 None
+judged Before release node held = answer_with 252 None
+judged Change release node held = answer_with 128 (Some (changing release node held))
 
 -- the answer by the rule for lists
 abbrev pub listed : Bool → List HistoryEntry → NodeId → List ℕ → Answer

@@ -1,12 +1,16 @@
 -- What `feed` prints: the reply to each datagram, then the file of the records, then the gateway's counts.
-use Rattle.std.specs.Prelude.{ℕ, ◌+◌, ◌/◌, ◌%◌, Bool, true, false, if◌then◌else◌, List, [], ◌∷◌, ◌++◌, length, map, Option, Some, None, Result, Ok, Err, codes, ℤ, pos}
+use Rattle.std.specs.Prelude.{ℕ, ◌<◌, ◌^◌, IfSome, ◌+◌, ◌/◌, ◌%◌, Bool, true, false, if◌then◌else◌, List, [], ◌∷◌, ◌++◌, length, map, Option, Some, None, Result, Ok, Err, codes, ℤ, pos}
 use Rattle.std.specs.Fmt.{decimal}
 use Rattle.hex.specs.Hex.{encode_upper}
-use Rattle.cdr_file.specs.CdrFile.{FileSettings, file_octets}
+use Rattle.cdr_file.specs.CdrFile.{FileSettings, file_octets, node_address}
+use Rattle.cdr_file.specs.ClosureReason.{code_of}
+use Rattle.cdr_file.specs.Timestamp.{stamp_of}
+use Rattle.cdr_file.specs.declared.file_header.FileHeader.{FileHeader}
 use Rattle.cdr_file.specs.CdrFile as cdr
 use Rattle.cdr_file.specs.declared.closure.ClosureReason.TheVariants.{Manual}
 use Rattle.gtpp_header.specs.Header.{spelled}
-use Rattle.gw_base.specs.History.{copies_of, is_close_due, moment_after}
+use Rattle.gw_base.specs.CdrKind.{kind_of}
+use Rattle.gw_base.specs.History.{copies_of, is_close_due, moment_after, top_of}
 use Rattle.gw_base.specs.declared.address.Addr.{Addr}
 use Rattle.gw_base.specs.declared.history.HistoryAct.{HistoryAct}
 use Rattle.gw_base.specs.declared.history.HistoryAct.TheVariants as act
@@ -39,6 +43,10 @@ started = entry_of [] 0 act.Start ∷ []
 -- the history with a Close, where one is due
 abbrev pub closed : List HistoryEntry → ℕ → List HistoryEntry
 closed h now = with_act h now (if is_close_due h then Some act.Close else None)
+
+-- no number of a history is too big for the nearest number to be found
+abbrev pub IsBounded : List HistoryEntry → Type 0
+IsBounded h = (node : ℕ) → IfSome (top_of node h) (λ t. t < 2 ^ 63)
 
 -- The reply.
 
@@ -90,7 +98,7 @@ fresh_feed = record { history = started; now = 0; printed = [] }
 
 -- a record as the file has it
 abbrev pub in_file : FiledRecord → cdr.FiledRecord
-in_file filed = record { kind = filed.kind; octets = filed.octets; moment = filed.moment }
+in_file filed = record { kind = kind_of filed.format filed.version; octets = filed.octets; moment = filed.moment }
 
 -- the gateway's clock shows UTC, and its address is 10.0.0.1
 abbrev pub feed_settings : FileSettings
@@ -100,6 +108,24 @@ abbrev pub file_line : List FiledRecord → List ℕ
 file_line [] = []
 file_line (filed ∷ more) =
     codes "file 1 00-0000000001.cdr " ++ octets_line (file_octets (map in_file (filed ∷ more)) 1 Manual feed_settings)
+
+-- the header of a file by its first record, its last one, their number, and how many octets their CDRs have
+abbrev pub header_of : cdr.FiledRecord → cdr.FiledRecord → ℕ → ℕ → FileHeader
+header_of first last count octets = record {
+  length = 52 + octets;
+  header_length = 52;
+  high_release = first.kind.release;
+  high_version = first.kind.version;
+  low_release = first.kind.release;
+  low_version = first.kind.version;
+  opened = stamp_of first.moment (pos 0);
+  appended = stamp_of last.moment (pos 0);
+  count = count;
+  sequence = 1;
+  reason = code_of Manual;
+  address = node_address 167772161;
+  lost = 0;
+}
 
 -- The counts.
 abbrev pub gateway_line : List HistoryEntry → List ℕ

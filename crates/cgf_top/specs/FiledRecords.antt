@@ -1,7 +1,6 @@
 -- The records that a gateway's history files, in order.
 use Rattle.std.specs.Prelude.{ℕ, ◌+◌, Bool, true, false, ◌&&◌, ◌==◌, if◌then◌else◌, List, [], ◌∷◌, ◌++◌, Option, Some, None}
 use Rattle.std.specs.List.{flat_map}
-use Rattle.gw_base.specs.CdrKind.{kind_of}
 use Rattle.gw_base.specs.History.{begins_epoch, epoch_of, names, state_of}
 use Rattle.gw_base.specs.declared.history.HistoryAct.{HistoryAct}
 use Rattle.gw_base.specs.declared.history.HistoryAct.TheVariants.{Start, Path, File, Hold, Seal, Release, Cancel, Tick, Close}
@@ -15,7 +14,7 @@ use Rattle.cgf_top.specs.declared.gateway_book.filed.FiledRecord.{FiledRecord}
 abbrev pub records_from : PacketKey → ℕ → PacketForm → ℕ → List (List ℕ) → List FiledRecord
 records_from key moment packet index [] = []
 records_from key moment packet index (octets ∷ records) =
-    record { key = key; index = index; kind = kind_of packet.format packet.version; octets = octets; moment = moment }
+    record { key = key; index = index; format = packet.format; version = packet.version; octets = octets; moment = moment }
     ∷ records_from key moment packet (index + 1) records
 
 abbrev pub records_in : PacketKey → ℕ → Option PacketForm → List FiledRecord

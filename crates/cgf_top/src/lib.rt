@@ -2,6 +2,7 @@
 #![tactic(auto)]
 
 mod feed;
+mod file_writer;
 mod gateway_book;
 mod gtpp_message;
 mod world_script;

@@ -4,10 +4,10 @@ ghost use Rattle.gw_base.specs.declared.history.HistoryAct.TheVariants as act;
 ghost use Rattle.cgf_top.specs.FiledRecords.{filed_by, filed_records, held_packet, packet_behind, records_in, records_of, released_records};
 ghost use Rattle.cgf_top.specs.Packet.{packet_form};
 
-use crate::gtpp_message::{Packet, read_packet};
+use crate::gtpp_message::{Packet, PacketRecord, read_packet};
 use gw_base::{
-    Absolute, CdrKind, HistoryAct, HistoryEntry, KeyState, Moment, NoMemory, NodeId, Octets,
-    PacketKey, cdr_kind, scan,
+    Absolute, HistoryAct, HistoryEntry, KeyState, Moment, NoMemory, NodeId,
+    PacketKey, scan,
 };
 use std::alloc::Global;
 
@@ -18,8 +18,10 @@ pub struct FiledRecord {
     pub key: PacketKey,
     /// Its place in that packet, from 0.
     pub index: usize,
-    pub kind: CdrKind,
-    pub octets: Octets,
+    /// The packet's data record format, and the version of that format.
+    pub format: u8,
+    pub version: u16,
+    pub octets: PacketRecord,
     /// The moment of the entry that filed it.
     pub moment: Moment,
 }
@@ -160,13 +162,13 @@ fn append_records(
 ) -> Result<(), NoMemory>
     ensures { OnOk result (filed.new.items ≡ filed.old.items ++ records_in key moment (Some (packet_form packet.now))) }
 {
-    let kind = cdr_kind(packet.format, packet.version);
     for (index, octets) in packet.records.iter().enumerate() {
-        let octets = Octets::of(alloc, octets.octets())?;
+        let octets = octets.copy(alloc)?;
         filed.push(FiledRecord {
             key,
             index,
-            kind,
+            format: packet.format,
+            version: packet.version,
             octets,
             moment,
         })?;

@@ -3,5 +3,5 @@
 mod packet;
 mod request;
 
-pub use packet::{Packet, built_records, read_packet};
+pub use packet::{Packet, PacketRecord, built_records, read_packet};
 pub use request::{Command, Request, read_request};

@@ -5,6 +5,50 @@ ghost use Rattle.cgf_top.specs.Packet.{built_count, built_records_of, is_built_p
 
 use gw_base::{NoMemory, Octets};
 use std::alloc::Global;
+use std::marker::Model;
+
+/// A record of a packet, of at most 65,535 octets.
+#[derive(Debug, Drop)]
+pub struct PacketRecord {
+    octets: Octets,
+}
+
+impl Model for PacketRecord {
+    ghost use Rattle.std.specs.Prelude.{ℕ, List, ◌<◌, length};
+
+    ghost Value = { List ℕ };
+
+    ghost view = { λ r. r.octets };
+
+    ghost invariant = { λ r. length r.octets < 65536 };
+}
+
+impl PacketRecord {
+    /// A copy of these octets.
+    fn of(alloc: Global, from: &[u8]) -> Result<PacketRecord, NoMemory>
+        requires { length from.now < 65536 }
+        ensures { IfOk result (λ found. found ≡ from.now) }
+    {
+        Ok(PacketRecord {
+            octets: Octets::of(alloc, from)?,
+        })
+    }
+
+    /// Another record of the same octets.
+    pub fn copy(&self, alloc: Global) -> Result<PacketRecord, NoMemory>
+        ensures { IfOk result (λ copy. copy ≡ self.now) }
+    {
+        PacketRecord::of(alloc, self.octets())
+    }
+
+    /// The octets, in order.
+    pub fn octets(&self) -> &[u8]
+        ensures octets { result.now ≡ self.now }
+        ensures within { length result.now < 65536 }
+    {
+        self.octets.octets()
+    }
+}
 
 /// A Data Record Packet that isn't empty (3GPP TS 32.295, clause 6.2.4.5.3).
 #[derive(Debug, Drop)]
@@ -13,7 +57,7 @@ pub struct Packet {
     pub format: u8,
     /// The version of that format.
     pub version: u16,
-    pub records: Vec<Octets>,
+    pub records: Vec<PacketRecord>,
 }
 
 /// The format of the records that scripts may send so far, ASN.1 BER, and its version.
@@ -43,7 +87,7 @@ pub fn read_packet(alloc: Global, value: &[u8]) -> Result<Option<Packet>, NoMemo
 
 /// So many records, with nothing behind the last.
 #[tactic(auto, using(crate::proofs::Packets::step_records, crate::proofs::Packets::no_record))]
-fn records(alloc: Global, count: u8, octets: &[u8]) -> Result<Option<Vec<Octets>>, NoMemory>
+fn records(alloc: Global, count: u8, octets: &[u8]) -> Result<Option<Vec<PacketRecord>>, NoMemory>
     ensures { IfOk result (λ records. option_map (λ found. found.items) records ≡ records_at count octets.now) }
 {
     let mut records = Vec::new(alloc);
@@ -53,7 +97,7 @@ fn records(alloc: Global, count: u8, octets: &[u8]) -> Result<Option<Vec<Octets>
         let Some((first, behind)) = first_record(rest) else {
             return Ok(None);
         };
-        records.push(Octets::of(alloc, first)?)?;
+        records.push(PacketRecord::of(alloc, first)?)?;
         left -= 1;
         rest = behind;
     }
@@ -66,7 +110,8 @@ fn records(alloc: Global, count: u8, octets: &[u8]) -> Result<Option<Vec<Octets>
 
 /// The record at the front, behind its length in two octets, and what follows it.
 fn first_record(octets: &[u8]) -> Option<(&[u8], &[u8])>
-    ensures { option_map lent_parts result ≡ record_at octets.now }
+    ensures parts { option_map lent_parts result ≡ record_at octets.now }
+    ensures within { IfSome result (λ parts. length parts.0.now < 65536) }
 {
     let &[high, low, ref rest @ ..] = octets else {
         return None;
