@@ -5,3 +5,5 @@ pub mod Files
 pub mod Lines
 pub mod Numbers
 pub mod Packets
+pub mod Reports
+pub mod Streams

@@ -4,4 +4,5 @@ pub mod FeedScript
 pub mod FiledRecords
 pub mod Packet
 pub mod Request
+pub mod Run
 pub mod ScriptText

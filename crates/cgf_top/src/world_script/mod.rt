@@ -8,3 +8,4 @@ mod text;
 
 pub use line::Line;
 pub use refusal::{InputKind, Refusal};
+pub use script::{MOST_TEXT, ScriptEnd, read_script};
