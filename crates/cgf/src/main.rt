@@ -1,0 +1,57 @@
+//! The program: it makes the real input and output, hands them to the top call, and tells how that
+//! ended.
+#![tactic(auto)]
+
+mod sink;
+mod source;
+
+use crate::sink::WriterSink;
+use crate::source::{ReaderSource, Unopened};
+use cgf_top::{Status, run_cgf};
+use gw_base::Source;
+use std::process::ExitCode;
+use std::{env, fs, io};
+
+/// The word that names the standard input.
+const STANDARD_INPUT: &str = "-";
+
+fn main(rt: HostRuntime) -> ExitCode {
+    let status = match words(&rt) {
+        Ok(words) => run(&rt, &words),
+        Err(status) => status,
+    };
+    if status != Status::Done {
+        let _ = eprintln!(rt; "{status}");
+    }
+    ExitCode::from(status.number())
+}
+
+/// The words behind the program's name. Words that aren't text are none of the forms.
+fn words(rt: &HostRuntime) -> Result<Vec<String>, Status> {
+    let all = env::args(rt).map_err(|error| match error.kind() {
+        io::ErrorKind::OutOfMemory => Status::Memory,
+        _ => Status::Words,
+    })?;
+    let mut words = Vec::new(rt.alloc());
+    for word in all.skip(1) {
+        words.push(word).map_err(|_| Status::Memory)?;
+    }
+    Ok(words)
+}
+
+/// Runs the job over the file that the second word names. One that can't be opened is a source
+/// whose first call fails.
+fn run(rt: &HostRuntime, words: &[String]) -> Status {
+    match words {
+        [_, file] if file.as_str() != STANDARD_INPUT => match fs::open(rt, file.as_str()) {
+            Ok(file) => run_over(rt, words, ReaderSource::new(file)),
+            Err(_) => run_over(rt, words, Unopened::new()),
+        },
+        _ => run_over(rt, words, ReaderSource::new(rt.stdin())),
+    }
+}
+
+fn run_over<S: Source + Drop>(rt: &HostRuntime, words: &[String], mut source: S) -> Status {
+    let mut sink = WriterSink::new(rt.stdout());
+    run_cgf(rt.alloc(), words, &mut source, &mut sink)
+}

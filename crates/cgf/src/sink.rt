@@ -1,0 +1,43 @@
+ghost use Rattle.std.specs.Prelude.{◌≤◌};
+ghost use Rattle.gw_base.specs.Faults.{Rose};
+
+use gw_base::{Failed, Sink};
+use std::io::Write;
+
+/// A sink over a writer. It tells nothing of what was written.
+#[derive(Drop)]
+pub struct WriterSink<W: Write + Drop> {
+    writer: W,
+    faults: u64,
+}
+
+impl<W: Write + Drop> WriterSink<W> {
+    /// What goes to the writer.
+    pub fn new(writer: W) -> Self {
+        WriterSink { writer, faults: 0 }
+    }
+
+    fn fail(&mut self) -> Failed
+        ensures rose { Rose self.old.faults self.new.faults }
+        ensures counted { self.old.faults ≤ self.new.faults }
+    {
+        self.faults = self.faults.saturating_add(1);
+        Failed
+    }
+}
+
+impl<W: Write + Drop> Sink for WriterSink<W> {
+    ghost use Rattle.std.specs.Prelude.{None};
+
+    ghost written = { λ _. None };
+
+    ghost faults = { λ s. s.faults };
+
+    fn put(&mut self, from: &[u8]) -> Result<usize, Failed> {
+        match self.writer.write(from) {
+            Ok(0) if !from.is_empty() => Err(self.fail()),
+            Ok(count) => Ok(count),
+            Err(_) => Err(self.fail()),
+        }
+    }
+}
