@@ -2,10 +2,11 @@
 //! the state of the number that it names.
 #![tactic(auto)]
 
-mod decision;
-mod verdict;
-
 pub mod cause;
+mod decision;
+#[cfg(test)]
+mod tests;
+mod verdict;
 
 pub use decision::{Ask, decide};
 pub use verdict::{Verdict, judge};
