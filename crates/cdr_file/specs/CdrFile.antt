@@ -76,7 +76,7 @@ file_length run = header_length (run_kind run) + sum_by cdr_length run
 -- the address of a node that has an IPv4 address: it as an IPv6 address (RFC 4291, section 2.5.5.2), filled up with
 -- zeros to 20 octets
 unfoldable pub node_address : ℕ → List ℕ
-node_address ip = replicate 10 0 ++ (255 ∷ 255 ∷ [] ++ (big_bytes 4 ip ++ replicate 4 0))
+node_address ip = replicate 10 0 ++ 255 ∷ 255 ∷ [] ++ big_bytes 4 ip ++ replicate 4 0
 
 -- the header of the file of a run
 abbrev pub file_header : List FiledRecord → ℕ → ClosureReason → FileSettings → FileHeader

@@ -9,4 +9,5 @@ use Rattle.cdr_file.specs.SharedOctet.{shared_octet}
 unfoldable pub cdr_header_octets : CdrHeader → List ℕ
 cdr_header_octets header =
     big_bytes 2 header.length
-    ++ (shared_octet header.release header.version ∷ shared_octet header.format header.ts ∷ [])
+    ++ shared_octet header.release header.version ∷ []
+    ++ shared_octet header.format header.ts ∷ []

@@ -217,12 +217,12 @@ pub octets_step : (words : List (Bor (List ℕ))) (i : ℕ) (word : Bor (List �
     behind_octets new (octets_of (map (λ w. w.now) (drop (i + 1) words))) ≡ behind_octets front (octets_of (map (λ w. w.now) (drop i words)))
 octets_step words i word front new h here e grown =
     let first : map (λ w. w.now) (drop i words) ≡ word.now ∷ map (λ w. w.now) (drop (i + 1) words) =
-        words_from words i word h ∙ ap (λ (w : Bor (List ℕ)). w.now ∷ map (λ w. w.now) (drop (i + 1) words)) (sym here) in
+    words_from words i word h ∙ ap (λ (w : Bor (List ℕ)). w.now ∷ map (λ w. w.now) (drop (i + 1) words)) (sym here) in
     step_octets front new word.now (map (λ w. w.now) (drop (i + 1) words)) e grown ∙ ap (λ ws. behind_octets front (octets_of ws)) (sym first)
 
 pub octets_none : (words : List (Bor (List ℕ))) (i : ℕ) (word : Bor (List ℕ)) (front : List ℕ) → i < length words → word ≡ get_or words i word →
     is_some (decoded (decode_of word.now)) ≡ false → behind_octets front (octets_of (map (λ w. w.now) (drop i words))) ≡ None
 octets_none words i word front h here e =
     let first : map (λ w. w.now) (drop i words) ≡ word.now ∷ map (λ w. w.now) (drop (i + 1) words) =
-        words_from words i word h ∙ ap (λ (w : Bor (List ℕ)). w.now ∷ map (λ w. w.now) (drop (i + 1) words)) (sym here) in
+    words_from words i word h ∙ ap (λ (w : Bor (List ℕ)). w.now ∷ map (λ w. w.now) (drop (i + 1) words)) (sym here) in
     ap (λ ws. behind_octets front (octets_of ws)) first ∙ ap (behind_octets front) (no_octets word.now (map (λ w. w.now) (drop (i + 1) words)) e)

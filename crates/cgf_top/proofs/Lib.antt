@@ -1,2 +1,5 @@
 pub mod Cuts
+pub mod Filed
+pub mod Lines
+pub mod Numbers
 pub mod Packets

@@ -2,7 +2,7 @@
 use Rattle.std.proofs.Common.{◌≡◌, ℕ, zero, suc, ◌+◌, ◌-◌, ◌<◌, Bool, true, false, ◌&&◌, List, [], ◌∷◌, ◌++◌, length, Option, Some, None, option_map, option_and_then, refl, ap, sym, ◌∙◌, arith, append_assoc}
 use Rattle.std.specs.List.{list_all}
 use Rattle.std.specs.Option.{option_map_or}
-use Rattle.cgf_top.specs.Packet.{PacketForm, is_built_record, record_at, records_at}
+use Rattle.cgf_top.specs.Packet.{PacketForm, built_count, is_built_packet, is_built_record, record_at, records_at}
 
 -- records in front of those that are still to be read
 abbrev pub behind_records : List (List ℕ) → Option (List (List ℕ)) → Option (List (List ℕ))
@@ -73,3 +73,12 @@ pub built_length : (count format version : ℕ) (records : Option (List (List �
     option_map_or (λ packet. length packet.records) (option_map (λ found. let p : PacketForm = record { format = format; version = version; records = found } in p) records) 0 ≡ count
 built_length count format version None h e = cc
 built_length count format version (Some records) h e = h
+
+pub counted : (packet : Option PacketForm) (count : ℕ) → option_map_or is_built_packet packet false ≡ true →
+    option_map_or (λ p. length p.records) packet 0 ≡ count → Some count ≡ option_and_then built_count packet
+counted None count built e = cc
+counted (Some packet) count built e = rw built (ap Some (sym e))
+
+pub uncounted : (packet : Option PacketForm) → option_map_or is_built_packet packet false ≡ false → None ≡ option_and_then built_count packet
+uncounted None built = refl
+uncounted (Some packet) built = rw built refl

@@ -66,10 +66,14 @@ wire_numbers (high ∷ low ∷ rest) = two_octets high low ∷ wire_numbers rest
 abbrev pub named_numbers : List HistoryEntry → NodeId → List ℕ → List ℕ
 named_numbers h node value = map (nearest (top_of node.0 h)) (wire_numbers value)
 
+-- the numbers with one more, if it isn't among them
+abbrev pub with_number : List ℕ → ℕ → List ℕ
+with_number numbers x = if list_any (λ y. y == x) numbers then numbers else numbers ++ x ∷ []
+
 -- each number once, in the order in which they come first, behind those that came before
 abbrev pub once_behind : List ℕ → List ℕ → List ℕ
 once_behind before [] = before
-once_behind before (x ∷ xs) = once_behind (if list_any (λ y. y == x) before then before else before ++ x ∷ []) xs
+once_behind before (x ∷ xs) = once_behind (with_number before x) xs
 
 -- the held ones of these numbers, each once
 abbrev pub held_once : List HistoryEntry → NodeId → List ℕ → List ℕ

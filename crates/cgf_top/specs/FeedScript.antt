@@ -1,9 +1,9 @@
 -- The scripts of `feed`: what their lines say, and the first line that is refused.
-use Rattle.std.specs.Prelude.{ℕ, ◌+◌, Bool, true, false, ◌&&◌, ◌||◌, ◌==◌, nat_lt, if◌then◌else◌, List, [], ◌∷◌, length, Option, Some, None, option_map, Result, Ok, Err, codes}
-use Rattle.std.specs.Option.{option_map_or}
+use Rattle.std.specs.Prelude.{ℕ, ◌≡◌, ◌+◌, ◌<◌, ◌≤◌, Bool, true, false, ◌&&◌, ◌||◌, ◌==◌, nat_lt, if◌then◌else◌, List, [], ◌∷◌, length, Option, Some, None, option_map, unwrap_or, Result, Ok, Err, codes}
+use Rattle.std.specs.List.{flat_map}
 use Rattle.std.specs.Str.{bytes_eq}
 use Rattle.gw_base.specs.declared.address.Addr.{Addr}
-use Rattle.cgf_top.specs.Packet.{packet_of}
+use Rattle.cgf_top.specs.Packet.{built_records_of}
 use Rattle.cgf_top.specs.Request.{RequestForm, request_of}
 use Rattle.cgf_top.specs.ScriptText.{RawLine, address_of, is_blank, line_content, line_size, number_up_to, octets_of, raw_lines, words_of, ◌>>=◌}
 use Rattle.cgf_top.specs.declared.gtpp_message.request.Command.{Command}
@@ -14,6 +14,8 @@ use Rattle.cgf_top.specs.declared.world_script.progress.Progress.{Progress}
 use Rattle.cgf_top.specs.declared.world_script.refusal.InputKind.{InputKind}
 use Rattle.cgf_top.specs.declared.world_script.refusal.InputKind.TheVariants.{TooLong, NotBuilt}
 use Rattle.cgf_top.specs.declared.world_script.refusal.Refusal.{Refusal}
+use Rattle.cgf_top.specs.declared.world_script.script.ScriptEnd.{ScriptEnd}
+use Rattle.cgf_top.specs.declared.world_script.script.ScriptEnd.TheVariants as end
 
 -- What a line says.
 
@@ -48,8 +50,8 @@ line_of content = if is_blank content then Some line.Blank else worded_line (wor
 
 -- how many records a request sends
 abbrev pub sent_records : Command → List ℕ → ℕ
-sent_records Send value = option_map_or (λ packet. length packet.records) (packet_of value) 0
-sent_records Possible value = option_map_or (λ packet. length packet.records) (packet_of value) 0
+sent_records Send value = unwrap_or (built_records_of value) 0
+sent_records Possible value = unwrap_or (built_records_of value) 0
 sent_records Cancel value = 0
 sent_records Release value = 0
 
@@ -74,6 +76,11 @@ behind_line p line.Blank = Some p
 behind_line p (line.At moment) = if p.begun then None else Some (record p { begun = true })
 behind_line p (line.Datagram sender octets) = if p.ended then None else behind_request p sender (request_of octets)
 behind_line p line.End = if p.ended then None else Some (record p { begun = true; ended = true })
+
+-- what holds of every script so far
+pub record IsWithinBounds (p : Progress) : Type 0 where
+  pub datagrams : p.datagrams ≤ 10000
+  pub records : p.records < 1000
 
 -- The lines of a text.
 
@@ -109,3 +116,24 @@ not_begun = record { begun = false; ended = false; sender = None; datagrams = 0;
 -- the lines of a script, or the first that is refused, by its number from 1
 abbrev pub script_of : List ℕ → Result (List Line) Refusal
 script_of text = lines_from 1 0 not_begun (raw_lines text)
+
+-- What the code keeps of the lines: those that do something.
+
+abbrev pub kept : Line → List Line
+kept line.Blank = []
+kept (line.At moment) = line.At moment ∷ []
+kept (line.Datagram sender octets) = line.Datagram sender octets ∷ []
+kept line.End = line.End ∷ []
+
+abbrev pub kept_lines : List Line → List Line
+kept_lines lines = flat_map kept lines
+
+-- the script's lines are read, and these are the ones that do something
+abbrev pub SaysLines : Result (List Line) Refusal → List Line → Type 0
+SaysLines script lines = (all : List Line) × (script ≡ Ok all) × (lines ≡ kept_lines all)
+
+-- the line with this number was read or refused, unless memory ran out
+abbrev pub StepGives : ℕ → Result (Line × Progress) InputKind → Result (Line × Progress) ScriptEnd → Type 0
+StepGives place step (Ok found) = step ≡ Ok found
+StepGives place step (Err (end.Refused refusal)) = (step ≡ Err refusal.kind) × (refusal.place ≡ place)
+StepGives place step (Err end.NoMemory) = Unit {0}

@@ -45,6 +45,14 @@ is_built_record _ = false
 abbrev pub is_built_packet : PacketForm → Bool
 is_built_packet packet = (packet.format == 1) && (packet.version == 1536) && list_all is_built_record packet.records
 
+-- how many records a packet has, where scripts may send it so far
+abbrev pub built_count : PacketForm → Option ℕ
+built_count packet = if is_built_packet packet then Some (length packet.records) else None
+
+-- how many records a value has, where it is a packet that scripts may send so far
+abbrev pub built_records_of : List ℕ → Option ℕ
+built_records_of value = option_and_then built_count (packet_of value)
+
 -- a packet that the code holds
 abbrev pub packet_form : Packet → PacketForm
 packet_form packet = record { format = packet.format; version = packet.version; records = packet.records.items }

@@ -1,6 +1,5 @@
 -- A Data Record Transfer Request (3GPP TS 32.295, clause 6.2.4.5) in the one form in which scripts may send it so far.
-use Rattle.std.specs.Prelude.{ℕ, ◌+◌, ◌%◌, Bool, true, false, ◌&&◌, ◌||◌, ◌==◌, if◌then◌else◌, List, [], ◌∷◌, length, drop, Option, Some, None, option_map, Result, Ok, Err}
-use Rattle.std.specs.Option.{option_map_or}
+use Rattle.std.specs.Prelude.{ℕ, ◌+◌, ◌%◌, Bool, true, false, ◌&&◌, ◌||◌, ◌==◌, if◌then◌else◌, List, [], ◌∷◌, length, drop, Option, Some, None, option_map, is_some, Result, Ok, Err}
 use Rattle.gtpp_header.specs.declared.Header.{Header}
 use Rattle.gtpp_header.specs.declared.fault.HeadFault.{HeadFault}
 use Rattle.gtpp_header.specs.Header.{two_octets}
@@ -8,7 +7,7 @@ use Rattle.gtpp_header.specs.Reading.{header_reading}
 use Rattle.cgf_top.specs.declared.gtpp_message.request.Command.{Command}
 use Rattle.cgf_top.specs.declared.gtpp_message.request.Command.TheVariants.{Send, Possible, Cancel, Release}
 use Rattle.cgf_top.specs.declared.gtpp_message.request.Request.{Request}
-use Rattle.cgf_top.specs.Packet.{is_built_packet, packet_of}
+use Rattle.cgf_top.specs.Packet.{built_records_of}
 
 -- a request: its number, its command, and the value of the element that the command needs
 pub record RequestForm : Type 0 where
@@ -19,7 +18,7 @@ pub record RequestForm : Type 0 where
 -- whether the value is an empty packet, or one that scripts may send so far
 abbrev pub is_built_value : List ℕ → Bool
 is_built_value [] = true
-is_built_value (x ∷ xs) = option_map_or is_built_packet (packet_of (x ∷ xs)) false
+is_built_value (x ∷ xs) = is_some (built_records_of (x ∷ xs))
 
 -- the command of a request by its command octet, the type of the other element and that element's value
 abbrev pub command_of : ℕ → ℕ → List ℕ → Option Command

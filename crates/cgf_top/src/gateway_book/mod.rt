@@ -3,5 +3,5 @@
 mod answer;
 mod filed;
 
-pub use answer::Answer;
-pub use filed::FiledRecord;
+pub use answer::{Answer, answer_to};
+pub use filed::{FiledRecord, filed_records};

@@ -1,7 +1,7 @@
-ghost use Rattle.std.specs.Prelude.{◌≡◌, ◌==◌, ◌<◌, length, option_map, IfOk, IfSome, IsTrue, is_some, false};
+ghost use Rattle.std.specs.Prelude.{◌≡◌, ◌==◌, ◌<◌, length, option_map, option_and_then, IfOk, IfSome, IsTrue, is_some, false};
 ghost use Rattle.std.specs.List.{list_all};
 ghost use Rattle.std.specs.Option.{option_map_or};
-ghost use Rattle.cgf_top.specs.Packet.{is_built_packet, is_built_record, lent_parts, packet_form, packet_in, packet_of, record_at, records_at};
+ghost use Rattle.cgf_top.specs.Packet.{built_count, built_records_of, is_built_packet, is_built_record, lent_parts, packet_form, packet_in, packet_of, record_at, records_at};
 
 use gw_base::{NoMemory, Octets};
 use std::alloc::Global;
@@ -18,6 +18,7 @@ pub struct Packet {
 
 /// The format of the records that scripts may send so far, ASN.1 BER, and its version.
 const BUILT_FORMAT: u8 = 1;
+
 const BUILT_VERSION: u16 = 0x0600;
 
 /// The packet that a value spells.
@@ -79,14 +80,21 @@ fn first_record(octets: &[u8]) -> Option<(&[u8], &[u8])>
 
 /// How many records a value has, where it is a packet that scripts may send so far.
 pub fn built_records(value: &[u8]) -> Option<u8>
-    ensures built { option_map_or is_built_packet (packet_of value.now) false ≡ is_some result }
-    ensures count { IfSome result (λ count. option_map_or (λ packet. length packet.records) (packet_of value.now) 0 ≡ count) }
+    ensures { result ≡ built_records_of value.now }
 {
     let &[count, format, version_high, version_low, ref rest @ ..] = value else {
         return None;
     };
     let version = u16::from(version_high) * 256 + u16::from(version_low);
-    if is_built_packet(count, format, version, rest) {
+    built_count(count, format, version, rest)
+}
+
+/// The same of the packet of so many records, which the octets spell.
+#[tactic(auto, using(crate::proofs::Packets::counted, crate::proofs::Packets::uncounted))]
+fn built_count(count: u8, format: u8, version: u16, octets: &[u8]) -> Option<u8>
+    ensures { result ≡ option_and_then built_count (packet_in count format version octets.now) }
+{
+    if is_built_packet(count, format, version, octets) {
         Some(count)
     } else {
         None

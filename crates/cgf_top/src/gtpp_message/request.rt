@@ -36,8 +36,11 @@ const SENT_FLAGS: u8 = 0x4E;
 
 /// The types of the elements.
 const COMMAND: u8 = 126;
+
 const RELEASED: u8 = 249;
+
 const CANCELLED: u8 = 250;
+
 const PACKET: u8 = 252;
 
 /// The request that a datagram is, where it is one of those that scripts may send so far.

@@ -3,6 +3,7 @@
 mod line;
 mod progress;
 mod refusal;
+mod script;
 mod text;
 
 pub use line::Line;

@@ -2,12 +2,13 @@ ghost use Rattle.std.specs.Prelude.{◌≡◌, ◌+◌, ◌*◌, ◌++◌, ◌==
 ghost use Rattle.std.specs.Option.{SomeIff};
 ghost use Rattle.cgf_top.specs.Packet.{lent_parts};
 ghost use Rattle.hex.specs.Hex.{decode_of};
-ghost use Rattle.cgf_top.specs.ScriptText.{address_of, cut_at, decoded, lent_line, ip_of, is_blank, at_most, digits_from, has_number_form, number_up_to, octets_of, raw_lines, with_word, without_return, words_of};
+ghost use Rattle.cgf_top.specs.ScriptText.{address_of, cut_at, decoded, lent_line, ip_of, is_blank, line_size, at_most, digits_from, has_number_form, number_up_to, octets_of, raw_lines, with_word, without_return, words_of};
 
 use gw_base::{Addr, NoMemory};
 use std::alloc::Global;
 
 const LINE_FEED: u8 = b'\n';
+
 const CARRIAGE_RETURN: u8 = b'\r';
 
 /// A line of a text, without the line feed.
@@ -45,7 +46,8 @@ impl<'a> TextLine<'a> {
 #[tactic(auto, using(crate::proofs::Cuts::lines_some, crate::proofs::Cuts::lines_none))]
 pub fn first_line(text: &[u8]) -> Option<(TextLine<'_>, &[u8])>
     ensures { MatchOption result (raw_lines text.now ≡ []) (λ parts.
-        (raw_lines text.now ≡ lent_line parts.0 ∷ raw_lines parts.1.now) × (length parts.1.now < length text.now)) }
+        (raw_lines text.now ≡ lent_line parts.0 ∷ raw_lines parts.1.now)
+        × (line_size (lent_line parts.0) + length parts.1.now ≡ length text.now) × (length parts.1.now < length text.now)) }
 {
     if text.is_empty() {
         return None;
@@ -72,7 +74,7 @@ pub fn first_line(text: &[u8]) -> Option<(TextLine<'_>, &[u8])>
 #[tactic(auto, using(crate::proofs::Cuts::step_cut, crate::proofs::Cuts::found_parts))]
 pub fn cut(octets: &[u8], separator: u8) -> Option<(&[u8], &[u8])>
     ensures parts { option_map lent_parts result ≡ cut_at separator octets.now }
-    ensures shorter { IfSome result (λ parts. length parts.1.now < length octets.now) }
+    ensures whole { IfSome result (λ parts. length parts.0.now + 1 + length parts.1.now ≡ length octets.now) }
 {
     for (place, octet) in octets.iter().enumerate() {
         if *octet == separator {
