@@ -4,6 +4,8 @@
 
 pub mod cause;
 mod decision;
+#[cfg(test)]
+mod tests;
 mod verdict;
 
 pub use decision::{Ask, decide};
