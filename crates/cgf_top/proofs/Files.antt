@@ -64,9 +64,9 @@ step_cdrs filed i each front new h here grown =
     let next : i + 1 ≡ suc i = omega arith in
     let rest : drop i filed ≡ each ∷ drop (suc i) filed = drop-cons filed i each h ∙ ap (λ x. x ∷ drop (suc i) filed) (sym here) in
     rw next (
-      ap (λ n. n ++ cdr.run_octets (map in_file (drop (suc i) filed))) grown
-      ∙ append_assoc front (cdr.cdr_octets (in_file each)) (cdr.run_octets (map in_file (drop (suc i) filed)))
-      ∙ ap (λ xs. front ++ cdr.run_octets (map in_file xs)) (sym rest))
+    ap (λ n. n ++ cdr.run_octets (map in_file (drop (suc i) filed))) grown
+    ∙ append_assoc front (cdr.cdr_octets (in_file each)) (cdr.run_octets (map in_file (drop (suc i) filed)))
+    ∙ ap (λ xs. front ++ cdr.run_octets (map in_file xs)) (sym rest))
 
 -- the line of a file that has a record
 pub file_line_some : (filed : List FiledRecord) → 0 < length filed →

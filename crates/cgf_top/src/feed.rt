@@ -87,7 +87,11 @@ impl Feed {
         ensures { OnOk result (self.new ≡ behind_datagram self.old from (Some (request_form request.now))) }
     {
         let answer = answer_to(alloc, &self.history, NodeId(from.ip), request)?;
-        print_octets(alloc, &mut self.printed, &response(request.number, answer.cause))?;
+        print_octets(
+            alloc,
+            &mut self.printed,
+            &response(request.number, answer.cause),
+        )?;
         record(&mut self.history, self.now, answer.act)?;
         Ok(())
     }
@@ -137,7 +141,9 @@ fn close(history: &mut Vec<HistoryEntry>, now: Moment) -> Result<(), NoMemory>
 
 /// The message type of a Data Record Transfer Response, and the types of its elements.
 const TRANSFER_RESPONSE: u8 = 241;
+
 const CAUSE: u8 = 1;
+
 const REQUESTS_RESPONDED: u8 = 253;
 
 /// A Data Record Transfer Response (3GPP TS 32.295, clause 6.2.4.6).
@@ -178,11 +184,7 @@ fn print_octets(alloc: Global, printed: &mut Vec<u8>, octets: &[u8]) -> Result<(
 
 /// Appends the line of the file, if there is a record.
 #[tactic(auto, using(crate::proofs::Files::printed_file))]
-fn print_file(
-    alloc: Global,
-    printed: &mut Vec<u8>,
-    filed: &[FiledRecord],
-) -> Result<(), NoMemory>
+fn print_file(alloc: Global, printed: &mut Vec<u8>, filed: &[FiledRecord]) -> Result<(), NoMemory>
     ensures { OnOk result (printed.new.items ≡ printed.old.items ++ file_line filed.now) }
 {
     if filed.is_empty() {
@@ -206,7 +208,9 @@ fn print_gateway(
     let entries = history.len();
     let records = filed.len();
     let scan::Copies { held, stranded } = scan::count_copies(history);
-    let line = format!(in alloc; "gateway 1 entries {entries} records {records} held {held} stranded {stranded}\n")?;
+    let line = format!(in alloc;
+        "gateway 1 entries {entries} records {records} held {held} stranded {stranded}\n"
+    )?;
     printed.extend_from_slice(line.as_bytes())?;
     Ok(())
 }

@@ -70,7 +70,9 @@ fn header(
 {
     let kind = cdr_kind(first.format, first.version);
     let header = FileHeader {
-        length: in_32_bits(cdrs.len())?.checked_add(HEADER_OCTETS).ok_or(NoMemory)?,
+        length: in_32_bits(cdrs.len())?
+            .checked_add(HEADER_OCTETS)
+            .ok_or(NoMemory)?,
         header_length: HEADER_OCTETS,
         high_release: kind.release,
         high_version: kind.version,

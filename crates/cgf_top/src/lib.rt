@@ -16,18 +16,19 @@ mod gtpp_message;
 mod input;
 mod output;
 mod status;
+#[cfg(test)]
+mod tests;
 mod words;
 mod world_script;
-
-pub use status::Status;
-pub use world_script::InputKind;
 
 use crate::input::{ReadEnd, read_text};
 use crate::output::write_all;
 use crate::words::is_command;
 use crate::world_script::{Refusal, ScriptEnd, read_script};
 use gw_base::{Sink, Source};
+pub use status::Status;
 use std::alloc::Global;
+pub use world_script::InputKind;
 
 /// Does what the words ask: `feed FILE` reads a script from the source, feeds a gateway with its
 /// datagrams, and writes the replies, the file and the gateway's counts to the sink.

@@ -6,8 +6,7 @@ ghost use Rattle.cgf_top.specs.Packet.{packet_form};
 
 use crate::gtpp_message::{Packet, PacketRecord, read_packet};
 use gw_base::{
-    Absolute, HistoryAct, HistoryEntry, KeyState, Moment, NoMemory, NodeId,
-    PacketKey, scan,
+    Absolute, HistoryAct, HistoryEntry, KeyState, Moment, NoMemory, NodeId, PacketKey, scan,
 };
 use std::alloc::Global;
 

@@ -1,0 +1,189 @@
+//! Scripts and what is printed for them, by values of the formats.
+
+ghost use Rattle.std.specs.Prelude.{◌≤◌};
+
+use crate::{InputKind, Status, run_cgf};
+use gw_base::{MemorySink, MemorySource, Octets};
+use std::test::Fail;
+
+/// A script that sends a packet of one record.
+const FIRST: &str =
+    "at 1709164800\nin 10.0.1.1:40001 4EF0001000007E01FC000B010106000005A003800105\nend\n";
+
+/// What is printed for it.
+const FIRST_REPORT: &str = "4EF1000700000180FD00020000\n\
+file 1 00-0000000001.cdr 0000003D0000003460602E8008002E80080000000001000000010400000000000000000000FFFF0A00000100000000000000000000056020A003800105\n\
+gateway 1 entries 3 records 1 held 0 stranded 0\n";
+
+const SINK_OCTETS: usize = 4096;
+
+/// How a job over these words ends, and what it writes, where the source gives pieces of this size
+/// and source and sink fail at these calls.
+fn job(
+    rt: &HostRuntime,
+    words: &[&str],
+    script: &str,
+    piece: usize,
+    fail_source: &[u64],
+    fail_sink: &[u64],
+) -> Result<(Status, Vec<u8>), Fail>
+    requires { 1 ≤ piece }
+{
+    let alloc = rt.alloc();
+    let mut given = Vec::new(alloc);
+    for word in words {
+        given.push(String::from_str(alloc, word)?)?;
+    }
+    let script = Octets::of(alloc, script.as_bytes())?;
+    let mut source = MemorySource::new(script, piece, fail_source.to_vec(alloc)?);
+    let mut sink = MemorySink::new(alloc, SINK_OCTETS, fail_sink.to_vec(alloc)?)?;
+    let status = run_cgf(alloc, &given, &mut source, &mut sink);
+    Ok((status, sink.octets().to_vec(alloc)?))
+}
+
+/// The same of a feed with no fault.
+fn feed(rt: &HostRuntime, script: &str) -> Result<(Status, Vec<u8>), Fail> {
+    job(rt, &["feed", "-"], script, 4096, &[], &[])
+}
+
+#[test]
+fn one_send_is_answered_and_filed(rt: HostRuntime) -> Result<(), Fail> {
+    for piece in [4096, 1] {
+        let (status, printed) = job(&rt, &["feed", "-"], FIRST, piece, &[], &[])?;
+        assert_eq!(rt; status, Status::Done);
+        assert_eq!(rt; printed.as_slice(), FIRST_REPORT.as_bytes());
+    }
+    Ok(())
+}
+
+#[test]
+fn words_decide_before_anything_is_read(rt: HostRuntime) -> Result<(), Fail> {
+    let none: [&str; 0] = [];
+    let lists: [&[&str]; 6] = [
+        &none,
+        &["feed"],
+        &["feed", "-x"],
+        &["feed", "--help"],
+        &["feed", "a", "b"],
+        &["drill", "07", "1", "1", "1"],
+    ];
+    for words in lists {
+        let (status, printed) = job(&rt, words, FIRST, 4096, &[1], &[1])?;
+        assert_eq!(rt; status, Status::Words);
+        assert_eq!(rt; printed.len(), 0);
+    }
+    Ok(())
+}
+
+#[test]
+fn a_fault_of_the_input_or_the_output_is_told(rt: HostRuntime) -> Result<(), Fail> {
+    let (status, printed) = job(&rt, &["feed", "-"], FIRST, 4096, &[1], &[])?;
+    assert_eq!(rt; status, Status::Read);
+    assert_eq!(rt; printed.len(), 0);
+
+    let (status, printed) = job(&rt, &["feed", "-"], FIRST, 50, &[2], &[])?;
+    assert_eq!(rt; status, Status::Read);
+    assert_eq!(rt; printed.len(), 0);
+
+    let (status, printed) = job(&rt, &["feed", "-"], FIRST, 4096, &[], &[1])?;
+    assert_eq!(rt; status, Status::Write);
+    assert_eq!(rt; printed.len(), 0);
+    Ok(())
+}
+
+/// Scripts that are refused, and the line that is.
+const REFUSED: [(&str, u64); 12] = [
+    ("", 1),
+    ("mark\n", 1),
+    ("\n# comment\n", 3),
+    ("end\nend\n", 2),
+    ("at 1\nat 2\nend\n", 2),
+    ("at 4102444800\nend\n", 1),
+    ("at 01\nend\n", 1),
+    ("end\r", 1),
+    (" end\t\n", 1),
+    ("in 10.0.1.256:1 4EF0000500007E02FC0000\nend\n", 1),
+    ("in 10.0.1.1:1 4EF0000500007E02FC000\nend\n", 1),
+    (
+        "in 10.0.1.1:1 4EF0000500007E02FC0000\nin 10.0.1.1:2 4EF0000500007E02FC0000\nend\n",
+        2,
+    ),
+];
+
+#[test]
+fn the_first_faulty_line_is_told(rt: HostRuntime) -> Result<(), Fail> {
+    for (script, place) in REFUSED {
+        let (status, printed) = feed(&rt, script)?;
+        let kind = InputKind::NotBuilt;
+        assert_eq!(rt; status, Status::Input { place, kind }, "at {script}");
+        assert_eq!(rt; printed.len(), 0);
+    }
+    Ok(())
+}
+
+/// Scripts, and what is printed for them, in which `file` stands for the line of the file with the
+/// one record `A003800105`.
+const REPORTS: [(&str, &str); 7] = [
+    ("end", "gateway 1 entries 1 records 0 held 0 stranded 0\n"),
+    (
+        "\n#\tcomment\nend\r\n\n# more",
+        "gateway 1 entries 1 records 0 held 0 stranded 0\n",
+    ),
+    // The test of a number that was never met seals it, so that the packet under it is refused.
+    (
+        "in 10.0.1.1:40001 4EF0000500007E02FC0000\n\
+in 10.0.1.1:40001 4ef0 0005 0000 7e02 fc0000\n\
+in 10.0.1.1:40001 4EF0001000007E01FC000B010106000005A003800105\nend\n",
+        "4EF1000700000180FD00020000\n4EF1000700000180FD00020000\n4EF10007000001FFFD00020000\n\
+gateway 1 entries 2 records 0 held 0 stranded 0\n",
+    ),
+    // A held packet that is cancelled is filed nowhere, and can't be released any more.
+    (
+        "in 10.0.1.1:40001 4EF0001000077E02FC000B010106000005A003800105\n\
+in 10.0.1.1:40001 4EF0000700087E03FA00020007\n\
+in 10.0.1.1:40001 4EF0000700097E03FA00020007\n\
+in 10.0.1.1:40001 4EF00007000A7E04F900020007\nend\n",
+        "4EF1000700070180FD00020007\n4EF1000700080180FD00020008\n4EF10007000901FCFD00020009\n\
+4EF10007000A01FEFD0002000A\ngateway 1 entries 3 records 0 held 0 stranded 0\n",
+    ),
+    // A list that names a number that isn't held, or none, changes nothing.
+    (
+        "in 10.0.1.1:40001 4EF0001000077E02FC000B010106000005A003800105\n\
+in 10.0.1.1:40001 4EF0000900087E04F9000400070008\n\
+in 10.0.1.1:40001 4EF0000500097E04F90000\nend\n",
+        "4EF1000700070180FD00020007\n4EF10007000801FEFD00020008\n4EF10007000901FEFD00020009\n\
+gateway 1 entries 2 records 0 held 1 stranded 0\n",
+    ),
+    // Copies are released in the order in which the request names them, each once.
+    (
+        "in 10.0.1.1:40001 4EF0001000077E02FC000B010106000005A003800105\n\
+in 10.0.1.1:40001 4EF0001000087E02FC000B010106000005A003800106\n\
+in 10.0.1.1:40001 4EF0000D00097E04F900080008000700080007\nend\n",
+        "4EF1000700070180FD00020007\n4EF1000700080180FD00020008\n4EF1000700090180FD00020009\n\
+file 1 00-0000000001.cdr 000000460000003460601080080010800800000000020000000104\
+00000000000000000000FFFF0A0000010000000000000000000005\
+6020A00380010600056020A003800105\n\
+gateway 1 entries 5 records 2 held 0 stranded 0\n",
+    ),
+    // A packet that is sent again, in either way, is not filed again.
+    (
+        "in 10.0.1.1:40001 4EF0001000007E01FC000B010106000005A003800105\n\
+in 10.0.1.1:40001 4EF0001000007E01FC000B010106000005A003800105\n\
+in 10.0.1.1:40001 4EF0001000007E02FC000B010106000005A003800105\n\
+in 10.0.1.1:40001 4EF0000500007E02FC0000\nend\n",
+        "4EF1000700000180FD00020000\n4EF10007000001FDFD00020000\n4EF10007000001FDFD00020000\n4EF10007000001FDFD00020000\n\
+file 1 00-0000000001.cdr 0000003D0000003460601080080010800800000000010000000104\
+00000000000000000000FFFF0A00000100000000000000000000056020A003800105\n\
+gateway 1 entries 3 records 1 held 0 stranded 0\n",
+    ),
+];
+
+#[test]
+fn reports_are_as_the_formats_say(rt: HostRuntime) -> Result<(), Fail> {
+    for (script, report) in REPORTS {
+        let (status, printed) = feed(&rt, script)?;
+        assert_eq!(rt; status, Status::Done, "at {script}");
+        assert_eq!(rt; printed.as_slice(), report.as_bytes(), "at {script}");
+    }
+    Ok(())
+}
