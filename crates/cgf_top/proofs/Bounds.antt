@@ -1,5 +1,5 @@
 -- No number of a feed's history is too big: a request whose number is out of range gets no entry.
-use Rattle.std.proofs.Common.{◌≡◌, ℕ, ◌<◌, ◌≤◌, ◌^◌, max, Bool, true, false, ◌==◌, ◌&&◌, nat_le, nat_lt, if◌then◌else◌, List, [], ◌∷◌, ◌++◌, map, Option, Some, None, IfSome, is_none, refl, ap, sym, ◌∙◌, subst, arith}
+use Rattle.std.proofs.Common.{◌≡◌, ℕ, ◌<◌, ◌^◌, Bool, true, false, ◌==◌, ◌&&◌, nat_le, nat_lt, if◌then◌else◌, List, [], ◌∷◌, ◌++◌, map, Option, Some, None, IfSome, is_none, refl, ap, sym, ◌∙◌, subst, arith}
 use Rattle.gw_base.specs.History.{raised, top_entry, top_from, top_of}
 use Rattle.gw_base.specs.declared.address.NodeId.{NodeId}
 use Rattle.gw_base.specs.declared.history.HistoryAct.{HistoryAct}

@@ -1,11 +1,8 @@
 -- Lemmas on filed records, for the loops that go over a history, the numbers of a release and the records of a packet.
-use Rattle.std.proofs.Common.{◌≡◌, ℕ, suc, ◌+◌, ◌<◌, List, [], ◌∷◌, ◌++◌, length, get_or, take, drop, refl, ap, sym, ◌∙◌, arith, append_assoc}
+use Rattle.std.proofs.Common.{◌≡◌, ℕ, suc, ◌+◌, ◌<◌, List, [], ◌∷◌, ◌++◌, length, get_or, take, drop, ap, sym, ◌∙◌, arith, append_assoc}
 use Rattle.std.proofs.Math.Seq.{drop-cons, take-suc}
-use Rattle.std.specs.List.{flat_map}
 use Rattle.gw_base.specs.declared.history.HistoryEntry.{HistoryEntry}
-use Rattle.gw_base.specs.declared.history.PacketKey.{PacketKey}
-use Rattle.cgf_top.specs.FiledRecords.{filed_by, filed_from, filed_records, records_from, released_records}
-use Rattle.cgf_top.specs.Packet.{PacketForm}
+use Rattle.cgf_top.specs.FiledRecords.{filed_by, filed_from, filed_records}
 use Rattle.cgf_top.specs.declared.gateway_book.filed.FiledRecord.{FiledRecord}
 
 -- the records so far, and those that the rest of the history files, are all of them

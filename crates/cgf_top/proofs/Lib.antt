@@ -1,5 +1,6 @@
 pub mod Bounds
 pub mod Cuts
+pub mod Ends
 pub mod Filed
 pub mod Files
 pub mod Lines

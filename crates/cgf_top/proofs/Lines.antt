@@ -1,16 +1,12 @@
 -- Lemmas on the lines of a script, for the loop that reads one a turn.
-use Rattle.std.proofs.Common.{◌≡◌, ℕ, ◌+◌, Bool, true, false, List, [], ◌∷◌, ◌++◌, Option, Some, None, Result, Ok, Err, refl, ap, sym, ◌∙◌, append_assoc, append-nil}
-use Rattle.std.specs.List.{flat_map}
-use Rattle.cgf_top.specs.FeedScript.{SaysLines, StepGives, behind_step, kept, kept_lines, line_step, lines_from, with_line}
-use Rattle.cgf_top.specs.ScriptText.{RawLine, line_size, raw_lines}
+use Rattle.std.proofs.Common.{◌≡◌, ℕ, ◌+◌, true, false, List, [], ◌∷◌, ◌++◌, Result, Ok, Err, refl, ap, sym, ◌∙◌, append_assoc, append-nil}
+use Rattle.cgf_top.specs.FeedScript.{SaysLines, kept, kept_lines, line_step, lines_from, with_line}
+use Rattle.cgf_top.specs.ScriptText.{RawLine, line_size}
 use Rattle.cgf_top.specs.declared.world_script.line.Line.{Line}
-use Rattle.cgf_top.specs.declared.world_script.line.Line.TheVariants as line
 use Rattle.cgf_top.specs.declared.world_script.progress.Progress.{Progress}
 use Rattle.cgf_top.specs.declared.world_script.refusal.InputKind.{InputKind}
 use Rattle.cgf_top.specs.declared.world_script.refusal.InputKind.TheVariants.{NotBuilt}
 use Rattle.cgf_top.specs.declared.world_script.refusal.Refusal.{Refusal}
-use Rattle.cgf_top.specs.declared.world_script.script.ScriptEnd.{ScriptEnd}
-use Rattle.cgf_top.specs.declared.world_script.script.ScriptEnd.TheVariants as end
 
 -- kept lines in front of those of the rest of a script
 abbrev pub behind_kept : List Line → Result (List Line) Refusal → Result (List Line) Refusal

@@ -1,5 +1,5 @@
 -- Lemmas on the numbers that a list of two octets each names.
-use Rattle.std.proofs.Common.{◌≡◌, ℕ, suc, ◌+◌, ◌*◌, ◌≤◌, ◌<◌, List, [], ◌∷◌, ◌++◌, length, get_or, drop, map, Option, refl, ap, sym, ◌∙◌, arith, append_assoc, append-nil}
+use Rattle.std.proofs.Common.{◌≡◌, ℕ, ◌≤◌, ◌<◌, List, [], ◌∷◌, ◌++◌, length, get_or, drop, map, Option, refl, ap, sym, ◌∙◌, arith, append_assoc}
 use Rattle.gtpp_header.specs.Header.{two_octets}
 use Rattle.gw_base.specs.Nearest.{nearest}
 use Rattle.cgf_top.specs.Answer.{wire_numbers}

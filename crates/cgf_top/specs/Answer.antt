@@ -1,6 +1,6 @@
 -- What a gateway answers to a request, by its history, and the entry that the request calls for (3GPP TS 32.295,
 -- clauses 5.1.3 and 6.2.4.5).
-use Rattle.std.specs.Prelude.{ℕ, ◌+◌, ◌*◌, ◌^◌, Bool, true, false, ◌&&◌, ◌==◌, nat_le, nat_lt, if◌then◌else◌, List, [], ◌∷◌, ◌++◌, map, filter, Option, Some, None, is_none}
+use Rattle.std.specs.Prelude.{ℕ, ◌^◌, Bool, true, false, ◌&&◌, ◌==◌, nat_le, nat_lt, if◌then◌else◌, List, [], ◌∷◌, ◌++◌, map, filter, Option, Some, None, is_none}
 use Rattle.std.specs.List.{list_any}
 use Rattle.gtpp_header.specs.Header.{two_octets}
 use Rattle.gw_base.specs.History.{epoch_of, state_of, top_of}

@@ -1,5 +1,5 @@
 -- What `feed` prints: the reply to each datagram, then the file of the records, then the gateway's counts.
-use Rattle.std.specs.Prelude.{ℕ, ◌<◌, ◌^◌, IfSome, ◌+◌, ◌/◌, ◌%◌, Bool, true, false, if◌then◌else◌, List, [], ◌∷◌, ◌++◌, length, map, Option, Some, None, Result, Ok, Err, codes, ℤ, pos}
+use Rattle.std.specs.Prelude.{ℕ, ◌<◌, ◌^◌, IfSome, ◌+◌, ◌/◌, ◌%◌, if◌then◌else◌, List, [], ◌∷◌, ◌++◌, length, map, Option, Some, None, Result, Ok, Err, codes, pos}
 use Rattle.std.specs.Fmt.{decimal}
 use Rattle.hex.specs.Hex.{encode_upper}
 use Rattle.cdr_file.specs.CdrFile.{FileSettings, file_octets, node_address}

@@ -1,9 +1,9 @@
 -- The records that a gateway's history files, in order.
-use Rattle.std.specs.Prelude.{ℕ, ◌+◌, Bool, true, false, ◌&&◌, ◌==◌, if◌then◌else◌, List, [], ◌∷◌, ◌++◌, Option, Some, None}
+use Rattle.std.specs.Prelude.{ℕ, ◌+◌, ◌&&◌, ◌==◌, if◌then◌else◌, List, [], ◌∷◌, ◌++◌, Option, Some, None}
 use Rattle.std.specs.List.{flat_map}
 use Rattle.gw_base.specs.History.{begins_epoch, epoch_of, names, state_of}
 use Rattle.gw_base.specs.declared.history.HistoryAct.{HistoryAct}
-use Rattle.gw_base.specs.declared.history.HistoryAct.TheVariants.{Start, Path, File, Hold, Seal, Release, Cancel, Tick, Close}
+use Rattle.gw_base.specs.declared.history.HistoryAct.TheVariants.{File, Hold, Release}
 use Rattle.gw_base.specs.declared.history.HistoryEntry.{HistoryEntry}
 use Rattle.gw_base.specs.declared.history.PacketKey.{PacketKey}
 use Rattle.transfer_cmd.specs.Lists.{is_held}

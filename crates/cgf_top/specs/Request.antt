@@ -1,5 +1,5 @@
 -- A Data Record Transfer Request (3GPP TS 32.295, clause 6.2.4.5) in the one form in which scripts may send it so far.
-use Rattle.std.specs.Prelude.{ℕ, ◌+◌, ◌%◌, Bool, true, false, ◌&&◌, ◌||◌, ◌==◌, if◌then◌else◌, List, [], ◌∷◌, length, drop, Option, Some, None, option_map, is_some, Result, Ok, Err}
+use Rattle.std.specs.Prelude.{ℕ, ◌%◌, Bool, true, ◌&&◌, ◌==◌, if◌then◌else◌, List, [], ◌∷◌, length, drop, Option, Some, None, option_map, is_some, Result, Ok, Err}
 use Rattle.gtpp_header.specs.declared.Header.{Header}
 use Rattle.gtpp_header.specs.declared.fault.HeadFault.{HeadFault}
 use Rattle.gtpp_header.specs.Header.{two_octets}

@@ -1,5 +1,5 @@
 -- The job as a whole: which words it is asked by, what it reads of its input, and how it ends.
-use Rattle.std.specs.Prelude.{ℕ, ◌≡◌, ◌≤◌, ◌⊎◌, Bool, true, false, not, ◌&&◌, ◌==◌, List, [], ◌∷◌, ◌++◌, length, Option, Some, None, Result, Ok, Err, codes}
+use Rattle.std.specs.Prelude.{ℕ, ◌≡◌, ◌≤◌, ◌⊎◌, Bool, true, false, not, ◌&&◌, ◌==◌, List, [], ◌∷◌, ◌++◌, length, Option, Some, Result, Ok, Err, codes}
 use Rattle.std.specs.Io.KnownBytes.{Appends, Consumes, IsAtEnd}
 use Rattle.std.specs.Str.{bytes_eq}
 use Rattle.gw_base.specs.Faults.{Rose}
@@ -49,7 +49,11 @@ end_of (Ok lines) = status.Done
 end_of (Err refusal) = status.Input refusal.place refusal.kind
 
 abbrev pub EndsByScript : Option (List ℕ) → Option (List ℕ) → Status → Type 0
-EndsByScript left behind status = (text : List ℕ) × IsRead left behind text × (status ≡ end_of (script_of text))
+EndsByScript left behind ended = (text : List ℕ) × IsRead left behind text × (ended ≡ end_of (script_of text))
+
+-- the script that is left decides how the job ends
+abbrev pub EndsByWhole : Option (List ℕ) → Status → Type 0
+EndsByWhole left ended = (text : List ℕ) → left ≡ Some text → length text ≤ 16777216 → (ended ≡ status.Memory) ⊎ (ended ≡ end_of (script_of text))
 
 -- the number that the program ends with
 abbrev pub status_number : Status → ℕ

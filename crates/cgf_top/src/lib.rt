@@ -5,7 +5,7 @@ ghost use Rattle.std.specs.Prelude.{◌≡◌, ◌⊎◌, ◌↔◌, List, true,
 ghost use Rattle.gw_base.specs.Faults.{Rose};
 ghost use Rattle.cgf_top.specs.FeedReport.{feed_report};
 ghost use Rattle.cgf_top.specs.FeedScript.{script_of};
-ghost use Rattle.cgf_top.specs.Run.{EndsByScript, Gives, IsRefused, WritesFront, WritesReport, is_command};
+ghost use Rattle.cgf_top.specs.Run.{EndsByScript, EndsByWhole, Gives, IsRefused, WritesFront, WritesReport, is_command};
 ghost use Rattle.cgf_top.specs.declared.world_script.line.Line.{Line};
 ghost use Rattle.cgf_top.specs.declared.world_script.refusal.Refusal.{Refusal};
 
@@ -32,6 +32,7 @@ pub use world_script::InputKind;
 
 /// Does what the words ask: `feed FILE` reads a script from the source, feeds a gateway with its
 /// datagrams, and writes the replies, the file and the gateway's counts to the sink.
+#[tactic(auto, using(crate::proofs::Ends::whole_text))]
 pub fn run_cgf<S: Source, K: Sink>(
     alloc: Global,
     words: &[String],
@@ -59,6 +60,11 @@ pub fn run_cgf<S: Source, K: Sink>(
     ensures complete { is_command (map string_bytes words.now) ≡ true →
         ¬ (Rose (S.faults source.old) (S.faults source.new)) → ¬ (Rose (K.faults sink.old) (K.faults sink.new)) →
         (result ≡ Status.Memory) ⊎ EndsByScript (S.left source.old) (S.left source.new) result }
+
+    // A text within the bound that the source tells is read whole, so that it is the one that decides.
+    ensures whole { is_command (map string_bytes words.now) ≡ true →
+        ¬ (Rose (S.faults source.old) (S.faults source.new)) → ¬ (Rose (K.faults sink.old) (K.faults sink.new)) →
+        EndsByWhole (S.left source.old) result }
 {
     if is_command(words) {
         feed_all(alloc, source, sink)

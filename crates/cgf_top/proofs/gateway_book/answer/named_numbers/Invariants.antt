@@ -1,7 +1,6 @@
 use Rattle.std.proofs.Common.{◌≡◌, ◌++◌, map, length}
-use Rattle.gw_base.specs.History.{top_of}
 use Rattle.gw_base.specs.Nearest.{nearest}
-use Rattle.cgf_top.specs.Answer.{named_numbers, wire_numbers}
+use Rattle.cgf_top.specs.Answer.{wire_numbers}
 use Rattle.cgf_top.proofs.gateway_book.answer.named_numbers.Given as goal
 
 -- the numbers so far, and those of the octets that are left, are all of them
