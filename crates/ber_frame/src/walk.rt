@@ -1,0 +1,96 @@
+//! The walk through a value, which keeps of each value that it has entered where it ends.
+
+ghost use Rattle.std.specs.Prelude.{◌≡◌, ◌≢◌, ◌↔◌, ◌<◌, ◌+◌, ◌^◌, ◌∷◌, [], length, MatchResult, IsTrue, Ok, Err};
+ghost use Rattle.ber_frame.specs.Value.{are_over};
+ghost use Rattle.ber_frame.specs.Faults.{fault_at};
+ghost use Rattle.ber_frame.specs.Walk.{place, open_with, entered, step_from, octets_behind};
+
+use crate::fault::{BerFault, BerKind};
+use crate::head::head;
+use gw_base::Tag;
+use std::marker::Model;
+
+/// The greatest depth of a value, the outer one counted.
+const DEPTH: usize = 32;
+
+/// A constructed value that was entered.
+#[derive(Clone, Copy, Debug)]
+struct Level<'a> {
+    /// Whether its length is indefinite.
+    endless: bool,
+    /// What follows it within the value that encloses it, where its length is definite.
+    after: &'a [u8],
+}
+
+/// Where the walk stands.
+#[derive(Debug, Drop)]
+pub(crate) struct Walk<'a> {
+    /// The place of the next octet.
+    at: usize,
+    /// The octets from there on, up to the end of the innermost definite value.
+    window: &'a [u8],
+    /// How many more values may be entered.
+    left: usize,
+    /// The values that were entered, the innermost first, from `left` on.
+    levels: [Level<'a>; DEPTH],
+}
+
+impl<'a> Model for Walk<'a> {
+    ghost use Rattle.ber_frame.specs.Walk.{Place};
+    ghost use Rattle.ber_frame.specs.State.{place_of, IsInBounds};
+
+    ghost Value = { Place };
+
+    ghost view = { place_of };
+
+    ghost invariant = { IsInBounds };
+}
+
+impl<'a> Walk<'a> {
+    /// A walk that stands before these octets.
+    pub(crate) fn new(octets: &'a [u8]) -> Walk<'a>
+        ensures { result ≡ place 0 octets.now [] }
+    {
+        Walk {
+            at: 0,
+            window: octets,
+            left: DEPTH,
+            levels: [Level {
+                endless: false,
+                after: &[],
+            }; DEPTH],
+        }
+    }
+
+    /// Whether a value was entered that isn't over.
+    pub(crate) fn is_inside(&self) -> bool
+        ensures { IsTrue result ↔ (self.now.opened ≢ []) }
+    {
+        self.left < DEPTH
+    }
+
+    /// The place of the next octet, and whether there is one.
+    pub(crate) fn at(&self) -> usize
+        ensures { result ≡ self.now.at }
+    {
+        self.at
+    }
+
+    pub(crate) fn window(&self) -> &'a [u8]
+        ensures { result.now ≡ self.now.window }
+    {
+        self.window
+    }
+
+    /// Enters a value whose contents, values again, begin here.
+    fn descend(&mut self, at: usize, contents: &'a [u8], endless: bool, after: &'a [u8])
+        requires room { length self.old.opened < 32 }
+        requires bounds { at + length contents.now + length after.now + octets_behind self.old.opened < 2 ^ 63 }
+        ensures { self.new ≡ place at contents.now (open_with endless after.now ∷ self.old.opened) }
+    {
+        self.left -= 1;
+        self.levels[self.left] = Level { endless, after };
+        self.at = at;
+        self.window = contents;
+    }
+}
