@@ -91,9 +91,9 @@ groups_decide (a ∷ octets) =
     elim (cases_lt a 128) [
       | inl lt ↦ inl (record { groups = a ∷ []; rest = octets; joined = refl; are_groups = lt })
       | inr le ↦ elim (groups_decide octets) [
-          | inl g ↦ inl (one_more a octets le g)
-          | inr cut ↦ inr (le, cut)
-        ]
+        | inl g ↦ inl (one_more a octets le g)
+        | inr cut ↦ inr (le, cut)
+      ]
     ]
 
 -- ---- identifiers
@@ -165,22 +165,26 @@ long_tag_found leading octets all g =
     let is_number : IsTagNumber leading g.groups (number_in 128 (map low_bits g.groups)) = inr (all, g.are_groups, refl) in
     elim (cases_lt (number_in 128 (map low_bits g.groups)) (2 ^ 32)) [
       | inl lt ↦ inl (record {
-          tag = tag_of leading (number_in 128 (map low_bits g.groups));
-          rest = g.rest;
-          after = record {
-            identifier = leading ∷ g.groups;
-            joined = ap (λ (x : List ℕ). leading ∷ x) g.joined;
-            is_identifier = (number_in 128 (map low_bits g.groups), is_number, lt, refl);
-          };
-        })
+        tag = tag_of leading (number_in 128 (map low_bits g.groups));
+        rest = g.rest;
+        after = record {
+          identifier = leading ∷ g.groups;
+          joined = ap (λ (x : List ℕ). leading ∷ x) g.joined;
+          is_identifier = (number_in 128 (map low_bits g.groups), is_number, lt, refl);
+        };
+      })
       | inr le ↦ inr (record {
-          kind = TagTooBig;
-          fails = record {
-            leading = leading; groups = g.groups; rest = g.rest; number = number_in 128 (map low_bits g.groups);
-            joined = ap (λ (x : List ℕ). leading ∷ x) g.joined;
-            is_number = is_number; too_big = le;
-          };
-        })
+        kind = TagTooBig;
+        fails = record {
+          leading = leading;
+          groups = g.groups;
+          rest = g.rest;
+          number = number_in 128 (map low_bits g.groups);
+          joined = ap (λ (x : List ℕ). leading ∷ x) g.joined;
+          is_number = is_number;
+          too_big = le;
+        };
+      })
     ]
 
 pub identifier_decide : (octets : List ℕ) → Identified octets ⊎ Unidentified octets
@@ -191,9 +195,9 @@ identifier_decide (leading ∷ octets) =
       | inr le ↦
           let all : leading % 32 ≡ 31 = omega arith in
           elim (groups_decide octets) [
-          | inl g ↦ long_tag_found leading octets all g
-          | inr cut ↦ inr (record { kind = Cut; fails = (all, cut) })
-        ]
+            | inl g ↦ long_tag_found leading octets all g
+            | inr cut ↦ inr (record { kind = Cut; fails = (all, cut) })
+          ]
     ]
 
 -- ---- lengths
@@ -280,13 +284,18 @@ long_decide constructed first octets above below =
           let form : IsLengthForm (first ∷ take (first - 128) octets) (Some (number_in 256 (take (first - 128) octets))) = inr (above, below, count, refl) in
           elim (cases_lt (number_in 256 (take (first - 128) octets)) (2 ^ 32)) [
             | inl lt ↦ inl (record {
-                size = Some (number_in 256 (take (first - 128) octets)); lengths = first ∷ take (first - 128) octets; rest = drop (first - 128) octets;
-                joined = parts; is_length = form; in_reach = lt; is_allowed = tt;
-              })
+              size = Some (number_in 256 (take (first - 128) octets));
+              lengths = first ∷ take (first - 128) octets;
+              rest = drop (first - 128) octets;
+              joined = parts;
+              is_length = form;
+              in_reach = lt;
+              is_allowed = tt;
+            })
             | inr le ↦ inr (record {
-                kind = LengthTooBig;
-                fails = inr (first ∷ take (first - 128) octets, drop (first - 128) octets, number_in 256 (take (first - 128) octets), parts, form, le);
-              })
+              kind = LengthTooBig;
+              fails = inr (first ∷ take (first - 128) octets, drop (first - 128) octets, number_in 256 (take (first - 128) octets), parts, form, le);
+            })
           ]
     ]
 
@@ -296,8 +305,13 @@ endless_decide false octets = inr (record { kind = Indefinite; fails = (refl, oc
 
 short_length : (constructed : Bool) (first : ℕ) (octets : List ℕ) → first < 128 → Measured constructed (first ∷ octets)
 short_length constructed first octets lt = record {
-  size = Some first; lengths = first ∷ []; rest = octets; joined = refl;
-  is_length = inl (lt, refl, refl); in_reach = omega arith; is_allowed = tt;
+  size = Some first;
+  lengths = first ∷ [];
+  rest = octets;
+  joined = refl;
+  is_length = inl (lt, refl, refl);
+  in_reach = omega arith;
+  is_allowed = tt;
 }
 
 -- octets are below 256
@@ -308,17 +322,17 @@ length_decide constructed (first ∷ octets) small =
     elim (cases_lt first 128) [
       | inl lt ↦ inl (short_length constructed first octets lt)
       | inr le ↦ elim (cases_lt 128 first) [
-          | inl above ↦ elim (cases_lt first 255) [
-              | inl lt ↦ long_decide constructed first octets above lt
-              | inr top ↦
-                  let is : 255 ≡ first = omega arith in
-                  subst (λ (f : ℕ). Measured constructed (f ∷ octets) ⊎ Unmeasured constructed (f ∷ octets)) is
-                    (inr (record { kind = LengthTooBig; fails = inl (octets, refl) }))
-            ]
-          | inr not_above ↦
-              let is : 128 ≡ first = omega arith in
-              subst (λ (f : ℕ). Measured constructed (f ∷ octets) ⊎ Unmeasured constructed (f ∷ octets)) is (endless_decide constructed octets)
+        | inl above ↦ elim (cases_lt first 255) [
+          | inl lt ↦ long_decide constructed first octets above lt
+          | inr top ↦
+              let is : 255 ≡ first = omega arith in
+              subst (λ (f : ℕ). Measured constructed (f ∷ octets) ⊎ Unmeasured constructed (f ∷ octets)) is
+              (inr (record { kind = LengthTooBig; fails = inl (octets, refl) }))
         ]
+        | inr not_above ↦
+            let is : 128 ≡ first = omega arith in
+            subst (λ (f : ℕ). Measured constructed (f ∷ octets) ⊎ Unmeasured constructed (f ∷ octets)) is (endless_decide constructed octets)
+      ]
     ]
 
 -- ---- heads
@@ -332,7 +346,7 @@ pub head_reads : (octets : List ℕ) (tag : Tag) (size : Option ℕ) (head rest 
 unfolding head_at
 head_reads octets tag size head rest h =
     let parts : octets ≡ h.is_head.identifier ++ (h.is_head.lengths ++ rest) =
-      h.joined ∙ ap (λ (x : List ℕ). x ++ rest) h.is_head.joined ∙ append_assoc h.is_head.identifier h.is_head.lengths rest in
+    h.joined ∙ ap (λ (x : List ℕ). x ++ rest) h.is_head.joined ∙ append_assoc h.is_head.identifier h.is_head.lengths rest in
     let one : identifier_at octets ≡ Ok (tag, h.is_head.lengths ++ rest) = ap identifier_at parts ∙ identifier_in_front h.is_head.identifier (h.is_head.lengths ++ rest) tag h.is_head.is_identifier in
     let two : length_at (h.is_head.lengths ++ rest) ≡ Ok (size, rest) = length_in_front h.is_head.lengths rest size h.is_head.is_length h.is_head.in_reach in
     rw (one, two) (allowed_is tag tag.constructed size rest h.is_allowed)
@@ -370,7 +384,10 @@ pub record Unheaded (octets : List ℕ) : Type 0 where
 
 headed : (octets : List ℕ) (i : Identified octets) → Measured i.tag.constructed i.rest → Headed octets
 headed octets i m = record {
-  tag = i.tag; size = m.size; head = i.after.identifier ++ m.lengths; rest = m.rest;
+  tag = i.tag;
+  size = m.size;
+  head = i.after.identifier ++ m.lengths;
+  rest = m.rest;
   after = record {
     joined = i.after.joined ∙ ap (λ (x : List ℕ). i.after.identifier ++ x) m.joined ∙ sym (append_assoc i.after.identifier m.lengths m.rest);
     is_head = record { identifier = i.after.identifier; lengths = m.lengths; joined = refl; is_identifier = i.after.is_identifier; is_length = m.is_length; in_reach = m.in_reach };
@@ -382,8 +399,8 @@ pub head_decide : (octets : List ℕ) → IsOctets octets → Headed octets ⊎ 
 head_decide octets small =
     elim (identifier_decide octets) [
       | inl i ↦ elim (length_decide i.tag.constructed i.rest (IsOctets-back i.after.identifier i.rest (subst IsOctets i.after.joined small))) [
-          | inl m ↦ inl (headed octets i m)
-          | inr u ↦ inr (record { kind = u.kind; fails = inr (i.tag, i.rest, i.after, u.fails) })
-        ]
+        | inl m ↦ inl (headed octets i m)
+        | inr u ↦ inr (record { kind = u.kind; fails = inr (i.tag, i.rest, i.after, u.fails) })
+      ]
       | inr u ↦ inr (record { kind = u.kind; fails = inl u.fails })
     ]

@@ -105,7 +105,7 @@ ValueFails zero at octets fault =
 ValueFails (suc levels) at octets fault =
     ((kind : BerKind) × HeadFails octets kind × (fault ≡ fault_at at kind))
     ⊎ ((tag : Tag) × (size : Option ℕ) × (head : List ℕ) × (rest : List ℕ) × AfterHead octets tag size head rest
-        × ContentsFail (λ inner. (inner_tag : Tag) × BerValue levels inner inner_tag) (ValueFails levels) at (at + length head) tag.constructed size rest fault)
+    × ContentsFail (λ inner. (inner_tag : Tag) × BerValue levels inner inner_tag) (ValueFails levels) at (at + length head) tag.constructed size rest fault)
 
 -- octets follow what stands in front and is right
 abbrev pub IsFollowed : (List ℕ → Type 0) → List ℕ → BerFault → Type 0

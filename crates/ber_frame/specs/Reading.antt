@@ -3,7 +3,9 @@ use Rattle.std.specs.Prelude.{◌≡◌, ℕ, ◌+◌, ◌*◌, ◌-◌, ◌%◌
 use Rattle.gw_base.specs.declared.tag.Tag.{Tag}
 use Rattle.ber_frame.specs.declared.fault.BerKind.{BerKind}
 use Rattle.ber_frame.specs.declared.fault.BerKind.TheVariants.{Cut, Trailing, Indefinite, LengthTooBig, TooDeep, TagTooBig}
+use Rattle.ber_frame.specs.declared.fault.BerFault.{BerFault}
 use Rattle.ber_frame.specs.Head.{tag_of}
+use Rattle.ber_frame.specs.Faults.{fault_at}
 
 infixl 10 ◌>>=◌
 abbrev pub ◌>>=◌ : {A B : Type 0} → Result A BerKind → (A → Result B BerKind) → Result B BerKind
@@ -68,3 +70,12 @@ head_at octets = do
 abbrev pub Gives : {X Y : Type 0} → (X → Y) → Result X BerKind → Result Y BerKind → Type 0
 Gives view (Ok x) read = read ≡ Ok (view x)
 Gives view (Err e) read = read ≡ Err e
+
+-- the tag of octets that are one identifier, or the first fault
+abbrev pub whole_tag : ℕ → Result (Tag × List ℕ) BerKind → Result Tag BerFault
+whole_tag count (Err kind) = Err (fault_at 0 kind)
+whole_tag count (Ok (tag, [])) = Ok tag
+whole_tag count (Ok (tag, octet ∷ octets)) = Err (fault_at (count - length (octet ∷ octets)) Trailing)
+
+abbrev pub whole_identifier : List ℕ → Result Tag BerFault
+whole_identifier octets = whole_tag (length octets) (identifier_at octets)

@@ -1,5 +1,5 @@
 -- The walk through a value: where it stands, and one step of it.
-use Rattle.std.specs.Prelude.{◌≡◌, ℕ, zero, suc, ◌+◌, ◌-◌, ◌<◌, ◌≤◌, ◌^◌, Bool, true, false, List, [], ◌∷◌, length, take, drop, map, Option, Some, None, Result, Ok, Err, nat_lt, if◌then◌else◌}
+use Rattle.std.specs.Prelude.{◌≡◌, ℕ, zero, suc, ◌+◌, ◌-◌, ◌*◌, ◌<◌, ◌≤◌, ◌^◌, Bool, true, false, List, [], ◌∷◌, length, take, drop, map, Option, Some, None, Result, Ok, Err, nat_lt, if◌then◌else◌}
 use Rattle.std.specs.List.{sum_by}
 use Rattle.gw_base.specs.declared.tag.Tag.{Tag}
 use Rattle.ber_frame.specs.declared.fault.BerFault.{BerFault}
@@ -72,6 +72,20 @@ without_tag (Err f) = Err f
 unfoldable pub step_from : Place → List Opened → Result Place BerFault
 step_from p [] = Ok p
 step_from p (o ∷ outer) = if are_over o.endless p.window then Ok (closed p o outer) else without_tag (entered p)
+
+-- what a function that enters returned, and where it left the walk
+abbrev pub Enters : Result Tag BerFault → Place → Place → Type 0
+Enters (Ok tag) old new = entered old ≡ Ok (tag, new)
+Enters (Err f) old new = entered old ≡ Err f
+
+-- what one step returned, and where it left the walk
+abbrev pub Steps : {X : Type 0} → Result X BerFault → Place → Place → Type 0
+Steps (Ok x) old new = step_from old old.opened ≡ Ok new
+Steps (Err f) old new = step_from old old.opened ≡ Err f
+
+-- falls with each step
+abbrev pub steps_left : Place → ℕ
+steps_left p = 2 * octets_left p + length p.opened
 
 -- what the walk comes to from a place on, in at most so many steps: the place where nothing that was entered is left, or
 -- a fault

@@ -1,6 +1,6 @@
 //! The identifier and the length of a value (ITU-T X.690, clauses 8.1.2 and 8.1.3).
 
-ghost use Rattle.std.specs.Prelude.{◌≡◌, ◌%◌, MatchResult, Ok, Err};
+ghost use Rattle.std.specs.Prelude.{◌≡◌, ◌<◌, ◌≤◌, ◌+◌, length, IfOk, IfSome};
 ghost use Rattle.std.specs.Option.{option_map};
 ghost use Rattle.ber_frame.specs.Head.{tag_of};
 ghost use Rattle.ber_frame.specs.Reading.{Gives, groups_at, identifier_at, octets_number, length_at, long_length, head_at};
@@ -14,7 +14,8 @@ const LIMIT: u64 = 4_294_967_296;
 /// The tag number in base 128, at most `LIMIT`, and the octets after it.
 #[tactic(auto, unfolding(crate::specs::Reading::groups_at))]
 fn groups(octets: &[u8]) -> Option<(u64, &[u8])>
-    ensures { option_map (λ x. (x.0, x.1.now)) result ≡ groups_at 0 octets.now }
+    ensures value { option_map (λ x. (x.0, x.1.now)) result ≡ groups_at 0 octets.now }
+    ensures shorter { IfSome result (λ x. length x.1.now < length octets.now) }
 {
     let mut number: u64 = 0;
     for (i, octet) in octets.iter().enumerate() {
@@ -40,7 +41,8 @@ fn tag(leading: u8, number: u32) -> Tag
 /// The identifier in front, and the octets after it.
 #[tactic(auto, unfolding(crate::specs::Reading::identifier_at))]
 pub(crate) fn identifier_at(octets: &[u8]) -> Result<(Tag, &[u8]), BerKind>
-    ensures { Gives (λ x. (x.0, x.1.now)) result (identifier_at octets.now) }
+    ensures value { Gives (λ x. (x.0, x.1.now)) result (identifier_at octets.now) }
+    ensures shorter { IfOk result (λ x. length x.1.now < length octets.now) }
 {
     let [leading, rest @ ..] = octets else {
         return Err(BerKind::Cut);
@@ -72,7 +74,8 @@ fn octets_number(octets: &[u8]) -> u64
 /// The length in this many octets, and the octets after them.
 #[tactic(auto, unfolding(crate::specs::Reading::long_length))]
 fn long_length(count: usize, octets: &[u8]) -> Result<(Option<usize>, &[u8]), BerKind>
-    ensures { Gives (λ x. (x.0, x.1.now)) result (long_length count octets.now) }
+    ensures value { Gives (λ x. (x.0, x.1.now)) result (long_length count octets.now) }
+    ensures shorter { IfOk result (λ x. length x.1.now ≤ length octets.now) }
 {
     if octets.len() < count {
         return Err(BerKind::Cut);
@@ -88,7 +91,8 @@ fn long_length(count: usize, octets: &[u8]) -> Result<(Option<usize>, &[u8]), Be
 /// The length in front, none where it is indefinite, and the octets after it.
 #[tactic(auto, unfolding(crate::specs::Reading::length_at))]
 fn length_at(octets: &[u8]) -> Result<(Option<usize>, &[u8]), BerKind>
-    ensures { Gives (λ x. (x.0, x.1.now)) result (length_at octets.now) }
+    ensures value { Gives (λ x. (x.0, x.1.now)) result (length_at octets.now) }
+    ensures shorter { IfOk result (λ x. length x.1.now < length octets.now) }
 {
     let [first, rest @ ..] = octets else {
         return Err(BerKind::Cut);
@@ -108,7 +112,8 @@ fn length_at(octets: &[u8]) -> Result<(Option<usize>, &[u8]), BerKind>
 /// The identifier and the length in front, and the octets after them.
 #[tactic(auto, unfolding(crate::specs::Reading::head_at))]
 pub(crate) fn head(octets: &[u8]) -> Result<(Tag, Option<usize>, &[u8]), BerKind>
-    ensures { Gives (λ x. (x.0, x.1, x.2.now)) result (head_at octets.now) }
+    ensures value { Gives (λ x. (x.0, x.1, x.2.now)) result (head_at octets.now) }
+    ensures shorter { IfOk result (λ x. length x.2.now + 2 ≤ length octets.now) }
 {
     let (tag, rest) = identifier_at(octets)?;
     let (size, rest) = length_at(rest)?;

@@ -2,11 +2,11 @@
 //! (ITU-T X.690, clause 8.1), and what is wrong with those that aren't.
 #![tactic(auto)]
 
-mod check;
 mod fault;
+mod frame;
 mod head;
 mod walk;
 
-pub use check::identifier;
 pub use fault::{BerFault, BerKind};
+pub use frame::{check, identifier};
 pub use gw_base::Tag;
