@@ -34,4 +34,4 @@ returns c =
     let enters : entered (place 0 c.args.octets.now []) ≡ Ok (c.in_ok-tag.tag, c.enter.new.self) = ap entered (sym c.new-walk.ensures) ∙ c.in_ok-tag.ensures.place in
     let answer : Result Tag BerFault = Err (fault_at c.at.result Trailing) in
     ends_out c.args.octets.now c.in_ok-tag.tag c.enter.new.self c.loop-walk.walk (Err (fault_at c.at.result Trailing)) enters c.loop-walk.invariant none
-      (ap (λ (n : ℕ). Err (fault_at n Trailing)) c.at.ensures ∙ last_some c.in_ok-tag.tag c.loop-walk.walk.at c.loop-walk.walk.window some)
+    (ap (λ (n : ℕ). Err (fault_at n Trailing)) c.at.ensures ∙ last_some c.in_ok-tag.tag c.loop-walk.walk.at c.loop-walk.walk.window some)
