@@ -81,11 +81,11 @@ fn long_length(count: usize, octets: &[u8]) -> Result<(Option<usize>, &[u8]), Be
         return Err(BerKind::Cut);
     }
     let (front, rest) = octets.split_at(count);
-    let number = octets_number(front);
-    if number >= LIMIT {
+    let size = octets_number(front);
+    if size >= LIMIT {
         return Err(BerKind::LengthTooBig);
     }
-    Ok((Some(number as usize), rest))
+    Ok((Some(size as usize), rest))
 }
 
 /// The length in front, none where it is indefinite, and the octets after it.
