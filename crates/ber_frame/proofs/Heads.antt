@@ -1,5 +1,5 @@
 -- Identifier and length in front of octets: either they are there, or one fault is; and the readers tell which.
-use Rattle.std.proofs.Common.{◌≡◌, ℕ, zero, suc, ◌+◌, ◌-◌, ◌*◌, ◌/◌, ◌%◌, ◌^◌, ◌<◌, ◌≤◌, ◌⊎◌, Bool, true, false, cond, ltb, eqb, List, [], ◌∷◌, ◌++◌, length, map, take, drop, Option, Some, None, Result, Ok, Err, refl, sym, ap, subst, ◌∙◌, append_assoc, arith, inl, inr, min, eq-eqb}
+use Rattle.std.proofs.Common.{◌≡◌, ℕ, ◌+◌, ◌-◌, ◌*◌, ◌%◌, ◌^◌, ◌<◌, ◌≤◌, ◌⊎◌, Bool, true, false, ltb, eqb, List, [], ◌∷◌, ◌++◌, length, map, take, drop, Option, Some, None, Ok, Err, refl, sym, ap, subst, ◌∙◌, append_assoc, arith, inl, inr}
 use Rattle.std.specs.Prelude.{fold}
 use Rattle.std.specs.List.{AllByRecursion}
 use Rattle.std.proofs.lemmas.Bool.{cases_lt, lt-ltb, le-ltb, ne_eqb}
@@ -7,9 +7,9 @@ use Rattle.std.proofs.lemmas.List.{take_at, drop_at, take-append-drop, length-ap
 use Rattle.gw_base.specs.declared.tag.Tag.{Tag}
 use Rattle.ber_frame.specs.declared.fault.BerKind.{BerKind}
 use Rattle.ber_frame.specs.declared.fault.BerKind.TheVariants.{Cut, Trailing, Indefinite, LengthTooBig, TooDeep, TagTooBig}
-use Rattle.ber_frame.specs.Head.{number_in, low_bits, AreGroups, IsTagNumber, tag_of, IsIdentifier, IsLengthForm, IsInReach, IsHead}
-use Rattle.ber_frame.specs.Faults.{IsIdentifierCut, IsTagTooBig, IdentifierFails, IsLengthCut, IsLengthTooBig, LengthFails, AfterIdentifier, HeadFails, IsAllowed, AfterHead}
-use Rattle.ber_frame.specs.Reading.{◌>>=◌, capped, next_digit, groups_at, long_tag, identifier_at, octets_number, long_length, length_at, allowed_head, head_at}
+use Rattle.ber_frame.specs.Head.{number_in, low_bits, AreGroups, IsTagNumber, tag_of, IsIdentifier, IsLengthForm, IsInReach}
+use Rattle.ber_frame.specs.Faults.{IsIdentifierCut, IdentifierFails, IsLengthCut, IsLengthTooBig, LengthFails, AfterIdentifier, HeadFails, IsAllowed, AfterHead}
+use Rattle.ber_frame.specs.Reading.{◌>>=◌, capped, next_digit, groups_at, identifier_at, octets_number, long_length, length_at, allowed_head, head_at}
 
 -- ---- octets
 

@@ -1,12 +1,11 @@
 -- Octets that are one identifier, and the first fault of those that aren't.
-use Rattle.std.proofs.Common.{◌≡◌, ◌≢◌, ◌↔◌, ℕ, ◌+◌, ◌-◌, ◌<◌, ◌≤◌, List, [], ◌∷◌, ◌++◌, length, Result, Ok, Err, refl, sym, ap, subst, ◌∙◌, arith, inl, inr}
+use Rattle.std.proofs.Common.{◌≡◌, ◌≢◌, ◌↔◌, ℕ, ◌+◌, ◌-◌, List, [], ◌∷◌, length, Result, Ok, refl, sym, ap, subst, ◌∙◌, arith, inl, inr}
 use Rattle.std.proofs.lemmas.List.{append-nil, length-append}
 use Rattle.gw_base.specs.declared.tag.Tag.{Tag}
 use Rattle.ber_frame.specs.declared.fault.BerFault.{BerFault}
-use Rattle.ber_frame.specs.declared.fault.BerKind.{BerKind}
 use Rattle.ber_frame.specs.declared.fault.BerKind.TheVariants.{Trailing}
 use Rattle.ber_frame.specs.Head.{IsIdentifier}
-use Rattle.ber_frame.specs.Faults.{fault_at, IdentifierFails, AfterIdentifier, IdentifierRefused}
+use Rattle.ber_frame.specs.Faults.{fault_at, AfterIdentifier, IdentifierRefused}
 use Rattle.ber_frame.specs.Reading.{identifier_at, whole_tag, whole_identifier}
 use Rattle.ber_frame.proofs.Heads.{identifier_reads, identifier_fails, identifier_decide}
 use Rattle.ber_frame.proofs.Stops.{ok, err}

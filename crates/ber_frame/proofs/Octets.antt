@@ -1,5 +1,5 @@
 -- Octets are below 256.
-use Rattle.std.proofs.Common.{ℕ, zero, suc, ◌<◌, List, [], ◌∷◌, get_or}
+use Rattle.std.proofs.Common.{ℕ, suc, ◌<◌, List, [], ◌∷◌, get_or}
 use Rattle.ber_frame.proofs.Heads.{IsOctets}
 
 pub are_octets : (octets : List ℕ) → ((i : ℕ) → get_or octets i 0 < 256) → IsOctets octets

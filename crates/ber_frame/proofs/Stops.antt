@@ -1,17 +1,17 @@
 -- The walk stops at the first fault; and so what it answers is what the definitions say.
-use Rattle.std.proofs.Common.{◌≡◌, ◌≢◌, ◌↔◌, ℕ, zero, suc, ◌+◌, ◌-◌, ◌^◌, ◌<◌, ◌≤◌, ◌⊎◌, Bool, true, false, ltb, List, [], ◌∷◌, ◌++◌, length, take, drop, Option, Some, None, Result, Ok, Err, refl, sym, ap, subst, ◌∙◌, append_assoc, arith, inl, inr}
-use Rattle.std.specs.List.{concat, AllByRecursion}
-use Rattle.std.proofs.lemmas.Bool.{cases_lt, cases_Bool, lt-ltb, le-ltb}
-use Rattle.std.proofs.lemmas.List.{append-nil, take_at, drop_at, take-append-drop, length-append, length-take-le}
+use Rattle.std.proofs.Common.{◌≡◌, ◌≢◌, ◌↔◌, ℕ, zero, suc, ◌+◌, ◌<◌, ◌≤◌, Bool, true, false, List, [], ◌∷◌, ◌++◌, length, take, drop, Option, Some, None, Result, Ok, Err, refl, sym, ap, subst, ◌∙◌, arith, inl, inr}
+use Rattle.std.specs.List.{concat}
+use Rattle.std.proofs.lemmas.Bool.{lt-ltb, le-ltb}
+use Rattle.std.proofs.lemmas.List.{append-nil}
 use Rattle.gw_base.specs.declared.tag.Tag.{Tag}
 use Rattle.ber_frame.specs.declared.fault.BerFault.{BerFault}
 use Rattle.ber_frame.specs.declared.fault.BerKind.{BerKind}
-use Rattle.ber_frame.specs.declared.fault.BerKind.TheVariants.{Cut, Trailing, Indefinite, LengthTooBig, TooDeep, TagTooBig}
-use Rattle.ber_frame.specs.Value.{are_over, IsInner, BerValue}
-use Rattle.ber_frame.specs.Faults.{fault_at, HeadFails, AfterHead, InnerFails, ContentsFail, ValueFails, IsFollowed, BerFails}
-use Rattle.ber_frame.specs.Walk.{Opened, Place, place, open_with, at_contents, with_tag, after_head, entered, closed, without_tag, step_from, Fate, last, finish, Ends, Walks}
+use Rattle.ber_frame.specs.declared.fault.BerKind.TheVariants.{Trailing, TooDeep}
+use Rattle.ber_frame.specs.Value.{are_over, BerValue, IsOneValue}
+use Rattle.ber_frame.specs.Faults.{fault_at, HeadFails, AfterHead, InnerFails, ContentsFail, ValueFails, BerFails}
+use Rattle.ber_frame.specs.Walk.{Opened, Place, place, open_with, at_contents, with_tag, entered, without_tag, Fate, last, finish, Ends, Walks}
 use Rattle.ber_frame.proofs.Heads.{IsOctets, head_reads, head_fails}
-use Rattle.ber_frame.proofs.Values.{Value, value_long, Fronted, Unfronted, value_decide}
+use Rattle.ber_frame.proofs.Values.{value_long, Fronted, value_decide}
 use Rattle.ber_frame.proofs.Walks.{fate_goes, fate_stops, fate_ends, step_into, Passes, InnerPasses, row_passes, enters_so, value_passes, outer_passes}
 
 -- entering fails, or from inside the walk comes to this fault
@@ -83,7 +83,7 @@ value_stops (suc levels) depth deep at octets fault (inr h) opened here =
     let below : suc depth + levels ≡ 32 = omega arith in
     let room : length opened < 32 = omega arith in
     contents_stopped at octets h.0 h.1 h.2 h.3 opened fault h.4 room
-    (contents_stop (Value levels) (ValueFails levels) (suc depth) (value_passes levels (suc depth) below) (λ u it. value_long levels u it.0 it.1) (value_stops levels (suc depth) below)
+    (contents_stop (IsOneValue levels) (ValueFails levels) (suc depth) (value_passes levels (suc depth) below) (λ u it. value_long levels u it.0 it.1) (value_stops levels (suc depth) below)
     at (at + length h.2) h.0.constructed h.1 h.3 fault opened (ap suc here) h.5)
 
 -- ---- the whole walk
@@ -133,7 +133,7 @@ data Judged (octets : List ℕ) : Type 0 where
   right : (tag : Tag) → BerValue 32 octets tag → Judged octets
   wrong : (fault : BerFault) → BerFails octets fault → Judged octets
 
-judge_rest : (octets rest : List ℕ) (f : Fronted (Value 32) octets) → f.rest ≡ rest → Judged octets
+judge_rest : (octets rest : List ℕ) (f : Fronted (IsOneValue 32) octets) → f.rest ≡ rest → Judged octets
 judge_rest octets [] f e = right f.is_value.0 (subst (λ (w : List ℕ). BerValue 32 w f.is_value.0) (sym (f.joined ∙ ap (λ (r : List ℕ). f.value ++ r) e ∙ append-nil f.value)) f.is_value.1)
 judge_rest octets (a ∷ rest) f e =
     let some : f.rest ≢ [] = λ none. absurd (cc (e, none)) in

@@ -1,20 +1,15 @@
 -- In front of octets there is a value, or they have a first fault.
-use Rattle.std.proofs.Common.{◌≡◌, ℕ, zero, suc, ◌+◌, ◌-◌, ◌^◌, ◌<◌, ◌≤◌, ◌⊎◌, Bool, true, false, List, [], ◌∷◌, ◌++◌, length, take, drop, Option, Some, None, refl, sym, ap, subst, ◌∙◌, append_assoc, arith, inl, inr}
+use Rattle.std.proofs.Common.{◌≡◌, ℕ, zero, suc, ◌+◌, ◌<◌, ◌≤◌, ◌⊎◌, Bool, true, false, List, [], ◌∷◌, ◌++◌, length, take, drop, Option, Some, None, refl, sym, ap, subst, ◌∙◌, append_assoc, arith, inl, inr}
 use Rattle.std.specs.List.{concat, AllByRecursion}
 use Rattle.std.proofs.lemmas.Bool.{cases_lt, cases_Bool}
 use Rattle.std.proofs.lemmas.List.{append-nil, take-append-drop, length-append, length-take-le}
 use Rattle.gw_base.specs.declared.tag.Tag.{Tag}
 use Rattle.ber_frame.specs.declared.fault.BerFault.{BerFault}
-use Rattle.ber_frame.specs.declared.fault.BerKind.{BerKind}
-use Rattle.ber_frame.specs.declared.fault.BerKind.TheVariants.{Cut, Trailing, Indefinite, LengthTooBig, TooDeep, TagTooBig}
+use Rattle.ber_frame.specs.declared.fault.BerKind.TheVariants.{Cut, TooDeep}
 use Rattle.ber_frame.specs.Head.{IsIdentifier, IsLengthForm, IsHead}
-use Rattle.ber_frame.specs.Value.{begins_with_end, are_over, IsInner, IsContents, Holds, BerValue}
-use Rattle.ber_frame.specs.Faults.{fault_at, HeadFails, IsAllowed, AfterHead, InnerFails, ContentsFail, ValueFails}
+use Rattle.ber_frame.specs.Value.{begins_with_end, are_over, IsInner, IsContents, BerValue, IsOneValue}
+use Rattle.ber_frame.specs.Faults.{fault_at, IsAllowed, InnerFails, ContentsFail, ValueFails}
 use Rattle.ber_frame.proofs.Heads.{IsOctets, IsOctets-back, IsOctets-front, Headed, Unheaded, head_decide}
-
--- a value at this depth, whatever its tag
-abbrev pub Value : ℕ → List ℕ → Type 0
-Value levels octets = (tag : Tag) × BerValue levels octets tag
 
 -- ---- a value has at least two octets
 
@@ -207,7 +202,7 @@ contents_decide IsValue Fails decide long at from true (Some size) octets allowe
 -- ---- values
 
 abbrev pub Fronts : ℕ → ℕ → List ℕ → Type 0
-Fronts levels at octets = Fronted (Value levels) octets ⊎ Unfronted (ValueFails levels) at octets
+Fronts levels at octets = Fronted (IsOneValue levels) octets ⊎ Unfronted (ValueFails levels) at octets
 
 headless : (levels at : ℕ) (octets : List ℕ) → Unheaded octets → Unfronted (ValueFails levels) at octets
 unfolding ValueFails
@@ -218,11 +213,11 @@ too_deep : (at : ℕ) (octets : List ℕ) → Headed octets → Unfronted (Value
 unfolding ValueFails
 too_deep at octets h = record { fault = fault_at at TooDeep; fails = inr (h.tag, h.size, h.head, h.rest, h.after, refl) }
 
-contents_wrong : (levels at : ℕ) (octets : List ℕ) (h : Headed octets) → Unfilled (Value levels) (ValueFails levels) at (at + length h.head) h.tag.constructed h.size h.rest → Unfronted (ValueFails (suc levels)) at octets
+contents_wrong : (levels at : ℕ) (octets : List ℕ) (h : Headed octets) → Unfilled (IsOneValue levels) (ValueFails levels) at (at + length h.head) h.tag.constructed h.size h.rest → Unfronted (ValueFails (suc levels)) at octets
 unfolding ValueFails
 contents_wrong levels at octets h u = record { fault = u.fault; fails = inr (h.tag, h.size, h.head, h.rest, h.after, u.fails) }
 
-filled : (levels : ℕ) (octets : List ℕ) (h : Headed octets) → Filled (Value levels) h.tag.constructed h.size h.rest → Fronted (Value (suc levels)) octets
+filled : (levels : ℕ) (octets : List ℕ) (h : Headed octets) → Filled (IsOneValue levels) h.tag.constructed h.size h.rest → Fronted (IsOneValue (suc levels)) octets
 unfolding BerValue
 filled levels octets h f = record {
   value = h.head ++ f.contents;
@@ -242,7 +237,7 @@ value_decide (suc levels) at octets small =
       | inr u ↦ inr (headless (suc levels) at octets u)
       | inl h ↦
           let rest : IsOctets h.rest = IsOctets-back h.head h.rest (subst IsOctets h.after.joined small) in
-          elim (contents_decide (Value levels) (ValueFails levels) (value_decide levels) (λ v is. value_long levels v is.0 is.1) at (at + length h.head) h.tag.constructed h.size h.rest h.after.is_allowed rest) [
+          elim (contents_decide (IsOneValue levels) (ValueFails levels) (value_decide levels) (λ v is. value_long levels v is.0 is.1) at (at + length h.head) h.tag.constructed h.size h.rest h.after.is_allowed rest) [
             | inl f ↦ inl (filled levels octets h f)
             | inr w ↦ inr (contents_wrong levels at octets h w)
           ]

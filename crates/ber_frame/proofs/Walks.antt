@@ -1,19 +1,15 @@
 -- The walk passes a value that is right, and stops at the first fault of one that isn't.
-use Rattle.std.proofs.Common.{◌≡◌, ℕ, zero, suc, ◌+◌, ◌-◌, ◌^◌, ◌<◌, ◌≤◌, ◌⊎◌, Bool, true, false, ltb, List, [], ◌∷◌, ◌++◌, length, take, drop, Option, Some, None, Result, Ok, Err, refl, sym, ap, subst, ◌∙◌, append_assoc, arith, inl, inr}
+use Rattle.std.proofs.Common.{◌≡◌, ℕ, zero, suc, ◌+◌, ◌-◌, ◌<◌, ◌≤◌, Bool, true, false, List, [], ◌∷◌, ◌++◌, length, Option, Some, None, Result, Ok, Err, refl, sym, ap, subst, ◌∙◌, append_assoc, arith}
 use Rattle.std.specs.List.{concat, AllByRecursion}
-use Rattle.std.proofs.lemmas.Bool.{cases_lt, cases_Bool, lt-ltb, le-ltb}
-use Rattle.std.proofs.lemmas.List.{append-nil, take_at, drop_at, take-append-drop, length-append, length-take-le}
+use Rattle.std.proofs.lemmas.Bool.{lt-ltb, le-ltb}
+use Rattle.std.proofs.lemmas.List.{append-nil, take_at, drop_at, length-append}
 use Rattle.gw_base.specs.declared.tag.Tag.{Tag}
 use Rattle.ber_frame.specs.declared.fault.BerFault.{BerFault}
-use Rattle.ber_frame.specs.declared.fault.BerKind.{BerKind}
-use Rattle.ber_frame.specs.declared.fault.BerKind.TheVariants.{Cut, Trailing, Indefinite, LengthTooBig, TooDeep, TagTooBig}
-use Rattle.ber_frame.specs.Head.{IsHead}
-use Rattle.ber_frame.specs.Value.{begins_with_end, are_over, IsInner, IsContents, Holds, BerValue}
-use Rattle.ber_frame.specs.Faults.{fault_at, HeadFails, IsAllowed, AfterHead, InnerFails, ContentsFail, ValueFails, IsFollowed, BerFails}
-use Rattle.ber_frame.specs.Reading.{head_at}
-use Rattle.ber_frame.specs.Walk.{Opened, Place, place, open_with, at_contents, with_tag, after_head, entered, closed, without_tag, step_from, after_step, follow, run, Fate, last, finish, Ends, Walks}
-use Rattle.ber_frame.proofs.Heads.{IsOctets, head_reads, head_fails}
-use Rattle.ber_frame.proofs.Values.{Value, value_long, over_in_front, Fronted, Unfronted, value_decide}
+use Rattle.ber_frame.specs.Value.{are_over, IsInner, IsContents, HasParts, BerValue, IsOneValue}
+use Rattle.ber_frame.specs.Faults.{IsAllowed, AfterHead}
+use Rattle.ber_frame.specs.Walk.{Opened, Place, place, open_with, at_contents, with_tag, entered, closed, without_tag, step_from, run, Fate}
+use Rattle.ber_frame.proofs.Heads.{head_reads}
+use Rattle.ber_frame.proofs.Values.{value_long, over_in_front}
 
 -- ---- the fate of a place
 
@@ -152,7 +148,7 @@ enters_so at window opened tag size head rest h room =
     rw (head_reads window tag size head rest h, lt-ltb (length opened) 32 room, from) refl
 
 holds_passes : (IsValue : List ℕ → Type 0) (depth : ℕ) → InnerPasses IsValue depth → ((v : List ℕ) → IsValue v → 2 ≤ length v)
-    → (at : ℕ) (octets more : List ℕ) (tag : Tag) (opened : List Opened) → suc (length opened) ≡ depth → length opened < 32 → Holds IsValue octets tag
+    → (at : ℕ) (octets more : List ℕ) (tag : Tag) (opened : List Opened) → suc (length opened) ≡ depth → length opened < 32 → HasParts IsValue octets tag
     → Passes (entered (place at (octets ++ more) opened)) tag (place (at + length octets) more opened)
 holds_passes IsValue depth passes long at octets more tag opened deep room h =
     let parts : octets ++ more ≡ h.head ++ (h.contents ++ more) = ap (λ (x : List ℕ). x ++ more) h.joined ∙ append_assoc h.head h.contents more in
@@ -165,17 +161,17 @@ holds_passes IsValue depth passes long at octets more tag opened deep room h =
       goes_on = λ outcome fate. p.goes_on outcome (subst (λ (n : ℕ). Fate (place n more opened) outcome) (sym there) fate);
     }
 
-pub value_passes : (levels depth : ℕ) → depth + levels ≡ 32 → InnerPasses (Value levels) depth
+pub value_passes : (levels depth : ℕ) → depth + levels ≡ 32 → InnerPasses (IsOneValue levels) depth
 unfolding BerValue
 value_passes zero depth deep v is at more opened here = absurd is.1
 value_passes (suc levels) depth deep v is at more opened here =
     let below : suc depth + levels ≡ 32 = omega arith in
     let room : length opened < 32 = omega arith in
-    (is.0, holds_passes (Value levels) (suc depth) (value_passes levels (suc depth) below) (λ u it. value_long levels u it.0 it.1) at v more is.0 opened (ap suc here) room is.1)
+    (is.0, holds_passes (IsOneValue levels) (suc depth) (value_passes levels (suc depth) below) (λ u it. value_long levels u it.0 it.1) at v more is.0 opened (ap suc here) room is.1)
 
 pub outer_passes : (levels : ℕ) → suc levels ≡ 32 → (octets more : List ℕ) (tag : Tag) → BerValue (suc levels) octets tag → Passes (entered (place 0 (octets ++ more) [])) tag (place (0 + length octets) more [])
 unfolding BerValue
 outer_passes levels deep octets more tag is =
     let below : 1 + levels ≡ 32 = omega arith in
     let room : length (let none : List Opened = [] in none) < 32 = omega arith in
-    holds_passes (Value levels) 1 (value_passes levels 1 below) (λ u it. value_long levels u it.0 it.1) 0 octets more tag [] refl room is
+    holds_passes (IsOneValue levels) 1 (value_passes levels 1 below) (λ u it. value_long levels u it.0 it.1) 0 octets more tag [] refl room is

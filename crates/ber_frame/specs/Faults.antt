@@ -6,8 +6,8 @@ use Rattle.gw_base.specs.declared.tag.Tag.{Tag}
 use Rattle.ber_frame.specs.declared.fault.BerFault.{BerFault}
 use Rattle.ber_frame.specs.declared.fault.BerKind.{BerKind}
 use Rattle.ber_frame.specs.declared.fault.BerKind.TheVariants.{Cut, Trailing, Indefinite, LengthTooBig, TooDeep, TagTooBig}
-use Rattle.ber_frame.specs.Head.{IsTagNumber, IsIdentifier, IsLengthForm, IsInReach, IsHead}
-use Rattle.ber_frame.specs.Value.{are_over, IsInner, BerValue}
+use Rattle.ber_frame.specs.Head.{IsTagNumber, IsIdentifier, IsLengthForm, IsHead}
+use Rattle.ber_frame.specs.Value.{are_over, IsInner, IsOneValue}
 
 abbrev pub fault_at : ℕ → BerKind → BerFault
 fault_at at kind = record { at = at; kind = kind }
@@ -31,10 +31,7 @@ pub record IsTagTooBig (octets : List ℕ) : Type 0 where
 abbrev pub IdentifierFails : List ℕ → BerKind → Type 0
 IdentifierFails octets Cut = IsIdentifierCut octets
 IdentifierFails octets TagTooBig = IsTagTooBig octets
-IdentifierFails octets Trailing = ⊥
-IdentifierFails octets Indefinite = ⊥
-IdentifierFails octets LengthTooBig = ⊥
-IdentifierFails octets TooDeep = ⊥
+IdentifierFails octets _ = ⊥
 
 -- the octets end within the length: there is none, or fewer octets than the first one says follow it
 abbrev pub IsLengthCut : List ℕ → Type 0
@@ -52,9 +49,7 @@ abbrev pub LengthFails : Bool → List ℕ → BerKind → Type 0
 LengthFails constructed octets Cut = IsLengthCut octets
 LengthFails constructed octets LengthTooBig = IsLengthTooBig octets
 LengthFails constructed octets Indefinite = (constructed ≡ false) × (rest : List ℕ) × (octets ≡ 128 ∷ rest)
-LengthFails constructed octets Trailing = ⊥
-LengthFails constructed octets TooDeep = ⊥
-LengthFails constructed octets TagTooBig = ⊥
+LengthFails constructed octets _ = ⊥
 
 -- the octets begin with an identifier with this tag, and go on so
 pub record AfterIdentifier (octets : List ℕ) (tag : Tag) (rest : List ℕ) : Type 0 where
@@ -68,11 +63,12 @@ HeadFails octets kind =
     IdentifierFails octets kind
     ⊎ ((tag : Tag) × (rest : List ℕ) × AfterIdentifier octets tag rest × LengthFails tag.constructed rest kind)
 
--- the octets begin with the head of a value, which has an indefinite length only if the value is constructed
+-- a value has an indefinite length only if it is constructed
 abbrev pub IsAllowed : Bool → Option ℕ → Type 0
 IsAllowed constructed None = constructed ≡ true
 IsAllowed constructed (Some size) = Unit {0}
 
+-- the octets begin with this head, of a value with this tag and of this length, and go on so
 pub record AfterHead (octets : List ℕ) (tag : Tag) (size : Option ℕ) (head rest : List ℕ) : Type 0 where
   pub joined : octets ≡ head ++ rest
   pub is_head : IsHead head tag size
@@ -96,16 +92,24 @@ ContentsFail IsValue Fails at from true (Some size) octets fault =
     ((length octets < size) × (fault ≡ fault_at at Cut))
     ⊎ ((size ≤ length octets) × InnerFails IsValue Fails false from (take size octets) fault)
 
--- The first fault of the value that begins at this place and has these octets before it for the end of what encloses
--- it, where values may lie `levels` deep.
+-- The identifier or the length of the value that begins at this place is wrong.
+abbrev pub HeadFault : ℕ → List ℕ → BerFault → Type 0
+HeadFault at octets fault = (kind : BerKind) × HeadFails octets kind × (fault ≡ fault_at at kind)
+
+-- They are right, and what follows them is wrong.
+abbrev pub BehindHead : List ℕ → (Tag → Option ℕ → List ℕ → List ℕ → Type 0) → Type 0
+BehindHead octets IsWrong =
+    (tag : Tag) × (size : Option ℕ) × (head : List ℕ) × (rest : List ℕ) × AfterHead octets tag size head rest × IsWrong tag size head rest
+
+-- The first fault of the value that begins at this place and has these octets before it up to the end of what encloses
+-- it, where values may lie at most `levels` deep.
 unfoldable pub ValueFails : ℕ → ℕ → List ℕ → BerFault → Type 0
 ValueFails zero at octets fault =
-    ((kind : BerKind) × HeadFails octets kind × (fault ≡ fault_at at kind))
-    ⊎ ((tag : Tag) × (size : Option ℕ) × (head : List ℕ) × (rest : List ℕ) × AfterHead octets tag size head rest × (fault ≡ fault_at at TooDeep))
+    HeadFault at octets fault ⊎ BehindHead octets (λ tag size head rest. fault ≡ fault_at at TooDeep)
 ValueFails (suc levels) at octets fault =
-    ((kind : BerKind) × HeadFails octets kind × (fault ≡ fault_at at kind))
-    ⊎ ((tag : Tag) × (size : Option ℕ) × (head : List ℕ) × (rest : List ℕ) × AfterHead octets tag size head rest
-    × ContentsFail (λ inner. (inner_tag : Tag) × BerValue levels inner inner_tag) (ValueFails levels) at (at + length head) tag.constructed size rest fault)
+    HeadFault at octets fault
+    ⊎ BehindHead octets (λ tag size head rest.
+    ContentsFail (IsOneValue levels) (ValueFails levels) at (at + length head) tag.constructed size rest fault)
 
 -- octets follow what stands in front and is right
 abbrev pub IsFollowed : (List ℕ → Type 0) → List ℕ → BerFault → Type 0
@@ -115,7 +119,7 @@ IsFollowed IsRight octets fault =
 -- This is the first fault of octets that are to be one value.
 abbrev pub BerFails : List ℕ → BerFault → Type 0
 BerFails octets fault =
-    ValueFails 32 0 octets fault ⊎ IsFollowed (λ value. (tag : Tag) × BerValue 32 value tag) octets fault
+    ValueFails 32 0 octets fault ⊎ IsFollowed (IsOneValue 32) octets fault
 
 -- This is the first fault of octets that are to be one identifier.
 abbrev pub IdentifierRefused : List ℕ → BerFault → Type 0

@@ -1,6 +1,6 @@
 -- What stands before the contents of a BER value: identifier octets and length octets (ITU-T X.690, clauses 8.1.2 and
 -- 8.1.3). Octets are numbers below 256.
-use Rattle.std.specs.Prelude.{◌≡◌, ℕ, ◌+◌, ◌*◌, ◌/◌, ◌%◌, ◌^◌, ◌<◌, ◌≤◌, ◌==◌, ◌⊎◌, Bool, List, [], ◌∷◌, ◌++◌, length, map, fold, Option, Some, None}
+use Rattle.std.specs.Prelude.{◌≡◌, ℕ, ◌+◌, ◌*◌, ◌/◌, ◌%◌, ◌^◌, ◌<◌, ◌≤◌, ◌==◌, ◌⊎◌, List, [], ◌∷◌, ◌++◌, length, map, fold, Option, Some, None}
 use Rattle.gw_base.specs.declared.tag.Tag.{Tag}
 
 -- the number that digits of this base spell, the highest first

@@ -1,5 +1,5 @@
 -- What the fields of a walk mean.
-use Rattle.std.specs.Prelude.{◌≡◌, ℕ, ◌+◌, ◌<◌, ◌≤◌, ◌^◌, List, length, drop, map}
+use Rattle.std.specs.Prelude.{◌≡◌, ◌+◌, ◌<◌, ◌≤◌, ◌^◌, length, drop, map}
 use Rattle.ber_frame.specs.declared.walk.Level.{Level}
 use Rattle.ber_frame.specs.declared.walk.Walk.TheInside.{Inside}
 use Rattle.ber_frame.specs.Walk.{Opened, Place, place, open_with, octets_left}

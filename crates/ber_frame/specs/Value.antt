@@ -35,7 +35,7 @@ IsContents IsValue true None octets =
     (values : List (List ℕ)) × AllByRecursion (IsInner IsValue true) values × (octets ≡ concat values ++ 0 ∷ 0 ∷ [])
 
 -- these octets are a value whose parts stand in this way
-pub record Holds (IsValue : List ℕ → Type 0) (octets : List ℕ) (tag : Tag) : Type 0 where
+pub record HasParts (IsValue : List ℕ → Type 0) (octets : List ℕ) (tag : Tag) : Type 0 where
   pub size : Option ℕ
   pub head : List ℕ
   pub contents : List ℕ
@@ -46,4 +46,8 @@ pub record Holds (IsValue : List ℕ → Type 0) (octets : List ℕ) (tag : Tag)
 -- These octets are one value with this tag, in which values lie at most `levels` deep, the value itself counted.
 unfoldable pub BerValue : ℕ → List ℕ → Tag → Type 0
 BerValue zero octets tag = ⊥
-BerValue (suc levels) octets tag = Holds (λ inner. (inner_tag : Tag) × BerValue levels inner inner_tag) octets tag
+BerValue (suc levels) octets tag = HasParts (λ inner. (inner_tag : Tag) × BerValue levels inner inner_tag) octets tag
+
+-- one value, whatever its tag
+abbrev pub IsOneValue : ℕ → List ℕ → Type 0
+IsOneValue levels octets = (tag : Tag) × BerValue levels octets tag

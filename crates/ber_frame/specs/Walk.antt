@@ -1,10 +1,9 @@
 -- The walk through a value: where it stands, and one step of it.
-use Rattle.std.specs.Prelude.{◌≡◌, ℕ, zero, suc, ◌+◌, ◌-◌, ◌*◌, ◌<◌, ◌≤◌, ◌^◌, Bool, true, false, List, [], ◌∷◌, length, take, drop, map, Option, Some, None, Result, Ok, Err, nat_lt, if◌then◌else◌}
-use Rattle.std.specs.List.{sum_by}
+use Rattle.std.specs.Prelude.{◌≡◌, ℕ, zero, suc, ◌+◌, ◌-◌, ◌*◌, Bool, true, false, List, [], ◌∷◌, length, take, drop, Option, Some, None, Result, Ok, Err, nat_lt, if◌then◌else◌}
 use Rattle.gw_base.specs.declared.tag.Tag.{Tag}
 use Rattle.ber_frame.specs.declared.fault.BerFault.{BerFault}
 use Rattle.ber_frame.specs.declared.fault.BerKind.{BerKind}
-use Rattle.ber_frame.specs.declared.fault.BerKind.TheVariants.{Cut, Trailing, Indefinite, LengthTooBig, TooDeep, TagTooBig}
+use Rattle.ber_frame.specs.declared.fault.BerKind.TheVariants.{Cut, Trailing, TooDeep}
 use Rattle.ber_frame.specs.Value.{are_over}
 use Rattle.ber_frame.specs.Faults.{fault_at}
 use Rattle.ber_frame.specs.Reading.{head_at}

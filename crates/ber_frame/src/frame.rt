@@ -22,6 +22,7 @@ pub fn check(octets: &[u8]) -> Result<Tag, BerFault>
     walk_through(octets)
 }
 
+/// Enters the outer value, goes on until it is over, and looks whether octets follow.
 fn walk_through(octets: &[u8]) -> Result<Tag, BerFault>
     ensures { Walks octets.now result }
 {
@@ -48,6 +49,7 @@ pub fn identifier(octets: &[u8]) -> Result<Tag, BerFault>
     whole_identifier(octets)
 }
 
+/// Reads the identifier in front, and looks whether octets follow.
 fn whole_identifier(octets: &[u8]) -> Result<Tag, BerFault>
     ensures { result ≡ whole_identifier octets.now }
 {

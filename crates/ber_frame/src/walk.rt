@@ -85,7 +85,8 @@ impl<'a> Walk<'a> {
     /// Enters a value whose contents, values again, begin here.
     fn descend(&mut self, at: usize, contents: &'a [u8], endless: bool, after: &'a [u8])
         requires room { length self.old.opened < 32 }
-        requires bounds { at + length contents.now + length after.now + octets_behind self.old.opened < 2 ^ 63 }
+        requires bounds { at + length contents.now + length after.now + octets_behind self.old.opened
+            < 2 ^ 63 }
         ensures { self.new ≡ place at contents.now (open_with endless after.now ∷ self.old.opened) }
     {
         self.left -= 1;

@@ -4,7 +4,7 @@ use Rattle.gw_base.specs.declared.tag.Tag.{Tag}
 use Rattle.ber_frame.specs.declared.fault.BerFault.{BerFault}
 use Rattle.ber_frame.specs.declared.fault.BerKind.TheVariants.{Trailing}
 use Rattle.ber_frame.specs.Faults.{fault_at}
-use Rattle.ber_frame.specs.Walk.{Place, entered, place, last}
+use Rattle.ber_frame.specs.Walk.{entered, place}
 use Rattle.ber_frame.proofs.Fates.{fate_on, ends_off, ends_out, last_none, last_some}
 use Rattle.ber_frame.proofs.frame.walk_through.Goals as goal
 
