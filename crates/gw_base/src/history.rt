@@ -53,11 +53,20 @@ pub enum HistoryAct {
         packet: Octets,
     },
     /// A number was tested before a packet came under it.
-    Seal { node: NodeId, number: Absolute },
+    Seal {
+        node: NodeId,
+        number: Absolute,
+    },
     /// Held packets are released: their records are filed.
-    Release { node: NodeId, numbers: Absolutes },
+    Release {
+        node: NodeId,
+        numbers: Absolutes,
+    },
     /// Held packets are cancelled.
-    Cancel { node: NodeId, numbers: Absolutes },
+    Cancel {
+        node: NodeId,
+        numbers: Absolutes,
+    },
     /// Files that have been open for long enough are closed.
     Tick,
     /// All open files are closed.

@@ -1,4 +1,4 @@
-ghost use Rattle.std.specs.Prelude.{◌≡◌};
+ghost use Rattle.std.specs.Prelude.{◌≡◌, ◌<◌};
 ghost use Rattle.gw_base.specs.CdrKind.{kind_of, release_of};
 
 /// What the header of a CDR says of its record (3GPP TS 32.297, clause 6.1.2): the release, from 0
@@ -26,7 +26,10 @@ const LAST_RELEASE: u8 = 9;
 
 /// The kind of the records of a packet, by its data record format and format version octets.
 pub fn cdr_kind(format: u8, version: u16) -> CdrKind
-    ensures { result ≡ kind_of format version }
+    ensures kind { result ≡ kind_of format version }
+    ensures release { result.release < 8 }
+    ensures version { result.version < 32 }
+    ensures format { result.format < 8 }
 {
     let digit = (version / 256 % 16) as u8;
     let version = (version % 256) as u8;
@@ -38,7 +41,8 @@ pub fn cdr_kind(format: u8, version: u16) -> CdrKind
 }
 
 fn release_number(digit: u8) -> u8
-    ensures { result ≡ release_of digit }
+    ensures value { result ≡ release_of digit }
+    ensures within { result < 8 }
 {
     if digit > LAST_RELEASE {
         MOST_IN_3_BITS

@@ -4,10 +4,10 @@
 
 mod address;
 mod buffer;
-mod kind;
 mod fault;
 mod history;
 mod key_state;
+mod kind;
 mod memory_sink;
 mod memory_source;
 mod moment;
@@ -20,11 +20,11 @@ mod source;
 mod tag;
 
 pub use address::{Absolute, Addr, GatewayId, NodeId};
-pub use kind::{CdrKind, cdr_kind};
 pub use buffer::Buffer;
 pub use fault::{Failed, NoMemory};
 pub use history::{Absolutes, Caller, HistoryAct, HistoryEntry, PacketKey};
 pub use key_state::KeyState;
+pub use kind::{CdrKind, cdr_kind};
 pub use memory_sink::MemorySink;
 pub use memory_source::MemorySource;
 pub use moment::Moment;

@@ -21,5 +21,4 @@ pub fn nearest_number(top: Option<Absolute>, wire: u16) -> Absolute
 /// From 32,768 on, the nearest number is the one number of the window that the wire can mean.
 pub fn nearest_is_the_one()
     ensures { (h w number : ℕ) → w < 65536 → 32768 ≤ h → IsNearest h w number ↔ (number ≡ nearest (Some h) w) }
-{
-}
+{}

@@ -9,7 +9,7 @@ use crate::moment::Moment;
 
 impl HistoryAct {
     /// Whether the entry begins an epoch of a node.
-    fn begins_epoch(&self, node: NodeId) -> bool
+    pub fn begins_epoch(&self, node: NodeId) -> bool
         ensures { result ≡ begins_epoch node.0 self.now }
     {
         match self {
@@ -19,7 +19,7 @@ impl HistoryAct {
     }
 
     /// Whether the entry names a number of a node.
-    fn names(&self, node: NodeId, number: Absolute) -> bool
+    pub fn names(&self, node: NodeId, number: Absolute) -> bool
         ensures { result ≡ names node.0 number self.now }
     {
         match self {

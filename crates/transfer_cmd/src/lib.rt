@@ -2,10 +2,9 @@
 //! the state of the number that it names.
 #![tactic(auto)]
 
+pub mod cause;
 mod decision;
 mod verdict;
-
-pub mod cause;
 
 pub use decision::{Ask, decide};
 pub use verdict::{Verdict, judge};

@@ -1,0 +1,52 @@
+ghost use Rattle.std.specs.Prelude.{◌≡◌, Some};
+
+use super::*;
+use crate::cases;
+
+const fn row(key: u32, value: u32, mark: u32) -> Row {
+    Row { key, value, mark }
+}
+
+/// A table in a function's body gives what its rows say, and the proof knows it.
+fn value_of_two() -> u32
+    ensures { result ≡ 20 }
+{
+    let table = cases![1 => 10, 0; 2 => 20, 1; 3 => 30, 0];
+    match table.find(2) {
+        Some(row) => row.value,
+        None => unreachable!(),
+    }
+}
+
+#[test]
+fn refuses_the_least_key_that_stands_twice(rt: HostRuntime) {
+    assert_eq!(rt;
+        Cases::of([row(7, 1, 1), row(7, 2, 2)]),
+        Err(Twice { key: 7 })
+    );
+    for (keys, least) in [
+        ([9, 3, 9, 3], Some(3)),
+        ([3, 9, 3, 9], Some(3)),
+        ([0, 8, 8, 8], Some(8)),
+        ([u32::MAX, 1, 2, u32::MAX], Some(u32::MAX)),
+        ([3, 2, 1, 0], None),
+    ] {
+        let table = Cases::of(keys.map(|key| row(key, 1, 1)));
+        assert_eq!(rt; table.err(), least.map(|key| Twice { key }), "{keys:?}");
+    }
+}
+
+#[test]
+fn finds_rows_by_their_keys(rt: HostRuntime) {
+    assert_eq!(rt; value_of_two(), 20);
+    let table = cases![5 => 50, 1; 0 => 7, 2; u32::MAX => 9, 3];
+    for (key, found) in [
+        (5, Some(row(5, 50, 1))),
+        (0, Some(row(0, 7, 2))),
+        (u32::MAX, Some(row(u32::MAX, 9, 3))),
+        (1, None),
+        (50, None),
+    ] {
+        assert_eq!(rt; table.find(key), found, "{key}");
+    }
+}

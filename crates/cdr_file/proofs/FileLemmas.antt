@@ -1,0 +1,57 @@
+-- How many octets a file and its parts have, and how a file grows by a record.
+use Rattle.std.proofs.Common.{◌≡◌, ℕ, ◌+◌, List, [], ◌∷◌, ◌++◌, length, length-append, sum_by, refl, arith}
+use Rattle.std.proofs.lemmas.Grind.{flat_map-append}
+use Rattle.std.proofs.lemmas.List.{append-nil}
+use Rattle.std.proofs.lemmas.List.Sums.{sum_by-cons, sum_by_push}
+use Rattle.cdr_file.specs.declared.cdr_header.CdrHeader.{CdrHeader}
+use Rattle.cdr_file.specs.declared.closure.ClosureReason.{ClosureReason}
+use Rattle.cdr_file.specs.declared.file_header.FileHeader.{FileHeader}
+use Rattle.cdr_file.specs.CdrHeader.{cdr_header_octets}
+use Rattle.cdr_file.specs.FileHeader.{header_octets, no_filter_no_extension}
+use Rattle.cdr_file.specs.CdrFile.{FiledRecord, FileSettings, cdr_length, cdr_octets, file_header, file_length, file_octets, last_moment, node_address, run_octets}
+
+-- a CDR's header has four octets
+pub length-cdr_header_octets : (header : CdrHeader) → length (cdr_header_octets header) ≡ 4
+unfolding cdr_header_octets
+length-cdr_header_octets header = refl
+
+-- a file's header has 52
+pub length-header_octets : (header : FileHeader) → length header.address ≡ 20 → length (header_octets header) ≡ 52
+unfolding header_octets
+length-header_octets header h =
+    omega (arith, length-append header.address (header.lost ∷ no_filter_no_extension))
+
+-- the address of a node has 20
+pub length-node_address : (ip : ℕ) → length (node_address ip) ≡ 20
+unfolding node_address
+length-node_address ip = refl
+
+-- a CDR has as many octets as its length says
+pub length-cdr_octets : (filed : FiledRecord) → length (cdr_octets filed) ≡ cdr_length filed
+length-cdr_octets filed =
+    omega (arith, length-append {A = ℕ}, length-cdr_header_octets)
+
+-- and so have the CDRs of a run
+pub length-run_octets : (run : List FiledRecord) → length (run_octets run) ≡ sum_by cdr_length run
+length-run_octets [] = refl
+length-run_octets (first ∷ later) =
+    omega (arith, length-append (cdr_octets first) (run_octets later), length-cdr_octets first, length-run_octets later, sum_by-cons cdr_length first later)
+
+-- the length that a file's header says is that of the whole file
+pub length-file_octets : (run : List FiledRecord) (sequence : ℕ) (reason : ClosureReason) (settings : FileSettings) → length (file_octets run sequence reason settings) ≡ file_length run
+length-file_octets run sequence reason settings =
+    let header = file_header run sequence reason settings in
+    omega (arith, length-append (header_octets header) (run_octets run), length-header_octets header (length-node_address settings.address), length-run_octets run)
+
+-- one record more is one CDR more at the end
+pub run_octets-append : (run : List FiledRecord) (last : FiledRecord) → run_octets (run ++ last ∷ []) ≡ run_octets run ++ cdr_octets last
+run_octets-append run last = rw (flat_map-append, append-nil)
+
+pub file_length-append : (run : List FiledRecord) (last : FiledRecord) → file_length (run ++ last ∷ []) ≡ file_length run + cdr_length last
+file_length-append run last = omega (arith, sum_by_push cdr_length run last)
+
+-- and the file was appended to at its moment
+pub last_moment-append : (run : List FiledRecord) (last : FiledRecord) → last_moment (run ++ last ∷ []) ≡ last.moment
+last_moment-append [] last = refl
+last_moment-append (first ∷ []) last = refl
+last_moment-append (first ∷ (next ∷ later)) last = last_moment-append (next ∷ later) last

@@ -1,0 +1,2 @@
+pub mod CountedDates
+pub mod FileLemmas

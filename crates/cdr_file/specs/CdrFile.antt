@@ -1,0 +1,102 @@
+-- The octets of a whole CDR file (3GPP TS 32.297, clause 6.1), for a run of records of one kind.
+use Rattle.std.specs.Prelude.{ℕ, ◌+◌, List, [], ◌∷◌, ◌++◌, ℤ, length, replicate, sum_by}
+use Rattle.std.specs.List.{flat_map}
+use Rattle.byteorder.specs.Endian.{big_bytes}
+use Rattle.gw_base.specs.declared.kind.CdrKind.{CdrKind}
+use Rattle.cdr_file.specs.declared.cdr_header.CdrHeader.{CdrHeader}
+use Rattle.cdr_file.specs.declared.closure.ClosureReason.{ClosureReason}
+use Rattle.cdr_file.specs.declared.file_header.FileHeader.{FileHeader}
+use Rattle.cdr_file.specs.CdrHeader.{cdr_header_octets}
+use Rattle.cdr_file.specs.ClosureReason.{code_of}
+use Rattle.cdr_file.specs.FileHeader.{header_octets}
+use Rattle.cdr_file.specs.Timestamp.{stamp_of}
+
+-- a record that goes into a file: its kind, its octets, and the moment at which it was filed
+pub record FiledRecord : Type 0 where
+  pub kind : CdrKind
+  pub octets : List ℕ
+  pub moment : ℕ
+
+-- how many minutes the gateway's clock is ahead of UTC, and the gateway's IPv4 address
+pub record FileSettings : Type 0 where
+  pub offset : ℤ
+  pub address : ℕ
+
+-- the header of the CDR that a record becomes
+abbrev pub cdr_header : FiledRecord → CdrHeader
+cdr_header filed = record {
+  length = length filed.octets;
+  release = filed.kind.release;
+  version = filed.kind.version;
+  format = filed.kind.format;
+  ts = 0;
+}
+
+-- a CDR is its header and the record's octets
+abbrev pub cdr_octets : FiledRecord → List ℕ
+cdr_octets filed = cdr_header_octets (cdr_header filed) ++ filed.octets
+
+-- the CDRs of a run, one after the other
+abbrev pub run_octets : List FiledRecord → List ℕ
+run_octets run = flat_map cdr_octets run
+
+-- how many octets the header of a CDR of a kind has
+abbrev pub cdr_header_length : CdrKind → ℕ
+cdr_header_length _ = 4
+
+-- how many octets the header of a file of CDRs of a kind has
+abbrev pub header_length : CdrKind → ℕ
+header_length _ = 52
+
+-- how many octets the CDR of a record has
+abbrev pub cdr_length : FiledRecord → ℕ
+cdr_length filed = cdr_header_length filed.kind + length filed.octets
+
+-- the kind of a run is that of its first record, and so of each. A file begins with its first record: no file has an
+-- empty run, for which any value would do here and below
+abbrev pub run_kind : List FiledRecord → CdrKind
+run_kind [] = record { release = 0; version = 0; format = 0 }
+run_kind (first ∷ _) = first.kind
+
+-- a file is opened at the moment of its first record
+abbrev pub opening_moment : List FiledRecord → ℕ
+opening_moment [] = 0
+opening_moment (first ∷ _) = first.moment
+
+-- and appended to for the last time at that of its last
+abbrev pub last_moment : List FiledRecord → ℕ
+last_moment [] = 0
+last_moment (last ∷ []) = last.moment
+last_moment (_ ∷ (next ∷ later)) = last_moment (next ∷ later)
+
+-- how many octets the file of a run has
+abbrev pub file_length : List FiledRecord → ℕ
+file_length run = header_length (run_kind run) + sum_by cdr_length run
+
+-- the address of a node that has an IPv4 address: it as an IPv6 address (RFC 4291, section 2.5.5.2), filled up with
+-- zeros to 20 octets
+unfoldable pub node_address : ℕ → List ℕ
+node_address ip = replicate 10 0 ++ 255 ∷ 255 ∷ [] ++ big_bytes 4 ip ++ replicate 4 0
+
+-- the header of the file of a run
+abbrev pub file_header : List FiledRecord → ℕ → ClosureReason → FileSettings → FileHeader
+file_header run sequence reason settings = record {
+  length = file_length run;
+  header_length = header_length (run_kind run);
+  high_release = (run_kind run).release;
+  high_version = (run_kind run).version;
+  low_release = (run_kind run).release;
+  low_version = (run_kind run).version;
+  opened = stamp_of (opening_moment run) settings.offset;
+  appended = stamp_of (last_moment run) settings.offset;
+  count = length run;
+  sequence = sequence;
+  reason = code_of reason;
+  address = node_address settings.address;
+  lost = 0;
+}
+
+-- the octets of a file: its header, and then the CDRs of the run
+abbrev pub file_octets : List FiledRecord → ℕ → ClosureReason → FileSettings → List ℕ
+file_octets run sequence reason settings =
+    header_octets (file_header run sequence reason settings) ++ run_octets run

@@ -1,0 +1,24 @@
+//! CDR files (3GPP TS 32.297, clause 6.1): the header of a file, the header of each CDR in it, the
+//! timestamps that they carry, and why a file was closed.
+//!
+//! The octets of a whole file are `file_octets` of `specs/CdrFile.antt`: the header of the file, and
+//! then each CDR behind its own header.
+#![tactic(auto)]
+
+mod cdr_header;
+mod closure;
+mod file_header;
+mod laws;
+mod octet;
+mod offset;
+mod timestamp;
+
+pub use cdr_header::{CdrHeader, write_cdr};
+pub use closure::ClosureReason;
+pub use file_header::{FileHeader, write_header};
+pub use laws::file_octets_law;
+pub use offset::Offset16;
+pub use timestamp::stamp;
+
+#[cfg(test)]
+mod tests;

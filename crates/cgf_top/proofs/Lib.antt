@@ -1,0 +1,9 @@
+pub mod Bounds
+pub mod Cuts
+pub mod Filed
+pub mod Files
+pub mod Lines
+pub mod Numbers
+pub mod Packets
+pub mod Reports
+pub mod Streams

@@ -1,0 +1,107 @@
+-- What a gateway answers to a request, by its history, and the entry that the request calls for (3GPP TS 32.295,
+-- clauses 5.1.3 and 6.2.4.5).
+use Rattle.std.specs.Prelude.{ℕ, ◌+◌, ◌*◌, ◌^◌, Bool, true, false, ◌&&◌, ◌==◌, nat_le, nat_lt, if◌then◌else◌, List, [], ◌∷◌, ◌++◌, map, filter, Option, Some, None, is_none}
+use Rattle.std.specs.List.{list_any}
+use Rattle.gtpp_header.specs.Header.{two_octets}
+use Rattle.gw_base.specs.History.{epoch_of, state_of, top_of}
+use Rattle.gw_base.specs.Nearest.{nearest}
+use Rattle.gw_base.specs.declared.address.NodeId.{NodeId}
+use Rattle.gw_base.specs.declared.history.HistoryAct.{HistoryAct}
+use Rattle.gw_base.specs.declared.history.HistoryAct.TheVariants as act
+use Rattle.gw_base.specs.declared.history.HistoryEntry.{HistoryEntry}
+use Rattle.gw_base.specs.declared.key_state.KeyState.{KeyState}
+use Rattle.transfer_cmd.specs.Lists.{is_held, verdict_of}
+use Rattle.transfer_cmd.specs.Table.{cause_of, state_given}
+use Rattle.transfer_cmd.specs.declared.decision.Ask.{Ask}
+use Rattle.transfer_cmd.specs.declared.decision.Ask.TheVariants as ask
+use Rattle.transfer_cmd.specs.declared.verdict.Verdict.{Verdict}
+use Rattle.transfer_cmd.specs.declared.verdict.Verdict.TheVariants.{Wrong, Before, Change}
+use Rattle.cgf_top.specs.Request.{RequestForm}
+use Rattle.cgf_top.specs.declared.gateway_book.answer.Answer.{Answer}
+use Rattle.cgf_top.specs.declared.gtpp_message.request.Command.{Command}
+use Rattle.cgf_top.specs.declared.gtpp_message.request.Command.TheVariants.{Send, Possible, Cancel, Release}
+
+-- the state of a number in the node's present epoch
+abbrev pub state_in : List HistoryEntry → NodeId → ℕ → KeyState
+state_in h node number = state_of (record { node = node; epoch = epoch_of node.0 h; number = number }) h
+
+-- Requests that send a packet.
+
+-- what a request that sends this packet asks
+abbrev pub sending : List ℕ → Ask
+sending [] = ask.Empty
+sending (x ∷ xs) = ask.Send
+
+-- the same where the packet is possibly duplicated
+abbrev pub sending_again : List ℕ → Ask
+sending_again [] = ask.Empty
+sending_again (x ∷ xs) = ask.Possible
+
+-- what a request that sends a packet is recorded as
+abbrev pub act_of : Ask → NodeId → ℕ → List ℕ → HistoryAct
+act_of ask.Send node number packet = act.File node number packet
+act_of ask.Possible node number packet = act.Hold node number packet
+act_of ask.Empty node number packet = act.Seal node number
+
+-- whether an entry may bear the number
+abbrev pub is_in_range : ℕ → Bool
+is_in_range number = nat_le 32768 number && nat_lt number (2 ^ 63)
+
+abbrev pub answer_with : ℕ → Option HistoryAct → Answer
+answer_with cause act = record { cause = cause; act = act }
+
+-- the answer by the table; where it calls for an entry whose number is out of range, no resources are available
+abbrev pub sent : Ask → KeyState → NodeId → ℕ → List ℕ → Answer
+sent asked state node number packet =
+    if is_none (state_given asked state) then answer_with (cause_of asked state) None
+    else if is_in_range number then answer_with (cause_of asked state) (Some (act_of asked node number packet))
+    else answer_with 199 None
+
+-- Requests that name a list of numbers.
+
+-- the numbers of a list, two octets each
+abbrev pub wire_numbers : List ℕ → List ℕ
+wire_numbers [] = []
+wire_numbers (high ∷ []) = []
+wire_numbers (high ∷ low ∷ rest) = two_octets high low ∷ wire_numbers rest
+
+-- the request numbers that a list names
+abbrev pub named_numbers : List HistoryEntry → NodeId → List ℕ → List ℕ
+named_numbers h node value = map (nearest (top_of node.0 h)) (wire_numbers value)
+
+-- the numbers with one more, if it isn't among them
+abbrev pub with_number : List ℕ → ℕ → List ℕ
+with_number numbers x = if list_any (λ y. y == x) numbers then numbers else numbers ++ x ∷ []
+
+-- each number once, in the order in which they come first, behind those that came before
+abbrev pub once_behind : List ℕ → List ℕ → List ℕ
+once_behind before [] = before
+once_behind before (x ∷ xs) = once_behind (with_number before x) xs
+
+-- the held ones of these numbers, each once
+abbrev pub held_once : List HistoryEntry → NodeId → List ℕ → List ℕ
+held_once h node numbers = once_behind [] (filter (λ x. is_held (state_in h node x)) numbers)
+
+abbrev pub changing : Bool → NodeId → List ℕ → HistoryAct
+changing true node numbers = act.Release node numbers
+changing false node numbers = act.Cancel node numbers
+
+abbrev pub judged : Verdict → Bool → NodeId → List ℕ → Answer
+judged Wrong release node held = answer_with 254 None
+judged Before release node held = answer_with 252 None
+judged Change release node held = answer_with 128 (Some (changing release node held))
+
+-- the answer by the rule for lists
+abbrev pub listed : Bool → List HistoryEntry → NodeId → List ℕ → Answer
+listed release h node numbers =
+    judged (verdict_of release (map (state_in h node) numbers)) release node (held_once h node numbers)
+
+-- The answer to a request of a node.
+abbrev pub answered : Command → List HistoryEntry → NodeId → ℕ → List ℕ → Answer
+answered Send h node number packet = sent (sending packet) (state_in h node number) node number packet
+answered Possible h node number packet = sent (sending_again packet) (state_in h node number) node number packet
+answered Release h node number value = listed true h node (named_numbers h node value)
+answered Cancel h node number value = listed false h node (named_numbers h node value)
+
+abbrev pub answer_of : List HistoryEntry → NodeId → RequestForm → Answer
+answer_of h node request = answered request.command h node (nearest (top_of node.0 h) request.number) request.value

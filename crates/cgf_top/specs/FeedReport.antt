@@ -1,0 +1,154 @@
+-- What `feed` prints: the reply to each datagram, then the file of the records, then the gateway's counts.
+use Rattle.std.specs.Prelude.{ℕ, ◌<◌, ◌^◌, IfSome, ◌+◌, ◌/◌, ◌%◌, Bool, true, false, if◌then◌else◌, List, [], ◌∷◌, ◌++◌, length, map, Option, Some, None, Result, Ok, Err, codes, ℤ, pos}
+use Rattle.std.specs.Fmt.{decimal}
+use Rattle.hex.specs.Hex.{encode_upper}
+use Rattle.cdr_file.specs.CdrFile.{FileSettings, file_octets, node_address}
+use Rattle.cdr_file.specs.ClosureReason.{code_of}
+use Rattle.cdr_file.specs.Timestamp.{stamp_of}
+use Rattle.cdr_file.specs.declared.file_header.FileHeader.{FileHeader}
+use Rattle.cdr_file.specs.CdrFile as cdr
+use Rattle.cdr_file.specs.declared.closure.ClosureReason.TheVariants.{Manual}
+use Rattle.gtpp_header.specs.Header.{spelled}
+use Rattle.gw_base.specs.CdrKind.{kind_of}
+use Rattle.gw_base.specs.History.{copies_of, is_close_due, moment_after, top_of}
+use Rattle.gw_base.specs.declared.address.Addr.{Addr}
+use Rattle.gw_base.specs.declared.history.HistoryAct.{HistoryAct}
+use Rattle.gw_base.specs.declared.history.HistoryAct.TheVariants as act
+use Rattle.gw_base.specs.declared.history.HistoryEntry.{HistoryEntry}
+use Rattle.cgf_top.specs.Answer.{answer_of}
+use Rattle.cgf_top.specs.FeedScript.{script_of}
+use Rattle.cgf_top.specs.FiledRecords.{filed_records}
+use Rattle.cgf_top.specs.Request.{RequestForm, request_of}
+use Rattle.cgf_top.specs.declared.gateway_book.answer.Answer.{Answer}
+use Rattle.cgf_top.specs.declared.gateway_book.filed.FiledRecord.{FiledRecord}
+use Rattle.cgf_top.specs.declared.world_script.line.Line.{Line}
+use Rattle.cgf_top.specs.declared.world_script.line.Line.TheVariants as line
+use Rattle.cgf_top.specs.declared.world_script.refusal.Refusal.{Refusal}
+
+-- The history.
+
+-- an entry that no session made, with the moment that an entry made now bears
+abbrev pub entry_of : List HistoryEntry → ℕ → HistoryAct → HistoryEntry
+entry_of h now act = record { moment = moment_after h now; caller = record { session = 0; serial = 0 }; act = act }
+
+-- the history with one more entry, where an act calls for one
+abbrev pub with_act : List HistoryEntry → ℕ → Option HistoryAct → List HistoryEntry
+with_act h now None = h
+with_act h now (Some act) = h ++ entry_of h now act ∷ []
+
+-- the history of a gateway that has just begun to run
+abbrev pub started : List HistoryEntry
+started = entry_of [] 0 act.Start ∷ []
+
+-- the history with a Close, where one is due
+abbrev pub closed : List HistoryEntry → ℕ → List HistoryEntry
+closed h now = with_act h now (if is_close_due h then Some act.Close else None)
+
+-- no number of a history is too big for the nearest number to be found
+abbrev pub IsBounded : List HistoryEntry → Type 0
+IsBounded h = (node : ℕ) → IfSome (top_of node h) (λ t. t < 2 ^ 63)
+
+-- The reply.
+
+-- a Data Record Transfer Response (3GPP TS 32.295, clause 6.2.4.6): the cause, and the number that is responded
+abbrev pub response : ℕ → ℕ → List ℕ
+response number cause =
+    spelled (record { kind = 241; length = 7; number = number })
+    ++ (1 ∷ cause ∷ 253 ∷ 0 ∷ 2 ∷ number / 256 ∷ number % 256 ∷ [])
+
+-- The lines.
+
+-- octets in hexadecimal, as a line
+abbrev pub octets_line : List ℕ → List ℕ
+octets_line octets = encode_upper octets ++ 10 ∷ []
+
+-- what the feed has come to: the history, the present moment and the lines that were printed
+pub record FeedState : Type 0 where
+  pub history : List HistoryEntry
+  pub now : ℕ
+  pub printed : List ℕ
+
+-- a request is answered, and its entry made
+abbrev pub behind_answer : FeedState → RequestForm → Answer → FeedState
+behind_answer s request answer = record {
+  history = with_act s.history s.now answer.act;
+  now = s.now;
+  printed = s.printed ++ octets_line (response request.number answer.cause);
+}
+
+abbrev pub behind_datagram : FeedState → Addr → Option RequestForm → FeedState
+behind_datagram s sender None = s
+behind_datagram s sender (Some request) = behind_answer s request (answer_of s.history (record { 0 = sender.ip }) request)
+
+abbrev pub behind : FeedState → Line → FeedState
+behind s line.Blank = s
+behind s (line.At moment) = record s { now = moment }
+behind s (line.Datagram sender octets) = behind_datagram s sender (request_of octets)
+behind s line.End = s
+
+abbrev pub behind_all : FeedState → List Line → FeedState
+behind_all s [] = s
+behind_all s (l ∷ ls) = behind_all (behind s l) ls
+
+-- the feed before the first line
+abbrev pub fresh_feed : FeedState
+fresh_feed = record { history = started; now = 0; printed = [] }
+
+-- The file: all records go into one, which the Close at the end closes.
+
+-- a record as the file has it
+abbrev pub in_file : FiledRecord → cdr.FiledRecord
+in_file filed = record { kind = kind_of filed.format filed.version; octets = filed.octets; moment = filed.moment }
+
+-- the gateway's clock shows UTC, and its address is 10.0.0.1
+abbrev pub feed_settings : FileSettings
+feed_settings = record { offset = pos 0; address = 167772161 }
+
+abbrev pub file_line : List FiledRecord → List ℕ
+file_line [] = []
+file_line (filed ∷ more) =
+    codes "file 1 00-0000000001.cdr " ++ octets_line (file_octets (map in_file (filed ∷ more)) 1 Manual feed_settings)
+
+-- the header of a file by its first record, its last one, their number, and how many octets their CDRs have
+abbrev pub header_of : cdr.FiledRecord → cdr.FiledRecord → ℕ → ℕ → FileHeader
+header_of first last count octets = record {
+  length = 52 + octets;
+  header_length = 52;
+  high_release = first.kind.release;
+  high_version = first.kind.version;
+  low_release = first.kind.release;
+  low_version = first.kind.version;
+  opened = stamp_of first.moment (pos 0);
+  appended = stamp_of last.moment (pos 0);
+  count = count;
+  sequence = 1;
+  reason = code_of Manual;
+  address = node_address 167772161;
+  lost = 0;
+}
+
+-- The counts.
+abbrev pub gateway_line : List HistoryEntry → List ℕ
+gateway_line h =
+    codes "gateway 1 entries " ++ decimal (length h)
+    ++ codes " records " ++ decimal (length (filed_records h))
+    ++ codes " held " ++ decimal (copies_of h).held
+    ++ codes " stranded " ++ decimal (copies_of h).stranded
+    ++ 10 ∷ []
+
+abbrev pub end_lines : List HistoryEntry → List ℕ
+end_lines h = file_line (filed_records h) ++ gateway_line h
+
+-- all that is printed for the lines of a script
+abbrev pub report_of_lines : List Line → List ℕ
+report_of_lines lines =
+    let s = behind_all fresh_feed lines in
+    s.printed ++ end_lines (closed s.history s.now)
+
+abbrev pub report_of : Result (List Line) Refusal → List ℕ
+report_of (Ok lines) = report_of_lines lines
+report_of (Err refusal) = []
+
+-- all that is printed for a script; nothing where a line is refused
+abbrev pub feed_report : List ℕ → List ℕ
+feed_report text = report_of (script_of text)

@@ -1,0 +1,139 @@
+-- The scripts of `feed`: what their lines say, and the first line that is refused.
+use Rattle.std.specs.Prelude.{ℕ, ◌≡◌, ◌+◌, ◌<◌, ◌≤◌, Bool, true, false, ◌&&◌, ◌||◌, ◌==◌, nat_lt, if◌then◌else◌, List, [], ◌∷◌, length, Option, Some, None, option_map, unwrap_or, Result, Ok, Err, codes}
+use Rattle.std.specs.List.{flat_map}
+use Rattle.std.specs.Str.{bytes_eq}
+use Rattle.gw_base.specs.declared.address.Addr.{Addr}
+use Rattle.cgf_top.specs.Packet.{built_records_of}
+use Rattle.cgf_top.specs.Request.{RequestForm, request_of}
+use Rattle.cgf_top.specs.ScriptText.{RawLine, address_of, is_blank, line_content, line_size, number_up_to, octets_of, raw_lines, words_of, ◌>>=◌}
+use Rattle.cgf_top.specs.declared.gtpp_message.request.Command.{Command}
+use Rattle.cgf_top.specs.declared.gtpp_message.request.Command.TheVariants.{Send, Possible, Cancel, Release}
+use Rattle.cgf_top.specs.declared.world_script.line.Line.{Line}
+use Rattle.cgf_top.specs.declared.world_script.line.Line.TheVariants as line
+use Rattle.cgf_top.specs.declared.world_script.progress.Progress.{Progress}
+use Rattle.cgf_top.specs.declared.world_script.refusal.InputKind.{InputKind}
+use Rattle.cgf_top.specs.declared.world_script.refusal.InputKind.TheVariants.{TooLong, NotBuilt}
+use Rattle.cgf_top.specs.declared.world_script.refusal.Refusal.{Refusal}
+use Rattle.cgf_top.specs.declared.world_script.script.ScriptEnd.{ScriptEnd}
+use Rattle.cgf_top.specs.declared.world_script.script.ScriptEnd.TheVariants as end
+
+-- What a line says.
+
+abbrev pub at_line : List (List ℕ) → Option Line
+at_line (seconds ∷ []) = option_map line.At (number_up_to 4102444799 seconds)
+at_line _ = None
+
+abbrev pub in_line : List (List ℕ) → Option Line
+in_line (from ∷ word ∷ words) = do
+  sender ← address_of from
+  octets ← octets_of (word ∷ words)
+  Some (line.Datagram sender octets)
+in_line _ = None
+
+abbrev pub end_line : List (List ℕ) → Option Line
+end_line [] = Some line.End
+end_line (word ∷ words) = None
+
+-- the line that these words say
+abbrev pub worded_line : List (List ℕ) → Option Line
+worded_line [] = None
+worded_line (word ∷ words) =
+    if bytes_eq word (codes "at") then at_line words
+    else if bytes_eq word (codes "in") then in_line words
+    else if bytes_eq word (codes "end") then end_line words
+    else None
+
+abbrev pub line_of : List ℕ → Option Line
+line_of content = if is_blank content then Some line.Blank else worded_line (words_of content)
+
+-- Where a line may stand.
+
+-- how many records a request sends
+abbrev pub sent_records : Command → List ℕ → ℕ
+sent_records Send value = unwrap_or (built_records_of value) 0
+sent_records Possible value = unwrap_or (built_records_of value) 0
+sent_records Cancel value = 0
+sent_records Release value = 0
+
+-- all datagrams come from one address and port
+abbrev pub is_from : Option Addr → Addr → Bool
+is_from None sender = true
+is_from (Some first) sender = (first.ip == sender.ip) && (first.port == sender.port)
+
+-- behind a datagram: no text has more than 10,000 of them, or more than 999 records in them
+abbrev pub behind_request : Progress → Addr → Option RequestForm → Option Progress
+behind_request p sender None = None
+behind_request p sender (Some request) =
+    let records = p.records + sent_records request.command request.value in
+    if is_from p.sender sender && nat_lt p.datagrams 10000 && nat_lt records 1000
+    then Some (record { begun = true; ended = false; sender = Some sender; datagrams = p.datagrams + 1; records = records })
+    else None
+
+-- how far a script has come behind one more line, where the line may stand there: `at` is the first line, and `end`
+-- the last; empty lines and comments may stand anywhere
+abbrev pub behind_line : Progress → Line → Option Progress
+behind_line p line.Blank = Some p
+behind_line p (line.At moment) = if p.begun then None else Some (record p { begun = true })
+behind_line p (line.Datagram sender octets) = if p.ended then None else behind_request p sender (request_of octets)
+behind_line p line.End = if p.ended then None else Some (record p { begun = true; ended = true })
+
+-- what holds of every script so far
+pub record IsWithinBounds (p : Progress) : Type 0 where
+  pub datagrams : p.datagrams ≤ 10000
+  pub records : p.records < 1000
+
+-- The lines of a text.
+
+abbrev pub built : {A : Type 0} → Option A → Result A InputKind
+built None = Err NotBuilt
+built (Some x) = Ok x
+
+-- a line behind so many octets of the text, and how far the script has come with it; no line may hold the octet
+-- behind the first 16,777,216
+abbrev pub line_step : ℕ → Progress → RawLine → Result (Line × Progress) InputKind
+line_step at p raw =
+    if nat_lt 16777216 (at + line_size raw) then Err TooLong
+    else built (line_of (line_content raw) >>= λ found. option_map (λ q. (found, q)) (behind_line p found))
+
+-- the lines of the rest, behind this one
+abbrev pub with_line : Line → Result (List Line) Refusal → Result (List Line) Refusal
+with_line found (Ok lines) = Ok (found ∷ lines)
+with_line found (Err refusal) = Err refusal
+
+abbrev pub behind_step : ℕ → Result (Line × Progress) InputKind → (Progress → Result (List Line) Refusal) → Result (List Line) Refusal
+behind_step place (Err kind) rest = Err (record { place = place; kind = kind })
+behind_step place (Ok step) rest = with_line step.0 (rest step.1)
+
+-- the lines from the one with this number on, behind so many octets; a script has an `end`
+abbrev pub lines_from : ℕ → ℕ → Progress → List RawLine → Result (List Line) Refusal
+lines_from place at p [] = if p.ended then Ok [] else Err (record { place = place; kind = NotBuilt })
+lines_from place at p (raw ∷ raws) = behind_step place (line_step at p raw) (λ q. lines_from (place + 1) (at + line_size raw) q raws)
+
+-- how far a script has come before its first line
+abbrev pub not_begun : Progress
+not_begun = record { begun = false; ended = false; sender = None; datagrams = 0; records = 0 }
+
+-- the lines of a script, or the first that is refused, by its number from 1
+abbrev pub script_of : List ℕ → Result (List Line) Refusal
+script_of text = lines_from 1 0 not_begun (raw_lines text)
+
+-- What the code keeps of the lines: those that do something.
+
+abbrev pub kept : Line → List Line
+kept line.Blank = []
+kept (line.At moment) = line.At moment ∷ []
+kept (line.Datagram sender octets) = line.Datagram sender octets ∷ []
+kept line.End = line.End ∷ []
+
+abbrev pub kept_lines : List Line → List Line
+kept_lines lines = flat_map kept lines
+
+-- the script's lines are read, and these are the ones that do something
+abbrev pub SaysLines : Result (List Line) Refusal → List Line → Type 0
+SaysLines script lines = (all : List Line) × (script ≡ Ok all) × (lines ≡ kept_lines all)
+
+-- the line with this number was read or refused, unless memory ran out
+abbrev pub StepGives : ℕ → Result (Line × Progress) InputKind → Result (Line × Progress) ScriptEnd → Type 0
+StepGives place step (Ok found) = step ≡ Ok found
+StepGives place step (Err (end.Refused refusal)) = (step ≡ Err refusal.kind) × (refusal.place ≡ place)
+StepGives place step (Err end.NoMemory) = Unit {0}

@@ -1,0 +1,212 @@
+//! What `feed` prints for a script: a gateway in memory that is fed with the script's datagrams.
+
+ghost use Rattle.std.specs.Prelude.{◌≡◌, ◌++◌, [], ◌∷◌, Some, None, length, IfOk, OnOk, OnErr, if◌then◌else◌};
+ghost use Rattle.hex.specs.Hex.{encode_upper};
+ghost use Rattle.gw_base.specs.History.{is_close_due};
+ghost use Rattle.gw_base.specs.declared.history.HistoryAct.TheVariants as act;
+ghost use Rattle.cgf_top.specs.FiledRecords.{filed_records};
+ghost use Rattle.cgf_top.specs.Request.{request_form};
+ghost use Rattle.cgf_top.specs.FeedReport.{IsBounded, behind, behind_all, behind_datagram, closed, end_lines, file_line, fresh_feed, gateway_line, octets_line, report_of_lines, response, started, with_act};
+
+use crate::file_writer::file;
+use crate::gateway_book::{FiledRecord, answer_to, filed_records};
+use crate::gtpp_message::{Request, read_request};
+use crate::world_script::Line;
+use gtpp_header::Header;
+use gw_base::{Addr, Caller, HistoryAct, HistoryEntry, Moment, NoMemory, NodeId, scan};
+use std::alloc::Global;
+use std::marker::Model;
+
+/// A gateway that is fed with datagrams, and what was printed for them.
+#[derive(Debug, Drop)]
+struct Feed {
+    history: Vec<HistoryEntry>,
+    now: Moment,
+    printed: Vec<u8>,
+}
+
+impl Model for Feed {
+    ghost use Rattle.cgf_top.specs.FeedReport.{FeedState, IsBounded};
+
+    ghost Value = { FeedState };
+
+    ghost view = { λ f. record { history = f.history.items; now = f.now; printed = f.printed.items } };
+
+    ghost invariant = { λ f. IsBounded f.history.items };
+}
+
+/// All that is printed for the lines of a script.
+pub fn report(alloc: Global, lines: &[Line]) -> Result<Vec<u8>, NoMemory>
+    ensures { IfOk result (λ printed. printed.items ≡ report_of_lines lines.now) }
+{
+    let mut feed = Feed::new(alloc)?;
+    for line in lines {
+        feed.take(alloc, line)?;
+    }
+    feed.end(alloc)
+}
+
+impl Feed {
+    /// A gateway that has just begun to run, at moment 0.
+    #[tactic(auto, using(crate::proofs::Bounds::bounded_start))]
+    fn new(alloc: Global) -> Result<Feed, NoMemory>
+        ensures { IfOk result (λ feed. feed ≡ fresh_feed) }
+    {
+        let Some(now) = Moment::of(0) else {
+            unreachable!();
+        };
+        let mut history = Vec::new(alloc);
+        record(&mut history, now, Some(HistoryAct::Start))?;
+        Ok(Feed {
+            history,
+            now,
+            printed: Vec::new(alloc),
+        })
+    }
+
+    /// Does what a line says.
+    fn take(&mut self, alloc: Global, line: &Line) -> Result<(), NoMemory>
+        ensures { OnOk result (self.new ≡ behind self.old line.now) }
+    {
+        match line {
+            Line::Blank | Line::End => Ok(()),
+            Line::At { moment } => {
+                self.now = *moment;
+                Ok(())
+            }
+            Line::Datagram { from, octets } => match read_request(octets.octets()) {
+                Some(request) => self.serve(alloc, *from, &request),
+                None => Ok(()),
+            },
+        }
+    }
+
+    /// Answers a request.
+    #[tactic(auto, using(crate::proofs::Bounds::bounded_answer))]
+    fn serve(&mut self, alloc: Global, from: Addr, request: &Request<'_>) -> Result<(), NoMemory>
+        ensures { OnOk result (self.new ≡ behind_datagram self.old from (Some (request_form request.now))) }
+    {
+        let answer = answer_to(alloc, &self.history, NodeId(from.ip), request)?;
+        print_octets(alloc, &mut self.printed, &response(request.number, answer.cause))?;
+        record(&mut self.history, self.now, answer.act)?;
+        Ok(())
+    }
+
+    /// Closes the file, and gives all that is printed.
+    fn end(mut self, alloc: Global) -> Result<Vec<u8>, NoMemory>
+        ensures { IfOk result (λ printed. printed.items ≡ self.printed ++ end_lines (closed self.history self.now)) }
+    {
+        close(&mut self.history, self.now)?;
+        let filed = filed_records(alloc, &self.history)?;
+        print_file(alloc, &mut self.printed, &filed)?;
+        print_gateway(alloc, &mut self.printed, &self.history, &filed)?;
+        Ok(self.printed)
+    }
+}
+
+/// Appends the entry that an act calls for, with the moment that an entry made now bears.
+fn record(
+    history: &mut Vec<HistoryEntry>,
+    now: Moment,
+    act: Option<HistoryAct>,
+) -> Result<(), NoMemory>
+    ensures ok { OnOk result (history.new.items ≡ with_act history.old.items now act) }
+    ensures err { OnErr result (history.new.items ≡ history.old.items) }
+{
+    if let Some(act) = act {
+        let moment = scan::moment_behind(history, now);
+        let caller = Caller::NONE;
+        history.push(HistoryEntry {
+            moment,
+            caller,
+            act,
+        })?;
+    }
+    Ok(())
+}
+
+/// Appends a Close, if one is due.
+fn close(history: &mut Vec<HistoryEntry>, now: Moment) -> Result<(), NoMemory>
+    ensures { OnOk result (history.new.items ≡ closed history.old.items now) }
+{
+    if scan::is_close_due(history) {
+        record(history, now, Some(HistoryAct::Close))?;
+    }
+    Ok(())
+}
+
+/// The message type of a Data Record Transfer Response, and the types of its elements.
+const TRANSFER_RESPONSE: u8 = 241;
+const CAUSE: u8 = 1;
+const REQUESTS_RESPONDED: u8 = 253;
+
+/// A Data Record Transfer Response (3GPP TS 32.295, clause 6.2.4.6).
+fn response(number: u16, cause: u8) -> [u8; 13]
+    ensures { result ≡ response number cause }
+{
+    let [flags, kind, length_high, length_low, high, low] = gtpp_header::write(Header {
+        kind: TRANSFER_RESPONSE,
+        length: 7,
+        number,
+    });
+    [
+        flags,
+        kind,
+        length_high,
+        length_low,
+        high,
+        low,
+        CAUSE,
+        cause,
+        REQUESTS_RESPONDED,
+        0,
+        2,
+        high,
+        low,
+    ]
+}
+
+/// Appends octets in hexadecimal, as a line.
+fn print_octets(alloc: Global, printed: &mut Vec<u8>, octets: &[u8]) -> Result<(), NoMemory>
+    ensures { OnOk result (printed.new.items ≡ printed.old.items ++ octets_line octets.now) }
+{
+    let digits = hex::encode_upper(alloc, octets)?;
+    printed.extend_from_slice(digits.as_bytes())?;
+    printed.push(b'\n')?;
+    Ok(())
+}
+
+/// Appends the line of the file, if there is a record.
+#[tactic(auto, using(crate::proofs::Files::printed_file))]
+fn print_file(
+    alloc: Global,
+    printed: &mut Vec<u8>,
+    filed: &[FiledRecord],
+) -> Result<(), NoMemory>
+    ensures { OnOk result (printed.new.items ≡ printed.old.items ++ file_line filed.now) }
+{
+    if filed.is_empty() {
+        return Ok(());
+    }
+    printed.extend_from_slice(b"file 1 00-0000000001.cdr ")?;
+    print_octets(alloc, printed, &file(alloc, filed)?)?;
+    Ok(())
+}
+
+/// Appends the line of the gateway's counts.
+fn print_gateway(
+    alloc: Global,
+    printed: &mut Vec<u8>,
+    history: &[HistoryEntry],
+    filed: &[FiledRecord],
+) -> Result<(), NoMemory>
+    requires { filed.now ≡ filed_records history.now }
+    ensures { OnOk result (printed.new.items ≡ printed.old.items ++ gateway_line history.now) }
+{
+    let entries = history.len();
+    let records = filed.len();
+    let scan::Copies { held, stranded } = scan::count_copies(history);
+    let line = format!(in alloc; "gateway 1 entries {entries} records {records} held {held} stranded {stranded}\n")?;
+    printed.extend_from_slice(line.as_bytes())?;
+    Ok(())
+}

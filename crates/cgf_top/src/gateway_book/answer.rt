@@ -1,0 +1,292 @@
+ghost use Rattle.std.specs.Prelude.{◌≡◌, ◌==◌, ◌<◌, ◌^◌, ◌++◌, [], true, map, filter, IfOk, OnOk, IfSome, slice_index, length, ◌≤◌};
+ghost use Rattle.std.specs.List.{list_any};
+ghost use Rattle.gtpp_header.specs.Header.{two_octets};
+ghost use Rattle.gw_base.specs.History.{top_of};
+ghost use Rattle.gw_base.specs.Nearest.{nearest};
+ghost use Rattle.transfer_cmd.specs.Lists.{is_held};
+ghost use Rattle.cgf_top.specs.Answer.{act_of, answer_of, changing, held_once, is_in_range, judged, listed, named_numbers, once_behind, sending, sending_again, sent, state_in, with_number};
+ghost use Rattle.cgf_top.specs.Request.{request_form};
+
+use crate::gtpp_message::{Command, Request};
+use gw_base::{
+    Absolute, Absolutes, HistoryAct, HistoryEntry, KeyState, NoMemory, NodeId, Octets, PacketKey,
+    nearest_number, scan,
+};
+use std::alloc::Global;
+use transfer_cmd::{Ask, Verdict, cause, decide, judge};
+
+/// What a gateway answers to a request.
+#[derive(Debug, Drop)]
+pub struct Answer {
+    /// The cause of the response.
+    pub cause: u8,
+    /// What the request is recorded as, where it calls for an entry.
+    pub act: Option<HistoryAct>,
+}
+
+/// The least number that an entry may bear.
+const LEAST_NUMBER: Absolute = 32_768;
+
+/// The number from which on no entry may bear one.
+const NUMBERS_END: Absolute = 1 << 63;
+
+/// The answer of a gateway with this history to a request of a node.
+pub fn answer_to(
+    alloc: Global,
+    history: &[HistoryEntry],
+    node: NodeId,
+    request: &Request<'_>,
+) -> Result<Answer, NoMemory>
+    requires { IfSome (top_of node.0 history.now) (λ t. t < 2 ^ 63) }
+    ensures { IfOk result (λ answer. answer ≡ answer_of history.now node (request_form request.now)) }
+{
+    let value = request.value;
+    match request.command {
+        Command::Send => {
+            let number = nearest_number(scan::top(history, node), request.number);
+            sent(
+                alloc,
+                sending(value),
+                state_in(history, node, number),
+                node,
+                number,
+                value,
+            )
+        }
+        Command::Possible => {
+            let number = nearest_number(scan::top(history, node), request.number);
+            sent(
+                alloc,
+                sending_again(value),
+                state_in(history, node, number),
+                node,
+                number,
+                value,
+            )
+        }
+        Command::Cancel => listed(alloc, false, history, node, value),
+        Command::Release => listed(alloc, true, history, node, value),
+    }
+}
+
+/// The state of a number in the node's present epoch.
+fn state_in(history: &[HistoryEntry], node: NodeId, number: Absolute) -> KeyState
+    ensures { result ≡ state_in history.now node number }
+{
+    let epoch = scan::epoch(history, node);
+    scan::state(
+        history,
+        PacketKey {
+            node,
+            epoch,
+            number,
+        },
+    )
+}
+
+/// What a request that sends this packet asks.
+fn sending(packet: &[u8]) -> Ask
+    ensures { result ≡ sending packet.now }
+{
+    if packet.is_empty() {
+        Ask::Empty
+    } else {
+        Ask::Send
+    }
+}
+
+/// The same where the packet is possibly duplicated.
+fn sending_again(packet: &[u8]) -> Ask
+    ensures { result ≡ sending_again packet.now }
+{
+    if packet.is_empty() {
+        Ask::Empty
+    } else {
+        Ask::Possible
+    }
+}
+
+/// The answer to a request that sends a packet.
+fn sent(
+    alloc: Global,
+    ask: Ask,
+    state: KeyState,
+    node: NodeId,
+    number: Absolute,
+    packet: &[u8],
+) -> Result<Answer, NoMemory>
+    ensures { IfOk result (λ answer. answer ≡ sent ask state node number packet.now) }
+{
+    let (cause, given) = decide(state, ask);
+    if given.is_none() {
+        return Ok(Answer { cause, act: None });
+    }
+    if number < LEAST_NUMBER || number >= NUMBERS_END {
+        let cause = cause::NO_RESOURCES;
+        return Ok(Answer { cause, act: None });
+    }
+    let act = Some(act(alloc, ask, node, number, packet)?);
+    Ok(Answer { cause, act })
+}
+
+/// What a request that sends a packet is recorded as.
+fn act(
+    alloc: Global,
+    ask: Ask,
+    node: NodeId,
+    number: Absolute,
+    packet: &[u8],
+) -> Result<HistoryAct, NoMemory>
+    ensures { IfOk result (λ act. act ≡ act_of ask node number packet.now) }
+{
+    let packet = Octets::of(alloc, packet)?;
+    Ok(match ask {
+        Ask::Send => HistoryAct::File {
+            node,
+            number,
+            packet,
+        },
+        Ask::Possible => HistoryAct::Hold {
+            node,
+            number,
+            packet,
+        },
+        Ask::Empty => HistoryAct::Seal { node, number },
+    })
+}
+
+/// The answer to a request that releases, or else cancels, the packets of a list of numbers.
+fn listed(
+    alloc: Global,
+    release: bool,
+    history: &[HistoryEntry],
+    node: NodeId,
+    value: &[u8],
+) -> Result<Answer, NoMemory>
+    requires { IfSome (top_of node.0 history.now) (λ t. t < 2 ^ 63) }
+    ensures { IfOk result (λ answer. answer ≡ listed release history.now node (named_numbers history.now node value.now)) }
+{
+    let numbers = named_numbers(alloc, history, node, value)?;
+    let states = states_in(alloc, history, node, &numbers)?;
+    match judge(&states, release) {
+        Verdict::Wrong => Ok(Answer {
+            cause: cause::NUMBERS_INCORRECT,
+            act: None,
+        }),
+        Verdict::Before => Ok(Answer {
+            cause: cause::DUPLICATE_ALREADY_FULFILLED,
+            act: None,
+        }),
+        Verdict::Change => {
+            let held = once(alloc, &held_numbers(alloc, history, node, &numbers)?)?;
+            Ok(Answer {
+                cause: cause::ACCEPTED,
+                act: Some(changing(release, node, held)),
+            })
+        }
+    }
+}
+
+fn changing(release: bool, node: NodeId, numbers: Vec<Absolute>) -> HistoryAct
+    ensures { result ≡ changing release node numbers.items }
+{
+    let numbers = Absolutes::from_vec(numbers);
+    if release {
+        HistoryAct::Release { node, numbers }
+    } else {
+        HistoryAct::Cancel { node, numbers }
+    }
+}
+
+/// The request numbers that a list names, two octets each.
+#[tactic(auto, using(crate::proofs::Numbers::step_numbers, crate::proofs::Numbers::no_numbers))]
+fn named_numbers(
+    alloc: Global,
+    history: &[HistoryEntry],
+    node: NodeId,
+    value: &[u8],
+) -> Result<Vec<Absolute>, NoMemory>
+    requires { IfSome (top_of node.0 history.now) (λ t. t < 2 ^ 63) }
+    ensures { IfOk result (λ numbers. numbers.items ≡ named_numbers history.now node value.now) }
+{
+    let top = scan::top(history, node);
+    let mut numbers = Vec::new(alloc);
+    let mut left = value;
+    while left.len() >= 2 {
+        numbers.push(first_number(top, left))?;
+        let (_, rest) = left.split_at(2);
+        left = rest;
+    }
+    Ok(numbers)
+}
+
+/// The request number that the first two octets name.
+fn first_number(top: Option<Absolute>, octets: &[u8]) -> Absolute
+    requires top { IfSome top (λ t. t < 2 ^ 63) }
+    requires octets { 2 ≤ length octets.now }
+    ensures { result ≡ nearest top (two_octets (slice_index octets.now 0) (slice_index octets.now 1)) }
+{
+    let wire = u16::from(octets[0]) * 256 + u16::from(octets[1]);
+    nearest_number(top, wire)
+}
+
+/// The states of these numbers.
+fn states_in(
+    alloc: Global,
+    history: &[HistoryEntry],
+    node: NodeId,
+    numbers: &[Absolute],
+) -> Result<Vec<KeyState>, NoMemory>
+    ensures { IfOk result (λ states. states.items ≡ map (state_in history.now node) numbers.now) }
+{
+    let mut states = Vec::new(alloc);
+    for number in numbers {
+        states.push(state_in(history, node, *number))?;
+    }
+    Ok(states)
+}
+
+/// Those of these numbers that are held.
+fn held_numbers(
+    alloc: Global,
+    history: &[HistoryEntry],
+    node: NodeId,
+    numbers: &[Absolute],
+) -> Result<Vec<Absolute>, NoMemory>
+    ensures { IfOk result (λ held. held.items ≡ filter (λ x. is_held (state_in history.now node x)) numbers.now) }
+{
+    let mut held = Vec::new(alloc);
+    for number in numbers {
+        if matches!(state_in(history, node, *number), KeyState::Held) {
+            held.push(*number)?;
+        }
+    }
+    Ok(held)
+}
+
+/// Each number once, in the order in which they come first.
+fn once(alloc: Global, numbers: &[Absolute]) -> Result<Vec<Absolute>, NoMemory>
+    ensures { IfOk result (λ once. once.items ≡ once_behind [] numbers.now) }
+{
+    let mut once = Vec::new(alloc);
+    for number in numbers {
+        add_once(&mut once, *number)?;
+    }
+    Ok(once)
+}
+
+/// Adds a number, if it isn't there yet.
+fn add_once(numbers: &mut Vec<Absolute>, number: Absolute) -> Result<(), NoMemory>
+    ensures { OnOk result (numbers.new.items ≡ with_number numbers.old.items number) }
+{
+    if !lists(numbers, number) {
+        numbers.push(number)?;
+    }
+    Ok(())
+}
+
+fn lists(numbers: &[Absolute], number: Absolute) -> bool
+    ensures { result ≡ list_any (λ y. y == number) numbers.now }
+{
+    numbers.iter().any(|y| *y == number)
+}

@@ -1,0 +1,11 @@
+//! Scripts: their lines, and the first that is refused.
+
+mod line;
+mod progress;
+mod refusal;
+mod script;
+mod text;
+
+pub use line::Line;
+pub use refusal::{InputKind, Refusal};
+pub use script::{MOST_TEXT, ScriptEnd, read_script};
