@@ -1,0 +1,10 @@
+use Rattle.std.proofs.Common.{arith}
+use Rattle.ber_frame.proofs.Octets.{are_octets}
+use Rattle.ber_frame.proofs.Stops.{accepts, fails}
+use Rattle.ber_frame.proofs.frame.check.Goals as goal
+
+pub returns-clause-accepts : goal.returns-clause-accepts
+returns-clause-accepts c = accepts c.args.octets.now c.walk_through.result (are_octets c.args.octets.now (λ i. omega (arith, c.type_inv.octets i))) c.walk_through.ensures
+
+pub returns-clause-fails : goal.returns-clause-fails
+returns-clause-fails c = fails c.args.octets.now c.walk_through.result (are_octets c.args.octets.now (λ i. omega (arith, c.type_inv.octets i))) c.walk_through.ensures

@@ -1,0 +1,6 @@
+pub mod Head
+pub mod Value
+pub mod Faults
+pub mod Reading
+pub mod Walk
+pub mod State

@@ -1,0 +1,67 @@
+ghost use Rattle.std.specs.Prelude.{◌≡◌, ◌↔◌, Ok, Err};
+ghost use Rattle.gw_base.specs.declared.tag.Tag.{Tag};
+ghost use Rattle.ber_frame.specs.declared.fault.BerFault.{BerFault};
+ghost use Rattle.ber_frame.specs.Head.{IsIdentifier};
+ghost use Rattle.ber_frame.specs.Value.{BerValue};
+ghost use Rattle.ber_frame.specs.Faults.{IdentifierRefused, BerFails};
+ghost use Rattle.ber_frame.specs.Reading.{whole_identifier};
+ghost use Rattle.ber_frame.specs.Walk.{Walks};
+
+use crate::fault::{BerFault, BerKind};
+use crate::head::identifier_at;
+use crate::walk::Walk;
+use gw_base::Tag;
+
+/// The tag of octets that are exactly one BER value (ITU-T X.690, clause 8.1), in which values lie
+/// at most 32 deep, the outer one counted; else the first fault: outside before inside, left to
+/// right. It takes no memory.
+pub fn check(octets: &[u8]) -> Result<Tag, BerFault>
+    ensures accepts { (tag : Tag) → (result ≡ Ok tag) ↔ BerValue 32 octets.now tag }
+    ensures fails { (fault : BerFault) → (result ≡ Err fault) ↔ BerFails octets.now fault }
+{
+    walk_through(octets)
+}
+
+/// Enters the outer value, goes on until it is over, and looks whether octets follow.
+fn walk_through(octets: &[u8]) -> Result<Tag, BerFault>
+    ensures { Walks octets.now result }
+{
+    let mut walk = Walk::new(octets);
+    let tag = walk.enter()?;
+    while walk.is_inside() {
+        walk.step()?;
+    }
+    if walk.window().is_empty() {
+        return Ok(tag);
+    }
+    Err(BerFault {
+        at: walk.at(),
+        kind: BerKind::Trailing,
+    })
+}
+
+/// The tag of octets that are exactly one identifier (ITU-T X.690, clause 8.1.2). It takes no
+/// memory.
+pub fn identifier(octets: &[u8]) -> Result<Tag, BerFault>
+    ensures accepts { (tag : Tag) → (result ≡ Ok tag) ↔ IsIdentifier octets.now tag }
+    ensures fails { (fault : BerFault) → (result ≡ Err fault) ↔ IdentifierRefused octets.now fault }
+{
+    whole_identifier(octets)
+}
+
+/// Reads the identifier in front, and looks whether octets follow.
+fn whole_identifier(octets: &[u8]) -> Result<Tag, BerFault>
+    ensures { result ≡ whole_identifier octets.now }
+{
+    let (tag, rest) = match identifier_at(octets) {
+        Ok(found) => found,
+        Err(kind) => return Err(BerFault { at: 0, kind }),
+    };
+    if rest.is_empty() {
+        return Ok(tag);
+    }
+    Err(BerFault {
+        at: octets.len() - rest.len(),
+        kind: BerKind::Trailing,
+    })
+}

@@ -1,0 +1,15 @@
+//! The outer framing of charging data records (3GPP TS 32.298): whether octets are one BER value
+//! (ITU-T X.690, clause 8.1), and what is wrong with those that aren't.
+#![tactic(auto)]
+
+mod fault;
+mod frame;
+mod head;
+mod walk;
+
+pub use fault::{BerFault, BerKind};
+pub use frame::{check, identifier};
+pub use gw_base::Tag;
+
+#[cfg(test)]
+mod tests;
