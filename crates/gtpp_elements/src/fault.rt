@@ -1,0 +1,62 @@
+use std::error::Error;
+use std::fmt;
+
+/// Why a body is no list of elements. The first faulty element decides.
+#[derive(Clone, Copy, Debug, PartialEq, Eq)]
+pub enum ElementFault {
+    /// The element runs past the body.
+    Overrun {
+        /// How many octets of the body stand before the element.
+        at: usize,
+    },
+    /// Bit 8 of the element's type is clear, and the type is none whose length is known.
+    UnknownFixed {
+        /// The element's type.
+        kind: u8,
+        /// How many octets of the body stand before the element.
+        at: usize,
+    },
+}
+
+/// A list of sequence numbers has an odd number of octets.
+#[derive(Clone, Copy, Debug, PartialEq, Eq)]
+pub struct OddLength;
+
+/// There isn't room in a buffer, which stays as it was.
+#[derive(Clone, Copy, Debug, PartialEq, Eq)]
+pub struct Full {
+    /// How many octets there is room for.
+    pub free: usize,
+}
+
+impl fmt::Display for ElementFault {
+    fn fmt<W: fmt::Write>(&self, f: &mut fmt::Formatter<W>) -> fmt::Result {
+        match self {
+            ElementFault::Overrun { at } => write!(f, "the element at {at} runs past the body"),
+            ElementFault::UnknownFixed { kind, at } => {
+                write!(
+                    f,
+                    "the element at {at} has the unknown type {kind} without a length"
+                )
+            }
+        }
+    }
+}
+
+impl Error for ElementFault {}
+
+impl fmt::Display for OddLength {
+    fn fmt<W: fmt::Write>(&self, f: &mut fmt::Formatter<W>) -> fmt::Result {
+        write!(f, "an odd number of octets")
+    }
+}
+
+impl Error for OddLength {}
+
+impl fmt::Display for Full {
+    fn fmt<W: fmt::Write>(&self, f: &mut fmt::Formatter<W>) -> fmt::Result {
+        write!(f, "room for {} octets alone", self.free)
+    }
+}
+
+impl Error for Full {}
