@@ -1,0 +1,3 @@
+pub mod Disk
+pub mod Plan
+pub mod Quiet

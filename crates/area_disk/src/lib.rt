@@ -1,0 +1,13 @@
+//! Areas of a fixed number of octets, with a stated disk model: what a read gives, and what a crash at any moment
+//! may leave.
+#![tactic(auto)]
+
+mod area;
+mod drill;
+mod plan;
+mod quiet;
+
+pub use area::{Area, Failed, NoMemory};
+pub use drill::{Drill, DrillArea};
+pub use plan::{Fate, Outcome3, Plan, Stop};
+pub use quiet::QuietArea;
