@@ -1,2 +1,3 @@
 pub mod Moments
+mod Stretches
 pub mod Tearing

@@ -6,6 +6,7 @@ mod area;
 mod drill;
 mod plan;
 mod quiet;
+mod stretch;
 
 pub use area::{Area, Failed, NoMemory};
 pub use drill::{Drill, DrillArea};
