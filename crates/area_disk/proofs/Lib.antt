@@ -1,3 +1,4 @@
+mod Changes
 pub mod Moments
 mod Stretches
 pub mod Tearing

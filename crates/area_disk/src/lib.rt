@@ -4,6 +4,7 @@
 
 mod area;
 mod drill;
+mod past;
 mod plan;
 mod quiet;
 mod stretch;

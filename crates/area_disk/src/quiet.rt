@@ -1,6 +1,7 @@
 // An area in memory that never fails.
 ghost use Rattle.std.specs.Prelude.{◌≡◌, ℕ, true, false, length, replicate, IfOk};
 
+use crate::stretch::overwrite;
 use crate::{Area, Failed, NoMemory};
 use std::alloc::Global;
 use std::marker::Model;
@@ -87,9 +88,7 @@ impl Area for QuietArea {
     }
 
     fn write_at(&mut self, at: u64, from: &[u8]) -> Result<(), Failed> {
-        let at = at as usize;
-        let octets = self.octets.as_mut_slice();
-        octets[at..at + from.len()].copy_from_slice(from);
+        overwrite(&mut self.octets, at as usize, from);
         Ok(())
     }
 

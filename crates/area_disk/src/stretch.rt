@@ -1,5 +1,6 @@
 // Stretches of an area, and what is done to the octets in them.
 ghost use Rattle.std.specs.Prelude.{◌≡◌, ◌⊎◌, ◌+◌, ◌<◌, ◌≤◌, ℕ, List, length};
+ghost use Rattle.area_disk.specs.Disk.{overwritten};
 ghost use Rattle.area_disk.specs.Stretch.{IsBeside, IsOutside, SameOutside, EachFits, filled};
 
 /// A run of octets of an area: so many from this place on.
@@ -7,6 +8,14 @@ ghost use Rattle.area_disk.specs.Stretch.{IsBeside, IsOutside, SameOutside, Each
 pub struct Stretch {
     pub at: usize,
     pub count: usize,
+}
+
+// Writes these octets over those from place `at` on.
+pub fn overwrite(octets: &mut [u8], at: usize, from: &[u8])
+    requires { at + length from.now ≤ length octets.old }
+    ensures { octets.new ≡ overwritten octets.old at from.now }
+{
+    octets[at..at + from.len()].copy_from_slice(from);
 }
 
 // Makes `to` the same as `from`, which differs from it in these stretches alone.
