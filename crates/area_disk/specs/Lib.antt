@@ -5,4 +5,5 @@ pub mod Past
 pub mod PastLaws
 pub mod Plan
 pub mod Quiet
+pub mod Sound
 pub mod Stretch

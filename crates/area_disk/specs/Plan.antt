@@ -50,12 +50,16 @@ after_call fate s = record s { calls = counted 1 s.calls; stopped = s.stopped ||
 abbrev pub after_read : Schedule → Schedule
 after_read s = record s { reads = counted 1 s.reads }
 
--- after this plan was armed: the calls count anew from 1, and a stop stays
-abbrev pub armed : Plan → Schedule → Schedule
-armed plan s = record { calls = 0; reads = 0; fail = plan.fail.items; read_fail = plan.read_fail.items; stop = plan.stop; stopped = s.stopped }
-
 abbrev pub with_stopped : Bool → Schedule → Schedule
 with_stopped stopped s = record s { stopped = stopped }
+
+-- this plan before the first call
+abbrev pub schedule_of : Plan → Schedule
+schedule_of plan = record { calls = 0; reads = 0; fail = plan.fail.items; read_fail = plan.read_fail.items; stop = plan.stop; stopped = false }
+
+-- after this plan was armed: the calls count anew from 1, and a stop stays
+abbrev pub armed : Plan → Schedule → Schedule
+armed plan s = with_stopped s.stopped (schedule_of plan)
 
 -- what an octet holds that a stop rotted
 abbrev pub rot : ℕ

@@ -3,13 +3,16 @@
 #![tactic(auto)]
 
 mod area;
+mod disk;
 mod drill;
 mod past;
 mod plan;
+mod planned;
 mod quiet;
 mod stretch;
 
 pub use area::{Area, Failed, NoMemory};
 pub use drill::{Drill, DrillArea};
 pub use plan::{Fate, Outcome3, Plan, Stop};
+pub use planned::PlannedCalls;
 pub use quiet::QuietArea;
