@@ -1,4 +1,5 @@
 pub mod Disk
+pub mod Memory
 pub mod Octets
 pub mod Outside
 pub mod Past

@@ -44,6 +44,10 @@ module _ (xs : List ℕ) (at : ℕ) (ys : List ℕ) (fits : at + length ys ≤ l
       take_front =
           take-append-le at (take at xs ++ ys) (drop (at + length ys) xs) (omega (arith, front, length-append (take at xs) ys)) ∙ take_at (take at xs) ys at front
 
+-- a crash may leave a write undone
+pub torn_same : (at n : ℕ) (octets : List ℕ) → Torn at n octets octets
+torn_same at n octets = record { before = refl; after = refl; size = refl }
+
 -- a place is before a range, in it or after it
 pub data Side (at n k : ℕ) : Type 0 where
   before : k < at → Side at n k

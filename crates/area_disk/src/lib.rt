@@ -5,6 +5,7 @@
 mod area;
 mod disk;
 mod drill;
+mod memory;
 mod past;
 mod plan;
 mod planned;
@@ -13,6 +14,7 @@ mod stretch;
 
 pub use area::{Area, Failed, NoMemory};
 pub use drill::{Drill, DrillArea};
+pub use memory::MemoryArea;
 pub use plan::{Fate, Outcome3, Plan, Stop};
 pub use planned::PlannedCalls;
 pub use quiet::QuietArea;
