@@ -135,3 +135,40 @@ pub written_as_none : (o : Outcome3) (octets : List ℕ) → written_as o octets
 written_as_none Old octets = refl
 written_as_none New octets = refl
 written_as_none Rot octets = refl
+
+module _ (old new : MemoryArea) (kept : IsKept old new) where
+  pub kept_disk_size : length new.disk.present.items ≡ length old.disk.present.items
+  kept_disk_size = ap (λ (d : Disk). length d.present.items) kept.disk
+
+  pub kept_present : new.disk.present.items ≡ old.disk.present.items
+  kept_present = ap (λ (d : Disk). d.present.items) kept.disk
+
+  pub kept_within : Within (DiskMayLeave old.disk) (DiskMayLeave new.disk)
+  kept_within octets left = subst (λ (d : Disk). DiskMayLeave d octets) kept.disk left
+
+  pub kept_elapses : DiskElapses old.disk new.disk
+  kept_elapses = subst (λ (d : Disk). DiskElapses old.disk d) (sym kept.disk) (elapses_same old.disk)
+
+  pub kept_leaves_of : (o : Outcome3) → leaves_of new.disk o ≡ leaves_of old.disk o
+  kept_leaves_of o = ap (λ (d : Disk). leaves_of d o) kept.disk
+
+  pub kept_disk_spare : most_unsynced - length new.disk.unsynced.items ≡ most_unsynced - length old.disk.unsynced.items
+  kept_disk_spare = ap (λ (d : Disk). most_unsynced - length d.unsynced.items) kept.disk
+
+module _ (old new : MemoryArea) (o : Outcome3) (left : IsLeft old o new) where
+  pub left_disk_size : length new.disk.present.items ≡ length old.disk.present.items
+  left_disk_size = ap length left.present ∙ (disk_may_stop old.disk o).size
+
+  pub left_within : Within (DiskMayLeave old.disk) (DiskMayLeave new.disk)
+  left_within = disk_within_stop old.disk new.disk o left.present left.unsynced
+
+  pub left_elapses : DiskElapses old.disk new.disk
+  left_elapses = elapses_noted old.disk new.disk left.past.0 left.past.1
+
+  pub left_leaves_of : (p : Outcome3) → leaves_of new.disk p ≡ leaves_of old.disk o
+  left_leaves_of Old = left.firm ∙ left.present
+  left_leaves_of New = left.present
+  left_leaves_of Rot = ap (λ (u : List Stretch). filled rot u new.disk.present.items) left.unsynced ∙ left.present
+
+  pub left_disk_spare : most_unsynced - length new.disk.unsynced.items ≡ most_unsynced
+  left_disk_spare = ap (λ (u : List Stretch). most_unsynced - length u) left.unsynced

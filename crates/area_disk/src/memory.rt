@@ -1,15 +1,16 @@
 // An area in memory with planned failures and stops.
-ghost use Rattle.std.specs.Prelude.{◌≡◌, ◌-◌, ◌+◌, ℕ, List, [], length, replicate, true, false, IsErr, IfOk};
+ghost use Rattle.std.specs.Prelude.{◌≡◌, ◌-◌, ◌+◌, ◌≤◌, ℕ, List, [], length, replicate, true, false, IsErr, IfOk};
 ghost use Rattle.std.proofs.Common.{refl};
-ghost use Rattle.area_disk.specs.Disk.{HasCause};
+ghost use Rattle.area_disk.specs.Disk.{HasCause, Only};
 ghost use Rattle.area_disk.specs.Plan.{schedule_of, next_fate, fate_with, most_unsynced};
 ghost use Rattle.area_disk.specs.Outside.{same_refl};
 ghost use Rattle.area_disk.specs.Past.{moment_of, told_of, LeftSince};
-ghost use Rattle.area_disk.specs.Memory.{prospect_of, leaves_of, DiskMayLeave, disk_counts_now, disk_only_now, disk_may_stop};
+ghost use Rattle.area_disk.specs.Memory.{prospect_of, leaves_of, DiskMayLeave, disk_counts_now, disk_only_now, disk_may_stop, IsKept, IsLeft, kept_disk_size, kept_present, kept_within, kept_elapses, kept_leaves_of, kept_disk_spare, left_disk_size, left_within, left_elapses, left_leaves_of, left_disk_spare};
+ghost use Rattle.area_disk.specs.declared.plan.Outcome3.{Outcome3};
 
 use crate::disk::Disk;
 use crate::past::MOST_UNSYNCED;
-use crate::{Area, Failed, Fate, NoMemory, Plan, PlannedCalls};
+use crate::{Area, Drill, DrillArea, Failed, Fate, NoMemory, Outcome3, Plan, PlannedCalls};
 use std::alloc::Global;
 
 /// An area in memory, which fails and stops as planned.
@@ -30,7 +31,13 @@ impl MemoryArea {
     /// An area of `length` octets, each of them 0, with this plan. It takes at most three times its length and
     /// 16 MiB. `NoMemory` where there is no memory for that.
     pub fn new(alloc: Global, length: u64, plan: Plan) -> Result<MemoryArea, NoMemory>
-        ensures { IfOk result (λ area. area.disk.present.items ≡ replicate length 0) }
+        ensures octets { IfOk result (λ area. ⟦<MemoryArea as Area>⟧.octets area ≡ replicate length 0) }
+        ensures durable { IfOk result (λ area. Only (replicate length 0) (⟦<MemoryArea as Area>⟧.may_leave area)) }
+        ensures plan { IfOk result (λ area. (⟦<MemoryArea as Area>⟧.fate area).schedule ≡ schedule_of plan) }
+        ensures leaves { IfOk result (λ area. (o : Outcome3) → (⟦<MemoryArea as Area>⟧.fate area).leaves o ≡ replicate length 0) }
+        ensures spare { IfOk result (λ area. (⟦<MemoryArea as Area>⟧.fate area).spare ≡ most_unsynced) }
+        ensures told { IfOk result (λ area. ⟦<MemoryArea as Area>⟧.told_from area ≤ ⟦<MemoryArea as Area>⟧.moment area) }
+        ensures faults { IfOk result (λ area. ⟦<MemoryArea as Area>⟧.faults area ≡ 0) }
     {
         let disk = Disk::new(alloc, length as usize)?;
         Ok(MemoryArea {
@@ -147,4 +154,67 @@ impl Area for MemoryArea {
             }
         }
     }
+}
+
+impl Drill for MemoryArea {
+    ghost schedule = { λ a. a.planned };
+
+    ghost kept = { IsKept };
+
+    ghost left = { IsLeft };
+
+    fn arm(&mut self, plan: Plan) {
+        self.planned.arm(plan);
+    }
+
+    fn calls(&self) -> u64 {
+        self.planned.calls()
+    }
+
+    fn stop(&mut self, outcome: Outcome3) {
+        self.disk.stop(0, &[], outcome);
+        self.planned.set_stopped(true);
+    }
+
+    fn stopped(&self) -> bool {
+        self.planned.is_stopped()
+    }
+
+    fn revive(&mut self) {
+        self.planned.set_stopped(false);
+    }
+}
+
+impl DrillArea for MemoryArea {
+    ghost tells = { (refl, refl) };
+
+    ghost same_schedule = { λ a. refl };
+
+    ghost kept_size = { kept_disk_size };
+
+    ghost kept_octets = { kept_present };
+
+    ghost kept_crash = { kept_within };
+
+    ghost kept_time = { kept_elapses };
+
+    ghost kept_leaves = { λ old new o kept. kept_leaves_of old new kept o };
+
+    ghost kept_spare = { kept_disk_spare };
+
+    ghost kept_faults = { λ old new kept. kept.faults };
+
+    ghost left_size = { left_disk_size };
+
+    ghost left_octets = { λ old new o left. left.present };
+
+    ghost left_crash = { left_within };
+
+    ghost left_time = { left_elapses };
+
+    ghost left_leaves = { λ old new o p left. left_leaves_of old new o left p };
+
+    ghost left_spare = { left_disk_spare };
+
+    ghost left_faults = { λ old new o left. left.faults };
 }
