@@ -45,9 +45,9 @@ changes_of-push (c ∷ calls) octets new at settles total =
 pub EachWithin-push : (n : ℕ) (calls : List Call) (c : Call) → EachWithin n calls → c.at + c.count ≤ n → EachWithin n (calls ++ c ∷ [])
 EachWithin-push n calls c fit last k d below = elim (cases_lt k (length calls)) [
   | inl front ↦
-  subst (λ (t : Call). t.at + t.count ≤ n) (sym (get_or_append_left calls (c ∷ []) d k front)) (fit k d front)
+      subst (λ (t : Call). t.at + t.count ≤ n) (sym (get_or_append_left calls (c ∷ []) d k front)) (fit k d front)
   | inr from ↦
-  subst (λ (t : Call). t.at + t.count ≤ n) (sym (get_or_push calls c d k (omega (arith, from, below, length-append calls (c ∷ []))))) last
+      subst (λ (t : Call). t.at + t.count ≤ n) (sym (get_or_push calls c d k (omega (arith, from, below, length-append calls (c ∷ []))))) last
 ]
 
 -- the room for one call more, where the calls are few

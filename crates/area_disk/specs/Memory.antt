@@ -34,6 +34,7 @@ pub record IsKept (old new : MemoryArea) : Type 0 where
 
 -- a stop with this outcome left this, and no fault
 pub record IsLeft (old : MemoryArea) (outcome : Outcome3) (new : MemoryArea) : Type 0 where
+  pub size : length new.disk.present.items ≡ length old.disk.present.items
   pub present : new.disk.present.items ≡ leaves_of old.disk outcome
   pub firm : new.disk.firm.items ≡ new.disk.present.items
   pub unsynced : new.disk.unsynced.items ≡ []
@@ -124,12 +125,6 @@ disk_leaves_written old new at from fits present_is firm_is unsynced_is Rot =
     ∙ ap (λ (u : List Stretch). filled rot u (overwritten old.present.items at from)) unsynced_is
     ∙ filled_written rot old.unsynced.items old.present.items at from fits old.sound.fit
 
--- a stop keeps the number of octets
-pub disk_stop_size : (old : Disk) (present : List ℕ) (o : Outcome3) (at : ℕ) (from : List ℕ) → at + length from ≤ length old.present.items → present ≡ written_as o (leaves_of old o) at from → length present ≡ length old.present.items
-disk_stop_size old present o at from fits is =
-    let may = disk_may_stop old o in
-    ap length is ∙ (torn_written_as o (leaves_of old o) at from (omega (arith, may.size, fits))).size ∙ may.size
-
 -- a stop in no write
 pub written_as_none : (o : Outcome3) (octets : List ℕ) → written_as o octets 0 [] ≡ octets
 written_as_none Old octets = refl
@@ -156,9 +151,6 @@ module _ (old new : MemoryArea) (kept : IsKept old new) where
   kept_disk_spare = ap (λ (d : Disk). most_unsynced - length d.unsynced.items) kept.disk
 
 module _ (old new : MemoryArea) (o : Outcome3) (left : IsLeft old o new) where
-  pub left_disk_size : length new.disk.present.items ≡ length old.disk.present.items
-  left_disk_size = ap length left.present ∙ (disk_may_stop old.disk o).size
-
   pub left_within : Within (DiskMayLeave old.disk) (DiskMayLeave new.disk)
   left_within = disk_within_stop old.disk new.disk o left.present left.unsynced
 

@@ -35,9 +35,9 @@ same_more stretches s xs ys same = record { size = same.size; same = λ k out. s
 pub EachFits-push : (n : ℕ) (stretches : List Stretch) (s : Stretch) → EachFits n stretches → s.at + s.count ≤ n → EachFits n (stretches ++ s ∷ [])
 EachFits-push n stretches s fit last k d below = elim (cases_lt k (length stretches)) [
   | inl front ↦
-  subst (λ (t : Stretch). t.at + t.count ≤ n) (sym (get_or_append_left stretches (s ∷ []) d k front)) (fit k d front)
+      subst (λ (t : Stretch). t.at + t.count ≤ n) (sym (get_or_append_left stretches (s ∷ []) d k front)) (fit k d front)
   | inr from ↦
-  subst (λ (t : Stretch). t.at + t.count ≤ n) (sym (get_or_push stretches s d k (omega (arith, from, below, length-append stretches (s ∷ []))))) last
+      subst (λ (t : Stretch). t.at + t.count ≤ n) (sym (get_or_push stretches s d k (omega (arith, from, below, length-append stretches (s ∷ []))))) last
 ]
 
 pub EachFits-tail : (n : ℕ) (s : Stretch) (stretches : List Stretch) → EachFits n (s ∷ stretches) → EachFits n stretches
@@ -72,21 +72,26 @@ module _ (stretches : List Stretch) (xs : List ℕ) (at : ℕ) (ys : List ℕ) (
     where
       size : length c ≡ length xs
       size = left.size ∙ length-overwritten xs at ys fits
+
       held_size : length (part at (length ys) xs) ≡ length ys
       held_size = length-part at (length ys) xs fits
+
       held_fits : at + length (part at (length ys) xs) ≤ length c
       held_fits = omega (arith, fits, size, held_size)
+
       torn : Torn at (length ys) (overwritten c at (part at (length ys) xs)) c
       torn = subst (λ n. Torn at n (overwritten c at (part at (length ys) xs)) c) held_size (torn_sym at (length (part at (length ys) xs)) c (overwritten c at (part at (length ys) xs)) (torn_overwritten c at (part at (length ys) xs) held_fits))
+
       at_each : (k : ℕ) → IsOutside stretches k → get_or (overwritten c at (part at (length ys) xs)) k 0 ≡ get_or xs k 0
       at_each k out = elim (side_of at (length ys) k) [
         | before b ↦
-        get_or-overwritten_before c at (part at (length ys) xs) held_fits k b ∙ left.same k (IsOutside-push stretches (record { at = at; count = length ys }) k out (inl b)) ∙ get_or-overwritten_before xs at ys fits k b
+            get_or-overwritten_before c at (part at (length ys) xs) held_fits k b ∙ left.same k (IsOutside-push stretches (record { at = at; count = length ys }) k out (inl b)) ∙ get_or-overwritten_before xs at ys fits k b
         | inside f b ↦
-        get_or-overwritten_at c at (part at (length ys) xs) held_fits k f (omega (arith, b, held_size)) ∙ get_or-part at (length ys) xs k f b
+            get_or-overwritten_at c at (part at (length ys) xs) held_fits k f (omega (arith, b, held_size)) ∙ get_or-part at (length ys) xs k f b
         | after a ↦
-        get_or-overwritten_after c at (part at (length ys) xs) held_fits k (omega (arith, a, held_size)) ∙ left.same k (IsOutside-push stretches (record { at = at; count = length ys }) k out (inr a)) ∙ get_or-overwritten_after xs at ys fits k a
+            get_or-overwritten_after c at (part at (length ys) xs) held_fits k (omega (arith, a, held_size)) ∙ left.same k (IsOutside-push stretches (record { at = at; count = length ys }) k out (inr a)) ∙ get_or-overwritten_after xs at ys fits k a
       ]
+
       same : SameOutside stretches xs (overwritten c at (part at (length ys) xs))
       same = record { size = length-overwritten c at (part at (length ys) xs) held_fits ∙ size; same = at_each }
 
@@ -109,15 +114,17 @@ same_copied stretches s from to fits same = record { size = length-overwritten t
   where
     size : length (part s.at s.count from) ≡ s.count
     size = length-part s.at s.count from fits
+
     to_fits : s.at + length (part s.at s.count from) ≤ length to
     to_fits = omega (arith, size, fits, same.size)
+
     at_each : (k : ℕ) → IsOutside stretches k → get_or (overwritten to s.at (part s.at s.count from)) k 0 ≡ get_or from k 0
     at_each k out = elim (side_of s.at s.count k) [
       | before b ↦ get_or-overwritten_before to s.at (part s.at s.count from) to_fits k b ∙ same.same k (inl b, out)
       | inside f b ↦
-      get_or-overwritten_at to s.at (part s.at s.count from) to_fits k f (omega (arith, b, size)) ∙ get_or-part s.at s.count from k f b
+          get_or-overwritten_at to s.at (part s.at s.count from) to_fits k f (omega (arith, b, size)) ∙ get_or-part s.at s.count from k f b
       | after a ↦
-      get_or-overwritten_after to s.at (part s.at s.count from) to_fits k (omega (arith, a, size)) ∙ same.same k (inr a, out)
+          get_or-overwritten_after to s.at (part s.at s.count from) to_fits k (omega (arith, a, size)) ∙ same.same k (inr a, out)
     ]
 
 fill_fits : (n v : ℕ) (s : Stretch) → s.at + s.count ≤ n → s.at + length (replicate s.count v) ≤ n
@@ -172,8 +179,10 @@ filled_alike v (s ∷ stretches) xs ys k fit size alike =
   where
     fits : s.at + length (replicate s.count v) ≤ length xs
     fits = fill_fits (length xs) v s (fit 0 s (omega arith))
+
     one : length (overwritten xs s.at (replicate s.count v)) ≡ length xs
     one = length-overwritten xs s.at (replicate s.count v) fits
+
     two : length (overwritten ys s.at (replicate s.count v)) ≡ length ys
     two = length-overwritten ys s.at (replicate s.count v) (omega (arith, fits, size))
 
@@ -190,16 +199,22 @@ filled_written v stretches xs at ys fits fit =
   where
     n_is : length (replicate (length ys) v) ≡ length ys
     n_is = length-replicate (length ys) v
+
     fit_written : EachFits (length (overwritten xs at ys)) stretches
     fit_written = subst (λ n. EachFits n stretches) (sym (length-overwritten xs at ys fits)) fit
+
     plain : length (filled v stretches xs) ≡ length xs
     plain = length-filled v stretches xs fit
+
     both : length (filled v stretches (overwritten xs at ys)) ≡ length xs
     both = length-filled v stretches (overwritten xs at ys) fit_written ∙ length-overwritten xs at ys fits
+
     fits_filled : at + length (replicate (length ys) v) ≤ length (filled v stretches xs)
     fits_filled = omega (arith, n_is, plain, fits)
+
     fits_both : at + length (replicate (length ys) v) ≤ length (filled v stretches (overwritten xs at ys))
     fits_both = omega (arith, n_is, both, fits)
+
     narrow : (k : ℕ) → (k < at) ⊎ (at + length (replicate (length ys) v) ≤ k) → (k < at) ⊎ (at + length ys ≤ k)
     narrow k (inl b) = inl b
     narrow k (inr a) = inr (omega (arith, a, n_is))

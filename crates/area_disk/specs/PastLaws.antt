@@ -24,6 +24,7 @@ noted_image c p = by_size (nat_lt most_octets (length c.octets))
     by_room : (b : Bool) → image_after (pushed_where b c p).changes (pushed_where b c p).image ≡ overwritten (image_after p.changes p.image) c.at c.octets
     by_room true = image_after-push p.changes c p.image
     by_room false = refl
+
     by_size : (b : Bool) → image_after (noted_where b c p).changes (noted_where b c p).image ≡ overwritten (image_after p.changes p.image) c.at c.octets
     by_size true = image_after-push p.changes c p.image
     by_size false = by_room (nat_lt (length p.changes) most_calls && nat_le (octets_in p.changes + length c.octets) most_octets)
@@ -35,6 +36,7 @@ noted_unsynced c p = by_size (nat_lt most_octets (length c.octets))
     by_room : (b : Bool) → unsynced_after (pushed_where b c p).changes (pushed_where b c p).unsynced ≡ unsynced_with c.settles (unsynced_after p.changes p.unsynced) (record { at = c.at; count = length c.octets })
     by_room true = unsynced_after-push p.changes c p.unsynced
     by_room false = refl
+
     by_size : (b : Bool) → unsynced_after (noted_where b c p).changes (noted_where b c p).unsynced ≡ unsynced_with c.settles (unsynced_after p.changes p.unsynced) (record { at = c.at; count = length c.octets })
     by_size true = unsynced_after-push p.changes c p.unsynced
     by_size false = by_room (nat_lt (length p.changes) most_calls && nat_le (octets_in p.changes + length c.octets) most_octets)
@@ -46,6 +48,7 @@ noted_size c p n first now fits = by_size (nat_lt most_octets (length c.octets))
     by_room : (b : Bool) → length (pushed_where b c p).image ≡ n
     by_room true = first
     by_room false = now
+
     by_size : (b : Bool) → length (noted_where b c p).image ≡ n
     by_size true = ap length (image_after-push p.changes c p.image) ∙ length-overwritten (image_after p.changes p.image) c.at c.octets (omega (arith, now, fits)) ∙ now
     by_size false = by_room (nat_lt (length p.changes) most_calls && nat_le (octets_in p.changes + length c.octets) most_octets)
@@ -98,11 +101,12 @@ goes_pushed c p = record {
   told_later = first_told_up (p.first + length p.changes) p.first (p.first + length (p.changes ++ c ∷ [])) p.first _ _ refl refl (λ below. omega (arith, more, below)) (λ below. omega arith) (omega arith);
   nothing_else = λ t octets told le left. by_place t octets left (cases_lt (length p.changes) left.0);
   keeps = λ t octets told le left.
-  (left.0, left.1, omega (arith, more, left.2), subst (λ (l : List Change). LeftAfter p l octets) (sym (take-append-le left.0 p.changes (c ∷ []) left.2)) left.3);
+      (left.0, left.1, omega (arith, more, left.2), subst (λ (l : List Change). LeftAfter p l octets) (sym (take-append-le left.0 p.changes (c ∷ []) left.2)) left.3);
 }
   where
     more : length (p.changes ++ c ∷ []) ≡ length p.changes + 1
     more = length_push p.changes c
+
     by_place : (t : ℕ) (octets : List ℕ) (left : LeftSince (pushed c p) t octets) → (length p.changes < left.0) ⊎ (left.0 ≤ length p.changes) → LeftSince p t octets ⊎ IsOutcome (pushed c p) octets
     by_place t octets left (inl last) = inr (subst (λ (l : List Change). LeftAfter p l octets) (take_all left.0 (p.changes ++ c ∷ []) (omega (arith, more, last))) left.3)
     by_place t octets left (inr front) = inl (left.0, left.1, front, subst (λ (l : List Change). LeftAfter p l octets) (take-append-le left.0 p.changes (c ∷ []) front) left.3)
@@ -117,13 +121,13 @@ goes_anew p = record {
   told_later = first_told_up (p.first + length p.changes) p.first (moment_of p + 0) (moment_of p) _ _ refl refl (λ below. omega (arith, below)) (λ below. omega (arith, below)) (omega arith);
   nothing_else = λ t octets told le left. inr (only_first p left.0 octets left.2 left.3);
   keeps = λ t octets told le left.
-  let here = told_is (anew p) t told (omega (arith, le)) in
-  let last : length p.changes ≤ left.0 = omega (arith, here.0, here.1, left.1) in (
-    0,
-    omega (arith, le),
-    omega arith,
-    subst (λ (l : List Change). LeftAfter p l octets) (all_changes p left.0 last) left.3,
-  );
+      let here = told_is (anew p) t told (omega (arith, le)) in
+      let last : length p.changes ≤ left.0 = omega (arith, here.0, here.1, left.1) in (
+        0,
+        omega (arith, le),
+        omega arith,
+        subst (λ (l : List Change). LeftAfter p l octets) (all_changes p left.0 last) left.3,
+      );
 }
 
 goes_pushed_anew : (c : Change) (p : Past) → Goes p (pushed c (anew p))
@@ -131,17 +135,20 @@ goes_pushed_anew c p = record {
   later = omega (arith, one.later, two.later);
   told_later = omega (arith, one.told_later, two.told_later);
   nothing_else = λ t octets told le left.
-  first_of_two t octets le (omega (arith, told, two.told_later)) (two.nothing_else t octets told (omega (arith, le, one.later)) left);
+      first_of_two t octets le (omega (arith, told, two.told_later)) (two.nothing_else t octets told (omega (arith, le, one.later)) left);
   keeps = λ t octets told le left. two.keeps t octets told (omega (arith, le, one.later)) (one.keeps t octets (omega (arith, told, two.told_later)) le left);
 }
   where
     one : Goes p (anew p)
     one = goes_anew p
+
     two : Goes (anew p) (pushed c (anew p))
     two = goes_pushed c (anew p)
+
     before : (t : ℕ) (octets : List ℕ) → t ≤ moment_of p → LeftSince p t octets ⊎ IsOutcome (anew p) octets → LeftSince p t octets
     before t octets le (inl past) = past
     before t octets le (inr out) = past_counts_now p t octets le out
+
     first_of_two : (t : ℕ) (octets : List ℕ) → t ≤ moment_of p → told_of (anew p) ≤ t → LeftSince (anew p) t octets ⊎ IsOutcome (pushed c (anew p)) octets → LeftSince p t octets ⊎ IsOutcome (pushed c (anew p)) octets
     first_of_two t octets le told (inl left) = inl (before t octets le (one.nothing_else t octets told le left))
     first_of_two t octets le told (inr out) = inr out
@@ -156,8 +163,10 @@ goes_passed c p = record {
   where
     one : Goes p (pushed c p)
     one = goes_pushed c p
+
     two : Goes (pushed c p) (anew (pushed c p))
     two = goes_anew (pushed c p)
+
     none : (t : ℕ) → told_of (anew (pushed c p)) ≤ t → t ≤ moment_of p → ⊥
     none t told le =
         let here = told_is (anew (pushed c p)) t told (omega (arith, le)) in
@@ -170,6 +179,7 @@ goes_noted c p = by_size (nat_lt most_octets (length c.octets))
     by_room : (b : Bool) → Goes p (pushed_where b c p)
     by_room true = goes_pushed c p
     by_room false = goes_pushed_anew c p
+
     by_size : (b : Bool) → Goes p (noted_where b c p)
     by_size true = goes_passed c p
     by_size false = by_room (nat_lt (length p.changes) most_calls && nat_le (octets_in p.changes + length c.octets) most_octets)

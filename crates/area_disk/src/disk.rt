@@ -1,13 +1,13 @@
 // The octets of an area in memory, and its past.
-ghost use Rattle.std.specs.Prelude.{◌≡◌, ◌+◌, ◌<◌, ◌≤◌, [], ◌∷◌, ◌++◌, length, replicate, IfOk, vec_capacity, true, false};
-ghost use Rattle.area_disk.specs.Disk.{overwritten};
+ghost use Rattle.std.specs.Prelude.{◌≡◌, ◌+◌, ◌<◌, ◌≤◌, [], ◌∷◌, ◌++◌, length, IfOk, vec_capacity, true, false};
+ghost use Rattle.area_disk.specs.Disk.{overwritten, zeros};
 ghost use Rattle.area_disk.specs.Plan.{most_unsynced, written_as};
 ghost use Rattle.area_disk.specs.Stretch.{SameOutside, EachFits, left_as, left_by};
 ghost use Rattle.area_disk.specs.Past.{noted};
 ghost use Rattle.area_disk.specs.Sound.{IsSound};
 
 use crate::past::{History, MOST_UNSYNCED};
-use crate::stretch::{Stretch, copy_stretches, fill_stretches, hull, overwrite};
+use crate::stretch::{Stretch, copy_stretches, fill_stretches, hull, overwrite, zeroed};
 use crate::{NoMemory, Outcome3};
 use std::alloc::Global;
 
@@ -27,14 +27,14 @@ pub struct Disk {
 impl Disk {
     /// So many octets, each of them 0, and all room for what is to come.
     pub fn new(alloc: Global, length: usize) -> Result<Disk, NoMemory>
-        ensures present { IfOk result (λ disk. disk.present.items ≡ replicate length 0) }
-        ensures firm { IfOk result (λ disk. disk.firm.items ≡ replicate length 0) }
+        ensures present { IfOk result (λ disk. disk.present.items ≡ zeros length) }
+        ensures firm { IfOk result (λ disk. disk.firm.items ≡ zeros length) }
         ensures unsynced { IfOk result (λ disk. disk.unsynced.items ≡ []) }
-        ensures past { IfOk result (λ disk. disk.past ≡ record { first = 0; image = replicate length 0; unsynced = []; changes = [] }) }
+        ensures past { IfOk result (λ disk. disk.past ≡ record { first = 0; image = zeros length; unsynced = []; changes = [] }) }
     {
-        let present = vec![in alloc; 0; length]?;
-        let firm = vec![in alloc; 0; length]?;
-        let base = vec![in alloc; 0; length]?;
+        let present = zeroed(alloc, length)?;
+        let firm = zeroed(alloc, length)?;
+        let base = zeroed(alloc, length)?;
         let unsynced = Vec::with_capacity(alloc, MOST_UNSYNCED + 1)?;
         let past = History::new(alloc, base)?;
         Ok(Disk {
@@ -78,6 +78,7 @@ impl Disk {
     /// Stops in the write of these octets, with this outcome. Nothing is unsynced then.
     pub fn stop(&mut self, at: usize, from: &[u8], outcome: Outcome3)
         requires { at + length from.now ≤ length self.old.present.items }
+        ensures size { length self.new.present.items ≡ length self.old.present.items }
         ensures present { self.new.present.items ≡ written_as outcome (left_as outcome self.old.firm.items self.old.present.items self.old.unsynced.items) at from.now }
         ensures firm { self.new.firm.items ≡ self.new.present.items }
         ensures unsynced { self.new.unsynced.items ≡ [] }
@@ -89,11 +90,19 @@ impl Disk {
             count: from.len(),
         };
         self.unsynced.push(written).unwrap();
-        leave(outcome, &mut self.present, &self.firm, &self.unsynced, at, from);
+        leave(
+            outcome,
+            &mut self.present,
+            &self.firm,
+            &self.unsynced,
+            at,
+            from,
+        );
         copy_stretches(&self.present, &mut self.firm, &self.unsynced);
         let whole = hull(written, &self.unsynced, self.present.len());
         let octets = &self.present[whole.at..whole.at + whole.count];
-        self.past.note(whole.at, octets, true, &self.unsynced[..earlier]);
+        self.past
+            .note(whole.at, octets, true, &self.unsynced[..earlier]);
         self.unsynced.clear();
     }
 }

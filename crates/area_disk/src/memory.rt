@@ -1,11 +1,11 @@
 // An area in memory with planned failures and stops.
-ghost use Rattle.std.specs.Prelude.{◌≡◌, ◌-◌, ◌+◌, ◌≤◌, ℕ, List, [], length, replicate, true, false, IsErr, IfOk};
+ghost use Rattle.std.specs.Prelude.{◌≡◌, ◌-◌, ◌+◌, ◌≤◌, ℕ, List, [], length, true, false, IsErr, IfOk};
 ghost use Rattle.std.proofs.Common.{refl};
-ghost use Rattle.area_disk.specs.Disk.{HasCause, Only};
+ghost use Rattle.area_disk.specs.Disk.{HasCause, Only, zeros};
 ghost use Rattle.area_disk.specs.Plan.{schedule_of, next_fate, fate_with, most_unsynced};
 ghost use Rattle.area_disk.specs.Outside.{same_refl};
 ghost use Rattle.area_disk.specs.Past.{moment_of, told_of, LeftSince};
-ghost use Rattle.area_disk.specs.Memory.{prospect_of, leaves_of, DiskMayLeave, disk_counts_now, disk_only_now, disk_may_stop, IsKept, IsLeft, kept_disk_size, kept_present, kept_within, kept_elapses, kept_leaves_of, kept_disk_spare, left_disk_size, left_within, left_elapses, left_leaves_of, left_disk_spare};
+ghost use Rattle.area_disk.specs.Memory.{prospect_of, leaves_of, DiskMayLeave, disk_counts_now, disk_only_now, disk_may_stop, IsKept, IsLeft, kept_disk_size, kept_present, kept_within, kept_elapses, kept_leaves_of, kept_disk_spare, left_within, left_elapses, left_leaves_of, left_disk_spare};
 ghost use Rattle.area_disk.specs.declared.plan.Outcome3.{Outcome3};
 
 use crate::disk::Disk;
@@ -28,13 +28,15 @@ pub struct MemoryArea {
 }
 
 impl MemoryArea {
+    #[tactic(auto, using(crate::specs::Octets::length_zeros))]
     /// An area of `length` octets, each of them 0, with this plan. It takes at most three times its length and
     /// 16 MiB. `NoMemory` where there is no memory for that.
     pub fn new(alloc: Global, length: u64, plan: Plan) -> Result<MemoryArea, NoMemory>
-        ensures octets { IfOk result (λ area. ⟦<MemoryArea as Area>⟧.octets area ≡ replicate length 0) }
-        ensures durable { IfOk result (λ area. Only (replicate length 0) (⟦<MemoryArea as Area>⟧.may_leave area)) }
+        ensures size { IfOk result (λ area. ⟦<MemoryArea as Area>⟧.size area ≡ length) }
+        ensures octets { IfOk result (λ area. ⟦<MemoryArea as Area>⟧.octets area ≡ zeros length) }
+        ensures durable { IfOk result (λ area. Only (zeros length) (⟦<MemoryArea as Area>⟧.may_leave area)) }
         ensures plan { IfOk result (λ area. (⟦<MemoryArea as Area>⟧.fate area).schedule ≡ schedule_of plan) }
-        ensures leaves { IfOk result (λ area. (o : Outcome3) → (⟦<MemoryArea as Area>⟧.fate area).leaves o ≡ replicate length 0) }
+        ensures leaves { IfOk result (λ area. (o : Outcome3) → (⟦<MemoryArea as Area>⟧.fate area).leaves o ≡ zeros length) }
         ensures spare { IfOk result (λ area. (⟦<MemoryArea as Area>⟧.fate area).spare ≡ most_unsynced) }
         ensures told { IfOk result (λ area. ⟦<MemoryArea as Area>⟧.told_from area ≤ ⟦<MemoryArea as Area>⟧.moment area) }
         ensures faults { IfOk result (λ area. ⟦<MemoryArea as Area>⟧.faults area ≡ 0) }
@@ -204,7 +206,7 @@ impl DrillArea for MemoryArea {
 
     ghost kept_faults = { λ old new kept. kept.faults };
 
-    ghost left_size = { left_disk_size };
+    ghost left_size = { λ old new o left. left.size };
 
     ghost left_octets = { λ old new o left. left.present };
 

@@ -1,13 +1,23 @@
 // Stretches of an area, and what is done to the octets in them.
-ghost use Rattle.std.specs.Prelude.{◌≡◌, ◌⊎◌, ◌+◌, ◌<◌, ◌≤◌, ℕ, List, length};
-ghost use Rattle.area_disk.specs.Disk.{overwritten};
+ghost use Rattle.std.specs.Prelude.{◌≡◌, ◌⊎◌, ◌+◌, ◌<◌, ◌≤◌, ℕ, List, length, IfOk};
+ghost use Rattle.area_disk.specs.Disk.{overwritten, zeros};
 ghost use Rattle.area_disk.specs.Stretch.{IsBeside, IsOutside, SameOutside, EachFits, filled};
+
+use std::alloc::{AllocError, Global};
 
 /// A run of octets of an area: so many from this place on.
 #[derive(Clone, Copy, Debug, PartialEq, Eq)]
 pub struct Stretch {
     pub at: usize,
     pub count: usize,
+}
+
+// So many octets 0.
+#[tactic(auto, unfolding(crate::specs::Disk::zeros))]
+pub fn zeroed(alloc: Global, length: usize) -> Result<Vec<u8>, AllocError>
+    ensures { IfOk result (λ octets. octets.items ≡ zeros length) }
+{
+    vec![in alloc; 0; length]
 }
 
 // Writes these octets over those from place `at` on.

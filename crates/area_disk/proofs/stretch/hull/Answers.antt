@@ -17,8 +17,8 @@ stretches-preserved c =
       fits = omega (arith, high_is, fits, so_far.fits);
       covers_first = λ k out. so_far.covers_first k (beside_before c.stretches.low c.stretches.high s.at (s.at + s.count) c.min-low.result c.max-high.result k low_is high_is out);
       covers = λ k out rest.
-      so_far.covers k (beside_before c.stretches.low c.stretches.high s.at (s.at + s.count) c.min-low.result c.max-high.result k low_is high_is out)
-      (outside_at c.args.stretches.now c.stretches.stretch-index none k c.stretches-test.true (beside_taken c.stretches.low c.stretches.high s.at (s.at + s.count) c.min-low.result c.max-high.result k low_is high_is out) rest);
+          so_far.covers k (beside_before c.stretches.low c.stretches.high s.at (s.at + s.count) c.min-low.result c.max-high.result k low_is high_is out)
+          (outside_at c.args.stretches.now c.stretches.stretch-index none k c.stretches-test.true (beside_taken c.stretches.low c.stretches.high s.at (s.at + s.count) c.min-low.result c.max-high.result k low_is high_is out) rest);
     }
 
 beside : (low high at count k : ℕ) → low ≤ high → ((k < low) ⊎ (high ≤ k) → (k < at) ⊎ (at + count ≤ k)) → (k < low) ⊎ (low + (high - low) ≤ k) → (k < at) ⊎ (at + count ≤ k)

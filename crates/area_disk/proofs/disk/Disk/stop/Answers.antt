@@ -46,7 +46,7 @@ invariant_of-self c =
     let same = same_left c.args.outcome disk.present.items disk.firm.items disk.unsynced.items c.args.at c.args.from.now disk.sound.fit c.requires disk.sound.agrees in
     record {
       sound = sound_at _ _ _ _ _ _ _ _ _ present_is firm_is c.clear.ensures.items past_is
-      (sound_settled disk.present.items disk.firm.items octets disk.unsynced.items _ _ disk.past whole.at (take whole.count (drop whole.at octets)) disk.sound part_fits (overwritten_hull all whole disk.present.items octets fits covers same) (omega (arith, c.clear.ensures.capacity, c.push.ensures.capacity)));
+          (sound_settled disk.present.items disk.firm.items octets disk.unsynced.items _ _ disk.past whole.at (take whole.count (drop whole.at octets)) disk.sound part_fits (overwritten_hull all whole disk.present.items octets fits covers same) (omega (arith, c.clear.ensures.capacity, c.push.ensures.capacity)));
     }
 
 pub returns-clause-present : goal.returns-clause-present

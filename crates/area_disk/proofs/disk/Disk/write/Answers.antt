@@ -13,5 +13,5 @@ invariant_of-self c =
     let unsynced_is = c.push.ensures.items ∙ cond-true _ _ _ pushed in
     record {
       sound = sound_at _ _ _ _ _ _ _ _ _ present_is refl unsynced_is c.note.ensures
-      (sound_written c.args.self.now.present.items c.args.self.now.firm.items c.args.self.now.unsynced.items _ _ c.args.self.now.past c.args.at c.args.from.now sound c.requires.fits c.requires.spare c.push.ensures.capacity);
+          (sound_written c.args.self.now.present.items c.args.self.now.firm.items c.args.self.now.unsynced.items _ _ c.args.self.now.past c.args.at c.args.from.now sound c.requires.fits c.requires.spare c.push.ensures.capacity);
     }

@@ -1,5 +1,5 @@
 use Rattle.std.proofs.Common.{true, [], ◌∙◌, arith}
-use Rattle.area_disk.specs.Memory.{leaves_of, disk_within_stop, disk_stop_size, elapses_noted, written_as_none}
+use Rattle.area_disk.specs.Memory.{leaves_of, disk_within_stop, elapses_noted, written_as_none}
 use Rattle.area_disk.specs.Past.{Change}
 use Rattle.area_disk.proofs.memory.MemoryAreaArea.sync.Goals as goal
 
@@ -7,9 +7,6 @@ pub returns-in-Runs-clause-time : goal.returns-in-Runs-clause-time
 returns-in-Runs-clause-time c =
     let settled : Change = record { at = 0; octets = []; settles = true } in
     elapses_noted c.args.self.now.disk c.settle.new.self settled c.settle.ensures.past
-
-pub returns-in-Stops-clause-size : goal.returns-in-Stops-clause-size
-returns-in-Stops-clause-size c = disk_stop_size c.args.self.now.disk _ c.in-Stops.outcome 0 [] (omega arith) c.stop.ensures.present
 
 pub returns-in-Stops-clause-crash : goal.returns-in-Stops-clause-crash
 returns-in-Stops-clause-crash c =

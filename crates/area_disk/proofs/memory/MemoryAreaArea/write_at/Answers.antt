@@ -1,7 +1,7 @@
 use Rattle.std.proofs.Common.{◌≡◌, ◌∙◌, ◌-◌, ◌+◌, ℕ, List, length, false, ap, subst, arith}
 use Rattle.std.proofs.lemmas.List.{length_push}
 use Rattle.area_disk.specs.Plan.{Schedule, write_fate, is_failure, after_call, spare_after_write, LeavesAfterWrite, most_unsynced}
-use Rattle.area_disk.specs.Memory.{prospect_of, leaves_of, disk_follows_write, disk_follows_stop, disk_leaves_written, disk_stop_size, elapses_noted}
+use Rattle.area_disk.specs.Memory.{prospect_of, leaves_of, disk_follows_write, disk_follows_stop, disk_leaves_written, elapses_noted}
 use Rattle.area_disk.specs.declared.plan.Fate.{Fate}
 use Rattle.area_disk.specs.declared.plan.Fate.TheVariants.{Runs}
 use Rattle.area_disk.specs.Past.{Change}
@@ -26,11 +26,8 @@ returns-in-Runs-clause-planned c = λ told.
       schedule = c.count.ensures ∙ ap (λ (f : Fate). after_call f old.schedule) c.write_fate-fate.ensures;
       spare = spare_is ∙ ap (λ (f : Fate). spare_after_write f old.spare) fate_is;
       leaves = subst (λ (f : Fate). LeavesAfterWrite f old.leaves c.args.at c.args.from.now (leaves_of c.write.new.self)) fate_is
-      (disk_leaves_written disk c.write.new.self c.args.at c.args.from.now c.requires c.write.ensures.present c.write.ensures.firm c.write.ensures.unsynced);
+          (disk_leaves_written disk c.write.new.self c.args.at c.args.from.now c.requires c.write.ensures.present c.write.ensures.firm c.write.ensures.unsynced);
     }
-
-pub returns-in-Stops-clause-size : goal.returns-in-Stops-clause-size
-returns-in-Stops-clause-size c = disk_stop_size c.args.self.now.disk _ c.in-Stops.outcome c.args.at c.args.from.now c.requires c.stop.ensures.present
 
 pub returns-in-Stops-clause-crash : goal.returns-in-Stops-clause-crash
 returns-in-Stops-clause-crash c = disk_follows_stop c.args.self.now.disk c.stop.new.self c.in-Stops.outcome c.args.at c.args.from.now c.requires c.stop.ensures.present c.stop.ensures.unsynced
