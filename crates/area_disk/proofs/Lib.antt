@@ -1,4 +1,3 @@
 mod Changes
 pub mod Moments
 mod Stretches
-pub mod Tearing

@@ -1,5 +1,5 @@
 -- The disk model: what the calls of an area do to its octets, and what a crash at any moment may leave.
-use Rattle.std.specs.Prelude.{◌≡◌, ◌⊎◌, ℕ, suc, ◌+◌, ◌-◌, ◌^◌, ◌≤◌, min, List, ◌++◌, length, take, drop, replicate, Result, OnOk, OnErr}
+use Rattle.std.specs.Prelude.{◌≡◌, ◌⊎◌, ℕ, ◌+◌, ◌-◌, ◌^◌, ◌≤◌, min, List, ◌++◌, length, take, drop, replicate, Result, OnOk, OnErr}
 
 -- these octets, with others written over them from this place on
 abbrev pub overwritten : List ℕ → ℕ → List ℕ → List ℕ

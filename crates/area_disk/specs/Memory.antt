@@ -1,14 +1,13 @@
 -- What an area in memory tells, from its octets and its past.
-use Rattle.std.proofs.Common.{◌≡◌, ◌⊎◌, inl, inr, ⊎_elim, ℕ, zero, suc, ◌+◌, ◌-◌, ◌≤◌, ◌<◌, Bool, true, false, List, [], ◌∷◌, ◌++◌, length, replicate, refl, sym, ◌∙◌, ap, subst, arith}
+use Rattle.std.proofs.Common.{◌≡◌, inl, inr, ⊎_elim, ℕ, ◌+◌, ◌-◌, ◌≤◌, List, [], ◌∷◌, ◌++◌, length, replicate, refl, sym, ◌∙◌, ap, subst, arith}
 use Rattle.std.proofs.lemmas.List.{length-replicate}
 use Rattle.area_disk.specs.Disk.{overwritten, Torn, Follows, Within, Only, Elapses}
 use Rattle.area_disk.specs.Octets.{torn_overwritten, torn_same}
-use Rattle.area_disk.specs.Plan.{Schedule, Prospect, most_unsynced, rot, written_as}
+use Rattle.area_disk.specs.Plan.{Prospect, most_unsynced, rot, written_as}
 use Rattle.area_disk.specs.Stretch.{SameOutside, filled, left_as}
 use Rattle.area_disk.specs.Outside.{same_refl, same_everywhere, same_filled, filled_written, follows_write}
-use Rattle.area_disk.specs.Past.{Change, Past, image_after, unsynced_after, IsOutcome, LeftSince, moment_of, told_of, noted}
+use Rattle.area_disk.specs.Past.{Change, Past, image_after, IsOutcome, LeftSince, moment_of, told_of, noted}
 use Rattle.area_disk.specs.PastLaws.{past_counts_now, past_only_now, goes_noted}
-use Rattle.area_disk.specs.Sound.{IsSound}
 use Rattle.area_disk.specs.declared.disk.Disk.{Disk}
 use Rattle.area_disk.specs.declared.memory.MemoryArea.{MemoryArea}
 use Rattle.area_disk.specs.declared.plan.Outcome3.{Outcome3}

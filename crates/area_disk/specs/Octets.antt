@@ -1,6 +1,6 @@
 -- What a write over octets leaves at each place.
-use Rattle.std.proofs.Common.{◌≡◌, ◌⊎◌, inl, inr, ⊎_elim, ℕ, suc, ◌+◌, ◌-◌, ◌<◌, ◌≤◌, List, [], ◌++◌, length, get_or, take, drop, refl, sym, ◌∙◌, ap, arith, rules, length-append, length-drop}
-use Rattle.std.proofs.lemmas.List.{ext_get_or, length-replicate, length-take-le, take-append-le, get_or_append_left, get_or-append_right, get_or-take, get_or-drop, take_at, drop_at, get_or_past}
+use Rattle.std.proofs.Common.{◌≡◌, ◌⊎◌, inl, inr, ℕ, ◌+◌, ◌-◌, ◌<◌, ◌≤◌, List, ◌++◌, length, get_or, take, drop, refl, sym, ◌∙◌, ap, arith, length-append, length-drop}
+use Rattle.std.proofs.lemmas.List.{ext_get_or, length-replicate, length-take-le, take-append-le, get_or_append_left, get_or-append_right, get_or-take, get_or-drop, take_at, drop_at}
 use Rattle.std.proofs.lemmas.Bool.{cases_lt}
 use Rattle.area_disk.specs.Disk.{overwritten, zeros, Torn}
 

@@ -1,9 +1,9 @@
 -- What stays outside some stretches, step by step.
-use Rattle.std.proofs.Common.{◌≡◌, ◌⊎◌, inl, inr, ⊎_elim, ℕ, zero, suc, ◌+◌, ◌-◌, ◌<◌, ◌≤◌, List, [], ◌∷◌, ◌++◌, length, get_or, take, drop, replicate, refl, sym, ◌∙◌, ap, subst, arith, length-append, length-drop}
-use Rattle.std.proofs.lemmas.List.{ext_get_or, length-take-le, length-replicate, get_or_append_left, get_or-take, get_or-drop, get_or_push, get_or_past, get_or-replicate, drop_more, drop_all}
+use Rattle.std.proofs.Common.{◌≡◌, ◌⊎◌, inl, inr, ⊎_elim, ℕ, suc, ◌+◌, ◌-◌, ◌<◌, ◌≤◌, List, [], ◌∷◌, ◌++◌, length, get_or, take, drop, replicate, refl, sym, ◌∙◌, ap, subst, arith, length-append, length-drop}
+use Rattle.std.proofs.lemmas.List.{ext_get_or, length-take-le, length-replicate, get_or_append_left, get_or-take, get_or-drop, get_or_push}
 use Rattle.std.proofs.lemmas.Bool.{cases_lt}
 use Rattle.area_disk.specs.Disk.{overwritten, Torn, Follows}
-use Rattle.area_disk.specs.Octets.{length-overwritten, get_or-overwritten_before, get_or-overwritten_at, get_or-overwritten_after, get_or-overwritten_beside, torn_overwritten, overwritten_is, Side, side_of, before, inside, after}
+use Rattle.area_disk.specs.Octets.{length-overwritten, get_or-overwritten_before, get_or-overwritten_at, get_or-overwritten_after, get_or-overwritten_beside, torn_overwritten, overwritten_is, side_of, before, inside, after}
 use Rattle.area_disk.specs.Stretch.{IsBeside, IsOutside, SameOutside, EachFits, filled}
 use Rattle.area_disk.specs.declared.stretch.Stretch.{Stretch}
 

@@ -1,5 +1,5 @@
 -- The moments of an area: the octets at first, and each change since.
-use Rattle.std.specs.Prelude.{◌≡◌, ℕ, ◌+◌, ◌-◌, ◌^◌, ◌≤◌, ◌<◌, min, Bool, true, false, ◌&&◌, nat_lt, nat_le, List, [], ◌∷◌, ◌++◌, length, take, drop, get_or}
+use Rattle.std.specs.Prelude.{◌≡◌, ℕ, ◌+◌, ◌^◌, ◌≤◌, ◌<◌, min, Bool, true, false, ◌&&◌, nat_lt, nat_le, List, [], ◌∷◌, ◌++◌, length, take, drop, get_or}
 use Rattle.area_disk.specs.Disk.{overwritten, last_count}
 use Rattle.area_disk.specs.Plan.{most_unsynced}
 use Rattle.area_disk.specs.Stretch.{SameOutside}

@@ -1,5 +1,5 @@
 -- What a plan says of the calls to come, and what a stop leaves.
-use Rattle.std.specs.Prelude.{◌≡◌, ℕ, zero, suc, ◌-◌, ◌^◌, Bool, true, false, ◌||◌, ◌==◌, if◌then◌else◌, List, length, replicate, Option, None, Some, Result, IsOk, IsErr, is_err}
+use Rattle.std.specs.Prelude.{◌≡◌, ℕ, zero, suc, ◌-◌, Bool, true, false, ◌||◌, ◌==◌, if◌then◌else◌, List, length, replicate, Option, None, Some, Result, is_err}
 use Rattle.std.specs.List.{list_any}
 use Rattle.area_disk.specs.Disk.{counted, overwritten}
 use Rattle.area_disk.specs.declared.plan.Outcome3.{Outcome3}

@@ -1,12 +1,12 @@
 -- What holds between the octets of an area in memory and its past.
-use Rattle.std.proofs.Common.{◌≡◌, ◌⊎◌, ℕ, ◌+◌, ◌-◌, ◌≤◌, ◌<◌, Bool, true, false, List, [], ◌∷◌, ◌++◌, length, get_or, take, drop, replicate, refl, sym, ◌∙◌, ap, subst, arith, length-append, length-drop}
-use Rattle.std.proofs.lemmas.List.{length-take-le, length_push}
+use Rattle.std.proofs.Common.{◌≡◌, ℕ, ◌+◌, ◌≤◌, ◌<◌, true, false, List, [], ◌∷◌, ◌++◌, length, refl, sym, ◌∙◌, ap, subst, arith}
+use Rattle.std.proofs.lemmas.List.{length_push}
 use Rattle.area_disk.specs.Disk.{overwritten}
 use Rattle.area_disk.specs.Octets.{length-overwritten}
 use Rattle.area_disk.specs.Plan.{most_unsynced, rot, written_as}
-use Rattle.area_disk.specs.Stretch.{IsBeside, IsOutside, SameOutside, EachFits, filled, left_as, left_by}
-use Rattle.area_disk.specs.Outside.{same_refl, same_trans, same_more, same_written, same_filled, EachFits-push, filled-push, overwritten_hull}
-use Rattle.area_disk.specs.Past.{Change, Past, image_after, unsynced_with, unsynced_after, noted}
+use Rattle.area_disk.specs.Stretch.{SameOutside, EachFits, left_as, left_by}
+use Rattle.area_disk.specs.Outside.{same_refl, same_trans, same_more, same_written, same_filled, EachFits-push, filled-push}
+use Rattle.area_disk.specs.Past.{Change, Past, image_after, unsynced_after, noted}
 use Rattle.area_disk.specs.PastLaws.{noted_image, noted_unsynced, noted_size}
 use Rattle.area_disk.specs.declared.plan.Outcome3.{Outcome3}
 use Rattle.area_disk.specs.declared.plan.Outcome3.TheVariants.{Old, New, Rot}

@@ -1,4 +1,4 @@
-use Rattle.std.proofs.Common.{◌-◌, ◌+◌, ◌<◌, ◌≤◌, List, length, get_or, drop, subst, arith}
+use Rattle.std.proofs.Common.{◌+◌, ◌≤◌, List, length, get_or, subst, arith}
 use Rattle.std.proofs.lemmas.List.{drop_all}
 use Rattle.area_disk.specs.Stretch.{SameOutside}
 use Rattle.area_disk.specs.Outside.{same_everywhere}

@@ -1,5 +1,4 @@
-use Rattle.std.proofs.Common.{◌≡◌, ◌⊎◌, inl, inr, ◌+◌, ◌-◌, ◌<◌, ◌≤◌, ℕ, List, length, get_or, min, max, arith}
-use Rattle.area_disk.specs.Stretch.{IsBeside, IsOutside}
+use Rattle.std.proofs.Common.{◌≡◌, ◌⊎◌, inl, inr, ◌+◌, ◌-◌, ◌<◌, ◌≤◌, ℕ, get_or, min, max, arith}
 use Rattle.area_disk.specs.declared.stretch.Stretch.{Stretch}
 use Rattle.area_disk.proofs.Stretches.{outside_at, beside_before, beside_taken}
 use Rattle.area_disk.proofs.stretch.hull.Goals as goal

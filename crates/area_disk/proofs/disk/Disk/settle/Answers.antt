@@ -1,4 +1,4 @@
-use Rattle.std.proofs.Common.{◌≡◌, ◌+◌, ◌≤◌, ℕ, List, [], length, refl, ◌∙◌, ap, arith}
+use Rattle.std.proofs.Common.{[], refl, ◌∙◌, arith}
 use Rattle.std.proofs.lemmas.List.{with_items_is}
 use Rattle.area_disk.specs.Sound.{sound_at, sound_settled}
 use Rattle.area_disk.proofs.disk.Disk.settle.Goals as goal

@@ -1,7 +1,7 @@
-use Rattle.std.proofs.Common.{◌≡◌, ◌+◌, ◌-◌, ◌≤◌, ℕ, List, [], ◌∷◌, ◌++◌, length, take, drop, refl, sym, ◌∙◌, ap, subst, arith, true}
+use Rattle.std.proofs.Common.{◌≡◌, ◌+◌, ◌-◌, ◌≤◌, ℕ, List, [], ◌∷◌, ◌++◌, length, take, drop, refl, ◌∙◌, ap, subst, arith, true}
 use Rattle.std.proofs.lemmas.Slice.{pushed as after_push}
 use Rattle.std.proofs.lemmas.List.{with_items_is, length-take}
-use Rattle.area_disk.specs.Past.{Past, noted}
+use Rattle.area_disk.specs.Past.{noted}
 use Rattle.area_disk.specs.Stretch.{IsBeside, IsOutside, left_by}
 use Rattle.area_disk.specs.Outside.{same_trans, same_more, overwritten_hull}
 use Rattle.area_disk.specs.Sound.{sound_at, sound_settled, left_by_is, same_left}

@@ -1,4 +1,4 @@
-use Rattle.std.proofs.Common.{true, [], ◌∙◌, arith}
+use Rattle.std.proofs.Common.{true, [], ◌∙◌}
 use Rattle.area_disk.specs.Memory.{leaves_of, disk_within_stop, elapses_noted, written_as_none}
 use Rattle.area_disk.specs.Past.{Change}
 use Rattle.area_disk.proofs.memory.MemoryAreaArea.sync.Goals as goal

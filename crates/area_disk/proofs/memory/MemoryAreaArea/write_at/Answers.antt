@@ -1,6 +1,6 @@
-use Rattle.std.proofs.Common.{◌≡◌, ◌∙◌, ◌-◌, ◌+◌, ℕ, List, length, false, ap, subst, arith}
+use Rattle.std.proofs.Common.{◌≡◌, ◌∙◌, ◌-◌, length, false, ap, subst, arith}
 use Rattle.std.proofs.lemmas.List.{length_push}
-use Rattle.area_disk.specs.Plan.{Schedule, write_fate, is_failure, after_call, spare_after_write, LeavesAfterWrite, most_unsynced}
+use Rattle.area_disk.specs.Plan.{write_fate, is_failure, after_call, spare_after_write, LeavesAfterWrite, most_unsynced}
 use Rattle.area_disk.specs.Memory.{prospect_of, leaves_of, disk_follows_write, disk_follows_stop, disk_leaves_written, elapses_noted}
 use Rattle.area_disk.specs.declared.plan.Fate.{Fate}
 use Rattle.area_disk.specs.declared.plan.Fate.TheVariants.{Runs}

@@ -1,4 +1,4 @@
-use Rattle.std.proofs.Common.{◌≡◌, ◌+◌, [], length, refl, sym, ◌∙◌, ap, arith, rules}
+use Rattle.std.proofs.Common.{◌≡◌, refl, sym, ◌∙◌, ap, arith, rules}
 use Rattle.std.proofs.lemmas.Slice.{pushed as after_push}
 use Rattle.std.proofs.lemmas.List.{with_items_is}
 use Rattle.area_disk.specs.Past.{Past, changes_of, image_after, unsynced_after}

@@ -1,4 +1,4 @@
-use Rattle.std.proofs.Common.{◌≡◌, ap, arith}
+use Rattle.std.proofs.Common.{ap, arith}
 use Rattle.area_disk.specs.Past.{Past}
 use Rattle.area_disk.proofs.Changes.{room_few, room_many}
 use Rattle.area_disk.proofs.past.History.has_room.Goals as goal

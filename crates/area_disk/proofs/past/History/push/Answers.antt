@@ -1,6 +1,6 @@
-use Rattle.std.proofs.Common.{◌≡◌, ◌+◌, ◌<◌, ◌≤◌, [], ◌∷◌, ◌++◌, length, refl, ap, arith}
+use Rattle.std.proofs.Common.{[], ◌∷◌, length, refl, ap, arith}
 use Rattle.std.proofs.lemmas.Slice.{pushed as after_push}
-use Rattle.area_disk.specs.Past.{Past, Change, octets_in, most_calls, most_octets}
+use Rattle.area_disk.specs.Past.{Past}
 use Rattle.area_disk.specs.declared.past.Call.{Call}
 use Rattle.area_disk.proofs.Changes.{octets_total, calls_total, changes_of-push, IsKept-push, same_past}
 use Rattle.area_disk.proofs.past.History.push.Goals as goal
