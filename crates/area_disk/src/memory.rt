@@ -16,10 +16,11 @@ use std::alloc::Global;
 /// An area in memory, which fails and stops as planned.
 ///
 /// It tells all that an area can tell. A call that is planned to fail changes nothing but the counts, and so does a
-/// write that finds 65,536 writes unsynced. For the moments before now it keeps a record of its counted calls, with
-/// room for 65,536 calls and 8,388,608 octets that they wrote. Where a call doesn't fit, the record begins anew
-/// with it, and moments before that call aren't told; after a call that alone wrote more, no moment before its end
-/// is told. A stop counts as a write of the stretch from the first octet to the last that it may have changed.
+/// write that finds 65,536 writes unsynced. For the moments before now it keeps a record of the counted calls that ran
+/// or stopped it, with room for 65,536 calls and 8,388,608 octets that they wrote. Where a call doesn't fit, the
+/// record begins anew with it, and moments before that call aren't told; after a call that alone wrote more, no
+/// moment before its end is told. A stop counts as a write of the stretch from the first octet to the last that it
+/// may have changed.
 #[derive(Drop)]
 pub struct MemoryArea {
     disk: Disk,
@@ -28,9 +29,9 @@ pub struct MemoryArea {
 }
 
 impl MemoryArea {
-    #[tactic(auto, using(crate::specs::Octets::length_zeros))]
     /// An area of `length` octets, each of them 0, with this plan. It takes at most three times its length and
     /// 16 MiB. `NoMemory` where there is no memory for that.
+    #[tactic(auto, using(crate::specs::Octets::length_zeros))]
     pub fn new(alloc: Global, length: u64, plan: Plan) -> Result<MemoryArea, NoMemory>
         ensures size { IfOk result (λ area. ⟦<MemoryArea as Area>⟧.size area ≡ length) }
         ensures octets { IfOk result (λ area. ⟦<MemoryArea as Area>⟧.octets area ≡ zeros length) }

@@ -23,8 +23,8 @@ impl Model for QuietArea {
 }
 
 impl QuietArea {
-    #[tactic(auto, using(crate::specs::Octets::length_zeros))]
     /// An area of `length` octets, each of them 0. `NoMemory` where there is no memory for them.
+    #[tactic(auto, using(crate::specs::Octets::length_zeros))]
     pub fn new(alloc: Global, length: u64) -> Result<QuietArea, NoMemory>
         ensures size { IfOk result (λ area. ⟦<QuietArea as Area>⟧.size area ≡ length) }
         ensures octets { IfOk result (λ area. area ≡ zeros length) }

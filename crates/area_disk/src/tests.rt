@@ -157,11 +157,3 @@ fn the_record_begins_anew_and_unsynced_writes_are_bounded(rt: HostRuntime) -> Re
     assert_eq!(rt; end, [7, 9, 0x5A, 0]);
     Ok(())
 }
-
-#[test]
-fn errors_say_what_happened(rt: HostRuntime) -> Result<(), Fail> {
-    let alloc = rt.alloc();
-    assert_eq!(rt; Failed.to_string(alloc)?.as_str(), "the device failed");
-    assert_eq!(rt; NoMemory.to_string(alloc)?.as_str(), "out of memory");
-    Ok(())
-}
