@@ -6,11 +6,11 @@ mod sink;
 mod source;
 
 use crate::sink::WriterSink;
-use crate::source::{ReaderSource, Unopened};
+use crate::source::{FileSource, ReaderSource};
 use cgf_top::{Status, run_cgf};
 use gw_base::Source;
 use std::process::ExitCode;
-use std::{env, fs, io};
+use std::{env, io};
 
 /// The word that names the standard input.
 const STANDARD_INPUT: &str = "-";
@@ -39,14 +39,12 @@ fn words(rt: &HostRuntime) -> Result<Vec<String>, Status> {
     Ok(words)
 }
 
-/// Runs the job over the file that the second word names. One that can't be opened is a source
-/// whose first call fails.
+/// Runs the job over the file that the second word names, which is opened once it is to be read.
 fn run(rt: &HostRuntime, words: &[String]) -> Status {
     match words {
-        [_, file] if file.as_str() != STANDARD_INPUT => match fs::open(rt, file.as_str()) {
-            Ok(file) => run_over(rt, words, ReaderSource::new(file)),
-            Err(_) => run_over(rt, words, Unopened::new()),
-        },
+        [_, file] if file.as_str() != STANDARD_INPUT => {
+            run_over(rt, words, FileSource::new(rt, file.as_str()))
+        }
         _ => run_over(rt, words, ReaderSource::new(rt.stdin())),
     }
 }

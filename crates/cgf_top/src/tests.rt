@@ -123,7 +123,7 @@ fn the_first_faulty_line_is_told(rt: HostRuntime) -> Result<(), Fail> {
 
 /// Scripts, and what is printed for them, in which `file` stands for the line of the file with the
 /// one record `A003800105`.
-const REPORTS: [(&str, &str); 9] = [
+const REPORTS: [(&str, &str); 10] = [
     ("end", "gateway 1 entries 1 records 0 held 0 stranded 0\n"),
     (
         "\n#\tcomment\nend\r\n\n# more",
@@ -136,6 +136,18 @@ in 10.0.1.1:40001 4ef0 0005 0000 7e02 fc0000\n\
 in 10.0.1.1:40001 4EF0001000007E01FC000B010106000005A003800105\nend\n",
         "4EF1000700000180FD00020000\n4EF1000700000180FD00020000\n4EF10007000001FFFD00020000\n\
 gateway 1 entries 2 records 0 held 0 stranded 0\n",
+    ),
+    // A held packet that is released is filed once, however often it is released.
+    (
+        "in 10.0.1.1:40001 4EF0001000077E02FC000B010106000005A003800105\n\
+in 10.0.1.1:40001 4EF0000700087E04F90002 0007\n\
+in 10.0.1.1:40001 4EF0000700097E04F90002 0007\n\
+in 10.0.1.1:40001 4EF00007000A7E03FA0002 0007\nend\n",
+        "4EF1000700070180FD00020007\n4EF1000700080180FD00020008\n4EF10007000901FCFD00020009\n\
+4EF10007000A01FEFD0002000A\n\
+file 1 00-0000000001.cdr 0000003D0000003460601080080010800800000000010000000104\
+00000000000000000000FFFF0A00000100000000000000000000056020A003800105\n\
+gateway 1 entries 4 records 1 held 0 stranded 0\n",
     ),
     // A held packet that is cancelled is filed nowhere, and can't be released any more.
     (
@@ -221,5 +233,32 @@ fn reports_are_as_the_formats_say(rt: HostRuntime) -> Result<(), Fail> {
         assert_eq!(rt; status, Status::Done, "at {script}");
         assert_eq!(rt; printed.as_slice(), report.as_bytes(), "at {script}");
     }
+    Ok(())
+}
+
+#[test]
+fn each_status_has_its_number_and_its_line(rt: HostRuntime) -> Result<(), Fail> {
+    let not_built = Status::Input {
+        place: 1,
+        kind: InputKind::NotBuilt,
+    };
+    let too_long = Status::Input {
+        place: 16_777_217,
+        kind: InputKind::TooLong,
+    };
+    let lines = [
+        (Status::Words, 1, "cgf: words"),
+        (not_built, 2, "cgf: input 1: NotBuilt"),
+        (too_long, 2, "cgf: input 16777217: TooLong"),
+        (Status::Read, 3, "cgf: read"),
+        (Status::Write, 4, "cgf: write"),
+        (Status::Memory, 5, "cgf: memory"),
+    ];
+    for (status, number, line) in lines {
+        assert_eq!(rt; status.number(), number);
+        let printed = format!(in rt.alloc(); "{status}")?;
+        assert_eq!(rt; printed.as_str(), line);
+    }
+    assert_eq!(rt; Status::Done.number(), 0);
     Ok(())
 }

@@ -1,4 +1,4 @@
-//! The causes that a Data Record Transfer Response answers (3GPP TS 32.295, clause 6.2.4.5.4).
+//! The causes that a Data Record Transfer Response answers (3GPP TS 32.295, clause 6.2.4.6).
 
 /// Request accepted.
 pub const ACCEPTED: u8 = 128;
