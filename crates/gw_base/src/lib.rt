@@ -34,3 +34,6 @@ pub use short::Short;
 pub use sink::Sink;
 pub use source::Source;
 pub use tag::Tag;
+
+#[cfg(test)]
+mod tests;
