@@ -2,10 +2,14 @@ ghost use Rattle.std.specs.Prelude.{◌≡◌, Some, None};
 ghost use Rattle.gw_base.specs.CdrKind.{kind_of};
 ghost use Rattle.gw_base.specs.Nearest.{nearest};
 
-use crate::scan::{Copies, count_copies, epoch, is_close_due, moment_behind, state, top};
+use crate::scan::{
+    Copies, HeldKey, count_copies, epoch, held_keys, is_close_due, is_tick_due, known_nodes,
+    last_tick, moment_behind, opening, promised_octets, start, start_count, state, top,
+};
 use crate::{
-    Absolutes, Buffer, Caller, CdrKind, Failed, HistoryAct, HistoryEntry, KeyState, MemorySink,
-    MemorySource, Moment, NodeId, Octets, PacketKey, Short, Sink, Source, cdr_kind, nearest_number,
+    Absolutes, Act, Buffer, Caller, CdrKind, Clock, Entry, Failed, HistoryAct, HistoryEntry,
+    KeyState, MemoryClock, MemorySink, MemorySource, Moment, NodeId, Octets, PacketKey, Short,
+    Sink, Source, cdr_kind, nearest_number,
 };
 use std::alloc::Global;
 use std::test::Fail;
@@ -143,6 +147,26 @@ fn a_sink_fails_as_planned_and_where_it_is_full(rt: HostRuntime) -> Result<(), F
     assert_eq!(rt; sink.octets(), [1, 2].as_slice());
     assert_eq!(rt; put_once(&mut sink, &[5]), Ok(1));
     assert_eq!(rt; sink.octets(), [1, 2, 5].as_slice());
+    Ok(())
+}
+
+/// Asks a clock once, and gives the seconds of its answer.
+fn ask_once<C: Clock>(clock: &mut C) -> Result<u64, Failed> {
+    clock.now().map(Moment::seconds)
+}
+
+#[test]
+fn a_clock_fails_as_planned_and_stays_at_its_last_moment(rt: HostRuntime) -> Result<(), Fail> {
+    let mut moments = Vec::new(rt.alloc());
+    for seconds in [20, 10] {
+        moments.push(Moment::of(seconds).ok_or("a moment")?)?;
+    }
+    assert_eq!(rt; moments.len(), 2);
+    let fail = vec![in rt.alloc(); 1_u64]?;
+    let mut clock = MemoryClock::new(moments, fail);
+    for seen in [Err(Failed), Ok(20), Ok(10), Ok(10)] {
+        assert_eq!(rt; ask_once(&mut clock), seen);
+    }
     Ok(())
 }
 
@@ -302,5 +326,112 @@ fn copies_held_and_stranded_and_what_is_due(rt: HostRuntime) -> Result<(), Fail>
     assert_eq!(rt; moment_behind(&history, early).seconds(), 20);
     assert_eq!(rt; moment_behind(&history, late).seconds(), 25);
     assert_eq!(rt; moment_behind(&[], early).seconds(), 5);
+    Ok(())
+}
+
+#[test]
+fn starts_and_known_nodes(rt: HostRuntime) -> Result<(), Fail> {
+    let history = small_history(rt.alloc())?;
+    assert_eq!(rt; history.len(), 14);
+    for (length, node, counter, first) in [
+        (14, NODE, Some(2), 2),
+        (9, NODE, Some(1), 1),
+        (1, NODE, None, 0),
+        (14, OTHER, None, 0),
+    ] {
+        let front = &history[..length];
+        assert_eq!(rt; opening(front, node), counter, "of {length} {node:?}");
+        assert_eq!(rt; start(front, node), first, "of {length} {node:?}");
+    }
+    assert_eq!(rt; start_count(&history), 1);
+    let known = known_nodes(rt.alloc(), &history)?;
+    assert_eq!(rt; known.as_slice(), [NODE, OTHER].as_slice());
+    Ok(())
+}
+
+/// A second Hold of a number, a File that names a held one, and a Release of a fresh one: what no
+/// gateway makes.
+fn odd_history(alloc: Global) -> Result<Vec<HistoryEntry>, Fail> {
+    let mut history = Vec::new(alloc);
+    add(&mut history, 1, hold(alloc, NODE, 65_536)?)?;
+    add(&mut history, 1, hold(alloc, NODE, 65_537)?)?;
+    add(&mut history, 1, hold(alloc, NODE, 65_536)?)?;
+    add(&mut history, 1, release(alloc, 65_538)?)?;
+    add(&mut history, 1, file(alloc, 65_537)?)?;
+    Ok(history)
+}
+
+#[test]
+fn held_keys_and_what_is_promised(rt: HostRuntime) -> Result<(), Fail> {
+    let history = small_history(rt.alloc())?;
+    let keys = held_keys(rt.alloc(), &history)?;
+    let small = [
+        HeldKey {
+            node: NODE,
+            number: 65_536,
+        },
+        HeldKey {
+            node: OTHER,
+            number: 65_600,
+        },
+    ];
+    assert_eq!(rt; keys.as_slice(), small.as_slice());
+    assert_eq!(rt; promised_octets(&history), 152);
+    let odd = odd_history(rt.alloc())?;
+    assert_eq!(rt; odd.len(), 5);
+    for (length, octets) in [(0, 0), (1, 76), (2, 152), (3, 152), (4, 182), (5, 106)] {
+        let front = &odd[..length];
+        assert_eq!(rt; promised_octets(front), octets, "of {length}");
+    }
+    Ok(())
+}
+
+#[test]
+fn ticks_are_due_once_in_the_open_time(rt: HostRuntime) -> Result<(), Fail> {
+    let mut history = Vec::new(rt.alloc());
+    add(&mut history, 10, HistoryAct::Tick)?;
+    add(&mut history, 11, file(rt.alloc(), 65_536)?)?;
+    add(&mut history, 12, HistoryAct::Close)?;
+    add(&mut history, 13, file(rt.alloc(), 65_537)?)?;
+    add(&mut history, 20, HistoryAct::Tick)?;
+    assert_eq!(rt; history.len(), 5);
+    for (length, now, is_due) in [
+        (1, 99, false),
+        (2, 69, false),
+        (2, 70, true),
+        (3, 99, false),
+        (4, 13, true),
+        (5, 79, false),
+        (5, 80, true),
+        (5, 19, false),
+    ] {
+        let moment = Moment::of(now).ok_or("a moment")?;
+        assert_eq!(rt;
+            is_tick_due(&history[..length], 60, moment),
+            is_due,
+            "of {length} at {now}"
+        );
+    }
+    assert_eq!(rt; last_tick(&history).map(Moment::seconds), Some(20));
+    Ok(())
+}
+
+#[test]
+fn entries_are_lent_and_owned(rt: HostRuntime) -> Result<(), Fail> {
+    let history = small_history(rt.alloc())?;
+    for entry in &history {
+        let owned = entry.lent().to_owned(rt.alloc())?;
+        assert_eq!(rt; owned.lent(), entry.lent());
+    }
+    let sealed = Entry {
+        moment: Moment::of(12).ok_or("a moment")?,
+        caller: Caller::NONE,
+        act: Act::Seal {
+            node: NODE,
+            number: 65_537,
+        },
+    };
+    assert_eq!(rt; history.len(), 14);
+    assert_eq!(rt; history[4].lent(), sealed);
     Ok(())
 }
