@@ -1,8 +1,15 @@
 pub mod Buffer
 pub mod CdrKind
+pub mod Entry
 pub mod Faults
+pub mod HeldKeys
 pub mod History
+pub mod Known
+pub mod MemoryClock
 pub mod MemorySink
 pub mod MemorySource
 pub mod Nearest
+pub mod Starts
+pub mod TickDue
+pub mod View
 pub mod Written

@@ -3,9 +3,17 @@ ghost use Rattle.std.specs.List.{list_any};
 ghost use Rattle.gw_base.specs.History.{begins_epoch, copies_of, epoch_of, fate_of, given_state, is_close_due, moment_after, names, scan_entry, state_of, top_entry, top_of};
 
 use crate::address::{Absolute, NodeId};
+pub use crate::held::{
+    HeldKey, held_keys, held_keys_are_as_many_as_held_copies, held_keys_are_those_in_that_state,
+    promised_octets,
+};
 use crate::history::{HistoryAct, HistoryEntry, PacketKey};
 use crate::key_state::KeyState;
+pub use crate::known::known_nodes;
 use crate::moment::Moment;
+pub use crate::starts::{opening, start, start_count, start_is_that_of_the_present_epoch};
+pub use crate::tick::{is_tick_due, last_tick};
+pub use crate::view::{key_scan_goes_on, node_view_goes_on, view_goes_on};
 
 impl HistoryAct {
     /// Whether the entry begins an epoch of a node.
