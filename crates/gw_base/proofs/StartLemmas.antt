@@ -1,10 +1,10 @@
 -- The start of the present epoch is the last of the list of starts.
-use Rattle.std.proofs.Common.{◌≡◌, ℕ, suc, zero-add, ◌+◌, ◌==◌, Bool, true, false, if◌then◌else◌, List, [], ◌∷◌, ◌++◌, Option, Some, None, refl, unwrap_or, slice_get, arith}
+use Rattle.std.proofs.Common.{◌≡◌, ℕ, suc, zero-add, ◌+◌, ◌==◌, Bool, true, false, if◌then◌else◌, List, [], ◌∷◌, ◌++◌, Option, Some, refl, unwrap_or, slice_get, arith}
 use Rattle.gw_base.specs.declared.history.HistoryAct.{HistoryAct}
 use Rattle.gw_base.specs.declared.history.HistoryAct.TheVariants.{Start, Path, File, Hold, Seal, Release, Cancel, Tick, Close}
 use Rattle.gw_base.specs.declared.history.HistoryEntry.{HistoryEntry}
 use Rattle.gw_base.specs.History.{begins_epoch, epoch_of}
-use Rattle.gw_base.specs.Starts.{counter_in, counters_of, opening_behind, opening_from, start_of, starts_of}
+use Rattle.gw_base.specs.Starts.{counter_in, counters_of, opening_behind, opening_from}
 
 -- from any opening on, the present start is the last start
 abbrev IsLastStart : ℕ → Option ℕ → List HistoryEntry → Type 0

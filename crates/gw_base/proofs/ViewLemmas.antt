@@ -1,6 +1,5 @@
 -- What one more entry behind a history changes.
-use Rattle.std.proofs.Common.{◌≡◌, ℕ, suc, zero-add, add-zero, ◌+◌, ◌-◌, ◌&&◌, Bool, true, false, not, if◌then◌else◌, List, [], ◌∷◌, ◌++◌, length, length-append, Option, Some, None, refl, sym, ap, ◌∙◌, append_assoc, arith, slice_get, filter, count_by}
-use Rattle.std.specs.Option.{option_map_or}
+use Rattle.std.proofs.Common.{◌≡◌, ℕ, ◌+◌, ◌-◌, ◌&&◌, Bool, true, false, not, if◌then◌else◌, List, [], ◌∷◌, ◌++◌, length, length-append, Option, Some, None, refl, sym, ap, ◌∙◌, append_assoc, arith, slice_get, filter, count_by}
 use Rattle.std.proofs.lemmas.List.{append-nil}
 use Rattle.std.proofs.lemmas.List.Elements.{filter-append}
 use Rattle.std.proofs.lemmas.List.Sums.{sum_by-append}
@@ -19,7 +18,7 @@ use Rattle.gw_base.specs.History.{begins_epoch, copies_of, due_behind, due_from,
 use Rattle.gw_base.specs.Known.{known_from, named_node, with_node}
 use Rattle.gw_base.specs.Starts.{is_start, opening_behind, opening_from, start_count}
 use Rattle.gw_base.specs.TickDue.{tick_behind, tick_from}
-use Rattle.gw_base.specs.View.{NodeView, node_view_behind, node_view_of, HistoryView, stays_held, strands, view_behind, view_of}
+use Rattle.gw_base.specs.View.{node_view_behind, node_view_of, stays_held, strands, view_behind, view_of}
 
 -- ---- scans from the front
 

@@ -1,6 +1,6 @@
 -- What a clock in memory is: the moments that it will give, how many calls were made, the numbers of the calls that
 -- are to fail, counted from 1, and how many did.
-use Rattle.std.specs.Prelude.{ℕ, List, [], ◌∷◌}
+use Rattle.std.specs.Prelude.{ℕ, List, ◌∷◌}
 
 pub record MemoryTime : Type 0 where
   pub left : List ℕ

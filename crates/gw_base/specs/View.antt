@@ -1,10 +1,9 @@
 -- What a gateway keeps of its history, and how one more entry changes it.
-use Rattle.std.specs.Prelude.{◌≡◌, ℕ, ◌+◌, ◌&&◌, not, Bool, if◌then◌else◌, List, [], ◌∷◌, ◌++◌, Option, filter, count_by}
+use Rattle.std.specs.Prelude.{ℕ, ◌+◌, ◌&&◌, not, Bool, if◌then◌else◌, List, [], ◌++◌, Option, filter, count_by}
 use Rattle.gw_base.specs.declared.address.NodeId.{NodeId}
 use Rattle.gw_base.specs.declared.held.HeldKey.{HeldKey}
 use Rattle.gw_base.specs.declared.history.HistoryAct.{HistoryAct}
 use Rattle.gw_base.specs.declared.history.HistoryEntry.{HistoryEntry}
-use Rattle.gw_base.specs.declared.scan.HoldFate.TheVariants as fate
 use Rattle.gw_base.specs.HeldKeys.{held_by, held_keys}
 use Rattle.gw_base.specs.History.{begins_epoch, copies_of, due_behind, epoch_of, is_close_due, last_moment, names, top_entry, top_of}
 use Rattle.gw_base.specs.Known.{known_nodes, named_node, with_node}
