@@ -43,7 +43,7 @@ pub use memory_clock::MemoryClock;
 pub use memory_sink::MemorySink;
 pub use memory_source::MemorySource;
 pub use moment::Moment;
-pub use number::{nearest_is_the_one, nearest_number};
+pub use number::{nearest_is_the_one, nearest_keeps_apart, nearest_number};
 pub use octets::Octets;
 pub use packet::PacketId;
 pub use place::Place;

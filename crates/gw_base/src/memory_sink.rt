@@ -1,4 +1,4 @@
-ghost use Rattle.std.specs.Prelude.{◌≡◌, ◌<◌, ◌≤◌, ◌↔◌, ◌+◌, ◌++◌, ◌⊎◌, [], length, take, min, IsErr, OnErr, IfOk, Contains};
+ghost use Rattle.std.specs.Prelude.{◌≡◌, ◌<◌, ◌≤◌, ◌↔◌, ◌+◌, ◌++◌, ◌⊎◌, [], length, take, min, IsErr, OnErr, IfOk, Contains, is_ok, if◌then◌else◌};
 ghost use Rattle.std.specs.Io.KnownBytes.{Appends};
 ghost use Rattle.gw_base.specs.Faults.{Rose, next_count};
 ghost use Rattle.gw_base.specs.Written.{AppendsFront};
@@ -72,6 +72,7 @@ impl Sink for MemorySink {
         ensures fails { IsErr result ↔ (Contains self.old.fail (next_count self.old.calls) ⊎ (self.old.room < length self.old.written + length from.now)) }
         ensures nothing { OnErr result (self.new.written ≡ self.old.written) }
         ensures calls { self.new.calls ≡ next_count self.old.calls }
+        ensures faults { self.new.faults ≡ (if is_ok result then self.old.faults else next_count self.old.faults) }
         ensures plan { (self.new.room ≡ self.old.room) × (self.new.fail ≡ self.old.fail) }
     {
         self.calls = self.calls.saturating_add(1);

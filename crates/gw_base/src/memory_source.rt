@@ -1,4 +1,4 @@
-ghost use Rattle.std.specs.Prelude.{◌≡◌, ◌≤◌, ◌↔◌, ◌+◌, [], length, take, drop, min, IsErr, OnErr, IfOk, Contains};
+ghost use Rattle.std.specs.Prelude.{◌≡◌, ◌≤◌, ◌↔◌, ◌+◌, [], length, take, drop, min, IsErr, OnErr, IfOk, Contains, is_ok, if◌then◌else◌};
 ghost use Rattle.std.specs.Io.KnownBytes.{ReadConsumes};
 ghost use Rattle.gw_base.specs.Faults.{Rose, next_count};
 
@@ -77,6 +77,7 @@ impl Source for MemorySource {
         ensures fails { IsErr result ↔ Contains self.old.fail (next_count self.old.calls) }
         ensures count { IfOk result (λ n. n ≡ min self.old.piece (min (length into.old) (length self.old.left))) }
         ensures calls { self.new.calls ≡ next_count self.old.calls }
+        ensures faults { self.new.faults ≡ (if is_ok result then self.old.faults else next_count self.old.faults) }
         ensures plan { (self.new.piece ≡ self.old.piece) × (self.new.fail ≡ self.old.fail) }
     {
         self.calls = self.calls.saturating_add(1);

@@ -1,4 +1,4 @@
-ghost use Rattle.std.specs.Prelude.{◌≡◌, ◌≤◌, ◌<◌, ◌^◌, ◌↔◌, ℕ, IfSome, Some};
+ghost use Rattle.std.specs.Prelude.{◌≡◌, ◌≤◌, ◌<◌, ◌^◌, ◌↔◌, ℕ, IfSome, Option, Some};
 ghost use Rattle.gw_base.specs.Nearest.{IsNearest, nearest};
 
 use crate::address::Absolute;
@@ -21,4 +21,9 @@ pub fn nearest_number(top: Option<Absolute>, wire: u16) -> Absolute
 /// From 32,768 on, the nearest number is the one number of the window that the wire can mean.
 pub fn nearest_is_the_one()
     ensures { (h w number : ℕ) → w < 65536 → 32768 ≤ h → IsNearest h w number ↔ (number ≡ nearest (Some h) w) }
+{}
+
+/// Two different numbers on the wire never mean one number.
+pub fn nearest_keeps_apart()
+    ensures { (top : Option ℕ) (v w : ℕ) → v < 65536 → w < 65536 → nearest top v ≡ nearest top w → v ≡ w }
 {}

@@ -77,7 +77,6 @@ fn present_key(history: &[HistoryEntry], node: NodeId, number: Absolute) -> Pack
 }
 
 /// Appends the records of the held packets that a release names.
-
 fn release(
     alloc: Global,
     filed: &mut Vec<FiledRecord>,
