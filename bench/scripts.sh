@@ -1,6 +1,6 @@
 #!/bin/bash
 # How long the longest scripts take: 16 MiB of comments, of empty lines and of blank words, a line past the bound, and
-# 10,000 datagrams. Run it at the top of the repository once ./cgf has built the program. Each line is the seconds of
+# 9,999 datagrams. Run it at the top of the repository once ./cgf has built the program. Each line is the seconds of
 # one run, the exit status and what was run.
 cd "$(dirname "$0")/.." || exit 1
 MOST=16777216
