@@ -1,10 +1,10 @@
 -- Lemmas on what is known to be read and written over several calls.
-use Rattle.std.proofs.Common.{◌≡◌, ℕ, ◌+◌, ◌≤◌, inl, inr, List, [], ◌++◌, length, take, drop, Option, Some, None, refl, ap, sym, ◌∙◌, subst, arith, append_assoc, length-drop, append-nil}
+use Rattle.std.proofs.Common.{◌≡◌, ℕ, ◌+◌, ◌-◌, ◌≤◌, inl, inr, List, [], ◌∷◌, ◌++◌, length, take, drop, Option, Some, None, refl, ap, sym, ◌∙◌, subst, arith, append_assoc, length-append, length-drop, append-nil}
 use Rattle.std.proofs.Math.Seq.{take-add, take-length}
-use Rattle.std.specs.Io.KnownBytes.{Appends, Consumes}
+use Rattle.std.specs.Io.KnownBytes.{Appends, Consumes, Keeps}
 use Rattle.gw_base.specs.Faults.{Rose}
 use Rattle.gw_base.specs.Written.{AppendsFront}
-use Rattle.cgf_top.specs.Run.{TakesPiece}
+use Rattle.cgf_top.specs.Run.{TakesPiece, TakesUpTo}
 
 -- Writing.
 
@@ -52,3 +52,24 @@ consumes_piece a b c before after count h piece = subst (Consumes a c) (sym piec
 pub rose_more : (before middle after : ℕ) → before ≤ middle → Rose middle after → Rose before after
 rose_more before middle after h (inl rose) = inl (omega (arith, h, rose))
 rose_more before middle after h (inr last) = inr last
+
+-- a call that failed took nothing
+pub takes_kept : (a b : Option (List ℕ)) (most : ℕ) → Keeps a b → TakesUpTo a b most
+takes_kept None b most h = ([], omega arith, tt)
+takes_kept (Some xs) None most h = absurd h
+takes_kept (Some xs) (Some ys) most h = ([], omega arith, sym h)
+
+pub takes_piece : (a b : Option (List ℕ)) (most : ℕ) (piece : List ℕ) → length piece ≤ most → Consumes a b piece → TakesUpTo a b most
+takes_piece a b most piece h k = (piece, h, k)
+
+-- the text so far was taken, and then no more than was left to take
+pub takes_more : (a b c : Option (List ℕ)) (text : List ℕ) (most : ℕ) → length text ≤ most → Consumes a b text → TakesUpTo b c (most - length text) → TakesUpTo a c most
+takes_more a b c text most h k more =
+    (text ++ more.0, omega (arith, h, more.1, length-append text more.0), consumes_more a b c text more.0 k more.2)
+
+pub takes_read : (a b : Option (List ℕ)) (text : List ℕ) (most : ℕ) → length text ≤ most → Consumes a b text → TakesUpTo a b most
+takes_read a b text most h k = (text, h, k)
+
+pub takes_none : (a : Option (List ℕ)) (most : ℕ) → TakesUpTo a a most
+takes_none None most = ([], omega arith, tt)
+takes_none (Some xs) most = ([], omega arith, refl)

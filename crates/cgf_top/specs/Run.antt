@@ -29,6 +29,10 @@ pub record IsRead (left behind : Option (List ℕ)) (text : List ℕ) : Type 0 w
   pub bounded : length text ≤ 16777217
   pub whole : (length text ≡ 16777217) ⊎ IsAtEnd behind
 
+-- no more octets than that were taken of an input
+abbrev pub TakesUpTo : Option (List ℕ) → Option (List ℕ) → ℕ → Type 0
+TakesUpTo left behind most = (taken : List ℕ) × (length taken ≤ most) × Consumes left behind taken
+
 -- a script was read, and all of its report and nothing else was written
 abbrev pub WritesReport : Option (List ℕ) → Option (List ℕ) → Option (List ℕ) → Option (List ℕ) → Type 0
 WritesReport left behind before after =
@@ -68,14 +72,3 @@ status_number status.Memory = 5
 abbrev pub TakesPiece : Option (List ℕ) → Option (List ℕ) → List ℕ → List ℕ → ℕ → Type 0
 TakesPiece left behind before after count =
     (piece : List ℕ) × Consumes left behind piece × (after ≡ before ++ piece) × (length piece ≡ count) × (count ≡ 0 → IsAtEnd behind)
-
--- what each end says: what was read, what was written, and whose fault it was
-abbrev pub Gives : (left behind : Option (List ℕ)) (read_before read_after : ℕ) (before after : Option (List ℕ)) (write_before write_after : ℕ) → Type 0 → Status → Type 0
-Gives left behind read_before read_after before after write_before write_after untouched status.Done = WritesReport left behind before after
-Gives left behind read_before read_after before after write_before write_after untouched status.Words = ⊥
-Gives left behind read_before read_after before after write_before write_after untouched (status.Input place kind) =
-    IsRefused left behind (record { place = place; kind = kind }) × untouched
-Gives left behind read_before read_after before after write_before write_after untouched status.Read = Rose read_before read_after × untouched
-Gives left behind read_before read_after before after write_before write_after untouched status.Write =
-    Rose write_before write_after × WritesFront left behind before after
-Gives left behind read_before read_after before after write_before write_after untouched status.Memory = untouched

@@ -1,8 +1,8 @@
 //! Reading an input to its end.
 
-ghost use Rattle.std.specs.Prelude.{◌≡◌, ◌≤◌, ◌<◌, length, vec_len, Err, IfOk, OnOk};
+ghost use Rattle.std.specs.Prelude.{◌≡◌, ◌≤◌, ◌<◌, ◌-◌, length, vec_len, Err, IfOk, OnOk};
 ghost use Rattle.gw_base.specs.Faults.{Rose};
-ghost use Rattle.cgf_top.specs.Run.{IsRead, TakesPiece};
+ghost use Rattle.cgf_top.specs.Run.{IsRead, TakesPiece, TakesUpTo};
 
 use crate::world_script::MOST_TEXT;
 use gw_base::Source;
@@ -24,9 +24,10 @@ const PIECE: usize = 16_384;
 const MOST_READ: usize = MOST_TEXT + 1;
 
 /// The text that a source has left, or its first 16,777,217 octets.
-#[tactic(auto, using(crate::proofs::Streams::consumes_piece, crate::proofs::Streams::consumes_none, crate::proofs::Streams::rose_more))]
+#[tactic(auto, using(crate::proofs::Streams::consumes_piece, crate::proofs::Streams::consumes_none, crate::proofs::Streams::rose_more, crate::proofs::Streams::takes_more, crate::proofs::Streams::takes_read))]
 pub fn read_text<S: Source>(alloc: Global, source: &mut S) -> Result<Vec<u8>, ReadEnd>
     ensures read { IfOk result (λ text. IsRead (S.left source.old) (S.left source.new) text.items) }
+    ensures taken { TakesUpTo (S.left source.old) (S.left source.new) 16777217 }
     ensures failed { result ≡ Err ReadEnd.Failed → Rose (S.faults source.old) (S.faults source.new) }
 {
     let mut text = Vec::new(alloc);
@@ -40,6 +41,7 @@ pub fn read_text<S: Source>(alloc: Global, source: &mut S) -> Result<Vec<u8>, Re
 }
 
 /// Appends the next octets of a source to a text that isn't too long yet, and says how many.
+#[tactic(auto, using(crate::proofs::Streams::takes_kept, crate::proofs::Streams::takes_piece))]
 fn read_piece<S: Source>(
     source: &mut S,
     piece: &mut [u8],
@@ -49,6 +51,7 @@ fn read_piece<S: Source>(
     requires text { vec_len text.old < 16777217 }
     ensures taken { IfOk result (TakesPiece (S.left source.old) (S.left source.new) text.old.items text.new.items) }
     ensures bounded { OnOk result (vec_len text.new ≤ 16777217) }
+    ensures within { TakesUpTo (S.left source.old) (S.left source.new) (16777217 - vec_len text.old) }
     ensures counted { S.faults source.old ≤ S.faults source.new }
     ensures failed { result ≡ Err ReadEnd.Failed → Rose (S.faults source.old) (S.faults source.new) }
 {

@@ -5,7 +5,7 @@ ghost use Rattle.std.specs.Prelude.{◌≡◌, ◌⊎◌, ◌↔◌, List, true,
 ghost use Rattle.gw_base.specs.Faults.{Rose};
 ghost use Rattle.cgf_top.specs.FeedReport.{feed_report};
 ghost use Rattle.cgf_top.specs.FeedScript.{script_of};
-ghost use Rattle.cgf_top.specs.Run.{EndsByScript, EndsByWhole, Gives, IsRefused, WritesFront, WritesReport, is_command};
+ghost use Rattle.cgf_top.specs.Run.{EndsByScript, EndsByWhole, IsRefused, TakesUpTo, WritesFront, WritesReport, is_command};
 ghost use Rattle.cgf_top.specs.declared.world_script.line.Line.{Line};
 ghost use Rattle.cgf_top.specs.declared.world_script.refusal.Refusal.{Refusal};
 
@@ -32,7 +32,7 @@ pub use world_script::InputKind;
 
 /// Does what the words ask: `feed FILE` reads a script from the source, feeds a gateway with its
 /// datagrams, and writes the replies, the file and the gateway's counts to the sink.
-#[tactic(auto, using(crate::proofs::Ends::whole_text))]
+#[tactic(auto, using(crate::proofs::Ends::whole_text, crate::proofs::Streams::takes_none))]
 pub fn run_cgf<S: Source, K: Sink>(
     alloc: Global,
     words: &[String],
@@ -56,6 +56,9 @@ pub fn run_cgf<S: Source, K: Sink>(
         × WritesFront (S.left source.old) (S.left source.new) (K.written sink.old) (K.written sink.new) }
     ensures memory { result ≡ Status.Memory → sink.new ≡ sink.old }
 
+    // No octet past the first 16,777,217 is taken.
+    ensures bound { TakesUpTo (S.left source.old) (S.left source.new) 16777217 }
+
     // With no fault, the script that was read decides, unless memory runs out.
     ensures complete { is_command (map string_bytes words.now) ≡ true →
         ¬ (Rose (S.faults source.old) (S.faults source.new)) → ¬ (Rose (K.faults sink.old) (K.faults sink.new)) →
@@ -66,18 +69,9 @@ pub fn run_cgf<S: Source, K: Sink>(
         ¬ (Rose (S.faults source.old) (S.faults source.new)) → ¬ (Rose (K.faults sink.old) (K.faults sink.new)) →
         EndsByWhole (S.left source.old) result }
 {
-    if is_command(words) {
-        feed_all(alloc, source, sink)
-    } else {
-        Status::Words
+    if !is_command(words) {
+        return Status::Words;
     }
-}
-
-/// Reads a script, and writes its report.
-fn feed_all<S: Source, K: Sink>(alloc: Global, source: &mut S, sink: &mut K) -> Status
-    ensures gives { Gives (S.left source.old) (S.left source.new) (S.faults source.old) (S.faults source.new)
-        (K.written sink.old) (K.written sink.new) (K.faults sink.old) (K.faults sink.new) (sink.new ≡ sink.old) result }
-{
     let text = match read_text(alloc, source) {
         Ok(text) => text,
         Err(ReadEnd::Failed) => return Status::Read,
