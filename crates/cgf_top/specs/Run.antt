@@ -2,7 +2,6 @@
 use Rattle.std.specs.Prelude.{ℕ, ◌≡◌, ◌≤◌, ◌⊎◌, Bool, true, false, not, ◌&&◌, ◌==◌, List, [], ◌∷◌, ◌++◌, length, Option, Some, Result, Ok, Err, codes}
 use Rattle.std.specs.Io.KnownBytes.{Appends, Consumes, IsAtEnd}
 use Rattle.std.specs.Str.{bytes_eq}
-use Rattle.gw_base.specs.Faults.{Rose}
 use Rattle.gw_base.specs.Written.{AppendsFront}
 use Rattle.cgf_top.specs.FeedReport.{feed_report}
 use Rattle.cgf_top.specs.FeedScript.{script_of}

@@ -1,6 +1,6 @@
 //! The file that the records of a feed go into.
 
-ghost use Rattle.std.specs.Prelude.{◌≡◌, ◌+◌, ◌<◌, ◌++◌, map, length, pos, IfOk, OnOk};
+ghost use Rattle.std.specs.Prelude.{◌≡◌, ◌+◌, ◌%◌, ◌<◌, ◌++◌, map, length, pos, IfOk, OnOk};
 ghost use Rattle.cdr_file.specs.CdrFile.{cdr_octets, file_octets, node_address, run_octets};
 ghost use Rattle.cdr_file.specs.FileHeader.{header_octets};
 ghost use Rattle.cdr_file.specs.Timestamp.{stamp_of};
@@ -14,15 +14,14 @@ use std::alloc::Global;
 /// How many octets the header of a file has.
 const HEADER_OCTETS: u32 = 52;
 
-/// The octets of the file that these records go into, in their order, and that a Close closes. A
-/// file past 4 GiB is none that there is memory for.
+/// The octets of the file that these records go into, in their order, and that a Close closes.
 #[tactic(auto, using(crate::proofs::Files::header_is))]
 pub fn file(alloc: Global, filed: &[FiledRecord]) -> Result<Vec<u8>, NoMemory>
     requires { 0 < length filed.now }
     ensures { IfOk result (λ octets. octets.items ≡ file_octets (map in_file filed.now) 1 ClosureReason.Manual feed_settings) }
 {
     let cdrs = cdrs(alloc, filed)?;
-    let header = header(&filed[0], &filed[filed.len() - 1], filed.len(), &cdrs)?;
+    let header = header(&filed[0], &filed[filed.len() - 1], filed.len(), &cdrs);
     let mut file = Vec::new(alloc);
     file.extend_from_slice(&header)?;
     file.extend_from_slice(&cdrs)?;
@@ -60,19 +59,13 @@ fn append_cdr(cdrs: &mut Vec<u8>, filed: &FiledRecord) -> Result<(), NoMemory>
 }
 
 /// The header of the file, by its first record and its last, their number, and their CDRs.
-fn header(
-    first: &FiledRecord,
-    last: &FiledRecord,
-    count: usize,
-    cdrs: &[u8],
-) -> Result<[u8; 52], NoMemory>
-    ensures { IfOk result (λ header. header ≡ header_octets (header_of (in_file first.now) (in_file last.now) count (length cdrs.now))) }
+#[tactic(auto, using(crate::proofs::Files::low_header))]
+fn header(first: &FiledRecord, last: &FiledRecord, count: usize, cdrs: &[u8]) -> [u8; 52]
+    ensures { result ≡ header_octets (header_of (in_file first.now) (in_file last.now) count (length cdrs.now)) }
 {
     let kind = cdr_kind(first.format, first.version);
     let header = FileHeader {
-        length: in_32_bits(cdrs.len())?
-            .checked_add(HEADER_OCTETS)
-            .ok_or(NoMemory)?,
+        length: low_32_bits(HEADER_OCTETS as usize + cdrs.len()),
         header_length: HEADER_OCTETS,
         high_release: kind.release,
         high_version: kind.version,
@@ -80,20 +73,21 @@ fn header(
         low_version: kind.version,
         opened: utc_stamp(first.moment),
         appended: utc_stamp(last.moment),
-        count: in_32_bits(count)?,
+        count: low_32_bits(count),
         sequence: 1,
         reason: ClosureReason::Manual.code(),
         address: gateway_address(),
         lost: 0,
     };
-    Ok(write_header(&header))
+    write_header(&header)
 }
 
-/// A number of octets or CDRs, as the header of a file holds it.
-fn in_32_bits(number: usize) -> Result<u32, NoMemory>
-    ensures { IfOk result (λ n. n ≡ number) }
+/// The low 32 bits of a number of octets or CDRs, which the header of a file has room for. No
+/// script is long enough for a file that needs more.
+fn low_32_bits(number: usize) -> u32
+    ensures { result ≡ number % 4294967296 }
 {
-    u32::try_from(number).map_err(|_| NoMemory)
+    (number % 4_294_967_296) as u32
 }
 
 /// The timestamp of a moment by a clock that shows UTC.

@@ -1,4 +1,4 @@
-use Rattle.std.proofs.Common.{◌≡◌, arith}
+use Rattle.std.proofs.Common.{arith}
 use Rattle.cgf_top.proofs.Streams.{takes_more}
 use Rattle.cgf_top.proofs.input.read_text.Goals as goal
 
