@@ -74,17 +74,6 @@ abbrev pub count_of : PacketValue → ℕ
 count_of Empty = 0
 count_of (Full count format version value) = count
 
--- the octets behind the format's version
-abbrev pub records_in : PacketValue → List ℕ
-records_in Empty = []
-records_in (Full count format version value) = drop 4 value
-
--- the octets are these records, each behind its length in two octets
-abbrev pub SpellRecords : List (List ℕ) → List ℕ → Type 0
-SpellRecords [] octets = octets ≡ []
-SpellRecords (first ∷ records) octets =
-    (high : ℕ) × (low : ℕ) × (rest : List ℕ) × (octets ≡ high ∷ low ∷ (first ++ rest)) × (length first ≡ two_octets high low) × SpellRecords records rest
-
 -- the value of a packet as it is sent: the empty one has no octets
 abbrev pub packet_octets : PacketValue → List ℕ
 packet_octets Empty = []

@@ -1,5 +1,5 @@
-ghost use Rattle.std.specs.Prelude.{◌≡◌, ◌==◌, ◌<◌, Some, is_some, option_map};
-ghost use Rattle.gtpp_message.specs.Packet.{IsPacket, count_of, full_packet, is_empty_packet, lent_parts, nth_record, packet_octets, packet_reading, record_at, records_at, records_in};
+ghost use Rattle.std.specs.Prelude.{◌≡◌, ◌==◌, ◌<◌, IsSomeAnd, Some, is_some, option_map, slice_get};
+ghost use Rattle.gtpp_message.specs.Packet.{IsPacket, count_of, full_packet, is_empty_packet, lent_parts, nth_record, packet_of, packet_octets, packet_reading, record_at, records_at};
 ghost use Rattle.gtpp_message.specs.Values.{lent, packet_value};
 
 use byteorder::{BigEndian, ByteOrder};
@@ -129,7 +129,8 @@ impl<'a> Packet<'a> {
     pub fn part(&self, k: u8) -> &'a [u8]
         requires whole { IsPacket (packet_value self.now) }
         requires within { k < count_of (packet_value self.now) }
-        ensures { nth_record k (records_in (packet_value self.now)) ≡ Some result.now }
+        ensures { IsSomeAnd (packet_of (packet_octets (packet_value self.now)))
+            (λ packet. slice_get packet.records k ≡ Some result.now) }
     {
         let Packet::Full { value, .. } = self else {
             unreachable!()

@@ -14,10 +14,14 @@ use gw_base::Buffer;
 pub fn write(number: u16, message: &Message<'_>, into: &mut Buffer) -> Result<(), Full>
     requires { length (body_octets (message_value message.now)) ≤ 65535 }
     ensures written { OnOk result (into.new ≡
-        record { octets = into.old.octets ++ written number (message_value message.now); capacity = into.old.capacity }) }
+        record {
+          octets = into.old.octets ++ written number (message_value message.now);
+          capacity = into.old.capacity;
+        }) }
     ensures unchanged { OnErr result (into.new ≡ into.old) }
     ensures full { (free : ℕ) → (result ≡ Err (record { free = free })) ↔
-        ((free + length into.old.octets ≡ into.old.capacity) × (free < length (written number (message_value message.now)))) }
+        ((free + length into.old.octets ≡ into.old.capacity)
+        × (free < length (written number (message_value message.now)))) }
 {
     let length = body_length(message);
     let free = into.free();
@@ -87,10 +91,14 @@ fn optional_length(value: Option<&[u8]>) -> usize
 
 /// Appends the elements of a message for which there is room.
 fn put_body(message: &Message<'_>, into: &mut Buffer)
-    requires room { length into.old.octets + length (body_octets (message_value message.now)) ≤ into.old.capacity }
+    requires room { length into.old.octets
+        + length (body_octets (message_value message.now)) ≤ into.old.capacity }
     requires short { length (body_octets (message_value message.now)) ≤ 65535 }
     ensures { into.new ≡
-        record { octets = into.old.octets ++ body_octets (message_value message.now); capacity = into.old.capacity } }
+        record {
+          octets = into.old.octets ++ body_octets (message_value message.now);
+          capacity = into.old.capacity;
+        } }
 {
     match message {
         Message::EchoRequest | Message::VersionNotSupported | Message::NodeAliveResponse => {}
@@ -111,10 +119,14 @@ fn put_body(message: &Message<'_>, into: &mut Buffer)
 
 /// Appends the command of a request, and the element that it needs.
 fn put_transfer(body: &Transfer<'_>, into: &mut Buffer)
-    requires room { length into.old.octets + length (octets_of (transfer_elements (transfer_value body.now))) ≤ into.old.capacity }
+    requires room { length into.old.octets
+        + length (octets_of (transfer_elements (transfer_value body.now))) ≤ into.old.capacity }
     requires short { length (octets_of (transfer_elements (transfer_value body.now))) ≤ 65535 }
     ensures { into.new ≡
-        record { octets = into.old.octets ++ octets_of (transfer_elements (transfer_value body.now)); capacity = into.old.capacity } }
+        record {
+          octets = into.old.octets ++ octets_of (transfer_elements (transfer_value body.now));
+          capacity = into.old.capacity;
+        } }
 {
     put_element(kind::COMMAND, &[command(body)], into);
     put_element(command_element(body), transfer_octets(body), into);
@@ -156,11 +168,15 @@ fn transfer_octets<'a>(body: &Transfer<'a>) -> &'a [u8]
 
 /// Appends an element that may be left out, for which there is room.
 fn put_optional(kind: u8, value: Option<&[u8]>, into: &mut Buffer)
-    requires room { length into.old.octets + length (octets_of (optional_element kind (lent value))) ≤ into.old.capacity }
+    requires room { length into.old.octets
+        + length (octets_of (optional_element kind (lent value))) ≤ into.old.capacity }
     requires short { length (octets_of (optional_element kind (lent value))) ≤ 65535 }
     requires sized { 128 ≤ kind }
     ensures { into.new ≡
-        record { octets = into.old.octets ++ octets_of (optional_element kind (lent value.entry)); capacity = into.old.capacity } }
+        record {
+          octets = into.old.octets ++ octets_of (optional_element kind (lent value.entry));
+          capacity = into.old.capacity;
+        } }
 {
     if let Some(octets) = value {
         put_element(kind, octets, into);
