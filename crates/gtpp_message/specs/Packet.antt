@@ -74,6 +74,18 @@ abbrev pub count_of : PacketValue → ℕ
 count_of Empty = 0
 count_of (Full count format version value) = count
 
+-- the octets are a record behind its length in two octets, and what follows it
+pub record SpellsRecord (first rest octets : List ℕ) : Type 0 where
+  pub high : ℕ
+  pub low : ℕ
+  pub stated : length first ≡ two_octets high low
+  pub whole : octets ≡ high ∷ low ∷ (first ++ rest)
+
+-- the octets are these records, one after the other
+abbrev pub SpellRecords : List (List ℕ) → List ℕ → Type 0
+SpellRecords [] octets = octets ≡ []
+SpellRecords (first ∷ records) octets = (rest : List ℕ) × SpellsRecord first rest octets × SpellRecords records rest
+
 -- the value of a packet as it is sent: the empty one has no octets
 abbrev pub packet_octets : PacketValue → List ℕ
 packet_octets Empty = []

@@ -1,11 +1,19 @@
 //! Laws of the definitions that [`read`](crate::read) and [`write`](crate::write) cite, for every
 //! message.
 
-ghost use Rattle.std.specs.Prelude.{◌≡◌, ◌↔◌, ◌≤◌, ◌++◌, ℕ, List, length};
+ghost use Rattle.std.specs.Prelude.{◌≡◌, ◌↔◌, ◌≤◌, ◌++◌, ℕ, List, Some, length};
 ghost use Rattle.gtpp_message.specs.Message.{MessageValue};
+ghost use Rattle.gtpp_message.specs.Packet.{SpellRecords, records_at};
 ghost use Rattle.gtpp_message.specs.Reading as of;
 ghost use Rattle.gtpp_message.specs.Spelling.{Spells};
 ghost use Rattle.gtpp_message.specs.Writing.{IsSendableMessage, body_octets, written};
+
+/// The records of a packet are read exactly where the octets spell them, one after the other, and
+/// as many as are asked for.
+pub fn records_are_spelled()
+    ensures { (count : ℕ) (records : List (List ℕ)) (octets : List ℕ) →
+        (records_at count octets ≡ Some records) ↔ ((length records ≡ count) × SpellRecords records octets) }
+{}
 
 /// A message is read exactly where the octets spell it.
 pub fn what_is_read_is_spelled()
