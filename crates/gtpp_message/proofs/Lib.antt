@@ -1,0 +1,4 @@
+pub mod PacketLemmas
+pub mod RecordLemmas
+pub mod SpelledLemmas
+pub mod WrittenLemmas

@@ -1,0 +1,6 @@
+pub mod Message
+pub mod Packet
+pub mod Reading
+pub mod Spelling
+pub mod Values
+pub mod Writing

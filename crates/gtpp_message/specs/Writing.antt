@@ -1,0 +1,85 @@
+-- The one spelling in which a message is sent.
+use Rattle.std.specs.Prelude.{ℕ, IsTrue, List, [], ◌∷◌, ◌++◌, length, Option, Some, None}
+use Rattle.gtpp_header.specs.Header.{spelled}
+use Rattle.gtpp_elements.specs.Elements.{Element, octets_of}
+use Rattle.gtpp_elements.specs.Numbers.{number_octets}
+use Rattle.gtpp_message.specs.Message.{MessageValue, TransferValue, EchoRequest, EchoResponse, VersionNotSupported, NodeAliveRequest, NodeAliveResponse, RedirectionRequest, RedirectionResponse, TransferRequest, TransferResponse, Send, Possible, Cancel, Release}
+use Rattle.gtpp_message.specs.Packet.{IsPacket, packet_octets}
+use Rattle.gtpp_message.specs.Reading.{is_address}
+
+-- the type of a message
+abbrev pub kind_of : MessageValue → ℕ
+kind_of EchoRequest = 1
+kind_of (EchoResponse counter) = 2
+kind_of VersionNotSupported = 3
+kind_of (NodeAliveRequest address) = 4
+kind_of NodeAliveResponse = 5
+kind_of (RedirectionRequest cause to) = 6
+kind_of (RedirectionResponse cause) = 7
+kind_of (TransferRequest body) = 240
+kind_of (TransferResponse cause responded) = 241
+
+-- an element
+abbrev pub element : ℕ → List ℕ → Element
+element kind value = record { kind = kind; value = value }
+
+-- an element that may be left out
+abbrev pub optional_element : ℕ → Option (List ℕ) → List Element
+optional_element kind None = []
+optional_element kind (Some value) = element kind value ∷ []
+
+-- the Packet Transfer Command of a request, and the element that it needs
+abbrev pub command_of : TransferValue → ℕ
+command_of (Send packet) = 1
+command_of (Possible packet) = 2
+command_of (Cancel numbers) = 3
+command_of (Release numbers) = 4
+
+abbrev pub command_element : TransferValue → ℕ
+command_element (Send packet) = 252
+command_element (Possible packet) = 252
+command_element (Cancel numbers) = 250
+command_element (Release numbers) = 249
+
+-- the value of that element
+abbrev pub transfer_octets : TransferValue → List ℕ
+transfer_octets (Send packet) = packet_octets packet
+transfer_octets (Possible packet) = packet_octets packet
+transfer_octets (Cancel numbers) = number_octets numbers
+transfer_octets (Release numbers) = number_octets numbers
+
+abbrev pub transfer_elements : TransferValue → List Element
+transfer_elements body = element 126 (command_of body ∷ []) ∷ element (command_element body) (transfer_octets body) ∷ []
+
+-- the elements of a message as it is sent, in their order
+abbrev pub elements_of : MessageValue → List Element
+elements_of EchoRequest = []
+elements_of (EchoResponse counter) = element 14 (counter ∷ []) ∷ []
+elements_of VersionNotSupported = []
+elements_of (NodeAliveRequest address) = optional_element 251 address
+elements_of NodeAliveResponse = []
+elements_of (RedirectionRequest cause to) = element 1 (cause ∷ []) ∷ optional_element 254 to
+elements_of (RedirectionResponse cause) = element 1 (cause ∷ []) ∷ []
+elements_of (TransferRequest body) = transfer_elements body
+elements_of (TransferResponse cause responded) = element 1 (cause ∷ []) ∷ element 253 (number_octets responded) ∷ []
+
+-- what follows the header of a message as it is sent
+abbrev pub body_octets : MessageValue → List ℕ
+body_octets message = octets_of (elements_of message)
+
+-- a message as it is sent
+abbrev pub written : ℕ → MessageValue → List ℕ
+written number message = spelled (record { kind = kind_of message; length = length (body_octets message); number = number }) ++ body_octets message
+
+-- what a request asks may be sent: its packet's value says what the packet says
+abbrev pub IsSendableTransfer : TransferValue → Type 0
+IsSendableTransfer (Send packet) = IsPacket packet
+IsSendableTransfer (Possible packet) = IsPacket packet
+IsSendableTransfer (Cancel numbers) = Unit {0}
+IsSendableTransfer (Release numbers) = Unit {0}
+
+-- the message may be sent: an address is one, and a packet's value says what the packet says
+abbrev pub IsSendableMessage : MessageValue → Type 0
+IsSendableMessage (RedirectionRequest cause to) = IsTrue (is_address to)
+IsSendableMessage (TransferRequest body) = IsSendableTransfer body
+IsSendableMessage _ = Unit {0}

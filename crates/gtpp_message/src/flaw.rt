@@ -1,0 +1,29 @@
+ghost use Rattle.std.specs.Prelude.{◌≡◌};
+ghost use Rattle.gtpp_message.specs.Reading.{cause_of};
+
+use case_table::cases;
+
+/// What is wrong with the body of a message.
+#[derive(Clone, Copy, Debug, PartialEq, Eq)]
+pub enum Flaw {
+    /// It is no list of elements.
+    Elements,
+    /// An element that the message must have is missing.
+    Missing,
+    /// An element that the message must have has a wrong form.
+    Incorrect,
+}
+
+impl Flaw {
+    /// The cause that answers it (3GPP TS 32.295, clause 6.2.4.5.4).
+    pub fn cause(self) -> u8
+        ensures { result ≡ cause_of self }
+    {
+        // The flaws are those of `Flaw`, in its order.
+        let causes = cases![0 => 193, 0; 1 => 202, 0; 2 => 201, 0];
+        match causes.find(self as u32) {
+            Some(row) => row.value as u8,
+            None => unreachable!(),
+        }
+    }
+}

@@ -1,0 +1,36 @@
+//! Laws of the definitions that [`read`](crate::read) and [`write`](crate::write) cite, for every
+//! message.
+
+ghost use Rattle.std.specs.Prelude.{◌≡◌, ◌↔◌, ◌≤◌, ◌++◌, ℕ, List, Some, length};
+ghost use Rattle.gtpp_message.specs.Message.{MessageValue};
+ghost use Rattle.gtpp_message.specs.Packet.{SpellRecords, records_at};
+ghost use Rattle.gtpp_message.specs.Reading as of;
+ghost use Rattle.gtpp_message.specs.Spelling.{Spells};
+ghost use Rattle.gtpp_message.specs.Writing.{IsSendableMessage, body_octets, written};
+
+/// The records of a packet are read exactly where the octets spell them, one after the other, and
+/// as many as are asked for.
+pub fn records_are_spelled()
+    ensures { (count : ℕ) (records : List (List ℕ)) (octets : List ℕ) →
+        (records_at count octets ≡ Some records) ↔ ((length records ≡ count) × SpellRecords records octets) }
+{}
+
+/// A message is read exactly where the octets spell it.
+pub fn what_is_read_is_spelled()
+    ensures { (number : ℕ) (message : MessageValue) (octets : List ℕ) →
+        (of.reading octets ≡ of.Message number message) ↔ Spells message number octets }
+{
+    gtpp_header::laws::what_is_read_is_spelled();
+    gtpp_elements::laws::what_is_read_is_spelled();
+}
+
+/// What is written is read back as the same message, whatever octets follow.
+pub fn written_is_read_back()
+    ensures { (number : ℕ) (message : MessageValue) (rest : List ℕ) → IsSendableMessage message →
+        length (body_octets message) ≤ 65535 →
+        of.reading (written number message ++ rest) ≡ of.Message number message }
+{
+    gtpp_header::laws::written_is_read_back();
+    gtpp_elements::laws::what_is_put_is_read_back();
+    gtpp_elements::laws::numbers_are_read_back();
+}

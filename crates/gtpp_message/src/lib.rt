@@ -1,0 +1,21 @@
+//! The messages of GTP', the protocol that carries charging data records to a charging gateway
+//! (3GPP TS 32.295, clause 6.2). A message lends its octets from the datagram that it is read of.
+#![tactic(auto)]
+
+mod flaw;
+mod kind;
+pub mod laws;
+mod message;
+mod needed;
+mod packet;
+mod parse;
+mod reading;
+mod spell;
+#[cfg(test)]
+mod tests;
+
+pub use message::{Message, Transfer};
+pub use packet::Packet;
+pub use parse::read;
+pub use reading::{Reading, Why};
+pub use spell::write;

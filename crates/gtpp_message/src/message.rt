@@ -1,0 +1,52 @@
+use crate::packet::Packet;
+use gtpp_elements::Numbers;
+
+/// A message of GTP' (3GPP TS 32.295, clause 6.2).
+#[derive(Debug, Drop)]
+pub enum Message<'a> {
+    EchoRequest,
+    EchoResponse {
+        /// The restart counter.
+        counter: u8,
+    },
+    VersionNotSupported,
+    NodeAliveRequest {
+        /// The address of the node, where it is given. It may have any number of octets.
+        address: Option<&'a [u8]>,
+    },
+    NodeAliveResponse,
+    RedirectionRequest {
+        /// Why another node is to be used.
+        cause: u8,
+        /// The address of the recommended node, of 4 or 16 octets, where one is recommended.
+        to: Option<&'a [u8]>,
+    },
+    RedirectionResponse {
+        cause: u8,
+    },
+    /// Data Record Transfer Request.
+    TransferRequest {
+        /// What is asked.
+        body: Transfer<'a>,
+    },
+    /// Data Record Transfer Response.
+    TransferResponse {
+        cause: u8,
+        /// The sequence numbers of the requests that are answered.
+        responded: Numbers<'a>,
+    },
+}
+
+/// What a Data Record Transfer Request asks, by its Packet Transfer Command (3GPP TS 32.295,
+/// clause 6.2.4.5.2).
+#[derive(Debug, Drop)]
+pub enum Transfer<'a> {
+    /// Send Data Record Packet.
+    Send(Packet<'a>),
+    /// Send possibly duplicated Data Record Packet.
+    Possible(Packet<'a>),
+    /// Cancel Data Packet: the sequence numbers of the packets.
+    Cancel(Numbers<'a>),
+    /// Release Data Packet: the sequence numbers of the packets.
+    Release(Numbers<'a>),
+}
