@@ -1,0 +1,5 @@
+pub mod Adding
+pub mod Format
+pub mod Journal
+pub mod Moments
+pub mod State

@@ -1,0 +1,6 @@
+//! A journal of batches behind gates.
+#![tactic(auto)]
+
+mod journal;
+
+pub use journal::Journal;
