@@ -3,3 +3,4 @@ pub mod Format
 pub mod Journal
 pub mod Moments
 pub mod State
+pub mod Verdicts

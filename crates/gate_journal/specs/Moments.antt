@@ -20,3 +20,10 @@ RoseUpTo n before now = (k : ℕ) × (1 ≤ k) × (k ≤ n) × (now ≡ counted 
 pub record Calls {T E : Type 0} (n before now : ℕ) (result : Result T E) : Type 0 where
   pub ok : OnOk result (now ≡ counted n before)
   pub failed : OnErr result (RoseUpTo n before now)
+
+-- a call changed nothing that a read gives or that a crash may leave, and made no counted call
+pub record Kept {A : Type 0} (area : Ghosts A) (old new : A) : Type 0 where
+  pub size : area.size new ≡ area.size old
+  pub octets : area.octets new ≡ area.octets old
+  pub leaves : Leaves area old new (area.may_leave old)
+  pub calls : IsTrue area.tells_calls → area.calls new ≡ area.calls old

@@ -1,0 +1,56 @@
+-- How what a crash leaves goes on over the calls of an area.
+use Rattle.std.proofs.Common.{inl, inr, ⊎_elim, ◌≡◌, ℕ, ◌+◌, ◌≤◌, List, refl, subst, sym, arith}
+use Rattle.area_disk.specs.Disk.{Elapses, LeavesOnly, Only, Torn, Follows, Within}
+use Rattle.area_disk.specs.declared.area.Area.{Ghosts}
+use Rattle.area_disk.proofs.Moments.{started, goes_on}
+use Rattle.gate_journal.specs.Moments.{Leaves}
+
+module _ {A : Type 0} (area : Ghosts A) where
+  -- since this moment there is no other
+  abbrev pub OnlyNow : Type 0
+  OnlyNow = (a : A) (c : List ℕ) → area.told_from a ≤ area.moment a → area.left_since a (area.moment a) c → area.may_leave a c
+
+  pub begin : OnlyNow → (old : A) (P : List ℕ → Type 0) → ((c : List ℕ) → area.may_leave old c → P c) → Leaves area old old P
+  begin only_now old P here = record {
+    moments = started area.told_from area.moment area.left_since old P (λ c told left. here c (only_now old c told left));
+    now = here;
+  }
+
+  pub step : (old mid new : A) (P : List ℕ → Type 0) → Leaves area old mid P
+      → Elapses (area.told_from mid) (area.told_from new) (area.moment mid) (area.moment new) (area.left_since mid) (area.left_since new) (area.may_leave new)
+      → ((c : List ℕ) → area.may_leave new c → P c) → Leaves area old new P
+  step old mid new P so_far time here = record {
+    moments = goes_on area.told_from area.moment area.left_since old mid new P (area.may_leave new) so_far.moments time here;
+    now = here;
+  }
+
+  pub widen : (old new : A) (P Q : List ℕ → Type 0) → ((c : List ℕ) → P c → Q c) → Leaves area old new P → Leaves area old new Q
+  widen old new P Q wide leaves = record {
+    moments = record {
+      later = leaves.moments.later;
+      told_later = leaves.moments.told_later;
+      each = λ c told left. wide c (leaves.moments.each c told left);
+      before = λ t c told le left. ⊎_elim inl (λ has. inr (wide c has)) (leaves.moments.before t c told le left);
+    };
+    now = λ c left. wide c (leaves.now c left);
+  }
+
+  pub join : (old mid new : A) (P : List ℕ → Type 0) → Leaves area old mid P → Leaves area mid new P → Leaves area old new P
+  join old mid new P one two = record {
+    moments = record {
+      later = omega (arith, one.moments.later, two.moments.later);
+      told_later = omega (arith, one.moments.told_later, two.moments.told_later);
+      each = λ c told left. ⊎_elim (one.moments.each c (omega (arith, told, two.moments.told_later))) (λ has. has)
+          (two.moments.before (area.moment old) c told one.moments.later left);
+      before = λ t c told le left. ⊎_elim (one.moments.before t c (omega (arith, told, two.moments.told_later)) le) inr
+          (two.moments.before t c told (omega (arith, le, one.moments.later)) left);
+    };
+    now = two.now;
+  }
+
+  -- a write may leave any octets in its range, where a crash before it left these alone
+  pub torn_write : (old new : A) (at n : ℕ) → Only (area.octets old) (area.may_leave old) → Follows (Torn at n) (area.may_leave old) (area.may_leave new)
+      → (c : List ℕ) → area.may_leave new c → Torn at n (area.octets old) c
+  torn_write old new at n only follows c left =
+      let from = follows c left in
+      subst (λ (d : List ℕ). Torn at n d c) (only from.0 from.1) from.2
