@@ -1,7 +1,9 @@
 mod Adding
+mod Below
 mod Contents
 mod Counts
 mod Framing
 mod Fronts
+mod Seen
 mod Runs
 mod Spelling

@@ -1,9 +1,10 @@
 -- How what a crash leaves goes on over the calls of an area.
-use Rattle.std.proofs.Common.{inl, inr, ⊎_elim, ◌≡◌, ℕ, ◌+◌, ◌≤◌, List, refl, subst, sym, arith}
+use Rattle.std.proofs.Common.{inl, inr, ⊎_elim, ◌≡◌, ℕ, ◌+◌, ◌≤◌, List, refl, subst, sym, ◌∙◌, arith}
 use Rattle.area_disk.specs.Disk.{Elapses, LeavesOnly, Only, Torn, Follows, Within}
 use Rattle.area_disk.specs.declared.area.Area.{Ghosts}
 use Rattle.area_disk.proofs.Moments.{started, goes_on}
-use Rattle.gate_journal.specs.Moments.{Leaves}
+use Rattle.std.specs.Prelude.{IsTrue}
+use Rattle.gate_journal.specs.Moments.{Leaves, Kept}
 
 module _ {A : Type 0} (area : Ghosts A) where
   -- since this moment there is no other
@@ -54,3 +55,29 @@ module _ {A : Type 0} (area : Ghosts A) where
   torn_write old new at n only follows c left =
       let from = follows c left in
       subst (λ (d : List ℕ). Torn at n d c) (only from.0 from.1) from.2
+
+  -- calls that change nothing, one after the other
+  pub follow : (old mid new : A) (P : List ℕ → Type 0) → Leaves area old mid P → Leaves area mid new (area.may_leave mid) → Leaves area old new P
+  follow old mid new P one two = join old mid new P one (widen mid new (area.may_leave mid) P one.now two)
+
+  pub kept_refl : OnlyNow → (a : A) → Kept area a a
+  kept_refl only_now a = record { size = refl; octets = refl; leaves = begin only_now a (area.may_leave a) (λ c left. left); calls = λ told. refl }
+
+  pub kept_trans : (a b c : A) → Kept area a b → Kept area b c → Kept area a c
+  kept_trans a b c one two = record {
+    size = two.size ∙ one.size;
+    octets = two.octets ∙ one.octets;
+    leaves = follow a b c (area.may_leave a) one.leaves two.leaves;
+    calls = λ told. two.calls told ∙ one.calls told;
+  }
+
+  -- a read changes nothing
+  pub kept_read : OnlyNow → (old new : A) → area.size new ≡ area.size old → area.octets new ≡ area.octets old → Within (area.may_leave old) (area.may_leave new)
+      → Elapses (area.told_from old) (area.told_from new) (area.moment old) (area.moment new) (area.left_since old) (area.left_since new) (area.may_leave new)
+      → (IsTrue area.tells_calls → area.calls new ≡ area.calls old) → Kept area old new
+  kept_read only_now old new size octets within time calls = record {
+    size = size;
+    octets = octets;
+    leaves = step old old new (area.may_leave old) (begin only_now old (area.may_leave old) (λ c left. left)) time within;
+    calls = calls;
+  }

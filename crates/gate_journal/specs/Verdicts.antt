@@ -1,5 +1,6 @@
 -- What the steps of an opening answer.
 use Rattle.std.specs.Prelude.{◌≡◌, ◌≢◌, ℕ, ◌+◌, ◌<◌, ◌≤◌, Bool, true, false, List, length, take, drop, slice_index, All}
+use Rattle.byteorder.specs.Endian.{big_bytes}
 use Rattle.gate_journal.specs.Format.{open_gate, gate_at, length_at, spelled, IsSmall, IsUnfinished, Differs, IsWhole, longest_batch}
 use Rattle.gate_journal.specs.State.{batches_below}
 use Rattle.gate_journal.specs.declared.reading.Verdict.{Verdict}
@@ -19,7 +20,7 @@ IsVerdict header octets (Other at) = Differs header octets at
 -- what stands at a gate
 abbrev pub IsBehind : List ℕ → ℕ → Behind → Type 0
 IsBehind octets at Shut = gate_at octets at ≢ open_gate
-IsBehind octets at (Whole length) = (gate_at octets at ≡ open_gate) × (length ≡ length_at octets at)
+IsBehind octets at (Whole length) = (gate_at octets at ≡ open_gate) × (length ≡ length_at octets at) × (take 4 (drop (at + 1) octets) ≡ big_bytes 4 length)
 IsBehind octets at Cut = (gate_at octets at ≡ open_gate) × (IsWhole octets at → ⊥)
 
 -- the batch behind the gate at this place lies in an area of this size

@@ -1,6 +1,7 @@
 // What an opening reads: the header, and the batches up to the first closed gate.
-ghost use Rattle.std.specs.Prelude.{◌≡◌, ◌≢◌, ◌+◌, ◌<◌, ◌≤◌, ℕ, IsTrue, IfOk, OnOk, MatchOption, length, take, slice_index};
+ghost use Rattle.std.specs.Prelude.{◌≡◌, ◌≢◌, ◌+◌, ◌<◌, ◌≤◌, ℕ, IsTrue, IfOk, OnOk, MatchOption, false, length, take, drop, slice_index};
 ghost use Rattle.area_disk.specs.Disk.{Only, HasCause, counted};
+ghost use Rattle.byteorder.specs.Endian.{big_number, big_bytes};
 ghost use Rattle.gate_journal.specs.Moments.{Leaves, Kept};
 ghost use Rattle.gate_journal.specs.Verdicts.{IsVerdict, IsBehind, Fits, IsScanned, LiesIn};
 
@@ -50,7 +51,10 @@ fn first_difference(header: &[u8; 32], read: &[u8; 32]) -> Option<usize>
     None
 }
 
-fn rest_differs(header: &[u8; 32], read: &[u8; 32]) -> bool {
+fn rest_differs(header: &[u8; 32], read: &[u8; 32]) -> bool
+    ensures same { result ≡ false → drop 1 read.now ≡ drop 1 header.now }
+    ensures other { IsTrue result → drop 1 read.now ≢ drop 1 header.now }
+{
     header[1..] != read[1..]
 }
 
@@ -90,6 +94,13 @@ pub fn look<A: Area>(area: &mut A, header: &[u8; 32]) -> Result<Verdict, Failed>
     Ok(judge(header, &read))
 }
 
+fn number_of(field: &[u8; 4]) -> u32
+    ensures number { result ≡ big_number 4 field.now }
+    ensures spelled { big_bytes 4 result ≡ field.now }
+{
+    BigEndian::read_u32(field)
+}
+
 /// Reads a gate and the length behind it.
 pub fn read_gate<A: Area>(area: &mut A, at: u64) -> Result<Behind, Failed>
     requires inside { at < A.size area.old }
@@ -111,7 +122,7 @@ pub fn read_gate<A: Area>(area: &mut A, at: u64) -> Result<Behind, Failed>
     }
     let mut field = [0; 4];
     area.read_at(at + 1, &mut field)?;
-    let length = BigEndian::read_u32(&field);
+    let length = number_of(&field);
     if length as usize > LONGEST {
         return Ok(Behind::Cut);
     }
