@@ -7,3 +7,5 @@ mod Fronts
 mod Seen
 mod Runs
 mod Spelling
+mod States
+mod Turns

@@ -1,7 +1,8 @@
 -- What contracts see of a journal.
-use Rattle.std.specs.Prelude.{◌≡◌, ℕ, ◌-◌, Bool, true, false, ◌||◌, ◌&&◌, ◌==◌, List, take, drop}
+use Rattle.std.specs.Prelude.{◌≡◌, ◌⊎◌, ℕ, ◌+◌, ◌-◌, ◌≤◌, Bool, true, false, ◌||◌, ◌&&◌, ◌==◌, IsTrue, List, [], ◌∷◌, ◌++◌, length, take, drop}
 use Rattle.area_disk.specs.declared.area.Area.{Ghosts}
-use Rattle.gate_journal.specs.Format.{open_gate, header, gate_at}
+use Rattle.gate_journal.specs.Format.{open_gate, header, gate_at, end_of, free_beside}
+use Rattle.gate_journal.specs.Moments.{Told}
 use Rattle.gate_journal.specs.State.{batches_below, Keeps}
 use Rattle.gate_journal.specs.declared.journal.Front.{Front}
 use Rattle.gate_journal.specs.declared.journal.Front.TheVariants.{Founded, Draft, Founding}
@@ -31,14 +32,15 @@ end journal = journal.gate
 abbrev pub free_of : {A : Type 0} {tells : Ghosts A} → Journal A tells → ℕ
 free_of {tells = tells} journal = tells.size journal.area - 1 - journal.gate
 
-abbrev pub is_founding : Front → Bool
-is_founding Founded = false
-is_founding Draft = false
-is_founding Founding = true
+-- a journal takes no batch where one may stand behind its gate, or while it is being founded
+abbrev pub closed_by : Front → Bool → Bool
+closed_by Founded is_torn = is_torn
+closed_by Draft is_torn = is_torn
+closed_by Founding is_torn = true
 
 -- a call on it failed: it takes no batch until it is opened again
 abbrev pub is_closed : {A : Type 0} {tells : Ghosts A} → Journal A tells → Bool
-is_closed journal = journal.is_torn || is_founding journal.front
+is_closed journal = closed_by journal.front journal.is_torn
 
 -- the batch whose append failed last
 unfoldable pub torn : {A : Type 0} {tells : Ghosts A} → Journal A tells → List ℕ
@@ -47,3 +49,40 @@ torn journal = take journal.torn_length (drop 4 journal.buffer.items)
 -- the batch whose append failed stands, as a read tells: its gate is open
 unfoldable pub torn_stands : {A : Type 0} {tells : Ghosts A} → Journal A tells → Bool
 torn_stands {tells = tells} journal = journal.is_torn && (gate_at (tells.octets journal.area) journal.gate == open_gate)
+
+-- A crash leaves these batches, or these with this one behind them.
+abbrev pub KeepsOr : Front → List ℕ → List (List ℕ) → List ℕ → List ℕ → Type 0
+KeepsOr front header some batch octets = Keeps front header some octets ⊎ Keeps front header (some ++ batch ∷ []) octets
+
+-- What is written stands: what a read gives stands for the batches, and so does all that a crash may leave.
+pub record IsSettled {A : Type 0} {tells : Ghosts A} (journal : Journal A tells) : Type 0 where
+  pub reads : IsTrue tells.tells_octets → Keeps (front_of journal) (header_of journal) (batches journal) (tells.octets (area_of journal))
+  pub crash : Told tells → (c : List ℕ) → tells.may_leave (area_of journal) c → Keeps (front_of journal) (header_of journal) (batches journal) c
+  pub place : IsTrue tells.tells_octets → end journal ≡ end_of (batches journal)
+  pub free : IsTrue tells.tells_octets → free_of journal ≡ free_beside (tells.size (area_of journal)) (batches journal)
+
+-- the area's length and the header stay
+pub record IsSame {A : Type 0} {tells : Ghosts A} (old new : Journal A tells) : Type 0 where
+  pub size : tells.size (area_of new) ≡ tells.size (area_of old)
+  pub header : header_of new ≡ header_of old
+
+-- nothing that contracts see of the journal changed
+pub record IsUnchanged {A : Type 0} {tells : Ghosts A} (old new : Journal A tells) : Type 0 where
+  pub area : area_of new ≡ area_of old
+  pub header : header_of new ≡ header_of old
+  pub front : front_of new ≡ front_of old
+  pub batches : batches new ≡ batches old
+  pub end : end new ≡ end old
+  pub closed : is_closed new ≡ is_closed old
+  pub torn : torn new ≡ torn old
+
+-- This place is a gate: that behind some of the first batches, and in the area in any case.
+pub record IsGate {A : Type 0} {tells : Ghosts A} (journal : Journal A tells) (gate : ℕ) : Type 0 where
+  pub low : 32 ≤ gate
+  pub high : gate ≤ end journal
+  pub behind : IsTrue tells.tells_octets → (some : List (List ℕ)) × (more : List (List ℕ)) × (batches journal ≡ some ++ more) × (gate ≡ end_of some)
+
+-- These octets lie in the content of one batch, and in the area in any case.
+pub record IsInside {A : Type 0} {tells : Ghosts A} (journal : Journal A tells) (at n : ℕ) : Type 0 where
+  pub high : at + n ≤ end journal
+  pub content : IsTrue tells.tells_octets → (some : List (List ℕ)) × (batch : List ℕ) × (more : List (List ℕ)) × (batches journal ≡ some ++ batch ∷ more) × (end_of some + 5 ≤ at) × (at + n ≤ end_of some + 5 + length batch)

@@ -30,7 +30,7 @@ pub fn header_of(length: u64, address: u32, generation: u32) -> [u8; 32]
 }
 
 /// Writes the frame of a batch: its length, its content, and a closed gate behind it.
-pub fn spell(buffer: &mut [u8], batch: &[u8])
+fn spell(buffer: &mut [u8], batch: &[u8])
     requires room { length batch.now + 5 ≤ length buffer.old }
     requires short { length batch.now ≤ longest_batch }
     ensures framed { take (length batch.now + 5) buffer.new ≡ frame batch.now }
@@ -40,4 +40,15 @@ pub fn spell(buffer: &mut [u8], batch: &[u8])
     BigEndian::write_u32(buffer, batch.len() as u32);
     buffer[4..end].copy_from_slice(batch);
     buffer[end] = CLOSED;
+}
+
+/// Puts a batch and its frame together in a buffer.
+pub fn fill(buffer: &mut Vec<u8>, batch: &[u8])
+    requires room { length batch.now + 5 ≤ length buffer.old.items }
+    requires short { length batch.now ≤ longest_batch }
+    ensures size { length buffer.new.items ≡ length buffer.old.items }
+    ensures framed { take (length batch.now + 5) buffer.new.items ≡ frame batch.now }
+    ensures held { take (length batch.now) (drop 4 buffer.new.items) ≡ batch.now }
+{
+    spell(buffer.as_mut_slice(), batch);
 }

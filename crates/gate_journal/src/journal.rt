@@ -1,8 +1,14 @@
-// The journal.
-ghost use Rattle.std.specs.Prelude.{◌≡◌, ℕ, ◌≤◌};
+// A journal of batches on an area.
+ghost use Rattle.std.specs.Prelude.{◌≡◌, ◌↔◌, ◌⊎◌, ◌≢◌, ℕ, ◌+◌, ◌-◌, ◌<◌, ◌≤◌, IsTrue, IsNone, IfSome, false, true, List, [], ◌∷◌, ◌++◌, length, take, drop, OnOk, OnErr, IfOk, IfErr};
+ghost use Rattle.area_disk.specs.Disk.{HasCause, Rose, counted};
+ghost use Rattle.gate_journal.specs.Format.{longest_batch, end_of, header, Stands, Starts, IsForeign};
+ghost use Rattle.gate_journal.specs.Moments.{Told, Leaves, RoseUpTo, Calls};
 ghost use Rattle.gate_journal.specs.State.{IsSound};
 
-use area_disk::Area;
+use crate::device::{add, put};
+use crate::format::{FIRST, OPEN, fill};
+use crate::{AppendFault, Device};
+use area_disk::{Area, Failed};
 
 /// How far a journal's area is made.
 #[derive(Clone, Copy, Debug, PartialEq, Eq)]
@@ -15,11 +21,20 @@ pub enum Front {
     Founding,
 }
 
+/// A list of batches on an area, each behind a gate of its own, which survives a stop inside any call of the device.
+///
+/// A batch is a list of at most 1,048,576 octets. It is written behind a closed gate, and the gate is opened when it
+/// stands; so a crash leaves the whole batch or none of it.
+#[derive(Drop)]
 pub struct Journal<A: Area> {
     area: A,
+    /// Where a batch and its frame are put together. After a failed append it keeps the batch.
     buffer: Vec<u8>,
+    /// The place of the first closed gate.
     gate: u64,
+    /// The length of the batch in the buffer.
     torn_length: u64,
+    /// Whether that batch may stand behind the gate.
     is_torn: bool,
     front: Front,
     address: u32,
@@ -28,11 +43,83 @@ pub struct Journal<A: Area> {
 }
 
 impl<A: Area> Journal<A> {
-    ghost use Rattle.gate_journal.specs.Journal.{end};
+    ghost use Rattle.gate_journal.specs.Journal.{area_of, header_of, front_of, batches, end, free_of, is_closed, torn, torn_stands, KeepsOr, IsSettled, IsSame, IsUnchanged, IsGate, IsInside};
+    ghost use Rattle.gate_journal.specs.declared.journal.Front.TheVariants.{Founded, Draft, Founding};
 
+    /// Adds a batch. At `Ok` it stands: from then on every crash leaves it.
+    ///
+    /// It makes four calls of the device, and takes no memory.
+    pub fn append(&mut self, batch: &[u8]) -> Result<(), AppendFault>
+        requires short { length batch.now ≤ longest_batch }
+        requires ready { is_closed self.old ≡ false }
+
+        ensures ok { IsTrue A.tells_octets → OnOk result (batches self.new ≡ batches self.old ++ batch.now ∷ []) }
+        ensures err { Told A.Area → OnErr result (batches self.new ≡ batches self.old) }
+
+        // A crash at any moment of the call leaves the batches from before it, with the new one or without.
+        ensures any_moment { Told A.Area → Leaves A.Area (area_of self.old) (area_of self.new) (KeepsOr (front_of self.old) (header_of self.old) (batches self.old) batch.now) }
+        ensures settled { OnOk result (IsSettled self.new) }
+
+        ensures full { (free : ℕ) → (result ≡ Err (AppendFault.Full free)) ↔ ((free ≡ free_of self.old) × (free < length batch.now + 5)) }
+        ensures unchanged { (free : ℕ) → result ≡ Err (AppendFault.Full free) → IsUnchanged self.old self.new }
+        ensures device { result ≡ Err AppendFault.Device → Rose (A.faults (area_of self.old)) (A.faults (area_of self.new)) }
+        ensures no_fault { OnOk result (A.faults (area_of self.new) ≡ A.faults (area_of self.old)) }
+        ensures faults { A.faults (area_of self.old) ≤ A.faults (area_of self.new) }
+
+        // After a fault of the device it is closed, and keeps the batch that may stand.
+        ensures closed { IsTrue (is_closed self.new) ↔ (result ≡ Err AppendFault.Device) }
+        ensures torn { result ≡ Err AppendFault.Device → torn self.new ≡ batch.now }
+
+        ensures same { IsSame self.old self.new }
+        ensures front { front_of self.new ≡ front_of self.old }
+        ensures end { OnOk result (end self.new ≡ end self.old + 5 + length batch.now) }
+        ensures end_err { OnErr result (end self.new ≡ end self.old) }
+
+        ensures calls { IsTrue A.tells_calls → OnOk result (A.calls (area_of self.new) ≡ counted 4 (A.calls (area_of self.old))) }
+        ensures calls_device { IsTrue A.tells_calls → result ≡ Err AppendFault.Device → RoseUpTo 4 (A.calls (area_of self.old)) (A.calls (area_of self.new)) }
+    {
+        let free = self.area.length() - 1 - self.gate;
+        let length = batch.len() as u64;
+        if free < length + 5 {
+            return Err(AppendFault::Full { free });
+        }
+        fill(&mut self.buffer, batch);
+        self.torn_length = length;
+        match add(&mut self.area, self.gate, &self.buffer[..batch.len() + 5]) {
+            Ok(()) => {
+                self.gate = self.gate + 5 + length;
+                Ok(())
+            }
+            Err(Failed) => {
+                self.is_torn = true;
+                Err(AppendFault::Device)
+            }
+        }
+    }
+
+    /// The place of the first closed gate, where the next batch goes.
     pub fn end(&self) -> u64
         ensures { result ≡ end self.now }
     {
         self.gate
+    }
+
+    /// Whether a call failed after which it takes no batch until it is opened again.
+    pub fn is_closed(&self) -> bool
+        ensures closed { result ≡ is_closed self.now }
+        ensures settled { result ≡ false → IsSettled self.now }
+    {
+        match self.front {
+            Front::Founded | Front::Draft => self.is_torn,
+            Front::Founding => true,
+        }
+    }
+
+    /// Hands the area back as it is.
+    pub fn into_area(self) -> A
+        ensures { result ≡ area_of self }
+    {
+        let Journal { area, buffer: _, gate: _, torn_length: _, is_torn: _, front: _, address: _, generation: _ } = self;
+        area
     }
 }

@@ -2,8 +2,10 @@
 #![tactic(auto)]
 
 mod device;
+mod faults;
 mod format;
 mod journal;
 mod reading;
 
+pub use faults::{AppendFault, Device, OpenFault};
 pub use journal::{Front, Journal};
