@@ -1,9 +1,9 @@
 -- What contracts see of a journal.
-use Rattle.std.specs.Prelude.{◌≡◌, ◌⊎◌, ℕ, ◌+◌, ◌-◌, ◌≤◌, Bool, true, false, ◌||◌, ◌&&◌, ◌==◌, IsTrue, List, [], ◌∷◌, ◌++◌, length, take, drop}
+use Rattle.std.specs.Prelude.{◌≡◌, ◌⊎◌, ℕ, ◌+◌, ◌-◌, ◌≤◌, Bool, true, false, ◌||◌, ◌&&◌, ◌==◌, IsTrue, if◌then◌else◌, slice_index, List, [], ◌∷◌, ◌++◌, length, take, drop}
 use Rattle.area_disk.specs.declared.area.Area.{Ghosts}
 use Rattle.gate_journal.specs.Format.{open_gate, header, gate_at, end_of, free_beside}
 use Rattle.gate_journal.specs.Moments.{Told}
-use Rattle.gate_journal.specs.State.{batches_below, Keeps}
+use Rattle.gate_journal.specs.State.{batches_below, Keeps, front_after}
 use Rattle.gate_journal.specs.declared.journal.Front.{Front}
 use Rattle.gate_journal.specs.declared.journal.Front.TheVariants.{Founded, Draft, Founding}
 use Rattle.gate_journal.specs.declared.journal.Journal.{Journal}
@@ -50,16 +50,24 @@ torn journal = take journal.torn_length (drop 4 journal.buffer.items)
 unfoldable pub torn_stands : {A : Type 0} {tells : Ghosts A} → Journal A tells → Bool
 torn_stands {tells = tells} journal = journal.is_torn && (gate_at (tells.octets journal.area) journal.gate == open_gate)
 
+-- the list after it is opened again: with the batch whose append failed where that stands
+abbrev pub reopened : {A : Type 0} {tells : Ghosts A} → Journal A tells → List (List ℕ)
+reopened journal = if torn_stands journal then batches journal ++ torn journal ∷ [] else batches journal
+
+-- how far the area is made after it is opened again, as octet 0 tells
+abbrev pub reopened_front : {A : Type 0} {tells : Ghosts A} → Journal A tells → Front
+reopened_front {tells = tells} journal = front_after journal.front (slice_index (tells.octets journal.area) 0)
+
 -- A crash leaves these batches, or these with this one behind them.
 abbrev pub KeepsOr : Front → List ℕ → List (List ℕ) → List ℕ → List ℕ → Type 0
 KeepsOr front header some batch octets = Keeps front header some octets ⊎ Keeps front header (some ++ batch ∷ []) octets
 
 -- What is written stands: what a read gives stands for the batches, and so does all that a crash may leave.
 pub record IsSettled {A : Type 0} {tells : Ghosts A} (journal : Journal A tells) : Type 0 where
-  pub reads : IsTrue tells.tells_octets → Keeps (front_of journal) (header_of journal) (batches journal) (tells.octets (area_of journal))
+  pub reads : Told tells → Keeps (front_of journal) (header_of journal) (batches journal) (tells.octets (area_of journal))
   pub crash : Told tells → (c : List ℕ) → tells.may_leave (area_of journal) c → Keeps (front_of journal) (header_of journal) (batches journal) c
-  pub place : IsTrue tells.tells_octets → end journal ≡ end_of (batches journal)
-  pub free : IsTrue tells.tells_octets → free_of journal ≡ free_beside (tells.size (area_of journal)) (batches journal)
+  pub place : Told tells → end journal ≡ end_of (batches journal)
+  pub free : Told tells → free_of journal ≡ free_beside (tells.size (area_of journal)) (batches journal)
 
 -- the area's length and the header stay
 pub record IsSame {A : Type 0} {tells : Ghosts A} (old new : Journal A tells) : Type 0 where
@@ -80,9 +88,9 @@ pub record IsUnchanged {A : Type 0} {tells : Ghosts A} (old new : Journal A tell
 pub record IsGate {A : Type 0} {tells : Ghosts A} (journal : Journal A tells) (gate : ℕ) : Type 0 where
   pub low : 32 ≤ gate
   pub high : gate ≤ end journal
-  pub behind : IsTrue tells.tells_octets → (some : List (List ℕ)) × (more : List (List ℕ)) × (batches journal ≡ some ++ more) × (gate ≡ end_of some)
+  pub behind : Told tells → (some : List (List ℕ)) × (more : List (List ℕ)) × (batches journal ≡ some ++ more) × (gate ≡ end_of some)
 
 -- These octets lie in the content of one batch, and in the area in any case.
 pub record IsInside {A : Type 0} {tells : Ghosts A} (journal : Journal A tells) (at n : ℕ) : Type 0 where
   pub high : at + n ≤ end journal
-  pub content : IsTrue tells.tells_octets → (some : List (List ℕ)) × (batch : List ℕ) × (more : List (List ℕ)) × (batches journal ≡ some ++ batch ∷ more) × (end_of some + 5 ≤ at) × (at + n ≤ end_of some + 5 + length batch)
+  pub content : Told tells → (some : List (List ℕ)) × (batch : List ℕ) × (more : List (List ℕ)) × (batches journal ≡ some ++ batch ∷ more) × (end_of some + 5 ≤ at) × (at + n ≤ end_of some + 5 + length batch)

@@ -1,9 +1,10 @@
 -- What is true of a journal and of what a crash leaves of it.
-use Rattle.std.specs.Prelude.{◌≡◌, ◌≢◌, ◌⊎◌, ℕ, zero, suc, ◌+◌, ◌≤◌, min, Bool, true, false, IsTrue, List, [], ◌∷◌, ◌++◌, length, take, drop, slice_index, All}
+use Rattle.std.specs.Prelude.{◌≡◌, ◌≢◌, ◌⊎◌, ℕ, zero, suc, ◌+◌, ◌≤◌, min, Bool, true, false, ◌==◌, if◌then◌else◌, IsTrue, List, [], ◌∷◌, ◌++◌, length, take, drop, slice_index, All}
 use Rattle.area_disk.specs.Disk.{Only}
 use Rattle.area_disk.specs.declared.area.Area.{Ghosts}
 use Rattle.byteorder.specs.Endian.{big_number}
 use Rattle.gate_journal.specs.Format.{open_gate, header, frame, spelled, longest_batch, gate_at, IsSmall, Stands, Starts}
+use Rattle.gate_journal.specs.Moments.{Told}
 use Rattle.gate_journal.specs.declared.journal.Front.{Front}
 use Rattle.gate_journal.specs.declared.journal.Front.TheVariants.{Founded, Draft, Founding}
 
@@ -24,6 +25,17 @@ abbrev pub Keeps : Front → List ℕ → List (List ℕ) → List ℕ → Type 
 Keeps Founded header batches octets = Stands header octets batches
 Keeps Draft header batches octets = Starts header octets
 Keeps Founding header batches octets = Stands header octets batches ⊎ Starts header octets
+
+-- where the first closed gate stands after a journal is opened again, as the octet at its gate tells
+abbrev pub gate_after : Bool → ℕ → ℕ → ℕ → ℕ
+gate_after true gate length octet = if octet == open_gate then gate + 5 + length else gate
+gate_after false gate length octet = gate
+
+-- how far its area is made then, as octet 0 tells
+abbrev pub front_after : Front → ℕ → Front
+front_after Founded first = Founded
+front_after Draft first = Draft
+front_after Founding first = if first == 67 then Founded else Draft
 
 -- These octets are those of a journal with these batches and a gate behind them: closed, or one with this batch
 -- behind it where it is open.
@@ -50,9 +62,7 @@ pub record IsSound {A : Type 0} (tells : Ghosts A) (area : A) (buffer : List ℕ
   pub torn_held : torn_length + 5 ≤ length buffer
   pub torn_fits : is_torn ≡ true → gate + torn_length + 6 ≤ tells.size area
   pub founding_whole : front ≡ Founding → is_torn ≡ false
-  pub small : IsTrue tells.tells_octets → IsReady front is_torn ⊎ IsTrue tells.tells_crash → All IsSmall (batches_below gate (tells.octets area))
-  pub ready : IsTrue tells.tells_octets → IsReady front is_torn →
-      Content (header (tells.size area) address generation) front is_torn (batches_below gate (tells.octets area)) (take torn_length (drop 4 buffer)) gate (tells.octets area)
-  pub crash : IsTrue tells.tells_octets → IsTrue tells.tells_crash → (c : List ℕ) → tells.may_leave area c →
+  pub small : Told tells → All IsSmall (batches_below gate (tells.octets area))
+  pub content : Told tells → (c : List ℕ) → tells.may_leave area c →
       Content (header (tells.size area) address generation) front is_torn (batches_below gate (tells.octets area)) (take torn_length (drop 4 buffer)) gate c
-  pub durable : IsTrue tells.tells_octets → IsTrue tells.tells_crash → IsReady front is_torn → Only (tells.octets area) (tells.may_leave area)
+  pub durable : Told tells → IsReady front is_torn → Only (tells.octets area) (tells.may_leave area)

@@ -3,9 +3,10 @@ ghost use Rattle.std.specs.Prelude.{◌≡◌, ◌↔◌, ◌⊎◌, ◌≢◌, 
 ghost use Rattle.area_disk.specs.Disk.{HasCause, Rose, counted};
 ghost use Rattle.gate_journal.specs.Format.{longest_batch, end_of, header, Stands, Starts, IsForeign};
 ghost use Rattle.gate_journal.specs.Moments.{Told, Leaves, RoseUpTo, Calls};
-ghost use Rattle.gate_journal.specs.State.{IsSound};
+ghost use Rattle.gate_journal.specs.State.{IsSound, gate_after, front_after};
 
 use crate::device::{add, put};
+use crate::reading::see;
 use crate::format::{FIRST, OPEN, fill};
 use crate::{AppendFault, Device};
 use area_disk::{Area, Failed};
@@ -43,7 +44,7 @@ pub struct Journal<A: Area> {
 }
 
 impl<A: Area> Journal<A> {
-    ghost use Rattle.gate_journal.specs.Journal.{area_of, header_of, front_of, batches, end, free_of, is_closed, torn, torn_stands, KeepsOr, IsSettled, IsSame, IsUnchanged, IsGate, IsInside};
+    ghost use Rattle.gate_journal.specs.Journal.{area_of, header_of, front_of, batches, end, free_of, is_closed, torn, torn_stands, reopened, reopened_front, KeepsOr, IsSettled, IsSame, IsUnchanged, IsGate, IsInside};
     ghost use Rattle.gate_journal.specs.declared.journal.Front.TheVariants.{Founded, Draft, Founding};
 
     /// Adds a batch. At `Ok` it stands: from then on every crash leaves it.
@@ -53,7 +54,7 @@ impl<A: Area> Journal<A> {
         requires short { length batch.now ≤ longest_batch }
         requires ready { is_closed self.old ≡ false }
 
-        ensures ok { IsTrue A.tells_octets → OnOk result (batches self.new ≡ batches self.old ++ batch.now ∷ []) }
+        ensures ok { Told A.Area → OnOk result (batches self.new ≡ batches self.old ++ batch.now ∷ []) }
         ensures err { Told A.Area → OnErr result (batches self.new ≡ batches self.old) }
 
         // A crash at any moment of the call leaves the batches from before it, with the new one or without.
@@ -97,6 +98,42 @@ impl<A: Area> Journal<A> {
         }
     }
 
+    /// Opens the journal again after a fault of the device: it makes one sync, then reads, and writes nothing. At `Ok`
+    /// it isn't closed any more, and a batch whose append failed stands exactly where its gate is open. At `Device` it
+    /// is as before.
+    ///
+    /// It takes no memory.
+    pub fn reopen(&mut self) -> Result<(), Device>
+        ensures ok { Told A.Area → OnOk result (batches self.new ≡ reopened self.old) }
+        ensures err { Told A.Area → OnErr result (batches self.new ≡ batches self.old) }
+
+        // A crash at any moment of the call leaves what it could leave before.
+        ensures any_moment { Leaves A.Area (area_of self.old) (area_of self.new) (A.may_leave (area_of self.old)) }
+        ensures stands { Told A.Area → (c : List ℕ) → A.may_leave (area_of self.old) c → KeepsOr (front_of self.old) (header_of self.old) (batches self.old) (torn self.old) c }
+        ensures settled { OnOk result (IsSettled self.new) }
+
+        ensures opened { OnOk result (is_closed self.new ≡ false) }
+        ensures closed { OnErr result (is_closed self.new ≡ is_closed self.old) }
+        ensures torn { OnErr result (torn self.new ≡ torn self.old) }
+        ensures front { Told A.Area → OnOk result (front_of self.new ≡ reopened_front self.old) }
+        ensures front_err { OnErr result (front_of self.new ≡ front_of self.old) }
+        ensures founded { front_of self.old ≡ Founded → front_of self.new ≡ Founded }
+
+        ensures same { IsSame self.old self.new }
+        ensures calls { IsTrue A.tells_calls → A.calls (area_of self.new) ≡ counted 1 (A.calls (area_of self.old)) }
+        ensures cause { HasCause (A.faults (area_of self.old)) (A.faults (area_of self.new)) result }
+    {
+        match see(&mut self.area, self.gate) {
+            Ok(ends) => {
+                self.gate = next_gate(self.is_torn, self.gate, self.torn_length, ends.gate);
+                self.front = next_front(self.front, ends.first);
+                self.is_torn = false;
+                Ok(())
+            }
+            Err(Failed) => Err(Device),
+        }
+    }
+
     /// The place of the first closed gate, where the next batch goes.
     pub fn end(&self) -> u64
         ensures { result ≡ end self.now }
@@ -121,5 +158,34 @@ impl<A: Area> Journal<A> {
     {
         let Journal { area, buffer: _, gate: _, torn_length: _, is_torn: _, front: _, address: _, generation: _ } = self;
         area
+    }
+}
+
+// The gate behind a batch that may stand, or before it.
+fn next_gate(is_torn: bool, gate: u64, length: u64, octet: u8) -> u64
+    requires fits { is_torn ≡ true → gate + length + 6 ≤ 268435456 }
+    ensures { result ≡ gate_after is_torn gate length octet }
+{
+    if is_torn {
+        if octet == OPEN {
+            return gate + 5 + length;
+        }
+    }
+    gate
+}
+
+fn next_front(front: Front, first: u8) -> Front
+    ensures { result ≡ front_after front first }
+{
+    match front {
+        Front::Founded => Front::Founded,
+        Front::Draft => Front::Draft,
+        Front::Founding => {
+            if first == FIRST {
+                Front::Founded
+            } else {
+                Front::Draft
+            }
+        }
     }
 }

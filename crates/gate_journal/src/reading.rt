@@ -2,6 +2,7 @@
 ghost use Rattle.std.specs.Prelude.{◌≡◌, ◌≢◌, ◌+◌, ◌<◌, ◌≤◌, ℕ, IsTrue, IfOk, OnOk, MatchOption, false, length, take, drop, slice_index};
 ghost use Rattle.area_disk.specs.Disk.{Only, HasCause, counted};
 ghost use Rattle.byteorder.specs.Endian.{big_number, big_bytes};
+ghost use Rattle.gate_journal.specs.Format.{gate_at};
 ghost use Rattle.gate_journal.specs.Moments.{Leaves, Kept};
 ghost use Rattle.gate_journal.specs.Verdicts.{IsVerdict, IsBehind, Fits, IsScanned, LiesIn};
 
@@ -150,4 +151,32 @@ pub fn scan<A: Area>(area: &mut A) -> Result<Scanned, Failed>
             Behind::Whole { length } => at += 5 + u64::from(length),
         }
     }
+}
+
+/// Octet 0 and the octet of a gate.
+#[derive(Clone, Copy)]
+pub struct Ends {
+    pub first: u8,
+    pub gate: u8,
+}
+
+/// Waits until what was written stands, and reads octet 0 and a gate.
+pub fn see<A: Area>(area: &mut A, gate: u64) -> Result<Ends, Failed>
+    requires { gate < A.size area.old }
+
+    ensures size { A.size area.new ≡ A.size area.old }
+    ensures octets { IsTrue A.tells_octets → OnOk result (A.octets area.new ≡ A.octets area.old) }
+    ensures seen { IsTrue A.tells_octets → IfOk result (λ e. (e.first ≡ slice_index (A.octets area.old) 0) × (e.gate ≡ gate_at (A.octets area.old) gate)) }
+    ensures durable { IsTrue A.tells_crash → OnOk result (Only (A.octets area.new) (A.may_leave area.new)) }
+    ensures any_moment { Leaves A.Area area.old area.new (A.may_leave area.old) }
+
+    ensures calls { IsTrue A.tells_calls → A.calls area.new ≡ counted 1 (A.calls area.old) }
+    ensures cause { HasCause (A.faults area.old) (A.faults area.new) result }
+{
+    area.sync()?;
+    let mut first = [0; 1];
+    area.read_at(0, &mut first)?;
+    let mut octet = [0; 1];
+    area.read_at(gate, &mut octet)?;
+    Ok(Ends { first: first[0], gate: octet[0] })
 }

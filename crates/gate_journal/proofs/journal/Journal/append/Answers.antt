@@ -39,7 +39,7 @@ invariant_of-self-in-Err g c =
     let is : framed ≡ frame c.args.batch.now = ap (λ (l : List ℕ). take (length c.args.batch.now + 5) l) c.deref.ensures.value ∙ c.fill.ensures.framed in
     let fits : length c.args.batch.now + 5 ≤ g.A.Area.size j.area - 1 - j.gate = omega (arith, c.length.ensures) in
     let left = λ (told : Told g.A.Area).
-    c.add.ensures.any_moment told (λ opened. (content_of g.A.Area laws.holds laws.whole laws.same_size j.area j.buffer.items j.gate j.torn_length j.is_torn j.front j.address j.generation j.sound ready told.0).shut refl opened) (j.sound.durable told.0 told.1 ready) in
+    c.add.ensures.any_moment told (λ opened. (content_of g.A.Area laws.holds laws.whole laws.same_size j.area j.buffer.items j.gate j.torn_length j.is_torn j.front j.address j.generation j.sound ready told).shut refl opened) (j.sound.durable told ready) in
     record { sound = sound_err g.A.Area laws.holds laws.whole laws.same_size j.area j.buffer.items j.gate j.torn_length j.is_torn j.front j.address j.generation j.sound ready c.add.new.area c.fill.new.buffer.items c.args.batch.now framed c.requires.short is c.fill.ensures.held c.fill.ensures.size fits c.add.ensures.size (λ told. (left told).now) }
 
 pub returns-in-Ok-clause-ok : goal.returns-in-Ok-clause-ok
@@ -63,7 +63,7 @@ returns-in-Ok-clause-any_moment g c = λ told.
     let is : framed ≡ frame c.args.batch.now = ap (λ (l : List ℕ). take (length c.args.batch.now + 5) l) c.deref.ensures.value ∙ c.fill.ensures.framed in
     let fits : length c.args.batch.now + 5 ≤ g.A.Area.size j.area - 1 - j.gate = omega (arith, c.length.ensures) in
     let left = λ (told : Told g.A.Area).
-    c.add.ensures.any_moment told (λ opened. (content_of g.A.Area laws.holds laws.whole laws.same_size j.area j.buffer.items j.gate j.torn_length j.is_torn j.front j.address j.generation j.sound ready told.0).shut refl opened) (j.sound.durable told.0 told.1 ready) in
+    c.add.ensures.any_moment told (λ opened. (content_of g.A.Area laws.holds laws.whole laws.same_size j.area j.buffer.items j.gate j.torn_length j.is_torn j.front j.address j.generation j.sound ready told).shut refl opened) (j.sound.durable told ready) in
     moments g.A.Area laws.holds laws.whole laws.same_size j.area j.buffer.items j.gate j.torn_length j.is_torn j.front j.address j.generation j.sound ready c.add.new.area c.fill.new.buffer.items c.args.batch.now framed c.requires.short is c.fill.ensures.held c.fill.ensures.size fits c.add.ensures.size told (left told)
 
 pub returns-in-Ok-clause-settled : goal.returns-in-Ok-clause-settled
@@ -81,7 +81,7 @@ returns-in-Err-clause-err g c = λ told.
     let is : framed ≡ frame c.args.batch.now = ap (λ (l : List ℕ). take (length c.args.batch.now + 5) l) c.deref.ensures.value ∙ c.fill.ensures.framed in
     let fits : length c.args.batch.now + 5 ≤ g.A.Area.size j.area - 1 - j.gate = omega (arith, c.length.ensures) in
     let left = λ (told : Told g.A.Area).
-    c.add.ensures.any_moment told (λ opened. (content_of g.A.Area laws.holds laws.whole laws.same_size j.area j.buffer.items j.gate j.torn_length j.is_torn j.front j.address j.generation j.sound ready told.0).shut refl opened) (j.sound.durable told.0 told.1 ready) in
+    c.add.ensures.any_moment told (λ opened. (content_of g.A.Area laws.holds laws.whole laws.same_size j.area j.buffer.items j.gate j.torn_length j.is_torn j.front j.address j.generation j.sound ready told).shut refl opened) (j.sound.durable told ready) in
     batches_stay g.A.Area laws.holds laws.whole laws.same_size j.area j.buffer.items j.gate j.torn_length j.is_torn j.front j.address j.generation j.sound ready c.add.new.area c.fill.new.buffer.items c.args.batch.now framed c.requires.short is c.fill.ensures.held c.fill.ensures.size fits c.add.ensures.size (λ told. (left told).now) told
 
 pub returns-in-Err-clause-any_moment : goal.returns-in-Err-clause-any_moment
@@ -94,7 +94,7 @@ returns-in-Err-clause-any_moment g c = λ told.
     let is : framed ≡ frame c.args.batch.now = ap (λ (l : List ℕ). take (length c.args.batch.now + 5) l) c.deref.ensures.value ∙ c.fill.ensures.framed in
     let fits : length c.args.batch.now + 5 ≤ g.A.Area.size j.area - 1 - j.gate = omega (arith, c.length.ensures) in
     let left = λ (told : Told g.A.Area).
-    c.add.ensures.any_moment told (λ opened. (content_of g.A.Area laws.holds laws.whole laws.same_size j.area j.buffer.items j.gate j.torn_length j.is_torn j.front j.address j.generation j.sound ready told.0).shut refl opened) (j.sound.durable told.0 told.1 ready) in
+    c.add.ensures.any_moment told (λ opened. (content_of g.A.Area laws.holds laws.whole laws.same_size j.area j.buffer.items j.gate j.torn_length j.is_torn j.front j.address j.generation j.sound ready told).shut refl opened) (j.sound.durable told ready) in
     moments g.A.Area laws.holds laws.whole laws.same_size j.area j.buffer.items j.gate j.torn_length j.is_torn j.front j.address j.generation j.sound ready c.add.new.area c.fill.new.buffer.items c.args.batch.now framed c.requires.short is c.fill.ensures.held c.fill.ensures.size fits c.add.ensures.size told (left told)
 
 pub returns-in-Err-clause-torn : goal.returns-in-Err-clause-torn
