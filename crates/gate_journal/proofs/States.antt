@@ -1,22 +1,22 @@
 -- What is true of a journal, and how an append keeps it.
 use Rattle.std.proofs.Common.{◌≡◌, ◌≢◌, ◌⊎◌, inl, inr, ⊎_elim, ℕ, ◌+◌, ◌-◌, ◌<◌, ◌≤◌, min, Bool, true, false, List, [], ◌∷◌, ◌++◌, length, get_or, take, drop, refl, sym, ◌∙◌, ap, subst, arith}
-use Rattle.std.specs.Prelude.{All, IsTrue}
+use Rattle.std.specs.Prelude.{All, IsTrue, ◌&&◌, ◌==◌, if◌then◌else◌}
 use Rattle.std.proofs.lemmas.List.{length-take-le, length-drop}
 use Rattle.std.proofs.lemmas.List.Elements.{All-push}
-use Rattle.area_disk.specs.Disk.{Only}
+use Rattle.area_disk.specs.Disk.{Only, Within}
 use Rattle.area_disk.specs.declared.area.Area.{Ghosts}
 use Rattle.gate_journal.specs.Adding.{added, IsAdding}
 use Rattle.gate_journal.specs.Format.{open_gate, frame, header, longest_batch, gate_at, IsSmall, end_of}
 use Rattle.gate_journal.specs.Moments.{Told, Leaves}
-use Rattle.gate_journal.specs.State.{batches_below, Content, IsReady, IsSound, Keeps}
-use Rattle.gate_journal.specs.Journal.{closed_by, is_closed, batches, KeepsOr, IsSettled}
+use Rattle.gate_journal.specs.State.{batches_below, Content, IsReady, IsSound, Keeps, gate_after, front_after}
+use Rattle.gate_journal.specs.Journal.{closed_by, is_closed, batches, torn, front_of, header_of, KeepsOr, IsSettled}
 use Rattle.gate_journal.specs.declared.journal.Journal.{Journal}
 use Rattle.gate_journal.specs.declared.journal.Front.{Front}
 use Rattle.gate_journal.specs.declared.journal.Front.TheVariants.{Founded, Draft, Founding}
 use Rattle.gate_journal.proofs.Contents.{listed_below, place_is}
 use Rattle.gate_journal.proofs.Runs.{widen}
-use Rattle.gate_journal.proofs.Spelling.{length-header, length-frame}
-use Rattle.gate_journal.proofs.Turns.{other_bool, is_adding, added_open, adding, left_out, taken_in, content_keeps, content_keeps_or, moved, any_batch}
+use Rattle.gate_journal.proofs.Spelling.{length-header, first-header, length-frame}
+use Rattle.gate_journal.proofs.Turns.{other_bool, is_adding, added_open, adding, left_out, taken_in, content_keeps, content_keeps_or, content_keeps_any, moved, any_batch, after_gate, after_first}
 
 -- a journal that isn't closed may be added to
 pub ready_of : (front : Front) (is_torn : Bool) → closed_by front is_torn ≡ false → IsReady front is_torn
@@ -38,6 +38,15 @@ pub closed_as_torn : (front : Front) (is_torn : Bool) → (front ≡ Founded) �
 closed_as_torn Founded is_torn is = refl
 closed_as_torn Draft is_torn is = refl
 closed_as_torn Founding is_torn is = absurd (⊎_elim (λ e. let f : ⊥ = cc in f) (λ e. let f : ⊥ = cc in f) is)
+
+pub open_after : (front : Front) (first : ℕ) → closed_by (front_after front first) false ≡ false
+open_after Founded first = refl
+open_after Draft first = refl
+open_after Founding first = either (first == 67)
+  where
+    either : (b : Bool) → closed_by (if b then Founded else Draft) false ≡ false
+    either true = refl
+    either false = refl
 
 module _ {A : Type 0} (g : Ghosts A) (holds : (a : A) → g.may_leave a (g.octets a)) (whole : (a : A) → IsTrue g.tells_octets → length (g.octets a) ≡ g.size a)
     (same_size : (a : A) (c : List ℕ) → IsTrue g.tells_crash → g.may_leave a c → length c ≡ g.size a) where
@@ -133,6 +142,106 @@ module _ {A : Type 0} (g : Ghosts A) (holds : (a : A) → g.may_leave a (g.octet
               (still_adding told c (left told c may));
               durable = λ told yes. absurd (other_bool yes.whole);
             }
+
+  -- a call after which a crash leaves no more than before
+  module _ (old new : A) (buffer : List ℕ) (gate torn_length : ℕ) (is_torn : Bool) (front : Front) (address generation : ℕ) (sound : IsSound g old buffer gate torn_length is_torn front address generation) (size : g.size new ≡ g.size old)
+      (within : Within (g.may_leave old) (g.may_leave new)) where
+    pub kept_batches : Told g → batches_below gate (g.octets new) ≡ batches_below gate (g.octets old)
+    kept_batches told =
+        listed_below (header (g.size old) address generation) (length-header (g.size old) address generation) gate (g.octets new) (batches_below gate (g.octets old)) (sound.content told (g.octets new) (within (g.octets new) (holds new))).listed (sound.small told)
+
+    pub kept_sound : IsSound g new buffer gate torn_length is_torn front address generation
+    kept_sound = record {
+      long = omega (arith, sound.long);
+      short = omega (arith, sound.short);
+      low = sound.low;
+      high = omega (arith, sound.high);
+      buffer_size = sound.buffer_size ∙ ap (λ n. min 1048581 n) (sym size);
+      torn_size = sound.torn_size;
+      torn_held = sound.torn_held;
+      torn_fits = λ e. omega (arith, sound.torn_fits e);
+      founding_whole = sound.founding_whole;
+      small = λ told. subst (λ (bs : List (List ℕ)). All IsSmall bs) (sym (kept_batches told)) (sound.small told);
+      content = λ told c left.
+          moved (header (g.size old) address generation) (header (g.size new) address generation) front is_torn (batches_below gate (g.octets old)) (batches_below gate (g.octets new)) (take torn_length (drop 4 buffer)) (take torn_length (drop 4 buffer)) gate c
+          (ap (λ n. header n address generation) size) (kept_batches told) refl (sound.content told c (within c left));
+      durable = λ told yes c left. sound.durable told yes c (within c left) ∙ sym (sound.durable told yes (g.octets new) (within (g.octets new) (holds new)));
+    }
+
+  length-torn : (buffer : List ℕ) (torn_length : ℕ) → torn_length + 5 ≤ length buffer → length (take torn_length (drop 4 buffer)) ≡ torn_length
+  length-torn buffer torn_length held = length-take-le torn_length (drop 4 buffer) (omega (arith, length-drop 4 buffer))
+
+  -- the journal is opened again
+  module _ (old new : A) (buffer : List ℕ) (gate torn_length : ℕ) (is_torn : Bool) (front : Front) (address generation : ℕ) (sound : IsSound g old buffer gate torn_length is_torn front address generation) (size : g.size new ≡ g.size old)
+      (same : IsTrue g.tells_octets → g.octets new ≡ g.octets old) (durable : IsTrue g.tells_crash → Only (g.octets new) (g.may_leave new)) (first octet : ℕ) (first_is : IsTrue g.tells_octets → first ≡ get_or (g.octets old) 0 0)
+      (octet_is : IsTrue g.tells_octets → octet ≡ gate_at (g.octets old) gate) where
+    reopened_content : Told g
+        → Content (header (g.size old) address generation) (front_after front first) false (if is_torn && (octet == open_gate) then batches_below gate (g.octets old) ++ take torn_length (drop 4 buffer) ∷ [] else batches_below gate (g.octets old)) []
+        (gate_after is_torn gate torn_length octet) (g.octets old)
+    reopened_content told =
+        let batch = take torn_length (drop 4 buffer) in
+        let long : length batch ≡ torn_length = length-torn buffer torn_length sound.torn_held in
+        after_first (header (g.size old) address generation) (first-header (g.size old) address generation) front (if is_torn && (octet == open_gate) then batches_below gate (g.octets old) ++ batch ∷ [] else batches_below gate (g.octets old)) []
+        (gate_after is_torn gate torn_length octet) (g.octets old) first (first_is told.0)
+        (subst (λ n. Content (header (g.size old) address generation) front false (if is_torn && (octet == open_gate) then batches_below gate (g.octets old) ++ batch ∷ [] else batches_below gate (g.octets old)) [] (gate_after is_torn gate n octet) (g.octets old)) long
+        (after_gate (header (g.size old) address generation) (length-header (g.size old) address generation) front (batches_below gate (g.octets old)) batch gate sound.low (g.octets old) is_torn octet
+        (λ e. omega (arith, sound.torn_fits e, whole old told.0, long)) (octet_is told.0) (sound.content told (g.octets old) (holds old))))
+
+    reopened_small : Told g → All IsSmall (if is_torn && (octet == open_gate) then batches_below gate (g.octets old) ++ take torn_length (drop 4 buffer) ∷ [] else batches_below gate (g.octets old))
+    reopened_small told = either (is_torn && (octet == open_gate))
+      where
+        either : (b : Bool) → All IsSmall (if b then batches_below gate (g.octets old) ++ take torn_length (drop 4 buffer) ∷ [] else batches_below gate (g.octets old))
+        either true = All-push IsSmall (batches_below gate (g.octets old)) (take torn_length (drop 4 buffer)) (sound.small told) (omega (arith, sound.torn_size, length-torn buffer torn_length sound.torn_held))
+        either false = sound.small told
+
+    pub reopened_batches : Told g
+        → batches_below (gate_after is_torn gate torn_length octet) (g.octets new) ≡ (if is_torn && (octet == open_gate) then batches_below gate (g.octets old) ++ take torn_length (drop 4 buffer) ∷ [] else batches_below gate (g.octets old))
+    reopened_batches told =
+        listed_below (header (g.size old) address generation) (length-header (g.size old) address generation) (gate_after is_torn gate torn_length octet) (g.octets new) _
+        (ap (λ (o : List ℕ). drop 1 (take (gate_after is_torn gate torn_length octet) o)) (same told.0) ∙ (reopened_content told).listed) (reopened_small told)
+
+    reopened_gate : (t : Bool) → (t ≡ true → gate + torn_length + 6 ≤ g.size old) → (32 ≤ gate_after t gate torn_length octet) × (gate_after t gate torn_length octet + 1 ≤ g.size old)
+    reopened_gate false fits = (sound.low, sound.high)
+    reopened_gate true fits = either (octet == open_gate)
+      where
+        either : (b : Bool) → (32 ≤ (if b then gate + 5 + torn_length else gate)) × ((if b then gate + 5 + torn_length else gate) + 1 ≤ g.size old)
+        either true = (omega (arith, sound.low), omega (arith, fits refl))
+        either false = (sound.low, sound.high)
+
+    pub reopened_sound : IsSound g new buffer (gate_after is_torn gate torn_length octet) torn_length false (front_after front first) address generation
+    reopened_sound =
+        let gates = reopened_gate is_torn sound.torn_fits in
+        let h = header (g.size old) address generation in
+        let h' = header (g.size new) address generation in
+        record {
+          long = omega (arith, sound.long);
+          short = omega (arith, sound.short);
+          low = gates.0;
+          high = omega (arith, gates.1);
+          buffer_size = sound.buffer_size ∙ ap (λ n. min 1048581 n) (sym size);
+          torn_size = sound.torn_size;
+          torn_held = sound.torn_held;
+          torn_fits = λ e. absurd (other_bool (sym e));
+          founding_whole = λ e. refl;
+          small = λ told. subst (λ (bs : List (List ℕ)). All IsSmall bs) (sym (reopened_batches told)) (reopened_small told);
+          content = λ told c left.
+              subst (λ (o : List ℕ). Content h' (front_after front first) false (batches_below (gate_after is_torn gate torn_length octet) (g.octets new)) (take torn_length (drop 4 buffer)) (gate_after is_torn gate torn_length octet) o)
+              (sym (durable told.1 c left ∙ same told.0))
+              (moved h h' (front_after front first) false _ (batches_below (gate_after is_torn gate torn_length octet) (g.octets new)) (take torn_length (drop 4 buffer)) (take torn_length (drop 4 buffer)) (gate_after is_torn gate torn_length octet) (g.octets old)
+              (ap (λ n. header n address generation) size) (reopened_batches told) refl
+              (any_batch h (front_after front first) _ [] (take torn_length (drop 4 buffer)) (gate_after is_torn gate torn_length octet) (g.octets old) (reopened_content told)));
+          durable = λ told yes. durable told.1;
+        }
+
+  -- what a crash leaves of a journal, open or closed
+  pub keeps_any : (journal : Journal A g) → Told g → (c : List ℕ) → g.may_leave journal.area c → KeepsOr (front_of journal) (header_of journal) (batches journal) (torn journal) c
+  unfolding batches torn
+  keeps_any journal told c left =
+      let s = journal.sound in
+      let long = length-torn journal.buffer.items journal.torn_length s.torn_held in
+      content_keeps_any (header (g.size journal.area) journal.address journal.generation) (length-header (g.size journal.area) journal.address journal.generation) journal.front journal.is_torn (batches_below journal.gate (g.octets journal.area)) journal.gate s.low (s.small told)
+      (take journal.torn_length (drop 4 journal.buffer.items)) c (omega (arith, s.torn_size)) (omega (arith, same_size journal.area c told.1 left, s.high)) (λ e. omega (arith, s.torn_fits e, same_size journal.area c told.1 left))
+      (s.content told c left)
 
   -- a journal that isn't closed is settled
   pub settled : (journal : Journal A g) → is_closed journal ≡ false → IsSettled journal

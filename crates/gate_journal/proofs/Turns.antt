@@ -1,13 +1,14 @@
 -- How what a crash leaves of a journal turns with its calls.
 use Rattle.std.proofs.Common.{◌≡◌, ◌≢◌, ◌⊎◌, inl, inr, ⊎_elim, ℕ, ◌+◌, ◌<◌, ◌≤◌, Bool, true, false, List, [], ◌∷◌, ◌++◌, length, get_or, take, drop, refl, sym, ◌∙◌, ap, subst, arith, append_assoc}
-use Rattle.std.specs.Prelude.{All}
+use Rattle.std.specs.Prelude.{All, ◌&&◌, ◌==◌, if◌then◌else◌}
+use Rattle.std.proofs.lemmas.Bool.Decides.{eqb_tells}
 use Rattle.std.proofs.lemmas.Bool.{cases_eq}
 use Rattle.std.proofs.lemmas.List.{take_at, length-take-le, length-drop, length-append, get_or_at}
 use Rattle.std.proofs.lemmas.List.Elements.{All-push}
 use Rattle.area_disk.specs.Disk.{overwritten, Torn}
 use Rattle.gate_journal.specs.Adding.{added, IsAdding}
 use Rattle.gate_journal.specs.Format.{open_gate, frame, spelled, IsSmall, gate_at, Stands, Starts}
-use Rattle.gate_journal.specs.State.{Content, Keeps}
+use Rattle.gate_journal.specs.State.{Content, Keeps, gate_after, front_after}
 use Rattle.gate_journal.specs.declared.journal.Front.{Front}
 use Rattle.gate_journal.specs.declared.journal.Front.TheVariants.{Founded, Draft, Founding}
 use Rattle.gate_journal.proofs.Contents.{keeps, joined, next_shut}
@@ -111,3 +112,45 @@ any_batch header front batches batch next place c content = record {
   shut = content.shut;
   framed = λ e. absurd (other_bool (sym e));
 }
+
+-- the journal is opened again, and its gate read: the batch behind it is taken in or left out
+pub after_gate : (header : List ℕ) (long : length header ≡ 32) (front : Front) (batches : List (List ℕ)) (batch : List ℕ) (place : ℕ) (low : 32 ≤ place) (octets : List ℕ) (is_torn : Bool) (octet : ℕ)
+    → (is_torn ≡ true → place + 5 + length batch < length octets) → octet ≡ gate_at octets place → Content header front is_torn batches batch place octets
+    → Content header front false (if is_torn && (octet == open_gate) then batches ++ batch ∷ [] else batches) [] (gate_after is_torn place (length batch) octet) octets
+after_gate header long front batches batch place low octets false octet inside is content = any_batch header front batches batch [] place octets content
+after_gate header long front batches batch place low octets true octet inside is content =
+    let P : Bool → Type 0 = λ b. Content header front false (if b then batches ++ batch ∷ [] else batches) [] (if b then place + 5 + length batch else place) octets in
+    ⊎_elim (λ yes. subst P (sym yes.0) (taken_in header front batches place low long batch [] octets (inside refl) content (sym is ∙ yes.1)))
+    (λ no. subst P (sym no.0) (left_out header front batches place low batch [] octets content (λ opened. no.1 (is ∙ opened))))
+    (eqb_tells octet open_gate)
+
+-- and octet 0 read
+pub after_first : (header : List ℕ) (begins : get_or header 0 0 ≡ 67) (front : Front) (batches : List (List ℕ)) (batch : List ℕ) (place : ℕ) (octets : List ℕ) (first : ℕ) → first ≡ get_or octets 0 0
+    → Content header front false batches batch place octets → Content header (front_after front first) false batches batch place octets
+after_first header begins Founded batches batch place octets first is content = content
+after_first header begins Draft batches batch place octets first is content = content
+after_first header begins Founding batches batch place octets first is content =
+    let P : Bool → Type 0 = λ b. Content header (if b then Founded else Draft) false batches batch place octets in
+    ⊎_elim (λ yes.
+    subst P (sym yes.0) (record {
+      listed = content.listed;
+      founded = λ e. sym is ∙ yes.1 ∙ sym begins;
+      drafted = λ e. absurd (let f : ⊥ = cc in f);
+      shut = content.shut;
+      framed = content.framed;
+    }))
+    (λ no.
+    subst P (sym no.0) (record {
+      listed = content.listed;
+      founded = λ e. absurd (let f : ⊥ = cc in f);
+      drafted = λ e same. no.1 (is ∙ same ∙ begins);
+      shut = content.shut;
+      framed = content.framed;
+    }))
+    (eqb_tells first 67)
+
+-- what a crash leaves of a journal, whether a batch may stand or not
+pub content_keeps_any : (header : List ℕ) (long : length header ≡ 32) (front : Front) (is_torn : Bool) (batches : List (List ℕ)) (place : ℕ) (low : 32 ≤ place) (small : All IsSmall batches) (batch c : List ℕ) → IsSmall batch → place < length c
+    → (is_torn ≡ true → place + 5 + length batch < length c) → Content header front is_torn batches batch place c → Keeps front header batches c ⊎ Keeps front header (batches ++ batch ∷ []) c
+content_keeps_any header long front false batches place low small batch c short inside fits content = inl (content_keeps header long front batches place low small batch c inside content)
+content_keeps_any header long front true batches place low small batch c short inside fits content = content_keeps_or header long front batches place low small batch c short (fits refl) content

@@ -3,7 +3,7 @@ ghost use Rattle.std.specs.Prelude.{◌≡◌, ◌↔◌, ◌⊎◌, ◌≢◌, 
 ghost use Rattle.area_disk.specs.Disk.{HasCause, Rose, counted};
 ghost use Rattle.gate_journal.specs.Format.{longest_batch, end_of, header, Stands, Starts, IsForeign};
 ghost use Rattle.gate_journal.specs.Moments.{Told, Leaves, RoseUpTo, Calls};
-ghost use Rattle.gate_journal.specs.State.{IsSound, gate_after, front_after};
+ghost use Rattle.gate_journal.specs.State.{IsSound, Keeps, gate_after, front_after};
 
 use crate::device::{add, put};
 use crate::reading::see;
@@ -107,9 +107,9 @@ impl<A: Area> Journal<A> {
         ensures ok { Told A.Area → OnOk result (batches self.new ≡ reopened self.old) }
         ensures err { Told A.Area → OnErr result (batches self.new ≡ batches self.old) }
 
-        // A crash at any moment of the call leaves what it could leave before.
-        ensures any_moment { Leaves A.Area (area_of self.old) (area_of self.new) (A.may_leave (area_of self.old)) }
-        ensures stands { Told A.Area → (c : List ℕ) → A.may_leave (area_of self.old) c → KeepsOr (front_of self.old) (header_of self.old) (batches self.old) (torn self.old) c }
+        // A crash at any moment of the call leaves the batches, with one whose append failed or without.
+        ensures any_moment { Told A.Area → Leaves A.Area (area_of self.old) (area_of self.new) (KeepsOr (front_of self.old) (header_of self.old) (batches self.old) (torn self.old)) }
+        ensures any_moment_ready { Told A.Area → is_closed self.old ≡ false → Leaves A.Area (area_of self.old) (area_of self.new) (Keeps (front_of self.old) (header_of self.old) (batches self.old)) }
         ensures settled { OnOk result (IsSettled self.new) }
 
         ensures opened { OnOk result (is_closed self.new ≡ false) }
