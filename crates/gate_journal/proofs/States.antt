@@ -3,7 +3,7 @@ use Rattle.std.proofs.Common.{◌≡◌, ◌≢◌, ◌⊎◌, inl, inr, ⊎_eli
 use Rattle.std.specs.Prelude.{All, IsTrue, ◌&&◌, ◌==◌, if◌then◌else◌}
 use Rattle.std.proofs.lemmas.List.{length-take-le, length-drop}
 use Rattle.std.proofs.lemmas.List.Elements.{All-push}
-use Rattle.area_disk.specs.Disk.{Only, Within}
+use Rattle.area_disk.specs.Disk.{Only, Within, Torn, overwritten}
 use Rattle.area_disk.specs.declared.area.Area.{Ghosts}
 use Rattle.gate_journal.specs.Adding.{added, IsAdding}
 use Rattle.gate_journal.specs.Format.{open_gate, frame, header, longest_batch, gate_at, IsSmall, end_of}
@@ -16,7 +16,7 @@ use Rattle.gate_journal.specs.declared.journal.Front.TheVariants.{Founded, Draft
 use Rattle.gate_journal.proofs.Contents.{listed_below, place_is}
 use Rattle.gate_journal.proofs.Runs.{widen}
 use Rattle.gate_journal.proofs.Spelling.{length-header, first-header, length-frame}
-use Rattle.gate_journal.proofs.Turns.{other_bool, is_adding, added_open, adding, left_out, taken_in, content_keeps, content_keeps_or, content_keeps_any, moved, any_batch, after_gate, after_first}
+use Rattle.gate_journal.proofs.Turns.{other_bool, is_adding, added_open, adding, left_out, taken_in, founding, content_keeps, content_keeps_or, content_keeps_any, moved, any_batch, after_gate, after_first}
 
 -- a journal that isn't closed may be added to
 pub ready_of : (front : Front) (is_torn : Bool) → closed_by front is_torn ≡ false → IsReady front is_torn
@@ -232,6 +232,70 @@ module _ {A : Type 0} (g : Ghosts A) (holds : (a : A) → g.may_leave a (g.octet
               (any_batch h (front_after front first) _ [] (take torn_length (drop 4 buffer)) (gate_after is_torn gate torn_length octet) (g.octets old) (reopened_content told)));
           durable = λ told yes. durable told.1;
         }
+
+  -- octet 0 is written
+  module _ (old new : A) (buffer : List ℕ) (gate torn_length : ℕ) (is_torn : Bool) (front : Front) (address generation : ℕ) (sound : IsSound g old buffer gate torn_length is_torn front address generation) (ready : IsReady front is_torn) (size : g.size new ≡ g.size old) where
+    pub founding_content : Told g → (c : List ℕ) → Torn 0 1 (g.octets old) c
+        → Content (header (g.size old) address generation) Founding false (batches_below gate (g.octets old)) (take torn_length (drop 4 buffer)) gate c
+    founding_content told c torn =
+        founding (header (g.size old) address generation) front (batches_below gate (g.octets old)) gate sound.low (take torn_length (drop 4 buffer)) (g.octets old) c (omega (arith, whole old told.0, sound.high))
+        (content_of old buffer gate torn_length is_torn front address generation sound ready told) torn
+
+    pub founding_keeps : Told g → (c : List ℕ) → Torn 0 1 (g.octets old) c → Keeps Founding (header (g.size old) address generation) (batches_below gate (g.octets old)) c
+    founding_keeps told c torn =
+        content_keeps (header (g.size old) address generation) (length-header (g.size old) address generation) Founding (batches_below gate (g.octets old)) gate sound.low (sound.small told) _ c (omega (arith, torn.size, whole old told.0, sound.high)) (founding_content told c torn)
+
+    module _ (left : Told g → (c : List ℕ) → g.may_leave new c → Torn 0 1 (g.octets old) c) where
+      pub founding_batches : Told g → batches_below gate (g.octets new) ≡ batches_below gate (g.octets old)
+      founding_batches told =
+          listed_below (header (g.size old) address generation) (length-header (g.size old) address generation) gate (g.octets new) (batches_below gate (g.octets old)) (founding_content told (g.octets new) (left told (g.octets new) (holds new))).listed (sound.small told)
+
+      pub founding_sound : IsSound g new buffer gate torn_length is_torn Founding address generation
+      founding_sound = record {
+        long = omega (arith, sound.long);
+        short = omega (arith, sound.short);
+        low = sound.low;
+        high = omega (arith, sound.high);
+        buffer_size = sound.buffer_size ∙ ap (λ n. min 1048581 n) (sym size);
+        torn_size = sound.torn_size;
+        torn_held = sound.torn_held;
+        torn_fits = λ e. omega (arith, sound.torn_fits e);
+        founding_whole = λ e. ready.whole;
+        small = λ told. subst (λ (bs : List (List ℕ)). All IsSmall bs) (sym (founding_batches told)) (sound.small told);
+        content = λ told c may.
+            subst (λ t. Content (header (g.size new) address generation) Founding t (batches_below gate (g.octets new)) (take torn_length (drop 4 buffer)) gate c) (sym ready.whole)
+            (moved (header (g.size old) address generation) (header (g.size new) address generation) Founding false (batches_below gate (g.octets old)) (batches_below gate (g.octets new)) (take torn_length (drop 4 buffer)) (take torn_length (drop 4 buffer)) gate c
+            (ap (λ n. header n address generation) size) (founding_batches told) refl (founding_content told c (left told c may)));
+        durable = λ told yes. absurd (yes.founded refl);
+      }
+
+      -- and stands
+      module _ (octets_are : IsTrue g.tells_octets → g.octets new ≡ overwritten (g.octets old) 0 (67 ∷ [])) (durable : IsTrue g.tells_crash → Only (g.octets new) (g.may_leave new)) where
+        pub founded_sound : IsSound g new buffer gate torn_length is_torn Founded address generation
+        founded_sound =
+            let h = header (g.size old) address generation in
+            let now = λ (told : Told g).
+            after_first h (first-header (g.size old) address generation) Founding (batches_below gate (g.octets old)) (take torn_length (drop 4 buffer)) gate (g.octets new) 67
+            (sym (ap (λ (o : List ℕ). get_or o 0 0) (octets_are told.0)))
+            (founding_content told (g.octets new) (left told (g.octets new) (holds new))) in
+            record {
+              long = omega (arith, sound.long);
+              short = omega (arith, sound.short);
+              low = sound.low;
+              high = omega (arith, sound.high);
+              buffer_size = sound.buffer_size ∙ ap (λ n. min 1048581 n) (sym size);
+              torn_size = sound.torn_size;
+              torn_held = sound.torn_held;
+              torn_fits = λ e. omega (arith, sound.torn_fits e);
+              founding_whole = λ e. ready.whole;
+              small = λ told. subst (λ (bs : List (List ℕ)). All IsSmall bs) (sym (founding_batches told)) (sound.small told);
+              content = λ told c may.
+                  subst (λ (o : List ℕ). Content (header (g.size new) address generation) Founded is_torn (batches_below gate (g.octets new)) (take torn_length (drop 4 buffer)) gate o) (sym (durable told.1 c may))
+                  (subst (λ t. Content (header (g.size new) address generation) Founded t (batches_below gate (g.octets new)) (take torn_length (drop 4 buffer)) gate (g.octets new)) (sym ready.whole)
+                  (moved h (header (g.size new) address generation) Founded false (batches_below gate (g.octets old)) (batches_below gate (g.octets new)) (take torn_length (drop 4 buffer)) (take torn_length (drop 4 buffer)) gate (g.octets new)
+                  (ap (λ n. header n address generation) size) (founding_batches told) refl (now told)));
+              durable = λ told yes. durable told.1;
+            }
 
   -- what a crash leaves of a journal, open or closed
   pub keeps_any : (journal : Journal A g) → Told g → (c : List ℕ) → g.may_leave journal.area c → KeepsOr (front_of journal) (header_of journal) (batches journal) (torn journal) c

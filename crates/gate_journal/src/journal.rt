@@ -1,12 +1,12 @@
 // A journal of batches on an area.
-ghost use Rattle.std.specs.Prelude.{◌≡◌, ◌↔◌, ◌⊎◌, ◌≢◌, ℕ, ◌+◌, ◌-◌, ◌<◌, ◌≤◌, IsTrue, IsNone, IfSome, false, true, List, [], ◌∷◌, ◌++◌, length, take, drop, OnOk, OnErr, IfOk, IfErr};
+ghost use Rattle.std.specs.Prelude.{◌≡◌, ◌↔◌, ◌⊎◌, ◌≢◌, ℕ, ◌+◌, ◌-◌, ◌<◌, ◌≤◌, IsTrue, IsNone, IfSome, false, true, List, [], ◌∷◌, ◌++◌, length, take, drop, Some, is_err, OnOk, OnErr, IfOk, IfErr};
 ghost use Rattle.area_disk.specs.Disk.{HasCause, Rose, counted};
 ghost use Rattle.gate_journal.specs.Format.{longest_batch, end_of, header, Stands, Starts, IsForeign};
 ghost use Rattle.gate_journal.specs.Moments.{Told, Leaves, RoseUpTo, Calls};
 ghost use Rattle.gate_journal.specs.State.{IsSound, Keeps, gate_after, front_after};
 
 use crate::device::{add, put};
-use crate::reading::see;
+use crate::reading::{Behind, read_gate, see};
 use crate::format::{FIRST, OPEN, fill};
 use crate::{AppendFault, Device};
 use area_disk::{Area, Failed};
@@ -44,7 +44,7 @@ pub struct Journal<A: Area> {
 }
 
 impl<A: Area> Journal<A> {
-    ghost use Rattle.gate_journal.specs.Journal.{area_of, header_of, front_of, batches, end, free_of, is_closed, torn, torn_stands, reopened, reopened_front, KeepsOr, IsSettled, IsSame, IsUnchanged, IsGate, IsInside};
+    ghost use Rattle.gate_journal.specs.Journal.{area_of, header_of, front_of, batches, end, free_of, is_closed, torn, torn_stands, reopened, reopened_front, KeepsOr, IsSettled, IsSame, IsUnchanged, IsKept, IsGate, IsInside};
     ghost use Rattle.gate_journal.specs.declared.journal.Front.TheVariants.{Founded, Draft, Founding};
 
     /// Adds a batch. At `Ok` it stands: from then on every crash leaves it.
@@ -130,6 +130,90 @@ impl<A: Area> Journal<A> {
                 self.is_torn = false;
                 Ok(())
             }
+            Err(Failed) => Err(Device),
+        }
+    }
+
+    /// Founds a draft: it writes octet 0 of the area and waits until that stands. At `Ok` the journal is as one that
+    /// was opened. At `Device` it is closed, and an opening finds the batches, or makes the area anew.
+    ///
+    /// It makes two calls of the device, and takes no memory.
+    pub fn found(&mut self) -> Result<(), Device>
+        requires draft { front_of self.old ≡ Draft }
+        requires ready { is_closed self.old ≡ false }
+
+        ensures batches { Told A.Area → batches self.new ≡ batches self.old }
+
+        // A crash at any moment of the call leaves an area that starts, or one with the batches.
+        ensures any_moment { Told A.Area → Leaves A.Area (area_of self.old) (area_of self.new) (Keeps Founding (header_of self.old) (batches self.old)) }
+        ensures settled { OnOk result (IsSettled self.new) }
+
+        ensures founded { OnOk result (front_of self.new ≡ Founded) }
+        ensures founding { OnErr result (front_of self.new ≡ Founding) }
+        ensures closed { is_closed self.new ≡ is_err result }
+
+        ensures same { IsSame self.old self.new }
+        ensures end { end self.new ≡ end self.old }
+        ensures calls { IsTrue A.tells_calls → Calls 2 (A.calls (area_of self.old)) (A.calls (area_of self.new)) result }
+        ensures cause { HasCause (A.faults (area_of self.old)) (A.faults (area_of self.new)) result }
+    {
+        match put(&mut self.area, 0, &[FIRST]) {
+            Ok(()) => {
+                self.front = Front::Founded;
+                Ok(())
+            }
+            Err(Failed) => {
+                self.front = Front::Founding;
+                Err(Device)
+            }
+        }
+    }
+
+    /// Reads octets of one batch, from octet `at` of the area on. At `Device` `into` may hold anything, and the journal
+    /// is as before.
+    ///
+    /// It takes no memory.
+    pub fn read(&mut self, at: u64, into: &mut [u8]) -> Result<(), Device>
+        requires { IsInside self.old at (length into.old) }
+
+        ensures content { Told A.Area → (some : List (List ℕ)) (batch : List ℕ) (more : List (List ℕ)) → batches self.old ≡ some ++ batch ∷ more → end_of some + 5 ≤ at → at + length into.old ≤ end_of some + 5 + length batch →
+            OnOk result (into.new ≡ take (length into.old) (drop (at - (end_of some + 5)) batch)) }
+        ensures kept { IsKept self.old self.new }
+        ensures cause { HasCause (A.faults (area_of self.old)) (A.faults (area_of self.new)) result }
+    {
+        match self.area.read_at(at, into) {
+            Ok(()) => Ok(()),
+            Err(Failed) => Err(Device),
+        }
+    }
+
+    /// The place and the length of the content behind the gate at this octet, or `None` at the first closed gate.
+    /// Octet 32 is a gate, and so is each octet behind a batch. At `Device` the journal is as before.
+    ///
+    /// It takes no memory.
+    pub fn batch(&mut self, gate: u64) -> Result<Option<(u64, u32)>, Device>
+        requires gate { IsGate self.old gate }
+        requires ready { is_closed self.old ≡ false }
+
+        ensures found { Told A.Area → (some : List (List ℕ)) (batch : List ℕ) (more : List (List ℕ)) → batches self.old ≡ some ++ batch ∷ more → gate ≡ end_of some →
+            IfOk result (λ found. found ≡ Some (gate + 5, length batch)) }
+        ensures none { Told A.Area → IfOk result (λ found. IsNone found ↔ (gate ≡ end self.old)) }
+        ensures end { gate ≡ end self.old → IfOk result (λ found. IsNone found) }
+        ensures inside { IfOk result (λ found. IfSome found (λ content. (content.0 ≡ gate + 5) × (content.0 + content.1 ≤ end self.old))) }
+        ensures kept { IsKept self.old self.new }
+        ensures cause { HasCause (A.faults (area_of self.old)) (A.faults (area_of self.new)) result }
+    {
+        if gate >= self.gate {
+            return Ok(None);
+        }
+        match read_gate(&mut self.area, gate) {
+            Ok(Behind::Whole { length }) => {
+                if gate + 5 + u64::from(length) > self.gate {
+                    return Ok(None);
+                }
+                Ok(Some((gate + 5, length)))
+            }
+            Ok(Behind::Shut | Behind::Cut) => Ok(None),
             Err(Failed) => Err(Device),
         }
     }
