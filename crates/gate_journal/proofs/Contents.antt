@@ -28,7 +28,7 @@ pub length-tail : (octets : List ℕ) → length (drop 1 octets) ≡ length octe
 length-tail octets = length-drop 1 octets
 
 module _ (header : List ℕ) (long : length header ≡ 32) where
-  length-rest : length (drop 1 header) ≡ 31
+  pub length-rest : length (drop 1 header) ≡ 31
   length-rest = omega (arith, length-tail header)
 
   -- the place says how much is listed

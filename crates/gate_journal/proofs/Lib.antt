@@ -5,6 +5,7 @@ mod Counts
 mod Framing
 mod Fronts
 mod Seen
+mod Places
 mod Runs
 mod Spelling
 mod States

@@ -1,5 +1,5 @@
 -- What the steps of an opening answer.
-use Rattle.std.specs.Prelude.{◌≡◌, ◌≢◌, ℕ, ◌+◌, ◌<◌, ◌≤◌, Bool, true, false, List, length, take, drop, slice_index, All}
+use Rattle.std.specs.Prelude.{◌≡◌, ◌≢◌, ℕ, ◌+◌, ◌<◌, ◌≤◌, Bool, true, false, List, length, take, drop, slice_index, All, Option, None, Some, nat_lt, if◌then◌else◌}
 use Rattle.byteorder.specs.Endian.{big_bytes}
 use Rattle.gate_journal.specs.Format.{open_gate, gate_at, length_at, spelled, IsSmall, IsUnfinished, Differs, IsWhole, longest_batch}
 use Rattle.gate_journal.specs.State.{batches_below}
@@ -43,3 +43,9 @@ IsScanned octets (Broken at) = AreBelow at octets × (gate_at octets at ≡ open
 abbrev pub LiesIn : ℕ → Scanned → Type 0
 LiesIn size (End gate) = (32 ≤ gate) × (gate < size)
 LiesIn size (Broken at) = (32 ≤ at) × (at < size)
+
+-- the place and the length of the content behind a gate, of a batch that ends at the first closed gate or before
+abbrev pub content_at : Behind → ℕ → ℕ → Option (ℕ × ℕ)
+content_at Shut gate end = None
+content_at (Whole length) gate end = if nat_lt end (gate + 5 + length) then None else Some (gate + 5, length)
+content_at Cut gate end = None

@@ -3,6 +3,7 @@ ghost use Rattle.std.specs.Prelude.{◌≡◌, ◌↔◌, ◌⊎◌, ◌≢◌, 
 ghost use Rattle.area_disk.specs.Disk.{HasCause, Rose, counted};
 ghost use Rattle.gate_journal.specs.Format.{longest_batch, end_of, header, Stands, Starts, IsForeign};
 ghost use Rattle.gate_journal.specs.Moments.{Told, Leaves, RoseUpTo, Calls};
+ghost use Rattle.gate_journal.specs.Verdicts.{content_at};
 ghost use Rattle.gate_journal.specs.State.{IsSound, Keeps, gate_after, front_after};
 
 use crate::device::{add, put};
@@ -207,13 +208,7 @@ impl<A: Area> Journal<A> {
             return Ok(None);
         }
         match read_gate(&mut self.area, gate) {
-            Ok(Behind::Whole { length }) => {
-                if gate + 5 + u64::from(length) > self.gate {
-                    return Ok(None);
-                }
-                Ok(Some((gate + 5, length)))
-            }
-            Ok(Behind::Shut | Behind::Cut) => Ok(None),
+            Ok(behind) => Ok(content_behind(behind, gate, self.gate)),
             Err(Failed) => Err(Device),
         }
     }
@@ -269,6 +264,25 @@ fn next_front(front: Front, first: u8) -> Front
                 Front::Founded
             } else {
                 Front::Draft
+            }
+        }
+    }
+}
+
+// The place and the length of the content of a whole batch that ends before the first closed gate.
+fn content_behind(behind: Behind, gate: u64, end: u64) -> Option<(u64, u32)>
+    requires fits { gate < end }
+    requires short { end ≤ 268435456 }
+    ensures { result ≡ content_at behind gate end }
+{
+    match behind {
+        Behind::Shut => None,
+        Behind::Cut => None,
+        Behind::Whole { length } => {
+            if end < gate + 5 + u64::from(length) {
+                None
+            } else {
+                Some((gate + 5, length))
             }
         }
     }
