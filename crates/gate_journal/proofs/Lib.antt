@@ -5,6 +5,7 @@ mod Counts
 mod Framing
 mod Fronts
 mod Seen
+mod Laying
 mod Places
 mod Runs
 mod Spelling

@@ -2,5 +2,6 @@ pub mod Adding
 pub mod Format
 pub mod Journal
 pub mod Moments
+pub mod Opening
 pub mod State
 pub mod Verdicts

@@ -5,6 +5,7 @@ mod device;
 mod faults;
 mod format;
 mod journal;
+mod opening;
 mod reading;
 
 pub use faults::{AppendFault, Device, OpenFault};
