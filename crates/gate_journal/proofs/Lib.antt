@@ -6,6 +6,7 @@ mod Framing
 mod Fronts
 mod Seen
 mod Laying
+mod Listing
 mod Places
 mod Runs
 mod Spelling

@@ -46,6 +46,14 @@ pub record Content (header : List ℕ) (front : Front) (is_torn : Bool) (batches
   pub shut : is_torn ≡ false → gate_at octets place ≢ open_gate
   pub framed : is_torn ≡ true → gate_at octets place ≡ open_gate → take (length batch + 5) (drop (place + 1) octets) ≡ frame batch
 
+-- the octets of a journal that may be added to, with the batches below this gate
+pub record IsListed (header : List ℕ) (front : Front) (gate : ℕ) (octets : List ℕ) : Type 0 where
+  pub listed : drop 1 (take gate octets) ≡ drop 1 header ++ spelled (batches_below gate octets)
+  pub small : All IsSmall (batches_below gate octets)
+  pub founded : front ≡ Founded → slice_index octets 0 ≡ slice_index header 0
+  pub drafted : front ≡ Draft → slice_index octets 0 ≢ slice_index header 0
+  pub shut : gate_at octets gate ≢ open_gate
+
 -- the journal may be added to
 pub record IsReady (front : Front) (is_torn : Bool) : Type 0 where
   pub whole : is_torn ≡ false

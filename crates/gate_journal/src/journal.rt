@@ -1,10 +1,10 @@
 // A journal of batches on an area.
-ghost use Rattle.std.specs.Prelude.{◌≡◌, ◌↔◌, ◌⊎◌, ◌≢◌, ℕ, ◌+◌, ◌-◌, ◌<◌, ◌≤◌, IsTrue, IsNone, IfSome, false, true, List, [], ◌∷◌, ◌++◌, length, take, drop, Some, is_err, OnOk, OnErr, IfOk, IfErr};
-ghost use Rattle.area_disk.specs.Disk.{HasCause, Rose, counted};
+ghost use Rattle.std.specs.Prelude.{vec_len, min, ◌≡◌, ◌↔◌, ◌⊎◌, ◌≢◌, ℕ, ◌+◌, ◌-◌, ◌<◌, ◌≤◌, IsTrue, IsNone, IfSome, false, true, List, [], ◌∷◌, ◌++◌, length, take, drop, Some, is_err, OnOk, OnErr, IfOk, IfErr};
+ghost use Rattle.area_disk.specs.Disk.{Only, HasCause, Rose, counted};
 ghost use Rattle.gate_journal.specs.Format.{longest_batch, end_of, header, Stands, Starts, IsForeign};
 ghost use Rattle.gate_journal.specs.Moments.{Told, Leaves, RoseUpTo, Calls};
 ghost use Rattle.gate_journal.specs.Verdicts.{content_at};
-ghost use Rattle.gate_journal.specs.State.{IsSound, Keeps, gate_after, front_after};
+ghost use Rattle.gate_journal.specs.State.{IsSound, IsListed, Keeps, batches_below, gate_after, front_after};
 
 use crate::device::{add, put};
 use crate::reading::{Behind, read_gate, see};
@@ -47,6 +47,44 @@ pub struct Journal<A: Area> {
 impl<A: Area> Journal<A> {
     ghost use Rattle.gate_journal.specs.Journal.{area_of, header_of, front_of, batches, end, free_of, is_closed, torn, torn_stands, reopened, reopened_front, KeepsOr, IsSettled, IsSame, IsUnchanged, IsKept, IsGate, IsInside};
     ghost use Rattle.gate_journal.specs.declared.journal.Front.TheVariants.{Founded, Draft, Founding};
+
+    // A journal over an area whose octets are those of one.
+    pub(crate) fn over(
+        area: A,
+        buffer: Vec<u8>,
+        gate: u64,
+        front: Front,
+        address: u32,
+        generation: u32,
+    ) -> Self
+        requires long { 100 ≤ A.size area }
+        requires short { A.size area ≤ 268435456 }
+        requires low { 32 ≤ gate }
+        requires high { gate < A.size area }
+        requires buffer { vec_len buffer ≡ min 1048581 (A.size area) }
+        requires front { front ≢ Founding }
+        requires listed { Told A.Area → IsListed (header (A.size area) address generation) front gate (A.octets area) }
+        requires durable { Told A.Area → Only (A.octets area) (A.may_leave area) }
+
+        ensures area { area_of result ≡ area }
+        ensures batches { batches result ≡ batches_below gate (A.octets area) }
+        ensures end { end result ≡ gate }
+        ensures front { front_of result ≡ front }
+        ensures closed { is_closed result ≡ false }
+        ensures header { header_of result ≡ header (A.size area) address generation }
+        ensures settled { IsSettled result }
+    {
+        Journal {
+            area,
+            buffer,
+            gate,
+            torn_length: 0,
+            is_torn: false,
+            front,
+            address,
+            generation,
+        }
+    }
 
     /// Adds a batch. At `Ok` it stands: from then on every crash leaves it.
     ///

@@ -1,5 +1,5 @@
 // How a journal is opened, drafted and made anew.
-ghost use Rattle.std.specs.Prelude.{vec_len, ◌≡◌, ◌≢◌, ◌⊎◌, ◌+◌, ◌<◌, ◌≤◌, ℕ, IsTrue, min, false, [], ◌∷◌, ◌++◌, List, length, drop, slice_index, OnOk, IfOk, IfErr, IsErrAnd};
+ghost use Rattle.std.specs.Prelude.{vec_len, ◌≡◌, ◌≢◌, ◌⊎◌, ◌+◌, ◌<◌, ◌≤◌, ℕ, IsTrue, min, false, [], ◌∷◌, ◌++◌, List, length, take, drop, slice_index, OnOk, IfOk, IfErr, IsErrAnd};
 ghost use Rattle.area_disk.specs.Disk.{Only, HasCause, Rose, counted};
 ghost use Rattle.gate_journal.specs.Format.{header, Stands, Starts, IsForeign, IsBroken};
 ghost use Rattle.gate_journal.specs.Moments.{Told, Leaves, Kept, Calls, RoseUpTo};
@@ -53,4 +53,79 @@ fn buffer_for(alloc: Global, length: u64) -> Result<Vec<u8>, AllocError>
 {
     let most = length.min(LONGEST as u64 + 5);
     vec![in alloc; 0; most as usize]
+}
+
+// Makes an area that starts, without its octet 0, and a draft on it.
+fn lay<A: Area>(
+    alloc: Global,
+    mut area: A,
+    blank: bool,
+    address: u32,
+    generation: u32,
+) -> Result<Journal<A>, (OpenFault, A)>
+    requires long { 100 ≤ A.size area }
+    requires short { A.size area ≤ 268435456 }
+    requires begun { IsTrue A.tells_octets → IsVerdict (header (A.size area) address generation) (A.octets area) (Begins blank) }
+    requires durable { IsTrue A.tells_crash → Only (A.octets area) (A.may_leave area) }
+
+    ensures settled { IfOk result (λ journal. IsSettled journal) }
+    ensures draft { IfOk result (λ journal. front_of journal ≡ Draft) }
+    ensures open { IfOk result (λ journal. is_closed journal ≡ false) }
+    ensures batches { Told A.Area → IfOk result (λ journal. batches journal ≡ []) }
+    ensures header { IfOk result (λ journal. header_of journal ≡ header (A.size area) address generation) }
+
+    ensures fault { IfErr result (λ fault. (fault.0 ≡ OpenFault.Device) ⊎ ((fault.0 ≡ OpenFault.NoMemory) × (fault.1 ≡ area))) }
+    ensures any_moment { Told A.Area → OnArea result (λ now. Leaves A.Area area now (Starts (header (A.size area) address generation))) }
+
+    ensures size { OnArea result (λ now. A.size now ≡ A.size area) }
+    ensures calls { IsTrue A.tells_calls → IfOk result (λ journal. A.calls (area_of journal) ≡ counted 2 (A.calls area)) }
+    ensures calls_device { IsTrue A.tells_calls → IfErr result (λ fault. fault.0 ≡ OpenFault.Device → RoseUpTo 2 (A.calls area) (A.calls fault.1)) }
+    ensures faults { IfOk result (λ journal. A.faults (area_of journal) ≡ A.faults area) }
+    ensures faults_err { IfErr result (λ fault. A.faults area ≤ A.faults fault.1) }
+    ensures device { IfErr result (λ fault. fault.0 ≡ OpenFault.Device → Rose (A.faults area) (A.faults fault.1)) }
+{
+    let length = area.length();
+    let Ok(buffer) = buffer_for(alloc, length) else {
+        return Err((OpenFault::NoMemory, area));
+    };
+    let header = header_of(length, address, generation);
+    match lay_front(&mut area, &header, blank) {
+        Ok(()) => Ok(Journal::over(area, buffer, 32, Front::Draft, address, generation)),
+        Err(Failed) => Err((OpenFault::Device, area)),
+    }
+}
+
+// Reads the batches of an area that has its header.
+fn list<A: Area>(
+    alloc: Global,
+    mut area: A,
+    address: u32,
+    generation: u32,
+) -> Result<Journal<A>, (OpenFault, A)>
+    requires long { 100 ≤ A.size area }
+    requires short { A.size area ≤ 268435456 }
+    requires same { IsTrue A.tells_octets → take 32 (A.octets area) ≡ header (A.size area) address generation }
+    requires durable { IsTrue A.tells_crash → Only (A.octets area) (A.may_leave area) }
+
+    ensures settled { IfOk result (λ journal. IsSettled journal) }
+    ensures founded { IfOk result (λ journal. front_of journal ≡ Founded) }
+    ensures open { IfOk result (λ journal. is_closed journal ≡ false) }
+    ensures header { IfOk result (λ journal. header_of journal ≡ header (A.size area) address generation) }
+
+    ensures broken { IsTrue A.tells_octets → IfErr result (λ fault. (at : ℕ) → fault.0 ≡ OpenFault.NotOurs at → IsBroken (header (A.size area) address generation) (A.octets area) at) }
+    ensures kept { OnArea result (λ now. Kept A.Area area now) }
+    ensures faults { IfOk result (λ journal. A.faults (area_of journal) ≡ A.faults area) }
+    ensures faults_err { IfErr result (λ fault. A.faults area ≤ A.faults fault.1) }
+    ensures device { IfErr result (λ fault. fault.0 ≡ OpenFault.Device → Rose (A.faults area) (A.faults fault.1)) }
+{
+    match scan(&mut area) {
+        Ok(Scanned::End { gate }) => {
+            let Ok(buffer) = buffer_for(alloc, area.length()) else {
+                return Err((OpenFault::NoMemory, area));
+            };
+            Ok(Journal::over(area, buffer, gate, Front::Founded, address, generation))
+        }
+        Ok(Scanned::Broken { at }) => Err((OpenFault::NotOurs { at }, area)),
+        Err(Failed) => Err((OpenFault::Device, area)),
+    }
 }
