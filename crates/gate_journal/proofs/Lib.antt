@@ -1,4 +1,5 @@
 mod Adding
+mod Apart
 mod Below
 mod Contents
 mod Counts

@@ -129,3 +129,91 @@ fn list<A: Area>(
         Err(Failed) => Err((OpenFault::Device, area)),
     }
 }
+
+// Makes an area anew: it starts until octet 0 stands, and then it stands for no batch.
+fn make_anew<A: Area>(
+    alloc: Global,
+    area: A,
+    blank: bool,
+    address: u32,
+    generation: u32,
+) -> Result<Journal<A>, (OpenFault, A)>
+    requires long { 100 ≤ A.size area }
+    requires short { A.size area ≤ 268435456 }
+    requires begun { IsTrue A.tells_octets → IsVerdict (header (A.size area) address generation) (A.octets area) (Begins blank) }
+    requires durable { IsTrue A.tells_crash → Only (A.octets area) (A.may_leave area) }
+
+    ensures settled { IfOk result (λ journal. IsSettled journal) }
+    ensures founded { IfOk result (λ journal. front_of journal ≡ Founded) }
+    ensures open { IfOk result (λ journal. is_closed journal ≡ false) }
+    ensures batches { Told A.Area → IfOk result (λ journal. batches journal ≡ []) }
+    ensures header { IfOk result (λ journal. header_of journal ≡ header (A.size area) address generation) }
+
+    ensures fault { IfErr result (λ fault. (fault.0 ≡ OpenFault.Device) ⊎ ((fault.0 ≡ OpenFault.NoMemory) × (fault.1 ≡ area))) }
+    ensures any_moment { Told A.Area → OnArea result (λ now. Leaves A.Area area now (IsMaking (header (A.size area) address generation))) }
+
+    ensures size { OnArea result (λ now. A.size now ≡ A.size area) }
+    ensures calls { IsTrue A.tells_calls → IfOk result (λ journal. A.calls (area_of journal) ≡ counted 4 (A.calls area)) }
+    ensures calls_device { IsTrue A.tells_calls → IfErr result (λ fault. fault.0 ≡ OpenFault.Device → RoseUpTo 4 (A.calls area) (A.calls fault.1)) }
+    ensures faults { IfOk result (λ journal. A.faults (area_of journal) ≡ A.faults area) }
+    ensures faults_err { IfErr result (λ fault. A.faults area ≤ A.faults fault.1) }
+    ensures device { IfErr result (λ fault. fault.0 ≡ OpenFault.Device → Rose (A.faults area) (A.faults fault.1)) }
+{
+    match lay(alloc, area, blank, address, generation) {
+        Err(fault) => Err(fault),
+        Ok(mut journal) => match journal.found() {
+            Ok(()) => Ok(journal),
+            Err(Device) => Err((OpenFault::Device, journal.into_area())),
+        },
+    }
+}
+
+impl<A: Area> Journal<A> {
+    /// Opens the journal of an area, for a gateway's address and a generation. It makes one sync and reads; an area
+    /// whose making began, or whose octet 0 is 0, is made anew with four calls of the device more.
+    ///
+    /// It takes memory for one buffer of at most 1,048,581 octets, and hands the area back where it fails.
+    pub fn open(
+        alloc: Global,
+        mut area: A,
+        address: u32,
+        generation: u32,
+    ) -> Result<Journal<A>, (OpenFault, A)>
+        requires long { 100 ≤ A.size area }
+        requires short { A.size area ≤ 268435456 }
+
+        // The journal found is the one that the area stands for.
+        ensures reads { Told A.Area → (bs : List (List ℕ)) → Stands (header (A.size area) address generation) (A.octets area) bs → IfOk result (λ journal. batches journal ≡ bs) }
+        ensures anew { Told A.Area → Starts (header (A.size area) address generation) (A.octets area) → IfOk result (λ journal. batches journal ≡ []) }
+        ensures settled { IfOk result (λ journal. IsSettled journal) }
+        ensures founded { IfOk result (λ journal. front_of journal ≡ Founded) }
+        ensures open { IfOk result (λ journal. is_closed journal ≡ false) }
+        ensures header { IfOk result (λ journal. header_of journal ≡ header (A.size area) address generation) }
+        ensures size { OnArea result (λ now. A.size now ≡ A.size area) }
+
+        // A crash at any moment leaves what it could before, unless the area is made anew.
+        ensures moments { Told A.Area → (bs : List (List ℕ)) → Stands (header (A.size area) address generation) (A.octets area) bs → OnArea result (λ now. Leaves A.Area area now (A.may_leave area)) }
+        ensures moments_foreign { Told A.Area → (at : ℕ) → IsForeign (header (A.size area) address generation) (A.octets area) at → OnArea result (λ now. Leaves A.Area area now (A.may_leave area)) }
+        ensures moments_anew { Told A.Area → Starts (header (A.size area) address generation) (A.octets area) → OnArea result (λ now. Leaves A.Area area now (λ c. A.may_leave area c ⊎ IsMaking (header (A.size area) address generation) c)) }
+
+        // Each error.
+        ensures not_ours { Told A.Area → IfErr result (λ fault. (at : ℕ) → fault.0 ≡ OpenFault.NotOurs at → IsForeign (header (A.size area) address generation) (A.octets area) at) }
+        ensures foreign { Told A.Area → (at : ℕ) → IsForeign (header (A.size area) address generation) (A.octets area) at → IsErrAnd result (λ fault. (fault.0 ≡ OpenFault.NotOurs at) ⊎ (fault.0 ≡ OpenFault.Device)) }
+        ensures device { IfErr result (λ fault. fault.0 ≡ OpenFault.Device → Rose (A.faults area) (A.faults fault.1)) }
+        ensures faults { IfOk result (λ journal. A.faults (area_of journal) ≡ A.faults area) }
+        ensures faults_err { IfErr result (λ fault. A.faults area ≤ A.faults fault.1) }
+        ensures unwritten { Told A.Area → IfErr result (λ fault. (fault.0 ≡ OpenFault.Device) ⊎ (A.octets fault.1 ≡ A.octets area)) }
+
+        ensures calls { IsTrue A.tells_calls → Told A.Area → (bs : List (List ℕ)) → Stands (header (A.size area) address generation) (A.octets area) bs → OnArea result (λ now. A.calls now ≡ counted 1 (A.calls area)) }
+        ensures calls_anew { IsTrue A.tells_calls → Told A.Area → Starts (header (A.size area) address generation) (A.octets area) → IfOk result (λ journal. A.calls (area_of journal) ≡ counted 5 (A.calls area)) }
+        ensures calls_any { IsTrue A.tells_calls → OnArea result (λ now. RoseUpTo 5 (A.calls area) (A.calls now)) }
+    {
+        let header = header_of(area.length(), address, generation);
+        match look(&mut area, &header) {
+            Ok(Verdict::Starts { blank }) => make_anew(alloc, area, blank, address, generation),
+            Ok(Verdict::Same) => list(alloc, area, address, generation),
+            Ok(Verdict::Other { at }) => Err((OpenFault::NotOurs { at }, area)),
+            Err(Failed) => Err((OpenFault::Device, area)),
+        }
+    }
+}
