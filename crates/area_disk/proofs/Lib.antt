@@ -1,2 +1,3 @@
+mod Changes
 pub mod Moments
-pub mod Tearing
+mod Stretches

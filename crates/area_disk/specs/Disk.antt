@@ -1,5 +1,5 @@
 -- The disk model: what the calls of an area do to its octets, and what a crash at any moment may leave.
-use Rattle.std.specs.Prelude.{◌≡◌, ◌⊎◌, ℕ, suc, ◌+◌, ◌-◌, ◌^◌, ◌≤◌, min, List, ◌++◌, length, take, drop, Result, OnOk, OnErr}
+use Rattle.std.specs.Prelude.{◌≡◌, ◌⊎◌, ℕ, ◌+◌, ◌-◌, ◌^◌, ◌≤◌, min, List, ◌++◌, length, take, drop, replicate, Result, OnOk, OnErr}
 
 -- these octets, with others written over them from this place on
 abbrev pub overwritten : List ℕ → ℕ → List ℕ → List ℕ
@@ -38,6 +38,10 @@ pub record LeavesOnly {A : Type 0} (told_from moment : A → ℕ) (left_since : 
   pub each : (c : List ℕ) → told_from new ≤ moment old → left_since new (moment old) c → P c
   -- for a run that began earlier
   pub before : (t : ℕ) (c : List ℕ) → told_from new ≤ t → t ≤ moment old → left_since new t c → left_since old t c ⊎ P c
+
+-- so many octets 0
+unfoldable pub zeros : ℕ → List ℕ
+zeros n = replicate n 0
 
 -- the last value of a count, at which it stands still
 abbrev pub last_count : ℕ

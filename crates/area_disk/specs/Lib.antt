@@ -1,3 +1,10 @@
 pub mod Disk
+pub mod Memory
+pub mod Octets
+pub mod Outside
+pub mod Past
+pub mod PastLaws
 pub mod Plan
 pub mod Quiet
+pub mod Sound
+pub mod Stretch

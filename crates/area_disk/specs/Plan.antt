@@ -1,5 +1,5 @@
 -- What a plan says of the calls to come, and what a stop leaves.
-use Rattle.std.specs.Prelude.{◌≡◌, ℕ, zero, suc, ◌-◌, ◌^◌, Bool, true, false, ◌||◌, ◌==◌, if◌then◌else◌, List, length, replicate, Option, None, Some, Result, IsOk, IsErr, is_err}
+use Rattle.std.specs.Prelude.{◌≡◌, ℕ, zero, suc, ◌-◌, Bool, true, false, ◌||◌, ◌==◌, if◌then◌else◌, List, length, replicate, Option, None, Some, Result, is_err}
 use Rattle.std.specs.List.{list_any}
 use Rattle.area_disk.specs.Disk.{counted, overwritten}
 use Rattle.area_disk.specs.declared.plan.Outcome3.{Outcome3}
@@ -50,12 +50,16 @@ after_call fate s = record s { calls = counted 1 s.calls; stopped = s.stopped ||
 abbrev pub after_read : Schedule → Schedule
 after_read s = record s { reads = counted 1 s.reads }
 
--- after this plan was armed: the calls count anew from 1, and a stop stays
-abbrev pub armed : Plan → Schedule → Schedule
-armed plan s = record { calls = 0; reads = 0; fail = plan.fail.items; read_fail = plan.read_fail.items; stop = plan.stop; stopped = s.stopped }
-
 abbrev pub with_stopped : Bool → Schedule → Schedule
 with_stopped stopped s = record s { stopped = stopped }
+
+-- this plan before the first call
+abbrev pub schedule_of : Plan → Schedule
+schedule_of plan = record { calls = 0; reads = 0; fail = plan.fail.items; read_fail = plan.read_fail.items; stop = plan.stop; stopped = false }
+
+-- after this plan was armed: the calls count anew from 1, and a stop stays
+abbrev pub armed : Plan → Schedule → Schedule
+armed plan s = with_stopped s.stopped (schedule_of plan)
 
 -- what an octet holds that a stop rotted
 abbrev pub rot : ℕ

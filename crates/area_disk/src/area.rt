@@ -1,5 +1,5 @@
 // An area as a journal sees it: a fixed number of octets, with a disk model.
-ghost use Rattle.std.specs.Prelude.{◌≡◌, ◌≤◌, ◌+◌, ℕ, List, length, take, drop, Bool, IsTrue, OnOk};
+ghost use Rattle.std.specs.Prelude.{◌≡◌, ◌≤◌, ◌+◌, ℕ, List, length, take, drop, Bool, IsTrue, OnOk, Some, codes};
 ghost use Rattle.area_disk.specs.Disk.{overwritten, Torn, Follows, Within, Only, Elapses, counted, HasCause};
 ghost use Rattle.area_disk.specs.Plan.{Prospect, WriteAsPlanned, SyncAsPlanned, ReadAsPlanned};
 ghost use Rattle.area_disk.specs.declared.plan.Outcome3.{Outcome3};
@@ -14,6 +14,8 @@ use std::fmt;
 pub struct Failed;
 
 impl fmt::Display for Failed {
+    ghost output = { λ _. Some (codes "the device failed") };
+
     fn fmt<W: fmt::Write>(&self, f: &mut fmt::Formatter<W>) -> fmt::Result {
         write!(f, "the device failed")
     }
@@ -26,6 +28,8 @@ impl Error for Failed {}
 pub struct NoMemory;
 
 impl fmt::Display for NoMemory {
+    ghost output = { λ _. Some (codes "out of memory") };
+
     fn fmt<W: fmt::Write>(&self, f: &mut fmt::Formatter<W>) -> fmt::Result {
         write!(f, "out of memory")
     }

@@ -3,11 +3,21 @@
 #![tactic(auto)]
 
 mod area;
+mod disk;
 mod drill;
+mod memory;
+mod past;
 mod plan;
+mod planned;
 mod quiet;
+mod stretch;
 
 pub use area::{Area, Failed, NoMemory};
 pub use drill::{Drill, DrillArea};
+pub use memory::MemoryArea;
 pub use plan::{Fate, Outcome3, Plan, Stop};
+pub use planned::PlannedCalls;
 pub use quiet::QuietArea;
+
+#[cfg(test)]
+mod tests;

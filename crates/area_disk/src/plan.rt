@@ -18,7 +18,8 @@ pub struct Stop {
     pub outcome: Outcome3,
 }
 
-/// The calls that are to fail and the one stop, by numbers from 1 since the plan was armed.
+/// The calls that are to fail and the one stop, by numbers from 1 since the plan was armed. The counted calls of an
+/// area are `write_at` and `sync`, and its reads are `read_at`.
 #[derive(Debug, Drop)]
 pub struct Plan {
     /// Counted calls that fail and change nothing but the counts.

@@ -1,6 +1,8 @@
 // An area in memory that never fails.
-ghost use Rattle.std.specs.Prelude.{◌≡◌, ℕ, true, false, length, replicate, IfOk};
+ghost use Rattle.std.specs.Prelude.{◌≡◌, ℕ, true, false, length, IfOk};
+ghost use Rattle.area_disk.specs.Disk.{zeros};
 
+use crate::stretch::{overwrite, zeroed};
 use crate::{Area, Failed, NoMemory};
 use std::alloc::Global;
 use std::marker::Model;
@@ -22,10 +24,12 @@ impl Model for QuietArea {
 
 impl QuietArea {
     /// An area of `length` octets, each of them 0. `NoMemory` where there is no memory for them.
+    #[tactic(auto, using(crate::specs::Octets::length_zeros))]
     pub fn new(alloc: Global, length: u64) -> Result<QuietArea, NoMemory>
-        ensures { IfOk result (λ area. area ≡ replicate length 0) }
+        ensures size { IfOk result (λ area. ⟦<QuietArea as Area>⟧.size area ≡ length) }
+        ensures octets { IfOk result (λ area. area ≡ zeros length) }
     {
-        let octets = vec![in alloc; 0; length as usize]?;
+        let octets = zeroed(alloc, length as usize)?;
         Ok(QuietArea { octets })
     }
 }
@@ -87,9 +91,7 @@ impl Area for QuietArea {
     }
 
     fn write_at(&mut self, at: u64, from: &[u8]) -> Result<(), Failed> {
-        let at = at as usize;
-        let octets = self.octets.as_mut_slice();
-        octets[at..at + from.len()].copy_from_slice(from);
+        overwrite(&mut self.octets, at as usize, from);
         Ok(())
     }
 

@@ -1,5 +1,5 @@
-use Rattle.area_disk.proofs.Tearing.{torn_refl}
+use Rattle.area_disk.specs.Octets.{torn_same}
 use Rattle.area_disk.proofs.quiet.QuietAreaArea.write_at.Goals as goal
 
 pub returns-clause-crash : goal.returns-clause-crash
-returns-clause-crash c = λ octets left. (octets, tt, torn_refl _ _ octets)
+returns-clause-crash c = λ octets left. (octets, tt, torn_same _ _ octets)

@@ -1,0 +1,189 @@
+-- What one change more makes of a past.
+use Rattle.std.proofs.Common.{◌≡◌, ◌⊎◌, inl, inr, ℕ, zero, suc, ◌+◌, ◌≤◌, ◌<◌, Bool, true, false, ◌&&◌, nat_lt, nat_le, List, [], ◌∷◌, ◌++◌, length, take, refl, sym, ◌∙◌, ap, subst, arith}
+use Rattle.std.proofs.lemmas.List.{take-append-le, take_all, length_push}
+use Rattle.std.proofs.lemmas.Bool.{cases_lt}
+use Rattle.std.proofs.lemmas.Bool.Decides.{nat_tests}
+use Rattle.area_disk.specs.Disk.{overwritten, Elapses, last_count}
+use Rattle.area_disk.specs.Octets.{length-overwritten}
+use Rattle.area_disk.specs.Stretch.{SameOutside}
+use Rattle.area_disk.specs.Past.{Change, Past, image_after, unsynced_with, unsynced_after, IsOutcome, up_to, LeftSince, moment_of, first_told, told_of, anew, pushed, pushed_where, noted_where, noted, most_calls, most_octets, octets_in}
+use Rattle.area_disk.specs.declared.stretch.Stretch.{Stretch}
+
+pub image_after-push : (changes : List Change) (c : Change) (image : List ℕ) → image_after (changes ++ c ∷ []) image ≡ overwritten (image_after changes image) c.at c.octets
+image_after-push [] c image = refl
+image_after-push (x ∷ changes) c image = image_after-push changes c (overwritten image x.at x.octets)
+
+pub unsynced_after-push : (changes : List Change) (c : Change) (unsynced : List Stretch) → unsynced_after (changes ++ c ∷ []) unsynced ≡ unsynced_with c.settles (unsynced_after changes unsynced) (record { at = c.at; count = length c.octets })
+unsynced_after-push [] c unsynced = refl
+unsynced_after-push (x ∷ changes) c unsynced = unsynced_after-push changes c (unsynced_with x.settles unsynced (record { at = x.at; count = length x.octets }))
+
+-- the octets after one change more
+pub noted_image : (c : Change) (p : Past) → image_after (noted c p).changes (noted c p).image ≡ overwritten (image_after p.changes p.image) c.at c.octets
+noted_image c p = by_size (nat_lt most_octets (length c.octets))
+  where
+    by_room : (b : Bool) → image_after (pushed_where b c p).changes (pushed_where b c p).image ≡ overwritten (image_after p.changes p.image) c.at c.octets
+    by_room true = image_after-push p.changes c p.image
+    by_room false = refl
+
+    by_size : (b : Bool) → image_after (noted_where b c p).changes (noted_where b c p).image ≡ overwritten (image_after p.changes p.image) c.at c.octets
+    by_size true = image_after-push p.changes c p.image
+    by_size false = by_room (nat_lt (length p.changes) most_calls && nat_le (octets_in p.changes + length c.octets) most_octets)
+
+-- what is unsynced after one change more
+pub noted_unsynced : (c : Change) (p : Past) → unsynced_after (noted c p).changes (noted c p).unsynced ≡ unsynced_with c.settles (unsynced_after p.changes p.unsynced) (record { at = c.at; count = length c.octets })
+noted_unsynced c p = by_size (nat_lt most_octets (length c.octets))
+  where
+    by_room : (b : Bool) → unsynced_after (pushed_where b c p).changes (pushed_where b c p).unsynced ≡ unsynced_with c.settles (unsynced_after p.changes p.unsynced) (record { at = c.at; count = length c.octets })
+    by_room true = unsynced_after-push p.changes c p.unsynced
+    by_room false = refl
+
+    by_size : (b : Bool) → unsynced_after (noted_where b c p).changes (noted_where b c p).unsynced ≡ unsynced_with c.settles (unsynced_after p.changes p.unsynced) (record { at = c.at; count = length c.octets })
+    by_size true = unsynced_after-push p.changes c p.unsynced
+    by_size false = by_room (nat_lt (length p.changes) most_calls && nat_le (octets_in p.changes + length c.octets) most_octets)
+
+-- the number of octets stays
+pub noted_size : (c : Change) (p : Past) (n : ℕ) → length p.image ≡ n → length (image_after p.changes p.image) ≡ n → c.at + length c.octets ≤ n → length (noted c p).image ≡ n
+noted_size c p n first now fits = by_size (nat_lt most_octets (length c.octets))
+  where
+    by_room : (b : Bool) → length (pushed_where b c p).image ≡ n
+    by_room true = first
+    by_room false = now
+
+    by_size : (b : Bool) → length (noted_where b c p).image ≡ n
+    by_size true = ap length (image_after-push p.changes c p.image) ∙ length-overwritten (image_after p.changes p.image) c.at c.octets (omega (arith, now, fits)) ∙ now
+    by_size false = by_room (nat_lt (length p.changes) most_calls && nat_le (octets_in p.changes + length c.octets) most_octets)
+
+-- a told moment is one before the numbers end
+told_when : (n first t : ℕ) (b : Bool) → nat_lt n last_count ≡ b → first_told b first ≤ t → t ≤ last_count → (n < last_count) × (first ≤ t)
+told_when n first t true is le end = (grind (arith, nat_tests), le)
+told_when n first t false is le end = absurd (omega (arith, le, end))
+
+pub told_is : (p : Past) (t : ℕ) → told_of p ≤ t → t ≤ last_count → (p.first + length p.changes < last_count) × (p.first ≤ t)
+told_is p t le end = told_when (p.first + length p.changes) p.first t (nat_lt (p.first + length p.changes) last_count) refl le end
+
+first_told_up : (n first m later : ℕ) (b d : Bool) → nat_lt n last_count ≡ b → nat_lt m last_count ≡ d → (m < last_count → n < last_count)
+    → (n < last_count → first ≤ later) → first ≤ n → first_told b first ≤ first_told d later
+first_told_up n first m later true true is is' back up le = up (grind (arith, nat_tests))
+first_told_up n first m later true false is is' back up le =
+    let below : n < last_count = grind (arith, nat_tests) in
+    omega (arith, below, le)
+first_told_up n first m later false true is is' back up le =
+    let below : m < last_count = grind (arith, nat_tests) in
+    let below' : n < last_count = back below in
+    absurd (grind (arith, nat_tests))
+first_told_up n first m later false false is is' back up le = omega arith
+
+-- what a crash leaves after so many changes
+abbrev LeftAfter : Past → List Change → List ℕ → Type 0
+LeftAfter p changes octets = SameOutside (unsynced_after changes p.unsynced) (image_after changes p.image) octets
+
+all_changes : (p : Past) (k : ℕ) → length p.changes ≤ k → take k p.changes ≡ p.changes
+all_changes p k le = take_all k p.changes le
+
+-- this moment is one of those since an earlier one
+pub past_counts_now : (p : Past) (t : ℕ) (octets : List ℕ) → t ≤ moment_of p → IsOutcome p octets → LeftSince p t octets
+past_counts_now p t octets le out = (length p.changes, omega (arith, le), omega arith, subst (λ (l : List Change). LeftAfter p l octets) (sym (all_changes p (length p.changes) (omega arith))) out)
+
+-- since this moment there is no other
+pub past_only_now : (p : Past) (octets : List ℕ) → told_of p ≤ moment_of p → LeftSince p (moment_of p) octets → IsOutcome p octets
+past_only_now p octets told left =
+    let at_end = told_is p (moment_of p) told (omega arith) in
+    let here : length p.changes ≤ left.0 = omega (arith, at_end.0, left.1) in
+    subst (λ (l : List Change). LeftAfter p l octets) (all_changes p left.0 here) left.3
+
+-- how time goes on from one past to another
+abbrev Goes : Past → Past → Type 0
+Goes p q = Elapses (told_of p) (told_of q) (moment_of p) (moment_of q) (LeftSince p) (LeftSince q) (IsOutcome q)
+
+goes_pushed : (c : Change) (p : Past) → Goes p (pushed c p)
+goes_pushed c p = record {
+  later = omega (arith, more);
+  told_later = first_told_up (p.first + length p.changes) p.first (p.first + length (p.changes ++ c ∷ [])) p.first _ _ refl refl (λ below. omega (arith, more, below)) (λ below. omega arith) (omega arith);
+  nothing_else = λ t octets told le left. by_place t octets left (cases_lt (length p.changes) left.0);
+  keeps = λ t octets told le left.
+      (left.0, left.1, omega (arith, more, left.2), subst (λ (l : List Change). LeftAfter p l octets) (sym (take-append-le left.0 p.changes (c ∷ []) left.2)) left.3);
+}
+  where
+    more : length (p.changes ++ c ∷ []) ≡ length p.changes + 1
+    more = length_push p.changes c
+
+    by_place : (t : ℕ) (octets : List ℕ) (left : LeftSince (pushed c p) t octets) → (length p.changes < left.0) ⊎ (left.0 ≤ length p.changes) → LeftSince p t octets ⊎ IsOutcome (pushed c p) octets
+    by_place t octets left (inl last) = inr (subst (λ (l : List Change). LeftAfter p l octets) (take_all left.0 (p.changes ++ c ∷ []) (omega (arith, more, last))) left.3)
+    by_place t octets left (inr front) = inl (left.0, left.1, front, subst (λ (l : List Change). LeftAfter p l octets) (take-append-le left.0 p.changes (c ∷ []) front) left.3)
+
+only_first : (p : Past) (k : ℕ) (octets : List ℕ) → k ≤ 0 → IsOutcome (up_to k (anew p)) octets → IsOutcome p octets
+only_first p zero octets le out = out
+only_first p (suc k) octets le out = absurd (omega (arith, le))
+
+goes_anew : (p : Past) → Goes p (anew p)
+goes_anew p = record {
+  later = omega arith;
+  told_later = first_told_up (p.first + length p.changes) p.first (moment_of p + 0) (moment_of p) _ _ refl refl (λ below. omega (arith, below)) (λ below. omega (arith, below)) (omega arith);
+  nothing_else = λ t octets told le left. inr (only_first p left.0 octets left.2 left.3);
+  keeps = λ t octets told le left.
+      let here = told_is (anew p) t told (omega (arith, le)) in
+      let last : length p.changes ≤ left.0 = omega (arith, here.0, here.1, left.1) in (
+        0,
+        omega (arith, le),
+        omega arith,
+        subst (λ (l : List Change). LeftAfter p l octets) (all_changes p left.0 last) left.3,
+      );
+}
+
+goes_pushed_anew : (c : Change) (p : Past) → Goes p (pushed c (anew p))
+goes_pushed_anew c p = record {
+  later = omega (arith, one.later, two.later);
+  told_later = omega (arith, one.told_later, two.told_later);
+  nothing_else = λ t octets told le left.
+      first_of_two t octets le (omega (arith, told, two.told_later)) (two.nothing_else t octets told (omega (arith, le, one.later)) left);
+  keeps = λ t octets told le left. two.keeps t octets told (omega (arith, le, one.later)) (one.keeps t octets (omega (arith, told, two.told_later)) le left);
+}
+  where
+    one : Goes p (anew p)
+    one = goes_anew p
+
+    two : Goes (anew p) (pushed c (anew p))
+    two = goes_pushed c (anew p)
+
+    before : (t : ℕ) (octets : List ℕ) → t ≤ moment_of p → LeftSince p t octets ⊎ IsOutcome (anew p) octets → LeftSince p t octets
+    before t octets le (inl past) = past
+    before t octets le (inr out) = past_counts_now p t octets le out
+
+    first_of_two : (t : ℕ) (octets : List ℕ) → t ≤ moment_of p → told_of (anew p) ≤ t → LeftSince (anew p) t octets ⊎ IsOutcome (pushed c (anew p)) octets → LeftSince p t octets ⊎ IsOutcome (pushed c (anew p)) octets
+    first_of_two t octets le told (inl left) = inl (before t octets le (one.nothing_else t octets told le left))
+    first_of_two t octets le told (inr out) = inr out
+
+goes_passed : (c : Change) (p : Past) → Goes p (anew (pushed c p))
+goes_passed c p = record {
+  later = omega (arith, one.later, two.later);
+  told_later = omega (arith, one.told_later, two.told_later);
+  nothing_else = λ t octets told le left. absurd (none t told le);
+  keeps = λ t octets told le left. absurd (none t told le);
+}
+  where
+    one : Goes p (pushed c p)
+    one = goes_pushed c p
+
+    two : Goes (pushed c p) (anew (pushed c p))
+    two = goes_anew (pushed c p)
+
+    none : (t : ℕ) → told_of (anew (pushed c p)) ≤ t → t ≤ moment_of p → ⊥
+    none t told le =
+        let here = told_is (anew (pushed c p)) t told (omega (arith, le)) in
+        omega (arith, here.0, here.1, le, length_push p.changes c)
+
+-- one change more is one step of time
+pub goes_noted : (c : Change) (p : Past) → Elapses (told_of p) (told_of (noted c p)) (moment_of p) (moment_of (noted c p)) (LeftSince p) (LeftSince (noted c p)) (IsOutcome (noted c p))
+goes_noted c p = by_size (nat_lt most_octets (length c.octets))
+  where
+    by_room : (b : Bool) → Goes p (pushed_where b c p)
+    by_room true = goes_pushed c p
+    by_room false = goes_pushed_anew c p
+
+    by_size : (b : Bool) → Goes p (noted_where b c p)
+    by_size true = goes_passed c p
+    by_size false = by_room (nat_lt (length p.changes) most_calls && nat_le (octets_in p.changes + length c.octets) most_octets)
+
+-- where nothing changes, no time passes
+pub goes_same : (p : Past) → Elapses (told_of p) (told_of p) (moment_of p) (moment_of p) (LeftSince p) (LeftSince p) (IsOutcome p)
+goes_same p = record { later = omega arith; told_later = omega arith; nothing_else = λ t octets told le left. inl left; keeps = λ t octets told le left. left }
