@@ -14,12 +14,12 @@ use Rattle.gate_journal.proofs.Spelling.{spelled-nil, spelled-cons, spelled-appe
 
 -- two lists whose spellings begin the same: they are one, or one goes on where the other ends
 data Compared (some other : List (List ℕ)) : Type 0 where
-  same : some ≡ other → Compared some other
+  equal : some ≡ other → Compared some other
   longer : (batch : List ℕ) (more : List (List ℕ)) → other ≡ some ++ batch ∷ more → Compared some other
   shorter : (batch : List ℕ) (more : List (List ℕ)) → some ≡ other ++ batch ∷ more → Compared some other
 
 compared_cons : (batch : List ℕ) (some other : List (List ℕ)) → Compared some other → Compared (batch ∷ some) (batch ∷ other)
-compared_cons batch some other (same e) = same (ap (λ (l : List (List ℕ)). batch ∷ l) e)
+compared_cons batch some other (equal e) = equal (ap (λ (l : List (List ℕ)). batch ∷ l) e)
 compared_cons batch some other (longer b m e) = longer b m (ap (λ (l : List (List ℕ)). batch ∷ l) e)
 compared_cons batch some other (shorter b m e) = shorter b m (ap (λ (l : List (List ℕ)). batch ∷ l) e)
 
@@ -28,7 +28,7 @@ cons_rest batch some rest =
     ap (λ (l : List ℕ). drop 1 (l ++ rest)) (spelled-cons batch some) ∙ append_assoc (big_bytes 4 (length batch) ++ batch) (spelled some) rest
 
 compared : (some other : List (List ℕ)) (rest back : List ℕ) → All IsSmall some → All IsSmall other → spelled some ++ rest ≡ spelled other ++ back → Compared some other
-compared [] [] rest back s o e = same refl
+compared [] [] rest back s o e = equal refl
 compared [] (c ∷ other) rest back s o e = longer c other refl
 compared (b ∷ some) [] rest back s o e = shorter b some refl
 compared (b ∷ some) (c ∷ other) rest back s o e =
@@ -108,7 +108,7 @@ module _ (header : List ℕ) (long : length header ≡ 32) (octets : List ℕ) w
       decide (compared some other (drop at octets) (drop far octets) one.small two.small (sym (behind at some one) ∙ behind far other two))
     where
       decide : Compared some other → some ≡ other
-      decide (same e) = e
+      decide (equal e) = e
       decide (longer b m e) = absurd (goes_on at some one b m far (subst (λ (l : List (List ℕ)). Stop header octets far l) e two))
       decide (shorter b m e) = absurd (goes_on far other two b m at (subst (λ (l : List (List ℕ)). Stop header octets at l) e one))
 

@@ -8,6 +8,7 @@ mod Fronts
 mod Seen
 mod Laying
 mod Listing
+mod Openings
 mod Places
 mod Runs
 mod Spelling

@@ -28,7 +28,7 @@ laid_listed header octets laid =
     }
 
 module _ (header : List ℕ) (long : length header ≡ 32) (gate : ℕ) (octets : List ℕ) (same : take 32 octets ≡ header) (low : 32 ≤ gate) (below : AreBelow gate octets) where
-  front_is : take gate octets ≡ header ++ spelled (batches_below gate octets)
+  pub front_is : take gate octets ≡ header ++ spelled (batches_below gate octets)
   front_is =
       sym (take-append-drop 32 (take gate octets))
       ∙ ap (λ (l : List ℕ). l ++ drop 32 (take gate octets)) (take-take 32 gate octets low ∙ same)

@@ -113,6 +113,7 @@ fn list<A: Area>(
     ensures header { IfOk result (λ journal. header_of journal ≡ header (A.size area) address generation) }
 
     ensures broken { IsTrue A.tells_octets → IfErr result (λ fault. (at : ℕ) → fault.0 ≡ OpenFault.NotOurs at → IsBroken (header (A.size area) address generation) (A.octets area) at) }
+    ensures foreign { IsTrue A.tells_octets → (at : ℕ) → IsBroken (header (A.size area) address generation) (A.octets area) at → IsErrAnd result (λ fault. (fault.0 ≡ OpenFault.NotOurs at) ⊎ (fault.0 ≡ OpenFault.Device)) }
     ensures kept { OnArea result (λ now. Kept A.Area area now) }
     ensures faults { IfOk result (λ journal. A.faults (area_of journal) ≡ A.faults area) }
     ensures faults_err { IfErr result (λ fault. A.faults area ≤ A.faults fault.1) }
@@ -213,6 +214,51 @@ impl<A: Area> Journal<A> {
             Ok(Verdict::Starts { blank }) => make_anew(alloc, area, blank, address, generation),
             Ok(Verdict::Same) => list(alloc, area, address, generation),
             Ok(Verdict::Other { at }) => Err((OpenFault::NotOurs { at }, area)),
+            Err(Failed) => Err((OpenFault::Device, area)),
+        }
+    }
+
+    /// Makes a draft on an area that an opening would make anew, for a gateway's address and a generation. It makes all
+    /// of the journal but octet 0 of the area, with three calls of the device. Batches may be appended to it; until
+    /// `found` every crash leaves an area that an opening makes anew.
+    ///
+    /// It refuses an area that doesn't start with `NotOurs { at: 0 }`. It takes memory for one buffer of at most
+    /// 1,048,581 octets, and hands the area back where it fails.
+    pub fn draft(
+        alloc: Global,
+        mut area: A,
+        address: u32,
+        generation: u32,
+    ) -> Result<Journal<A>, (OpenFault, A)>
+        requires long { 100 ≤ A.size area }
+        requires short { A.size area ≤ 268435456 }
+
+        ensures batches { Told A.Area → IfOk result (λ journal. batches journal ≡ []) }
+        ensures settled { IfOk result (λ journal. IsSettled journal) }
+        ensures draft { IfOk result (λ journal. front_of journal ≡ Draft) }
+        ensures open { IfOk result (λ journal. is_closed journal ≡ false) }
+        ensures header { IfOk result (λ journal. header_of journal ≡ header (A.size area) address generation) }
+        ensures size { OnArea result (λ now. A.size now ≡ A.size area) }
+
+        // A crash at any moment leaves what it could before, or an area that starts.
+        ensures moments { Told A.Area → OnArea result (λ now. Leaves A.Area area now (λ c. A.may_leave area c ⊎ Starts (header (A.size area) address generation) c)) }
+
+        // Each error.
+        ensures started { Told A.Area → IfOk result (λ journal. Starts (header (A.size area) address generation) (A.octets area)) }
+        ensures not_ours { Told A.Area → IfErr result (λ fault. (at : ℕ) → fault.0 ≡ OpenFault.NotOurs at → (at ≡ 0) × (Starts (header (A.size area) address generation) (A.octets area) → ⊥)) }
+        ensures device { IfErr result (λ fault. fault.0 ≡ OpenFault.Device → Rose (A.faults area) (A.faults fault.1)) }
+        ensures faults { IfOk result (λ journal. A.faults (area_of journal) ≡ A.faults area) }
+        ensures faults_err { IfErr result (λ fault. A.faults area ≤ A.faults fault.1) }
+        ensures unwritten { Told A.Area → IfErr result (λ fault. (fault.0 ≡ OpenFault.Device) ⊎ (A.octets fault.1 ≡ A.octets area)) }
+
+        ensures calls { IsTrue A.tells_calls → IfOk result (λ journal. A.calls (area_of journal) ≡ counted 3 (A.calls area)) }
+        ensures calls_any { IsTrue A.tells_calls → OnArea result (λ now. RoseUpTo 3 (A.calls area) (A.calls now)) }
+    {
+        let header = header_of(area.length(), address, generation);
+        match look(&mut area, &header) {
+            Ok(Verdict::Starts { blank }) => lay(alloc, area, blank, address, generation),
+            Ok(Verdict::Same) => Err((OpenFault::NotOurs { at: 0 }, area)),
+            Ok(Verdict::Other { at: _ }) => Err((OpenFault::NotOurs { at: 0 }, area)),
             Err(Failed) => Err((OpenFault::Device, area)),
         }
     }
