@@ -2,7 +2,7 @@
 use Rattle.std.specs.Prelude.{◌≡◌, ◌⊎◌, ℕ, ◌+◌, ◌-◌, ◌≤◌, Bool, true, false, ◌||◌, ◌&&◌, ◌==◌, IsTrue, if◌then◌else◌, slice_index, List, [], ◌∷◌, ◌++◌, length, take, drop}
 use Rattle.area_disk.specs.declared.area.Area.{Ghosts}
 use Rattle.gate_journal.specs.Format.{open_gate, header, gate_at, end_of, free_beside}
-use Rattle.gate_journal.specs.Moments.{Told, Kept}
+use Rattle.gate_journal.specs.Moments.{Told, Kept, Leaves}
 use Rattle.gate_journal.specs.State.{batches_below, Keeps, front_after}
 use Rattle.gate_journal.specs.declared.journal.Front.{Front}
 use Rattle.gate_journal.specs.declared.journal.Front.TheVariants.{Founded, Draft, Founding}
@@ -77,6 +77,19 @@ pub record IsSame {A : Type 0} {tells : Ghosts A} (old new : Journal A tells) : 
 -- The journal is as before, and so is what a crash leaves: no counted call was made.
 pub record IsKept {A : Type 0} {tells : Ghosts A} (old new : Journal A tells) : Type 0 where
   pub area : Kept tells (area_of old) (area_of new)
+  pub header : header_of new ≡ header_of old
+  pub front : front_of new ≡ front_of old
+  pub batches : batches new ≡ batches old
+  pub end : end new ≡ end old
+  pub closed : is_closed new ≡ is_closed old
+  pub torn : torn new ≡ torn old
+  pub torn_stands : torn_stands new ≡ torn_stands old
+
+-- The journal is as before, and so is what a crash leaves; the calls may be counted anew.
+pub record IsArmed {A : Type 0} {tells : Ghosts A} (old new : Journal A tells) : Type 0 where
+  pub crash : Leaves tells (area_of old) (area_of new) (tells.may_leave (area_of old))
+  pub faults : tells.faults (area_of new) ≡ tells.faults (area_of old)
+  pub size : tells.size (area_of new) ≡ tells.size (area_of old)
   pub header : header_of new ≡ header_of old
   pub front : front_of new ≡ front_of old
   pub batches : batches new ≡ batches old

@@ -29,7 +29,7 @@ pub enum Front {
 /// stands; so a crash leaves the whole batch or none of it.
 #[derive(Drop)]
 pub struct Journal<A: Area> {
-    area: A,
+    pub(crate) area: A,
     /// Where a batch and its frame are put together. After a failed append it keeps the batch.
     buffer: Vec<u8>,
     /// The place of the first closed gate.

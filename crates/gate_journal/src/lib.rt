@@ -2,6 +2,7 @@
 #![tactic(auto)]
 
 mod device;
+mod drill;
 mod faults;
 mod format;
 mod journal;
