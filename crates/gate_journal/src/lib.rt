@@ -11,3 +11,6 @@ mod reading;
 
 pub use faults::{AppendFault, Device, OpenFault};
 pub use journal::{Front, Journal};
+
+#[cfg(test)]
+mod tests;
