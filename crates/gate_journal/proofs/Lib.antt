@@ -10,6 +10,7 @@ mod Laying
 mod Listing
 mod Openings
 mod Places
+mod Plans
 mod Runs
 mod Spelling
 mod States

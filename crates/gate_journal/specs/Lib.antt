@@ -3,5 +3,6 @@ pub mod Format
 pub mod Journal
 pub mod Moments
 pub mod Opening
+pub mod Planned
 pub mod State
 pub mod Verdicts
