@@ -125,7 +125,7 @@ module _ (old : Prospect) (gate : ℕ) (framed octets : List ℕ) (inside : gate
       record {
         fails = err ∙ sym parts.0;
         course = planned.course ∙ sym parts.1;
-        gate = λ o. closed_test (new.leaves o) gate (λ e. frame_ended (ending_of (course_of old)) old.leaves octets gate framed inside shut same ended o (ap (λ (l : List ℕ). gate_at l gate) (sym (planned.leaves o)) ∙ e)) ∙ sym (parts.2 o);
+        opened = λ o. closed_test (new.leaves o) gate (λ e. frame_ended (ending_of (course_of old)) old.leaves octets gate framed inside shut same ended o (ap (λ (l : List ℕ). gate_at l gate) (sym (planned.leaves o)) ∙ e)) ∙ sym (parts.2 o);
       }
 
   -- it was, and the gate was written
@@ -139,7 +139,7 @@ module _ (old : Prospect) (gate : ℕ) (framed octets : List ℕ) (inside : gate
       record {
         fails = two.fails ∙ ap is_ended second ∙ ap (λ e. append_fails e (ending_of (after_put (course_of old)))) (sym both);
         course = two.course ∙ ap after_put one.course ∙ ap (λ e. course_after e (after_put (course_of old)) (after_put (after_put (course_of old)))) (sym both);
-        gate = λ o.
+        opened = λ o.
             ap (λ (l : List ℕ). gate_at l gate == open_gate) (two.leaves o)
             ∙ gate_ended (ending_of (course_of mid)) mid.leaves (overwritten octets (gate + 1) framed) gate fits (λ e. shut (sym (before_written gate framed octets inside framed) ∙ e)) staged o
             ∙ ap (λ e. batch_stands BothRan e o) second

@@ -114,4 +114,4 @@ after_append course = course_after (ending_of course) (after_put course) (after_
 pub record AppendPlanned {T E : Type 0} (old : Prospect) (gate : ℕ) (result : Result T E) (new : Prospect) : Type 0 where
   pub fails : is_err result ≡ append_fails (ending_of (course_of old)) (ending_of (after_put (course_of old)))
   pub course : course_of new ≡ after_append (course_of old)
-  pub gate : (outcome : Outcome3) → (gate_at (new.leaves outcome) gate == open_gate) ≡ batch_stands (ending_of (course_of old)) (ending_of (after_put (course_of old))) outcome
+  pub opened : (outcome : Outcome3) → (gate_at (new.leaves outcome) gate == open_gate) ≡ batch_stands (ending_of (course_of old)) (ending_of (after_put (course_of old))) outcome

@@ -3,6 +3,7 @@ ghost use Rattle.std.specs.Prelude.{◌≡◌, ◌≢◌, ◌+◌, ◌≤◌, �
 ghost use Rattle.area_disk.specs.Disk.{overwritten, Torn, Only, HasCause};
 ghost use Rattle.gate_journal.specs.Adding.{added, IsAdding};
 ghost use Rattle.gate_journal.specs.Format.{open_gate, gate_at};
+ghost use Rattle.gate_journal.specs.Planned.{PutPlanned, AppendPlanned};
 ghost use Rattle.gate_journal.specs.Moments.{Told, Leaves, Calls};
 
 use crate::format::OPEN;
@@ -18,6 +19,7 @@ pub fn put<A: Area>(area: &mut A, at: u64, from: &[u8]) -> Result<(), Failed>
     ensures any_moment { Only (A.octets area.old) (A.may_leave area.old) → Leaves A.Area area.old area.new (Torn at (length from.now) (A.octets area.old)) }
 
     ensures calls { IsTrue A.tells_calls → Calls 2 (A.calls area.old) (A.calls area.new) result }
+    ensures planned { IsTrue A.tells_fate → PutPlanned (A.fate area.old) at from.now result (A.fate area.new) }
     ensures cause { HasCause (A.faults area.old) (A.faults area.new) result }
 {
     area.write_at(at, from)?;
@@ -36,6 +38,8 @@ pub fn add<A: Area>(area: &mut A, gate: u64, frame: &[u8]) -> Result<(), Failed>
         Leaves A.Area area.old area.new (IsAdding gate frame.now (A.octets area.old)) }
 
     ensures calls { IsTrue A.tells_calls → Calls 4 (A.calls area.old) (A.calls area.new) result }
+    ensures planned { IsTrue A.tells_fate → Told A.Area → gate_at (A.octets area.old) gate ≢ open_gate → Only (A.octets area.old) (A.may_leave area.old) →
+        AppendPlanned (A.fate area.old) gate result (A.fate area.new) }
     ensures cause { HasCause (A.faults area.old) (A.faults area.new) result }
 {
     put(area, gate + 1, frame)?;
