@@ -48,6 +48,21 @@ open_after Founding first = either (first == 67)
     either true = refl
     either false = refl
 
+small_after : (b : Bool) (batches : List (List ℕ)) (batch : List ℕ) → All IsSmall batches → IsSmall batch → All IsSmall (if b then batches ++ batch ∷ [] else batches)
+small_after true batches batch small short = All-push IsSmall batches batch small short
+small_after false batches batch small short = small
+
+place_after : (is_torn : Bool) (open' : Bool) (gate n size : ℕ) → 32 ≤ gate → gate < size → (is_torn ≡ true → gate + 5 + n < size) → (octet : ℕ) → (octet == open_gate) ≡ open' → (32 ≤ gate_after is_torn gate n octet) × (gate_after is_torn gate n octet < size)
+place_after false open' gate n size low high fits octet is = (low, high)
+place_after true true gate n size low high fits octet is =
+    let P : Bool → Type 0 = λ b. (32 ≤ (if b then gate + 5 + n else gate)) × ((if b then gate + 5 + n else gate) < size) in
+    let there : P true = (omega (arith, low), fits refl) in
+    subst P (sym is) there
+place_after true false gate n size low high fits octet is =
+    let P : Bool → Type 0 = λ b. (32 ≤ (if b then gate + 5 + n else gate)) × ((if b then gate + 5 + n else gate) < size) in
+    let there : P false = (low, high) in
+    subst P (sym is) there
+
 module _ {A : Type 0} (g : Ghosts A) (holds : (a : A) → g.may_leave a (g.octets a)) (whole : (a : A) → IsTrue g.tells_octets → length (g.octets a) ≡ g.size a)
     (same_size : (a : A) (c : List ℕ) → IsTrue g.tells_crash → g.may_leave a c → length c ≡ g.size a) where
   module _ (old : A) (buffer : List ℕ) (gate torn_length : ℕ) (is_torn : Bool) (front : Front) (address generation : ℕ) (sound : IsSound g old buffer gate torn_length is_torn front address generation) (ready : IsReady front is_torn) where
@@ -306,6 +321,25 @@ module _ {A : Type 0} (g : Ghosts A) (holds : (a : A) → g.may_leave a (g.octet
       content_keeps_any (header (g.size journal.area) journal.address journal.generation) (length-header (g.size journal.area) journal.address journal.generation) journal.front journal.is_torn (batches_below journal.gate (g.octets journal.area)) journal.gate s.low (s.small told)
       (take journal.torn_length (drop 4 journal.buffer.items)) c (omega (arith, s.torn_size)) (omega (arith, same_size journal.area c told.1 left, s.high)) (λ e. omega (arith, s.torn_fits e, same_size journal.area c told.1 left))
       (s.content told c left)
+
+  -- what a crash leaves of a journal, by the gate that it leaves
+  pub keeps_by_gate : (journal : Journal A g) → Told g → (c : List ℕ) → g.may_leave journal.area c
+      → Keeps (front_of journal) (header_of journal) (if journal.is_torn && (gate_at c journal.gate == open_gate) then batches journal ++ torn journal ∷ [] else batches journal) c
+  unfolding batches torn
+  keeps_by_gate journal told c left =
+      let s = journal.sound in
+      let h = header (g.size journal.area) journal.address journal.generation in
+      let lh = length-header (g.size journal.area) journal.address journal.generation in
+      let bs = batches_below journal.gate (g.octets journal.area) in
+      let batch = take journal.torn_length (drop 4 journal.buffer.items) in
+      let long : length (take journal.torn_length (drop 4 journal.buffer.items)) ≡ journal.torn_length = length-torn journal.buffer.items journal.torn_length s.torn_held in
+      let size = same_size journal.area c told.1 left in
+      let fits : journal.is_torn ≡ true → journal.gate + 5 + length (take journal.torn_length (drop 4 journal.buffer.items)) < length c = λ e. omega (arith, s.torn_fits e, size, long) in
+      let place = gate_after journal.is_torn journal.gate (length batch) (gate_at c journal.gate) in
+      let content = after_gate h lh journal.front bs batch journal.gate s.low c journal.is_torn (gate_at c journal.gate) fits refl (s.content told c left) in
+      let gates = place_after journal.is_torn (gate_at c journal.gate == open_gate) journal.gate (length batch) (length c) s.low (omega (arith, s.high, size)) fits (gate_at c journal.gate) refl in
+      content_keeps h lh journal.front (if journal.is_torn && (gate_at c journal.gate == open_gate) then bs ++ batch ∷ [] else bs) place gates.0
+      (small_after (journal.is_torn && (gate_at c journal.gate == open_gate)) bs batch (s.small told) (omega (arith, s.torn_size, long))) [] c gates.1 content
 
   -- a journal that isn't closed is settled
   pub settled : (journal : Journal A g) → is_closed journal ≡ false → IsSettled journal

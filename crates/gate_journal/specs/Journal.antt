@@ -1,8 +1,10 @@
 -- What contracts see of a journal.
-use Rattle.std.specs.Prelude.{◌≡◌, ◌⊎◌, ℕ, ◌+◌, ◌-◌, ◌≤◌, Bool, true, false, ◌||◌, ◌&&◌, ◌==◌, IsTrue, if◌then◌else◌, slice_index, List, [], ◌∷◌, ◌++◌, length, take, drop}
+use Rattle.std.specs.Prelude.{◌≡◌, ◌⊎◌, ℕ, ◌+◌, ◌-◌, ◌≤◌, Bool, true, false, ◌||◌, ◌&&◌, ◌==◌, IsTrue, Result, is_err, if◌then◌else◌, slice_index, List, [], ◌∷◌, ◌++◌, length, take, drop}
 use Rattle.area_disk.specs.declared.area.Area.{Ghosts}
 use Rattle.gate_journal.specs.Format.{open_gate, header, gate_at, end_of, free_beside}
 use Rattle.gate_journal.specs.Moments.{Told, Kept, Leaves}
+use Rattle.area_disk.specs.declared.plan.Outcome3.{Outcome3}
+use Rattle.gate_journal.specs.Planned.{Ending, ending_of, course_of, after_put, append_fails, after_append, batch_stands}
 use Rattle.gate_journal.specs.State.{batches_below, Keeps, front_after}
 use Rattle.gate_journal.specs.declared.journal.Front.{Front}
 use Rattle.gate_journal.specs.declared.journal.Front.TheVariants.{Founded, Draft, Founding}
@@ -49,6 +51,28 @@ torn journal = take journal.torn_length (drop 4 journal.buffer.items)
 -- the batch whose append failed stands, as a read tells: its gate is open
 unfoldable pub torn_stands : {A : Type 0} {tells : Ghosts A} → Journal A tells → Bool
 torn_stands {tells = tells} journal = journal.is_torn && (gate_at (tells.octets journal.area) journal.gate == open_gate)
+
+-- that batch stands after a stop with this outcome that comes now
+unfoldable pub stop_stands : {A : Type 0} {tells : Ghosts A} → Outcome3 → Journal A tells → Bool
+stop_stands {tells = tells} outcome journal = journal.is_torn && (gate_at ((tells.fate journal.area).leaves outcome) journal.gate == open_gate)
+
+-- the list that such a stop leaves
+abbrev pub left_by_stop : {A : Type 0} {tells : Ghosts A} → Outcome3 → Journal A tells → List (List ℕ)
+left_by_stop outcome journal = if stop_stands outcome journal then batches journal ++ torn journal ∷ [] else batches journal
+
+-- how the writing of a frame ends by the plan, and the opening of the gate after it
+abbrev pub frame_ending : {A : Type 0} {tells : Ghosts A} → Journal A tells → Ending
+frame_ending {tells = tells} journal = ending_of (course_of (tells.fate journal.area))
+
+abbrev pub gate_ending : {A : Type 0} {tells : Ghosts A} → Journal A tells → Ending
+gate_ending {tells = tells} journal = ending_of (after_put (course_of (tells.fate journal.area)))
+
+-- An append came out as was planned: the call of the device that failed or was stopped, and its outcome, decide
+-- whether the batch stands.
+pub record AppendFollows {A T E : Type 0} {tells : Ghosts A} (old new : Journal A tells) (result : Result T E) : Type 0 where
+  pub fails : is_err result ≡ append_fails (frame_ending old) (gate_ending old)
+  pub course : course_of (tells.fate (area_of new)) ≡ after_append (course_of (tells.fate (area_of old)))
+  pub stands : is_err result ≡ true → (outcome : Outcome3) → stop_stands outcome new ≡ batch_stands (frame_ending old) (gate_ending old) outcome
 
 -- the list after it is opened again: with the batch whose append failed where that stands
 abbrev pub reopened : {A : Type 0} {tells : Ghosts A} → Journal A tells → List (List ℕ)

@@ -45,7 +45,8 @@ pub struct Journal<A: Area> {
 }
 
 impl<A: Area> Journal<A> {
-    ghost use Rattle.gate_journal.specs.Journal.{area_of, header_of, front_of, batches, end, free_of, is_closed, torn, torn_stands, reopened, reopened_front, KeepsOr, IsSettled, IsSame, IsUnchanged, IsKept, IsGate, IsInside};
+    ghost use Rattle.gate_journal.specs.Journal.{area_of, header_of, front_of, batches, end, free_of, is_closed, torn, torn_stands, left_by_stop, AppendFollows, reopened, reopened_front, KeepsOr, IsSettled, IsSame, IsUnchanged, IsKept, IsGate, IsInside};
+    ghost use Rattle.area_disk.specs.declared.plan.Outcome3.{Outcome3};
     ghost use Rattle.gate_journal.specs.declared.journal.Front.TheVariants.{Founded, Draft, Founding};
 
     // A journal over an area whose octets are those of one.
@@ -116,6 +117,9 @@ impl<A: Area> Journal<A> {
         ensures end_err { OnErr result (end self.new ≡ end self.old) }
 
         ensures calls { IsTrue A.tells_calls → OnOk result (A.calls (area_of self.new) ≡ counted 4 (A.calls (area_of self.old))) }
+        // Which call of the device failed or was stopped, and with which outcome, decides whether the batch stands.
+        ensures planned { IsTrue A.tells_fate → Told A.Area → length batch.now + 5 ≤ free_of self.old → AppendFollows self.old self.new result }
+
         ensures calls_device { IsTrue A.tells_calls → result ≡ Err AppendFault.Device → RoseUpTo 4 (A.calls (area_of self.old)) (A.calls (area_of self.new)) }
     {
         let free = self.area.length() - 1 - self.gate;
@@ -262,6 +266,7 @@ impl<A: Area> Journal<A> {
     pub fn is_closed(&self) -> bool
         ensures closed { result ≡ is_closed self.now }
         ensures settled { result ≡ false → IsSettled self.now }
+        ensures stop { IsTrue A.tells_fate → Told A.Area → (outcome : Outcome3) → Keeps (front_of self.now) (header_of self.now) (left_by_stop outcome self.now) ((A.fate (area_of self.now)).leaves outcome) }
     {
         match self.front {
             Front::Founded | Front::Draft => self.is_torn,
