@@ -322,6 +322,14 @@ module _ {A : Type 0} (g : Ghosts A) (holds : (a : A) → g.may_leave a (g.octet
       (take journal.torn_length (drop 4 journal.buffer.items)) c (omega (arith, s.torn_size)) (omega (arith, same_size journal.area c told.1 left, s.high)) (λ e. omega (arith, s.torn_fits e, same_size journal.area c told.1 left))
       (s.content told c left)
 
+  -- the first closed gate stands behind the batches
+  pub place_told : (journal : Journal A g) → Told g → journal.gate ≡ end_of (batches journal)
+  unfolding batches
+  place_told journal told =
+      let s = journal.sound in
+      place_is (header (g.size journal.area) journal.address journal.generation) (length-header (g.size journal.area) journal.address journal.generation) journal.gate (g.octets journal.area) (batches_below journal.gate (g.octets journal.area)) s.low
+      (omega (arith, whole journal.area told.0, s.high)) (s.content told (g.octets journal.area) (holds journal.area)).listed
+
   -- what a crash leaves of a journal, by the gate that it leaves
   pub keeps_by_gate : (journal : Journal A g) → Told g → (c : List ℕ) → g.may_leave journal.area c
       → Keeps (front_of journal) (header_of journal) (if journal.is_torn && (gate_at c journal.gate == open_gate) then batches journal ++ torn journal ∷ [] else batches journal) c

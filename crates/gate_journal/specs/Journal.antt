@@ -4,7 +4,7 @@ use Rattle.area_disk.specs.declared.area.Area.{Ghosts}
 use Rattle.gate_journal.specs.Format.{open_gate, header, gate_at, end_of, free_beside}
 use Rattle.gate_journal.specs.Moments.{Told, Kept, Leaves}
 use Rattle.area_disk.specs.declared.plan.Outcome3.{Outcome3}
-use Rattle.gate_journal.specs.Planned.{Ending, ending_of, course_of, after_put, append_fails, after_append, batch_stands}
+use Rattle.gate_journal.specs.Planned.{Ending, ending_of, course_of, after_put, append_fails, after_append, batch_stands, fate_of_sync, outcome_left, SyncPlanned}
 use Rattle.gate_journal.specs.State.{batches_below, Keeps, front_after}
 use Rattle.gate_journal.specs.declared.journal.Front.{Front}
 use Rattle.gate_journal.specs.declared.journal.Front.TheVariants.{Founded, Draft, Founding}
@@ -73,6 +73,12 @@ pub record AppendFollows {A T E : Type 0} {tells : Ghosts A} (old new : Journal 
   pub fails : is_err result ≡ append_fails (frame_ending old) (gate_ending old)
   pub course : course_of (tells.fate (area_of new)) ≡ after_append (course_of (tells.fate (area_of old)))
   pub stands : is_err result ≡ true → (outcome : Outcome3) → stop_stands outcome new ≡ batch_stands (frame_ending old) (gate_ending old) outcome
+
+-- An opening again came out as was planned: it fails where its sync failed or was stopped, and then a stop that comes
+-- now leaves what the outcome of that one leaves.
+pub record ReopenFollows {A T E : Type 0} {tells : Ghosts A} (old new : Journal A tells) (result : Result T E) : Type 0 where
+  pub planned : SyncPlanned (tells.fate (area_of old)) result (tells.fate (area_of new))
+  pub stands : is_err result ≡ true → (outcome : Outcome3) → stop_stands outcome new ≡ stop_stands (outcome_left (fate_of_sync (course_of (tells.fate (area_of old)))) outcome) old
 
 -- the list after it is opened again: with the batch whose append failed where that stands
 abbrev pub reopened : {A : Type 0} {tells : Ghosts A} → Journal A tells → List (List ℕ)

@@ -1,7 +1,7 @@
 -- What comes by the plan of the calls of an append, and what a stop leaves of its batch.
 use Rattle.std.specs.Prelude.{◌≡◌, ℕ, Bool, true, false, ◌==◌, List, [], ◌∷◌, Result, is_err}
 use Rattle.area_disk.specs.Disk.{overwritten}
-use Rattle.area_disk.specs.Plan.{Schedule, Prospect, next_fate, fate_with, after_call, spare_after_write, spare_after_sync, written_as}
+use Rattle.area_disk.specs.Plan.{Schedule, Prospect, next_fate, fate_with, after_call, spare_after_write, spare_after_sync, written_as, is_failure}
 use Rattle.area_disk.specs.declared.plan.Fate.{Fate}
 use Rattle.area_disk.specs.declared.plan.Fate.TheVariants.{Runs, Fails, Stops}
 use Rattle.area_disk.specs.declared.plan.Outcome3.{Outcome3}
@@ -115,3 +115,18 @@ pub record AppendPlanned {T E : Type 0} (old : Prospect) (gate : ℕ) (result : 
   pub fails : is_err result ≡ append_fails (ending_of (course_of old)) (ending_of (after_put (course_of old)))
   pub course : course_of new ≡ after_append (course_of old)
   pub opened : (outcome : Outcome3) → (gate_at (new.leaves outcome) gate == open_gate) ≡ batch_stands (ending_of (course_of old)) (ending_of (after_put (course_of old))) outcome
+
+-- after a sync with this fate, a stop with an outcome leaves what one with this outcome would have left before
+abbrev pub outcome_left : Fate → Outcome3 → Outcome3
+outcome_left Runs outcome = New
+outcome_left Fails outcome = outcome
+outcome_left (Stops stop) outcome = stop
+
+abbrev pub with_reads : ℕ → Course → Course
+with_reads reads course = record { schedule = record course.schedule { reads = reads }; spare = course.spare }
+
+-- A sync and the reads behind it came out as was planned.
+pub record SyncPlanned {T E : Type 0} (old : Prospect) (result : Result T E) (new : Prospect) : Type 0 where
+  pub failed : is_failure (fate_of_sync (course_of old)) ≡ true → is_err result ≡ true
+  pub course : course_of new ≡ with_reads new.schedule.reads (after_sync (fate_of_sync (course_of old)) (course_of old))
+  pub leaves : (outcome : Outcome3) → new.leaves outcome ≡ old.leaves (outcome_left (fate_of_sync (course_of old)) outcome)

@@ -45,7 +45,7 @@ pub struct Journal<A: Area> {
 }
 
 impl<A: Area> Journal<A> {
-    ghost use Rattle.gate_journal.specs.Journal.{area_of, header_of, front_of, batches, end, free_of, is_closed, torn, torn_stands, left_by_stop, AppendFollows, reopened, reopened_front, KeepsOr, IsSettled, IsSame, IsUnchanged, IsKept, IsGate, IsInside};
+    ghost use Rattle.gate_journal.specs.Journal.{area_of, header_of, front_of, batches, end, free_of, is_closed, torn, torn_stands, left_by_stop, AppendFollows, ReopenFollows, reopened, reopened_front, KeepsOr, IsSettled, IsSame, IsUnchanged, IsKept, IsGate, IsInside};
     ghost use Rattle.area_disk.specs.declared.plan.Outcome3.{Outcome3};
     ghost use Rattle.gate_journal.specs.declared.journal.Front.TheVariants.{Founded, Draft, Founding};
 
@@ -162,6 +162,8 @@ impl<A: Area> Journal<A> {
         ensures front_err { OnErr result (front_of self.new ≡ front_of self.old) }
         ensures founded { front_of self.old ≡ Founded → front_of self.new ≡ Founded }
 
+        ensures planned { IsTrue A.tells_fate → ReopenFollows self.old self.new result }
+
         ensures same { IsSame self.old self.new }
         ensures calls { IsTrue A.tells_calls → A.calls (area_of self.new) ≡ counted 1 (A.calls (area_of self.old)) }
         ensures cause { HasCause (A.faults (area_of self.old)) (A.faults (area_of self.new)) result }
@@ -257,7 +259,10 @@ impl<A: Area> Journal<A> {
 
     /// The place of the first closed gate, where the next batch goes.
     pub fn end(&self) -> u64
-        ensures { result ≡ end self.now }
+        ensures place { result ≡ end self.now }
+        ensures low { 32 ≤ result }
+        ensures high { result < A.size (area_of self.now) }
+        ensures told { Told A.Area → result ≡ end_of (batches self.now) }
     {
         self.gate
     }

@@ -3,6 +3,7 @@ ghost use Rattle.std.specs.Prelude.{◌≡◌, ◌≢◌, ◌+◌, ◌<◌, ◌�
 ghost use Rattle.area_disk.specs.Disk.{Only, HasCause, counted};
 ghost use Rattle.byteorder.specs.Endian.{big_number, big_bytes};
 ghost use Rattle.gate_journal.specs.Format.{gate_at};
+ghost use Rattle.gate_journal.specs.Planned.{SyncPlanned};
 ghost use Rattle.gate_journal.specs.Moments.{Leaves, Kept};
 ghost use Rattle.gate_journal.specs.Verdicts.{IsVerdict, IsBehind, Fits, IsScanned, LiesIn};
 
@@ -171,6 +172,7 @@ pub fn see<A: Area>(area: &mut A, gate: u64) -> Result<Ends, Failed>
     ensures any_moment { Leaves A.Area area.old area.new (A.may_leave area.old) }
 
     ensures calls { IsTrue A.tells_calls → A.calls area.new ≡ counted 1 (A.calls area.old) }
+    ensures planned { IsTrue A.tells_fate → SyncPlanned (A.fate area.old) result (A.fate area.new) }
     ensures cause { HasCause (A.faults area.old) (A.faults area.new) result }
 {
     area.sync()?;

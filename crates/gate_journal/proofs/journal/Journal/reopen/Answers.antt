@@ -1,9 +1,10 @@
 use Rattle.std.proofs.Common.{◌≡◌, ℕ, Bool, true, false, List, [], ◌∷◌, ◌++◌, take, drop, refl, sym, ◌∙◌, ap, subst, arith}
 use Rattle.std.specs.Prelude.{◌&&◌, ◌==◌, if◌then◌else◌}
 use Rattle.area_disk.specs.Disk.{Within}
-use Rattle.gate_journal.specs.Format.{open_gate}
+use Rattle.gate_journal.specs.Format.{open_gate, gate_at}
 use Rattle.gate_journal.specs.State.{IsSound, batches_below, gate_after}
-use Rattle.gate_journal.specs.Journal.{batches, torn, torn_stands, closed_by}
+use Rattle.gate_journal.specs.Journal.{batches, torn, torn_stands, stop_stands, closed_by}
+use Rattle.gate_journal.proofs.Turns.{other_bool}
 use Rattle.gate_journal.proofs.Runs.{widen}
 use Rattle.gate_journal.proofs.States.{settled, open_after, keeps_any, kept_batches, kept_sound, reopened_sound, reopened_batches, ready_of, closed_when_ready}
 use Rattle.gate_journal.proofs.journal.Journal.reopen.Goals as goal
@@ -72,3 +73,14 @@ returns-in-Err-clause-any_moment_ready g c = λ told ready.
 pub returns-in-Err-clause-torn : goal.returns-in-Err-clause-torn
 unfolding torn
 returns-in-Err-clause-torn g c = refl
+
+pub returns-in-Ok-clause-planned : goal.returns-in-Ok-clause-planned
+unfolding stop_stands
+returns-in-Ok-clause-planned g c = λ told. let planned = c.in-Ok.ensures.planned told in record { planned = record { failed = planned.failed; course = planned.course; leaves = planned.leaves }; stands = λ err. absurd (other_bool (sym err)) }
+
+pub returns-in-Err-clause-planned : goal.returns-in-Err-clause-planned
+unfolding stop_stands
+returns-in-Err-clause-planned g c = λ told.
+    let j = c.args.self.now in
+    let planned = c.in-Err.ensures.planned told in
+    record { planned = record { failed = planned.failed; course = planned.course; leaves = planned.leaves }; stands = λ err outcome. ap (λ (l : List ℕ). j.is_torn && (gate_at l j.gate == open_gate)) (planned.leaves outcome) }
