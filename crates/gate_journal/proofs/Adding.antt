@@ -1,10 +1,10 @@
 -- What each of the two writes leaves that add a batch.
-use Rattle.std.proofs.Common.{◌≡◌, ◌≢◌, ℕ, ◌+◌, ◌<◌, ◌≤◌, List, [], ◌∷◌, ◌++◌, length, get_or, take, drop, refl, sym, ◌∙◌, ap, subst, arith, length-append, append_assoc}
+use Rattle.std.proofs.Common.{◌≡◌, ◌≢◌, ℕ, ◌+◌, ◌≤◌, List, [], ◌∷◌, ◌++◌, length, take, drop, refl, sym, ◌∙◌, ap, arith, length-append, append_assoc}
 use Rattle.std.proofs.lemmas.List.{take_at, drop_at, length-take-le, length-drop}
 use Rattle.area_disk.specs.Disk.{overwritten, Torn}
 use Rattle.gate_journal.specs.Adding.{added, IsAdding}
 use Rattle.gate_journal.specs.Format.{open_gate, gate_at}
-use Rattle.gate_journal.proofs.Fronts.{front_of_front, at_front, back_of_back, take_around, drop_around}
+use Rattle.gate_journal.proofs.Fronts.{front_of_front, at_front}
 
 module _ (gate : ℕ) (framed octets : List ℕ) (fits : gate + 1 + length framed ≤ length octets) where
   -- the frame behind the gate

@@ -1,16 +1,15 @@
 -- Octets stand for one list of batches, or start, or are foreign at one place.
-use Rattle.std.proofs.Common.{◌≡◌, ◌≢◌, ◌⊎◌, inl, inr, ⊎_elim, ℕ, suc, ◌+◌, ◌-◌, ◌<◌, ◌≤◌, List, [], ◌∷◌, ◌++◌, length, get_or, take, drop, refl, sym, ◌∙◌, ap, subst, arith, length-append, append_assoc, take-append-drop}
+use Rattle.std.proofs.Common.{◌≡◌, ◌⊎◌, inl, inr, ⊎_elim, ℕ, suc, ◌<◌, ◌≤◌, List, [], ◌∷◌, ◌++◌, length, get_or, take, drop, refl, sym, ◌∙◌, ap, subst, arith, length-append, append_assoc, take-append-drop}
 use Rattle.std.specs.Prelude.{All}
 use Rattle.std.proofs.lemmas.Bool.{cases_order}
 use Rattle.std.proofs.lemmas.Bool.Decides.{leb_tells}
-use Rattle.std.proofs.lemmas.List.{take_at, drop_at, drop-append-le, get_or_past, drop_all, take-take, drop-drop, get_or-take, get_or-drop, length-take, length-take-le, append_cancel_left, append-nil}
-use Rattle.std.proofs.lemmas.List.Elements.{All-head, All-tail, All-drop}
+use Rattle.std.proofs.lemmas.List.{take_at, drop_at, drop-append-le, get_or_past, take-take, get_or-take, length-take-le}
+use Rattle.std.proofs.lemmas.List.Elements.{All-head, All-tail}
 use Rattle.byteorder.specs.Endian.{big_bytes, big_number}
-use Rattle.gate_journal.specs.Format.{open_gate, spelled, taken, end_of, IsSmall, IsWhole, gate_at, Stands, Starts, IsUnfinished, Differs, IsBroken, IsForeign}
-use Rattle.gate_journal.proofs.Contents.{length-rest}
+use Rattle.gate_journal.specs.Format.{open_gate, spelled, end_of, IsSmall, IsWhole, gate_at, Stands, Starts, IsUnfinished, Differs, IsBroken}
 use Rattle.gate_journal.proofs.Fronts.{at_front}
-use Rattle.gate_journal.proofs.Places.{gate_is_open, whole_there, gate_before, small_among}
-use Rattle.gate_journal.proofs.Spelling.{spelled-nil, spelled-cons, spelled-append, length-spelled, taken-append, read_length, take_content, drop_content}
+use Rattle.gate_journal.proofs.Places.{gate_is_open, whole_there, small_among}
+use Rattle.gate_journal.proofs.Spelling.{spelled-cons, length-spelled, read_length, take_content, drop_content}
 
 -- two lists whose spellings begin the same: they are one, or one goes on where the other ends
 data Compared (some other : List (List ℕ)) : Type 0 where

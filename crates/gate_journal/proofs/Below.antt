@@ -1,12 +1,11 @@
 -- Batches below a place, one after the other.
-use Rattle.std.proofs.Common.{◌≡◌, ℕ, suc, ◌+◌, ◌-◌, ◌<◌, ◌≤◌, List, [], ◌∷◌, ◌++◌, length, get_or, take, drop, refl, sym, ◌∙◌, ap, subst, arith, append_assoc}
+use Rattle.std.proofs.Common.{◌≡◌, ℕ, suc, ◌+◌, ◌<◌, ◌≤◌, List, [], ◌∷◌, ◌++◌, length, get_or, take, drop, sym, ◌∙◌, ap, subst, arith}
 use Rattle.std.specs.Prelude.{All}
 use Rattle.std.proofs.Math.Seq.{take-add}
-use Rattle.std.proofs.lemmas.List.{take_at, drop_at, drop_all, drop_more, drop-drop, drop-append-le, length-take, length-take-le, length-drop, append-nil}
+use Rattle.std.proofs.lemmas.List.{drop_all, drop_more, drop-drop, drop-append-le, length-take, length-take-le, length-drop}
 use Rattle.std.proofs.lemmas.List.Elements.{All-nil, All-push}
 use Rattle.byteorder.specs.Endian.{big_bytes}
-use Rattle.byteorder.specs.Numbers.{length-bytes_high_first}
-use Rattle.gate_journal.specs.Format.{open_gate, spelled, IsSmall, gate_at, taken}
+use Rattle.gate_journal.specs.Format.{open_gate, spelled, IsSmall, gate_at}
 use Rattle.gate_journal.specs.State.{batches_in, batches_below}
 use Rattle.gate_journal.specs.Verdicts.{AreBelow}
 use Rattle.gate_journal.proofs.Spelling.{batches_in-spelled, spelled-nil, spelled-one, spelled-append, length-spelled}

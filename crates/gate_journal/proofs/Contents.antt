@@ -1,18 +1,16 @@
 -- What the octets of a journal stand for.
-use Rattle.std.proofs.Common.{◌≡◌, ◌≢◌, ◌⊎◌, inl, inr, ⊎_elim, ℕ, zero, suc, ◌+◌, ◌-◌, ◌<◌, ◌≤◌, Bool, true, false, List, [], ◌∷◌, ◌++◌, length, get_or, take, drop, refl, sym, ◌∙◌, ap, subst, arith, length-append, append_assoc}
+use Rattle.std.proofs.Common.{◌≡◌, ◌≢◌, inl, inr, ⊎_elim, ℕ, zero, suc, ◌+◌, ◌-◌, ◌<◌, ◌≤◌, List, [], ◌∷◌, ◌++◌, length, get_or, take, drop, refl, sym, ◌∙◌, ap, subst, arith, length-append, append_assoc}
 use Rattle.std.specs.Prelude.{All}
 use Rattle.std.proofs.lemmas.Bool.{cases_eq}
-use Rattle.std.proofs.lemmas.List.{take_at, drop_at, drop-drop, take-take, get_or-drop, get_or-take, get_or_at, drop-append-le, length-take-le, length-drop, drop_more}
-use Rattle.std.proofs.lemmas.List.Elements.{All-push}
+use Rattle.std.proofs.lemmas.List.{take_at, take-take, get_or-drop, get_or-take, get_or_at, drop-append-le, length-take-le, length-drop, drop_more}
 use Rattle.std.proofs.Math.Seq.{take-add}
 use Rattle.byteorder.specs.Endian.{big_bytes}
 use Rattle.byteorder.specs.Numbers.{length-bytes_high_first}
-use Rattle.gate_journal.specs.Format.{open_gate, closed_gate, frame, spelled, taken, end_of, IsSmall, gate_at, Stands, Starts, IsUnfinished}
-use Rattle.gate_journal.specs.State.{batches_below, Content, Keeps}
+use Rattle.gate_journal.specs.Format.{open_gate, closed_gate, frame, spelled, end_of, IsSmall, gate_at, Stands, Starts}
+use Rattle.gate_journal.specs.State.{batches_below, Keeps}
 use Rattle.gate_journal.specs.declared.journal.Front.{Front}
 use Rattle.gate_journal.specs.declared.journal.Front.TheVariants.{Founded, Draft, Founding}
-use Rattle.gate_journal.proofs.Fronts.{front_of_front, at_front}
-use Rattle.gate_journal.proofs.Spelling.{spelled-append, spelled-one, spelled-nil, length-spelled, taken-append, frame-is, length-frame, batches_below-is}
+use Rattle.gate_journal.proofs.Spelling.{spelled-append, spelled-one, length-spelled, frame-is, batches_below-is}
 
 -- a front with its first octet apart
 pub front-cons : (place : ℕ) (octets : List ℕ) → 1 ≤ place → 1 ≤ length octets → take place octets ≡ get_or octets 0 0 ∷ drop 1 (take place octets)

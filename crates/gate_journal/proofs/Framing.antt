@@ -1,5 +1,5 @@
 -- A buffer into which a frame is written.
-use Rattle.std.proofs.Common.{◌≡◌, ℕ, ◌+◌, ◌-◌, ◌<◌, ◌≤◌, List, [], ◌∷◌, ◌++◌, length, take, drop, set, refl, sym, ◌∙◌, ap, arith, length-append, append_assoc}
+use Rattle.std.proofs.Common.{◌≡◌, ℕ, ◌+◌, ◌-◌, ◌<◌, ◌≤◌, List, [], ◌∷◌, ◌++◌, length, take, drop, set, sym, ◌∙◌, ap, arith, length-append, append_assoc}
 use Rattle.std.proofs.lemmas.List.{take_at, drop_at, take_more_set, take-set-le, drop-take, length-drop, length-take}
 use borrow.Rule.Slice.PartMut.{put_mid, post_of, same_len_mid}
 

@@ -1,8 +1,8 @@
 -- What the making of an area leaves.
-use Rattle.std.proofs.Common.{◌≡◌, ◌≢◌, inl, inr, ℕ, ◌+◌, ◌<◌, ◌≤◌, List, [], ◌∷◌, ◌++◌, length, get_or, take, drop, refl, sym, ◌∙◌, ap, subst, arith, append_assoc, Result, Ok, Err, OnOk}
+use Rattle.std.proofs.Common.{◌≡◌, inl, inr, ℕ, ◌+◌, ◌<◌, List, [], ◌∷◌, ◌++◌, length, get_or, take, drop, sym, ◌∙◌, ap, arith, append_assoc, Result, Ok, Err, OnOk}
 use Rattle.std.proofs.lemmas.List.{take_at, drop-take, get_or_at, get_or-take, length-take-le}
 use Rattle.area_disk.specs.Disk.{overwritten, Torn}
-use Rattle.gate_journal.specs.Format.{open_gate, closed_gate, gate_at, Starts, IsUnfinished}
+use Rattle.gate_journal.specs.Format.{open_gate, closed_gate, Starts, IsUnfinished}
 use Rattle.gate_journal.specs.Opening.{IsLaid}
 use Rattle.gate_journal.proofs.Fronts.{at_front}
 use Rattle.gate_journal.proofs.Contents.{length-rest}

@@ -1,5 +1,5 @@
 -- Octets that are a header and batches behind it.
-use Rattle.std.proofs.Common.{◌≡◌, ◌≢◌, ℕ, ◌+◌, ◌<◌, ◌≤◌, List, [], ◌∷◌, ◌++◌, length, get_or, take, drop, refl, sym, ◌∙◌, ap, subst, arith, take-append-drop}
+use Rattle.std.proofs.Common.{◌≡◌, ◌≢◌, ℕ, ◌<◌, ◌≤◌, List, [], ◌++◌, length, get_or, take, drop, sym, ◌∙◌, ap, subst, arith, take-append-drop}
 use Rattle.std.specs.Prelude.{All}
 use Rattle.std.proofs.lemmas.List.{append-nil, take-take, drop_all, get_or-take, length-take, drop-append-le}
 use Rattle.std.proofs.lemmas.List.Elements.{All-nil}
@@ -7,8 +7,7 @@ use Rattle.gate_journal.specs.Format.{open_gate, spelled, IsSmall, IsWhole, gate
 use Rattle.gate_journal.specs.Opening.{IsLaid}
 use Rattle.gate_journal.specs.State.{batches_below, IsListed}
 use Rattle.gate_journal.specs.Verdicts.{AreBelow}
-use Rattle.gate_journal.specs.declared.journal.Front.{Front}
-use Rattle.gate_journal.specs.declared.journal.Front.TheVariants.{Founded, Draft, Founding}
+use Rattle.gate_journal.specs.declared.journal.Front.TheVariants.{Founded, Draft}
 use Rattle.gate_journal.proofs.Below.{below_is}
 use Rattle.gate_journal.proofs.Spelling.{spelled-nil}
 

@@ -1,5 +1,5 @@
 -- What the steps of an opening give together.
-use Rattle.std.proofs.Common.{◌≡◌, ◌≢◌, ◌⊎◌, inl, inr, ⊎_elim, ℕ, ◌+◌, ◌≤◌, Bool, true, false, List, [], Result, Ok, Err, refl, sym, ◌∙◌, ap, subst, arith, length, get_or, take, ◌<◌}
+use Rattle.std.proofs.Common.{◌≡◌, ◌≢◌, ◌⊎◌, inl, inr, ⊎_elim, ℕ, ◌+◌, ◌≤◌, Bool, true, false, List, Result, Ok, Err, sym, ◌∙◌, ap, subst, arith, length, take, ◌<◌}
 use Rattle.std.specs.Prelude.{IfOk, IfErr}
 use Rattle.area_disk.specs.Disk.{counted}
 use Rattle.area_disk.specs.declared.area.Area.{Ghosts}
@@ -46,5 +46,5 @@ module _ {A : Type 0} {g : Ghosts A} where
       → OnArea result (λ now. RoseUpTo (n + 1) start (g.calls now))
   calls_made n (Ok journal) start area low one ok why failed = (n + 1, omega arith, omega arith, omega (arith, ok, one))
   calls_made n (Err fault) start area low one ok why failed = ⊎_elim (λ device.
-    let rose = failed device in
-    (rose.0 + 1, omega arith, omega (arith, rose.2), omega (arith, rose.3, one))) (λ none. (1, omega arith, omega arith, ap (λ a. g.calls a) none.1 ∙ one)) why
+      let rose = failed device in
+      (rose.0 + 1, omega arith, omega (arith, rose.2), omega (arith, rose.3, one))) (λ none. (1, omega arith, omega arith, ap (λ a. g.calls a) none.1 ∙ one)) why

@@ -10,7 +10,7 @@ use Rattle.gate_journal.specs.Format.{open_gate, spelled, taken, end_of, IsSmall
 use Rattle.gate_journal.specs.Verdicts.{IsBehind, content_at}
 use Rattle.gate_journal.specs.declared.reading.Behind.{Behind}
 use Rattle.gate_journal.specs.declared.reading.Behind.TheVariants.{Shut, Whole, Cut}
-use Rattle.gate_journal.proofs.Contents.{length-rest, length-tail}
+use Rattle.gate_journal.proofs.Contents.{length-rest}
 use Rattle.gate_journal.proofs.Spelling.{spelled-append, taken-append, spelled-cons, length-spelled, read_length, drop_length}
 
 module _ (header : List ℕ) (long : length header ≡ 32) (place : ℕ) (octets : List ℕ) (some : List (List ℕ)) (batch : List ℕ) (more : List (List ℕ)) (high : place ≤ length octets)

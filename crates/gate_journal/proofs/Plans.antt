@@ -1,16 +1,16 @@
 -- How the calls of an append come out as planned.
-use Rattle.std.proofs.Common.{◌≡◌, ◌≢◌, ◌⊎◌, inl, inr, ⊎_elim, ℕ, ◌+◌, ◌<◌, ◌≤◌, Bool, true, false, List, [], ◌∷◌, ◌++◌, length, get_or, take, drop, replicate, Result, refl, sym, ◌∙◌, ap, subst, arith, append_assoc}
+use Rattle.std.proofs.Common.{◌≡◌, ◌≢◌, ⊎_elim, ℕ, ◌+◌, ◌≤◌, Bool, true, false, List, [], ◌∷◌, length, get_or, take, drop, replicate, Result, refl, sym, ◌∙◌, ap, subst, arith, append_assoc}
 use Rattle.std.specs.Prelude.{is_err, ◌==◌}
 use Rattle.std.proofs.lemmas.Bool.Decides.{eqb_tells}
 use Rattle.std.proofs.lemmas.List.{take_at, get_or_at, length-take-le}
 use Rattle.area_disk.specs.Disk.{overwritten}
-use Rattle.area_disk.specs.Plan.{Schedule, Prospect, next_fate, after_call, spare_after_write, spare_after_sync, written_as, is_failure, write_fate, LeavesAfterWrite, LeavesAfterSync, WriteAsPlanned, SyncAsPlanned}
+use Rattle.area_disk.specs.Plan.{Prospect, next_fate, after_call, spare_after_write, spare_after_sync, written_as, is_failure, write_fate, LeavesAfterWrite, LeavesAfterSync, WriteAsPlanned, SyncAsPlanned}
 use Rattle.area_disk.specs.declared.plan.Fate.{Fate}
 use Rattle.area_disk.specs.declared.plan.Fate.TheVariants.{Runs, Fails, Stops}
 use Rattle.area_disk.specs.declared.plan.Outcome3.{Outcome3}
 use Rattle.area_disk.specs.declared.plan.Outcome3.TheVariants.{Old, New, Rot}
 use Rattle.gate_journal.specs.Format.{open_gate, gate_at}
-use Rattle.gate_journal.specs.Planned.{Course, course_of, after_write, after_sync, Ending, is_ended, ending_by, course_by, ending_of, after_put, left_by, PutPlanned, is_new, batch_stands, append_fails, course_after, after_append, AppendPlanned}
+use Rattle.gate_journal.specs.Planned.{Course, course_of, after_write, after_sync, Ending, is_ended, ending_by, course_by, ending_of, after_put, left_by, PutPlanned, is_new, batch_stands, append_fails, course_after, AppendPlanned}
 use Rattle.gate_journal.specs.Planned.Ending.{BothRan, AtWrite, AtSync}
 use Rattle.gate_journal.proofs.Fronts.{at_front}
 use Rattle.gate_journal.proofs.Turns.{other_bool}

@@ -1,6 +1,6 @@
 -- How what a crash leaves goes on over the calls of an area.
-use Rattle.std.proofs.Common.{inl, inr, ⊎_elim, ◌≡◌, ℕ, ◌+◌, ◌≤◌, List, refl, subst, sym, ◌∙◌, arith}
-use Rattle.area_disk.specs.Disk.{Elapses, LeavesOnly, Only, Torn, Follows, Within}
+use Rattle.std.proofs.Common.{inl, inr, ⊎_elim, ◌≡◌, ℕ, ◌≤◌, List, refl, subst, ◌∙◌, arith}
+use Rattle.area_disk.specs.Disk.{Elapses, Only, Torn, Follows, Within}
 use Rattle.area_disk.specs.declared.area.Area.{Ghosts}
 use Rattle.area_disk.proofs.Moments.{started, goes_on}
 use Rattle.std.specs.Prelude.{IsTrue}

@@ -1,7 +1,7 @@
 -- What reads of an area say of its octets.
-use Rattle.std.proofs.Common.{◌≡◌, ◌≢◌, inl, inr, ℕ, zero, suc, ◌+◌, ◌-◌, ◌<◌, ◌≤◌, ⊎_elim, Bool, true, false, List, [], ◌∷◌, ◌++◌, length, get_or, take, drop, refl, sym, ◌∙◌, ap, subst, arith}
+use Rattle.std.proofs.Common.{◌≡◌, ◌≢◌, inl, inr, ℕ, ◌+◌, ◌-◌, ◌<◌, ⊎_elim, true, false, List, [], ◌∷◌, length, get_or, take, drop, sym, ◌∙◌, ap, subst, arith}
 use Rattle.std.proofs.lemmas.Bool.{cases_eq}
-use Rattle.std.proofs.lemmas.List.{drop-take, get_or-take, get_or-drop, get_or_default, take_all, take-take, length-take-le}
+use Rattle.std.proofs.lemmas.List.{drop-take, get_or-take, get_or-drop, get_or_default, take_all, take-take}
 use Rattle.std.proofs.lemmas.Nat.{be_bytes_4}
 use Rattle.byteorder.specs.Endian.{big_number, big_bytes}
 use Rattle.byteorder.specs.Numbers.{big_from-take}
@@ -9,7 +9,7 @@ use Rattle.gate_journal.specs.Format.{open_gate, gate_at, length_at, Starts, IsU
 use Rattle.gate_journal.specs.Verdicts.{IsVerdict}
 use Rattle.gate_journal.specs.declared.reading.Verdict.{Verdict}
 use Rattle.gate_journal.specs.declared.reading.Verdict.TheVariants.{Starts as Begins, Same, Other}
-use Rattle.gate_journal.proofs.Fronts.{front_of_front, at_front}
+use Rattle.gate_journal.proofs.Fronts.{at_front}
 
 pub gate_read : (octets into : List ℕ) (at : ℕ) → at < length octets → into ≡ take 1 (drop at octets) → gate_at octets at ≡ get_or into 0 0
 gate_read octets into at inside is =

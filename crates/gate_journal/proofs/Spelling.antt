@@ -1,11 +1,11 @@
 -- Batches spelled, and what a place behind them says.
-use Rattle.std.proofs.Common.{◌≡◌, ◌≢◌, ℕ, zero, suc, ◌+◌, ◌-◌, ◌^◌, ◌<◌, ◌≤◌, List, [], ◌∷◌, ◌++◌, length, get_or, take, drop, refl, sym, ◌∙◌, ap, subst, arith, length-append, append_assoc}
+use Rattle.std.proofs.Common.{◌≡◌, ℕ, zero, suc, ◌+◌, ◌≤◌, List, [], ◌∷◌, ◌++◌, length, get_or, take, drop, refl, sym, ◌∙◌, ap, arith, length-append, append_assoc}
 use Rattle.std.specs.Prelude.{All}
-use Rattle.std.proofs.lemmas.List.{take_at, drop_at, drop-drop, append-nil, length-take-le, length-drop}
-use Rattle.std.proofs.lemmas.List.Elements.{All-cons, All-head, All-tail}
+use Rattle.std.proofs.lemmas.List.{take_at, drop_at, drop-drop, append-nil}
+use Rattle.std.proofs.lemmas.List.Elements.{All-head, All-tail}
 use Rattle.byteorder.specs.Endian.{big_bytes, big_number}
 use Rattle.byteorder.specs.Numbers.{big_number-reads_back, length-bytes_high_first}
-use Rattle.gate_journal.specs.Format.{open_gate, closed_gate, frame, header, spelled, taken, end_of, IsSmall, gate_at, length_at}
+use Rattle.gate_journal.specs.Format.{open_gate, closed_gate, frame, header, spelled, taken, IsSmall}
 use Rattle.gate_journal.specs.State.{batches_in, batches_below}
 
 pub spelled-cons : (batch : List ℕ) (batches : List (List ℕ)) → spelled (batch ∷ batches) ≡ open_gate ∷ (big_bytes 4 (length batch) ++ batch ++ spelled batches)

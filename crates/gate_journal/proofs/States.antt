@@ -1,5 +1,5 @@
 -- What is true of a journal, and how an append keeps it.
-use Rattle.std.proofs.Common.{◌≡◌, ◌≢◌, ◌⊎◌, inl, inr, ⊎_elim, ℕ, ◌+◌, ◌-◌, ◌<◌, ◌≤◌, min, Bool, true, false, List, [], ◌∷◌, ◌++◌, length, get_or, take, drop, refl, sym, ◌∙◌, ap, subst, arith}
+use Rattle.std.proofs.Common.{◌≡◌, ◌⊎◌, ⊎_elim, ℕ, ◌+◌, ◌-◌, ◌<◌, ◌≤◌, min, Bool, true, false, List, [], ◌∷◌, ◌++◌, length, get_or, take, drop, refl, sym, ◌∙◌, ap, subst, arith}
 use Rattle.std.specs.Prelude.{All, IsTrue, ◌&&◌, ◌==◌, if◌then◌else◌}
 use Rattle.std.proofs.lemmas.List.{length-take-le, length-drop}
 use Rattle.std.proofs.lemmas.List.Elements.{All-push}
@@ -16,7 +16,7 @@ use Rattle.gate_journal.specs.declared.journal.Front.TheVariants.{Founded, Draft
 use Rattle.gate_journal.proofs.Contents.{listed_below, place_is}
 use Rattle.gate_journal.proofs.Runs.{widen}
 use Rattle.gate_journal.proofs.Spelling.{length-header, first-header, length-frame}
-use Rattle.gate_journal.proofs.Turns.{other_bool, is_adding, added_open, adding, left_out, taken_in, founding, content_keeps, content_keeps_or, content_keeps_any, moved, any_batch, after_gate, after_first}
+use Rattle.gate_journal.proofs.Turns.{other_bool, is_adding, added_open, adding, taken_in, founding, content_keeps, content_keeps_or, content_keeps_any, moved, any_batch, after_gate, after_first}
 
 -- a journal that isn't closed may be added to
 pub ready_of : (front : Front) (is_torn : Bool) → closed_by front is_torn ≡ false → IsReady front is_torn
@@ -154,7 +154,7 @@ module _ {A : Type 0} (g : Ghosts A) (holds : (a : A) → g.may_leave a (g.octet
               founding_whole = λ e. absurd (ready.founded e);
               small = λ told. subst (λ (bs : List (List ℕ)). All IsSmall bs) (sym (batches_stay told)) (sound.small told);
               content = λ told c may. moved h h' front true (batches_below gate (g.octets old)) (batches_below gate (g.octets new)) batch (take (length batch) (drop 4 later)) gate c same_header (batches_stay told) held
-              (still_adding told c (left told c may));
+                  (still_adding told c (left told c may));
               durable = λ told yes. absurd (other_bool yes.whole);
             }
 

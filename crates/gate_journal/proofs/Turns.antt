@@ -1,13 +1,13 @@
 -- How what a crash leaves of a journal turns with its calls.
-use Rattle.std.proofs.Common.{◌≡◌, ◌≢◌, ◌⊎◌, inl, inr, ⊎_elim, ℕ, ◌+◌, ◌<◌, ◌≤◌, Bool, true, false, List, [], ◌∷◌, ◌++◌, length, get_or, take, drop, refl, sym, ◌∙◌, ap, subst, arith, append_assoc}
+use Rattle.std.proofs.Common.{◌≡◌, ◌≢◌, ◌⊎◌, inl, inr, ⊎_elim, ℕ, ◌+◌, ◌<◌, ◌≤◌, Bool, true, false, List, [], ◌∷◌, ◌++◌, length, get_or, take, drop, refl, sym, ◌∙◌, ap, subst, arith}
 use Rattle.std.specs.Prelude.{All, ◌&&◌, ◌==◌, if◌then◌else◌}
 use Rattle.std.proofs.lemmas.Bool.Decides.{eqb_tells}
 use Rattle.std.proofs.lemmas.Bool.{cases_eq}
 use Rattle.std.proofs.lemmas.List.{take_at, length-take-le, length-drop, length-append, get_or_at}
 use Rattle.std.proofs.lemmas.List.Elements.{All-push}
-use Rattle.area_disk.specs.Disk.{overwritten, Torn}
+use Rattle.area_disk.specs.Disk.{Torn}
 use Rattle.gate_journal.specs.Adding.{added, IsAdding}
-use Rattle.gate_journal.specs.Format.{open_gate, frame, spelled, IsSmall, gate_at, Stands, Starts}
+use Rattle.gate_journal.specs.Format.{open_gate, frame, IsSmall, gate_at}
 use Rattle.gate_journal.specs.State.{Content, Keeps, gate_after, front_after}
 use Rattle.gate_journal.specs.declared.journal.Front.{Front}
 use Rattle.gate_journal.specs.declared.journal.Front.TheVariants.{Founded, Draft, Founding}

@@ -1,5 +1,5 @@
 -- What a crash leaves of an area to which a batch is being added.
-use Rattle.std.specs.Prelude.{◌≡◌, ℕ, ◌+◌, List, [], ◌∷◌, ◌++◌, length, take, drop}
+use Rattle.std.specs.Prelude.{◌≡◌, ℕ, ◌+◌, List, ◌∷◌, ◌++◌, length, take, drop}
 use Rattle.gate_journal.specs.Format.{open_gate, gate_at}
 
 -- the octets with this frame behind the gate at this place, and the gate open

@@ -1,5 +1,5 @@
 -- What contracts see of a journal.
-use Rattle.std.specs.Prelude.{◌≡◌, ◌⊎◌, ℕ, ◌+◌, ◌-◌, ◌≤◌, Bool, true, false, ◌||◌, ◌&&◌, ◌==◌, IsTrue, Result, is_err, if◌then◌else◌, slice_index, List, [], ◌∷◌, ◌++◌, length, take, drop}
+use Rattle.std.specs.Prelude.{◌≡◌, ◌⊎◌, ℕ, ◌+◌, ◌-◌, ◌≤◌, Bool, true, ◌&&◌, ◌==◌, Result, is_err, if◌then◌else◌, slice_index, List, [], ◌∷◌, ◌++◌, length, take, drop}
 use Rattle.area_disk.specs.declared.area.Area.{Ghosts}
 use Rattle.gate_journal.specs.Format.{open_gate, header, gate_at, end_of, free_beside}
 use Rattle.gate_journal.specs.Moments.{Told, Kept, Leaves}

@@ -1,6 +1,6 @@
 -- What a crash leaves at any moment of a call on an area.
-use Rattle.std.specs.Prelude.{◌≡◌, ◌⊎◌, ℕ, ◌≤◌, List, IsTrue, Result, OnOk, OnErr}
-use Rattle.area_disk.specs.Disk.{LeavesOnly, counted, Rose}
+use Rattle.std.specs.Prelude.{◌≡◌, ℕ, ◌≤◌, List, IsTrue, Result, OnOk, OnErr}
+use Rattle.area_disk.specs.Disk.{LeavesOnly, counted}
 use Rattle.area_disk.specs.declared.area.Area.{Ghosts}
 
 -- the area tells what a read gives and what a crash may leave

@@ -1,5 +1,5 @@
 -- What comes by the plan of the calls of an append, and what a stop leaves of its batch.
-use Rattle.std.specs.Prelude.{◌≡◌, ℕ, Bool, true, false, ◌==◌, List, [], ◌∷◌, Result, is_err}
+use Rattle.std.specs.Prelude.{◌≡◌, ℕ, Bool, true, false, ◌==◌, List, Result, is_err}
 use Rattle.area_disk.specs.Disk.{overwritten}
 use Rattle.area_disk.specs.Plan.{Schedule, Prospect, next_fate, fate_with, after_call, spare_after_write, spare_after_sync, written_as, is_failure}
 use Rattle.area_disk.specs.declared.plan.Fate.{Fate}

@@ -1,5 +1,5 @@
 -- What the steps of an opening answer.
-use Rattle.std.specs.Prelude.{◌≡◌, ◌≢◌, ℕ, ◌+◌, ◌<◌, ◌≤◌, Bool, true, false, List, length, take, drop, slice_index, All, Option, None, Some, nat_lt, if◌then◌else◌}
+use Rattle.std.specs.Prelude.{◌≡◌, ◌≢◌, ℕ, ◌+◌, ◌<◌, ◌≤◌, true, false, List, length, take, drop, slice_index, All, Option, None, Some, nat_lt, if◌then◌else◌}
 use Rattle.byteorder.specs.Endian.{big_bytes}
 use Rattle.gate_journal.specs.Format.{open_gate, gate_at, length_at, spelled, IsSmall, IsUnfinished, Differs, IsWhole, longest_batch}
 use Rattle.gate_journal.specs.State.{batches_below}

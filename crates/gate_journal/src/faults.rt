@@ -53,7 +53,10 @@ impl fmt::Display for AppendFault {
     fn fmt<W: fmt::Write>(&self, f: &mut fmt::Formatter<W>) -> fmt::Result {
         match *self {
             AppendFault::Device => write!(f, "the device failed"),
-            AppendFault::Full { free } => write!(f, "the batch doesn't fit: {free} octets are free"),
+            AppendFault::Full { free } => write!(
+                f,
+                "the batch doesn't fit: {free} octets are free"
+            ),
         }
     }
 }

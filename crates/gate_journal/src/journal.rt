@@ -7,8 +7,8 @@ ghost use Rattle.gate_journal.specs.Verdicts.{content_at};
 ghost use Rattle.gate_journal.specs.State.{IsSound, IsListed, Keeps, batches_below, gate_after, front_after};
 
 use crate::device::{add, put};
-use crate::reading::{Behind, read_gate, see};
 use crate::format::{FIRST, OPEN, fill};
+use crate::reading::{Behind, read_gate, see};
 use crate::{AppendFault, Device};
 use area_disk::{Area, Failed};
 
@@ -219,7 +219,7 @@ impl<A: Area> Journal<A> {
     ///
     /// It takes no memory.
     pub fn read(&mut self, at: u64, into: &mut [u8]) -> Result<(), Device>
-        requires { IsInside self.old at (length into.old) }
+        requires inside { IsInside self.old at (length into.old) }
 
         ensures content { Told A.Area → (some : List (List ℕ)) (batch : List ℕ) (more : List (List ℕ)) → batches self.old ≡ some ++ batch ∷ more → end_of some + 5 ≤ at → at + length into.old ≤ end_of some + 5 + length batch →
             OnOk result (into.new ≡ take (length into.old) (drop (at - (end_of some + 5)) batch)) }
@@ -283,7 +283,16 @@ impl<A: Area> Journal<A> {
     pub fn into_area(self) -> A
         ensures { result ≡ area_of self }
     {
-        let Journal { area, buffer: _, gate: _, torn_length: _, is_torn: _, front: _, address: _, generation: _ } = self;
+        let Journal {
+            area,
+            buffer: _,
+            gate: _,
+            torn_length: _,
+            is_torn: _,
+            front: _,
+            address: _,
+            generation: _,
+        } = self;
         area
     }
 }

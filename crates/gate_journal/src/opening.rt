@@ -11,7 +11,6 @@ ghost use Rattle.gate_journal.specs.declared.reading.Verdict.TheVariants.{Starts
 
 use crate::device::put;
 use crate::format::{CLOSED, LONGEST, header_of};
-
 use crate::reading::{Scanned, Verdict, look, scan};
 use crate::{Device, Front, Journal, OpenFault};
 use area_disk::{Area, Failed};

@@ -180,5 +180,8 @@ pub fn see<A: Area>(area: &mut A, gate: u64) -> Result<Ends, Failed>
     area.read_at(0, &mut first)?;
     let mut octet = [0; 1];
     area.read_at(gate, &mut octet)?;
-    Ok(Ends { first: first[0], gate: octet[0] })
+    Ok(Ends {
+        first: first[0],
+        gate: octet[0],
+    })
 }

@@ -1,4 +1,7 @@
 // The rows of the format on an area of 100 octets, and what stops and failures leave.
+ghost use Rattle.std.specs.Prelude.{◌≡◌, [], false, IfOk};
+ghost use Rattle.gate_journal.specs.Journal.{batches, is_closed};
+
 use super::*;
 use area_disk::{Area, Drill, MemoryArea, Outcome3, Plan, QuietArea, Stop};
 use std::alloc::{AllocError, Global};
@@ -46,6 +49,17 @@ fn octets(rt: &impl Abort, area: &mut MemoryArea) -> Result<[u8; 100], Fail> {
     Ok(octets)
 }
 
+// A journal without a batch.
+fn fresh(alloc: Global) -> Result<Journal<MemoryArea>, Fail>
+    ensures { IfOk result (λ journal. (batches journal ≡ []) × (is_closed journal ≡ false)) }
+{
+    let area = MemoryArea::new(alloc, 100, no_plan(alloc))?;
+    match Journal::open(alloc, area, ADDRESS, 0) {
+        Ok(journal) => Ok(journal),
+        Err((fault, _)) => Err(fault)?,
+    }
+}
+
 // The end of the journal that is found after an append under this plan.
 fn end_after_append(rt: &impl Abort, alloc: Global, plan: Plan) -> Result<u64, Fail> {
     let area = MemoryArea::new(alloc, 100, no_plan(alloc))?;
@@ -83,8 +97,14 @@ fn the_octets_are_those_of_the_format(rt: HostRuntime) -> Result<(), Fail> {
     let mut area = journal.into_area();
     let octets = octets(&rt, &mut area)?;
     assert_eq!(&rt; &octets[..16], b"CGFJRNL1\0\0\0\0\0\0\0d".as_slice());
-    assert_eq!(&rt; &octets[16..32], [10, 0, 0, 1, 0, 0, 0, 0, 0, 0, 0, 0, 0, 0, 0, 0].as_slice());
-    assert_eq!(&rt; &octets[32..40], [0xA5, 0, 0, 0, 2, 0xAA, 0xBB, 0].as_slice());
+    assert_eq!(&rt;
+        &octets[16..32],
+        [10, 0, 0, 1, 0, 0, 0, 0, 0, 0, 0, 0, 0, 0, 0, 0].as_slice()
+    );
+    assert_eq!(&rt;
+        &octets[32..40],
+        [0xA5, 0, 0, 0, 2, 0xAA, 0xBB, 0].as_slice()
+    );
     Ok(())
 }
 
@@ -96,7 +116,10 @@ fn a_batch_fits_or_leaves_the_journal_as_it_was(rt: HostRuntime) -> Result<(), F
     assert!(&rt; !journal.is_closed());
     journal.append(&[0xAA, 0xBB])?;
     assert!(&rt; !journal.is_closed());
-    assert_eq!(&rt; journal.append(&[1; 56]), Err(AppendFault::Full { free: 60 }));
+    assert_eq!(&rt;
+        journal.append(&[1; 56]),
+        Err(AppendFault::Full { free: 60 })
+    );
     assert!(&rt; !journal.is_closed());
     journal.append(&[1; 55])?;
     assert_eq!(&rt; journal.end(), 99);
@@ -104,16 +127,15 @@ fn a_batch_fits_or_leaves_the_journal_as_it_was(rt: HostRuntime) -> Result<(), F
 }
 
 #[test]
-fn batches_are_found_and_read(rt: HostRuntime) -> Result<(), Fail> {
-    let alloc = rt.alloc();
-    let area = MemoryArea::new(alloc, 100, no_plan(alloc))?;
-    let mut journal = opened(&rt, alloc, area)?;
-    assert!(&rt; !journal.is_closed());
+fn a_batch_is_found_and_read(rt: HostRuntime) -> Result<(), Fail> {
+    let mut journal = fresh(rt.alloc())?;
     journal.append(&[0xAA, 0xBB])?;
-    let mut again = opened(&rt, alloc, journal.into_area())?;
-    assert!(&rt; !again.is_closed());
-    again.reopen()?;
-    assert_eq!(&rt; again.end(), 39);
+    assert!(&rt; !journal.is_closed());
+    assert_eq!(&rt; journal.end(), 39);
+    assert_eq!(&rt; journal.batch(32)?, Some((37, 2)));
+    let mut content = [0; 2];
+    journal.read(37, &mut content)?;
+    assert_eq!(&rt; content, [0xAA, 0xBB]);
     Ok(())
 }
 
@@ -157,7 +179,15 @@ fn a_batch_stands_by_the_call_and_the_outcome(rt: HostRuntime) -> Result<(), Fai
         let new = end_after_append(&rt, alloc, stopping(alloc, call, Outcome3::New))?;
         let rot = end_after_append(&rt, alloc, stopping(alloc, call, Outcome3::Rot))?;
         let failed = end_after_append(&rt, alloc, failing(alloc, call)?)?;
-        assert_eq!(&rt; [old, new, rot, failed], [end_for(row[0]), end_for(row[1]), end_for(row[2]), end_for(row[3])]);
+        assert_eq!(&rt;
+            [old, new, rot, failed],
+            [
+                end_for(row[0]),
+                end_for(row[1]),
+                end_for(row[2]),
+                end_for(row[3])
+            ]
+        );
     }
     Ok(())
 }

@@ -1,6 +1,5 @@
-use Rattle.std.proofs.Common.{◌≡◌, ◌+◌, ◌≤◌, OnOk, [], ◌∷◌, List, ℕ, length, refl, ◌∙◌, ap, subst, arith}
+use Rattle.std.proofs.Common.{◌≡◌, ◌+◌, ◌≤◌, OnOk, [], ◌∷◌, List, ℕ, length, ◌∙◌, ap, subst, arith}
 use Rattle.area_disk.specs.Disk.{overwritten, Torn}
-use Rattle.gate_journal.specs.Adding.{IsAdding}
 use Rattle.gate_journal.specs.Format.{open_gate}
 use Rattle.gate_journal.proofs.Adding.{staged, length-staged, behind_gate, at_gate, gate_opened}
 use Rattle.std.specs.Prelude.{is_err}

@@ -1,5 +1,5 @@
 use Rattle.gate_journal.proofs.Counts.{one_call, more_calls}
-use Rattle.std.proofs.Common.{refl, ap}
+use Rattle.std.proofs.Common.{ap}
 use Rattle.std.specs.Prelude.{is_err}
 use Rattle.gate_journal.proofs.Plans.{put_failed, put_synced}
 use Rattle.gate_journal.proofs.device.put.Goals as goal

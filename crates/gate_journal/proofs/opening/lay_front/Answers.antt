@@ -1,4 +1,4 @@
-use Rattle.std.proofs.Common.{◌≡◌, ◌++◌, ◌<◌, ◌∷◌, [], ℕ, List, length, drop, refl, ◌∙◌, sym, ap, subst, arith}
+use Rattle.std.proofs.Common.{◌≡◌, ◌∷◌, [], ℕ, List, length, drop, ◌∙◌, sym, ap, subst, arith}
 use Rattle.area_disk.specs.Disk.{overwritten, Torn}
 use Rattle.gate_journal.specs.Opening.{IsLaid}
 use Rattle.gate_journal.specs.Verdicts.{IsVerdict}

@@ -1,9 +1,8 @@
-use Rattle.std.proofs.Common.{inl, refl, ◌≡◌, ℕ, List, take, ◌∙◌, sym, ap, subst, arith}
+use Rattle.std.proofs.Common.{inl, refl, ◌≡◌, ℕ, List, sym, ap, subst, arith}
 use Rattle.gate_journal.specs.Format.{header, IsBroken}
 use Rattle.gate_journal.specs.State.{IsListed}
 use Rattle.gate_journal.specs.Verdicts.{IsScanned, LiesIn}
 use Rattle.gate_journal.specs.declared.journal.Front.TheVariants.{Founded}
-use Rattle.gate_journal.specs.declared.faults.OpenFault.{OpenFault}
 use Rattle.gate_journal.specs.declared.faults.OpenFault.TheVariants.{NotOurs}
 use Rattle.gate_journal.proofs.Listing.{scanned_listed, scanned_broken}
 use Rattle.gate_journal.proofs.Spelling.{length-header}

@@ -1,4 +1,4 @@
-use Rattle.std.proofs.Common.{Err, subst, sym, ap}
+use Rattle.std.proofs.Common.{subst, sym}
 use Rattle.gate_journal.specs.Moments.{RoseUpTo}
 use Rattle.gate_journal.proofs.Counts.{more_calls}
 use Rattle.gate_journal.proofs.opening.make_anew.Goals as goal

@@ -1,6 +1,4 @@
-use Rattle.std.proofs.Common.{◌≡◌, ℕ, List, ◌+◌, ◌<◌, length, take, drop, ap, ◌∙◌, refl, sym, arith}
-use Rattle.byteorder.specs.Endian.{big_number}
-use Rattle.byteorder.specs.Numbers.{big_from-take}
+use Rattle.std.proofs.Common.{ℕ, List, ◌+◌, ◌<◌, length, take, drop, ap, ◌∙◌, sym, arith}
 use Rattle.gate_journal.proofs.Seen.{gate_read, length_read}
 use Rattle.gate_journal.proofs.Runs.{kept_read, kept_trans}
 use Rattle.gate_journal.proofs.reading.read_gate.Goals as goal
@@ -11,7 +9,7 @@ returns-clause-reads g c = λ told.
     let inside : c.args.at < length (g.A.Area.octets c.args.area.now) = omega (arith, laws.whole c.args.area.now told) in (
       gate_read (g.A.Area.octets c.args.area.now) c.read_at.new.into c.args.at inside (c.in_ok-read_at.ensures.read told) ∙ c.if-gate.false,
       c.number_of-length.ensures.number
-      ∙ length_read (g.A.Area.octets c.args.area.now) c.read_at-2.new.into c.args.at (c.in_ok-read_at-2.ensures.read told ∙ ap (λ (l : List ℕ). take 4 (drop (c.args.at + 1) l)) c.in_ok-read_at.ensures.octets),
+          ∙ length_read (g.A.Area.octets c.args.area.now) c.read_at-2.new.into c.args.at (c.in_ok-read_at-2.ensures.read told ∙ ap (λ (l : List ℕ). take 4 (drop (c.args.at + 1) l)) c.in_ok-read_at.ensures.octets),
       sym (c.in_ok-read_at-2.ensures.read told ∙ ap (λ (l : List ℕ). take 4 (drop (c.args.at + 1) l)) c.in_ok-read_at.ensures.octets) ∙ sym c.number_of-length.ensures.spelled,
     )
 

@@ -30,8 +30,8 @@ batches-preserved g c =
       low = omega arith;
       high = omega (arith, i.kept.size, fits.1);
       below = λ told.
-      one_more c.batches.at c.from.result (g.A.Area.octets c.args.area.now) i.low (omega (arith, laws.whole c.args.area.now told, i.kept.size, fits.1)) (reads told).0
-      ((reads told).2 ∙ ap (λ n. big_bytes 4 n) (sym c.from.ensures)) (omega (arith, fits.0)) (i.below told);
+          one_more c.batches.at c.from.result (g.A.Area.octets c.args.area.now) i.low (omega (arith, laws.whole c.args.area.now told, i.kept.size, fits.1)) (reads told).0
+          ((reads told).2 ∙ ap (λ n. big_bytes 4 n) (sym c.from.ensures)) (omega (arith, fits.0)) (i.below told);
       kept = kept_trans g.A.Area _ c.batches.area _ i.kept read.kept;
       faults = read.cause.ok ∙ i.faults;
     }

@@ -1,11 +1,10 @@
 use Rattle.std.proofs.Common.{◌≡◌, ◌≤◌, ◌+◌, ◌-◌, inl, ℕ, List, length, take, refl, sym, ◌∙◌, ap, arith}
-use Rattle.std.specs.Prelude.{IsTrue}
 use Rattle.gate_journal.specs.Format.{frame}
 use Rattle.gate_journal.specs.Journal.{batches, torn, stop_stands}
 use Rattle.gate_journal.proofs.Turns.{other_bool}
 use Rattle.gate_journal.specs.Moments.{Told}
 use Rattle.gate_journal.proofs.Runs.{begin}
-use Rattle.gate_journal.proofs.States.{ready_of, closed_when_ready, content_of, settled, moments, batches_grow, batches_stay, sound_ok, sound_err}
+use Rattle.gate_journal.proofs.States.{ready_of, content_of, settled, moments, batches_grow, batches_stay, sound_ok, sound_err}
 use Rattle.gate_journal.proofs.journal.Journal.append.Goals as goal
 
 pub returns-then-free-length-clause-err : goal.returns-then-free-length-clause-err

@@ -1,4 +1,3 @@
-use Rattle.std.proofs.Common.{refl, sym, ◌∙◌, ap}
 use Rattle.gate_journal.specs.Journal.{batches}
 use Rattle.gate_journal.proofs.Runs.{widen}
 use Rattle.gate_journal.proofs.States.{settled, ready_of, founding_keeps, founding_batches, founding_sound, founded_sound}

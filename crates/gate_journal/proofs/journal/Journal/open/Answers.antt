@@ -1,4 +1,4 @@
-use Rattle.std.proofs.Common.{inl, inr, ⊎_elim, ◌≡◌, ℕ, List, length, get_or, Ok, Err, refl, sym, ◌∙◌, ap, subst, arith}
+use Rattle.std.proofs.Common.{inl, ⊎_elim, ℕ, List, sym, ◌∙◌, ap, subst, arith}
 use Rattle.gate_journal.specs.Format.{header, Differs, IsBroken, Stands}
 use Rattle.gate_journal.specs.Verdicts.{IsVerdict}
 use Rattle.gate_journal.specs.declared.reading.Verdict.TheVariants.{Starts as Begins, Same, Other}

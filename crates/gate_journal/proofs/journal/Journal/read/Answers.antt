@@ -1,9 +1,9 @@
-use Rattle.std.proofs.Common.{◌≡◌, ◌<◌, ◌≤◌, ◌+◌, ◌-◌, ℕ, List, ◌∷◌, ◌++◌, length, take, drop, refl, sym, ◌∙◌, ap, subst, arith}
+use Rattle.std.proofs.Common.{ℕ, List, ◌++◌, length, drop, refl, ◌∙◌, ap, arith}
 use Rattle.std.specs.Prelude.{◌&&◌, ◌==◌}
 use Rattle.gate_journal.specs.Format.{open_gate, gate_at, header, spelled}
 use Rattle.gate_journal.specs.Journal.{batches, torn, torn_stands}
 use Rattle.gate_journal.specs.State.{batches_below}
-use Rattle.gate_journal.proofs.Places.{part_is, small_among, gate_is_open, length_is, whole_there, gate_before}
+use Rattle.gate_journal.proofs.Places.{part_is, small_among}
 use Rattle.gate_journal.proofs.Runs.{kept_read}
 use Rattle.gate_journal.proofs.Spelling.{length-header}
 use Rattle.gate_journal.proofs.journal.Journal.read.Goals as goal

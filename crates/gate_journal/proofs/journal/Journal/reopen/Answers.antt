@@ -1,12 +1,11 @@
-use Rattle.std.proofs.Common.{◌≡◌, ℕ, Bool, true, false, List, [], ◌∷◌, ◌++◌, take, drop, refl, sym, ◌∙◌, ap, subst, arith}
+use Rattle.std.proofs.Common.{ℕ, false, List, [], ◌∷◌, ◌++◌, take, drop, refl, sym, ◌∙◌, ap, subst}
 use Rattle.std.specs.Prelude.{◌&&◌, ◌==◌, if◌then◌else◌}
-use Rattle.area_disk.specs.Disk.{Within}
 use Rattle.gate_journal.specs.Format.{open_gate, gate_at}
 use Rattle.gate_journal.specs.State.{IsSound, batches_below, gate_after}
 use Rattle.gate_journal.specs.Journal.{batches, torn, torn_stands, stop_stands, closed_by}
 use Rattle.gate_journal.proofs.Turns.{other_bool}
 use Rattle.gate_journal.proofs.Runs.{widen}
-use Rattle.gate_journal.proofs.States.{settled, open_after, keeps_any, kept_batches, kept_sound, reopened_sound, reopened_batches, ready_of, closed_when_ready}
+use Rattle.gate_journal.proofs.States.{settled, open_after, keeps_any, kept_batches, kept_sound, reopened_sound, reopened_batches}
 use Rattle.gate_journal.proofs.journal.Journal.reopen.Goals as goal
 
 pub invariant_of-self : goal.invariant_of-self
