@@ -1,0 +1,58 @@
+-- What the making of an area leaves.
+use Rattle.std.proofs.Common.{◌≡◌, inl, inr, ℕ, ◌+◌, ◌<◌, List, [], ◌∷◌, ◌++◌, length, get_or, take, drop, sym, ◌∙◌, ap, arith, append_assoc, Result, Ok, Err, OnOk}
+use Rattle.std.proofs.lemmas.List.{take_at, drop-take, get_or_at, get_or-take, length-take-le}
+use Rattle.area_disk.specs.Disk.{overwritten, Torn}
+use Rattle.gate_journal.specs.Format.{open_gate, closed_gate, Starts, IsUnfinished}
+use Rattle.gate_journal.specs.Opening.{IsLaid}
+use Rattle.gate_journal.proofs.Fronts.{at_front}
+use Rattle.gate_journal.proofs.Contents.{length-rest}
+
+module _ (header : List ℕ) (long : length header ≡ 32) (begins : get_or header 0 0 ≡ 67) where
+  front : List ℕ
+  front = drop 1 header ++ closed_gate ∷ []
+
+  -- an area whose octet 0 is 0
+  pub laid_blank : (octets : List ℕ) → 33 < length octets → get_or octets 0 0 ≡ 0 → IsLaid header (overwritten octets 1 (drop 1 header ++ closed_gate ∷ []))
+  laid_blank [] inside blank = absurd (omega arith)
+  laid_blank (x ∷ octets) inside blank =
+      let r : length (drop 1 header) ≡ 31 = length-rest header long in
+      let after : List ℕ = drop {A = ℕ} (1 + length (drop 1 header ++ closed_gate ∷ [])) (x ∷ octets) in
+      let split : drop 1 header ++ closed_gate ∷ [] ++ after ≡ drop 1 header ++ closed_gate ∷ after = append_assoc (drop 1 header) (closed_gate ∷ []) after in
+      record {
+        rest = ap (λ (l : List ℕ). take 31 l) split ∙ take_at (drop 1 header) (closed_gate ∷ after) 31 r;
+        first = λ e. omega arith;
+        shut = λ e. let is = sym (ap (λ (l : List ℕ). get_or l 31 open_gate) split ∙ get_or_at (drop 1 header) closed_gate after open_gate 31 r) ∙ e in omega arith;
+      }
+
+  pub torn_blank : (octets c : List ℕ) → get_or octets 0 0 ≡ 0 → Torn 1 32 octets c → Starts header c
+  torn_blank octets c blank torn = inl (at_front 0 1 0 c octets (omega arith) torn.before ∙ blank)
+
+  -- an area with all of the header but octet 0
+  module _ (octets : List ℕ) (inside : 33 < length octets) (unfinished : IsUnfinished header octets) where
+    front_is : length (take 32 octets) ≡ 32
+    front_is = length-take-le 32 octets (omega arith)
+
+    whole_is : overwritten octets 32 (closed_gate ∷ []) ≡ take 32 octets ++ closed_gate ∷ drop 33 octets
+    whole_is = append_assoc (take 32 octets) (closed_gate ∷ []) (drop 33 octets)
+
+    pub laid_gate : IsLaid header (overwritten octets 32 (closed_gate ∷ []))
+    laid_gate = record {
+      rest = ap (λ (l : List ℕ). drop 1 (take 32 l)) whole_is ∙ ap (λ (l : List ℕ). drop 1 l) (take_at (take 32 octets) (closed_gate ∷ drop 33 octets) 32 front_is) ∙ drop-take 1 31 octets ∙ unfinished.rest;
+      first = λ e.
+          unfinished.first
+          (sym (get_or-take 32 octets 0 0 (omega arith)) ∙ ap (λ (l : List ℕ). get_or l 0 0) (sym (take_at (take 32 octets) (closed_gate ∷ drop 33 octets) 32 front_is) ∙ ap (λ (l : List ℕ). take 32 l) (sym whole_is))
+          ∙ get_or-take 32 (overwritten octets 32 (closed_gate ∷ [])) 0 0 (omega arith) ∙ e);
+      shut = λ e.
+          let is = sym (ap (λ (l : List ℕ). get_or l 32 open_gate) whole_is ∙ get_or_at (take 32 octets) closed_gate (drop 33 octets) open_gate 32 front_is) ∙ e in
+          omega arith;
+    }
+
+    pub torn_gate : (c : List ℕ) → Torn 32 1 octets c → Starts header c
+    torn_gate c torn = inr (record {
+      rest = sym (drop-take 1 31 c) ∙ ap (λ (l : List ℕ). drop 1 l) torn.before ∙ drop-take 1 31 octets ∙ unfinished.rest;
+      first = λ e. unfinished.first (sym (at_front 0 32 0 c octets (omega arith) torn.before) ∙ e);
+    })
+
+pub on_ok : {T E : Type 0} (result : Result T E) (P Q : Type 0) → (P → Q) → OnOk result P → OnOk result Q
+on_ok (Ok v) P Q f p = f p
+on_ok (Err e) P Q f p = p

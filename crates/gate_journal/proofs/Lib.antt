@@ -1,0 +1,17 @@
+mod Adding
+mod Apart
+mod Below
+mod Contents
+mod Counts
+mod Framing
+mod Fronts
+mod Seen
+mod Laying
+mod Listing
+mod Openings
+mod Places
+mod Plans
+mod Runs
+mod Spelling
+mod States
+mod Turns

@@ -1,0 +1,147 @@
+-- How the calls of an append come out as planned.
+use Rattle.std.proofs.Common.{◌≡◌, ◌≢◌, ⊎_elim, ℕ, ◌+◌, ◌≤◌, Bool, true, false, List, [], ◌∷◌, length, get_or, take, drop, replicate, Result, refl, sym, ◌∙◌, ap, subst, arith, append_assoc}
+use Rattle.std.specs.Prelude.{is_err, ◌==◌}
+use Rattle.std.proofs.lemmas.Bool.Decides.{eqb_tells}
+use Rattle.std.proofs.lemmas.List.{take_at, get_or_at, length-take-le}
+use Rattle.area_disk.specs.Disk.{overwritten}
+use Rattle.area_disk.specs.Plan.{Prospect, next_fate, after_call, spare_after_write, spare_after_sync, written_as, is_failure, write_fate, LeavesAfterWrite, LeavesAfterSync, WriteAsPlanned, SyncAsPlanned}
+use Rattle.area_disk.specs.declared.plan.Fate.{Fate}
+use Rattle.area_disk.specs.declared.plan.Fate.TheVariants.{Runs, Fails, Stops}
+use Rattle.area_disk.specs.declared.plan.Outcome3.{Outcome3}
+use Rattle.area_disk.specs.declared.plan.Outcome3.TheVariants.{Old, New, Rot}
+use Rattle.gate_journal.specs.Format.{open_gate, gate_at}
+use Rattle.gate_journal.specs.Planned.{Course, course_of, after_write, after_sync, Ending, is_ended, ending_by, course_by, ending_of, after_put, left_by, PutPlanned, is_new, batch_stands, append_fails, course_after, AppendPlanned}
+use Rattle.gate_journal.specs.Planned.Ending.{BothRan, AtWrite, AtSync}
+use Rattle.gate_journal.proofs.Fronts.{at_front}
+use Rattle.gate_journal.proofs.Turns.{other_bool}
+
+-- the parts of a put that came out as planned, by the fates of its calls
+abbrev Parts : Fate → Fate → Course → (Outcome3 → List ℕ) → ℕ → List ℕ → Bool → Prospect → Type 0
+Parts write sync course old at from failed new =
+    (failed ≡ is_ended (ending_by write sync)) × (course_of new ≡ course_by write sync course) × ((o : Outcome3) → new.leaves o ≡ left_by (ending_by write sync) old at from o)
+
+write_ended : (write sync : Fate) (course : Course) (old : Outcome3 → List ℕ) (at : ℕ) (from : List ℕ) (mid : Prospect) → is_failure write ≡ true → mid.schedule ≡ after_call write course.schedule → mid.spare ≡ spare_after_write write course.spare
+    → LeavesAfterWrite write old at from mid.leaves → Parts write sync course old at from true mid
+write_ended Runs sync course old at from mid failed schedule spare leaves = absurd (other_bool (sym failed))
+write_ended Fails sync course old at from mid failed schedule spare leaves = (refl, (λ i. record { schedule = schedule i; spare = spare i }), leaves)
+write_ended (Stops outcome) sync course old at from mid failed schedule spare leaves = (refl, (λ i. record { schedule = schedule i; spare = spare i }), leaves)
+
+-- a put whose write failed
+pub put_failed : {T E : Type 0} (old : Prospect) (at : ℕ) (from : List ℕ) (wrote result : Result T E) (mid : Prospect) → WriteAsPlanned old at from wrote mid → is_err wrote ≡ true → is_err result ≡ true → PutPlanned old at from result mid
+put_failed old at from wrote result mid write failed err =
+    let parts = write_ended (write_fate old) (next_fate (after_call Runs old.schedule)) (course_of old) old.leaves at from mid (sym write.fails ∙ failed) write.schedule write.spare write.leaves in
+    record { fails = err ∙ parts.0; course = parts.1; leaves = parts.2 }
+
+sync_ended : (sync : Fate) (course : Course) (old : Outcome3 → List ℕ) (at : ℕ) (from : List ℕ) (mid new : Prospect) → course_of mid ≡ after_write Runs course → ((o : Outcome3) → mid.leaves o ≡ written_as o (old o) at from)
+    → new.schedule ≡ after_call sync mid.schedule → new.spare ≡ spare_after_sync sync mid.spare → LeavesAfterSync sync mid.leaves new.leaves → Parts Runs sync course old at from (is_failure sync) new
+sync_ended Runs course old at from mid new came wrote schedule spare leaves =
+    (refl, (λ i. record { schedule = schedule i; spare = spare i }) ∙ ap (λ c. after_sync Runs c) came, λ o. leaves o ∙ wrote New)
+sync_ended Fails course old at from mid new came wrote schedule spare leaves =
+    (refl, (λ i. record { schedule = schedule i; spare = spare i }) ∙ ap (λ c. after_sync Fails c) came, λ o. leaves o ∙ wrote o)
+sync_ended (Stops outcome) course old at from mid new came wrote schedule spare leaves =
+    (refl, (λ i. record { schedule = schedule i; spare = spare i }) ∙ ap (λ c. after_sync (Stops outcome) c) came, λ o. leaves o ∙ wrote outcome)
+
+write_ran : (write : Fate) (course : Course) (old : Outcome3 → List ℕ) (at : ℕ) (from : List ℕ) (mid : Prospect) → is_failure write ≡ false → mid.schedule ≡ after_call write course.schedule → mid.spare ≡ spare_after_write write course.spare
+    → LeavesAfterWrite write old at from mid.leaves → (write ≡ Runs) × (course_of mid ≡ after_write Runs course) × ((o : Outcome3) → mid.leaves o ≡ written_as o (old o) at from)
+write_ran Runs course old at from mid ran schedule spare leaves = (refl, (λ i. record { schedule = schedule i; spare = spare i }), leaves)
+write_ran Fails course old at from mid ran schedule spare leaves = absurd (other_bool ran)
+write_ran (Stops outcome) course old at from mid ran schedule spare leaves = absurd (other_bool ran)
+
+-- a put whose write ran
+pub put_synced : {T E F : Type 0} (old : Prospect) (at : ℕ) (from : List ℕ) (wrote : Result T F) (result : Result T E) (mid new : Prospect) → WriteAsPlanned old at from wrote mid → is_err wrote ≡ false → SyncAsPlanned mid result new → PutPlanned old at from result new
+put_synced old at from wrote result mid new write ran sync =
+    let wr = write_ran (write_fate old) (course_of old) old.leaves at from mid (sym write.fails ∙ ran) write.schedule write.spare write.leaves in
+    let parts = sync_ended (next_fate mid.schedule) (course_of old) old.leaves at from mid new wr.1 wr.2 sync.schedule sync.spare sync.leaves in
+    let same : next_fate mid.schedule ≡ next_fate (after_call Runs old.schedule) = ap (λ (c : Course). next_fate c.schedule) wr.1 in
+    let P : Fate → Fate → Type 0 = λ f s. Parts f s (course_of old) old.leaves at from (is_err result) new in
+    let here : P Runs (next_fate mid.schedule) = (sync.fails ∙ parts.0, parts.1, parts.2) in
+    let there : P Runs (next_fate (after_call Runs old.schedule)) = subst (λ s. P Runs s) same here in
+    let all : P (write_fate old) (next_fate (after_call Runs old.schedule)) = subst (λ f. P f (next_fate (after_call Runs old.schedule))) (sym wr.0) there in
+    record { fails = all.0; course = all.1; leaves = all.2 }
+
+-- the gate after a write behind it, as each outcome leaves it
+module _ (gate : ℕ) (framed octets : List ℕ) (inside : gate + 1 ≤ length octets) where
+  before_written : (from : List ℕ) → gate_at (overwritten octets (gate + 1) from) gate ≡ gate_at octets gate
+  before_written from =
+      at_front gate (gate + 1) open_gate (overwritten octets (gate + 1) from) octets (omega arith)
+      (ap (λ (l : List ℕ). take (gate + 1) l) (append_assoc (take (gate + 1) octets) from (drop (gate + 1 + length from) octets)) ∙ take_at (take (gate + 1) octets) _ (gate + 1) (length-take-le (gate + 1) octets inside))
+
+  behind_written : (outcome : Outcome3) → gate_at (written_as outcome octets (gate + 1) framed) gate ≡ gate_at octets gate
+  behind_written Old = refl
+  behind_written New = before_written framed
+  behind_written Rot = before_written (replicate (length framed) 0x5A)
+
+  at_written : (octet : ℕ) → gate_at (overwritten octets gate (octet ∷ [])) gate ≡ octet
+  at_written octet =
+      ap (λ (l : List ℕ). get_or l gate open_gate) (append_assoc (take gate octets) (octet ∷ []) (drop (gate + 1) octets))
+      ∙ get_or_at (take gate octets) octet (drop (gate + 1) octets) open_gate gate (length-take-le gate octets (omega arith))
+
+  gate_written : gate_at octets gate ≢ open_gate → (outcome : Outcome3) → (gate_at (written_as outcome octets gate (open_gate ∷ [])) gate == open_gate) ≡ is_new outcome
+  gate_written shut Old = ⊎_elim (λ yes. absurd (shut yes.1)) (λ no. no.0) (eqb_tells (gate_at octets gate) open_gate)
+  gate_written shut New = ap (λ x. x == open_gate) (at_written open_gate)
+  gate_written shut Rot = ap (λ x. x == open_gate) (at_written 0x5A)
+
+closed_test : (octets : List ℕ) (gate : ℕ) → gate_at octets gate ≢ open_gate → (gate_at octets gate == open_gate) ≡ false
+closed_test octets gate shut = ⊎_elim (λ yes. absurd (shut yes.1)) (λ no. no.0) (eqb_tells (gate_at octets gate) open_gate)
+
+-- the gate stays closed where the writing of the frame ended
+frame_ended : (ending : Ending) (old : Outcome3 → List ℕ) (octets : List ℕ) (gate : ℕ) (framed : List ℕ) → gate + 1 ≤ length octets → gate_at octets gate ≢ open_gate → ((o : Outcome3) → old o ≡ octets) → is_ended ending ≡ true
+    → (o : Outcome3) → gate_at (left_by ending old (gate + 1) framed o) gate ≢ open_gate
+frame_ended BothRan old octets gate framed inside shut same ended o e = other_bool (sym ended)
+frame_ended (AtWrite Runs) old octets gate framed inside shut same ended o e = shut (ap (λ (l : List ℕ). gate_at l gate) (sym (same o)) ∙ e)
+frame_ended (AtWrite Fails) old octets gate framed inside shut same ended o e = shut (ap (λ (l : List ℕ). gate_at l gate) (sym (same o)) ∙ e)
+frame_ended (AtWrite (Stops p)) old octets gate framed inside shut same ended o e = shut (sym (behind_written gate framed octets inside p) ∙ ap (λ (l : List ℕ). gate_at (written_as p l (gate + 1) framed) gate) (sym (same p)) ∙ e)
+frame_ended (AtSync Runs) old octets gate framed inside shut same ended o e = shut (ap (λ (l : List ℕ). gate_at l gate) (sym (same o)) ∙ e)
+frame_ended (AtSync Fails) old octets gate framed inside shut same ended o e = shut (sym (behind_written gate framed octets inside o) ∙ ap (λ (l : List ℕ). gate_at (written_as o l (gate + 1) framed) gate) (sym (same o)) ∙ e)
+frame_ended (AtSync (Stops p)) old octets gate framed inside shut same ended o e = shut (sym (behind_written gate framed octets inside p) ∙ ap (λ (l : List ℕ). gate_at (written_as p l (gate + 1) framed) gate) (sym (same p)) ∙ e)
+
+-- whether it is open where the opening of the gate ended
+gate_ended : (ending : Ending) (old : Outcome3 → List ℕ) (octets : List ℕ) (gate : ℕ) → gate + 1 ≤ length octets → gate_at octets gate ≢ open_gate → ((o : Outcome3) → old o ≡ octets)
+    → (o : Outcome3) → (gate_at (left_by ending old gate (open_gate ∷ []) o) gate == open_gate) ≡ batch_stands BothRan ending o
+gate_ended BothRan old octets gate inside shut same o = ap (λ (l : List ℕ). gate_at (overwritten l gate (open_gate ∷ [])) gate == open_gate) (same New) ∙ ap (λ x. x == open_gate) (at_written gate [] octets inside open_gate)
+gate_ended (AtWrite Runs) old octets gate inside shut same o = ap (λ (l : List ℕ). gate_at l gate == open_gate) (same o) ∙ closed_test octets gate shut
+gate_ended (AtWrite Fails) old octets gate inside shut same o = ap (λ (l : List ℕ). gate_at l gate == open_gate) (same o) ∙ closed_test octets gate shut
+gate_ended (AtWrite (Stops p)) old octets gate inside shut same o = ap (λ (l : List ℕ). gate_at (written_as p l gate (open_gate ∷ [])) gate == open_gate) (same p) ∙ gate_written gate [] octets inside shut p
+gate_ended (AtSync Runs) old octets gate inside shut same o = ap (λ (l : List ℕ). gate_at l gate == open_gate) (same o) ∙ closed_test octets gate shut
+gate_ended (AtSync Fails) old octets gate inside shut same o = ap (λ (l : List ℕ). gate_at (written_as o l gate (open_gate ∷ [])) gate == open_gate) (same o) ∙ gate_written gate [] octets inside shut o
+gate_ended (AtSync (Stops p)) old octets gate inside shut same o = ap (λ (l : List ℕ). gate_at (written_as p l gate (open_gate ∷ [])) gate == open_gate) (same p) ∙ gate_written gate [] octets inside shut p
+
+ended_parts : (first second : Ending) (one two : Course) → is_ended first ≡ true → (append_fails first second ≡ true) × (course_after first one two ≡ one) × ((o : Outcome3) → batch_stands first second o ≡ false)
+ended_parts BothRan second one two ended = absurd (other_bool (sym ended))
+ended_parts (AtWrite f) second one two ended = (refl, refl, λ o. refl)
+ended_parts (AtSync f) second one two ended = (refl, refl, λ o. refl)
+
+ran_is : (ending : Ending) → is_ended ending ≡ false → ending ≡ BothRan
+ran_is BothRan ran = refl
+ran_is (AtWrite f) ran = absurd (other_bool ran)
+ran_is (AtSync f) ran = absurd (other_bool ran)
+
+module _ (old : Prospect) (gate : ℕ) (framed octets : List ℕ) (inside : gate + 1 ≤ length octets) (shut : gate_at octets gate ≢ open_gate) (same : (o : Outcome3) → old.leaves o ≡ octets) where
+  -- the frame wasn't written
+  pub append_stopped : {T E F : Type 0} (put : Result T F) (result : Result T E) (new : Prospect) → PutPlanned old (gate + 1) framed put new → is_err put ≡ true → is_err result ≡ true → AppendPlanned old gate result new
+  append_stopped put result new planned failed err =
+      let ended = sym planned.fails ∙ failed in
+      let parts = ended_parts (ending_of (course_of old)) (ending_of (after_put (course_of old))) (after_put (course_of old)) (after_put (after_put (course_of old))) ended in
+      record {
+        fails = err ∙ sym parts.0;
+        course = planned.course ∙ sym parts.1;
+        opened = λ o. closed_test (new.leaves o) gate (λ e. frame_ended (ending_of (course_of old)) old.leaves octets gate framed inside shut same ended o (ap (λ (l : List ℕ). gate_at l gate) (sym (planned.leaves o)) ∙ e)) ∙ sym (parts.2 o);
+      }
+
+  -- it was, and the gate was written
+  pub append_ended : {T E F : Type 0} (put : Result T F) (result : Result T E) (mid new : Prospect) → PutPlanned old (gate + 1) framed put mid → is_err put ≡ false → PutPlanned mid gate (open_gate ∷ []) result new → gate + 1 ≤ length (overwritten octets (gate + 1) framed)
+      → AppendPlanned old gate result new
+  append_ended put result mid new one ran two fits =
+      let both = ran_is (ending_of (course_of old)) (sym one.fails ∙ ran) in
+      let staged : (o : Outcome3) → mid.leaves o ≡ overwritten octets (gate + 1) framed =
+      λ o. one.leaves o ∙ ap (λ e. left_by e old.leaves (gate + 1) framed o) both ∙ ap (λ (l : List ℕ). overwritten l (gate + 1) framed) (same New) in
+      let second : ending_of (course_of mid) ≡ ending_of (after_put (course_of old)) = ap ending_of one.course in
+      record {
+        fails = two.fails ∙ ap is_ended second ∙ ap (λ e. append_fails e (ending_of (after_put (course_of old)))) (sym both);
+        course = two.course ∙ ap after_put one.course ∙ ap (λ e. course_after e (after_put (course_of old)) (after_put (after_put (course_of old)))) (sym both);
+        opened = λ o.
+            ap (λ (l : List ℕ). gate_at l gate == open_gate) (two.leaves o)
+            ∙ gate_ended (ending_of (course_of mid)) mid.leaves (overwritten octets (gate + 1) framed) gate fits (λ e. shut (sym (before_written gate framed octets inside framed) ∙ e)) staged o
+            ∙ ap (λ e. batch_stands BothRan e o) second
+            ∙ ap (λ e. batch_stands e (ending_of (after_put (course_of old))) o) (sym both);
+      }

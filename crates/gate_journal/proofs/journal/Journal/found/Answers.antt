@@ -1,0 +1,57 @@
+use Rattle.gate_journal.specs.Journal.{batches}
+use Rattle.gate_journal.proofs.Runs.{widen}
+use Rattle.gate_journal.proofs.States.{settled, ready_of, founding_keeps, founding_batches, founding_sound, founded_sound}
+use Rattle.gate_journal.proofs.journal.Journal.found.Goals as goal
+
+pub invariant_of-self : goal.invariant_of-self
+invariant_of-self g c =
+    let laws = g.met.A.Area g.world.𝓛 g.world.𝓜 g.world.𝓡 ((λ s x. x), (λ x. x), (λ x. x), λ x. x) in
+    let j = c.args.self.now in
+    let ready = ready_of j.front j.is_torn c.requires.ready in
+    record { sound = founded_sound g.A.Area laws.holds laws.whole laws.same_size j.area c.put.new.area j.buffer.items j.gate j.torn_length j.is_torn j.front j.address j.generation j.sound ready c.put.ensures.size (λ told. (c.put.ensures.any_moment (j.sound.durable told ready)).now) (λ told. c.in-Ok.ensures.written told) (λ told. c.in-Ok.ensures.durable told) }
+
+pub invariant_of-self-in-Err : goal.invariant_of-self-in-Err
+invariant_of-self-in-Err g c =
+    let laws = g.met.A.Area g.world.𝓛 g.world.𝓜 g.world.𝓡 ((λ s x. x), (λ x. x), (λ x. x), λ x. x) in
+    let j = c.args.self.now in
+    let ready = ready_of j.front j.is_torn c.requires.ready in
+    record { sound = founding_sound g.A.Area laws.holds laws.whole laws.same_size j.area c.put.new.area j.buffer.items j.gate j.torn_length j.is_torn j.front j.address j.generation j.sound ready c.put.ensures.size (λ told. (c.put.ensures.any_moment (j.sound.durable told ready)).now) }
+
+pub returns-in-Ok-clause-batches : goal.returns-in-Ok-clause-batches
+unfolding batches
+returns-in-Ok-clause-batches g c = λ told.
+    let laws = g.met.A.Area g.world.𝓛 g.world.𝓜 g.world.𝓡 ((λ s x. x), (λ x. x), (λ x. x), λ x. x) in
+    let j = c.args.self.now in
+    let ready = ready_of j.front j.is_torn c.requires.ready in
+    founding_batches g.A.Area laws.holds laws.whole laws.same_size j.area c.put.new.area j.buffer.items j.gate j.torn_length j.is_torn j.front j.address j.generation j.sound ready c.put.ensures.size (λ told. (c.put.ensures.any_moment (j.sound.durable told ready)).now) told
+
+pub returns-in-Err-clause-batches : goal.returns-in-Err-clause-batches
+unfolding batches
+returns-in-Err-clause-batches g c = λ told.
+    let laws = g.met.A.Area g.world.𝓛 g.world.𝓜 g.world.𝓡 ((λ s x. x), (λ x. x), (λ x. x), λ x. x) in
+    let j = c.args.self.now in
+    let ready = ready_of j.front j.is_torn c.requires.ready in
+    founding_batches g.A.Area laws.holds laws.whole laws.same_size j.area c.put.new.area j.buffer.items j.gate j.torn_length j.is_torn j.front j.address j.generation j.sound ready c.put.ensures.size (λ told. (c.put.ensures.any_moment (j.sound.durable told ready)).now) told
+
+pub returns-in-Ok-clause-any_moment : goal.returns-in-Ok-clause-any_moment
+unfolding batches
+returns-in-Ok-clause-any_moment g c = λ told.
+    let laws = g.met.A.Area g.world.𝓛 g.world.𝓜 g.world.𝓡 ((λ s x. x), (λ x. x), (λ x. x), λ x. x) in
+    let j = c.args.self.now in
+    let ready = ready_of j.front j.is_torn c.requires.ready in
+    widen g.A.Area _ _ _ _ (founding_keeps g.A.Area laws.holds laws.whole laws.same_size j.area c.put.new.area j.buffer.items j.gate j.torn_length j.is_torn j.front j.address j.generation j.sound ready c.put.ensures.size told) (c.put.ensures.any_moment (j.sound.durable told ready))
+
+pub returns-in-Err-clause-any_moment : goal.returns-in-Err-clause-any_moment
+unfolding batches
+returns-in-Err-clause-any_moment g c = λ told.
+    let laws = g.met.A.Area g.world.𝓛 g.world.𝓜 g.world.𝓡 ((λ s x. x), (λ x. x), (λ x. x), λ x. x) in
+    let j = c.args.self.now in
+    let ready = ready_of j.front j.is_torn c.requires.ready in
+    widen g.A.Area _ _ _ _ (founding_keeps g.A.Area laws.holds laws.whole laws.same_size j.area c.put.new.area j.buffer.items j.gate j.torn_length j.is_torn j.front j.address j.generation j.sound ready c.put.ensures.size told) (c.put.ensures.any_moment (j.sound.durable told ready))
+
+pub returns-in-Ok-clause-settled : goal.returns-in-Ok-clause-settled
+returns-in-Ok-clause-settled g c =
+    let laws = g.met.A.Area g.world.𝓛 g.world.𝓜 g.world.𝓡 ((λ s x. x), (λ x. x), (λ x. x), λ x. x) in
+    let j = c.args.self.now in
+    let ready = ready_of j.front j.is_torn c.requires.ready in
+    settled g.A.Area laws.holds laws.whole laws.same_size _ ready.whole

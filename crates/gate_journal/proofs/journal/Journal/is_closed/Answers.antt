@@ -1,0 +1,18 @@
+use Rattle.std.proofs.Common.{sym, ◌∙◌}
+use Rattle.gate_journal.proofs.States.{settled, closed_as_torn, keeps_by_gate}
+use Rattle.gate_journal.specs.Journal.{stop_stands}
+use Rattle.gate_journal.proofs.journal.Journal.is_closed.Goals as goal
+
+pub returns-in-Founded : goal.returns-in-Founded
+unfolding stop_stands
+returns-in-Founded g c =
+    let laws = g.met.A.Area g.world.𝓛 g.world.𝓜 g.world.𝓡 ((λ s x. x), (λ x. x), (λ x. x), λ x. x) in
+    let j = c.args.self.now in
+    let closed = closed_as_torn j.front j.is_torn c.in-Founded.is in
+    record { closed = closed; settled = λ e. settled g.A.Area laws.holds laws.whole laws.same_size j (sym closed ∙ e); stop = λ fate told outcome. keeps_by_gate g.A.Area laws.holds laws.whole laws.same_size j told _ (laws.may_stop j.area outcome fate) }
+
+pub returns-in-Founding-clause-stop : goal.returns-in-Founding-clause-stop
+unfolding stop_stands
+returns-in-Founding-clause-stop g c = λ fate told outcome.
+    let laws = g.met.A.Area g.world.𝓛 g.world.𝓜 g.world.𝓡 ((λ s x. x), (λ x. x), (λ x. x), λ x. x) in
+    keeps_by_gate g.A.Area laws.holds laws.whole laws.same_size c.args.self.now told _ (laws.may_stop c.args.self.now.area outcome fate)

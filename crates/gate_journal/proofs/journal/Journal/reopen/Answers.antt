@@ -1,0 +1,85 @@
+use Rattle.std.proofs.Common.{ℕ, false, List, [], ◌∷◌, ◌++◌, take, drop, refl, sym, ◌∙◌, ap, subst}
+use Rattle.std.specs.Prelude.{◌&&◌, ◌==◌, if◌then◌else◌}
+use Rattle.gate_journal.specs.Format.{open_gate, gate_at}
+use Rattle.gate_journal.specs.State.{IsSound, batches_below, gate_after}
+use Rattle.gate_journal.specs.Journal.{batches, torn, torn_stands, stop_stands, closed_by}
+use Rattle.gate_journal.proofs.Turns.{other_bool}
+use Rattle.gate_journal.proofs.Runs.{widen}
+use Rattle.gate_journal.proofs.States.{settled, open_after, keeps_any, kept_batches, kept_sound, reopened_sound, reopened_batches}
+use Rattle.gate_journal.proofs.journal.Journal.reopen.Goals as goal
+
+pub invariant_of-self : goal.invariant_of-self
+invariant_of-self g c =
+    let laws = g.met.A.Area g.world.𝓛 g.world.𝓜 g.world.𝓡 ((λ s x. x), (λ x. x), (λ x. x), λ x. x) in
+    let j = c.args.self.now in
+    record {
+      sound =
+          subst (λ n. IsSound g.A.Area c.see.new.area j.buffer.items n j.torn_length false c.next_front-self.result j.address j.generation) (sym c.next_gate-self.ensures)
+          (subst (λ f. IsSound g.A.Area c.see.new.area j.buffer.items (gate_after j.is_torn j.gate j.torn_length c.in-Ok.ends.gate) j.torn_length false f j.address j.generation) (sym c.next_front-self.ensures) (reopened_sound g.A.Area laws.holds laws.whole laws.same_size j.area c.see.new.area j.buffer.items j.gate j.torn_length j.is_torn j.front j.address j.generation j.sound c.see.ensures.size (λ told. c.in-Ok.ensures.octets told) (λ told. c.in-Ok.ensures.durable told) c.in-Ok.ends.first c.in-Ok.ends.gate (λ told. (c.in-Ok.ensures.seen told).0) (λ told. (c.in-Ok.ensures.seen told).1)));
+    }
+
+pub invariant_of-self-in-Err : goal.invariant_of-self-in-Err
+invariant_of-self-in-Err g c =
+    let laws = g.met.A.Area g.world.𝓛 g.world.𝓜 g.world.𝓡 ((λ s x. x), (λ x. x), (λ x. x), λ x. x) in
+    let j = c.args.self.now in
+    record { sound = kept_sound g.A.Area laws.holds laws.whole laws.same_size j.area c.see.new.area j.buffer.items j.gate j.torn_length j.is_torn j.front j.address j.generation j.sound c.see.ensures.size c.see.ensures.any_moment.now }
+
+pub returns-in-Ok-clause-ok : goal.returns-in-Ok-clause-ok
+unfolding batches torn torn_stands
+returns-in-Ok-clause-ok g c = λ told.
+    let laws = g.met.A.Area g.world.𝓛 g.world.𝓜 g.world.𝓡 ((λ s x. x), (λ x. x), (λ x. x), λ x. x) in
+    let j = c.args.self.now in
+    ap (λ n. batches_below n (g.A.Area.octets c.see.new.area)) c.next_gate-self.ensures
+    ∙ reopened_batches g.A.Area laws.holds laws.whole laws.same_size j.area c.see.new.area j.buffer.items j.gate j.torn_length j.is_torn j.front j.address j.generation j.sound c.see.ensures.size (λ told. c.in-Ok.ensures.octets told) (λ told. c.in-Ok.ensures.durable told) c.in-Ok.ends.first c.in-Ok.ends.gate (λ told. (c.in-Ok.ensures.seen told).0) (λ told. (c.in-Ok.ensures.seen told).1) told
+    ∙ ap (λ o. if j.is_torn && (o == open_gate) then batches_below j.gate (g.A.Area.octets j.area) ++ take j.torn_length (drop 4 j.buffer.items) ∷ [] else batches_below j.gate (g.A.Area.octets j.area)) (c.in-Ok.ensures.seen told.0).1
+
+pub returns-in-Ok-clause-any_moment : goal.returns-in-Ok-clause-any_moment
+returns-in-Ok-clause-any_moment g c = λ told.
+    let laws = g.met.A.Area g.world.𝓛 g.world.𝓜 g.world.𝓡 ((λ s x. x), (λ x. x), (λ x. x), λ x. x) in
+    let j = c.args.self.now in
+    widen g.A.Area _ _ _ _ (keeps_any g.A.Area laws.holds laws.whole laws.same_size j told) c.see.ensures.any_moment
+
+pub returns-in-Ok-clause-any_moment_ready : goal.returns-in-Ok-clause-any_moment_ready
+returns-in-Ok-clause-any_moment_ready g c = λ told ready.
+    let laws = g.met.A.Area g.world.𝓛 g.world.𝓜 g.world.𝓡 ((λ s x. x), (λ x. x), (λ x. x), λ x. x) in
+    let j = c.args.self.now in
+    widen g.A.Area _ _ _ _ (λ d. (settled g.A.Area laws.holds laws.whole laws.same_size j ready).crash told d) c.see.ensures.any_moment
+
+pub returns-in-Ok-clause-settled : goal.returns-in-Ok-clause-settled
+returns-in-Ok-clause-settled g c =
+    let laws = g.met.A.Area g.world.𝓛 g.world.𝓜 g.world.𝓡 ((λ s x. x), (λ x. x), (λ x. x), λ x. x) in
+    settled g.A.Area laws.holds laws.whole laws.same_size _ (ap (λ f. closed_by f false) c.next_front-self.ensures ∙ open_after c.args.self.now.front c.in-Ok.ends.first)
+
+pub returns-in-Err-clause-err : goal.returns-in-Err-clause-err
+unfolding batches
+returns-in-Err-clause-err g c = λ told.
+    let laws = g.met.A.Area g.world.𝓛 g.world.𝓜 g.world.𝓡 ((λ s x. x), (λ x. x), (λ x. x), λ x. x) in
+    let j = c.args.self.now in
+    kept_batches g.A.Area laws.holds laws.whole laws.same_size j.area c.see.new.area j.buffer.items j.gate j.torn_length j.is_torn j.front j.address j.generation j.sound c.see.ensures.size c.see.ensures.any_moment.now told
+
+pub returns-in-Err-clause-any_moment : goal.returns-in-Err-clause-any_moment
+returns-in-Err-clause-any_moment g c = λ told.
+    let laws = g.met.A.Area g.world.𝓛 g.world.𝓜 g.world.𝓡 ((λ s x. x), (λ x. x), (λ x. x), λ x. x) in
+    let j = c.args.self.now in
+    widen g.A.Area _ _ _ _ (keeps_any g.A.Area laws.holds laws.whole laws.same_size j told) c.see.ensures.any_moment
+
+pub returns-in-Err-clause-any_moment_ready : goal.returns-in-Err-clause-any_moment_ready
+returns-in-Err-clause-any_moment_ready g c = λ told ready.
+    let laws = g.met.A.Area g.world.𝓛 g.world.𝓜 g.world.𝓡 ((λ s x. x), (λ x. x), (λ x. x), λ x. x) in
+    let j = c.args.self.now in
+    widen g.A.Area _ _ _ _ (λ d. (settled g.A.Area laws.holds laws.whole laws.same_size j ready).crash told d) c.see.ensures.any_moment
+
+pub returns-in-Err-clause-torn : goal.returns-in-Err-clause-torn
+unfolding torn
+returns-in-Err-clause-torn g c = refl
+
+pub returns-in-Ok-clause-planned : goal.returns-in-Ok-clause-planned
+unfolding stop_stands
+returns-in-Ok-clause-planned g c = λ told. let planned = c.in-Ok.ensures.planned told in record { planned = record { failed = planned.failed; course = planned.course; leaves = planned.leaves }; stands = λ err. absurd (other_bool (sym err)) }
+
+pub returns-in-Err-clause-planned : goal.returns-in-Err-clause-planned
+unfolding stop_stands
+returns-in-Err-clause-planned g c = λ told.
+    let j = c.args.self.now in
+    let planned = c.in-Err.ensures.planned told in
+    record { planned = record { failed = planned.failed; course = planned.course; leaves = planned.leaves }; stands = λ err outcome. ap (λ (l : List ℕ). j.is_torn && (gate_at l j.gate == open_gate)) (planned.leaves outcome) }

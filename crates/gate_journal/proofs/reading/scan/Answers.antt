@@ -1,0 +1,37 @@
+use Rattle.std.proofs.Common.{ℕ, List, refl, sym, ◌∙◌, ap, subst, arith}
+use Rattle.std.specs.Prelude.{IsTrue}
+use Rattle.byteorder.specs.Endian.{big_bytes}
+use Rattle.gate_journal.specs.Verdicts.{IsBehind, Fits}
+use Rattle.gate_journal.specs.declared.reading.Behind.TheVariants.{Whole}
+use Rattle.gate_journal.proofs.Below.{none_below, one_more}
+use Rattle.gate_journal.proofs.Runs.{kept_refl, kept_trans}
+use Rattle.gate_journal.proofs.reading.scan.Goals as goal
+
+pub batches-init : goal.batches-init
+batches-init g c =
+    let laws = g.met.A.Area g.world.𝓛 g.world.𝓜 g.world.𝓡 ((λ s x. x), (λ x. x), (λ x. x), λ x. x) in
+    record {
+      low = omega arith;
+      high = omega arith;
+      below = λ told. none_below (g.A.Area.octets c.args.area.now);
+      kept = kept_refl g.A.Area laws.only_now c.args.area.now;
+      faults = refl;
+    }
+
+pub batches-preserved : goal.batches-preserved
+batches-preserved g c =
+    let laws = g.met.A.Area g.world.𝓛 g.world.𝓜 g.world.𝓡 ((λ s x. x), (λ x. x), (λ x. x), λ x. x) in
+    let i = c.batches.invariant in
+    let read = c.in_ok-read_gate.ensures in
+    let fits = subst (λ b. Fits (g.A.Area.size c.batches.area) c.batches.at b) c.in-Whole.is read.fits in
+    let reads = λ (told : IsTrue g.A.Area.tells_octets).
+    subst (λ (o : List ℕ). IsBehind o c.batches.at (Whole c.in-Whole.length)) i.kept.octets (subst (λ b. IsBehind (g.A.Area.octets c.batches.area) c.batches.at b) c.in-Whole.is (read.reads told)) in
+    record {
+      low = omega arith;
+      high = omega (arith, i.kept.size, fits.1);
+      below = λ told.
+          one_more c.batches.at c.from.result (g.A.Area.octets c.args.area.now) i.low (omega (arith, laws.whole c.args.area.now told, i.kept.size, fits.1)) (reads told).0
+          ((reads told).2 ∙ ap (λ n. big_bytes 4 n) (sym c.from.ensures)) (omega (arith, fits.0)) (i.below told);
+      kept = kept_trans g.A.Area _ c.batches.area _ i.kept read.kept;
+      faults = read.cause.ok ∙ i.faults;
+    }

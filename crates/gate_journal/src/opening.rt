@@ -1,0 +1,264 @@
+// How a journal is opened, drafted and made anew.
+ghost use Rattle.std.specs.Prelude.{vec_len, ◌≡◌, ◌≢◌, ◌⊎◌, ◌+◌, ◌<◌, ◌≤◌, ℕ, IsTrue, min, false, [], ◌∷◌, ◌++◌, List, length, take, drop, slice_index, OnOk, IfOk, IfErr, IsErrAnd};
+ghost use Rattle.area_disk.specs.Disk.{Only, HasCause, Rose, counted};
+ghost use Rattle.gate_journal.specs.Format.{header, Stands, Starts, IsForeign, IsBroken};
+ghost use Rattle.gate_journal.specs.Moments.{Told, Leaves, Kept, Calls, RoseUpTo};
+ghost use Rattle.gate_journal.specs.Opening.{OnArea, IsLaid, IsMaking};
+ghost use Rattle.gate_journal.specs.Verdicts.{IsVerdict};
+ghost use Rattle.gate_journal.specs.Journal.{area_of, header_of, front_of, batches, end, is_closed, IsSettled};
+ghost use Rattle.gate_journal.specs.declared.journal.Front.TheVariants.{Founded, Draft};
+ghost use Rattle.gate_journal.specs.declared.reading.Verdict.TheVariants.{Starts as Begins};
+
+use crate::device::put;
+use crate::format::{CLOSED, LONGEST, header_of};
+use crate::reading::{Scanned, Verdict, look, scan};
+use crate::{Device, Front, Journal, OpenFault};
+use area_disk::{Area, Failed};
+use std::alloc::{AllocError, Global};
+
+// All of a header but its first octet, and a closed gate behind it.
+fn front_octets(header: &[u8; 32]) -> [u8; 32]
+    ensures { result ≡ drop 1 header.now ++ 0 ∷ [] }
+{
+    let mut front = [CLOSED; 32];
+    front[..31].copy_from_slice(&header[1..]);
+    front
+}
+
+// Makes an area that starts, without its octet 0.
+fn lay_front<A: Area>(area: &mut A, header: &[u8; 32], blank: bool) -> Result<(), Failed>
+    requires long { 100 ≤ A.size area.old }
+    requires first { slice_index header.now 0 ≡ 67 }
+    requires begun { IsTrue A.tells_octets → IsVerdict header.now (A.octets area.old) (Begins blank) }
+
+    ensures size { A.size area.new ≡ A.size area.old }
+    ensures laid { IsTrue A.tells_octets → OnOk result (IsLaid header.now (A.octets area.new)) }
+    ensures durable { IsTrue A.tells_crash → OnOk result (Only (A.octets area.new) (A.may_leave area.new)) }
+    ensures any_moment { IsTrue A.tells_octets → Only (A.octets area.old) (A.may_leave area.old) → Leaves A.Area area.old area.new (Starts header.now) }
+    ensures calls { IsTrue A.tells_calls → Calls 2 (A.calls area.old) (A.calls area.new) result }
+    ensures cause { HasCause (A.faults area.old) (A.faults area.new) result }
+{
+    if blank {
+        let front = front_octets(header);
+        put(area, 1, &front)
+    } else {
+        put(area, 32, &[CLOSED])
+    }
+}
+
+fn buffer_for(alloc: Global, length: u64) -> Result<Vec<u8>, AllocError>
+    requires { length ≤ 268435456 }
+    ensures { IfOk result (λ buffer. vec_len buffer ≡ min 1048581 length) }
+{
+    let most = length.min(LONGEST as u64 + 5);
+    vec![in alloc; 0; most as usize]
+}
+
+// Makes an area that starts, without its octet 0, and a draft on it.
+fn lay<A: Area>(
+    alloc: Global,
+    mut area: A,
+    blank: bool,
+    address: u32,
+    generation: u32,
+) -> Result<Journal<A>, (OpenFault, A)>
+    requires long { 100 ≤ A.size area }
+    requires short { A.size area ≤ 268435456 }
+    requires begun { IsTrue A.tells_octets → IsVerdict (header (A.size area) address generation) (A.octets area) (Begins blank) }
+    requires durable { IsTrue A.tells_crash → Only (A.octets area) (A.may_leave area) }
+
+    ensures settled { IfOk result (λ journal. IsSettled journal) }
+    ensures draft { IfOk result (λ journal. front_of journal ≡ Draft) }
+    ensures open { IfOk result (λ journal. is_closed journal ≡ false) }
+    ensures batches { Told A.Area → IfOk result (λ journal. batches journal ≡ []) }
+    ensures header { IfOk result (λ journal. header_of journal ≡ header (A.size area) address generation) }
+
+    ensures fault { IfErr result (λ fault. (fault.0 ≡ OpenFault.Device) ⊎ ((fault.0 ≡ OpenFault.NoMemory) × (fault.1 ≡ area))) }
+    ensures any_moment { Told A.Area → OnArea result (λ now. Leaves A.Area area now (Starts (header (A.size area) address generation))) }
+
+    ensures size { OnArea result (λ now. A.size now ≡ A.size area) }
+    ensures calls { IsTrue A.tells_calls → IfOk result (λ journal. A.calls (area_of journal) ≡ counted 2 (A.calls area)) }
+    ensures calls_device { IsTrue A.tells_calls → IfErr result (λ fault. fault.0 ≡ OpenFault.Device → RoseUpTo 2 (A.calls area) (A.calls fault.1)) }
+    ensures faults { IfOk result (λ journal. A.faults (area_of journal) ≡ A.faults area) }
+    ensures faults_err { IfErr result (λ fault. A.faults area ≤ A.faults fault.1) }
+    ensures device { IfErr result (λ fault. fault.0 ≡ OpenFault.Device → Rose (A.faults area) (A.faults fault.1)) }
+{
+    let length = area.length();
+    let Ok(buffer) = buffer_for(alloc, length) else {
+        return Err((OpenFault::NoMemory, area));
+    };
+    let header = header_of(length, address, generation);
+    match lay_front(&mut area, &header, blank) {
+        Ok(()) => Ok(Journal::over(area, buffer, 32, Front::Draft, address, generation)),
+        Err(Failed) => Err((OpenFault::Device, area)),
+    }
+}
+
+// Reads the batches of an area that has its header.
+fn list<A: Area>(
+    alloc: Global,
+    mut area: A,
+    address: u32,
+    generation: u32,
+) -> Result<Journal<A>, (OpenFault, A)>
+    requires long { 100 ≤ A.size area }
+    requires short { A.size area ≤ 268435456 }
+    requires same { IsTrue A.tells_octets → take 32 (A.octets area) ≡ header (A.size area) address generation }
+    requires durable { IsTrue A.tells_crash → Only (A.octets area) (A.may_leave area) }
+
+    ensures settled { IfOk result (λ journal. IsSettled journal) }
+    ensures founded { IfOk result (λ journal. front_of journal ≡ Founded) }
+    ensures open { IfOk result (λ journal. is_closed journal ≡ false) }
+    ensures header { IfOk result (λ journal. header_of journal ≡ header (A.size area) address generation) }
+
+    ensures broken { IsTrue A.tells_octets → IfErr result (λ fault. (at : ℕ) → fault.0 ≡ OpenFault.NotOurs at → IsBroken (header (A.size area) address generation) (A.octets area) at) }
+    ensures foreign { IsTrue A.tells_octets → (at : ℕ) → IsBroken (header (A.size area) address generation) (A.octets area) at → IsErrAnd result (λ fault. (fault.0 ≡ OpenFault.NotOurs at) ⊎ (fault.0 ≡ OpenFault.Device)) }
+    ensures kept { OnArea result (λ now. Kept A.Area area now) }
+    ensures faults { IfOk result (λ journal. A.faults (area_of journal) ≡ A.faults area) }
+    ensures faults_err { IfErr result (λ fault. A.faults area ≤ A.faults fault.1) }
+    ensures device { IfErr result (λ fault. fault.0 ≡ OpenFault.Device → Rose (A.faults area) (A.faults fault.1)) }
+{
+    match scan(&mut area) {
+        Ok(Scanned::End { gate }) => {
+            let Ok(buffer) = buffer_for(alloc, area.length()) else {
+                return Err((OpenFault::NoMemory, area));
+            };
+            Ok(Journal::over(area, buffer, gate, Front::Founded, address, generation))
+        }
+        Ok(Scanned::Broken { at }) => Err((OpenFault::NotOurs { at }, area)),
+        Err(Failed) => Err((OpenFault::Device, area)),
+    }
+}
+
+// Makes an area anew: it starts until octet 0 stands, and then it stands for no batch.
+fn make_anew<A: Area>(
+    alloc: Global,
+    area: A,
+    blank: bool,
+    address: u32,
+    generation: u32,
+) -> Result<Journal<A>, (OpenFault, A)>
+    requires long { 100 ≤ A.size area }
+    requires short { A.size area ≤ 268435456 }
+    requires begun { IsTrue A.tells_octets → IsVerdict (header (A.size area) address generation) (A.octets area) (Begins blank) }
+    requires durable { IsTrue A.tells_crash → Only (A.octets area) (A.may_leave area) }
+
+    ensures settled { IfOk result (λ journal. IsSettled journal) }
+    ensures founded { IfOk result (λ journal. front_of journal ≡ Founded) }
+    ensures open { IfOk result (λ journal. is_closed journal ≡ false) }
+    ensures batches { Told A.Area → IfOk result (λ journal. batches journal ≡ []) }
+    ensures header { IfOk result (λ journal. header_of journal ≡ header (A.size area) address generation) }
+
+    ensures fault { IfErr result (λ fault. (fault.0 ≡ OpenFault.Device) ⊎ ((fault.0 ≡ OpenFault.NoMemory) × (fault.1 ≡ area))) }
+    ensures any_moment { Told A.Area → OnArea result (λ now. Leaves A.Area area now (IsMaking (header (A.size area) address generation))) }
+
+    ensures size { OnArea result (λ now. A.size now ≡ A.size area) }
+    ensures calls { IsTrue A.tells_calls → IfOk result (λ journal. A.calls (area_of journal) ≡ counted 4 (A.calls area)) }
+    ensures calls_device { IsTrue A.tells_calls → IfErr result (λ fault. fault.0 ≡ OpenFault.Device → RoseUpTo 4 (A.calls area) (A.calls fault.1)) }
+    ensures faults { IfOk result (λ journal. A.faults (area_of journal) ≡ A.faults area) }
+    ensures faults_err { IfErr result (λ fault. A.faults area ≤ A.faults fault.1) }
+    ensures device { IfErr result (λ fault. fault.0 ≡ OpenFault.Device → Rose (A.faults area) (A.faults fault.1)) }
+{
+    match lay(alloc, area, blank, address, generation) {
+        Err(fault) => Err(fault),
+        Ok(mut journal) => match journal.found() {
+            Ok(()) => Ok(journal),
+            Err(Device) => Err((OpenFault::Device, journal.into_area())),
+        },
+    }
+}
+
+impl<A: Area> Journal<A> {
+    /// Opens the journal of an area, for a gateway's address and a generation. It makes one sync and reads; an area
+    /// whose making began, or whose octet 0 is 0, is made anew with four calls of the device more.
+    ///
+    /// It takes memory for one buffer of at most 1,048,581 octets, and hands the area back where it fails.
+    pub fn open(
+        alloc: Global,
+        mut area: A,
+        address: u32,
+        generation: u32,
+    ) -> Result<Journal<A>, (OpenFault, A)>
+        requires long { 100 ≤ A.size area }
+        requires short { A.size area ≤ 268435456 }
+
+        // The journal found is the one that the area stands for.
+        ensures reads { Told A.Area → (bs : List (List ℕ)) → Stands (header (A.size area) address generation) (A.octets area) bs → IfOk result (λ journal. batches journal ≡ bs) }
+        ensures anew { Told A.Area → Starts (header (A.size area) address generation) (A.octets area) → IfOk result (λ journal. batches journal ≡ []) }
+        ensures settled { IfOk result (λ journal. IsSettled journal) }
+        ensures founded { IfOk result (λ journal. front_of journal ≡ Founded) }
+        ensures open { IfOk result (λ journal. is_closed journal ≡ false) }
+        ensures header { IfOk result (λ journal. header_of journal ≡ header (A.size area) address generation) }
+        ensures size { OnArea result (λ now. A.size now ≡ A.size area) }
+
+        // A crash at any moment leaves what it could before, unless the area is made anew.
+        ensures moments { Told A.Area → (bs : List (List ℕ)) → Stands (header (A.size area) address generation) (A.octets area) bs → OnArea result (λ now. Leaves A.Area area now (A.may_leave area)) }
+        ensures moments_foreign { Told A.Area → (at : ℕ) → IsForeign (header (A.size area) address generation) (A.octets area) at → OnArea result (λ now. Leaves A.Area area now (A.may_leave area)) }
+        ensures moments_anew { Told A.Area → Starts (header (A.size area) address generation) (A.octets area) → OnArea result (λ now. Leaves A.Area area now (λ c. A.may_leave area c ⊎ IsMaking (header (A.size area) address generation) c)) }
+
+        // Each error.
+        ensures not_ours { Told A.Area → IfErr result (λ fault. (at : ℕ) → fault.0 ≡ OpenFault.NotOurs at → IsForeign (header (A.size area) address generation) (A.octets area) at) }
+        ensures foreign { Told A.Area → (at : ℕ) → IsForeign (header (A.size area) address generation) (A.octets area) at → IsErrAnd result (λ fault. (fault.0 ≡ OpenFault.NotOurs at) ⊎ (fault.0 ≡ OpenFault.Device)) }
+        ensures device { IfErr result (λ fault. fault.0 ≡ OpenFault.Device → Rose (A.faults area) (A.faults fault.1)) }
+        ensures faults { IfOk result (λ journal. A.faults (area_of journal) ≡ A.faults area) }
+        ensures faults_err { IfErr result (λ fault. A.faults area ≤ A.faults fault.1) }
+        ensures unwritten { Told A.Area → IfErr result (λ fault. (fault.0 ≡ OpenFault.Device) ⊎ (A.octets fault.1 ≡ A.octets area)) }
+
+        ensures calls { IsTrue A.tells_calls → Told A.Area → (bs : List (List ℕ)) → Stands (header (A.size area) address generation) (A.octets area) bs → OnArea result (λ now. A.calls now ≡ counted 1 (A.calls area)) }
+        ensures calls_anew { IsTrue A.tells_calls → Told A.Area → Starts (header (A.size area) address generation) (A.octets area) → IfOk result (λ journal. A.calls (area_of journal) ≡ counted 5 (A.calls area)) }
+        ensures calls_any { IsTrue A.tells_calls → OnArea result (λ now. RoseUpTo 5 (A.calls area) (A.calls now)) }
+    {
+        let header = header_of(area.length(), address, generation);
+        match look(&mut area, &header) {
+            Ok(Verdict::Starts { blank }) => make_anew(alloc, area, blank, address, generation),
+            Ok(Verdict::Same) => list(alloc, area, address, generation),
+            Ok(Verdict::Other { at }) => Err((OpenFault::NotOurs { at }, area)),
+            Err(Failed) => Err((OpenFault::Device, area)),
+        }
+    }
+
+    /// Makes a draft on an area that an opening would make anew, for a gateway's address and a generation. It makes all
+    /// of the journal but octet 0 of the area, with three calls of the device. Batches may be appended to it; until
+    /// `found` every crash leaves an area that an opening makes anew.
+    ///
+    /// It refuses an area that doesn't start with `NotOurs { at: 0 }`. It takes memory for one buffer of at most
+    /// 1,048,581 octets, and hands the area back where it fails.
+    pub fn draft(
+        alloc: Global,
+        mut area: A,
+        address: u32,
+        generation: u32,
+    ) -> Result<Journal<A>, (OpenFault, A)>
+        requires long { 100 ≤ A.size area }
+        requires short { A.size area ≤ 268435456 }
+
+        ensures batches { Told A.Area → IfOk result (λ journal. batches journal ≡ []) }
+        ensures settled { IfOk result (λ journal. IsSettled journal) }
+        ensures draft { IfOk result (λ journal. front_of journal ≡ Draft) }
+        ensures open { IfOk result (λ journal. is_closed journal ≡ false) }
+        ensures header { IfOk result (λ journal. header_of journal ≡ header (A.size area) address generation) }
+        ensures size { OnArea result (λ now. A.size now ≡ A.size area) }
+
+        // A crash at any moment leaves what it could before, or an area that starts.
+        ensures moments { Told A.Area → OnArea result (λ now. Leaves A.Area area now (λ c. A.may_leave area c ⊎ Starts (header (A.size area) address generation) c)) }
+
+        // Each error.
+        ensures started { Told A.Area → IfOk result (λ journal. Starts (header (A.size area) address generation) (A.octets area)) }
+        ensures not_ours { Told A.Area → IfErr result (λ fault. (at : ℕ) → fault.0 ≡ OpenFault.NotOurs at → (at ≡ 0) × (Starts (header (A.size area) address generation) (A.octets area) → ⊥)) }
+        ensures device { IfErr result (λ fault. fault.0 ≡ OpenFault.Device → Rose (A.faults area) (A.faults fault.1)) }
+        ensures faults { IfOk result (λ journal. A.faults (area_of journal) ≡ A.faults area) }
+        ensures faults_err { IfErr result (λ fault. A.faults area ≤ A.faults fault.1) }
+        ensures unwritten { Told A.Area → IfErr result (λ fault. (fault.0 ≡ OpenFault.Device) ⊎ (A.octets fault.1 ≡ A.octets area)) }
+
+        ensures calls { IsTrue A.tells_calls → IfOk result (λ journal. A.calls (area_of journal) ≡ counted 3 (A.calls area)) }
+        ensures calls_any { IsTrue A.tells_calls → OnArea result (λ now. RoseUpTo 3 (A.calls area) (A.calls now)) }
+    {
+        let header = header_of(area.length(), address, generation);
+        match look(&mut area, &header) {
+            Ok(Verdict::Starts { blank }) => lay(alloc, area, blank, address, generation),
+            Ok(Verdict::Same) => Err((OpenFault::NotOurs { at: 0 }, area)),
+            Ok(Verdict::Other { at: _ }) => Err((OpenFault::NotOurs { at: 0 }, area)),
+            Err(Failed) => Err((OpenFault::Device, area)),
+        }
+    }
+}
