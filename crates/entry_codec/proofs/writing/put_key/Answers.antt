@@ -1,0 +1,5 @@
+use Rattle.std.proofs.Common.{append_assoc}
+use Rattle.entry_codec.proofs.writing.put_key.Goals as goal
+
+pub returns : goal.returns
+returns c = rw (c.put_u64.ensures, c.put_u32.ensures) (simp append_assoc)

@@ -1,0 +1,33 @@
+use std::error::Error;
+use std::fmt;
+
+/// No prefix of the octets is an entry.
+#[derive(Clone, Copy, Debug, PartialEq, Eq)]
+pub struct EntryFault {
+    /// The first octet, counted from 0, at which that is certain: an entry begins with the octets
+    /// before it, and none with it too. It is the number of octets where they end too early.
+    pub at: usize,
+}
+
+impl fmt::Display for EntryFault {
+    fn fmt<W: fmt::Write>(&self, f: &mut fmt::Formatter<W>) -> fmt::Result {
+        write!(f, "no entry has the octet at {}", self.at)
+    }
+}
+
+impl Error for EntryFault {}
+
+/// There isn't room in a buffer, which stays as it was.
+#[derive(Clone, Copy, Debug, PartialEq, Eq)]
+pub struct Full {
+    /// How many octets there is room for.
+    pub free: usize,
+}
+
+impl fmt::Display for Full {
+    fn fmt<W: fmt::Write>(&self, f: &mut fmt::Formatter<W>) -> fmt::Result {
+        write!(f, "room for {} octets alone", self.free)
+    }
+}
+
+impl Error for Full {}
