@@ -1,14 +1,14 @@
 // An area in memory that never fails.
-ghost use Rattle.std.specs.Prelude.{◌≡◌, ℕ, true, false, length, IfOk};
-ghost use Rattle.area_disk.specs.Disk.{zeros};
+ghost use Rattle.std.specs.Prelude.{◌≡◌, ◌≤◌, ◌+◌, ℕ, true, false, length, IfOk};
+ghost use Rattle.area_disk.specs.Disk.{zeros, overwritten};
 
 use crate::stretch::{overwrite, zeroed};
 use crate::{Area, Failed, NoMemory};
 use std::alloc::Global;
 use std::marker::Model;
 
-/// An area in memory whose calls never fail. It tells what a read gives, and nothing of crashes and of its calls.
-/// Contracts see it as the list of its octets.
+/// An area in memory whose calls never fail. It tells what a read gives, which is what a crash leaves, and nothing
+/// of moments and of its calls. Contracts see it as the list of its octets.
 #[derive(Drop)]
 pub struct QuietArea {
     octets: Vec<u8>,
@@ -32,10 +32,19 @@ impl QuietArea {
         let octets = zeroed(alloc, length as usize)?;
         Ok(QuietArea { octets })
     }
+
+    // Writes over its octets.
+    fn put(&mut self, at: u64, from: &[u8])
+        requires { at + length from.now ≤ length self.old }
+        ensures { self.new ≡ overwritten self.old at from.now }
+    {
+        overwrite(&mut self.octets, at as usize, from);
+    }
 }
 
 impl Area for QuietArea {
-    ghost use Rattle.std.proofs.Common.{refl};
+    ghost use Rattle.std.proofs.Common.{refl, ap};
+    ghost use Rattle.std.proofs.Math.Bridge.{no_suc-le-zero};
     ghost use Rattle.area_disk.specs.Quiet.{no_prospect, not_told};
 
     ghost size = { λ a. length a };
@@ -44,9 +53,9 @@ impl Area for QuietArea {
 
     ghost octets = { λ a. a };
 
-    ghost tells_crash = { false };
+    ghost tells_crash = { true };
 
-    ghost may_leave = { λ a c. Unit {0} };
+    ghost may_leave = { λ a c. c ≡ a };
 
     ghost moment = { λ a. 0 };
 
@@ -64,15 +73,15 @@ impl Area for QuietArea {
 
     ghost faults = { λ a. 0 };
 
-    ghost holds = { λ a. tt };
+    ghost holds = { λ a. refl };
 
     ghost whole = { λ a told. refl };
 
-    ghost same_size = { λ a c told left. not_told told };
+    ghost same_size = { λ a c told left. ap length left };
 
     ghost counts_now = { λ a t c le now left. tt };
 
-    ghost only_now = { λ a c le left. tt };
+    ghost only_now = { λ a c le left. absurd (no_suc-le-zero le) };
 
     ghost may_stop = { λ a o told. not_told told };
 
@@ -91,7 +100,7 @@ impl Area for QuietArea {
     }
 
     fn write_at(&mut self, at: u64, from: &[u8]) -> Result<(), Failed> {
-        overwrite(&mut self.octets, at as usize, from);
+        self.put(at, from);
         Ok(())
     }
 

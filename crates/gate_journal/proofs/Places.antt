@@ -139,3 +139,13 @@ small_among batches some batch more is small = small_one some batch more (subst 
 -- and no batch is behind the place itself
 pub before_end : (batches some : List (List ℕ)) (batch : List ℕ) (more : List (List ℕ)) → batches ≡ some ++ batch ∷ more → end_of some < end_of batches
 before_end batches some batch more is = omega (arith, ap taken is, taken-append some (batch ∷ more))
+
+-- one more batch leads to the next gate
+pub next_gate : (batches before : List (List ℕ)) (content : List ℕ) (behind : List (List ℕ)) (gate : ℕ) → batches ≡ before ++ content ∷ behind → gate ≡ end_of before
+    → (batches ≡ before ++ content ∷ [] ++ behind) × (gate + 5 + length content ≡ end_of (before ++ content ∷ []))
+next_gate batches before content behind gate is at = (is ∙ sym (append_assoc before (content ∷ []) behind), omega (arith, at, taken-append before (content ∷ [])))
+
+-- a fact of what there is
+pub if_some : {X : Type 0} (found : Option X) (P Q : X → Type 0) → IfSome found P → ((x : X) → found ≡ Some x → P x → Q x) → IfSome found Q
+if_some None P Q p f = tt
+if_some (Some x) P Q p f = f x refl p

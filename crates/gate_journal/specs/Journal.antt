@@ -144,6 +144,16 @@ pub record IsGate {A : Type 0} {tells : Ghosts A} (journal : Journal A tells) (g
   pub high : gate ≤ end journal
   pub behind : Told tells → (some : List (List ℕ)) × (more : List (List ℕ)) × (batches journal ≡ some ++ more) × (gate ≡ end_of some)
 
+-- a batch of the journal: behind this gate its content begins at this place and has so many octets
+pub record IsBatch {A : Type 0} {tells : Ghosts A} (journal : Journal A tells) (gate at n : ℕ) : Type 0 where
+  pub before : List (List ℕ)
+  pub content : List ℕ
+  pub behind : List (List ℕ)
+  pub listed : batches journal ≡ before ++ content ∷ behind
+  pub gate_is : gate ≡ end_of before
+  pub place : at ≡ gate + 5
+  pub size : n ≡ length content
+
 -- These octets lie in the content of one batch, and in the area in any case.
 pub record IsInside {A : Type 0} {tells : Ghosts A} (journal : Journal A tells) (at n : ℕ) : Type 0 where
   pub high : at + n ≤ end journal

@@ -45,7 +45,7 @@ pub struct Journal<A: Area> {
 }
 
 impl<A: Area> Journal<A> {
-    ghost use Rattle.gate_journal.specs.Journal.{area_of, header_of, front_of, batches, end, free_of, is_closed, torn, torn_stands, left_by_stop, AppendFollows, ReopenFollows, reopened, reopened_front, KeepsOr, IsSettled, IsSame, IsUnchanged, IsKept, IsGate, IsInside};
+    ghost use Rattle.gate_journal.specs.Journal.{area_of, header_of, front_of, batches, end, free_of, is_closed, torn, torn_stands, left_by_stop, AppendFollows, ReopenFollows, reopened, reopened_front, KeepsOr, IsSettled, IsSame, IsUnchanged, IsKept, IsGate, IsBatch, IsInside};
     ghost use Rattle.area_disk.specs.declared.plan.Outcome3.{Outcome3};
     ghost use Rattle.gate_journal.specs.declared.journal.Front.TheVariants.{Founded, Draft, Founding};
 
@@ -242,6 +242,8 @@ impl<A: Area> Journal<A> {
 
         ensures found { Told A.Area → (some : List (List ℕ)) (batch : List ℕ) (more : List (List ℕ)) → batches self.old ≡ some ++ batch ∷ more → gate ≡ end_of some →
             IfOk result (λ found. found ≡ Some (gate + 5, length batch)) }
+        ensures some { Told A.Area → IfOk result (λ found. IfSome found (λ content. IsBatch self.old gate content.0 content.1)) }
+        ensures next { IfOk result (λ found. IfSome found (λ content. IsGate self.new (content.0 + content.1))) }
         ensures none { Told A.Area → IfOk result (λ found. IsNone found ↔ (gate ≡ end self.old)) }
         ensures end { gate ≡ end self.old → IfOk result (λ found. IsNone found) }
         ensures inside { IfOk result (λ found. IfSome found (λ content. (content.0 ≡ gate + 5) × (content.0 + content.1 ≤ end self.old))) }
