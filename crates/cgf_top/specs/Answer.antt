@@ -2,7 +2,8 @@
 -- clauses 5.1.3 and 6.2.4.5).
 use Rattle.std.specs.Prelude.{ℕ, ◌^◌, Bool, true, false, ◌&&◌, ◌==◌, nat_le, nat_lt, if◌then◌else◌, List, [], ◌∷◌, ◌++◌, map, filter, Option, Some, None, is_none}
 use Rattle.std.specs.List.{list_any}
-use Rattle.gtpp_header.specs.Header.{two_octets}
+use Rattle.gtpp_message.specs.Message.{TransferValue, Send, Possible, Cancel, Release}
+use Rattle.gtpp_message.specs.Packet.{PacketValue, Empty, Full, packet_octets}
 use Rattle.gw_base.specs.History.{epoch_of, state_of, top_of}
 use Rattle.gw_base.specs.Nearest.{nearest}
 use Rattle.gw_base.specs.declared.address.NodeId.{NodeId}
@@ -16,10 +17,7 @@ use Rattle.transfer_cmd.specs.declared.decision.Ask.{Ask}
 use Rattle.transfer_cmd.specs.declared.decision.Ask.TheVariants as ask
 use Rattle.transfer_cmd.specs.declared.verdict.Verdict.{Verdict}
 use Rattle.transfer_cmd.specs.declared.verdict.Verdict.TheVariants.{Wrong, Before, Change}
-use Rattle.cgf_top.specs.Request.{RequestForm}
 use Rattle.cgf_top.specs.declared.gateway_book.answer.Answer.{Answer}
-use Rattle.cgf_top.specs.declared.gtpp_message.request.Command.{Command}
-use Rattle.cgf_top.specs.declared.gtpp_message.request.Command.TheVariants.{Send, Possible, Cancel, Release}
 
 -- the state of a number in the node's present epoch
 abbrev pub state_in : List HistoryEntry → NodeId → ℕ → KeyState
@@ -28,14 +26,14 @@ state_in h node number = state_of (record { node = node; epoch = epoch_of node.0
 -- Requests that send a packet.
 
 -- what a request that sends this packet asks
-abbrev pub sending : List ℕ → Ask
-sending [] = ask.Empty
-sending (x ∷ xs) = ask.Send
+abbrev pub sending : PacketValue → Ask
+sending Empty = ask.Empty
+sending (Full count format version value) = ask.Send
 
 -- the same where the packet is possibly duplicated
-abbrev pub sending_again : List ℕ → Ask
-sending_again [] = ask.Empty
-sending_again (x ∷ xs) = ask.Possible
+abbrev pub sending_again : PacketValue → Ask
+sending_again Empty = ask.Empty
+sending_again (Full count format version value) = ask.Possible
 
 -- what a request that sends a packet is recorded as
 abbrev pub act_of : Ask → NodeId → ℕ → List ℕ → HistoryAct
@@ -59,15 +57,9 @@ sent asked state node number packet =
 
 -- Requests that name a list of numbers.
 
--- the numbers of a list, two octets each
-abbrev pub wire_numbers : List ℕ → List ℕ
-wire_numbers [] = []
-wire_numbers (high ∷ []) = []
-wire_numbers (high ∷ low ∷ rest) = two_octets high low ∷ wire_numbers rest
-
 -- the request numbers that a list names
 abbrev pub named_numbers : List HistoryEntry → NodeId → List ℕ → List ℕ
-named_numbers h node value = map (nearest (top_of node.0 h)) (wire_numbers value)
+named_numbers h node numbers = map (nearest (top_of node.0 h)) numbers
 
 -- the numbers with one more, if it isn't among them
 abbrev pub with_number : List ℕ → ℕ → List ℕ
@@ -96,12 +88,13 @@ abbrev pub listed : Bool → List HistoryEntry → NodeId → List ℕ → Answe
 listed release h node numbers =
     judged (verdict_of release (map (state_in h node) numbers)) release node (held_once h node numbers)
 
--- The answer to a request of a node.
-abbrev pub answered : Command → List HistoryEntry → NodeId → ℕ → List ℕ → Answer
-answered Send h node number packet = sent (sending packet) (state_in h node number) node number packet
-answered Possible h node number packet = sent (sending_again packet) (state_in h node number) node number packet
-answered Release h node number value = listed true h node (named_numbers h node value)
-answered Cancel h node number value = listed false h node (named_numbers h node value)
+-- The answer to what a node asks, by the request number that the sequence number means.
+abbrev pub answered : List HistoryEntry → NodeId → ℕ → TransferValue → Answer
+answered h node number (Send packet) = sent (sending packet) (state_in h node number) node number (packet_octets packet)
+answered h node number (Possible packet) = sent (sending_again packet) (state_in h node number) node number (packet_octets packet)
+answered h node number (Release numbers) = listed true h node (named_numbers h node numbers)
+answered h node number (Cancel numbers) = listed false h node (named_numbers h node numbers)
 
-abbrev pub answer_of : List HistoryEntry → NodeId → RequestForm → Answer
-answer_of h node request = answered request.command h node (nearest (top_of node.0 h) request.number) request.value
+-- The answer to a request of a node with this sequence number.
+abbrev pub answer_of : List HistoryEntry → NodeId → ℕ → TransferValue → Answer
+answer_of h node number body = answered h node (nearest (top_of node.0 h) number) body

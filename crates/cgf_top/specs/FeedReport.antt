@@ -1,5 +1,5 @@
 -- What `feed` prints: the reply to each datagram, then the file of the records, then the gateway's counts.
-use Rattle.std.specs.Prelude.{ℕ, ◌<◌, ◌^◌, IfSome, ◌+◌, ◌/◌, ◌%◌, if◌then◌else◌, List, [], ◌∷◌, ◌++◌, length, map, Option, Some, None, Result, Ok, Err, codes, pos}
+use Rattle.std.specs.Prelude.{ℕ, ◌<◌, ◌^◌, IfSome, ◌+◌, if◌then◌else◌, List, [], ◌∷◌, ◌++◌, length, map, Option, Some, None, Result, Ok, Err, codes, pos}
 use Rattle.std.specs.Fmt.{decimal}
 use Rattle.hex.specs.Hex.{encode_upper}
 use Rattle.cdr_file.specs.CdrFile.{FileSettings, file_octets, node_address}
@@ -8,7 +8,10 @@ use Rattle.cdr_file.specs.Timestamp.{stamp_of}
 use Rattle.cdr_file.specs.declared.file_header.FileHeader.{FileHeader}
 use Rattle.cdr_file.specs.CdrFile as cdr
 use Rattle.cdr_file.specs.declared.closure.ClosureReason.TheVariants.{Manual}
-use Rattle.gtpp_header.specs.Header.{spelled}
+use Rattle.gtpp_message.specs.Message.{TransferResponse, VersionNotSupported}
+use Rattle.gtpp_message.specs.Writing.{written}
+use Rattle.gtpp_message.specs.Why.{name_of}
+use Rattle.gtpp_message.specs.declared.reading.Why.{Why}
 use Rattle.gw_base.specs.CdrKind.{kind_of}
 use Rattle.gw_base.specs.History.{copies_of, is_close_due, moment_after, top_of}
 use Rattle.gw_base.specs.declared.address.Addr.{Addr}
@@ -18,7 +21,7 @@ use Rattle.gw_base.specs.declared.history.HistoryEntry.{HistoryEntry}
 use Rattle.cgf_top.specs.Answer.{answer_of}
 use Rattle.cgf_top.specs.FeedScript.{script_of}
 use Rattle.cgf_top.specs.FiledRecords.{filed_records}
-use Rattle.cgf_top.specs.Request.{RequestForm, request_of}
+use Rattle.cgf_top.specs.Preparing.{PreparedValue, Drop, OtherVersion, Refused, Path, Request, prepared_of}
 use Rattle.cgf_top.specs.declared.gateway_book.answer.Answer.{Answer}
 use Rattle.cgf_top.specs.declared.gateway_book.filed.FiledRecord.{FiledRecord}
 use Rattle.cgf_top.specs.declared.world_script.line.Line.{Line}
@@ -48,19 +51,19 @@ closed h now = with_act h now (if is_close_due h then Some act.Close else None)
 abbrev pub IsBounded : List HistoryEntry → Type 0
 IsBounded h = (node : ℕ) → IfSome (top_of node h) (λ t. t < 2 ^ 63)
 
--- The reply.
-
--- a Data Record Transfer Response (3GPP TS 32.295, clause 6.2.4.6): the cause, and the number that is responded
-abbrev pub response : ℕ → ℕ → List ℕ
-response number cause =
-    spelled (record { kind = 241; length = 7; number = number })
-    ++ (1 ∷ cause ∷ 253 ∷ 0 ∷ 2 ∷ number / 256 ∷ number % 256 ∷ [])
-
 -- The lines.
 
 -- octets in hexadecimal, as a line
 abbrev pub octets_line : List ℕ → List ℕ
 octets_line octets = encode_upper octets ++ 10 ∷ []
+
+-- the line of a datagram that isn't answered
+abbrev pub drop_line : Why → List ℕ
+drop_line why = codes "- " ++ name_of why ++ 10 ∷ []
+
+-- the response to the request with this number, by its cause
+abbrev pub response : ℕ → ℕ → List ℕ
+response number cause = written number (TransferResponse cause (number ∷ []))
 
 -- what the feed has come to: the history, the present moment and the lines that were printed
 pub record FeedState : Type 0 where
@@ -68,22 +71,30 @@ pub record FeedState : Type 0 where
   pub now : ℕ
   pub printed : List ℕ
 
+-- one more line is printed
+abbrev pub behind_line : FeedState → List ℕ → FeedState
+behind_line s printed = record s { printed = s.printed ++ printed }
+
 -- a request is answered, and its entry made
-abbrev pub behind_answer : FeedState → RequestForm → Answer → FeedState
-behind_answer s request answer = record {
+abbrev pub behind_answer : FeedState → ℕ → Answer → FeedState
+behind_answer s number answer = record {
   history = with_act s.history s.now answer.act;
   now = s.now;
-  printed = s.printed ++ octets_line (response request.number answer.cause);
+  printed = s.printed ++ octets_line (response number answer.cause);
 }
 
-abbrev pub behind_datagram : FeedState → Addr → Option RequestForm → FeedState
-behind_datagram s sender None = s
-behind_datagram s sender (Some request) = behind_answer s request (answer_of s.history (record { 0 = sender.ip }) request)
+-- a datagram of this sender came; no script has one of path management so far
+abbrev pub behind_datagram : FeedState → Addr → PreparedValue → FeedState
+behind_datagram s sender (Drop why) = behind_line s (drop_line why)
+behind_datagram s sender (OtherVersion number) = behind_line s (octets_line (written number VersionNotSupported))
+behind_datagram s sender (Refused cause number) = behind_line s (octets_line (response number cause))
+behind_datagram s sender (Path number message) = s
+behind_datagram s sender (Request number body) = behind_answer s number (answer_of s.history (record { 0 = sender.ip }) number body)
 
 abbrev pub behind : FeedState → Line → FeedState
 behind s line.Blank = s
 behind s (line.At moment) = record s { now = moment }
-behind s (line.Datagram sender octets) = behind_datagram s sender (request_of octets)
+behind s (line.Datagram sender octets) = behind_datagram s sender (prepared_of octets)
 behind s line.End = s
 
 abbrev pub behind_all : FeedState → List Line → FeedState

@@ -1,13 +1,14 @@
 -- The scripts of `feed`: what their lines say, and the first line that is refused.
-use Rattle.std.specs.Prelude.{ℕ, ◌≡◌, ◌+◌, ◌<◌, ◌≤◌, Bool, true, false, ◌&&◌, ◌==◌, nat_lt, if◌then◌else◌, List, [], ◌∷◌, Option, Some, None, option_map, unwrap_or, Result, Ok, Err, codes}
+use Rattle.std.specs.Prelude.{ℕ, ◌≡◌, ◌+◌, ◌<◌, ◌≤◌, Bool, true, false, ◌&&◌, ◌==◌, nat_lt, if◌then◌else◌, List, [], ◌∷◌, Option, Some, None, option_map, Result, Ok, Err, codes}
 use Rattle.std.specs.List.{flat_map}
 use Rattle.std.specs.Str.{bytes_eq}
+use Rattle.gtpp_message.specs.Message.{TransferValue, Send, Possible, Cancel, Release}
+use Rattle.gtpp_message.specs.Packet.{PacketValue, Empty, Full, records_of}
+use Rattle.gw_base.specs.CdrKind.{kind_of}
+use Rattle.gw_base.specs.declared.kind.CdrKind.{CdrKind}
 use Rattle.gw_base.specs.declared.address.Addr.{Addr}
-use Rattle.cgf_top.specs.Packet.{built_records_of}
-use Rattle.cgf_top.specs.Request.{RequestForm, request_of}
+use Rattle.cgf_top.specs.Preparing.{PreparedValue, Drop, OtherVersion, Refused, Path, Request, prepared_of}
 use Rattle.cgf_top.specs.ScriptText.{RawLine, address_of, is_blank, line_content, line_size, number_up_to, octets_of, raw_lines, words_of, ◌>>=◌}
-use Rattle.cgf_top.specs.declared.gtpp_message.request.Command.{Command}
-use Rattle.cgf_top.specs.declared.gtpp_message.request.Command.TheVariants.{Send, Possible, Cancel, Release}
 use Rattle.cgf_top.specs.declared.world_script.line.Line.{Line}
 use Rattle.cgf_top.specs.declared.world_script.line.Line.TheVariants as line
 use Rattle.cgf_top.specs.declared.world_script.progress.Progress.{Progress}
@@ -48,39 +49,72 @@ line_of content = if is_blank content then Some line.Blank else worded_line (wor
 
 -- Where a line may stand.
 
--- how many records a request sends
-abbrev pub sent_records : Command → List ℕ → ℕ
-sent_records Send value = unwrap_or (built_records_of value) 0
-sent_records Possible value = unwrap_or (built_records_of value) 0
-sent_records Cancel value = 0
-sent_records Release value = 0
+-- the kind of the records that scripts may send so far
+abbrev pub is_built_kind : CdrKind → Bool
+is_built_kind kind = (kind.release == 3) && (kind.version == 0) && (kind.format == 1)
+
+abbrev pub is_built_packet : PacketValue → Bool
+is_built_packet Empty = true
+is_built_packet (Full count format version value) = is_built_kind (kind_of format version)
+
+-- the octets of the CDRs of these records, each behind a header of four octets
+abbrev pub cdr_sizes : List (List ℕ) → ℕ
+cdr_sizes [] = 0
+cdr_sizes (octets ∷ records) = length octets + 4 + cdr_sizes records
 
 -- all datagrams come from one address and port
 abbrev pub is_from : Option Addr → Addr → Bool
 is_from None sender = true
 is_from (Some first) sender = (first.ip == sender.ip) && (first.port == sender.port)
 
--- behind a datagram: no text has more than 10,000 of them, or more than 999 records in them
-abbrev pub behind_request : Progress → Addr → Option RequestForm → Option Progress
-behind_request p sender None = None
-behind_request p sender (Some request) =
-    let records = p.records + sent_records request.command request.value in
-    if is_from p.sender sender && nat_lt p.datagrams 10000 && nat_lt records 1000
-    then Some (record { begun = true; ended = false; sender = Some sender; datagrams = p.datagrams + 1; records = records })
+-- behind records that a request sends: no text has more than 999 of them, and their CDRs have at most 1,048,523 octets
+abbrev pub behind_records : Progress → List (List ℕ) → Option Progress
+behind_records p records =
+    if nat_lt (p.records + length records) 1000 && nat_lt (p.octets + cdr_sizes records) 1048524
+    then Some (record p { records = p.records + length records; octets = p.octets + cdr_sizes records })
     else None
+
+abbrev pub behind_packet : Progress → PacketValue → Option Progress
+behind_packet p packet = if is_built_packet packet then behind_records p (records_of packet) else None
+
+-- behind a request
+abbrev pub behind_request : Progress → TransferValue → Option Progress
+behind_request p (Send packet) = behind_packet p packet
+behind_request p (Possible packet) = behind_packet p packet
+behind_request p (Cancel numbers) = Some p
+behind_request p (Release numbers) = Some p
+
+-- behind what a datagram is: no text has a message of path management so far
+abbrev pub behind_prepared : Progress → PreparedValue → Option Progress
+behind_prepared p (Drop why) = Some p
+behind_prepared p (OtherVersion number) = Some p
+behind_prepared p (Refused cause number) = Some p
+behind_prepared p (Path number message) = None
+behind_prepared p (Request number body) = behind_request p body
+
+-- behind one more datagram of this sender: no text has more than 10,000 of them
+abbrev pub behind_sender : Progress → Addr → Option Progress
+behind_sender p sender =
+    if is_from p.sender sender && nat_lt p.datagrams 10000
+    then Some (record p { begun = true; sender = Some sender; datagrams = p.datagrams + 1 })
+    else None
+
+abbrev pub behind_datagram : Progress → Addr → List ℕ → Option Progress
+behind_datagram p sender octets = behind_sender p sender >>= λ q. behind_prepared q (prepared_of octets)
 
 -- how far a script has come behind one more line, where the line may stand there: `at` is the first line, and `end`
 -- the last; empty lines and comments may stand anywhere
 abbrev pub behind_line : Progress → Line → Option Progress
 behind_line p line.Blank = Some p
 behind_line p (line.At moment) = if p.begun then None else Some (record p { begun = true })
-behind_line p (line.Datagram sender octets) = if p.ended then None else behind_request p sender (request_of octets)
+behind_line p (line.Datagram sender octets) = if p.ended then None else behind_datagram p sender octets
 behind_line p line.End = if p.ended then None else Some (record p { begun = true; ended = true })
 
 -- what holds of every script so far
 pub record IsWithinBounds (p : Progress) : Type 0 where
   pub datagrams : p.datagrams ≤ 10000
   pub records : p.records < 1000
+  pub octets : p.octets < 1048524
 
 -- The lines of a text.
 
@@ -111,7 +145,7 @@ lines_from place at p (raw ∷ raws) = behind_step place (line_step at p raw) (�
 
 -- how far a script has come before its first line
 abbrev pub not_begun : Progress
-not_begun = record { begun = false; ended = false; sender = None; datagrams = 0; records = 0 }
+not_begun = record { begun = false; ended = false; sender = None; datagrams = 0; records = 0; octets = 0 }
 
 -- the lines of a script, or the first that is refused, by its number from 1
 abbrev pub script_of : List ℕ → Result (List Line) Refusal

@@ -2,7 +2,7 @@ pub mod Answer
 pub mod FeedReport
 pub mod FeedScript
 pub mod FiledRecords
-pub mod Packet
-pub mod Request
+pub mod PreparedValues
+pub mod Preparing
 pub mod Run
 pub mod ScriptText

@@ -1,19 +1,22 @@
 //! What `feed` prints for a script: a gateway in memory that is fed with the script's datagrams.
 
-ghost use Rattle.std.specs.Prelude.{◌≡◌, ◌++◌, [], ◌∷◌, Some, None, length, IfOk, OnOk, OnErr, if◌then◌else◌};
+ghost use Rattle.std.specs.Prelude.{◌≡◌, ◌++◌, ◌≤◌, [], ◌∷◌, Some, None, length, IfOk, OnOk, OnErr, if◌then◌else◌};
 ghost use Rattle.hex.specs.Hex.{encode_upper};
 ghost use Rattle.gw_base.specs.History.{is_close_due};
 ghost use Rattle.gw_base.specs.declared.history.HistoryAct.TheVariants as act;
 ghost use Rattle.cgf_top.specs.FiledRecords.{filed_records};
-ghost use Rattle.cgf_top.specs.Request.{request_form};
-ghost use Rattle.cgf_top.specs.FeedReport.{IsBounded, behind, behind_all, behind_datagram, closed, end_lines, file_line, fresh_feed, gateway_line, octets_line, report_of_lines, response, started, with_act};
+ghost use Rattle.gtpp_message.specs.Values.{message_value, transfer_value};
+ghost use Rattle.gtpp_message.specs.Writing.{written};
+ghost use Rattle.cgf_top.specs.Answer.{answer_of};
+ghost use Rattle.cgf_top.specs.FeedReport.{IsBounded, behind, behind_all, behind_answer, behind_datagram, closed, drop_line, end_lines, file_line, fresh_feed, gateway_line, octets_line, report_of_lines, response, started, with_act};
+ghost use Rattle.cgf_top.specs.PreparedValues.{prepared_value};
 
 use crate::file_writer::file;
-use crate::gateway_book::{FiledRecord, answer_to, filed_records};
-use crate::gtpp_message::{Request, read_request};
+use crate::gateway_book::{FiledRecord, Prepared, answer_to, filed_records, prepare};
 use crate::world_script::Line;
-use gtpp_header::Header;
-use gw_base::{Addr, Caller, HistoryAct, HistoryEntry, Moment, NoMemory, NodeId, scan};
+use gtpp_elements::Numbers;
+use gtpp_message::{Message, Transfer, Why};
+use gw_base::{Addr, Buffer, Caller, HistoryAct, HistoryEntry, Moment, NoMemory, NodeId, scan};
 use std::alloc::Global;
 use std::marker::Model;
 
@@ -23,7 +26,12 @@ struct Feed {
     history: Vec<HistoryEntry>,
     now: Moment,
     printed: Vec<u8>,
+    /// Room for a reply before it is printed.
+    reply: Buffer,
 }
+
+/// How many octets a reply has at most.
+const REPLY_OCTETS: usize = 64;
 
 impl Model for Feed {
     ghost use Rattle.cgf_top.specs.FeedReport.{FeedState, IsBounded};
@@ -32,7 +40,7 @@ impl Model for Feed {
 
     ghost view = { λ f. record { history = f.history.items; now = f.now; printed = f.printed.items } };
 
-    ghost invariant = { λ f. IsBounded f.history.items };
+    ghost invariant = { λ f. record { bounded : IsBounded f.history.items; room : f.reply.capacity ≡ 64 } };
 }
 
 /// All that is printed for the lines of a script.
@@ -61,6 +69,7 @@ impl Feed {
             history,
             now,
             printed: Vec::new(alloc),
+            reply: Buffer::with(alloc, REPLY_OCTETS)?,
         })
     }
 
@@ -74,23 +83,54 @@ impl Feed {
                 self.now = *moment;
                 Ok(())
             }
-            Line::Datagram { from, octets } => match read_request(octets.octets()) {
-                Some(request) => self.serve(alloc, *from, &request),
-                None => Ok(()),
-            },
+            Line::Datagram { from, octets } => {
+                self.take_datagram(alloc, *from, prepare(octets.octets()))
+            }
+        }
+    }
+
+    /// Does what a datagram of this sender calls for. No script has one of path management so far.
+    fn take_datagram(
+        &mut self,
+        alloc: Global,
+        from: Addr,
+        prepared: Prepared<'_>,
+    ) -> Result<(), NoMemory>
+        ensures { OnOk result (self.new ≡ behind_datagram self.old from (prepared_value prepared.entry)) }
+    {
+        match prepared {
+            Prepared::Drop(why) => print_drop(&mut self.printed, why),
+            Prepared::OtherVersion { number } => {
+                let message = Message::VersionNotSupported;
+                print_message(alloc, &mut self.printed, &mut self.reply, number, &message)
+            }
+            Prepared::Refused { cause, number } => {
+                print_response(alloc, &mut self.printed, &mut self.reply, number, cause)
+            }
+            Prepared::Path { .. } => Ok(()),
+            Prepared::Request { number, body } => self.serve(alloc, from, number, &body),
         }
     }
 
     /// Answers a request.
     #[tactic(auto, using(crate::proofs::Bounds::bounded_answer))]
-    fn serve(&mut self, alloc: Global, from: Addr, request: &Request<'_>) -> Result<(), NoMemory>
-        ensures { OnOk result (self.new ≡ behind_datagram self.old from (Some (request_form request.now))) }
+    fn serve(
+        &mut self,
+        alloc: Global,
+        from: Addr,
+        number: u16,
+        body: &Transfer<'_>,
+    ) -> Result<(), NoMemory>
+        ensures { OnOk result (self.new ≡
+            behind_answer self.old number (answer_of self.old.history (record { 0 = from.ip }) number (transfer_value body.now))) }
     {
-        let answer = answer_to(alloc, &self.history, NodeId(from.ip), request)?;
-        print_octets(
+        let answer = answer_to(alloc, &self.history, NodeId(from.ip), number, body)?;
+        print_response(
             alloc,
             &mut self.printed,
-            &response(request.number, answer.cause),
+            &mut self.reply,
+            number,
+            answer.cause,
         )?;
         record(&mut self.history, self.now, answer.act)?;
         Ok(())
@@ -139,37 +179,54 @@ fn close(history: &mut Vec<HistoryEntry>, now: Moment) -> Result<(), NoMemory>
     Ok(())
 }
 
-/// The message type of a Data Record Transfer Response, and the types of its elements.
-const TRANSFER_RESPONSE: u8 = 241;
-
-const CAUSE: u8 = 1;
-
-const REQUESTS_RESPONDED: u8 = 253;
-
-/// A Data Record Transfer Response (3GPP TS 32.295, clause 6.2.4.6).
-fn response(number: u16, cause: u8) -> [u8; 13]
-    ensures { result ≡ response number cause }
+/// Appends the line of a datagram that isn't answered.
+fn print_drop(printed: &mut Vec<u8>, why: Why) -> Result<(), NoMemory>
+    ensures { OnOk result (printed.new.items ≡ printed.old.items ++ drop_line why) }
 {
-    let [flags, kind, length_high, length_low, high, low] = gtpp_header::write(Header {
-        kind: TRANSFER_RESPONSE,
-        length: 7,
-        number,
-    });
-    [
-        flags,
-        kind,
-        length_high,
-        length_low,
-        high,
-        low,
-        CAUSE,
-        cause,
-        REQUESTS_RESPONDED,
-        0,
-        2,
-        high,
-        low,
-    ]
+    printed.extend_from_slice(b"- ")?;
+    printed.extend_from_slice(why.name().as_bytes())?;
+    printed.push(b'\n')?;
+    Ok(())
+}
+
+/// Appends the line of the response to the request with this number, by its cause.
+fn print_response(
+    alloc: Global,
+    printed: &mut Vec<u8>,
+    reply: &mut Buffer,
+    number: u16,
+    cause: u8,
+) -> Result<(), NoMemory>
+    requires { reply.old.capacity ≡ 64 }
+    ensures printed { OnOk result (printed.new.items ≡ printed.old.items ++ octets_line (response number cause)) }
+    ensures room { reply.new.capacity ≡ 64 }
+{
+    let octets = number.to_be_bytes();
+    let Ok(responded) = Numbers::of(&octets) else {
+        unreachable!();
+    };
+    let message = Message::TransferResponse { cause, responded };
+    print_message(alloc, printed, reply, number, &message)
+}
+
+/// Appends the line of a reply.
+fn print_message(
+    alloc: Global,
+    printed: &mut Vec<u8>,
+    reply: &mut Buffer,
+    number: u16,
+    message: &Message<'_>,
+) -> Result<(), NoMemory>
+    requires room { reply.old.capacity ≡ 64 }
+    requires short { length (written number (message_value message.now)) ≤ 64 }
+    ensures printed { OnOk result (printed.new.items ≡ printed.old.items ++ octets_line (written number (message_value message.now))) }
+    ensures room { reply.new.capacity ≡ 64 }
+{
+    reply.clear();
+    match gtpp_message::write(number, message, reply) {
+        Ok(()) => print_octets(alloc, printed, reply.octets()),
+        Err(_) => unreachable!(),
+    }
 }
 
 /// Appends octets in hexadecimal, as a line.

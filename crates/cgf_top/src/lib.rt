@@ -12,7 +12,6 @@ ghost use Rattle.cgf_top.specs.declared.world_script.refusal.Refusal.{Refusal};
 mod feed;
 mod file_writer;
 mod gateway_book;
-mod gtpp_message;
 mod input;
 mod output;
 mod status;

@@ -1,13 +1,12 @@
-ghost use Rattle.std.specs.Prelude.{◌≡◌, ◌==◌, ◌<◌, ◌^◌, ◌++◌, [], true, map, filter, IfOk, OnOk, IfSome, slice_index, length, ◌≤◌};
+ghost use Rattle.std.specs.Prelude.{◌≡◌, ◌==◌, ◌<◌, ◌^◌, ◌++◌, [], true, map, filter, IfOk, OnOk, IfSome};
 ghost use Rattle.std.specs.List.{list_any};
-ghost use Rattle.gtpp_header.specs.Header.{two_octets};
+ghost use Rattle.gtpp_message.specs.Values.{packet_value, transfer_value};
 ghost use Rattle.gw_base.specs.History.{top_of};
-ghost use Rattle.gw_base.specs.Nearest.{nearest};
 ghost use Rattle.transfer_cmd.specs.Lists.{is_held};
 ghost use Rattle.cgf_top.specs.Answer.{act_of, answer_of, changing, held_once, is_in_range, judged, listed, named_numbers, once_behind, sending, sending_again, sent, state_in, with_number};
-ghost use Rattle.cgf_top.specs.Request.{request_form};
 
-use crate::gtpp_message::{Command, Request};
+use gtpp_elements::Numbers;
+use gtpp_message::{Packet, Transfer};
 use gw_base::{
     Absolute, Absolutes, HistoryAct, HistoryEntry, KeyState, NoMemory, NodeId, Octets, PacketKey,
     nearest_number, scan,
@@ -30,42 +29,29 @@ const LEAST_NUMBER: Absolute = 32_768;
 /// The number from which on no entry may bear one.
 const NUMBERS_END: Absolute = 1 << 63;
 
-/// The answer of a gateway with this history to a request of a node.
+/// The answer of a gateway with this history to a request of a node with this sequence number.
 pub fn answer_to(
     alloc: Global,
     history: &[HistoryEntry],
     node: NodeId,
-    request: &Request<'_>,
+    number: u16,
+    body: &Transfer<'_>,
 ) -> Result<Answer, NoMemory>
     requires { IfSome (top_of node.0 history.now) (λ t. t < 2 ^ 63) }
-    ensures { IfOk result (λ answer. answer ≡ answer_of history.now node (request_form request.now)) }
+    ensures { IfOk result (λ answer. answer ≡ answer_of history.now node number (transfer_value body.now)) }
 {
-    let value = request.value;
-    match request.command {
-        Command::Send => {
-            let number = nearest_number(scan::top(history, node), request.number);
-            sent(
-                alloc,
-                sending(value),
-                state_in(history, node, number),
-                node,
-                number,
-                value,
-            )
+    let number = nearest_number(scan::top(history, node), number);
+    match body {
+        Transfer::Send(packet) => {
+            let (ask, state) = (sending(*packet), state_in(history, node, number));
+            sent(alloc, ask, state, node, number, packet.octets())
         }
-        Command::Possible => {
-            let number = nearest_number(scan::top(history, node), request.number);
-            sent(
-                alloc,
-                sending_again(value),
-                state_in(history, node, number),
-                node,
-                number,
-                value,
-            )
+        Transfer::Possible(packet) => {
+            let (ask, state) = (sending_again(*packet), state_in(history, node, number));
+            sent(alloc, ask, state, node, number, packet.octets())
         }
-        Command::Cancel => listed(alloc, false, history, node, value),
-        Command::Release => listed(alloc, true, history, node, value),
+        Transfer::Cancel(numbers) => listed(alloc, false, history, node, numbers),
+        Transfer::Release(numbers) => listed(alloc, true, history, node, numbers),
     }
 }
 
@@ -85,24 +71,22 @@ fn state_in(history: &[HistoryEntry], node: NodeId, number: Absolute) -> KeyStat
 }
 
 /// What a request that sends this packet asks.
-fn sending(packet: &[u8]) -> Ask
-    ensures { result ≡ sending packet.now }
+fn sending(packet: Packet<'_>) -> Ask
+    ensures { result ≡ sending (packet_value packet.entry) }
 {
-    if packet.is_empty() {
-        Ask::Empty
-    } else {
-        Ask::Send
+    match packet {
+        Packet::Empty => Ask::Empty,
+        Packet::Full { .. } => Ask::Send,
     }
 }
 
 /// The same where the packet is possibly duplicated.
-fn sending_again(packet: &[u8]) -> Ask
-    ensures { result ≡ sending_again packet.now }
+fn sending_again(packet: Packet<'_>) -> Ask
+    ensures { result ≡ sending_again (packet_value packet.entry) }
 {
-    if packet.is_empty() {
-        Ask::Empty
-    } else {
-        Ask::Possible
+    match packet {
+        Packet::Empty => Ask::Empty,
+        Packet::Full { .. } => Ask::Possible,
     }
 }
 
@@ -161,12 +145,12 @@ fn listed(
     release: bool,
     history: &[HistoryEntry],
     node: NodeId,
-    value: &[u8],
+    numbers: &Numbers<'_>,
 ) -> Result<Answer, NoMemory>
     requires { IfSome (top_of node.0 history.now) (λ t. t < 2 ^ 63) }
-    ensures { IfOk result (λ answer. answer ≡ listed release history.now node (named_numbers history.now node value.now)) }
+    ensures { IfOk result (λ answer. answer ≡ listed release history.now node (named_numbers history.now node numbers.now)) }
 {
-    let numbers = named_numbers(alloc, history, node, value)?;
+    let numbers = named_numbers(alloc, history, node, numbers)?;
     let states = states_in(alloc, history, node, &numbers)?;
     match judge(&states, release) {
         Verdict::Wrong => Ok(Answer {
@@ -198,36 +182,23 @@ fn changing(release: bool, node: NodeId, numbers: Vec<Absolute>) -> HistoryAct
     }
 }
 
-/// The request numbers that a list names, two octets each.
-#[tactic(auto, using(crate::proofs::Numbers::step_numbers, crate::proofs::Numbers::no_numbers))]
+/// The request numbers that a list names.
+#[tactic(auto, using(crate::proofs::Numbers::step_numbers))]
 fn named_numbers(
     alloc: Global,
     history: &[HistoryEntry],
     node: NodeId,
-    value: &[u8],
+    numbers: &Numbers<'_>,
 ) -> Result<Vec<Absolute>, NoMemory>
     requires { IfSome (top_of node.0 history.now) (λ t. t < 2 ^ 63) }
-    ensures { IfOk result (λ numbers. numbers.items ≡ named_numbers history.now node value.now) }
+    ensures { IfOk result (λ named. named.items ≡ named_numbers history.now node numbers.now) }
 {
     let top = scan::top(history, node);
-    let mut numbers = Vec::new(alloc);
-    let mut left = value;
-    while left.len() >= 2 {
-        numbers.push(first_number(top, left))?;
-        let (_, rest) = left.split_at(2);
-        left = rest;
+    let mut named = Vec::new(alloc);
+    for place in 0..numbers.count() {
+        named.push(nearest_number(top, numbers.at(place)))?;
     }
-    Ok(numbers)
-}
-
-/// The request number that the first two octets name.
-fn first_number(top: Option<Absolute>, octets: &[u8]) -> Absolute
-    requires top { IfSome top (λ t. t < 2 ^ 63) }
-    requires octets { 2 ≤ length octets.now }
-    ensures { result ≡ nearest top (two_octets (slice_index octets.now 0) (slice_index octets.now 1)) }
-{
-    let wire = u16::from(octets[0]) * 256 + u16::from(octets[1]);
-    nearest_number(top, wire)
+    Ok(named)
 }
 
 /// The states of these numbers.

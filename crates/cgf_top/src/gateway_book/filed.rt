@@ -1,10 +1,12 @@
 ghost use Rattle.std.specs.Prelude.{◌≡◌, ◌++◌, Some, IfOk, OnOk, if◌then◌else◌};
 ghost use Rattle.gw_base.specs.History.{epoch_of};
 ghost use Rattle.gw_base.specs.declared.history.HistoryAct.TheVariants as act;
-ghost use Rattle.cgf_top.specs.FiledRecords.{filed_by, filed_records, held_packet, packet_behind, records_in, records_of, released_records};
-ghost use Rattle.cgf_top.specs.Packet.{packet_form};
+ghost use Rattle.gtpp_message.specs.Packet.{IsPacket, packet_octets};
+ghost use Rattle.gtpp_message.specs.Values.{packet_value};
+ghost use Rattle.cgf_top.specs.FiledRecords.{filed_by, filed_records, held_packet, packet_behind, records_of, released_records};
 
-use crate::gtpp_message::{Packet, PacketRecord, read_packet};
+use crate::gateway_book::record_octets::RecordOctets;
+use gtpp_message::Packet;
 use gw_base::{
     Absolute, HistoryAct, HistoryEntry, KeyState, Moment, NoMemory, NodeId, PacketKey, scan,
 };
@@ -20,7 +22,7 @@ pub struct FiledRecord {
     /// The packet's data record format, and the version of that format.
     pub format: u8,
     pub version: u16,
-    pub octets: PacketRecord,
+    pub octets: RecordOctets,
     /// The moment of the entry that filed it.
     pub moment: Moment,
 }
@@ -145,29 +147,43 @@ fn append_packet(
 ) -> Result<(), NoMemory>
     ensures { OnOk result (filed.new.items ≡ filed.old.items ++ records_of key moment packet.now) }
 {
-    match read_packet(alloc, packet)? {
-        Some(packet) => append_records(alloc, filed, key, moment, &packet),
+    match Packet::of(packet) {
+        Some(packet) => append_records(alloc, filed, key, moment, packet),
         None => Ok(()),
     }
 }
 
+/// Appends the records of a packet that was read.
 fn append_records(
     alloc: Global,
     filed: &mut Vec<FiledRecord>,
     key: PacketKey,
     moment: Moment,
-    packet: &Packet,
+    packet: Packet<'_>,
 ) -> Result<(), NoMemory>
-    ensures { OnOk result (filed.new.items ≡ filed.old.items ++ records_in key moment (Some (packet_form packet.now))) }
+    requires { IsPacket (packet_value packet) }
+    ensures { OnOk result (filed.new.items ≡ filed.old.items ++ records_of key moment (packet_octets (packet_value packet.entry))) }
 {
-    for (index, octets) in packet.records.iter().enumerate() {
-        let octets = octets.copy(alloc)?;
+    let Packet::Full {
+        count,
+        format,
+        version,
+        ..
+    } = packet
+    else {
+        return Ok(());
+    };
+    let mut records = packet.records();
+    for index in 0..usize::from(count) {
+        let Some(octets) = records.next() else {
+            return Ok(());
+        };
         filed.push(FiledRecord {
             key,
             index,
-            format: packet.format,
-            version: packet.version,
-            octets,
+            format,
+            version,
+            octets: RecordOctets::of(alloc, octets)?,
             moment,
         })?;
     }

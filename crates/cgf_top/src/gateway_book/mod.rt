@@ -1,7 +1,10 @@
-//! What a gateway answers, and the records that its history files.
+//! How a gateway reads a datagram, what it answers, and the records that its history files.
 
 mod answer;
 mod filed;
+mod prepare;
+mod record_octets;
 
 pub use answer::{Answer, answer_to};
 pub use filed::{FiledRecord, filed_records};
+pub use prepare::{Prepared, prepare};

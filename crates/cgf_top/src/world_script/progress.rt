@@ -1,11 +1,11 @@
-ghost use Rattle.std.specs.Prelude.{◌≡◌, ◌<◌, ◌≤◌, ◌+◌, Some, IfSome, option_map};
-ghost use Rattle.std.specs.Option.{option_map_or};
-ghost use Rattle.cgf_top.specs.FeedScript.{IsWithinBounds, behind_line, behind_request, is_from, not_begun, sent_records};
-ghost use Rattle.cgf_top.specs.Request.{request_form, request_of};
+ghost use Rattle.std.specs.Prelude.{◌≡◌, ◌<◌, ◌≤◌, ◌+◌, ◌^◌, [], ◌∷◌, Some, IfSome};
+ghost use Rattle.gtpp_message.specs.Values.{packet_value, transfer_value};
+ghost use Rattle.cgf_top.specs.FeedScript.{IsWithinBounds, behind_datagram, behind_line, behind_packet, behind_records, behind_request, behind_sender, is_built_kind, is_built_packet, is_from};
 
-use crate::gtpp_message::{Command, Request, built_records, read_request};
+use crate::gateway_book::{Prepared, prepare};
 use crate::world_script::line::Line;
-use gw_base::Addr;
+use gtpp_message::{Packet, Records, Transfer};
+use gw_base::{Addr, CdrKind, cdr_kind};
 
 /// How far a script has come.
 #[derive(Clone, Copy, Debug, PartialEq, Eq)]
@@ -18,8 +18,10 @@ pub struct Progress {
     pub sender: Option<Addr>,
     /// How many datagrams came.
     pub datagrams: u64,
-    /// How many records they have.
+    /// How many records they send.
     pub records: u64,
+    /// How many octets the CDRs of these records have.
+    pub octets: u64,
 }
 
 /// The most datagrams that a script may have so far.
@@ -27,6 +29,12 @@ const MOST_DATAGRAMS: u64 = 10_000;
 
 /// The most records that a script may have so far.
 const MOST_RECORDS: u64 = 999;
+
+/// The most octets that the CDRs of these records may have so far.
+const MOST_OCTETS: u64 = 1_048_523;
+
+/// How many octets the header of a CDR has.
+const CDR_HEADER_OCTETS: u64 = 4;
 
 impl Progress {
     /// Before the first line.
@@ -36,6 +44,7 @@ impl Progress {
         sender: None,
         datagrams: 0,
         records: 0,
+        octets: 0,
     };
 
     /// Behind one more line, where the line may stand there.
@@ -57,31 +66,99 @@ impl Progress {
                 ended: true,
                 ..self
             }),
-            Line::Datagram { from, octets } => {
-                self.behind_request(*from, read_request(octets.octets())?)
-            }
+            Line::Datagram { from, octets } => self.behind_datagram(*from, octets.octets()),
         }
     }
 
-    /// Behind a request from this sender.
-    fn behind_request(self, sender: Addr, request: Request<'_>) -> Option<Progress>
+    /// Behind a datagram of this sender.
+    fn behind_datagram(self, sender: Addr, octets: &[u8]) -> Option<Progress>
         requires { IsWithinBounds self }
-        ensures progress { result ≡ behind_request self sender (Some (request_form request.entry)) }
+        ensures progress { result ≡ behind_datagram self sender octets.now }
         ensures within { IfSome result IsWithinBounds }
     {
-        let records = self.records + sent_records(&request);
-        let may = self.is_from(sender)
-            && self.datagrams < MOST_DATAGRAMS
-            && records <= MOST_RECORDS;
-        if !may {
+        let behind = self.behind_sender(sender)?;
+        match prepare(octets) {
+            Prepared::Drop(_) => Some(behind),
+            Prepared::OtherVersion { .. } => Some(behind),
+            Prepared::Refused { .. } => Some(behind),
+            Prepared::Path { .. } => None,
+            Prepared::Request { body, .. } => behind.behind_request(&body),
+        }
+    }
+
+    /// Behind one more datagram of this sender.
+    fn behind_sender(self, sender: Addr) -> Option<Progress>
+        requires { IsWithinBounds self }
+        ensures progress { result ≡ behind_sender self sender }
+        ensures within { IfSome result IsWithinBounds }
+    {
+        if !self.is_from(sender) || self.datagrams >= MOST_DATAGRAMS {
             return None;
         }
         Some(Progress {
             begun: true,
-            ended: false,
             sender: Some(sender),
             datagrams: self.datagrams + 1,
+            ..self
+        })
+    }
+
+    /// Behind a request.
+    fn behind_request(self, body: &Transfer<'_>) -> Option<Progress>
+        requires { IsWithinBounds self }
+        ensures progress { result ≡ behind_request self (transfer_value body.now) }
+        ensures within { IfSome result IsWithinBounds }
+    {
+        match body {
+            Transfer::Send(packet) => self.behind_packet(*packet),
+            Transfer::Possible(packet) => self.behind_packet(*packet),
+            Transfer::Cancel(_) => Some(self),
+            Transfer::Release(_) => Some(self),
+        }
+    }
+
+    /// Behind a packet that a request sends.
+    fn behind_packet(self, packet: Packet<'_>) -> Option<Progress>
+        requires { IsWithinBounds self }
+        ensures progress { result ≡ behind_packet self (packet_value packet.entry) }
+        ensures within { IfSome result IsWithinBounds }
+    {
+        if is_built_packet(packet) {
+            self.behind_records(packet.records())
+        } else {
+            None
+        }
+    }
+
+    /// Behind the records of a packet.
+    fn behind_records(self, records: Records<'_>) -> Option<Progress>
+        requires { IsWithinBounds self }
+        ensures progress { result ≡ behind_records self records.entry }
+        ensures within { IfSome result IsWithinBounds }
+    {
+        let mut progress = self;
+        let mut left = records;
+        while let Some(octets) = left.next() {
+            progress = progress.behind_record(octets)?;
+        }
+        Some(progress)
+    }
+
+    /// Behind one more record.
+    fn behind_record(self, octets: &[u8]) -> Option<Progress>
+        requires { IsWithinBounds self }
+        ensures progress { result ≡ behind_records self (octets.now ∷ []) }
+        ensures within { IfSome result IsWithinBounds }
+    {
+        let records = self.records + 1;
+        let octets = self.octets + octets.len() as u64 + CDR_HEADER_OCTETS;
+        if records > MOST_RECORDS || octets > MOST_OCTETS {
+            return None;
+        }
+        Some(Progress {
             records,
+            octets,
+            ..self
         })
     }
 
@@ -96,13 +173,21 @@ impl Progress {
     }
 }
 
-/// How many records a request sends.
-fn sent_records(request: &Request<'_>) -> u64
-    ensures value { result ≡ sent_records request.now.command request.now.value.now }
-    ensures within { result < 256 }
+/// Whether scripts may send this packet so far: the kind of its records is release 3, version 0 and
+/// format 1.
+fn is_built_packet(packet: Packet<'_>) -> bool
+    ensures { result ≡ is_built_packet (packet_value packet.entry) }
 {
-    match request.command {
-        Command::Send | Command::Possible => { built_records(request.value).map_or(0, u64::from) }
-        Command::Cancel | Command::Release => 0,
+    match packet {
+        Packet::Empty => true,
+        Packet::Full {
+            format, version, ..
+        } => is_built_kind(cdr_kind(format, version)),
     }
+}
+
+fn is_built_kind(kind: CdrKind) -> bool
+    ensures { result ≡ is_built_kind kind }
+{
+    kind.release == 3 && kind.version == 0 && kind.format == 1
 }

@@ -1,0 +1,178 @@
+ghost use Rattle.std.specs.Prelude.{◌≡◌};
+ghost use Rattle.std.specs.List.{list_all};
+ghost use Rattle.ber_frame.specs.Checking.{is_one_value};
+ghost use Rattle.gtpp_message.specs.Reading as of;
+ghost use Rattle.gtpp_message.specs.Values.{message_value, packet_value, transfer_value};
+ghost use Rattle.cgf_top.specs.PreparedValues.{prepared_value};
+ghost use Rattle.cgf_top.specs.Preparing.{has_values, is_stray, prepared_from, prepared_of, refused, requested, sends_values};
+
+use gtpp_message::{Message, Packet, Reading, Records, Transfer, Why, read};
+use transfer_cmd::cause;
+
+/// What a gateway makes of a datagram before it looks at its history.
+#[derive(Debug, Drop)]
+pub enum Prepared<'a> {
+    /// It isn't answered.
+    Drop(Why),
+    /// A message of another version of GTP', which Version Not Supported answers.
+    OtherVersion { number: u16 },
+    /// A Data Record Transfer Request that can't be read, or has a record that can't be decoded.
+    Refused {
+        /// The cause that answers it: 177, 193, 201 or 202.
+        cause: u8,
+        number: u16,
+    },
+    /// A message of path management.
+    Path {
+        number: u16,
+        message: Message<'a>,
+    },
+    /// A Data Record Transfer Request.
+    Request {
+        number: u16,
+        /// What is asked.
+        body: Transfer<'a>,
+    },
+}
+
+/// The types of messages that no message to a gateway has (3GPP TS 32.295, clause 6.2.1).
+const VERSION_NOT_SUPPORTED: u8 = 3;
+
+const NODE_ALIVE_RESPONSE: u8 = 5;
+
+const REDIRECTION_REQUEST: u8 = 6;
+
+const REDIRECTION_RESPONSE: u8 = 7;
+
+const TRANSFER_RESPONSE: u8 = 241;
+
+/// The type of a Data Record Transfer Request.
+const TRANSFER_REQUEST: u8 = 240;
+
+/// The data record format of records in ASN.1 BER.
+const BER_FORMAT: u8 = 1;
+
+/// Reads a datagram as a gateway does.
+///
+/// The first condition that holds decides, in this order: those of the header, of which another
+/// version is answered unless the type is that of the answer; the type is unknown; no such message
+/// is sent to a gateway; the body isn't one of the type; a record isn't what its format says. It
+/// takes no memory.
+pub fn prepare(octets: &[u8]) -> Prepared<'_>
+    ensures { prepared_value result ≡ prepared_of octets.now }
+{
+    match read(octets) {
+        Reading::Drop(why) => Prepared::Drop(why),
+        Reading::OtherVersion { kind, number } => other_version(kind, number),
+        Reading::Refused {
+            kind,
+            cause,
+            number,
+        } => refused(kind, cause, number),
+        Reading::Message { number, message } => received(number, message),
+    }
+}
+
+/// A message of this type and of another version.
+fn other_version<'a>(kind: u8, number: u16) -> Prepared<'a>
+    ensures { prepared_value result ≡ prepared_from (of.OtherVersion kind number) }
+{
+    if kind == VERSION_NOT_SUPPORTED {
+        Prepared::Drop(Why::Stray)
+    } else {
+        Prepared::OtherVersion { number }
+    }
+}
+
+/// A message of this type with a body that isn't one of the type, for which this cause stands.
+fn refused<'a>(kind: u8, cause: u8, number: u16) -> Prepared<'a>
+    ensures { prepared_value result ≡ prepared_from (of.Refused kind cause number) }
+{
+    if is_stray(kind) {
+        Prepared::Drop(Why::Stray)
+    } else if kind == TRANSFER_REQUEST {
+        Prepared::Refused { cause, number }
+    } else {
+        Prepared::Drop(Why::Malformed { cause })
+    }
+}
+
+/// Whether no message of this type is sent to a gateway.
+fn is_stray(kind: u8) -> bool
+    ensures { result ≡ is_stray kind }
+{
+    matches!(
+        kind,
+        VERSION_NOT_SUPPORTED
+            | NODE_ALIVE_RESPONSE
+            | REDIRECTION_REQUEST
+            | REDIRECTION_RESPONSE
+            | TRANSFER_RESPONSE
+    )
+}
+
+/// A message that was read.
+fn received(number: u16, message: Message<'_>) -> Prepared<'_>
+    ensures { prepared_value result ≡ prepared_from (of.Message number (message_value message.entry)) }
+{
+    match message {
+        Message::EchoRequest | Message::EchoResponse { .. } | Message::NodeAliveRequest { .. } => {
+            Prepared::Path { number, message }
+        }
+        Message::TransferRequest { body } => requested(number, body),
+        Message::VersionNotSupported
+        | Message::NodeAliveResponse
+        | Message::RedirectionRequest { .. }
+        | Message::RedirectionResponse { .. }
+        | Message::TransferResponse { .. } => Prepared::Drop(Why::Stray),
+    }
+}
+
+/// A Data Record Transfer Request that was read.
+fn requested(number: u16, body: Transfer<'_>) -> Prepared<'_>
+    ensures { prepared_value result ≡ requested number (transfer_value body.entry) }
+{
+    if sends_values(&body) {
+        Prepared::Request { number, body }
+    } else {
+        Prepared::Refused {
+            cause: cause::CDR_DECODING_ERROR,
+            number,
+        }
+    }
+}
+
+/// Whether the records that a request sends are what their format says.
+fn sends_values(body: &Transfer<'_>) -> bool
+    ensures { result ≡ sends_values (transfer_value body.now) }
+{
+    match body {
+        Transfer::Send(packet) | Transfer::Possible(packet) => has_values(*packet),
+        Transfer::Cancel(_) | Transfer::Release(_) => true,
+    }
+}
+
+/// Whether each record of a packet of format 1 is one BER value.
+fn has_values(packet: Packet<'_>) -> bool
+    ensures { result ≡ has_values (packet_value packet.entry) }
+{
+    match packet {
+        Packet::Full {
+            format: BER_FORMAT, ..
+        } => are_values(packet.records()),
+        _ => true,
+    }
+}
+
+/// Whether each of these records is one BER value.
+fn are_values(records: Records<'_>) -> bool
+    ensures { result ≡ list_all is_one_value records.entry }
+{
+    let mut left = records;
+    while let Some(octets) = left.next() {
+        if ber_frame::check(octets).is_err() {
+            return false;
+        }
+    }
+    true
+}
