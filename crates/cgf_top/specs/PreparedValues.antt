@@ -1,8 +1,8 @@
 -- What a prepared datagram says whose octets the code lends.
 use Rattle.gtpp_message.specs.Values.{message_value, transfer_value}
 use Rattle.cgf_top.specs.Preparing as of
-use Rattle.cgf_top.specs.declared.gateway_book.prepare.Prepared.{Prepared}
-use Rattle.cgf_top.specs.declared.gateway_book.prepare.Prepared.TheVariants as prepared
+use Rattle.cgf_top.specs.declared.gateway_book.preparing.Prepared.{Prepared}
+use Rattle.cgf_top.specs.declared.gateway_book.preparing.Prepared.TheVariants as prepared
 
 abbrev pub prepared_value : Prepared → of.PreparedValue
 prepared_value (prepared.Drop why) = of.Drop why

@@ -2,9 +2,9 @@
 
 mod answer;
 mod filed;
-mod prepare;
+mod preparing;
 mod record_octets;
 
 pub use answer::{Answer, answer_to};
 pub use filed::{FiledRecord, filed_records};
-pub use prepare::{Prepared, prepare};
+pub use preparing::{Prepared, prepare};
