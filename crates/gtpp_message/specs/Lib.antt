@@ -1,4 +1,5 @@
 pub mod Message
+pub mod Names
 pub mod Packet
 pub mod Reading
 pub mod Spelling

@@ -1,5 +1,6 @@
 -- The value of a Data Record Packet (3GPP TS 32.295, clause 6.2.4.5.3).
-use Rattle.std.specs.Prelude.{◌≡◌, ℕ, zero, suc, ◌==◌, Bool, true, false, nat_lt, if◌then◌else◌, List, [], ◌∷◌, ◌++◌, length, take, drop, Option, Some, None, option_map, option_and_then}
+use Rattle.std.specs.Prelude.{◌≡◌, ℕ, zero, suc, ◌==◌, Bool, true, false, nat_lt, if◌then◌else◌, List, [], ◌∷◌, ◌++◌, length, take, drop, Option, Some, None, option_map, option_and_then, unwrap_or}
+use Rattle.std.specs.Option.{option_map_or}
 use Rattle.std.specs.Borrow.{Bor}
 use Rattle.gtpp_header.specs.Header.{two_octets}
 
@@ -73,6 +74,15 @@ IsPacket (Full count format version value) = packet_reading value ≡ Some (Full
 abbrev pub count_of : PacketValue → ℕ
 count_of Empty = 0
 count_of (Full count format version value) = count
+
+-- so many records, none where the octets aren't so many
+abbrev pub records_in : ℕ → List ℕ → List (List ℕ)
+records_in count octets = unwrap_or (records_at count octets) []
+
+-- the records of a packet
+abbrev pub records_of : PacketValue → List (List ℕ)
+records_of Empty = []
+records_of (Full count format version value) = option_map_or (λ packet. packet.records) (packet_of value) []
 
 -- the octets are a record behind its length in two octets, and what follows it
 pub record SpellsRecord (first rest octets : List ℕ) : Type 0 where

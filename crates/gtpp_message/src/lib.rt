@@ -10,6 +10,7 @@ mod needed;
 mod packet;
 mod parse;
 mod reading;
+mod records;
 mod spell;
 #[cfg(test)]
 mod tests;
@@ -18,4 +19,5 @@ pub use message::{Message, Transfer};
 pub use packet::Packet;
 pub use parse::read;
 pub use reading::{Reading, Why};
+pub use records::Records;
 pub use spell::write;

@@ -1,7 +1,8 @@
-ghost use Rattle.std.specs.Prelude.{◌≡◌, ◌==◌, ◌<◌, IsSomeAnd, Some, is_some, option_map, slice_get};
-ghost use Rattle.gtpp_message.specs.Packet.{IsPacket, count_of, full_packet, is_empty_packet, lent_parts, nth_record, packet_of, packet_octets, packet_reading, record_at, records_at};
-ghost use Rattle.gtpp_message.specs.Values.{lent, packet_value};
+ghost use Rattle.std.specs.Prelude.{◌≡◌, ◌==◌, ◌<◌, IsSomeAnd, Some, option_map, slice_get};
+ghost use Rattle.gtpp_message.specs.Packet.{IsPacket, count_of, full_packet, is_empty_packet, packet_of, packet_octets, packet_reading, records_of};
+ghost use Rattle.gtpp_message.specs.Values.{packet_value};
 
+use crate::records::{Records, are_records, nth_record};
 use byteorder::{BigEndian, ByteOrder};
 
 /// The value of a Data Record Packet (3GPP TS 32.295, clause 6.2.4.5.3).
@@ -24,16 +25,6 @@ pub enum Packet<'a> {
 
 /// The octets in front of the records: their number, the format, and its version in two.
 const FIELDS: usize = 4;
-
-/// The packet that a value spells.
-pub fn read_packet(value: &[u8]) -> Option<Packet<'_>>
-    ensures { option_map packet_value result ≡ packet_reading value.now }
-{
-    if is_empty_packet(value) {
-        return Some(Packet::Empty);
-    }
-    full_packet(value)
-}
 
 /// Whether the value is of the empty packet.
 fn is_empty_packet(value: &[u8]) -> bool
@@ -65,56 +56,17 @@ fn full_packet(value: &[u8]) -> Option<Packet<'_>>
     })
 }
 
-/// Whether the octets are so many records, with nothing behind the last.
-#[tactic(auto, using(crate::proofs::PacketLemmas::step_records, crate::proofs::PacketLemmas::no_record, crate::proofs::PacketLemmas::records_end))]
-fn are_records(count: u8, octets: &[u8]) -> bool
-    ensures { result ≡ is_some (records_at count octets.now) }
-{
-    let mut rest = octets;
-    let mut left = count;
-    while left > 0 {
-        let Some((_, behind)) = first_record(rest) else {
-            return false;
-        };
-        left -= 1;
-        rest = behind;
-    }
-    rest.is_empty()
-}
-
-/// The record at the front, behind its length in two octets, and what follows it.
-fn first_record(octets: &[u8]) -> Option<(&[u8], &[u8])>
-    ensures { option_map lent_parts result ≡ record_at octets.now }
-{
-    let &[high, low, ref rest @ ..] = octets else {
-        return None;
-    };
-    let length = usize::from(BigEndian::read_u16(&[high, low]));
-    if rest.len() < length {
-        return None;
-    }
-    Some(rest.split_at(length))
-}
-
-/// The k-th of the records that stand one after the other, counted from 0.
-#[tactic(auto, using(crate::proofs::PacketLemmas::step_nth, crate::proofs::PacketLemmas::no_nth))]
-fn nth_record(k: u8, octets: &[u8]) -> Option<&[u8]>
-    ensures { lent result ≡ nth_record k octets.now }
-{
-    let mut rest = octets;
-    let mut left = k;
-    while left > 0 {
-        let Some((_, behind)) = first_record(rest) else {
-            return None;
-        };
-        left -= 1;
-        rest = behind;
-    }
-    let (record, _) = first_record(rest)?;
-    Some(record)
-}
-
 impl<'a> Packet<'a> {
+    /// The packet that a value spells.
+    pub fn of(value: &'a [u8]) -> Option<Packet<'a>>
+        ensures { option_map packet_value result ≡ packet_reading value.now }
+    {
+        if is_empty_packet(value) {
+            return Some(Packet::Empty);
+        }
+        full_packet(value)
+    }
+
     /// The value of the packet as it is sent: the empty one has no octets.
     pub fn octets(&self) -> &'a [u8]
         ensures { result.now ≡ packet_octets (packet_value self.now) }
@@ -122,6 +74,20 @@ impl<'a> Packet<'a> {
         match self {
             Packet::Empty => &[],
             Packet::Full { value, .. } => value,
+        }
+    }
+
+    /// Lends the records, front to back.
+    pub fn records(&self) -> Records<'a>
+        requires { IsPacket (packet_value self.now) }
+        ensures { result ≡ records_of (packet_value self.now) }
+    {
+        match self {
+            Packet::Empty => Records::of(0, &[]),
+            Packet::Full { count, value, .. } => {
+                let (_, octets) = value.split_at(FIELDS);
+                Records::of(*count, octets)
+            }
         }
     }
 

@@ -8,7 +8,7 @@ use crate::flaw::Flaw;
 use crate::kind;
 use crate::message::{Message, Transfer};
 use crate::needed::{first_needed, is_known, second_needed};
-use crate::packet::{Packet, read_packet};
+use crate::packet::Packet;
 use crate::reading::{Reading, Why};
 use gtpp_elements::{Elements, Numbers};
 use gtpp_header::{HEADER_OCTETS, HeadFault, Header};
@@ -164,7 +164,7 @@ fn packet<'a>(elements: &Elements<'a>) -> Result<Packet<'a>, Flaw>
     ensures { seen packet_value result ≡ packet_among elements.now }
 {
     match elements.first(kind::PACKET) {
-        Some(value) => read_packet(value).ok_or(Flaw::Incorrect),
+        Some(value) => Packet::of(value).ok_or(Flaw::Incorrect),
         None => Err(Flaw::Missing),
     }
 }

@@ -1,3 +1,6 @@
+ghost use Rattle.std.specs.Prelude.{◌≡◌};
+ghost use Rattle.gtpp_message.specs.Names.{name_of};
+
 use crate::message::Message;
 
 /// What the octets of a datagram are read as.
@@ -48,4 +51,22 @@ pub enum Why {
     NoRoom,
     /// The device failed.
     Device,
+}
+
+impl Why {
+    /// Its name, as reports print it.
+    pub fn name(self) -> &'static str
+        ensures { result.now ≡ name_of self }
+    {
+        match self {
+            Why::Short => "Short",
+            Why::NotPrime => "NotPrime",
+            Why::Cut => "Cut",
+            Why::UnknownType => "UnknownType",
+            Why::Stray => "Stray",
+            Why::Malformed { .. } => "Malformed",
+            Why::NoRoom => "NoRoom",
+            Why::Device => "Device",
+        }
+    }
 }

@@ -1,6 +1,6 @@
 use Rattle.std.proofs.Common.{◌≡◌}
 use Rattle.gtpp_message.specs.Packet.{nth_record}
-use Rattle.gtpp_message.proofs.packet.nth_record.Given as goal
+use Rattle.gtpp_message.proofs.records.nth_record.Given as goal
 
 -- the record is so far behind what is left
 abbrev pub invariant-loop-left : goal.invariant-loop-left

@@ -1,6 +1,6 @@
 use Rattle.std.proofs.Common.{◌≡◌, is_some}
 use Rattle.gtpp_message.specs.Packet.{records_at}
-use Rattle.gtpp_message.proofs.packet.are_records.Given as goal
+use Rattle.gtpp_message.proofs.records.are_records.Given as goal
 
 -- all are records just where those that are left are
 abbrev pub invariant-loop-left : goal.invariant-loop-left
