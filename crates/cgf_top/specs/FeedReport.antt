@@ -10,7 +10,7 @@ use Rattle.cdr_file.specs.CdrFile as cdr
 use Rattle.cdr_file.specs.declared.closure.ClosureReason.TheVariants.{Manual}
 use Rattle.gtpp_message.specs.Message.{TransferResponse, VersionNotSupported}
 use Rattle.gtpp_message.specs.Writing.{written}
-use Rattle.gtpp_message.specs.Why.{name_of}
+use Rattle.gtpp_message.specs.Names.{name_of}
 use Rattle.gtpp_message.specs.declared.reading.Why.{Why}
 use Rattle.gw_base.specs.CdrKind.{kind_of}
 use Rattle.gw_base.specs.History.{copies_of, is_close_due, moment_after, top_of}
