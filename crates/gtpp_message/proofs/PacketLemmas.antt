@@ -2,7 +2,7 @@
 use Rattle.std.proofs.Common.{◌≡◌, ℕ, zero, suc, ◌-◌, ◌<◌, ◌==◌, Bool, true, false, cond, List, [], ◌∷◌, length, drop, Option, Some, None, is_some, IsSomeAnd, slice_get, option_map, option_and_then, refl, ap, sym, ◌∙◌, arith}
 use Rattle.std.proofs.Math.Dec.{eqb-suc-zero}
 use Rattle.gtpp_header.specs.Header.{two_octets}
-use Rattle.gtpp_message.specs.Packet.{IsPacket, PacketForm, packet_of, PacketValue, Empty, Full, full_packet, is_empty_packet, nth_record, packet_in, packet_reading, record_at, records_at}
+use Rattle.gtpp_message.specs.Packet.{PacketForm, packet_of, PacketValue, Empty, Full, full_packet, is_empty_packet, nth_record, packet_in, packet_reading, record_at, records_at}
 
 some_one_more : (r : List ℕ) (more : Option (List (List ℕ))) → is_some more ≡ is_some (option_map (λ records. r ∷ records) more)
 some_one_more r None = refl
@@ -153,25 +153,3 @@ pub part_is : (count format version : ℕ) (value octets : List ℕ) (k : ℕ) (
 part_is count format version value octets k part e below nth same =
     full_part count format version value k part (by_emptiness (is_empty_packet value) (full_packet value) count format version value e) below
     (sym (nth ∙ ap (nth_record k) same))
-
--- the whole value stands in what was read of it
-full_whole : (found : Option PacketForm) (c : ℕ) (v : List ℕ) (count format version : ℕ) (value : List ℕ) →
-    option_map (λ (packet : PacketForm). Full c packet.format packet.version v) found ≡ Some (Full count format version value) → v ≡ value
-full_whole None c v count format version value e = cc
-full_whole (Some packet) c v count format version value e = cc
-
-full_value : (octets : List ℕ) (count format version : ℕ) (value : List ℕ) → full_packet octets ≡ Some (Full count format version value) → octets ≡ value
-full_value [] count format version value e = cc
-full_value (a ∷ []) count format version value e = cc
-full_value (a ∷ b ∷ []) count format version value e = cc
-full_value (a ∷ b ∷ c ∷ []) count format version value e = cc
-full_value (a ∷ b ∷ c ∷ d ∷ octets) count format version value e =
-    full_whole (packet_in a b (two_octets c d) octets) a (a ∷ b ∷ c ∷ d ∷ octets) count format version value e
-
--- the value of a packet that was read says what the packet says
-pub read_packet : (octets : List ℕ) (packet : PacketValue) → packet_reading octets ≡ Some packet → IsPacket packet
-read_packet octets Empty e = tt
-read_packet octets (Full count format version value) e =
-    let same : octets ≡ value =
-    full_value octets count format version value (by_emptiness (is_empty_packet octets) (full_packet octets) count format version value e) in
-    ap packet_reading (sym same) ∙ e

@@ -14,9 +14,8 @@ use Rattle.gtpp_elements.specs.declared.fault.ElementFault.{ElementFault}
 use Rattle.gtpp_message.specs.Message.{MessageValue, TransferValue, EchoRequest, EchoResponse, VersionNotSupported, NodeAliveRequest, NodeAliveResponse, RedirectionRequest, RedirectionResponse, TransferRequest, TransferResponse, Send, Possible, Cancel, Release, is_known}
 use Rattle.gtpp_message.specs.Packet.{PacketValue, packet_reading}
 use Rattle.gtpp_message.specs.Reading.{Drop, Message, answered, behind, body_of, echo_response_of, is_address, message_of, numbers_among, numbers_of, octet_in, packet_among, packet_of_value, present, reading, redirection_of, redirection_request_of, redirection_response_of, transfer_of, transfer_request_of, transfer_response_of, ◌>>=◌}
-use Rattle.gtpp_message.proofs.PacketLemmas.{read_packet}
 use Rattle.gtpp_message.specs.Spelling.{Say, Spells, SpellsNumbers, SpellsTransfer}
-use Rattle.gtpp_message.specs.Writing.{IsSendableMessage, IsSendableTransfer, command_element, command_of, kind_of}
+use Rattle.gtpp_message.specs.Writing.{command_element, command_of, kind_of}
 use Rattle.gtpp_message.specs.declared.flaw.Flaw.{Flaw}
 use Rattle.gtpp_message.specs.declared.flaw.Flaw.TheVariants.{Incorrect}
 use Rattle.gtpp_message.specs.declared.reading.Why.TheVariants as why
@@ -307,41 +306,3 @@ pub read_spelled : ((header : Header) (octets : List ℕ) → (header_reading oc
 unfolding Heads Lists
 read_spelled heads lists number message octets =
     (λ e. spelled_behind heads lists octets (header_reading octets) number message refl e, λ spells. read_again heads lists octets number message spells)
-
--- what is spelled may be sent
-spelled_sendable : (body : TransferValue) (value : List ℕ) → SpellsTransfer body value → IsSendableTransfer body
-spelled_sendable (Send packet) value says = read_packet value packet says
-spelled_sendable (Possible packet) value says = read_packet value packet says
-spelled_sendable (Cancel numbers) value says = tt
-spelled_sendable (Release numbers) value says = tt
-
-said_sendable : (message : MessageValue) (elements : List Element) → Say message elements → IsSendableMessage message
-said_sendable EchoRequest elements says = tt
-said_sendable (EchoResponse counter) elements says = tt
-said_sendable VersionNotSupported elements says = tt
-said_sendable (NodeAliveRequest address) elements says = tt
-said_sendable NodeAliveResponse elements says = tt
-said_sendable (RedirectionRequest cause to) elements (octet, given, good) = good
-said_sendable (RedirectionResponse cause) elements says = tt
-said_sendable (TransferRequest body) elements (octet, value, given, says) = spelled_sendable body value says
-said_sendable (TransferResponse cause responded) elements says = tt
-
-sendable_behind : (octets : List ℕ) (head : Result Header HeadFault) (number : ℕ) (message : MessageValue) → behind head octets ≡ Message number message → IsSendableMessage message
-unfolding SaysKind
-sendable_behind octets (Err head.Short) number message e = cc
-sendable_behind octets (Err head.NotPrime) number message e = cc
-sendable_behind octets (Err (head.Version version kind bears)) number message e = cc
-sendable_behind octets (Err (head.Cut stated)) number message e = cc
-sendable_behind octets (Ok header) number message e =
-    elim (chosen (is_known header.kind) _ _ _ e) [
-      | inl known ↦
-          let body = elements_in (take header.length (drop 6 octets)) in
-          let answer = answer_there header.kind header.number number (body_of header.kind body) message known.1 in
-          let read = body_there header.kind body message answer.0 in
-          let said = message_said header.kind read.0 message known.0 read.2 in
-          said_sendable message read.0 said.1
-      | inr unknown ↦ cc (unknown.1)
-    ]
-
-pub read_sendable : (number : ℕ) (message : MessageValue) (octets : List ℕ) → reading octets ≡ Message number message → IsSendableMessage message
-read_sendable number message octets e = sendable_behind octets (header_reading octets) number message e

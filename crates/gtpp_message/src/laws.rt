@@ -34,9 +34,3 @@ pub fn written_is_read_back()
     gtpp_elements::laws::what_is_put_is_read_back();
     gtpp_elements::laws::numbers_are_read_back();
 }
-
-/// A message that is read may be sent.
-pub fn what_is_read_may_be_sent()
-    ensures { (number : ℕ) (message : MessageValue) (octets : List ℕ) →
-        of.reading octets ≡ of.Message number message → IsSendableMessage message }
-{}
