@@ -2,8 +2,8 @@ ghost use Rattle.std.specs.Prelude.{◌≡◌, ◌≤◌, ◌+◌, length, take,
 ghost use Rattle.gtpp_elements.specs.Elements.{first_value};
 ghost use Rattle.gtpp_elements.specs.Reading.{elements_in};
 ghost use Rattle.gtpp_message.specs.Reading.{behind, body_of, echo_response_of, message_of, numbers_among, octet_in, packet_among, reading, redirection_of, redirection_request_of, redirection_response_of, transfer_of, transfer_request_of, transfer_response_of};
-ghost use Rattle.gtpp_message.specs.Writing.{IsSendableReading};
 ghost use Rattle.gtpp_message.specs.Values.{lent, message_value, packet_value, reading_value, seen, transfer_value};
+ghost use Rattle.gtpp_message.specs.Writing.{IsSendableReading};
 
 use crate::flaw::Flaw;
 use crate::kind;
