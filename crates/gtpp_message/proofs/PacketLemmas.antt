@@ -1,8 +1,8 @@
 -- The records of a packet, one after the other.
-use Rattle.std.proofs.Common.{◌≡◌, ℕ, zero, suc, ◌-◌, ◌<◌, ◌==◌, Bool, true, false, cond, List, [], ◌∷◌, length, drop, Option, Some, None, is_some, IsSomeAnd, slice_get, option_map, option_and_then, refl, ap, sym, ◌∙◌, arith}
+use Rattle.std.proofs.Common.{◌≡◌, ℕ, zero, suc, ◌-◌, ◌<◌, ◌==◌, Bool, true, false, cond, List, [], ◌∷◌, length, drop, Option, Some, None, is_some, IsSomeAnd, slice_get, option_map, option_and_then, refl, ap, sym, subst, ◌∙◌, arith}
 use Rattle.std.proofs.Math.Dec.{eqb-suc-zero}
 use Rattle.gtpp_header.specs.Header.{two_octets}
-use Rattle.gtpp_message.specs.Packet.{PacketForm, packet_of, PacketValue, Empty, Full, full_packet, is_empty_packet, nth_record, packet_in, packet_reading, record_at, records_at}
+use Rattle.gtpp_message.specs.Packet.{IsPacket, PacketForm, packet_of, PacketValue, Empty, Full, full_packet, is_empty_packet, nth_record, packet_in, packet_reading, record_at, records_at}
 
 some_one_more : (r : List ℕ) (more : Option (List (List ℕ))) → is_some more ≡ is_some (option_map (λ records. r ∷ records) more)
 some_one_more r None = refl
@@ -79,6 +79,26 @@ by_emptiness : (empty : Bool) (full : Option PacketValue) (count format version 
     cond empty (Some Empty) full ≡ Some (Full count format version value) → full ≡ Some (Full count format version value)
 by_emptiness true full count format version value e = cc
 by_emptiness false full count format version value e = e
+
+value_inside : (count format version : ℕ) (value v : List ℕ) (found : Option PacketForm) (c : ℕ) →
+    option_map (λ (packet : PacketForm). Full c packet.format packet.version v) found ≡ Some (Full count format version value) → v ≡ value
+value_inside count format version value v None c e = cc
+value_inside count format version value v (Some packet) c e = cc
+
+value_there : (count format version : ℕ) (value spells : List ℕ) → full_packet spells ≡ Some (Full count format version value) → spells ≡ value
+value_there count format version value [] e = cc
+value_there count format version value (a ∷ []) e = cc
+value_there count format version value (a ∷ b ∷ []) e = cc
+value_there count format version value (a ∷ b ∷ c ∷ []) e = cc
+value_there count format version value (a ∷ b ∷ c ∷ d ∷ octets) e =
+    value_inside count format version value (a ∷ b ∷ c ∷ d ∷ octets) (packet_in a b (two_octets c d) octets) a e
+
+-- a packet that a value spells says what its value says
+pub is_packet : (packet : PacketValue) (spells : List ℕ) → packet_reading spells ≡ Some packet → IsPacket packet
+is_packet Empty spells e = tt
+is_packet (Full count format version value) spells e =
+    subst (λ (v : List ℕ). packet_reading v ≡ Some (Full count format version value))
+    (value_there count format version value spells (by_emptiness (is_empty_packet spells) (full_packet spells) count format version value e)) e
 
 -- each record of a packet that a value spells is there
 pub part_there : (count format version : ℕ) (value : List ℕ) (k : ℕ) → packet_reading value ≡ Some (Full count format version value) → k < count → is_some (nth_record k (drop 4 value)) ≡ true

@@ -13,12 +13,13 @@ use Rattle.gtpp_elements.specs.Reading.{elements_in}
 use Rattle.gtpp_elements.specs.declared.fault.ElementFault.{ElementFault}
 use Rattle.gtpp_message.specs.Message.{MessageValue, TransferValue, EchoRequest, EchoResponse, VersionNotSupported, NodeAliveRequest, NodeAliveResponse, RedirectionRequest, RedirectionResponse, TransferRequest, TransferResponse, Send, Possible, Cancel, Release, is_known}
 use Rattle.gtpp_message.specs.Packet.{PacketValue, packet_reading}
-use Rattle.gtpp_message.specs.Reading.{Drop, Message, answered, behind, body_of, echo_response_of, is_address, message_of, numbers_among, numbers_of, octet_in, packet_among, packet_of_value, present, reading, redirection_of, redirection_request_of, redirection_response_of, transfer_of, transfer_request_of, transfer_response_of, ◌>>=◌}
+use Rattle.gtpp_message.specs.Reading.{Drop, Message, OtherVersion, ReadingValue, Refused, answered, behind, body_of, echo_response_of, is_address, message_of, numbers_among, numbers_of, octet_in, packet_among, packet_of_value, present, reading, redirection_of, redirection_request_of, redirection_response_of, transfer_of, transfer_request_of, transfer_response_of, ◌>>=◌}
 use Rattle.gtpp_message.specs.Spelling.{Say, Spells, SpellsNumbers, SpellsTransfer}
-use Rattle.gtpp_message.specs.Writing.{command_element, command_of, kind_of}
+use Rattle.gtpp_message.specs.Writing.{IsSendableMessage, IsSendableReading, IsSendableTransfer, command_element, command_of, kind_of}
 use Rattle.gtpp_message.specs.declared.flaw.Flaw.{Flaw}
 use Rattle.gtpp_message.specs.declared.flaw.Flaw.TheVariants.{Incorrect}
 use Rattle.gtpp_message.specs.declared.reading.Why.TheVariants as why
+use Rattle.gtpp_message.proofs.PacketLemmas.{is_packet}
 
 -- which way a choice went
 chosen : {T : Type 0} → (b : Bool) (x y z : T) → cond b x y ≡ z → ((b ≡ true) × (x ≡ z)) ⊎ ((b ≡ false) × (y ≡ z))
@@ -306,3 +307,47 @@ pub read_spelled : ((header : Header) (octets : List ℕ) → (header_reading oc
 unfolding Heads Lists
 read_spelled heads lists number message octets =
     (λ e. spelled_behind heads lists octets (header_reading octets) number message refl e, λ spells. read_again heads lists octets number message spells)
+
+sendable_transfer : (body : TransferValue) (value : List ℕ) → SpellsTransfer body value → IsSendableTransfer body
+sendable_transfer (Send packet) value spells = is_packet packet value spells
+sendable_transfer (Possible packet) value spells = is_packet packet value spells
+sendable_transfer (Cancel numbers) value spells = tt
+sendable_transfer (Release numbers) value spells = tt
+
+sendable_said : (message : MessageValue) (elements : List Element) → Say message elements → IsSendableMessage message
+sendable_said EchoRequest elements says = tt
+sendable_said (EchoResponse counter) elements says = tt
+sendable_said VersionNotSupported elements says = tt
+sendable_said (NodeAliveRequest address) elements says = tt
+sendable_said NodeAliveResponse elements says = tt
+sendable_said (RedirectionRequest cause to) elements (octet, address, fits) = fits
+sendable_said (RedirectionResponse cause) elements says = tt
+sendable_said (TransferRequest body) elements (octet, value, there, spells) = sendable_transfer body value spells
+sendable_said (TransferResponse cause responded) elements says = tt
+
+sendable_behind : (octets : List ℕ) (head : Result Header HeadFault) (number : ℕ) (message : MessageValue) → behind head octets ≡ Message number message → IsSendableMessage message
+unfolding SaysKind
+sendable_behind octets (Err head.Short) number message e = cc
+sendable_behind octets (Err head.NotPrime) number message e = cc
+sendable_behind octets (Err (head.Version version kind bears)) number message e = cc
+sendable_behind octets (Err (head.Cut stated)) number message e = cc
+sendable_behind octets (Ok header) number message e =
+    elim (chosen (is_known header.kind) _ _ _ e) [
+      | inl known ↦
+          let body = elements_in (take header.length (drop 6 octets)) in
+          let answer = answer_there header.kind header.number number (body_of header.kind body) message known.1 in
+          let read = body_there header.kind body message answer.0 in
+          let said = message_said header.kind read.0 message known.0 read.2 in
+          sendable_said message read.0 said.1
+      | inr unknown ↦ cc (unknown.1)
+    ]
+
+-- a message that is read may be sent
+pub sendable_read : (number : ℕ) (message : MessageValue) (octets : List ℕ) → reading octets ≡ Message number message → IsSendableMessage message
+sendable_read number message octets read = sendable_behind octets (header_reading octets) number message read
+
+pub sendable_reading : (octets : List ℕ) (read : ReadingValue) → read ≡ reading octets → IsSendableReading read
+sendable_reading octets (Message number message) is = sendable_read number message octets (sym is)
+sendable_reading octets (Refused kind cause number) is = tt
+sendable_reading octets (OtherVersion kind number) is = tt
+sendable_reading octets (Drop why) is = tt

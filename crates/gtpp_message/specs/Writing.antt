@@ -5,7 +5,7 @@ use Rattle.gtpp_elements.specs.Elements.{Element, octets_of}
 use Rattle.gtpp_elements.specs.Numbers.{number_octets}
 use Rattle.gtpp_message.specs.Message.{MessageValue, TransferValue, EchoRequest, EchoResponse, VersionNotSupported, NodeAliveRequest, NodeAliveResponse, RedirectionRequest, RedirectionResponse, TransferRequest, TransferResponse, Send, Possible, Cancel, Release}
 use Rattle.gtpp_message.specs.Packet.{IsPacket, packet_octets}
-use Rattle.gtpp_message.specs.Reading.{is_address}
+use Rattle.gtpp_message.specs.Reading.{ReadingValue, Drop, Message, OtherVersion, Refused, is_address}
 
 -- the type of a message
 abbrev pub kind_of : MessageValue → ℕ
@@ -83,3 +83,10 @@ abbrev pub IsSendableMessage : MessageValue → Type 0
 IsSendableMessage (RedirectionRequest cause to) = IsTrue (is_address to)
 IsSendableMessage (TransferRequest body) = IsSendableTransfer body
 IsSendableMessage _ = Unit {0}
+
+-- what was read may be sent, where it is a message
+abbrev pub IsSendableReading : ReadingValue → Type 0
+IsSendableReading (Message number message) = IsSendableMessage message
+IsSendableReading (Refused kind cause number) = Unit {0}
+IsSendableReading (OtherVersion kind number) = Unit {0}
+IsSendableReading (Drop why) = Unit {0}

@@ -24,6 +24,12 @@ pub fn what_is_read_is_spelled()
     gtpp_elements::laws::what_is_read_is_spelled();
 }
 
+/// A message that is read may be sent: its packet's value says what the packet says.
+pub fn what_is_read_may_be_sent()
+    ensures { (number : ℕ) (message : MessageValue) (octets : List ℕ) →
+        of.reading octets ≡ of.Message number message → IsSendableMessage message }
+{}
+
 /// What is written is read back as the same message, whatever octets follow.
 pub fn written_is_read_back()
     ensures { (number : ℕ) (message : MessageValue) (rest : List ℕ) → IsSendableMessage message →

@@ -1,4 +1,4 @@
-ghost use Rattle.std.specs.Prelude.{◌≡◌, ◌==◌, ◌<◌, IsSomeAnd, Some, option_map, slice_get};
+ghost use Rattle.std.specs.Prelude.{◌≡◌, ◌==◌, ◌<◌, IfSome, IsSomeAnd, Some, option_map, slice_get};
 ghost use Rattle.gtpp_message.specs.Packet.{IsPacket, count_of, full_packet, is_empty_packet, packet_of, packet_octets, packet_reading, records_of};
 ghost use Rattle.gtpp_message.specs.Values.{packet_value};
 
@@ -59,7 +59,8 @@ fn full_packet(value: &[u8]) -> Option<Packet<'_>>
 impl<'a> Packet<'a> {
     /// The packet that a value spells.
     pub fn of(value: &'a [u8]) -> Option<Packet<'a>>
-        ensures { option_map packet_value result ≡ packet_reading value.now }
+        ensures reading { option_map packet_value result ≡ packet_reading value.now }
+        ensures whole { IfSome result (λ packet. IsPacket (packet_value packet)) }
     {
         if is_empty_packet(value) {
             return Some(Packet::Empty);

@@ -3,6 +3,7 @@ ghost use Rattle.gtpp_elements.specs.Elements.{first_value};
 ghost use Rattle.gtpp_elements.specs.Reading.{elements_in};
 ghost use Rattle.gtpp_message.specs.Reading.{behind, body_of, echo_response_of, message_of, numbers_among, octet_in, packet_among, reading, redirection_of, redirection_request_of, redirection_response_of, transfer_of, transfer_request_of, transfer_response_of};
 ghost use Rattle.gtpp_message.specs.Values.{lent, message_value, packet_value, reading_value, seen, transfer_value};
+ghost use Rattle.gtpp_message.specs.Writing.{IsSendableReading};
 
 use crate::flaw::Flaw;
 use crate::kind;
@@ -20,7 +21,8 @@ use gtpp_header::{HEADER_OCTETS, HeadFault, Header};
 /// body is no list of elements, an element is missing or has a wrong form. Octets past the length
 /// that the header says are not looked at.
 pub fn read(octets: &[u8]) -> Reading<'_>
-    ensures { reading_value result ≡ reading octets.now }
+    ensures reading { reading_value result ≡ reading octets.now }
+    ensures sendable { IsSendableReading (reading_value result) }
 {
     match gtpp_header::read(octets) {
         Ok(header) => behind(header, octets),

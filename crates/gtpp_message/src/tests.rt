@@ -254,6 +254,11 @@ fn lends_the_records_of_a_packet(rt: HostRuntime) {
     }
     assert_eq!(rt; full.part(0), &[0xA0, 0][..]);
     assert_eq!(rt; full.part(1), &[5][..]);
+    let mut records = full.records();
+    assert_eq!(rt; records.next(), Some(&[0xA0, 0][..]));
+    assert_eq!(rt; records.next(), Some(&[5][..]));
+    assert_eq!(rt; records.next(), None);
+    assert_eq!(rt; Packet::Empty.records().next(), None);
     for value in [&[][..], &[0], &[0, 1, 6, 0]] {
         let mut octets = [0; 15];
         octets[..11].copy_from_slice(&[
@@ -279,5 +284,21 @@ fn lends_the_records_of_a_packet(rt: HostRuntime) {
             } => {}
             _ => panic!(rt; "{value:?} isn't the empty packet"),
         }
+    }
+}
+
+#[test]
+fn prints_why_a_datagram_is_dropped(rt: HostRuntime) {
+    for (why, name) in [
+        (Why::Short, "Short"),
+        (Why::NotPrime, "NotPrime"),
+        (Why::Cut, "Cut"),
+        (Why::UnknownType, "UnknownType"),
+        (Why::Stray, "Stray"),
+        (Why::Malformed { cause: 202 }, "Malformed"),
+        (Why::NoRoom, "NoRoom"),
+        (Why::Device, "Device"),
+    ] {
+        assert_eq!(rt; why.name(), name);
     }
 }
