@@ -1,5 +1,7 @@
 -- No number of a feed's history is too big: a request whose number is out of range gets no entry.
 use Rattle.std.proofs.Common.{◌≡◌, ℕ, ◌<◌, ◌^◌, Bool, true, false, ◌==◌, ◌&&◌, nat_le, nat_lt, if◌then◌else◌, List, [], ◌∷◌, ◌++◌, map, Option, Some, None, IfSome, is_none, refl, ap, sym, ◌∙◌, subst, arith}
+use Rattle.gtpp_message.specs.Message.{TransferValue, Send, Possible, Cancel, Release}
+use Rattle.gtpp_message.specs.Packet.{packet_octets}
 use Rattle.gw_base.specs.History.{raised, top_entry, top_from, top_of}
 use Rattle.gw_base.specs.declared.address.NodeId.{NodeId}
 use Rattle.gw_base.specs.declared.history.HistoryAct.{HistoryAct}
@@ -16,10 +18,7 @@ use Rattle.transfer_cmd.specs.declared.verdict.Verdict.{Verdict}
 use Rattle.transfer_cmd.specs.declared.verdict.Verdict.TheVariants as verdict
 use Rattle.cgf_top.specs.Answer.{act_of, answer_of, answer_with, answered, held_once, is_in_range, judged, named_numbers, sending, sending_again, sent, state_in}
 use Rattle.cgf_top.specs.declared.gateway_book.answer.Answer.{Answer}
-use Rattle.cgf_top.specs.declared.gtpp_message.request.Command.{Command}
-use Rattle.cgf_top.specs.declared.gtpp_message.request.Command.TheVariants as command
 use Rattle.cgf_top.specs.FeedReport.{IsBounded, entry_of, with_act}
-use Rattle.cgf_top.specs.Request.{RequestForm}
 
 -- the entry's number isn't too big, where it bears one
 abbrev pub IsSmall : HistoryAct → Type 0
@@ -93,19 +92,23 @@ small_judged verdict.Before release node held = tt
 small_judged verdict.Change true node held = tt
 small_judged verdict.Change false node held = tt
 
-small_answered : (command : Command) (h : List HistoryEntry) (node : NodeId) (number : ℕ) (value : List ℕ) → IsSmallAct (answered command h node number value).act
-small_answered command.Send h node number value = small_sent (is_none (state_given (sending value) (state_in h node number))) (sending value) (state_in h node number) node number value refl
-small_answered command.Possible h node number value = small_sent (is_none (state_given (sending_again value) (state_in h node number))) (sending_again value) (state_in h node number) node number value refl
-small_answered command.Cancel h node number value = small_judged (verdict_of false (map (state_in h node) (named_numbers h node value))) false node (held_once h node (named_numbers h node value))
-small_answered command.Release h node number value = small_judged (verdict_of true (map (state_in h node) (named_numbers h node value))) true node (held_once h node (named_numbers h node value))
+small_answered : (h : List HistoryEntry) (node : NodeId) (number : ℕ) (body : TransferValue) → IsSmallAct (answered h node number body).act
+small_answered h node number (Send packet) =
+    small_sent (is_none (state_given (sending packet) (state_in h node number))) (sending packet) (state_in h node number) node number (packet_octets packet) refl
+small_answered h node number (Possible packet) =
+    small_sent (is_none (state_given (sending_again packet) (state_in h node number))) (sending_again packet) (state_in h node number) node number (packet_octets packet) refl
+small_answered h node number (Cancel numbers) =
+    small_judged (verdict_of false (map (state_in h node) (named_numbers h node numbers))) false node (held_once h node (named_numbers h node numbers))
+small_answered h node number (Release numbers) =
+    small_judged (verdict_of true (map (state_in h node) (named_numbers h node numbers))) true node (held_once h node (named_numbers h node numbers))
 
-pub bounded_answer : (h : List HistoryEntry) (now : ℕ) (node : NodeId) (request : RequestForm) → IsBounded h →
-    IsBounded (with_act h now (answer_of h node request).act)
-bounded_answer h now node request bounded =
-    bounded_act h now (answer_of h node request).act bounded (small_answered request.command h node (nearest (top_of node.0 h) request.number) request.value)
+bounded_answer : (h : List HistoryEntry) (now : ℕ) (node : NodeId) (number : ℕ) (body : TransferValue) → IsBounded h →
+    IsBounded (with_act h now (answer_of h node number body).act)
+bounded_answer h now node number body bounded =
+    bounded_act h now (answer_of h node number body).act bounded (small_answered h node (nearest (top_of node.0 h) number) body)
 
 -- the history behind an answer
-pub bounded_behind : (h new : List HistoryEntry) (now : ℕ) (node : NodeId) (request : RequestForm) (answer : Answer) → IsBounded h →
-    answer ≡ answer_of h node request → new ≡ with_act h now answer.act → IsBounded new
-bounded_behind h new now node request answer bounded is grown =
-    subst IsBounded (sym (grown ∙ ap (λ (a : Answer). with_act h now a.act) is)) (bounded_answer h now node request bounded)
+pub bounded_behind : (h new : List HistoryEntry) (now : ℕ) (node : NodeId) (number : ℕ) (body : TransferValue) (answer : Answer) → IsBounded h →
+    answer ≡ answer_of h node number body → new ≡ with_act h now answer.act → IsBounded new
+bounded_behind h new now node number body answer bounded is grown =
+    subst IsBounded (sym (grown ∙ ap (λ (a : Answer). with_act h now a.act) is)) (bounded_answer h now node number body bounded)

@@ -5,6 +5,6 @@ pub mod Filed
 pub mod Files
 pub mod Lines
 pub mod Numbers
-pub mod Packets
+pub mod Records
 pub mod Reports
 pub mod Streams

@@ -72,8 +72,8 @@ pub record FeedState : Type 0 where
   pub printed : List ℕ
 
 -- one more line is printed
-abbrev pub behind_line : FeedState → List ℕ → FeedState
-behind_line s printed = record s { printed = s.printed ++ printed }
+abbrev pub with_printed : FeedState → List ℕ → FeedState
+with_printed s line = record s { printed = s.printed ++ line }
 
 -- a request is answered, and its entry made
 abbrev pub behind_answer : FeedState → ℕ → Answer → FeedState
@@ -85,9 +85,9 @@ behind_answer s number answer = record {
 
 -- a datagram of this sender came; no script has one of path management so far
 abbrev pub behind_datagram : FeedState → Addr → PreparedValue → FeedState
-behind_datagram s sender (Drop why) = behind_line s (drop_line why)
-behind_datagram s sender (OtherVersion number) = behind_line s (octets_line (written number VersionNotSupported))
-behind_datagram s sender (Refused cause number) = behind_line s (octets_line (response number cause))
+behind_datagram s sender (Drop why) = with_printed s (drop_line why)
+behind_datagram s sender (OtherVersion number) = with_printed s (octets_line (written number VersionNotSupported))
+behind_datagram s sender (Refused cause number) = with_printed s (octets_line (response number cause))
 behind_datagram s sender (Path number message) = s
 behind_datagram s sender (Request number body) = behind_answer s number (answer_of s.history (record { 0 = sender.ip }) number body)
 

@@ -1,5 +1,5 @@
 -- The scripts of `feed`: what their lines say, and the first line that is refused.
-use Rattle.std.specs.Prelude.{ℕ, ◌≡◌, ◌+◌, ◌<◌, ◌≤◌, Bool, true, false, ◌&&◌, ◌==◌, nat_lt, if◌then◌else◌, List, [], ◌∷◌, Option, Some, None, option_map, Result, Ok, Err, codes}
+use Rattle.std.specs.Prelude.{ℕ, ◌≡◌, ◌+◌, ◌≤◌, Bool, true, false, ◌&&◌, ◌==◌, nat_le, nat_lt, if◌then◌else◌, List, [], ◌∷◌, length, Option, Some, None, option_map, Result, Ok, Err, codes}
 use Rattle.std.specs.List.{flat_map}
 use Rattle.std.specs.Str.{bytes_eq}
 use Rattle.gtpp_message.specs.Message.{TransferValue, Send, Possible, Cancel, Release}
@@ -67,12 +67,14 @@ abbrev pub is_from : Option Addr → Addr → Bool
 is_from None sender = true
 is_from (Some first) sender = (first.ip == sender.ip) && (first.port == sender.port)
 
--- behind records that a request sends: no text has more than 999 of them, and their CDRs have at most 1,048,523 octets
+-- with so many records, and so many octets of their CDRs: no text has more than 999 of the ones, or 1,048,523 of the others
+abbrev pub with_records : Progress → ℕ → ℕ → Option Progress
+with_records p records octets =
+    if nat_le records 999 && nat_le octets 1048523 then Some (record p { records = records; octets = octets }) else None
+
+-- behind records that a request sends
 abbrev pub behind_records : Progress → List (List ℕ) → Option Progress
-behind_records p records =
-    if nat_lt (p.records + length records) 1000 && nat_lt (p.octets + cdr_sizes records) 1048524
-    then Some (record p { records = p.records + length records; octets = p.octets + cdr_sizes records })
-    else None
+behind_records p records = with_records p (p.records + length records) (p.octets + cdr_sizes records)
 
 abbrev pub behind_packet : Progress → PacketValue → Option Progress
 behind_packet p packet = if is_built_packet packet then behind_records p (records_of packet) else None
@@ -113,8 +115,8 @@ behind_line p line.End = if p.ended then None else Some (record p { begun = true
 -- what holds of every script so far
 pub record IsWithinBounds (p : Progress) : Type 0 where
   pub datagrams : p.datagrams ≤ 10000
-  pub records : p.records < 1000
-  pub octets : p.octets < 1048524
+  pub records : p.records ≤ 999
+  pub octets : p.octets ≤ 1048523
 
 -- The lines of a text.
 

@@ -10,16 +10,16 @@ use Rattle.gw_base.specs.declared.history.PacketKey.{PacketKey}
 use Rattle.transfer_cmd.specs.Lists.{is_held}
 use Rattle.cgf_top.specs.declared.gateway_book.filed.FiledRecord.{FiledRecord}
 
--- the records of a packet from the one with this index on
-abbrev pub records_from : PacketKey → ℕ → PacketForm → ℕ → List (List ℕ) → List FiledRecord
-records_from key moment packet index [] = []
-records_from key moment packet index (octets ∷ records) =
-    record { key = key; index = index; format = packet.format; version = packet.version; octets = octets; moment = moment }
-    ∷ records_from key moment packet (index + 1) records
+-- the records of a packet of this format and version, from the one with this index on
+abbrev pub records_from : PacketKey → ℕ → ℕ → ℕ → ℕ → List (List ℕ) → List FiledRecord
+records_from key moment format version index [] = []
+records_from key moment format version index (octets ∷ records) =
+    record { key = key; index = index; format = format; version = version; octets = octets; moment = moment }
+    ∷ records_from key moment format version (index + 1) records
 
 abbrev pub records_in : PacketKey → ℕ → Option PacketForm → List FiledRecord
 records_in key moment None = []
-records_in key moment (Some packet) = records_from key moment packet 0 packet.records
+records_in key moment (Some packet) = records_from key moment packet.format packet.version 0 packet.records
 
 -- the records of a packet, filed under a key at a moment
 abbrev pub records_of : PacketKey → ℕ → List ℕ → List FiledRecord

@@ -3,11 +3,11 @@
 -- record isn't what its format says.
 use Rattle.std.specs.Prelude.{ℕ, Bool, true, not, ◌==◌, ◌||◌, if◌then◌else◌, List}
 use Rattle.std.specs.List.{list_all}
-use Rattle.ber_frame.specs.Checking.{is_one_value}
+use Rattle.ber_frame.specs.Checked.{is_one_value}
 use Rattle.gtpp_message.specs.Message.{MessageValue, TransferValue, TransferRequest, Send, Possible, Cancel, Release}
 use Rattle.gtpp_message.specs.Packet.{PacketValue, Empty, Full, records_of}
 use Rattle.gtpp_message.specs.Reading as read
-use Rattle.gtpp_message.specs.Writing.{kind_of}
+use Rattle.gtpp_message.specs.Writing.{IsSendableTransfer, kind_of}
 use Rattle.gtpp_message.specs.declared.reading.Why.{Why}
 use Rattle.gtpp_message.specs.declared.reading.Why.TheVariants.{Malformed, Stray}
 
@@ -60,3 +60,11 @@ prepared_from (read.Message number message) = if is_stray (kind_of message) then
 -- what a gateway makes of the octets of a datagram
 abbrev pub prepared_of : List ℕ → PreparedValue
 prepared_of octets = prepared_from (read.reading octets)
+
+-- the packet that a request sends says what its value says
+abbrev pub IsWhole : PreparedValue → Type 0
+IsWhole (Drop why) = Unit {0}
+IsWhole (OtherVersion number) = Unit {0}
+IsWhole (Refused cause number) = Unit {0}
+IsWhole (Path number message) = Unit {0}
+IsWhole (Request number body) = IsSendableTransfer body

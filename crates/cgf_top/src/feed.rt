@@ -34,13 +34,14 @@ struct Feed {
 const REPLY_OCTETS: usize = 64;
 
 impl Model for Feed {
+    ghost use Rattle.std.specs.Prelude.{◌≡◌};
     ghost use Rattle.cgf_top.specs.FeedReport.{FeedState, IsBounded};
 
     ghost Value = { FeedState };
 
     ghost view = { λ f. record { history = f.history.items; now = f.now; printed = f.printed.items } };
 
-    ghost invariant = { λ f. record { bounded : IsBounded f.history.items; room : f.reply.capacity ≡ 64 } };
+    ghost invariant = { λ f. IsBounded f.history.items × (f.reply.capacity ≡ 64) };
 }
 
 /// All that is printed for the lines of a script.
@@ -113,7 +114,7 @@ impl Feed {
     }
 
     /// Answers a request.
-    #[tactic(auto, using(crate::proofs::Bounds::bounded_answer))]
+    #[tactic(auto, using(crate::proofs::Bounds::bounded_behind))]
     fn serve(
         &mut self,
         alloc: Global,

@@ -1,6 +1,8 @@
-ghost use Rattle.std.specs.Prelude.{◌≡◌, ◌<◌, ◌≤◌, ◌+◌, ◌^◌, [], ◌∷◌, Some, IfSome};
+ghost use Rattle.std.specs.Prelude.{◌≡◌, ◌<◌, ◌≤◌, ◌+◌, length, IfSome};
+ghost use Rattle.gtpp_message.specs.Packet.{IsPacket};
 ghost use Rattle.gtpp_message.specs.Values.{packet_value, transfer_value};
-ghost use Rattle.cgf_top.specs.FeedScript.{IsWithinBounds, behind_datagram, behind_line, behind_packet, behind_records, behind_request, behind_sender, is_built_kind, is_built_packet, is_from};
+ghost use Rattle.gtpp_message.specs.Writing.{IsSendableTransfer};
+ghost use Rattle.cgf_top.specs.FeedScript.{IsWithinBounds, behind_datagram, behind_line, behind_packet, behind_records, behind_request, behind_sender, is_built_kind, is_built_packet, is_from, with_records};
 
 use crate::gateway_book::{Prepared, prepare};
 use crate::world_script::line::Line;
@@ -105,7 +107,8 @@ impl Progress {
 
     /// Behind a request.
     fn behind_request(self, body: &Transfer<'_>) -> Option<Progress>
-        requires { IsWithinBounds self }
+        requires bounds { IsWithinBounds self }
+        requires whole { IsSendableTransfer (transfer_value body.now) }
         ensures progress { result ≡ behind_request self (transfer_value body.now) }
         ensures within { IfSome result IsWithinBounds }
     {
@@ -119,7 +122,8 @@ impl Progress {
 
     /// Behind a packet that a request sends.
     fn behind_packet(self, packet: Packet<'_>) -> Option<Progress>
-        requires { IsWithinBounds self }
+        requires bounds { IsWithinBounds self }
+        requires whole { IsPacket (packet_value packet) }
         ensures progress { result ≡ behind_packet self (packet_value packet.entry) }
         ensures within { IfSome result IsWithinBounds }
     {
@@ -131,14 +135,14 @@ impl Progress {
     }
 
     /// Behind the records of a packet.
-    fn behind_records(self, records: Records<'_>) -> Option<Progress>
+    #[tactic(auto, using(crate::proofs::Records::records_more, crate::proofs::Records::records_stop, crate::proofs::Records::records_end))]
+    fn behind_records(self, mut records: Records<'_>) -> Option<Progress>
         requires { IsWithinBounds self }
         ensures progress { result ≡ behind_records self records.entry }
         ensures within { IfSome result IsWithinBounds }
     {
         let mut progress = self;
-        let mut left = records;
-        while let Some(octets) = left.next() {
+        while let Some(octets) = records.next() {
             progress = progress.behind_record(octets)?;
         }
         Some(progress)
@@ -147,11 +151,19 @@ impl Progress {
     /// Behind one more record.
     fn behind_record(self, octets: &[u8]) -> Option<Progress>
         requires { IsWithinBounds self }
-        ensures progress { result ≡ behind_records self (octets.now ∷ []) }
+        ensures progress { result ≡ with_records self (self.records + 1) (self.octets + (length octets.now + 4)) }
         ensures within { IfSome result IsWithinBounds }
     {
-        let records = self.records + 1;
-        let octets = self.octets + octets.len() as u64 + CDR_HEADER_OCTETS;
+        let octets = octets.len() as u64 + CDR_HEADER_OCTETS;
+        self.with_records(self.records + 1, self.octets + octets)
+    }
+
+    /// With so many records, and so many octets of their CDRs.
+    fn with_records(self, records: u64, octets: u64) -> Option<Progress>
+        requires { IsWithinBounds self }
+        ensures progress { result ≡ with_records self records octets }
+        ensures within { IfSome result IsWithinBounds }
+    {
         if records > MOST_RECORDS || octets > MOST_OCTETS {
             return None;
         }

@@ -1,6 +1,6 @@
 ghost use Rattle.std.specs.Prelude.{◌≡◌, ◌+◌, ◌*◌, ◌++◌, ◌==◌, ◌<◌, ◌≤◌, ◌^◌, [], ◌∷◌, length, map, true, false, MatchOption, option_map, IfOk, IfSome, OnOk, is_some, unwrap_or};
 ghost use Rattle.std.specs.Option.{SomeIff};
-ghost use Rattle.cgf_top.specs.Packet.{lent_parts};
+ghost use Rattle.gtpp_message.specs.Packet.{lent_parts};
 ghost use Rattle.hex.specs.Hex.{decode_of};
 ghost use Rattle.cgf_top.specs.ScriptText.{address_of, cut_at, decoded, lent_line, ip_of, is_blank, line_size, at_most, digits_from, has_number_form, number_up_to, octets_of, raw_lines, with_word, without_return, words_of};
 

@@ -1,11 +1,7 @@
-use Rattle.std.proofs.Common.{◌≡◌, ◌++◌, map, length}
+use Rattle.std.proofs.Common.{◌≡◌, ◌++◌, map, drop}
 use Rattle.gw_base.specs.Nearest.{nearest}
-use Rattle.cgf_top.specs.Answer.{wire_numbers}
 use Rattle.cgf_top.proofs.gateway_book.answer.named_numbers.Given as goal
 
--- the numbers so far, and those of the octets that are left, are all of them
-abbrev pub invariant-loop-left : goal.invariant-loop-left
-invariant-loop-left l = l.numbers.items ++ map (nearest l.top) (wire_numbers l.left) ≡ map (nearest l.top) (wire_numbers l.value)
-
-abbrev pub decreases-loop-left : goal.decreases-loop-left
-decreases-loop-left l = length l.left
+-- the numbers so far, and those that are left, are all of them
+abbrev pub invariant-loop-place : goal.invariant-loop-place
+invariant-loop-place l = l.named.items ++ map (nearest l.top) (drop l.place l.numbers) ≡ map (nearest l.top) l.numbers

@@ -1,10 +1,12 @@
 ghost use Rattle.std.specs.Prelude.{◌≡◌};
 ghost use Rattle.std.specs.List.{list_all};
-ghost use Rattle.ber_frame.specs.Checking.{is_one_value};
+ghost use Rattle.ber_frame.specs.Checked.{is_one_value};
+ghost use Rattle.gtpp_message.specs.Packet.{IsPacket};
 ghost use Rattle.gtpp_message.specs.Reading as of;
 ghost use Rattle.gtpp_message.specs.Values.{message_value, packet_value, transfer_value};
+ghost use Rattle.gtpp_message.specs.Writing.{IsSendableMessage, IsSendableTransfer};
 ghost use Rattle.cgf_top.specs.PreparedValues.{prepared_value};
-ghost use Rattle.cgf_top.specs.Preparing.{has_values, is_stray, prepared_from, prepared_of, refused, requested, sends_values};
+ghost use Rattle.cgf_top.specs.Preparing.{IsWhole, has_values, is_stray, prepared_from, prepared_of, refused, requested, sends_values};
 
 use gtpp_message::{Message, Packet, Reading, Records, Transfer, Why, read};
 use transfer_cmd::cause;
@@ -59,7 +61,8 @@ const BER_FORMAT: u8 = 1;
 /// is sent to a gateway; the body isn't one of the type; a record isn't what its format says. It
 /// takes no memory.
 pub fn prepare(octets: &[u8]) -> Prepared<'_>
-    ensures { prepared_value result ≡ prepared_of octets.now }
+    ensures prepared { prepared_value result ≡ prepared_of octets.now }
+    ensures whole { IsWhole (prepared_value result) }
 {
     match read(octets) {
         Reading::Drop(why) => Prepared::Drop(why),
@@ -75,7 +78,8 @@ pub fn prepare(octets: &[u8]) -> Prepared<'_>
 
 /// A message of this type and of another version.
 fn other_version<'a>(kind: u8, number: u16) -> Prepared<'a>
-    ensures { prepared_value result ≡ prepared_from (of.OtherVersion kind number) }
+    ensures prepared { prepared_value result ≡ prepared_from (of.OtherVersion kind number) }
+    ensures whole { IsWhole (prepared_value result) }
 {
     if kind == VERSION_NOT_SUPPORTED {
         Prepared::Drop(Why::Stray)
@@ -86,7 +90,8 @@ fn other_version<'a>(kind: u8, number: u16) -> Prepared<'a>
 
 /// A message of this type with a body that isn't one of the type, for which this cause stands.
 fn refused<'a>(kind: u8, cause: u8, number: u16) -> Prepared<'a>
-    ensures { prepared_value result ≡ prepared_from (of.Refused kind cause number) }
+    ensures prepared { prepared_value result ≡ prepared_from (of.Refused kind cause number) }
+    ensures whole { IsWhole (prepared_value result) }
 {
     if is_stray(kind) {
         Prepared::Drop(Why::Stray)
@@ -113,7 +118,9 @@ fn is_stray(kind: u8) -> bool
 
 /// A message that was read.
 fn received(number: u16, message: Message<'_>) -> Prepared<'_>
-    ensures { prepared_value result ≡ prepared_from (of.Message number (message_value message.entry)) }
+    requires { IsSendableMessage (message_value message) }
+    ensures prepared { prepared_value result ≡ prepared_from (of.Message number (message_value message.entry)) }
+    ensures whole { IsWhole (prepared_value result) }
 {
     match message {
         Message::EchoRequest | Message::EchoResponse { .. } | Message::NodeAliveRequest { .. } => {
@@ -130,7 +137,9 @@ fn received(number: u16, message: Message<'_>) -> Prepared<'_>
 
 /// A Data Record Transfer Request that was read.
 fn requested(number: u16, body: Transfer<'_>) -> Prepared<'_>
-    ensures { prepared_value result ≡ requested number (transfer_value body.entry) }
+    requires { IsSendableTransfer (transfer_value body) }
+    ensures prepared { prepared_value result ≡ requested number (transfer_value body.entry) }
+    ensures whole { IsWhole (prepared_value result) }
 {
     if sends_values(&body) {
         Prepared::Request { number, body }
@@ -144,16 +153,20 @@ fn requested(number: u16, body: Transfer<'_>) -> Prepared<'_>
 
 /// Whether the records that a request sends are what their format says.
 fn sends_values(body: &Transfer<'_>) -> bool
+    requires { IsSendableTransfer (transfer_value body.now) }
     ensures { result ≡ sends_values (transfer_value body.now) }
 {
     match body {
-        Transfer::Send(packet) | Transfer::Possible(packet) => has_values(*packet),
-        Transfer::Cancel(_) | Transfer::Release(_) => true,
+        Transfer::Send(packet) => has_values(*packet),
+        Transfer::Possible(packet) => has_values(*packet),
+        Transfer::Cancel(_) => true,
+        Transfer::Release(_) => true,
     }
 }
 
 /// Whether each record of a packet of format 1 is one BER value.
 fn has_values(packet: Packet<'_>) -> bool
+    requires { IsPacket (packet_value packet) }
     ensures { result ≡ has_values (packet_value packet.entry) }
 {
     match packet {
@@ -165,14 +178,21 @@ fn has_values(packet: Packet<'_>) -> bool
 }
 
 /// Whether each of these records is one BER value.
-fn are_values(records: Records<'_>) -> bool
+#[tactic(auto, using(crate::proofs::Records::all_more, crate::proofs::Records::all_but_one))]
+fn are_values(mut records: Records<'_>) -> bool
     ensures { result ≡ list_all is_one_value records.entry }
 {
-    let mut left = records;
-    while let Some(octets) = left.next() {
-        if ber_frame::check(octets).is_err() {
+    while let Some(octets) = records.next() {
+        if !is_one_value(octets) {
             return false;
         }
     }
     true
+}
+
+/// Whether a record is one BER value.
+fn is_one_value(octets: &[u8]) -> bool
+    ensures { result ≡ is_one_value octets.now }
+{
+    ber_frame::check(octets).is_ok()
 }
