@@ -4,7 +4,8 @@ use Rattle.gw_base.specs.declared.tag.Tag.{Tag}
 use Rattle.ber_frame.specs.declared.fault.BerFault.{BerFault}
 use Rattle.ber_frame.specs.declared.fault.BerKind.TheVariants.{Trailing}
 use Rattle.ber_frame.specs.Faults.{fault_at}
-use Rattle.ber_frame.specs.Walk.{Opened, Place, place, entered, step_from, after_step, follow, run, Fate, last, finish, Ends, Walks}
+use Rattle.ber_frame.specs.Checked.{last}
+use Rattle.ber_frame.specs.Walk.{Opened, Place, place, entered, step_from, after_step, follow, run, Fate, finish, Ends, Walks}
 
 abbrev Comes : Type 0
 Comes = Option (Result Place BerFault)

@@ -5,3 +5,4 @@ pub mod Stops
 pub mod Fates
 pub mod Identifiers
 pub mod Octets
+pub mod Checks

@@ -9,7 +9,8 @@ use Rattle.ber_frame.specs.declared.fault.BerKind.{BerKind}
 use Rattle.ber_frame.specs.declared.fault.BerKind.TheVariants.{Trailing, TooDeep}
 use Rattle.ber_frame.specs.Value.{are_over, BerValue, IsOneValue}
 use Rattle.ber_frame.specs.Faults.{fault_at, HeadFails, AfterHead, InnerFails, ContentsFail, ValueFails, BerFails}
-use Rattle.ber_frame.specs.Walk.{Opened, Place, place, open_with, at_contents, with_tag, entered, without_tag, Fate, last, finish, Ends, Walks}
+use Rattle.ber_frame.specs.Checked.{last}
+use Rattle.ber_frame.specs.Walk.{Opened, Place, place, open_with, at_contents, with_tag, entered, without_tag, Fate, finish, Ends, Walks}
 use Rattle.ber_frame.proofs.Heads.{IsOctets, head_reads, head_fails}
 use Rattle.ber_frame.proofs.Values.{value_long, Fronted, value_decide}
 use Rattle.ber_frame.proofs.Walks.{fate_goes, fate_stops, fate_ends, step_into, Passes, InnerPasses, row_passes, enters_so, value_passes, outer_passes}
@@ -117,7 +118,7 @@ pub accepted : (octets : List ℕ) (tag : Tag) (result : Result Tag BerFault) �
 accepted octets tag result walks is =
     front_ends octets [] tag result is (subst (λ (w : List ℕ). Walks w result) (sym (append-nil octets)) walks)
 
-followed : (tag : Tag) (at : ℕ) (rest : List ℕ) → rest ≢ [] → last tag at rest ≡ err (fault_at at Trailing)
+pub followed : (tag : Tag) (at : ℕ) (rest : List ℕ) → rest ≢ [] → last tag at rest ≡ err (fault_at at Trailing)
 followed tag at [] some = absurd (some refl)
 followed tag at (a ∷ rest) some = refl
 
@@ -129,7 +130,7 @@ refused octets fault result walks (inr h) =
     ∙ followed h.3.0 (length h.0) h.1 h.4 ∙ ap err (sym h.5)
 
 -- every octets are a value or have a first fault
-data Judged (octets : List ℕ) : Type 0 where
+pub data Judged (octets : List ℕ) : Type 0 where
   right : (tag : Tag) → BerValue 32 octets tag → Judged octets
   wrong : (fault : BerFault) → BerFails octets fault → Judged octets
 
@@ -139,7 +140,7 @@ judge_rest octets (a ∷ rest) f e =
     let some : f.rest ≢ [] = λ none. absurd (cc (e, none)) in
     wrong (fault_at (length f.value) Trailing) (inr (f.value, f.rest, f.joined, f.is_value, some, refl))
 
-judge : (octets : List ℕ) → IsOctets octets → Judged octets
+pub judge : (octets : List ℕ) → IsOctets octets → Judged octets
 judge octets small =
     elim (value_decide 32 0 octets small) [
       | inl f ↦ judge_rest octets f.rest f refl

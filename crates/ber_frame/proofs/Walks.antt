@@ -132,7 +132,7 @@ contents_pass IsValue depth passes long start from true (Some size) contents mor
     subst (λ (n : ℕ). PassesContents (at_contents start from (contents ++ more) opened true (Some n)) (place (from + length contents) more opened)) h.0
     (definite_passes IsValue depth passes long start from contents more opened deep h.1 h.2 h.3)
 
-is_allowed : (IsValue : List ℕ → Type 0) (constructed : Bool) (size : Option ℕ) (contents : List ℕ) → IsContents IsValue constructed size contents → IsAllowed constructed size
+pub is_allowed : (IsValue : List ℕ → Type 0) (constructed : Bool) (size : Option ℕ) (contents : List ℕ) → IsContents IsValue constructed size contents → IsAllowed constructed size
 is_allowed IsValue false None contents h = absurd h
 is_allowed IsValue true None contents h = refl
 is_allowed IsValue constructed (Some size) contents h = tt

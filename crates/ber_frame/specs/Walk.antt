@@ -3,10 +3,11 @@ use Rattle.std.specs.Prelude.{◌≡◌, ℕ, zero, suc, ◌+◌, ◌-◌, ◌*�
 use Rattle.gw_base.specs.declared.tag.Tag.{Tag}
 use Rattle.ber_frame.specs.declared.fault.BerFault.{BerFault}
 use Rattle.ber_frame.specs.declared.fault.BerKind.{BerKind}
-use Rattle.ber_frame.specs.declared.fault.BerKind.TheVariants.{Cut, Trailing, TooDeep}
+use Rattle.ber_frame.specs.declared.fault.BerKind.TheVariants.{Cut, TooDeep}
 use Rattle.ber_frame.specs.Value.{are_over}
 use Rattle.ber_frame.specs.Faults.{fault_at}
 use Rattle.ber_frame.specs.Reading.{head_at}
+use Rattle.ber_frame.specs.Checked.{last}
 
 -- A constructed value that was entered: whether its length is indefinite, and, where it isn't, what follows it within
 -- what encloses it.
@@ -104,10 +105,6 @@ run (suc steps) p = follow (run steps) p p.opened
 pub record Fate (p : Place) (outcome : Result Place BerFault) : Type 0 where
   pub steps : ℕ
   pub comes : run steps p ≡ Some outcome
-
-abbrev pub last : Tag → ℕ → List ℕ → Result Tag BerFault
-last tag at [] = Ok tag
-last tag at (octet ∷ octets) = Err (fault_at at Trailing)
 
 abbrev pub finish : Tag → Result Place BerFault → Result Tag BerFault
 finish tag (Ok p) = last tag p.at p.window

@@ -5,6 +5,7 @@ ghost use Rattle.ber_frame.specs.Head.{IsIdentifier};
 ghost use Rattle.ber_frame.specs.Value.{BerValue};
 ghost use Rattle.ber_frame.specs.Faults.{IdentifierRefused, BerFails};
 ghost use Rattle.ber_frame.specs.Reading.{whole_identifier};
+ghost use Rattle.ber_frame.specs.Checked.{checked};
 ghost use Rattle.ber_frame.specs.Walk.{Walks};
 
 use crate::fault::{BerFault, BerKind};
@@ -18,6 +19,7 @@ use gw_base::Tag;
 pub fn check(octets: &[u8]) -> Result<Tag, BerFault>
     ensures accepts { (tag : Tag) → (result ≡ Ok tag) ↔ BerValue 32 octets.now tag }
     ensures fails { (fault : BerFault) → (result ≡ Err fault) ↔ BerFails octets.now fault }
+    ensures reads { result ≡ checked octets.now }
 {
     walk_through(octets)
 }

@@ -5,6 +5,7 @@
 mod fault;
 mod frame;
 mod head;
+pub mod laws;
 mod walk;
 
 pub use fault::{BerFault, BerKind};

@@ -1,5 +1,6 @@
 use Rattle.std.proofs.Common.{arith}
 use Rattle.ber_frame.proofs.Octets.{are_octets}
+use Rattle.ber_frame.proofs.Checks.{walk_reads}
 use Rattle.ber_frame.proofs.Stops.{accepts, fails}
 use Rattle.ber_frame.proofs.frame.check.Goals as goal
 
@@ -8,3 +9,6 @@ returns-clause-accepts c = accepts c.args.octets.now c.walk_through.result (are_
 
 pub returns-clause-fails : goal.returns-clause-fails
 returns-clause-fails c = fails c.args.octets.now c.walk_through.result (are_octets c.args.octets.now (λ i. omega (arith, c.type_inv.octets i))) c.walk_through.ensures
+
+pub returns-clause-reads : goal.returns-clause-reads
+returns-clause-reads c = walk_reads c.args.octets.now c.walk_through.result (are_octets c.args.octets.now (λ i. omega (arith, c.type_inv.octets i))) c.walk_through.ensures
