@@ -105,9 +105,9 @@ records_length (suc count) octets =
 record IsForm (count format version : ℕ) (found : Option packet.PacketForm) : Type 0 where
   form : packet.PacketForm
   is : found ≡ Some form
-  format : form.format ≡ format
-  version : form.version ≡ version
-  count : length form.records ≡ count
+  of_format : form.format ≡ format
+  of_version : form.version ≡ version
+  so_many : length form.records ≡ count
 
 form_inside : (c : ℕ) (v : List ℕ) (count format version : ℕ) (value : List ℕ) (none : Bool) (f w : ℕ) (records : Option (List (List ℕ))) → IsOfLength c records →
     option_map (λ (p : packet.PacketForm). packet.Full c p.format p.version v) (cond none None (option_map (λ rs. let p : packet.PacketForm = record { format = f; version = w; records = rs } in p) records))
@@ -117,7 +117,7 @@ form_inside c v count format version value true f w records h e = cc
 form_inside c v count format version value false f w None h e = cc
 form_inside c v count format version value false f w (Some records) h e =
     let number : c ≡ count = cc in
-    record { form = record { format = f; version = w; records = records }; is = refl; format = cc; version = cc; count = h ∙ number }
+    record { form = record { format = f; version = w; records = records }; is = refl; of_format = cc; of_version = cc; so_many = h ∙ number }
 
 full_form : (spells : List ℕ) (count format version : ℕ) (value : List ℕ) → packet.full_packet spells ≡ Some (packet.Full count format version value) →
     IsForm count format version (packet.packet_of spells)
@@ -142,7 +142,7 @@ pub records_count : (count format version : ℕ) (value : List ℕ) → packet.I
     length (packet.records_of (packet.Full count format version value)) ≡ count
 records_count count format version value is =
     let form = form_of count format version value is in
-    ap (λ (found : Option packet.PacketForm). length (option_map_or (λ (p : packet.PacketForm). p.records) found [])) form.is ∙ form.count
+    ap (λ (found : Option packet.PacketForm). length (option_map_or (λ (p : packet.PacketForm). p.records) found [])) form.is ∙ form.so_many
 
 -- the records that a packet's value files are those of the packet
 pub records_filed : (key : PacketKey) (moment count format version : ℕ) (value : List ℕ) → packet.IsPacket (packet.Full count format version value) →
@@ -150,8 +150,8 @@ pub records_filed : (key : PacketKey) (moment count format version : ℕ) (value
 records_filed key moment count format version value is =
     let form = form_of count format version value is in
     ap (records_in key moment) form.is
-    ∙ ap (λ f. records_from key moment f form.form.version 0 form.form.records) form.format
-    ∙ ap (λ v. records_from key moment format v 0 form.form.records) form.version
+    ∙ ap (λ f. records_from key moment f form.form.version 0 form.form.records) form.of_format
+    ∙ ap (λ v. records_from key moment format v 0 form.form.records) form.of_version
     ∙ ap (λ (found : Option packet.PacketForm). records_from key moment format version 0 (option_map_or (λ (p : packet.PacketForm). p.records) found [])) (sym form.is)
 
 -- the first of the records is filed

@@ -1,7 +1,7 @@
 -- What a gateway makes of a datagram before it looks at its history. The first condition that holds decides: those of the
 -- reading of datagrams, among them, once the type is known, that no such message is sent to a gateway, and last that a
 -- record isn't what its format says.
-use Rattle.std.specs.Prelude.{ℕ, Bool, true, not, ◌==◌, ◌||◌, if◌then◌else◌, List}
+use Rattle.std.specs.Prelude.{ℕ, Bool, true, ◌==◌, ◌||◌, if◌then◌else◌, List}
 use Rattle.std.specs.List.{list_all}
 use Rattle.ber_frame.specs.Checked.{is_one_value}
 use Rattle.gtpp_message.specs.Message.{MessageValue, TransferValue, TransferRequest, Send, Possible, Cancel, Release}

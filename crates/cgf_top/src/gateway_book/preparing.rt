@@ -17,7 +17,9 @@ pub enum Prepared<'a> {
     /// It isn't answered.
     Drop(Why),
     /// A message of another version of GTP', which Version Not Supported answers.
-    OtherVersion { number: u16 },
+    OtherVersion {
+        number: u16,
+    },
     /// A Data Record Transfer Request that can't be read, or has a record that can't be decoded.
     Refused {
         /// The cause that answers it: 177, 193, 201 or 202.
@@ -171,7 +173,8 @@ fn has_values(packet: Packet<'_>) -> bool
 {
     match packet {
         Packet::Full {
-            format: BER_FORMAT, ..
+            format: BER_FORMAT,
+            ..
         } => are_values(packet.records()),
         _ => true,
     }

@@ -193,7 +193,9 @@ fn is_built_packet(packet: Packet<'_>) -> bool
     match packet {
         Packet::Empty => true,
         Packet::Full {
-            format, version, ..
+            format,
+            version,
+            ..
         } => is_built_kind(cdr_kind(format, version)),
     }
 }
