@@ -9,6 +9,8 @@ ghost use Rattle.cgf_top.specs.Run.{EndsByScript, EndsByWhole, IsRefused, TakesU
 ghost use Rattle.cgf_top.specs.declared.world_script.line.Line.{Line};
 ghost use Rattle.cgf_top.specs.declared.world_script.refusal.Refusal.{Refusal};
 
+#[cfg(test)]
+mod datagram_tests;
 mod feed;
 mod file_writer;
 mod gateway_book;

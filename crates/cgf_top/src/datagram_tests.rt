@@ -1,0 +1,258 @@
+//! Datagrams that a gateway doesn't take as they are, and the largest ones, by values of the
+//! formats.
+
+ghost use Rattle.std.specs.Prelude.{◌<◌};
+
+use crate::{InputKind, Status, run_cgf};
+use gw_base::{MemorySink, MemorySource, Octets};
+use std::test::Fail;
+
+/// How many octets a report has at most: that of the largest datagram has some 131,200.
+const SINK_OCTETS: usize = 1 << 18;
+
+/// What is printed at the end for a gateway that only began.
+const NONE_FILED: &str = "gateway 1 entries 1 records 0 held 0 stranded 0\n";
+
+/// What stands in the header of a file behind its length and before the number of its CDRs, and
+/// what stands behind that number, in hexadecimal.
+const FILE_FORM: &str = "0000003460601080080010800800";
+
+const FILE_REST: &str = "000000010400000000000000000000FFFF0A000001000000000000000000";
+
+/// How a feed of these lines ends, and what it writes.
+fn feed(rt: &HostRuntime, lines: &str) -> Result<(Status, Vec<u8>), Fail> {
+    let alloc = rt.alloc();
+    let mut words = Vec::new(alloc);
+    for word in ["feed", "-"] {
+        words.push(String::from_str(alloc, word)?)?;
+    }
+    let script = Octets::of(alloc, lines.as_bytes())?;
+    let mut source = MemorySource::new(script, 4096, Vec::new(alloc));
+    let mut sink = MemorySink::new(alloc, SINK_OCTETS, Vec::new(alloc))?;
+    let status = run_cgf(alloc, &words, &mut source, &mut sink);
+    Ok((status, sink.octets().to_vec(alloc)?))
+}
+
+/// A line with a datagram.
+fn datagram_line(rt: &HostRuntime, datagram: &[u8]) -> Result<String, Fail> {
+    let digits = hex::encode_upper(rt.alloc(), datagram)?;
+    Ok(format!(in rt.alloc(); "in 10.0.1.1:40001 {digits}\n")?)
+}
+
+/// The lines of a script that sends this datagram alone.
+fn lines_of(rt: &HostRuntime, datagram: &[u8]) -> Result<String, Fail> {
+    let mut lines = datagram_line(rt, datagram)?;
+    lines.push_str("end\n")?;
+    Ok(lines)
+}
+
+/// Datagrams, and the line that is printed for each.
+const ANSWERED: [(&str, &str); 14] = [
+    // Another version is answered, but for the answer to another version.
+    ("0FF000000005", "4E0300000005"),
+    ("0F0300000005", "- Stray"),
+    // Header and type decide in this order.
+    ("4EF0000000", "- Short"),
+    ("5E0100000000", "- NotPrime"),
+    ("4E0100050000", "- Cut"),
+    ("4E6300000000", "- UnknownType"),
+    ("4E0500000000", "- Stray"),
+    // No message answers an Echo Response without its restart counter.
+    ("4E0200000001", "- Malformed"),
+    // The second of two records ends before its end of contents.
+    (
+        "4EF0001700007E01FC0012020106000005A00380010500053080040105",
+        "4EF10007000001B1FD00020000",
+    ),
+    // There is no command, it is none, and its number is that of an element of unknown length.
+    ("4EF000030000FC0000", "4EF10007000001CAFD00020000"),
+    ("4EF0000500007E05FC0000", "4EF10007000001C9FD00020000"),
+    ("4EF0000200000200", "4EF10007000001C1FD00020000"),
+    // A packet may be empty with the number of its records, and not with half a format version.
+    ("4EF0000600017E02FC000100", "4EF1000700010180FD00020001"),
+    ("4EF0000700027E02FC00020001", "4EF10007000201C9FD00020002"),
+];
+
+#[test]
+fn the_first_condition_decides(rt: HostRuntime) -> Result<(), Fail> {
+    let mut lines = String::new(rt.alloc());
+    let mut report = String::new(rt.alloc());
+    for (datagram, answer) in ANSWERED {
+        lines.push_str("in 10.0.1.1:40001 ")?;
+        lines.push_str(datagram)?;
+        lines.push_str("\n")?;
+        report.push_str(answer)?;
+        report.push_str("\n")?;
+    }
+    lines.push_str("end\n")?;
+    report.push_str("gateway 1 entries 2 records 0 held 0 stranded 0\n")?;
+    let (status, printed) = feed(&rt, &lines)?;
+    assert_eq!(rt; status, Status::Done);
+    assert_eq!(rt; printed.as_slice(), report.as_bytes());
+    Ok(())
+}
+
+/// A request that sends a packet of one record.
+const SEND: [u8; 22] = [
+    0x4E, 0xF0, 0, 16, 0, 0, 0x7E, 1, 0xFC, 0, 11, 1, 1, 6, 0, 0, 5, 0xA0, 3, 0x80, 1, 5,
+];
+
+#[test]
+fn a_datagram_that_is_cut_is_dropped(rt: HostRuntime) -> Result<(), Fail> {
+    let mut lines = String::new(rt.alloc());
+    let mut report = String::new(rt.alloc());
+    for length in 1..22 {
+        let (front, _) = SEND.split_at(length);
+        lines.push_str(&datagram_line(&rt, front)?)?;
+        report.push_str(if length < 6 { "- Short\n" } else { "- Cut\n" })?;
+    }
+    lines.push_str("end\n")?;
+    report.push_str(NONE_FILED)?;
+    let (status, printed) = feed(&rt, &lines)?;
+    assert_eq!(rt; status, Status::Done);
+    assert_eq!(rt; printed.as_slice(), report.as_bytes());
+    Ok(())
+}
+
+/// What each change of one bit of [`SEND`] comes to, octet by octet, the highest bit first.
+///
+/// `A`: accepted, and the record is filed. `N`: not built. `V`: answered by Version Not Supported.
+/// Dropped are `P` as not of GTP', `C` as cut, `U` as of an unknown type, and `S` as stray.
+/// Answered by a cause are `7` by 177, `3` by 193, `1` by 201, and `2` by 202.
+const OUTCOMES: [[u8; 8]; 22] = [
+    *b"VVVPAAAA",
+    *b"UUUUUUUS",
+    // The length of the message, without which there is no command.
+    *b"CCCCCCCC",
+    *b"CCC2CCCC",
+    // The sequence number.
+    *b"AAAAAAAA",
+    *b"AAAAAAAA",
+    // The command, of which 3 asks for a list of numbers.
+    *b"33333333",
+    *b"11111121",
+    // The packet. With a length of 9 a Cause stands behind it.
+    *b"32222222",
+    *b"33333333",
+    *b"33333313",
+    // How many records there are, their format, and its version, in which four bits say nothing.
+    *b"11111111",
+    *b"NNNNNNNN",
+    *b"AAAANNNN",
+    *b"NNNNNNNN",
+    // The record's length.
+    *b"11111111",
+    *b"11111111",
+    // The record: identifier and length of the outer value, and those of the inner one, which may
+    // not be constructed.
+    *b"AAAAAAAA",
+    *b"77777777",
+    *b"AA7AAAAA",
+    *b"77777777",
+    *b"AAAAAAAA",
+];
+
+/// The datagram with one bit changed.
+fn changed(place: usize, bit: u32) -> [u8; 22]
+    requires place { place < 22 }
+    requires bit { bit < 8 }
+{
+    let mut datagram = SEND;
+    datagram[place] ^= 128 >> bit;
+    datagram
+}
+
+/// What is printed for a datagram that comes to this, nothing where it isn't built.
+fn report_of(rt: &HostRuntime, datagram: &[u8; 22], outcome: u8) -> Result<String, Fail> {
+    let number = hex::encode_upper(rt.alloc(), &datagram[4..6])?;
+    let record = hex::encode_upper(rt.alloc(), &datagram[17..])?;
+    let answer = match outcome {
+        b'A' => "80",
+        b'7' => "B1",
+        b'3' => "C1",
+        b'1' => "C9",
+        b'2' => "CA",
+        b'V' => return Ok(format!(in rt.alloc(); "4E030000{number}\n{NONE_FILED}")?),
+        b'P' => return Ok(format!(in rt.alloc(); "- NotPrime\n{NONE_FILED}")?),
+        b'C' => return Ok(format!(in rt.alloc(); "- Cut\n{NONE_FILED}")?),
+        b'U' => return Ok(format!(in rt.alloc(); "- UnknownType\n{NONE_FILED}")?),
+        b'S' => return Ok(format!(in rt.alloc(); "- Stray\n{NONE_FILED}")?),
+        _ => return Ok(String::new(rt.alloc())),
+    };
+    let reply = format!(in rt.alloc(); "4EF10007{number}01{answer}FD0002{number}\n")?;
+    if outcome != b'A' {
+        return Ok(format!(in rt.alloc(); "{reply}{NONE_FILED}")?);
+    }
+    Ok(format!(in rt.alloc();
+        "{reply}file 1 00-0000000001.cdr 0000003D{FILE_FORM}00000001{FILE_REST}00056020{record}\n\
+        gateway 1 entries 3 records 1 held 0 stranded 0\n"
+    )?)
+}
+
+#[test]
+fn each_change_of_one_bit_comes_to_this(rt: HostRuntime) -> Result<(), Fail> {
+    for place in 0..22 {
+        for bit in 0..8 {
+            let datagram = changed(place, bit);
+            let outcome = OUTCOMES[place][bit as usize];
+            let (status, printed) = feed(&rt, &lines_of(&rt, &datagram)?)?;
+            let report = report_of(&rt, &datagram, outcome)?;
+            let ended = if outcome == b'N' {
+                let (place, kind) = (1, InputKind::NotBuilt);
+                Status::Input { place, kind }
+            } else {
+                Status::Done
+            };
+            assert_eq!(rt; status, ended, "octet {place}, bit {bit}");
+            assert_eq!(rt;
+                printed.as_slice(),
+                report.as_bytes(),
+                "octet {place}, bit {bit}"
+            );
+        }
+    }
+    Ok(())
+}
+
+/// What is printed for a packet with so many records under number 0, and the octets of the file.
+fn filed(rt: &HostRuntime, file: &str, records: u32) -> Result<String, Fail> {
+    Ok(format!(in rt.alloc();
+        "4EF1000700000180FD00020000\nfile 1 00-0000000001.cdr {file}\n\
+        gateway 1 entries 3 records {records} held 0 stranded 0\n"
+    )?)
+}
+
+#[test]
+fn the_largest_datagram_is_filed(rt: HostRuntime) -> Result<(), Fail> {
+    let mut datagram = Vec::new(rt.alloc());
+    datagram.extend_from_slice(&[0x4E, 0xF0, 0xFF, 0xDD, 0, 0, 0x7E, 1, 0xFC, 0xFF, 0xD8])?;
+    datagram.extend_from_slice(&[1, 1, 6, 0, 0xFF, 0xD2, 4, 0x82, 0xFF, 0xCE])?;
+    for _ in 0..65_486 {
+        datagram.push(0)?;
+    }
+    assert_eq!(rt; datagram.len(), 65_507);
+    let (_, record) = datagram.split_at(17);
+    let record = hex::encode_upper(rt.alloc(), record)?;
+    let file = format!(in rt.alloc(); "0001000A{FILE_FORM}00000001{FILE_REST}FFD26020{record}")?;
+    assert_eq!(rt; file.len(), 2 * 65_546);
+    let (status, printed) = feed(&rt, &lines_of(&rt, &datagram)?)?;
+    assert_eq!(rt; status, Status::Done);
+    assert_eq!(rt; printed.as_slice(), filed(&rt, &file, 1)?.as_bytes());
+    Ok(())
+}
+
+#[test]
+fn a_packet_of_255_records_is_filed(rt: HostRuntime) -> Result<(), Fail> {
+    let mut datagram = Vec::new(rt.alloc());
+    datagram.extend_from_slice(&[0x4E, 0xF0, 7, 2, 0, 0, 0x7E, 1, 0xFC, 6, 0xFD])?;
+    datagram.extend_from_slice(&[255, 1, 6, 0])?;
+    let mut file = format!(in rt.alloc(); "0000092B{FILE_FORM}000000FF{FILE_REST}")?;
+    for _ in 0..255 {
+        datagram.extend_from_slice(&[0, 5, 0xA0, 3, 0x80, 1, 5])?;
+        file.push_str("00056020A003800105")?;
+    }
+    let (status, printed) = feed(&rt, &lines_of(&rt, &datagram)?)?;
+    assert_eq!(rt; status, Status::Done);
+    assert_eq!(rt; printed.as_slice(), filed(&rt, &file, 255)?.as_bytes());
+    Ok(())
+}
