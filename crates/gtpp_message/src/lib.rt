@@ -3,7 +3,7 @@
 #![tactic(auto)]
 
 mod flaw;
-mod kind;
+pub mod kind;
 pub mod laws;
 mod message;
 mod needed;

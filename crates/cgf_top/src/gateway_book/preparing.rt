@@ -8,7 +8,7 @@ ghost use Rattle.gtpp_message.specs.Writing.{IsSendableMessage, IsSendableTransf
 ghost use Rattle.cgf_top.specs.PreparedValues.{prepared_value};
 ghost use Rattle.cgf_top.specs.Preparing.{IsWhole, has_values, is_stray, prepared_from, prepared_of, refused, requested, sends_values};
 
-use gtpp_message::{Message, Packet, Reading, Records, Transfer, Why, read};
+use gtpp_message::{Message, Packet, Reading, Records, Transfer, Why, kind, read};
 use transfer_cmd::cause;
 
 /// What a gateway makes of a datagram before it looks at its history.
@@ -38,20 +38,6 @@ pub enum Prepared<'a> {
         body: Transfer<'a>,
     },
 }
-
-/// The types of messages that no message to a gateway has (3GPP TS 32.295, clause 6.2.1).
-const VERSION_NOT_SUPPORTED: u8 = 3;
-
-const NODE_ALIVE_RESPONSE: u8 = 5;
-
-const REDIRECTION_REQUEST: u8 = 6;
-
-const REDIRECTION_RESPONSE: u8 = 7;
-
-const TRANSFER_RESPONSE: u8 = 241;
-
-/// The type of a Data Record Transfer Request.
-const TRANSFER_REQUEST: u8 = 240;
 
 /// The data record format of records in ASN.1 BER.
 const BER_FORMAT: u8 = 1;
@@ -83,7 +69,7 @@ fn other_version<'a>(kind: u8, number: u16) -> Prepared<'a>
     ensures prepared { prepared_value result ≡ prepared_from (of.OtherVersion kind number) }
     ensures whole { IsWhole (prepared_value result) }
 {
-    if kind == VERSION_NOT_SUPPORTED {
+    if kind == kind::VERSION_NOT_SUPPORTED {
         Prepared::Drop(Why::Stray)
     } else {
         Prepared::OtherVersion { number }
@@ -97,7 +83,7 @@ fn refused<'a>(kind: u8, cause: u8, number: u16) -> Prepared<'a>
 {
     if is_stray(kind) {
         Prepared::Drop(Why::Stray)
-    } else if kind == TRANSFER_REQUEST {
+    } else if kind == kind::TRANSFER_REQUEST {
         Prepared::Refused { cause, number }
     } else {
         Prepared::Drop(Why::Malformed { cause })
@@ -110,11 +96,11 @@ fn is_stray(kind: u8) -> bool
 {
     matches!(
         kind,
-        VERSION_NOT_SUPPORTED
-            | NODE_ALIVE_RESPONSE
-            | REDIRECTION_REQUEST
-            | REDIRECTION_RESPONSE
-            | TRANSFER_RESPONSE
+        kind::VERSION_NOT_SUPPORTED
+            | kind::NODE_ALIVE_RESPONSE
+            | kind::REDIRECTION_REQUEST
+            | kind::REDIRECTION_RESPONSE
+            | kind::TRANSFER_RESPONSE
     )
 }
 
