@@ -64,7 +64,7 @@ const ANSWERED: [(&str, &str); 14] = [
         "4EF0001700007E01FC0012020106000005A00380010500053080040105",
         "4EF10007000001B1FD00020000",
     ),
-    // There is no command, it is none, and its number is that of an element of unknown length.
+    // The command is missing; it is none of the four; an element's type is unknown, and so its length.
     ("4EF000030000FC0000", "4EF10007000001CAFD00020000"),
     ("4EF0000500007E05FC0000", "4EF10007000001C9FD00020000"),
     ("4EF0000200000200", "4EF10007000001C1FD00020000"),
