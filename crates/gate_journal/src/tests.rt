@@ -63,11 +63,11 @@ fn first_pair<A: Area>(rt: &impl Abort, journal: &mut Journal<A>) -> Result<[u8;
     Ok(pair)
 }
 
-fn front<A: Area>(rt: &impl Abort, area: &mut A) -> Result<[u8; 40], Fail> {
+// Reads the first octets of an area of 100.
+fn read_front<A: Area>(rt: &impl Abort, area: &mut A, into: &mut [u8]) -> Result<(), Fail> {
     assert_eq!(rt; area.length(), 100);
-    let mut octets = [0; 40];
-    area.read_at(0, &mut octets)?;
-    Ok(octets)
+    assert!(rt; into.len() <= 100);
+    Ok(area.read_at(0, into)?)
 }
 
 const FRONT: [u8; 40] = [
@@ -77,7 +77,7 @@ const FRONT: [u8; 40] = [
     0, 0, 0, 0, // generation
     0, 0, 0, 0, 0, 0, 0, 0, //
     0xA5, 0, 0, 0, 2, 0xAA, 0xBB, // an open gate, a length, a batch
-    0,    // a closed gate
+    0, // a closed gate
 ];
 
 #[test]
@@ -88,7 +88,9 @@ fn a_batch_stands_in_the_octets_of_the_format(rt: HostRuntime) -> Result<(), Fai
     let full = append(&rt, &mut journal, &[1; 56]);
     assert_eq!(&rt; full, Err(AppendFault::Full { free: 60 }));
     let mut area = journal.into_area();
-    assert_eq!(&rt; front(&rt, &mut area)?, FRONT);
+    let mut front = [0; 40];
+    read_front(&rt, &mut area, &mut front)?;
+    assert_eq!(&rt; front, FRONT);
     let mut journal = opened(&rt, alloc, area)?;
     assert_eq!(&rt; first_pair(&rt, &mut journal)?, [0xAA, 0xBB]);
     append(&rt, &mut journal, &[1; 55])?;
@@ -122,17 +124,17 @@ const MADE: [[u64; 4]; 5] = [
     [5, 1, 5, 1],
 ];
 
-fn calls_after_making(
-    rt: &impl Abort,
-    alloc: Global,
-    call: u64,
-    fate: Fate,
-) -> Result<(u64, u64), Fail> {
-    let Err((fault, mut area)) = open(rt, alloc, area(alloc, call, fate)?) else {
+// The area that an opening hands back which broke off at this call.
+fn made_in_part(rt: &impl Abort, alloc: Global, call: u64, fate: Fate) -> Result<MemoryArea, Fail> {
+    let Err((fault, area)) = open(rt, alloc, area(alloc, call, fate)?) else {
         panic!(rt; "opened")
     };
-    assert_eq!(rt; fault, OpenFault::Device);
-    assert_eq!(rt; area.calls(), call);
+    assert_eq!(rt; (fault, area.calls()), (OpenFault::Device, call));
+    Ok(area)
+}
+
+// The end that the next opening finds, and how many calls it makes.
+fn found_anew(rt: &impl Abort, alloc: Global, mut area: MemoryArea) -> Result<(u64, u64), Fail> {
     area.revive();
     area.arm(plan(alloc, 0, Fate::Runs)?);
     let journal = opened(rt, alloc, area)?;
@@ -143,7 +145,8 @@ fn calls_after_making(
 fn an_area_whose_making_broke_off_has_no_batch(rt: HostRuntime) -> Result<(), Fail> {
     for (call, row) in (1..).zip(MADE) {
         for (fate, calls) in FATES.iter().zip(row) {
-            let found = calls_after_making(&rt, rt.alloc(), call, *fate)?;
+            let area = made_in_part(&rt, rt.alloc(), call, *fate)?;
+            let found = found_anew(&rt, rt.alloc(), area)?;
             assert_eq!(&rt; found, (32, calls), "{fate:?} of call {call}");
         }
     }
@@ -158,8 +161,13 @@ const APPENDED: [[u64; 4]; 4] = [
     [32, 39, 32, 39],
 ];
 
-// The end that an opening finds. Where the call failed, the journal itself is opened again before, and ends there too.
-fn end_after_append(rt: &impl Abort, alloc: Global, call: u64, fate: Fate) -> Result<u64, Fail> {
+// The area of a journal whose append broke off, with the end where that ends that is opened again in place.
+fn appended_in_part(
+    rt: &impl Abort,
+    alloc: Global,
+    call: u64,
+    fate: Fate,
+) -> Result<(MemoryArea, Option<u64>), Fail> {
     let mut journal = opened(rt, alloc, area(alloc, 0, Fate::Runs)?)?;
     journal.arm(plan(alloc, call, fate)?);
     let answer = append(rt, &mut journal, &[0xAA, 0xBB]);
@@ -168,20 +176,22 @@ fn end_after_append(rt: &impl Abort, alloc: Global, call: u64, fate: Fate) -> Re
     assert_eq!(rt; journal.calls(), call);
     let is_open = journal.reopen().is_ok();
     assert_eq!(rt; is_open, !journal.stopped());
-    let end = journal.end();
-    let mut area = journal.into_area();
-    area.revive();
-    let found = opened(rt, alloc, area)?.end();
-    assert!(rt; found == end || !is_open);
-    Ok(found)
+    let end = if is_open { Some(journal.end()) } else { None };
+    Ok((journal.into_area(), end))
 }
 
 #[test]
 fn a_batch_stands_by_the_call_that_broke_off(rt: HostRuntime) -> Result<(), Fail> {
     for (call, row) in (1..).zip(APPENDED) {
         for (fate, end) in FATES.iter().zip(row) {
-            let found = end_after_append(&rt, rt.alloc(), call, *fate)?;
-            assert_eq!(&rt; found, end, "{fate:?} of call {call}");
+            let (area, in_place) = appended_in_part(&rt, rt.alloc(), call, *fate)?;
+            assert_eq!(&rt;
+                in_place.unwrap_or(end),
+                end,
+                "in place, {fate:?} of call {call}"
+            );
+            let found = found_anew(&rt, rt.alloc(), area)?;
+            assert_eq!(&rt; found, (end, 1), "{fate:?} of call {call}");
         }
     }
     Ok(())
