@@ -1,6 +1,5 @@
--- What a gateway makes of a datagram before it looks at its history. The first condition that holds decides: those of the
--- reading of datagrams, among them, once the type is known, that no such message is sent to a gateway, and last that a
--- record isn't what its format says.
+-- What a gateway makes of a datagram before it looks at its history (3GPP TS 32.295, clause 6.2). The first condition that
+-- holds decides: those of the header, whether such a message is sent to a gateway, those of the body, those of its records.
 use Rattle.std.specs.Prelude.{ℕ, Bool, true, ◌==◌, ◌||◌, if◌then◌else◌, List}
 use Rattle.std.specs.List.{list_all}
 use Rattle.ber_frame.specs.Checked.{is_one_value}
@@ -24,20 +23,20 @@ pub data PreparedValue : Type 0 where
 abbrev pub is_stray : ℕ → Bool
 is_stray kind = (kind == 3) || (kind == 5) || (kind == 6) || (kind == 7) || (kind == 241)
 
--- each record of a packet of format 1, ASN.1 BER, is one BER value
+-- each record of a packet of format 1, which is ASN.1 BER, is one BER value
 abbrev pub has_values : PacketValue → Bool
 has_values Empty = true
 has_values (Full count format version value) =
     if format == 1 then list_all is_one_value (records_of (Full count format version value)) else true
 
--- so are those of a request that sends a packet
+-- so is each record that a request sends in a packet of that format
 abbrev pub sends_values : TransferValue → Bool
 sends_values (Send packet) = has_values packet
 sends_values (Possible packet) = has_values packet
 sends_values (Cancel numbers) = true
 sends_values (Release numbers) = true
 
--- a request that is read: the cause 177 says that a record can't be decoded
+-- a request that was read: cause 177 says that a record of it can't be decoded
 abbrev pub requested : ℕ → TransferValue → PreparedValue
 requested number body = if sends_values body then Request number body else Refused 177 number
 

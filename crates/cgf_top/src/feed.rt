@@ -114,7 +114,6 @@ impl Feed {
     }
 
     /// Answers a request.
-    #[tactic(auto, using(crate::proofs::Bounds::bounded_behind))]
     fn serve(
         &mut self,
         alloc: Global,

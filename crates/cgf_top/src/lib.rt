@@ -32,7 +32,8 @@ use std::alloc::Global;
 pub use world_script::InputKind;
 
 /// Does what the words ask: `feed FILE` reads a script from the source, feeds a gateway with its
-/// datagrams, and writes the replies, the file and the gateway's counts to the sink.
+/// datagrams, and writes the reply to each or why it is dropped, the file and the gateway's counts to
+/// the sink.
 #[tactic(auto, using(crate::proofs::Ends::whole_text, crate::proofs::Streams::takes_none))]
 pub fn run_cgf<S: Source, K: Sink>(
     alloc: Global,
