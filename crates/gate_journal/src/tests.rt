@@ -3,7 +3,7 @@ ghost use Rattle.std.specs.Prelude.{◌≡◌, false, length, OnOk};
 ghost use Rattle.gate_journal.specs.Journal.{is_closed};
 
 use super::*;
-use area_disk::{Area, Drill, Fate, MemoryArea, Outcome3, Plan, QuietArea, Stop};
+use area_disk::{Area, Drill, Failed, Fate, MemoryArea, Outcome3, Plan, QuietArea, Stop};
 use std::alloc::{AllocError, Global};
 use std::process::Abort;
 use std::test::Fail;
@@ -52,7 +52,7 @@ fn append<A: Area>(
 }
 
 // Reads the first batch, which has two octets.
-fn first_pair<A: Area>(rt: &impl Abort, journal: &mut Journal<A>) -> Result<[u8; 2], Fail> {
+fn first_pair<A: Area>(rt: &impl Abort, journal: &mut Journal<A>) -> Result<[u8; 2], Device> {
     let mut pair = [0; 2];
     assert!(rt; !journal.is_closed());
     assert!(rt; journal.end() >= 39);
@@ -63,11 +63,11 @@ fn first_pair<A: Area>(rt: &impl Abort, journal: &mut Journal<A>) -> Result<[u8;
     Ok(pair)
 }
 
-// Reads the first octets of an area of 100.
-fn read_front<A: Area>(rt: &impl Abort, area: &mut A, into: &mut [u8]) -> Result<(), Fail> {
+// The first octets of an area of 100.
+fn read_front<A: Area>(rt: &impl Abort, area: &mut A, into: &mut [u8]) -> Result<(), Failed> {
     assert_eq!(rt; area.length(), 100);
     assert!(rt; into.len() <= 100);
-    Ok(area.read_at(0, into)?)
+    area.read_at(0, into)
 }
 
 const FRONT: [u8; 40] = [
@@ -80,27 +80,42 @@ const FRONT: [u8; 40] = [
     0, // a closed gate
 ];
 
+// The area of a journal with one batch of two octets, in which one of 56 doesn't fit.
+fn with_a_pair(rt: &impl Abort, alloc: Global) -> Result<MemoryArea, Fail> {
+    let mut journal = opened(rt, alloc, area(alloc, 0, Fate::Runs)?)?;
+    assert_eq!(rt; append(rt, &mut journal, &[0xAA, 0xBB]), Ok(()));
+    let full = append(rt, &mut journal, &[1; 56]);
+    assert_eq!(rt; full, Err(AppendFault::Full { free: 60 }));
+    Ok(journal.into_area())
+}
+
+// That area, opened again and filled with a batch of 55 octets.
+fn filled(rt: &impl Abort, alloc: Global, area: MemoryArea) -> Result<MemoryArea, Fail> {
+    let mut journal = opened(rt, alloc, area)?;
+    assert_eq!(rt; first_pair(rt, &mut journal), Ok([0xAA, 0xBB]));
+    assert_eq!(rt; append(rt, &mut journal, &[1; 55]), Ok(()));
+    assert_eq!(rt; journal.end(), 99);
+    Ok(journal.into_area())
+}
+
+// Why that area isn't opened once its first batch is said to be longer than the area.
+fn refusal_when_too_long(rt: &impl Abort, alloc: Global, mut area: MemoryArea) -> OpenFault {
+    assert_eq!(rt; area.length(), 100);
+    assert_eq!(rt; area.write_at(33, &[0, 0, 0, 0x40]), Ok(()));
+    match open(rt, alloc, area) {
+        Ok(_) => panic!(rt; "opened"),
+        Err((fault, _)) => fault,
+    }
+}
+
 #[test]
 fn a_batch_stands_in_the_octets_of_the_format(rt: HostRuntime) -> Result<(), Fail> {
-    let alloc = rt.alloc();
-    let mut journal = opened(&rt, alloc, area(alloc, 0, Fate::Runs)?)?;
-    append(&rt, &mut journal, &[0xAA, 0xBB])?;
-    let full = append(&rt, &mut journal, &[1; 56]);
-    assert_eq!(&rt; full, Err(AppendFault::Full { free: 60 }));
-    let mut area = journal.into_area();
+    let mut area = with_a_pair(&rt, rt.alloc())?;
     let mut front = [0; 40];
-    read_front(&rt, &mut area, &mut front)?;
+    assert_eq!(&rt; read_front(&rt, &mut area, &mut front), Ok(()));
     assert_eq!(&rt; front, FRONT);
-    let mut journal = opened(&rt, alloc, area)?;
-    assert_eq!(&rt; first_pair(&rt, &mut journal)?, [0xAA, 0xBB]);
-    append(&rt, &mut journal, &[1; 55])?;
-    assert_eq!(&rt; journal.end(), 99);
-    let mut area = journal.into_area();
-    assert_eq!(&rt; area.length(), 100);
-    area.write_at(33, &[0, 0, 0, 0x40])?;
-    let Err((fault, _)) = open(&rt, alloc, area) else {
-        panic!(&rt; "opened")
-    };
+    let area = filled(&rt, rt.alloc(), area)?;
+    let fault = refusal_when_too_long(&rt, rt.alloc(), area);
     assert_eq!(&rt; fault, OpenFault::NotOurs { at: 32 });
     Ok(())
 }
@@ -201,14 +216,13 @@ fn a_batch_stands_by_the_call_that_broke_off(rt: HostRuntime) -> Result<(), Fail
 fn end_after_draft(rt: &impl Abort, alloc: Global, is_founded: bool) -> Result<u64, Fail> {
     let area = QuietArea::new(alloc, 100)?;
     assert_eq!(rt; area.length(), 100);
-    let mut journal = match Journal::draft(alloc, area, ADDRESS, 0) {
-        Ok(journal) => journal,
-        Err((fault, _)) => return Err(fault)?,
+    let Ok(mut journal) = Journal::draft(alloc, area, ADDRESS, 0) else {
+        panic!(rt; "no draft")
     };
     if is_founded {
-        journal.found()?;
+        assert_eq!(rt; journal.found(), Ok(()));
     }
-    append(rt, &mut journal, &[0xAA, 0xBB])?;
+    assert_eq!(rt; append(rt, &mut journal, &[0xAA, 0xBB]), Ok(()));
     Ok(opened(rt, alloc, journal.into_area())?.end())
 }
 
