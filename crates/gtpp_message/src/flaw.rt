@@ -15,7 +15,7 @@ pub enum Flaw {
 }
 
 impl Flaw {
-    /// The cause that answers it (3GPP TS 32.295, clause 6.2.4.5.4).
+    /// The cause that answers it (3GPP TS 32.295, clause 6.2.4.6).
     pub fn cause(self) -> u8
         ensures { result ≡ cause_of self }
     {
