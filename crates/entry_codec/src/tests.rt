@@ -31,7 +31,10 @@ fn octets_of(alloc: Global, length: u8, kind: u8, body: &[u8]) -> Result<Vec<u8>
     Ok(octets)
 }
 
-/// A node's address, a number, and a packet of 11 octets.
+/// The value of a packet of one record.
+const VALUE: [u8; 11] = [1, 1, 6, 0, 0, 5, 0xA0, 3, 0x80, 1, 5];
+
+/// A node's address, a number, and that packet.
 const PACKET: [u8; 23] = [
     0x0A, 0, 0, 9, // node
     0, 0, 0, 0, 0, 1, 0, 0, // number
@@ -66,67 +69,68 @@ fn is_spelled(rt: &impl Abort, alloc: Global, act: Act<'_>, octets: &[u8]) -> Re
     Ok(())
 }
 
+/// What each kind records, kind by kind: how many octets the entry has, the act, and the octets
+/// behind the caller.
+const ACTS: [(u8, Act<'_>, &[u8]); 9] = [
+    (25, Act::Start, &[]),
+    (
+        32,
+        Act::Path {
+            node: NODE,
+            port: 3386,
+            counter: 7,
+        },
+        &[0x0A, 0, 0, 9, 0x0D, 0x3A, 7],
+    ),
+    (
+        48,
+        Act::File {
+            node: NODE,
+            number: 65_536,
+            packet: &VALUE,
+        },
+        &PACKET,
+    ),
+    (
+        48,
+        Act::Hold {
+            node: NODE,
+            number: 65_536,
+            packet: &VALUE,
+        },
+        &PACKET,
+    ),
+    (
+        37,
+        Act::Seal {
+            node: NODE,
+            number: 65_537,
+        },
+        &[0x0A, 0, 0, 9, 0, 0, 0, 0, 0, 1, 0, 1],
+    ),
+    (
+        41,
+        Act::Release {
+            node: NODE,
+            numbers: &[65_537],
+        },
+        &[0x0A, 0, 0, 9, 0, 0, 0, 1, 0, 0, 0, 0, 0, 1, 0, 1],
+    ),
+    (
+        49,
+        Act::Cancel {
+            node: NODE,
+            numbers: &[65_537, 9_223_372_036_854_775_807],
+        },
+        &NUMBERS,
+    ),
+    (25, Act::Tick, &[]),
+    (25, Act::Close, &[]),
+];
+
 #[test]
 fn each_act_has_its_spelling_and_its_cost(rt: HostRuntime) -> Result<(), Fail> {
-    let node = NODE;
-    let (number, packet) = (65_536, &PACKET[12..]);
-    let acts: [(u8, Act<'_>, &[u8]); 9] = [
-        (25, Act::Start, &[]),
-        (
-            32,
-            Act::Path {
-                node,
-                port: 3386,
-                counter: 7,
-            },
-            &[0x0A, 0, 0, 9, 0x0D, 0x3A, 7],
-        ),
-        (
-            48,
-            Act::File {
-                node,
-                number,
-                packet,
-            },
-            &PACKET,
-        ),
-        (
-            48,
-            Act::Hold {
-                node,
-                number,
-                packet,
-            },
-            &PACKET,
-        ),
-        (
-            37,
-            Act::Seal {
-                node,
-                number: 65_537,
-            },
-            &[0x0A, 0, 0, 9, 0, 0, 0, 0, 0, 1, 0, 1],
-        ),
-        (
-            41,
-            Act::Release {
-                node,
-                numbers: &[65_537],
-            },
-            &[0x0A, 0, 0, 9, 0, 0, 0, 1, 0, 0, 0, 0, 0, 1, 0, 1],
-        ),
-        (
-            49,
-            Act::Cancel {
-                node,
-                numbers: &[65_537, 9_223_372_036_854_775_807],
-            },
-            &NUMBERS,
-        ),
-        (25, Act::Tick, &[]),
-        (25, Act::Close, &[]),
-    ];
-    for (kind, (length, act, body)) in (1..).zip(acts) {
+    for (kind, (length, act, body)) in (1..).zip(ACTS) {
         let octets = octets_of(rt.alloc(), length, kind, body)?;
         is_spelled(&rt, rt.alloc(), act, &octets)?;
     }
