@@ -3,17 +3,17 @@ use Rattle.std.specs.Prelude.{ℕ, ◌==◌, ◌&&◌, ◌≤◌, Bool, List, ma
 use Rattle.indexmap.specs.IndexMap.{IndexMap, IsUnique, index_map_len}
 use Rattle.gw_base.specs.declared.place.Place.{Place}
 use Rattle.dup_buffer.specs.declared.held.Key.{Key}
-use Rattle.dup_buffer.specs.Copies.{Copy, most_copies}
+use Rattle.dup_buffer.specs.Copies.{HeldCopy, most_copies}
 
 abbrev pub is_key : Key → Key → Bool
 is_key key other = (key.node == other.node) && (key.number == other.number)
 
 -- the copy that an entry stands for
-abbrev pub copy_of : Key × Place → Copy
+abbrev pub copy_of : Key × Place → HeldCopy
 copy_of entry = record { node = record { 0 = entry.0.node }; number = entry.0.number; place = entry.1 }
 
 -- the copies that the entries stand for
-abbrev pub copies_of : List (Key × Place) → List Copy
+abbrev pub copies_of : List (Key × Place) → List HeldCopy
 copies_of entries = map copy_of entries
 
 -- each key stands once, and there are no more than may be held

@@ -36,11 +36,11 @@ pub struct Held {
 }
 
 impl Model for Held {
-    ghost use Rattle.dup_buffer.specs.Copies.{Copies};
+    ghost use Rattle.dup_buffer.specs.Copies.{HeldCopies};
     ghost use Rattle.dup_buffer.specs.Stored.{IsStored, copies_of};
     ghost use Rattle.indexmap.specs.IndexMap.{spare};
 
-    ghost Value = { Copies };
+    ghost Value = { HeldCopies };
 
     ghost view = { λ held. record { copies = copies_of held.places.entries; spare = spare held.places } };
 
