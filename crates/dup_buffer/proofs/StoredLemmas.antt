@@ -1,11 +1,10 @@
 -- What the entries of the map say of the copies that they stand for.
-use Rattle.std.proofs.Common.{◌≡◌, ℕ, ◌+◌, ◌-◌, ◌==◌, ◌&&◌, not, Bool, true, false, cond, List, [], ◌∷◌, length, filter, Option, None, Some, refl, sym, ap, subst, ◌∙◌, true≢false, ⊎_elim, arith}
+use Rattle.std.proofs.Common.{◌≡◌, ℕ, ◌+◌, ◌==◌, ◌&&◌, not, Bool, true, false, List, [], ◌∷◌, length, filter, refl, sym, ap, subst, ◌∙◌, true≢false, ⊎_elim, arith}
 use Rattle.std.proofs.lemmas.Bool.{eqb-true, eq-eqb}
 use Rattle.std.proofs.lemmas.Bool.Decides.{eqb_tells}
-use Rattle.std.proofs.lemmas.List.{length-map}
 use Rattle.std.proofs.lemmas.List.Filters.{length-filter_both}
 use Rattle.std.proofs.lemmas.List.Sums.{length-filter}
-use Rattle.std.proofs.lemmas.Map.Keys.{IsDistinct-cons, IsDistinct-head, IsDistinct-tail}
+use Rattle.std.proofs.lemmas.Map.Keys.{IsDistinct-head, IsDistinct-tail}
 use Rattle.std.specs.List.{AllByRecursion, IsDistinct, count_by}
 use Rattle.std.specs.Map.{keys_of, lookup, remove_entry}
 use Rattle.gw_base.specs.declared.place.Place.{Place}
@@ -82,7 +81,7 @@ copies_of-remove_entry key (e ∷ es) h = by (is_key key e.0) refl (copies_of-re
         → copies_of (remove_entry (is_key key) (e ∷ es)) ≡ without key.node key.number (copies_of (e ∷ es))
     by true p rest = rw (p, tested key e ∙ p)
         (sym (all_left key.node key.number (copies_of es)
-            (subst (λ (k : Key). AllByRecursion (λ later. is_copy k.node k.number later ≡ false) (copies_of es)) (sym (same_key key e.0 p)) others)))
+        (subst (λ (k : Key). AllByRecursion (λ later. is_copy k.node k.number later ≡ false) (copies_of es)) (sym (same_key key e.0 p)) others)))
     by false p rest = rw (p, tested key e ∙ p) (ap (λ left. copy_of e ∷ left) rest)
 
 pub copies_of-filter : (node : ℕ) (entries : List (Key × Place)) → copies_of (filter (λ e. not (e.0.node == node)) entries) ≡ without_node node (copies_of entries)

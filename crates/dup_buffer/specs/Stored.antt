@@ -1,5 +1,5 @@
 -- How the copies are stored: a map from their keys to their places, in the order of the list.
-use Rattle.std.specs.Prelude.{ℕ, ◌==◌, ◌&&◌, ◌≤◌, Bool, List, map}
+use Rattle.std.specs.Prelude.{◌==◌, ◌&&◌, ◌≤◌, Bool, List, map}
 use Rattle.indexmap.specs.IndexMap.{IndexMap, IsUnique, index_map_len}
 use Rattle.gw_base.specs.declared.place.Place.{Place}
 use Rattle.dup_buffer.specs.declared.held.Key.{Key}

@@ -13,7 +13,7 @@ pub enum HoldFault {
 impl fmt::Display for HoldFault {
     fn fmt<W: fmt::Write>(&self, f: &mut fmt::Formatter<W>) -> fmt::Result {
         f.write_str(match self {
-            HoldFault::Full => "as many copies are held as may be",
+            HoldFault::Full => "65,536 copies are held",
             HoldFault::NoMemory => "out of memory",
         })
     }

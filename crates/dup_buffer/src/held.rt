@@ -30,7 +30,7 @@ impl Key {
 
 /// The copies of possibly duplicated packets that a gateway holds, with the place of each in its
 /// journal, in the order in which they were held.
-#[derive(Drop)]
+#[derive(Debug, Drop)]
 pub struct Held {
     places: IndexMap<Key, Place>,
 }

@@ -15,7 +15,7 @@ returns-clause-value c =
     let before = c.self.inside.places.entries in
     let after = c.retain.new.self.entries in
     rw (← c.self.view_is)
-        (omega (arith, ap length (left c), length-map after copy_of, length-map before copy_of, count_by-is_of c.args.node.0 (copies_of before)))
+    (omega (arith, ap length (left c), length-map after copy_of, length-map before copy_of, count_by-is_of c.args.node.0 (copies_of before)))
 
 pub returns-clause-others : goal.returns-clause-others
 returns-clause-others c = rw (← c.self.view_is) (left c)

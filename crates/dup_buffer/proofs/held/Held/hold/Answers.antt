@@ -14,7 +14,8 @@ returns-clause-held c =
     let places = c.self.inside.places in
     let absent : get is_key places key ≡ None = place_of-copies_of key places.entries ∙ (rw (← c.self.view_is) at c.requires) in
     elim c.match-insert.branch [
-      in-Ok w ↦ rw (w.result-is, ← c.self.view_is)
+      | in-Ok w ↦ rw (w.result-is, ← c.self.view_is)
           (ap copies_of ((rw c.of.ensures at w.in-Ok.ensures.entries) ∙ insert_entry-new is_key places key c.args.place absent)
-            ∙ map-append copy_of places.entries ((key, c.args.place) ∷ []))
-    | in-Err w ↦ rw w.result-is tt ]
+          ∙ map-append copy_of places.entries ((key, c.args.place) ∷ []))
+      | in-Err w ↦ rw w.result-is tt
+    ]
