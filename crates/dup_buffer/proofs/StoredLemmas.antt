@@ -10,7 +10,7 @@ use Rattle.std.specs.Map.{keys_of, lookup, remove_entry}
 use Rattle.gw_base.specs.declared.place.Place.{Place}
 use Rattle.dup_buffer.specs.declared.held.Key.{Key}
 use Rattle.dup_buffer.specs.Copies.{AreApart, HeldCopy, is_copy, is_of, place_of, without, without_node}
-use Rattle.dup_buffer.specs.Stored.{copies_of, copy_of, is_key}
+use Rattle.dup_buffer.specs.Stored.{copies_of, copy_of, same_key}
 
 -- ---- tests of keys
 
@@ -24,16 +24,16 @@ flipped_number a b = ⊎_elim
     not_equal false e apart = e
     not_equal true e apart = absurd (apart (sym (eqb-true b a e)))
 
-flipped_key : (key other : Key) → is_key key other ≡ is_key other key
+flipped_key : (key other : Key) → same_key key other ≡ same_key other key
 flipped_key key other = λ i. flipped_number key.node other.node i && flipped_number key.number other.number i
 
 -- a copy's test is its key's
-tested : (key : Key) (entry : Key × Place) → is_copy key.node key.number (copy_of entry) ≡ is_key key entry.0
+tested : (key : Key) (entry : Key × Place) → is_copy key.node key.number (copy_of entry) ≡ same_key key entry.0
 tested key entry = flipped_key entry.0 key
 
 -- a copy is that of its key alone
-same_key : (key other : Key) → is_key key other ≡ true → key ≡ other
-same_key key other h = by (key.node == other.node) (key.number == other.number) refl refl h
+equal_keys : (key other : Key) → same_key key other ≡ true → key ≡ other
+equal_keys key other h = by (key.node == other.node) (key.number == other.number) refl refl h
   where
     by : (m n : Bool) → (key.node == other.node) ≡ m → (key.number == other.number) ≡ n → (m && n) ≡ true → key ≡ other
     by true true e f h = λ i. record { node = eqb-true key.node other.node e i; number = eqb-true key.number other.number f i }
@@ -42,23 +42,23 @@ same_key key other h = by (key.node == other.node) (key.number == other.number) 
 
 -- ---- look-ups
 
-pub place_of-copies_of : (key : Key) (entries : List (Key × Place)) → lookup (is_key key) entries ≡ place_of key.node key.number (copies_of entries)
+pub place_of-copies_of : (key : Key) (entries : List (Key × Place)) → lookup (same_key key) entries ≡ place_of key.node key.number (copies_of entries)
 place_of-copies_of key [] = refl
-place_of-copies_of key (e ∷ es) = by (is_key key e.0) refl (place_of-copies_of key es)
+place_of-copies_of key (e ∷ es) = by (same_key key e.0) refl (place_of-copies_of key es)
   where
-    by : (r : Bool) → is_key key e.0 ≡ r → lookup (is_key key) es ≡ place_of key.node key.number (copies_of es)
-        → lookup (is_key key) (e ∷ es) ≡ place_of key.node key.number (copies_of (e ∷ es))
+    by : (r : Bool) → same_key key e.0 ≡ r → lookup (same_key key) es ≡ place_of key.node key.number (copies_of es)
+        → lookup (same_key key) (e ∷ es) ≡ place_of key.node key.number (copies_of (e ∷ es))
     by true p rest = rw (p, tested key e ∙ p) refl
     by false p rest = rw (p, tested key e ∙ p) rest
 
 -- ---- copies apart
 
-apart_from_key : (key : Key) (entries : List (Key × Place)) → AllByRecursion (λ other. is_key key other ≡ false) (keys_of entries)
+apart_from_key : (key : Key) (entries : List (Key × Place)) → AllByRecursion (λ other. same_key key other ≡ false) (keys_of entries)
     → AllByRecursion (λ later. is_copy key.node key.number later ≡ false) (copies_of entries)
 apart_from_key key [] h = tt
 apart_from_key key (e ∷ es) h = (tested key e ∙ h.0, apart_from_key key es h.1)
 
-pub apart : (entries : List (Key × Place)) → IsDistinct is_key (keys_of entries) → AreApart (copies_of entries)
+pub apart : (entries : List (Key × Place)) → IsDistinct same_key (keys_of entries) → AreApart (copies_of entries)
 unfolding IsDistinct
 apart [] h = h
 apart (e ∷ es) h = (apart_from_key e.0 es h.0, apart es h.1)
@@ -69,19 +69,19 @@ all_left : (node number : ℕ) (copies : List HeldCopy) → AllByRecursion (λ c
 all_left node number [] h = refl
 all_left node number (copy ∷ copies) h = rw h.0 (ap (λ rest. copy ∷ rest) (all_left node number copies h.1))
 
-pub copies_of-remove_entry : (key : Key) (entries : List (Key × Place)) → IsDistinct is_key (keys_of entries)
-    → copies_of (remove_entry (is_key key) entries) ≡ without key.node key.number (copies_of entries)
+pub copies_of-remove_entry : (key : Key) (entries : List (Key × Place)) → IsDistinct same_key (keys_of entries)
+    → copies_of (remove_entry (same_key key) entries) ≡ without key.node key.number (copies_of entries)
 copies_of-remove_entry key [] h = refl
-copies_of-remove_entry key (e ∷ es) h = by (is_key key e.0) refl (copies_of-remove_entry key es (IsDistinct-tail is_key e.0 (keys_of es) h))
+copies_of-remove_entry key (e ∷ es) h = by (same_key key e.0) refl (copies_of-remove_entry key es (IsDistinct-tail same_key e.0 (keys_of es) h))
   where
     others : AllByRecursion (λ later. is_copy e.0.node e.0.number later ≡ false) (copies_of es)
-    others = apart_from_key e.0 es (IsDistinct-head is_key e.0 (keys_of es) h)
+    others = apart_from_key e.0 es (IsDistinct-head same_key e.0 (keys_of es) h)
 
-    by : (r : Bool) → is_key key e.0 ≡ r → copies_of (remove_entry (is_key key) es) ≡ without key.node key.number (copies_of es)
-        → copies_of (remove_entry (is_key key) (e ∷ es)) ≡ without key.node key.number (copies_of (e ∷ es))
+    by : (r : Bool) → same_key key e.0 ≡ r → copies_of (remove_entry (same_key key) es) ≡ without key.node key.number (copies_of es)
+        → copies_of (remove_entry (same_key key) (e ∷ es)) ≡ without key.node key.number (copies_of (e ∷ es))
     by true p rest = rw (p, tested key e ∙ p)
         (sym (all_left key.node key.number (copies_of es)
-        (subst (λ (k : Key). AllByRecursion (λ later. is_copy k.node k.number later ≡ false) (copies_of es)) (sym (same_key key e.0 p)) others)))
+        (subst (λ (k : Key). AllByRecursion (λ later. is_copy k.node k.number later ≡ false) (copies_of es)) (sym (equal_keys key e.0 p)) others)))
     by false p rest = rw (p, tested key e ∙ p) (ap (λ left. copy_of e ∷ left) rest)
 
 pub copies_of-filter : (node : ℕ) (entries : List (Key × Place)) → copies_of (filter (λ e. not (e.0.node == node)) entries) ≡ without_node node (copies_of entries)

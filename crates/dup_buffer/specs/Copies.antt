@@ -1,9 +1,11 @@
 -- The copies of possibly duplicated packets that a gateway holds.
-use Rattle.std.specs.Prelude.{ℕ, ◌==◌, ◌&&◌, not, Bool, List, Option, filter, find}
+use Rattle.std.specs.Prelude.{ℕ, ◌==◌, not, Bool, List, Option, filter, find}
 use Rattle.std.specs.List.{IsDistinct}
 use Rattle.std.specs.Option.{option_map}
 use Rattle.gw_base.specs.declared.address.NodeId.{NodeId}
+use Rattle.gw_base.specs.declared.held.HeldKey.{HeldKey}
 use Rattle.gw_base.specs.declared.place.Place.{Place}
+use Rattle.gw_base.specs.HeldKeys.{is_key}
 
 -- a copy: whose it is, which number it bears, and where it lies in the journal
 pub record HeldCopy : Type 0 where
@@ -20,13 +22,17 @@ pub record HeldCopies : Type 0 where
 abbrev pub most_copies : ℕ
 most_copies = 65536
 
+-- the key that a copy holds
+abbrev pub key_of : HeldCopy → HeldKey
+key_of copy = record { node = copy.node; number = copy.number }
+
 -- whether a copy is of a node
 abbrev pub is_of : ℕ → HeldCopy → Bool
 is_of node copy = copy.node.0 == node
 
 -- whether a copy is that of a node's number
 abbrev pub is_copy : ℕ → ℕ → HeldCopy → Bool
-is_copy node number copy = is_of node copy && (copy.number == number)
+is_copy node number copy = is_key node number (key_of copy)
 
 -- no two copies are of one node's number
 abbrev pub AreApart : List HeldCopy → Type 0

@@ -5,8 +5,8 @@ use Rattle.gw_base.specs.declared.place.Place.{Place}
 use Rattle.dup_buffer.specs.declared.held.Key.{Key}
 use Rattle.dup_buffer.specs.Copies.{HeldCopy, most_copies}
 
-abbrev pub is_key : Key → Key → Bool
-is_key key other = (key.node == other.node) && (key.number == other.number)
+abbrev pub same_key : Key → Key → Bool
+same_key key other = (key.node == other.node) && (key.number == other.number)
 
 -- the copy that an entry stands for
 abbrev pub copy_of : Key × Place → HeldCopy
@@ -18,5 +18,5 @@ copies_of entries = map copy_of entries
 
 -- each key stands once, and there are no more than may be held
 pub record IsStored {S : Type 0} (places : IndexMap Key Place S) : Type 0 where
-  pub unique : IsUnique is_key places
+  pub unique : IsUnique same_key places
   pub within : index_map_len places ≤ most_copies

@@ -6,7 +6,7 @@ use std::fmt;
 pub enum HoldFault {
     /// As many copies are held as a gateway may hold, 65,536.
     Full,
-    /// There was no memory for one more copy.
+    /// There was no memory for one more copy, and no spare room.
     NoMemory,
 }
 
