@@ -31,7 +31,7 @@ flipped_key key other = λ i. flipped_number key.node other.node i && flipped_nu
 tested : (key : Key) (entry : Key × Place) → is_copy key.node key.number (copy_of entry) ≡ same_key key entry.0
 tested key entry = flipped_key entry.0 key
 
--- a copy is that of its key alone
+-- keys that pass the test are equal
 equal_keys : (key other : Key) → same_key key other ≡ true → key ≡ other
 equal_keys key other h = by (key.node == other.node) (key.number == other.number) refl refl h
   where

@@ -5,6 +5,7 @@ use Rattle.gw_base.specs.declared.place.Place.{Place}
 use Rattle.dup_buffer.specs.declared.held.Key.{Key}
 use Rattle.dup_buffer.specs.Copies.{HeldCopy, most_copies}
 
+-- whether two keys are of one node's number
 abbrev pub same_key : Key → Key → Bool
 same_key key other = (key.node == other.node) && (key.number == other.number)
 

@@ -77,7 +77,8 @@ impl Held {
     /// Holds one more copy, which isn't held yet. It takes no memory where there is spare room.
     pub fn hold(&mut self, node: NodeId, number: Absolute, place: Place) -> Result<(), HoldFault>
         requires { place_of node.0 number self.old.copies ≡ None }
-        ensures held { OnOk result (self.new.copies ≡ self.old.copies ++ (record { node = node; number = number; place = place }) ∷ []) }
+        ensures held { OnOk result (self.new.copies ≡
+            self.old.copies ++ (record { node = node; number = number; place = place }) ∷ []) }
         ensures kept { OnErr result (self.new.copies ≡ self.old.copies) }
 
         ensures full { (result ≡ Err HoldFault.Full) ↔ (length self.old.copies ≡ most_copies) }
