@@ -1,3 +1,5 @@
+pub mod Content
 pub mod Fault
 pub mod Reading
+pub mod Room
 pub mod Spelling

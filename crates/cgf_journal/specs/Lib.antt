@@ -1,0 +1,6 @@
+pub mod Follows
+pub mod Format
+pub mod Keys
+pub mod Sound
+pub mod Tally
+pub mod Trail

@@ -1,0 +1,49 @@
+-- What is true of each trail, open or closed.
+use Rattle.std.specs.Prelude.{◌≡◌, ℕ, ◌+◌, ◌-◌, ◌*◌, ◌≤◌, true, List, [], ◌∷◌, ◌++◌, length, take, drop, All}
+use Rattle.area_disk.specs.declared.area.Area.{Ghosts}
+use Rattle.gw_base.specs.Buffer.{Buffered}
+use Rattle.gw_base.specs.declared.history.HistoryEntry.{HistoryEntry}
+use Rattle.gw_base.specs.declared.place.Place.{Place}
+use Rattle.gate_journal.specs.Format.{end_of, header_length, longest_batch}
+use Rattle.gate_journal.specs.Journal.{area_of, batches, end, front_of, is_closed, torn}
+use Rattle.gate_journal.specs.Moments.{Told}
+use Rattle.gate_journal.specs.declared.journal.Front.TheVariants.{Founded}
+use Rattle.gate_journal.specs.declared.journal.Journal.{Journal}
+use Rattle.entry_codec.specs.Content.{AreEntries, entries_of}
+use Rattle.entry_codec.specs.Room.{capacity_of}
+use Rattle.entry_codec.specs.Spelling.{entry_length}
+use Rattle.cgf_journal.specs.Format.{AreBatches, entries_in}
+use Rattle.cgf_journal.specs.Tally.{Tallies, tally_of}
+
+-- the places of entries that stand one after the other from this octet on
+abbrev pub places_from : ℕ → List HistoryEntry → List Place
+places_from at [] = []
+places_from at (e ∷ h) = record { at = at; length = entry_length e } ∷ places_from (at + entry_length e) h
+
+-- the places of the entries of batches that stand one after the other, the first behind the gate at this octet
+abbrev pub places_behind : ℕ → List (List ℕ) → List Place
+places_behind gate [] = []
+places_behind gate (batch ∷ batches) = places_from (gate + 5) (entries_of batch) ++ places_behind (gate + 5 + length batch) batches
+
+-- a place ends at this octet or before it
+abbrev pub EndsBy : ℕ → Place → Type 0
+EndsBy end place = place.at + place.length ≤ end
+
+pub record IsSound {A : Type 0} {tells : Ghosts A} (journal : Journal A tells) (size : ℕ) (waiting : Buffered) (places : List Place) (firm : ℕ) (tally : Tallies) : Type 0 where
+  pub founded : front_of journal ≡ Founded
+  pub sized : size ≡ tells.size (area_of journal)
+  pub room : waiting.capacity ≡ longest_batch
+  pub firm_places : firm ≤ length places
+  pub costs : tally.live.costs ≡ tally.firm.costs + length waiting.octets + 5 * (length places - firm)
+  pub within : tally.live.costs ≤ capacity_of (tells.size (area_of journal))
+  pub taken : end journal ≤ header_length + tally.firm.costs
+  pub none_waits : length places ≡ firm → waiting.octets ≡ []
+  pub torn_waits : is_closed journal ≡ true → torn journal ≡ waiting.octets
+  pub firm_ends : All (EndsBy (end journal)) (take firm places)
+  pub waiting_ends : All (EndsBy (end journal + 5 + length waiting.octets)) (drop firm places)
+  pub are_batches : Told tells → AreBatches (tells.size (area_of journal)) (batches journal)
+  pub are_entries : Told tells → AreEntries waiting.octets (entries_of waiting.octets)
+  pub firm_tally : Told tells → tally.firm ≡ tally_of (entries_in (batches journal))
+  pub live_tally : Told tells → tally.live ≡ tally_of (entries_in (batches journal) ++ entries_of waiting.octets)
+  pub firm_placed : Told tells → take firm places ≡ places_behind header_length (batches journal)
+  pub waiting_placed : Told tells → drop firm places ≡ places_from (end journal + 5) (entries_of waiting.octets)
