@@ -1,5 +1,5 @@
 -- What is true of each trail, open or closed.
-use Rattle.std.specs.Prelude.{◌≡◌, ℕ, ◌+◌, ◌-◌, ◌*◌, ◌≤◌, true, List, [], ◌∷◌, ◌++◌, length, take, drop, All}
+use Rattle.std.specs.Prelude.{◌≡◌, ℕ, ◌+◌, ◌-◌, ◌*◌, ◌≤◌, Bool, true, false, List, [], ◌∷◌, ◌++◌, length, take, drop, All}
 use Rattle.area_disk.specs.declared.area.Area.{Ghosts}
 use Rattle.gw_base.specs.Buffer.{Buffered}
 use Rattle.gw_base.specs.declared.history.HistoryEntry.{HistoryEntry}
@@ -7,7 +7,8 @@ use Rattle.gw_base.specs.declared.place.Place.{Place}
 use Rattle.gate_journal.specs.Format.{end_of, header_length, longest_batch}
 use Rattle.gate_journal.specs.Journal.{area_of, batches, end, front_of, is_closed, torn}
 use Rattle.gate_journal.specs.Moments.{Told}
-use Rattle.gate_journal.specs.declared.journal.Front.TheVariants.{Founded}
+use Rattle.gate_journal.specs.declared.journal.Front.TheVariants.{Founded, Draft, Founding}
+use Rattle.gate_journal.specs.declared.journal.Front.{Front}
 use Rattle.gate_journal.specs.declared.journal.Journal.{Journal}
 use Rattle.entry_codec.specs.Content.{AreEntries, entries_of}
 use Rattle.entry_codec.specs.Room.{capacity_of}
@@ -25,12 +26,18 @@ abbrev pub places_behind : ℕ → List (List ℕ) → List Place
 places_behind gate [] = []
 places_behind gate (batch ∷ batches) = places_from (gate + 5) (entries_of batch) ++ places_behind (gate + 5 + length batch) batches
 
+-- whether an area has its whole header
+abbrev pub is_founded : Front → Bool
+is_founded Founded = true
+is_founded Draft = false
+is_founded Founding = false
+
 -- a place ends at this octet or before it
 abbrev pub EndsBy : ℕ → Place → Type 0
 EndsBy end place = place.at + place.length ≤ end
 
 pub record IsSound {A : Type 0} {tells : Ghosts A} (journal : Journal A tells) (size : ℕ) (waiting : Buffered) (places : List Place) (firm : ℕ) (tally : Tallies) : Type 0 where
-  pub founded : front_of journal ≡ Founded
+  pub founded : is_founded (front_of journal) ≡ true
   pub sized : size ≡ tells.size (area_of journal)
   pub room : waiting.capacity ≡ longest_batch
   pub firm_places : firm ≤ length places

@@ -6,6 +6,8 @@ ghost use Rattle.gw_base.specs.HeldKeys.{promised_octets};
 ghost use Rattle.gw_base.specs.declared.history.HistoryEntry.{HistoryEntry};
 ghost use Rattle.gate_journal.specs.Format.{longest_batch};
 ghost use Rattle.gate_journal.specs.Moments.{Calls, Kept, Leaves, RoseUpTo, Told};
+ghost use Rattle.std.proofs.Props.{props};
+ghost use Rattle.entry_codec.specs.Props.{IsAct-prop};
 ghost use Rattle.entry_codec.specs.Room.{capacity_of, costs_of, has_room};
 ghost use Rattle.entry_codec.specs.Spelling.{HasSpelling, entry_length, spelling};
 ghost use Rattle.cgf_journal.specs.Format.{StandsFor};
@@ -15,7 +17,7 @@ ghost use Rattle.cgf_journal.specs.Tally.{free_beside, has_room_behind, tally_be
 use crate::faults::PushFault;
 use crate::tally::Tally;
 use area_disk::Area;
-use entry_codec::write;
+use entry_codec::{cost, write};
 use gate_journal::{AppendFault, Device, Journal};
 use gw_base::{Buffer, Entry, Place};
 
@@ -36,7 +38,7 @@ pub struct Trail<A: Area> {
     /// How many entries are firm.
     pub(crate) firm: usize,
     pub(crate) tally: Tally,
-    ghost sound: { IsSound journal size waiting places.items firm tally },
+    ghost sound: { IsSound journal size waiting places.items firm tally } by { Prim.hlevel (IsAct-prop, props) },
 }
 
 impl<A: Area> Trail<A> {
