@@ -1,5 +1,5 @@
 -- What is true of a journal, and how an append keeps it.
-use Rattle.std.proofs.Common.{◌≡◌, ◌⊎◌, ⊎_elim, ℕ, ◌+◌, ◌-◌, ◌<◌, ◌≤◌, min, Bool, true, false, List, [], ◌∷◌, ◌++◌, length, get_or, take, drop, refl, sym, ◌∙◌, ap, subst, arith}
+use Rattle.std.proofs.Common.{◌≡◌, ◌⊎◌, inl, inr, ⊎_elim, ℕ, ◌+◌, ◌-◌, ◌<◌, ◌≤◌, min, Bool, true, false, List, [], ◌∷◌, ◌++◌, length, get_or, take, drop, refl, sym, ◌∙◌, ap, subst, arith}
 use Rattle.std.specs.Prelude.{All, IsTrue, ◌&&◌, ◌==◌, if◌then◌else◌}
 use Rattle.std.proofs.lemmas.List.{length-take-le, length-drop}
 use Rattle.std.proofs.lemmas.List.Elements.{All-push}
@@ -62,6 +62,18 @@ place_after true false gate n size low high fits octet is =
     let P : Bool → Type 0 = λ b. (32 ≤ (if b then gate + 5 + n else gate)) × ((if b then gate + 5 + n else gate) < size) in
     let there : P false = (low, high) in
     subst P (sym is) there
+
+pub length-torn : (buffer : List ℕ) (torn_length : ℕ) → torn_length + 5 ≤ length buffer → length (take torn_length (drop 4 buffer)) ≡ torn_length
+length-torn buffer torn_length held = length-take-le torn_length (drop 4 buffer) (omega (arith, length-drop 4 buffer))
+
+-- the gate of a journal that is opened again moves where it is open behind a batch that may stand
+pub gate_moves : (is_torn : Bool) (gate n octet : ℕ) → gate_after is_torn gate n octet ≡ (if is_torn && (octet == open_gate) then gate + 5 + n else gate)
+gate_moves true gate n octet = refl
+gate_moves false gate n octet = refl
+
+pub moves_or_stays : (moves : Bool) (gate n : ℕ) → ((if moves then gate + 5 + n else gate) ≡ gate) ⊎ ((if moves then gate + 5 + n else gate) ≡ gate + 5 + n)
+moves_or_stays true gate n = inr refl
+moves_or_stays false gate n = inl refl
 
 module _ {A : Type 0} (g : Ghosts A) (holds : (a : A) → g.may_leave a (g.octets a)) (whole : (a : A) → IsTrue g.tells_octets → length (g.octets a) ≡ g.size a)
     (same_size : (a : A) (c : List ℕ) → IsTrue g.tells_crash → g.may_leave a c → length c ≡ g.size a) where
@@ -182,9 +194,6 @@ module _ {A : Type 0} (g : Ghosts A) (holds : (a : A) → g.may_leave a (g.octet
           (ap (λ n. header n address generation) size) (kept_batches told) refl (sound.content told c (within c left));
       durable = λ told yes c left. sound.durable told yes c (within c left) ∙ sym (sound.durable told yes (g.octets new) (within (g.octets new) (holds new)));
     }
-
-  length-torn : (buffer : List ℕ) (torn_length : ℕ) → torn_length + 5 ≤ length buffer → length (take torn_length (drop 4 buffer)) ≡ torn_length
-  length-torn buffer torn_length held = length-take-le torn_length (drop 4 buffer) (omega (arith, length-drop 4 buffer))
 
   -- the journal is opened again
   module _ (old new : A) (buffer : List ℕ) (gate torn_length : ℕ) (is_torn : Bool) (front : Front) (address generation : ℕ) (sound : IsSound g old buffer gate torn_length is_torn front address generation) (size : g.size new ≡ g.size old)

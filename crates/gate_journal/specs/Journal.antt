@@ -84,6 +84,10 @@ pub record ReopenFollows {A T E : Type 0} {tells : Ghosts A} (old new : Journal 
 abbrev pub reopened : {A : Type 0} {tells : Ghosts A} → Journal A tells → List (List ℕ)
 reopened journal = if torn_stands journal then batches journal ++ torn journal ∷ [] else batches journal
 
+-- where the list ends then
+abbrev pub reopened_end : {A : Type 0} {tells : Ghosts A} → Journal A tells → ℕ
+reopened_end journal = if torn_stands journal then end journal + 5 + length (torn journal) else end journal
+
 -- how far the area is made after it is opened again, as octet 0 tells
 abbrev pub reopened_front : {A : Type 0} {tells : Ghosts A} → Journal A tells → Front
 reopened_front {tells = tells} journal = front_after journal.front (slice_index (tells.octets journal.area) 0)

@@ -45,7 +45,7 @@ pub struct Journal<A: Area> {
 }
 
 impl<A: Area> Journal<A> {
-    ghost use Rattle.gate_journal.specs.Journal.{area_of, header_of, front_of, batches, end, free_of, is_closed, torn, torn_stands, left_by_stop, AppendFollows, ReopenFollows, reopened, reopened_front, KeepsOr, IsSettled, IsSame, IsUnchanged, IsKept, IsGate, IsBatch, IsInside};
+    ghost use Rattle.gate_journal.specs.Journal.{area_of, header_of, front_of, batches, end, free_of, is_closed, torn, torn_stands, left_by_stop, AppendFollows, ReopenFollows, reopened, reopened_end, reopened_front, KeepsOr, IsSettled, IsSame, IsUnchanged, IsKept, IsGate, IsBatch, IsInside};
     ghost use Rattle.area_disk.specs.declared.plan.Outcome3.{Outcome3};
     ghost use Rattle.gate_journal.specs.declared.journal.Front.TheVariants.{Founded, Draft, Founding};
 
@@ -162,6 +162,12 @@ impl<A: Area> Journal<A> {
         ensures front_err { OnErr result (front_of self.new ≡ front_of self.old) }
         ensures founded { front_of self.old ≡ Founded → front_of self.new ≡ Founded }
 
+        // The list ends where it did, or behind the batch whose append failed: just where that stands, if the area tells.
+        ensures end { OnOk result ((end self.new ≡ end self.old) ⊎ (end self.new ≡ end self.old + 5 + length (torn self.old))) }
+        ensures end_told { Told A.Area → OnOk result (end self.new ≡ reopened_end self.old) }
+        ensures end_ready { is_closed self.old ≡ false → end self.new ≡ end self.old }
+        ensures end_err { OnErr result (end self.new ≡ end self.old) }
+
         ensures planned { IsTrue A.tells_fate → ReopenFollows self.old self.new result }
 
         ensures same { IsSame self.old self.new }
@@ -199,6 +205,7 @@ impl<A: Area> Journal<A> {
 
         ensures same { IsSame self.old self.new }
         ensures end { end self.new ≡ end self.old }
+        ensures torn_stands { torn_stands self.new ≡ false }
         ensures calls { IsTrue A.tells_calls → Calls 2 (A.calls (area_of self.old)) (A.calls (area_of self.new)) result }
         ensures cause { HasCause (A.faults (area_of self.old)) (A.faults (area_of self.new)) result }
     {

@@ -1,4 +1,7 @@
-use Rattle.gate_journal.specs.Journal.{batches}
+use Rattle.std.proofs.Common.{ap}
+use Rattle.std.specs.Prelude.{◌&&◌, ◌==◌}
+use Rattle.gate_journal.specs.Format.{open_gate, gate_at}
+use Rattle.gate_journal.specs.Journal.{batches, torn_stands}
 use Rattle.gate_journal.proofs.Runs.{widen}
 use Rattle.gate_journal.proofs.States.{settled, ready_of, founding_keeps, founding_batches, founding_sound, founded_sound}
 use Rattle.gate_journal.proofs.journal.Journal.found.Goals as goal
@@ -55,3 +58,15 @@ returns-in-Ok-clause-settled g c =
     let j = c.args.self.now in
     let ready = ready_of j.front j.is_torn c.requires.ready in
     settled g.A.Area laws.holds laws.whole laws.same_size _ ready.whole
+
+pub returns-in-Ok-clause-torn_stands : goal.returns-in-Ok-clause-torn_stands
+unfolding torn_stands
+returns-in-Ok-clause-torn_stands g c =
+    let j = c.args.self.now in
+    ap (λ t. t && (gate_at (g.A.Area.octets c.put.new.area) j.gate == open_gate)) (ready_of j.front j.is_torn c.requires.ready).whole
+
+pub returns-in-Err-clause-torn_stands : goal.returns-in-Err-clause-torn_stands
+unfolding torn_stands
+returns-in-Err-clause-torn_stands g c =
+    let j = c.args.self.now in
+    ap (λ t. t && (gate_at (g.A.Area.octets c.put.new.area) j.gate == open_gate)) (ready_of j.front j.is_torn c.requires.ready).whole

@@ -1,11 +1,11 @@
-use Rattle.std.proofs.Common.{ℕ, false, List, [], ◌∷◌, ◌++◌, take, drop, refl, sym, ◌∙◌, ap, subst}
+use Rattle.std.proofs.Common.{◌≡◌, ◌⊎◌, ◌+◌, ℕ, false, List, [], ◌∷◌, ◌++◌, length, take, drop, refl, sym, ◌∙◌, ap, subst}
 use Rattle.std.specs.Prelude.{◌&&◌, ◌==◌, if◌then◌else◌}
 use Rattle.gate_journal.specs.Format.{open_gate, gate_at}
 use Rattle.gate_journal.specs.State.{IsSound, batches_below, gate_after}
 use Rattle.gate_journal.specs.Journal.{batches, torn, torn_stands, stop_stands, closed_by}
 use Rattle.gate_journal.proofs.Turns.{other_bool}
 use Rattle.gate_journal.proofs.Runs.{widen}
-use Rattle.gate_journal.proofs.States.{settled, open_after, keeps_any, kept_batches, kept_sound, reopened_sound, reopened_batches}
+use Rattle.gate_journal.proofs.States.{settled, ready_of, open_after, length-torn, gate_moves, moves_or_stays, keeps_any, kept_batches, kept_sound, reopened_sound, reopened_batches}
 use Rattle.gate_journal.proofs.journal.Journal.reopen.Goals as goal
 
 pub invariant_of-self : goal.invariant_of-self
@@ -83,3 +83,26 @@ returns-in-Err-clause-planned g c = λ told.
     let j = c.args.self.now in
     let planned = c.in-Err.ensures.planned told in
     record { planned = record { failed = planned.failed; course = planned.course; leaves = planned.leaves }; stands = λ err outcome. ap (λ (l : List ℕ). j.is_torn && (gate_at l j.gate == open_gate)) (planned.leaves outcome) }
+
+pub returns-in-Ok-clause-end : goal.returns-in-Ok-clause-end
+unfolding torn
+returns-in-Ok-clause-end g c =
+    let j = c.args.self.now in
+    let moves = j.is_torn && (c.in-Ok.ends.gate == open_gate) in
+    subst (λ n. (n ≡ j.gate) ⊎ (n ≡ j.gate + 5 + length (take j.torn_length (drop 4 j.buffer.items)))) (sym (c.next_gate-self.ensures ∙ gate_moves j.is_torn j.gate j.torn_length c.in-Ok.ends.gate))
+    (subst (λ n. ((if moves then j.gate + 5 + j.torn_length else j.gate) ≡ j.gate) ⊎ ((if moves then j.gate + 5 + j.torn_length else j.gate) ≡ j.gate + 5 + n)) (sym (length-torn j.buffer.items j.torn_length j.sound.torn_held))
+    (moves_or_stays moves j.gate j.torn_length))
+
+pub returns-in-Ok-clause-end_told : goal.returns-in-Ok-clause-end_told
+unfolding torn torn_stands
+returns-in-Ok-clause-end_told g c = λ told.
+    let j = c.args.self.now in
+    c.next_gate-self.ensures
+    ∙ gate_moves j.is_torn j.gate j.torn_length c.in-Ok.ends.gate
+    ∙ ap (λ o. if j.is_torn && (o == open_gate) then j.gate + 5 + j.torn_length else j.gate) (c.in-Ok.ensures.seen told.0).1
+    ∙ ap (λ n. if j.is_torn && (gate_at (g.A.Area.octets j.area) j.gate == open_gate) then j.gate + 5 + n else j.gate) (sym (length-torn j.buffer.items j.torn_length j.sound.torn_held))
+
+pub returns-in-Ok-clause-end_ready : goal.returns-in-Ok-clause-end_ready
+returns-in-Ok-clause-end_ready g c = λ ready.
+    let j = c.args.self.now in
+    c.next_gate-self.ensures ∙ ap (λ t. gate_after t j.gate j.torn_length c.in-Ok.ends.gate) (ready_of j.front j.is_torn ready).whole
