@@ -1,0 +1,207 @@
+// The batches that an opening finds, taken in one after the other.
+ghost use Rattle.std.specs.Prelude.{vec_len, ◌≡◌, ◌≢◌, ◌⊎◌, ℕ, ◌+◌, ◌<◌, ◌≤◌, IsTrue, false, List, [], ◌∷◌, ◌++◌, take, Ok, Err, OnOk, OnErr, IfOk, IfErr};
+ghost use Rattle.area_disk.specs.Disk.{Rose};
+ghost use Rattle.gate_journal.specs.Journal.{IsKept, IsSettled, area_of, batches, end, is_closed};
+ghost use Rattle.gate_journal.specs.Moments.{Kept, Told};
+ghost use Rattle.entry_codec.specs.Room.{capacity_of};
+ghost use Rattle.cgf_journal.specs.Format.{AreBatches};
+ghost use Rattle.cgf_journal.specs.Opening.{AreBuffers, AreListed, AreListedBefore, AreTakenIn, BreaksAt, IsTakenUpTo};
+
+use crate::contents::take_in;
+use crate::tally::Tally;
+use area_disk::Area;
+use gate_journal::{Device, Journal, OpenFault, batch_before, read_before};
+use gw_base::{NoMemory, Place};
+use std::alloc::Global;
+
+/// The most octets of a batch.
+pub(crate) const LONGEST: usize = 1_048_576;
+
+/// What an opening has taken in, and its buffers.
+#[derive(Drop)]
+pub(crate) struct Listing {
+    /// The content of one batch.
+    content: Vec<u8>,
+    /// The numbers of one entry.
+    numbers: Vec<u64>,
+    pub(crate) places: Vec<Place>,
+    pub(crate) tally: Tally,
+}
+
+impl Listing {
+    /// A listing that has taken in nothing, with buffers for the batches of an area of this size.
+    pub(crate) fn new(alloc: Global, size: u64) -> Result<Listing, NoMemory>
+        requires { size ≤ 268435456 }
+        ensures buffers { IfOk result (λ listing. AreBuffers size (vec_len listing.content) (vec_len listing.numbers)) }
+        ensures taken { 100 ≤ size → IfOk result (λ listing. AreTakenIn size 32 [] listing.places.items listing.tally) }
+    {
+        let longest = size.min(LONGEST as u64) as usize;
+        Ok(Listing {
+            content: vec![in alloc; 0; longest]?,
+            numbers: vec![in alloc; 0; longest / 8 + 1]?,
+            places: Vec::new(alloc),
+            tally: Tally::new(alloc),
+        })
+    }
+
+    // Takes in the batch behind this gate, whose content is in the buffer, and answers the next gate.
+    fn take(&mut self, gate: u64, length: u32, size: u64) -> Result<u64, OpenFault>
+        requires short { size ≤ 268435456 }
+        requires inside { gate + 5 + length ≤ size }
+        requires buffers { AreBuffers size (vec_len self.old.content) (vec_len self.old.numbers) }
+        requires fits { length ≤ vec_len self.old.content }
+        requires costs { self.old.tally.live.costs ≤ capacity_of size }
+
+        ensures next { IfOk result (λ next. next ≡ gate + 5 + length) }
+        ensures taken { (some : List (List ℕ)) → AreTakenIn size gate some self.old.places.items self.old.tally →
+            OnOk result (AreTakenIn size (gate + 5 + length) (some ++ take length self.old.content.items ∷ []) self.new.places.items self.new.tally) }
+        ensures unfit { (some : List (List ℕ)) → AreTakenIn size gate some self.old.places.items self.old.tally → (at : ℕ) → result ≡ Err (OpenFault.NotOurs at) →
+            (at ≡ gate) × (AreBatches size (some ++ take length self.old.content.items ∷ []) → ⊥) }
+        ensures device { result ≢ Err OpenFault.Device }
+        ensures buffers { AreBuffers size (vec_len self.new.content) (vec_len self.new.numbers) }
+    {
+        let content = &self.content[..length as usize];
+        let at = gate + 5;
+        match take_in(content, at, &mut self.numbers, &mut self.places, &mut self.tally) {
+            Ok(true) => {
+                if size < self.tally.costs() + 33 {
+                    return Err(OpenFault::NotOurs { at: gate });
+                }
+                Ok(at + u64::from(length))
+            }
+            Ok(false) => Err(OpenFault::NotOurs { at: gate }),
+            Err(NoMemory) => Err(OpenFault::NoMemory),
+        }
+    }
+}
+
+// Takes in the batch of a journal behind this gate, and answers the next gate.
+fn take_next<A: Area>(
+    journal: &mut Journal<A>,
+    gate: u64,
+    size: u64,
+    listing: &mut Listing,
+) -> Result<u64, OpenFault>
+    requires ready { is_closed journal.old ≡ false }
+    requires settled { IsSettled journal.old }
+    requires size { size ≡ A.size (area_of journal.old) }
+    requires short { size ≤ 268435456 }
+    requires end { end journal.old < size }
+    requires inside { gate < end journal.old }
+    requires taken { IsTakenUpTo (AreListed journal.old) size gate listing.old.places.items listing.old.tally }
+    requires buffers { AreBuffers size (vec_len listing.old.content) (vec_len listing.old.numbers) }
+
+    ensures next { IfOk result (λ next. (gate < next) × (next ≤ end journal.old)) }
+    ensures taken { IfOk result (λ next. IsTakenUpTo (AreListed journal.old) size next listing.new.places.items listing.new.tally) }
+    ensures breaks { Told A.Area → (at : ℕ) → result ≡ Err (OpenFault.NotOurs at) → BreaksAt size (batches journal.old) at }
+    ensures buffers { OnOk result (AreBuffers size (vec_len listing.new.content) (vec_len listing.new.numbers)) }
+    ensures kept { IsKept journal.old journal.new }
+    ensures device { result ≡ Err OpenFault.Device → Rose (A.faults (area_of journal.old)) (A.faults (area_of journal.new)) }
+    ensures faults { OnOk result (A.faults (area_of journal.new) ≡ A.faults (area_of journal.old)) }
+    ensures faults_err { A.faults (area_of journal.old) ≤ A.faults (area_of journal.new) }
+{
+    let Ok(found) = journal.batch(gate) else {
+        return Err(OpenFault::Device);
+    };
+    let Some((place, length)) = found else {
+        return Err(OpenFault::NotOurs { at: gate });
+    };
+    let Ok(()) = journal.read(place, &mut listing.content[..length as usize]) else {
+        return Err(OpenFault::Device);
+    };
+    listing.take(gate, length, size)
+}
+
+/// Takes in all batches of a journal.
+///
+/// `NotOurs` says which is the first that isn't entries within the capacity.
+pub(crate) fn list<A: Area>(
+    journal: &mut Journal<A>,
+    size: u64,
+    listing: &mut Listing,
+) -> Result<(), OpenFault>
+    requires ready { is_closed journal.old ≡ false }
+    requires settled { IsSettled journal.old }
+    requires size { size ≡ A.size (area_of journal.old) }
+    requires short { size ≤ 268435456 }
+    requires taken { AreTakenIn size 32 [] listing.old.places.items listing.old.tally }
+    requires buffers { AreBuffers size (vec_len listing.old.content) (vec_len listing.old.numbers) }
+
+    ensures taken { OnOk result (IsTakenUpTo (AreListed journal.old) size (end journal.old) listing.new.places.items listing.new.tally) }
+    ensures breaks { Told A.Area → (at : ℕ) → result ≡ Err (OpenFault.NotOurs at) → BreaksAt size (batches journal.old) at }
+    ensures some { Told A.Area → OnErr result (batches journal.old ≢ []) }
+    ensures kept { IsKept journal.old journal.new }
+    ensures device { result ≡ Err OpenFault.Device → Rose (A.faults (area_of journal.old)) (A.faults (area_of journal.new)) }
+    ensures faults { OnOk result (A.faults (area_of journal.new) ≡ A.faults (area_of journal.old)) }
+    ensures faults_err { A.faults (area_of journal.old) ≤ A.faults (area_of journal.new) }
+{
+    let end = journal.end();
+    let mut gate = 32;
+    while gate < end {
+        gate = take_next(journal, gate, size, listing)?;
+    }
+    Ok(())
+}
+
+// Takes in the batch of an area behind this gate, of those before octet `end`, and answers the next gate.
+fn take_before<A: Area>(
+    area: &mut A,
+    gate: u64,
+    end: u64,
+    size: u64,
+    listing: &mut Listing,
+) -> Result<u64, OpenFault>
+    requires size { size ≡ A.size area.old }
+    requires short { size ≤ 268435456 }
+    requires inside { gate < end }
+    requires taken { IsTakenUpTo (AreListedBefore A.tells_octets (A.octets area.old) end) size gate listing.old.places.items listing.old.tally }
+    requires buffers { AreBuffers size (vec_len listing.old.content) (vec_len listing.old.numbers) }
+
+    ensures next { IfOk result (λ next. (gate < next) × (next ≤ end)) }
+    ensures taken { IfOk result (λ next. IsTakenUpTo (AreListedBefore A.tells_octets (A.octets area.old) end) size next listing.new.places.items listing.new.tally) }
+    ensures breaks { (all : List (List ℕ)) → AreListedBefore A.tells_octets (A.octets area.old) end all → (at : ℕ) → result ≡ Err (OpenFault.NotOurs at) → BreaksAt size all at }
+    ensures buffers { OnOk result (AreBuffers size (vec_len listing.new.content) (vec_len listing.new.numbers)) }
+    ensures kept { Kept A.Area area.old area.new }
+    ensures device { result ≡ Err OpenFault.Device → Rose (A.faults area.old) (A.faults area.new) }
+    ensures faults { A.faults area.old ≤ A.faults area.new }
+    ensures faults_ok { OnOk result (A.faults area.new ≡ A.faults area.old) }
+{
+    let Ok(found) = batch_before(area, gate, end) else {
+        return Err(OpenFault::Device);
+    };
+    let Some((place, length)) = found else {
+        return Err(OpenFault::NotOurs { at: gate });
+    };
+    let Ok(()) = read_before(area, place, &mut listing.content[..length as usize]) else {
+        return Err(OpenFault::Device);
+    };
+    listing.take(gate, length, size)
+}
+
+/// Takes in all batches of an area before the one at octet `end`.
+///
+/// `NotOurs` says which is the first that isn't entries within the capacity.
+pub(crate) fn list_before<A: Area>(
+    area: &mut A,
+    end: u64,
+    size: u64,
+    listing: &mut Listing,
+) -> Result<(), OpenFault>
+    requires size { size ≡ A.size area.old }
+    requires short { size ≤ 268435456 }
+    requires taken { AreTakenIn size 32 [] listing.old.places.items listing.old.tally }
+    requires buffers { AreBuffers size (vec_len listing.old.content) (vec_len listing.old.numbers) }
+
+    ensures are_batches { (all : List (List ℕ)) → AreListedBefore A.tells_octets (A.octets area.old) end all → OnOk result (AreBatches size all) }
+    ensures breaks { (all : List (List ℕ)) → AreListedBefore A.tells_octets (A.octets area.old) end all → (at : ℕ) → result ≡ Err (OpenFault.NotOurs at) → BreaksAt size all at }
+    ensures begun { OnErr result (32 < end) }
+    ensures kept { Kept A.Area area.old area.new }
+    ensures device { result ≡ Err OpenFault.Device → Rose (A.faults area.old) (A.faults area.new) }
+    ensures faults { A.faults area.old ≤ A.faults area.new }
+{
+    let mut gate = 32;
+    while gate < end {
+        gate = take_before(area, gate, end, size, listing)?;
+    }
+    Ok(())
+}
