@@ -47,7 +47,7 @@ pub record AreListedBefore (tells_octets : Bool) (octets : List ℕ) (at : ℕ) 
   pub long : length header ≡ header_length
   pub before : AreBefore header octets at all
 
--- buffers of these lengths have room for each batch of an area of this size, and for the numbers of its entries
-pub record AreBuffers (size content numbers : ℕ) : Type 0 where
-  pub content : content ≡ min longest_batch size
-  pub numbers : content ≤ 8 * numbers
+-- buffers of so many octets and so many numbers have room for each batch of an area of this size
+pub record AreBuffers (size octets numbers : ℕ) : Type 0 where
+  pub content : octets ≡ min longest_batch size
+  pub entries : octets ≤ 8 * numbers

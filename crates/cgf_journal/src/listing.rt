@@ -21,9 +21,9 @@ pub(crate) const LONGEST: usize = 1_048_576;
 #[derive(Drop)]
 pub(crate) struct Listing {
     /// The content of one batch.
-    content: Vec<u8>,
+    pub(crate) content: Vec<u8>,
     /// The numbers of one entry.
-    numbers: Vec<u64>,
+    pub(crate) numbers: Vec<u64>,
     pub(crate) places: Vec<Place>,
     pub(crate) tally: Tally,
 }
@@ -62,7 +62,13 @@ impl Listing {
     {
         let content = &self.content[..length as usize];
         let at = gate + 5;
-        match take_in(content, at, &mut self.numbers, &mut self.places, &mut self.tally) {
+        match take_in(
+            content,
+            at,
+            &mut self.numbers,
+            &mut self.places,
+            &mut self.tally,
+        ) {
             Ok(true) => {
                 if size < self.tally.costs() + 33 {
                     return Err(OpenFault::NotOurs { at: gate });
