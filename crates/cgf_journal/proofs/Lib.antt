@@ -1,0 +1,4 @@
+pub mod Entries
+pub mod Placing
+pub mod Sounds
+pub mod Standing
