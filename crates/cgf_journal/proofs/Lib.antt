@@ -2,3 +2,4 @@ pub mod Entries
 pub mod Placing
 pub mod Sounds
 pub mod Standing
+pub mod Tallies

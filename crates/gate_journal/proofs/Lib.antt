@@ -11,7 +11,7 @@ mod Listing
 mod Openings
 mod Places
 mod Plans
-mod Runs
+pub mod Runs
 mod Spelling
 mod States
 mod Turns
