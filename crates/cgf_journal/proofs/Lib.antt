@@ -1,1 +1,5 @@
+pub mod Entries
+pub mod Placing
+pub mod Sounds
+pub mod Standing
 pub mod Tallies

@@ -1,5 +1,5 @@
 -- What is true of each trail, open or closed.
-use Rattle.std.specs.Prelude.{◌≡◌, ℕ, ◌+◌, ◌-◌, ◌*◌, ◌≤◌, Bool, true, false, List, [], ◌∷◌, ◌++◌, length, take, drop, All}
+use Rattle.std.specs.Prelude.{◌≡◌, ◌≢◌, ℕ, ◌+◌, ◌≤◌, Bool, true, false, List, [], ◌∷◌, ◌++◌, length, take, drop, All}
 use Rattle.area_disk.specs.declared.area.Area.{Ghosts}
 use Rattle.gw_base.specs.Buffer.{Buffered}
 use Rattle.gw_base.specs.declared.history.HistoryEntry.{HistoryEntry}
@@ -14,7 +14,7 @@ use Rattle.entry_codec.specs.Content.{AreEntries, entries_of}
 use Rattle.entry_codec.specs.Room.{capacity_of}
 use Rattle.entry_codec.specs.Spelling.{entry_length}
 use Rattle.cgf_journal.specs.Format.{AreBatches, entries_in}
-use Rattle.cgf_journal.specs.Tally.{Tallies, tally_of}
+use Rattle.cgf_journal.specs.Tally.{Tallies, tally_behind_all, tally_of}
 
 -- the places of entries that stand one after the other from this octet on
 abbrev pub places_from : ℕ → List HistoryEntry → List Place
@@ -39,18 +39,20 @@ EndsBy end place = place.at + place.length ≤ end
 pub record IsSound {A : Type 0} {tells : Ghosts A} (journal : Journal A tells) (size : ℕ) (waiting : Buffered) (places : List Place) (firm : ℕ) (tally : Tallies) : Type 0 where
   pub founded : is_founded (front_of journal) ≡ true
   pub sized : size ≡ tells.size (area_of journal)
+  -- what waits, in octets, as entries, as a tally and in its places
   pub room : waiting.capacity ≡ longest_batch
-  pub firm_places : firm ≤ length places
-  pub costs : tally.live.costs ≡ tally.firm.costs + length waiting.octets + 5 * (length places - firm)
-  pub within : tally.live.costs ≤ capacity_of (tells.size (area_of journal))
-  pub taken : end journal ≤ header_length + tally.firm.costs
-  pub none_waits : length places ≡ firm → waiting.octets ≡ []
+  pub short : length waiting.octets ≤ longest_batch
+  pub are_entries : AreEntries waiting.octets (entries_of waiting.octets)
+  pub live_tally : tally.live ≡ tally_behind_all tally.firm (entries_of waiting.octets)
+  pub waiting_placed : drop firm places ≡ places_from (end journal + 5) (entries_of waiting.octets)
+  -- what is torn is what waits
   pub torn_waits : is_closed journal ≡ true → torn journal ≡ waiting.octets
+  pub some_torn : is_closed journal ≡ true → waiting.octets ≢ []
+  -- what is firm
+  pub firm_places : firm ≤ length places
   pub firm_ends : All (EndsBy (end journal)) (take firm places)
-  pub waiting_ends : All (EndsBy (end journal + 5 + length waiting.octets)) (drop firm places)
+  pub taken : end journal ≤ header_length + tally.firm.costs
+  pub within : tally.live.costs ≤ capacity_of (tells.size (area_of journal))
   pub are_batches : Told tells → AreBatches (tells.size (area_of journal)) (batches journal)
-  pub are_entries : Told tells → AreEntries waiting.octets (entries_of waiting.octets)
   pub firm_tally : Told tells → tally.firm ≡ tally_of (entries_in (batches journal))
-  pub live_tally : Told tells → tally.live ≡ tally_of (entries_in (batches journal) ++ entries_of waiting.octets)
   pub firm_placed : Told tells → take firm places ≡ places_behind header_length (batches journal)
-  pub waiting_placed : Told tells → drop firm places ≡ places_from (end journal + 5) (entries_of waiting.octets)

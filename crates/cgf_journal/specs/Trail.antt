@@ -87,14 +87,13 @@ pub record IsSame {A : Type 0} {tells : Ghosts A} (old new : Trail A tells) : Ty
 pub record IsKept {A : Type 0} {tells : Ghosts A} (old new : Trail A tells) : Type 0 where
   pub header : header_of new ≡ header_of old
   pub closed : is_closed new ≡ is_closed old
-  pub firm_entries : firm_entries new ≡ firm_entries old
+  pub firm_entries : Told tells → firm_entries new ≡ firm_entries old
   pub waiting : waiting new ≡ waiting old
   pub waiting_octets : waiting_octets new ≡ waiting_octets old
   pub firm_length : firm_length new ≡ firm_length old
   pub length : length_of new ≡ length_of old
   pub tally : tally new ≡ tally old
   pub places : (k : ℕ) (place : Place) → IsPlaceOf old k place → IsPlaceOf new k place
-  pub torn_stands : torn_stands new ≡ torn_stands old
 
 -- a fact of the area, which an opening keeps in the trail or hands back
 abbrev pub OnArea : {A F : Type 0} {tells : Ghosts A} → Result (Trail A tells) (F × A) → (A → Type 0) → Type 0

@@ -1,4 +1,5 @@
 // Why a call of a trail failed.
+use gw_base::NoMemory;
 use std::error::Error;
 use std::fmt;
 
@@ -21,3 +22,14 @@ impl fmt::Display for PushFault {
 }
 
 impl Error for PushFault {}
+
+impl From<NoMemory> for PushFault {
+    ghost use Rattle.std.specs.Prelude.{◌≡◌};
+    ghost use Rattle.cgf_journal.specs.declared.faults.PushFault.TheVariants.{NoMemory as none};
+
+    ghost from_gives = { λ _ fault. fault ≡ none };
+
+    fn from(_: NoMemory) -> Self {
+        PushFault::NoMemory
+    }
+}

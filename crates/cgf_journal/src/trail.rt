@@ -1,5 +1,5 @@
 // A history on a journal.
-ghost use Rattle.std.specs.Prelude.{vec_len, ◌≡◌, ◌≢◌, ◌↔◌, ◌⊎◌, ℕ, ◌+◌, ◌-◌, ◌<◌, ◌≤◌, IsTrue, false, true, List, [], ◌∷◌, ◌++◌, length, slice_get, Some, Ok, Err, OnOk, OnErr, IfOk, is_err};
+ghost use Rattle.std.specs.Prelude.{vec_len, ◌≡◌, ◌≢◌, ◌↔◌, ◌⊎◌, ℕ, ◌+◌, ◌-◌, ◌<◌, ◌≤◌, ◌^◌, IsTrue, false, true, List, [], ◌∷◌, ◌++◌, length, slice_get, Some, Ok, Err, OnOk, OnErr, IfOk, is_err};
 ghost use Rattle.area_disk.specs.Disk.{HasCause, counted};
 ghost use Rattle.gw_base.specs.Entry.{entry_view};
 ghost use Rattle.gw_base.specs.HeldKeys.{promised_octets};
@@ -9,17 +9,17 @@ ghost use Rattle.gate_journal.specs.Moments.{Calls, Kept, Leaves, RoseUpTo, Told
 ghost use Rattle.std.proofs.Props.{props};
 ghost use Rattle.entry_codec.specs.Props.{IsAct-prop};
 ghost use Rattle.entry_codec.specs.Room.{capacity_of, costs_of, has_room};
-ghost use Rattle.entry_codec.specs.Spelling.{HasSpelling, entry_length, spelling};
+ghost use Rattle.entry_codec.specs.Spelling.{cost_of, entry_length, spelling};
 ghost use Rattle.cgf_journal.specs.Format.{StandsFor};
 ghost use Rattle.cgf_journal.specs.Sound.{IsSound};
-ghost use Rattle.cgf_journal.specs.Tally.{free_beside, has_room_behind, tally_behind};
+ghost use Rattle.cgf_journal.specs.Tally.{free_beside, has_room_behind, tally_behind, tally_behind_all};
 
 use crate::faults::PushFault;
 use crate::tally::Tally;
 use area_disk::Area;
 use entry_codec::{cost, write};
 use gate_journal::{AppendFault, Device, Journal};
-use gw_base::{Buffer, Entry, Place};
+use gw_base::{Buffer, Entry, NoMemory, Place};
 
 /// A gateway's history on a journal: the firm entries, which every crash leaves, and those behind them, which wait for
 /// a commit.
@@ -53,7 +53,7 @@ impl<A: Area> Trail<A> {
         requires room { has_room_behind (tally self.old) (entry_view entry.now) (A.size (area_of self.old)) ≡ true }
         requires ready { is_closed self.old ≡ false }
 
-        ensures ok { Told A.Area → OnOk result (entries self.new ≡ entries self.old ++ entry_view entry.now ∷ []) }
+        ensures ok { OnOk result (entries self.new ≡ entries self.old ++ entry_view entry.now ∷ []) }
         ensures waits { OnOk result (waiting self.new ≡ waiting self.old ++ entry_view entry.now ∷ []) }
         ensures octets { OnOk result (waiting_octets self.new ≡ waiting_octets self.old + entry_length (entry_view entry.now)) }
         ensures length { OnOk result (length_of self.new ≡ length_of self.old + 1) }
@@ -79,7 +79,7 @@ impl<A: Area> Trail<A> {
             at,
             length: length as u32,
         };
-        self.add_place(entry, place)?;
+        note(&mut self.places, &mut self.tally, place, entry)?;
         match write(entry, &mut self.waiting) {
             Ok(()) => Ok(()),
             Err(_) => unreachable!(),
@@ -110,16 +110,23 @@ impl<A: Area> Trail<A> {
         ensures places { (k : ℕ) (place : Place) → IsPlaceOf self.old k place → IsPlaceOf self.new k place }
         ensures same { IsSame self.old self.new }
         ensures unmade { waiting_octets self.old ≡ 0 → (result ≡ Ok (firm_length self.old)) × (area_of self.new ≡ area_of self.old) }
-        ensures unmade_told { Told A.Area → waiting self.old ≡ [] → waiting_octets self.old ≡ 0 }
+        ensures empty { waiting self.old ≡ [] → waiting_octets self.old ≡ 0 }
         ensures calls { IsTrue A.tells_calls → waiting_octets self.old ≢ 0 → Calls 4 (A.calls (area_of self.old)) (A.calls (area_of self.new)) result }
         ensures planned { IsTrue A.tells_fate → Told A.Area → waiting_octets self.old ≢ 0 → CommitFollows self.old self.new result }
         ensures cause { HasCause (A.faults (area_of self.old)) (A.faults (area_of self.new)) result }
     {
         if self.waiting.octets().is_empty() {
+            let is_closed = self.journal.is_closed();
+            prove!(!is_closed);
             return Ok(self.firm as u64);
         }
         match self.journal.append(self.waiting.octets()) {
-            Ok(()) => Ok(self.settle()),
+            Ok(()) => {
+                self.firm = self.places.len();
+                self.tally.settle();
+                self.waiting.clear();
+                Ok(self.firm as u64)
+            }
             Err(AppendFault::Device) => Err(Device),
             Err(AppendFault::Full { .. }) => unreachable!(),
         }
@@ -139,8 +146,11 @@ impl<A: Area> Trail<A> {
         ensures none_waits { OnOk result (waiting self.new ≡ []) }
         ensures opened { OnOk result (is_closed self.new ≡ false) }
         ensures length { OnOk result (length_of self.new ≡ firm_length self.new) }
+        ensures length_grows { result ≡ Ok true → firm_length self.new ≡ firm_length self.old + length (waiting self.old) }
         ensures length_stays { result ≡ Ok false → firm_length self.new ≡ firm_length self.old }
-        ensures err { Told A.Area → OnErr result (IsKept self.old self.new) }
+        ensures tally_grows { result ≡ Ok true → tally self.new ≡ tally_behind_all (tally self.old) (waiting self.old) }
+        ensures tally_stays { result ≡ Ok false → tally self.new ≡ tally self.old }
+        ensures err { OnErr result (IsKept self.old self.new) }
         ensures closed { OnErr result (is_closed self.new ≡ true) }
 
         // A crash at any moment of the call leaves the firm entries, with the torn ones or without.
@@ -155,13 +165,16 @@ impl<A: Area> Trail<A> {
     {
         let end = self.journal.end();
         self.journal.reopen()?;
-        let stands = self.journal.end() != end;
-        if stands {
-            self.settle();
-        } else {
-            self.drop_torn();
+        if self.journal.end() == end {
+            self.places.truncate(self.firm);
+            self.tally.revert();
+            self.waiting.clear();
+            return Ok(false);
         }
-        Ok(stands)
+        self.firm = self.places.len();
+        self.tally.settle();
+        self.waiting.clear();
+        Ok(true)
     }
 
     /// Whether a commit failed after which it takes no entry until it is opened again.
@@ -228,7 +241,8 @@ impl<A: Area> Trail<A> {
         requires length { length into.old ≡ place.length }
 
         ensures read { Told A.Area → (k : ℕ) (e : HistoryEntry) → IsPlaceOf self.old k place → slice_get (firm_entries self.old) k ≡ Some e → OnOk result (into.new ≡ spelling e) }
-        ensures kept { Told A.Area → IsKept self.old self.new }
+        ensures kept { IsKept self.old self.new }
+        ensures torn_stands { torn_stands self.new ≡ torn_stands self.old }
         ensures area { Kept A.Area (area_of self.old) (area_of self.new) }
         ensures cause { HasCause (A.faults (area_of self.old)) (A.faults (area_of self.new)) result }
     {
@@ -249,19 +263,25 @@ impl<A: Area> Trail<A> {
         } = self;
         journal.into_area()
     }
+}
 
-    // Keeps the place of one more entry, and counts it.
-    fn add_place(&mut self, entry: &Entry<'_>, place: Place) -> Result<(), PushFault> {
-        unreachable!()
+// Keeps the place of one more entry, and counts it. Without memory neither is done.
+fn note(
+    places: &mut Vec<Place>,
+    tally: &mut Tally,
+    place: Place,
+    entry: &Entry<'_>,
+) -> Result<(), NoMemory>
+    requires { tally.old.live.costs + cost_of (entry_view entry.now) < 2 ^ 64 }
+    ensures place { OnOk result (places.new.items ≡ places.old.items ++ place ∷ []) }
+    ensures tally { OnOk result (tally.new ≡ record { firm = tally.old.firm; live = tally_behind tally.old.live (entry_view entry.now) }) }
+    ensures no_place { OnErr result (places.new.items ≡ places.old.items) }
+    ensures no_tally { OnErr result (tally.new ≡ tally.old) }
+{
+    places.push(place)?;
+    if let Err(fault) = tally.add(entry) {
+        places.pop();
+        return Err(fault);
     }
-
-    // Makes all entries firm.
-    fn settle(&mut self) -> u64 {
-        unreachable!()
-    }
-
-    // Takes the torn entries out.
-    fn drop_torn(&mut self) {
-        unreachable!()
-    }
+    Ok(())
 }
