@@ -2,4 +2,5 @@ pub mod Entries
 pub mod Placing
 pub mod Sounds
 pub mod Standing
+pub mod Takings
 pub mod Tallies

@@ -4,9 +4,7 @@ use Rattle.area_disk.specs.declared.area.Area.{Ghosts}
 use Rattle.gw_base.specs.declared.place.Place.{Place}
 use Rattle.gate_journal.specs.Before.{AreBefore}
 use Rattle.gate_journal.specs.Format.{end_of, header_length, longest_batch}
-use Rattle.gate_journal.specs.Journal.{batches}
 use Rattle.gate_journal.specs.Moments.{Told}
-use Rattle.gate_journal.specs.declared.journal.Journal.{Journal}
 use Rattle.cgf_journal.specs.Format.{AreBatches, entries_in}
 use Rattle.cgf_journal.specs.Sound.{places_behind}
 use Rattle.cgf_journal.specs.Tally.{Tallies, tally_of}
@@ -35,10 +33,10 @@ pub record BreaksAt (size : ℕ) (all : List (List ℕ)) (at : ℕ) : Type 0 whe
   pub are_batches : AreBatches size some
   pub unfit : AreBatches size (some ++ batch ∷ []) → ⊥
 
--- these are the batches of a journal, as its area tells
-pub record AreListed {A : Type 0} {tells : Ghosts A} (journal : Journal A tells) (all : List (List ℕ)) : Type 0 where
+-- these are the batches that are listed, as the area tells
+pub record AreListed {A : Type 0} (tells : Ghosts A) (listed all : List (List ℕ)) : Type 0 where
   pub told : Told tells
-  pub listed : batches journal ≡ all
+  pub same : listed ≡ all
 
 -- these batches stand before this place behind some header, as the area tells
 pub record AreListedBefore (tells_octets : Bool) (octets : List ℕ) (at : ℕ) (all : List (List ℕ)) : Type 0 where

@@ -29,5 +29,5 @@ pub(crate) fn take_in(
     ensures refused { result ≡ Ok false → ¬ (IsContent content.now) }
     ensures numbers { length numbers.new ≡ length numbers.old }
 {
-    unreachable!()
+    Err(NoMemory)
 }

@@ -1,5 +1,6 @@
 // The batches that an opening finds, taken in one after the other.
-ghost use Rattle.std.specs.Prelude.{vec_len, ◌≡◌, ◌≢◌, ◌⊎◌, ℕ, ◌+◌, ◌<◌, ◌≤◌, IsTrue, false, List, [], ◌∷◌, ◌++◌, take, Ok, Err, OnOk, OnErr, IfOk, IfErr};
+ghost use Rattle.std.specs.Prelude.{vec_len, ◌≡◌, ◌≢◌, ℕ, ◌+◌, ◌*◌, ◌<◌, ◌≤◌, min, false, List, [], ◌∷◌, ◌++◌, length, Ok, Err, OnOk, OnErr, IfOk};
+ghost use Rattle.gate_journal.specs.Format.{end_of, longest_batch};
 ghost use Rattle.area_disk.specs.Disk.{Rose};
 ghost use Rattle.gate_journal.specs.Journal.{IsKept, IsSettled, area_of, batches, end, is_closed};
 ghost use Rattle.gate_journal.specs.Moments.{Kept, Told};
@@ -17,11 +18,18 @@ use std::alloc::Global;
 /// The most octets of a batch.
 pub(crate) const LONGEST: usize = 1_048_576;
 
-/// What an opening has taken in, and its buffers.
+/// A buffer for the content of each batch of an area of this size.
+pub(crate) fn content_for(alloc: Global, size: u64) -> Result<Vec<u8>, NoMemory>
+    requires { size ≤ 268435456 }
+    ensures { IfOk result (λ content. vec_len content ≡ min longest_batch size) }
+{
+    let longest = size.min(LONGEST as u64);
+    Ok(vec![in alloc; 0; longest as usize]?)
+}
+
+/// What an opening has taken in.
 #[derive(Drop)]
 pub(crate) struct Listing {
-    /// The content of one batch.
-    pub(crate) content: Vec<u8>,
     /// The numbers of one entry.
     pub(crate) numbers: Vec<u64>,
     pub(crate) places: Vec<Place>,
@@ -29,38 +37,34 @@ pub(crate) struct Listing {
 }
 
 impl Listing {
-    /// A listing that has taken in nothing, with buffers for the batches of an area of this size.
-    pub(crate) fn new(alloc: Global, size: u64) -> Result<Listing, NoMemory>
-        requires { size ≤ 268435456 }
-        ensures buffers { IfOk result (λ listing. AreBuffers size (vec_len listing.content) (vec_len listing.numbers)) }
-        ensures taken { 100 ≤ size → IfOk result (λ listing. AreTakenIn size 32 [] listing.places.items listing.tally) }
+    /// A listing that has taken in nothing, for batches of at most so many octets.
+    pub(crate) fn new(alloc: Global, longest: usize) -> Result<Listing, NoMemory>
+        ensures numbers { IfOk result (λ listing. longest ≤ 8 * vec_len listing.numbers) }
+        ensures taken { (size : ℕ) → IfOk result (λ listing. AreTakenIn size 32 [] listing.places.items listing.tally) }
     {
-        let longest = size.min(LONGEST as u64) as usize;
         Ok(Listing {
-            content: vec![in alloc; 0; longest]?,
             numbers: vec![in alloc; 0; longest / 8 + 1]?,
             places: Vec::new(alloc),
             tally: Tally::new(alloc),
         })
     }
 
-    // Takes in the batch behind this gate, whose content is in the buffer, and answers the next gate.
-    fn take(&mut self, gate: u64, length: u32, size: u64) -> Result<u64, OpenFault>
+    // Takes in the batch behind this gate, which has this content, and answers the next gate.
+    fn take(&mut self, gate: u64, content: &[u8], size: u64) -> Result<u64, OpenFault>
+        requires long { 100 ≤ size }
         requires short { size ≤ 268435456 }
-        requires inside { gate + 5 + length ≤ size }
-        requires buffers { AreBuffers size (vec_len self.old.content) (vec_len self.old.numbers) }
-        requires fits { length ≤ vec_len self.old.content }
+        requires inside { gate + 5 + length content.now ≤ size }
+        requires numbers { length content.now ≤ 8 * vec_len self.old.numbers }
         requires costs { self.old.tally.live.costs ≤ capacity_of size }
 
-        ensures next { IfOk result (λ next. next ≡ gate + 5 + length) }
+        ensures next { IfOk result (λ next. next ≡ gate + 5 + length content.now) }
         ensures taken { (some : List (List ℕ)) → AreTakenIn size gate some self.old.places.items self.old.tally →
-            OnOk result (AreTakenIn size (gate + 5 + length) (some ++ take length self.old.content.items ∷ []) self.new.places.items self.new.tally) }
+            OnOk result (AreTakenIn size (gate + 5 + length content.now) (some ++ content.now ∷ []) self.new.places.items self.new.tally) }
         ensures unfit { (some : List (List ℕ)) → AreTakenIn size gate some self.old.places.items self.old.tally → (at : ℕ) → result ≡ Err (OpenFault.NotOurs at) →
-            (at ≡ gate) × (AreBatches size (some ++ take length self.old.content.items ∷ []) → ⊥) }
+            (at ≡ gate) × (AreBatches size (some ++ content.now ∷ []) → ⊥) }
         ensures device { result ≢ Err OpenFault.Device }
-        ensures buffers { AreBuffers size (vec_len self.new.content) (vec_len self.new.numbers) }
+        ensures numbers { vec_len self.new.numbers ≡ vec_len self.old.numbers }
     {
-        let content = &self.content[..length as usize];
         let at = gate + 5;
         match take_in(
             content,
@@ -70,10 +74,10 @@ impl Listing {
             &mut self.tally,
         ) {
             Ok(true) => {
-                if size < self.tally.costs() + 33 {
+                if size - 33 < self.tally.costs() {
                     return Err(OpenFault::NotOurs { at: gate });
                 }
-                Ok(at + u64::from(length))
+                Ok(at + content.len() as u64)
             }
             Ok(false) => Err(OpenFault::NotOurs { at: gate }),
             Err(NoMemory) => Err(OpenFault::NoMemory),
@@ -86,21 +90,23 @@ fn take_next<A: Area>(
     journal: &mut Journal<A>,
     gate: u64,
     size: u64,
+    content: &mut [u8],
     listing: &mut Listing,
 ) -> Result<u64, OpenFault>
     requires ready { is_closed journal.old ≡ false }
-    requires settled { IsSettled journal.old }
+    requires ends { Told A.Area → end journal.old ≡ end_of (batches journal.old) }
     requires size { size ≡ A.size (area_of journal.old) }
+    requires long { 100 ≤ size }
     requires short { size ≤ 268435456 }
     requires end { end journal.old < size }
     requires inside { gate < end journal.old }
-    requires taken { IsTakenUpTo (AreListed journal.old) size gate listing.old.places.items listing.old.tally }
-    requires buffers { AreBuffers size (vec_len listing.old.content) (vec_len listing.old.numbers) }
+    requires taken { IsTakenUpTo (AreListed A.Area (batches journal.old)) size gate listing.old.places.items listing.old.tally }
+    requires buffers { AreBuffers size (length content.old) (vec_len listing.old.numbers) }
 
     ensures next { IfOk result (λ next. (gate < next) × (next ≤ end journal.old)) }
-    ensures taken { IfOk result (λ next. IsTakenUpTo (AreListed journal.old) size next listing.new.places.items listing.new.tally) }
+    ensures taken { IfOk result (λ next. IsTakenUpTo (AreListed A.Area (batches journal.old)) size next listing.new.places.items listing.new.tally) }
     ensures breaks { Told A.Area → (at : ℕ) → result ≡ Err (OpenFault.NotOurs at) → BreaksAt size (batches journal.old) at }
-    ensures buffers { OnOk result (AreBuffers size (vec_len listing.new.content) (vec_len listing.new.numbers)) }
+    ensures numbers { OnOk result (vec_len listing.new.numbers ≡ vec_len listing.old.numbers) }
     ensures kept { IsKept journal.old journal.new }
     ensures device { result ≡ Err OpenFault.Device → Rose (A.faults (area_of journal.old)) (A.faults (area_of journal.new)) }
     ensures faults { OnOk result (A.faults (area_of journal.new) ≡ A.faults (area_of journal.old)) }
@@ -112,10 +118,11 @@ fn take_next<A: Area>(
     let Some((place, length)) = found else {
         return Err(OpenFault::NotOurs { at: gate });
     };
-    let Ok(()) = journal.read(place, &mut listing.content[..length as usize]) else {
+    let content = &mut content[..length as usize];
+    let Ok(()) = journal.read(place, content) else {
         return Err(OpenFault::Device);
     };
-    listing.take(gate, length, size)
+    listing.take(gate, content, size)
 }
 
 /// Takes in all batches of a journal.
@@ -124,16 +131,18 @@ fn take_next<A: Area>(
 pub(crate) fn list<A: Area>(
     journal: &mut Journal<A>,
     size: u64,
+    content: &mut [u8],
     listing: &mut Listing,
 ) -> Result<(), OpenFault>
     requires ready { is_closed journal.old ≡ false }
     requires settled { IsSettled journal.old }
     requires size { size ≡ A.size (area_of journal.old) }
+    requires long { 100 ≤ size }
     requires short { size ≤ 268435456 }
     requires taken { AreTakenIn size 32 [] listing.old.places.items listing.old.tally }
-    requires buffers { AreBuffers size (vec_len listing.old.content) (vec_len listing.old.numbers) }
+    requires buffers { AreBuffers size (length content.old) (vec_len listing.old.numbers) }
 
-    ensures taken { OnOk result (IsTakenUpTo (AreListed journal.old) size (end journal.old) listing.new.places.items listing.new.tally) }
+    ensures taken { OnOk result (IsTakenUpTo (AreListed A.Area (batches journal.old)) size (end journal.old) listing.new.places.items listing.new.tally) }
     ensures breaks { Told A.Area → (at : ℕ) → result ≡ Err (OpenFault.NotOurs at) → BreaksAt size (batches journal.old) at }
     ensures some { Told A.Area → OnErr result (batches journal.old ≢ []) }
     ensures kept { IsKept journal.old journal.new }
@@ -144,7 +153,7 @@ pub(crate) fn list<A: Area>(
     let end = journal.end();
     let mut gate = 32;
     while gate < end {
-        gate = take_next(journal, gate, size, listing)?;
+        gate = take_next(journal, gate, size, content, listing)?;
     }
     Ok(())
 }
@@ -155,18 +164,20 @@ fn take_before<A: Area>(
     gate: u64,
     end: u64,
     size: u64,
+    content: &mut [u8],
     listing: &mut Listing,
 ) -> Result<u64, OpenFault>
     requires size { size ≡ A.size area.old }
+    requires long { 100 ≤ size }
     requires short { size ≤ 268435456 }
     requires inside { gate < end }
     requires taken { IsTakenUpTo (AreListedBefore A.tells_octets (A.octets area.old) end) size gate listing.old.places.items listing.old.tally }
-    requires buffers { AreBuffers size (vec_len listing.old.content) (vec_len listing.old.numbers) }
+    requires buffers { AreBuffers size (length content.old) (vec_len listing.old.numbers) }
 
     ensures next { IfOk result (λ next. (gate < next) × (next ≤ end)) }
     ensures taken { IfOk result (λ next. IsTakenUpTo (AreListedBefore A.tells_octets (A.octets area.old) end) size next listing.new.places.items listing.new.tally) }
     ensures breaks { (all : List (List ℕ)) → AreListedBefore A.tells_octets (A.octets area.old) end all → (at : ℕ) → result ≡ Err (OpenFault.NotOurs at) → BreaksAt size all at }
-    ensures buffers { OnOk result (AreBuffers size (vec_len listing.new.content) (vec_len listing.new.numbers)) }
+    ensures numbers { OnOk result (vec_len listing.new.numbers ≡ vec_len listing.old.numbers) }
     ensures kept { Kept A.Area area.old area.new }
     ensures device { result ≡ Err OpenFault.Device → Rose (A.faults area.old) (A.faults area.new) }
     ensures faults { A.faults area.old ≤ A.faults area.new }
@@ -178,10 +189,11 @@ fn take_before<A: Area>(
     let Some((place, length)) = found else {
         return Err(OpenFault::NotOurs { at: gate });
     };
-    let Ok(()) = read_before(area, place, &mut listing.content[..length as usize]) else {
+    let content = &mut content[..length as usize];
+    let Ok(()) = read_before(area, place, content) else {
         return Err(OpenFault::Device);
     };
-    listing.take(gate, length, size)
+    listing.take(gate, content, size)
 }
 
 /// Takes in all batches of an area before the one at octet `end`.
@@ -191,12 +203,14 @@ pub(crate) fn list_before<A: Area>(
     area: &mut A,
     end: u64,
     size: u64,
+    content: &mut [u8],
     listing: &mut Listing,
 ) -> Result<(), OpenFault>
     requires size { size ≡ A.size area.old }
+    requires long { 100 ≤ size }
     requires short { size ≤ 268435456 }
     requires taken { AreTakenIn size 32 [] listing.old.places.items listing.old.tally }
-    requires buffers { AreBuffers size (vec_len listing.old.content) (vec_len listing.old.numbers) }
+    requires buffers { AreBuffers size (length content.old) (vec_len listing.old.numbers) }
 
     ensures are_batches { (all : List (List ℕ)) → AreListedBefore A.tells_octets (A.octets area.old) end all → OnOk result (AreBatches size all) }
     ensures breaks { (all : List (List ℕ)) → AreListedBefore A.tells_octets (A.octets area.old) end all → (at : ℕ) → result ≡ Err (OpenFault.NotOurs at) → BreaksAt size all at }
@@ -207,7 +221,7 @@ pub(crate) fn list_before<A: Area>(
 {
     let mut gate = 32;
     while gate < end {
-        gate = take_before(area, gate, end, size, listing)?;
+        gate = take_before(area, gate, end, size, content, listing)?;
     }
     Ok(())
 }

@@ -1,5 +1,5 @@
 // How a trail is opened.
-ghost use Rattle.std.specs.Prelude.{vec_len, ◌≡◌, ◌≢◌, ◌⊎◌, ◌≤◌, ℕ, IsTrue, false, [], List, IfOk, IfErr, IsErrAnd, OnErr};
+ghost use Rattle.std.specs.Prelude.{vec_len, ◌≡◌, ◌≢◌, ◌⊎◌, ◌≤◌, ℕ, IsTrue, false, [], List, length, IfOk, IfErr, IsErrAnd, OnErr};
 ghost use Rattle.area_disk.specs.Disk.{Rose, counted};
 ghost use Rattle.gw_base.specs.declared.history.HistoryEntry.{HistoryEntry};
 ghost use Rattle.gate_journal.specs.Format.{Starts, header};
@@ -11,7 +11,7 @@ ghost use Rattle.cgf_journal.specs.Opening.{AreBuffers, AreListed, AreListedBefo
 ghost use Rattle.cgf_journal.specs.Trail.{OnArea, IsSettled, area_of, entries, firm_entries, header_of, is_closed, waiting_octets};
 
 use crate::Trail;
-use crate::listing::{LONGEST, Listing, list, list_before};
+use crate::listing::{LONGEST, Listing, content_for, list, list_before};
 use area_disk::Area;
 use gate_journal::{Journal, OpenFault};
 use gw_base::Buffer;
@@ -19,11 +19,18 @@ use std::alloc::Global;
 
 // The fault of an area that the journal refused: the first batch before octet `at` that isn't entries within the
 // capacity, or else the one that the journal found there.
-fn fault_before<A: Area>(area: &mut A, at: u64, size: u64, mut listing: Listing) -> OpenFault
+fn fault_before<A: Area>(
+    area: &mut A,
+    at: u64,
+    size: u64,
+    content: &mut [u8],
+    mut listing: Listing,
+) -> OpenFault
     requires size { size ≡ A.size area.old }
+    requires long { 100 ≤ size }
     requires short { size ≤ 268435456 }
     requires taken { AreTakenIn size 32 [] listing.places.items listing.tally }
-    requires buffers { AreBuffers size (vec_len listing.content) (vec_len listing.numbers) }
+    requires buffers { AreBuffers size (length content.old) (vec_len listing.numbers) }
 
     ensures here { at ≤ 32 → result ≡ OpenFault.NotOurs at }
     ensures first { (all : List (List ℕ)) → AreListedBefore A.tells_octets (A.octets area.old) at all → (place : ℕ) → result ≡ OpenFault.NotOurs place → BreaksAt size all place ⊎ (AreBatches size all × (place ≡ at)) }
@@ -31,7 +38,7 @@ fn fault_before<A: Area>(area: &mut A, at: u64, size: u64, mut listing: Listing)
     ensures device { result ≡ OpenFault.Device → Rose (A.faults area.old) (A.faults area.new) }
     ensures faults { A.faults area.old ≤ A.faults area.new }
 {
-    match list_before(area, at, size, &mut listing) {
+    match list_before(area, at, size, content, &mut listing) {
         Ok(()) => OpenFault::NotOurs { at },
         Err(fault) => fault,
     }
@@ -78,16 +85,19 @@ impl<A: Area> Trail<A> {
         ensures calls_anew { IsTrue A.tells_calls → Told A.Area → Starts (header (A.size area) address 0) (A.octets area) → IfOk result (λ trail. A.calls (area_of trail) ≡ counted 5 (A.calls area)) }
     {
         let size = area.length();
-        let Ok(listing) = Listing::new(alloc, size) else {
+        let Ok(mut content) = content_for(alloc, size) else {
+            return Err((OpenFault::NoMemory, area));
+        };
+        let Ok(listing) = Listing::new(alloc, content.len()) else {
             return Err((OpenFault::NoMemory, area));
         };
         let Ok(waiting) = Buffer::with(alloc, LONGEST) else {
             return Err((OpenFault::NoMemory, area));
         };
         match Journal::open(alloc, area, address, 0) {
-            Ok(journal) => Trail::over(journal, size, waiting, listing),
+            Ok(journal) => Trail::over(journal, size, waiting, &mut content, listing),
             Err((OpenFault::NotOurs { at }, mut area)) => {
-                let fault = fault_before(&mut area, at, size, listing);
+                let fault = fault_before(&mut area, at, size, &mut content, listing);
                 Err((fault, area))
             }
             Err((OpenFault::Device, area)) => Err((OpenFault::Device, area)),
@@ -100,16 +110,18 @@ impl<A: Area> Trail<A> {
         mut journal: Journal<A>,
         size: u64,
         waiting: Buffer,
+        content: &mut [u8],
         mut listing: Listing,
     ) -> Result<Trail<A>, (OpenFault, A)>
         requires ready { gates.is_closed journal ≡ false }
         requires founded { gates.front_of journal ≡ Founded }
         requires settled { gates.IsSettled journal }
         requires size { size ≡ A.size (gates.area_of journal) }
+        requires long { 100 ≤ size }
         requires short { size ≤ 268435456 }
         requires waiting { waiting ≡ record { octets = []; capacity = 1048576 } }
         requires taken { AreTakenIn size 32 [] listing.places.items listing.tally }
-        requires buffers { AreBuffers size (vec_len listing.content) (vec_len listing.numbers) }
+        requires buffers { AreBuffers size (length content.old) (vec_len listing.numbers) }
 
         ensures are_batches { Told A.Area → IfOk result (λ trail. AreBatches size (gates.batches journal)) }
         ensures entries { Told A.Area → IfOk result (λ trail. firm_entries trail ≡ entries_in (gates.batches journal)) }
@@ -126,7 +138,7 @@ impl<A: Area> Trail<A> {
         ensures faults { IfOk result (λ trail. A.faults (area_of trail) ≡ A.faults (gates.area_of journal)) }
         ensures faults_err { IfErr result (λ fault. A.faults (gates.area_of journal) ≤ A.faults fault.1) }
     {
-        match list(&mut journal, size, &mut listing) {
+        match list(&mut journal, size, content, &mut listing) {
             Ok(()) => Ok(Trail::made(journal, size, waiting, listing)),
             Err(fault) => Err((fault, journal.into_area())),
         }
@@ -139,7 +151,7 @@ impl<A: Area> Trail<A> {
         requires settled { gates.IsSettled journal }
         requires size { size ≡ A.size (gates.area_of journal) }
         requires waiting { waiting ≡ record { octets = []; capacity = 1048576 } }
-        requires taken { IsTakenUpTo (AreListed journal) size (gates.end journal) listing.places.items listing.tally }
+        requires taken { IsTakenUpTo (AreListed A.Area (gates.batches journal)) size (gates.end journal) listing.places.items listing.tally }
 
         ensures are_batches { Told A.Area → AreBatches size (gates.batches journal) }
         ensures entries { Told A.Area → firm_entries result ≡ entries_in (gates.batches journal) }
@@ -151,7 +163,6 @@ impl<A: Area> Trail<A> {
         ensures area { area_of result ≡ gates.area_of journal }
     {
         let Listing {
-            content: _,
             numbers: _,
             places,
             mut tally,
