@@ -1,4 +1,5 @@
 pub mod Entries
+pub mod Meanings
 pub mod Placing
 pub mod Sounds
 pub mod Standing
