@@ -1,1 +1,3 @@
+pub mod KeptKeys
+pub mod KeptSums
 pub mod Tallies
