@@ -3,3 +3,4 @@ pub mod Placing
 pub mod Sounds
 pub mod Standing
 pub mod Tallies
+pub mod Trails

@@ -4,7 +4,7 @@ use Rattle.std.specs.Prelude.{All, slice_get}
 use Rattle.std.proofs.Math.Seq.{drop-append-add}
 use Rattle.std.proofs.lemmas.List.{append-nil, take_at}
 use Rattle.std.proofs.lemmas.List.Elements.{All-cons, All-head, All-nil, All-tail}
-use Rattle.std.proofs.lemmas.Nat.{cases_lt}
+use Rattle.std.proofs.lemmas.Bool.{cases_lt}
 use Rattle.gw_base.specs.declared.history.HistoryEntry.{HistoryEntry}
 use Rattle.gw_base.specs.declared.place.Place.{Place}
 use Rattle.gate_journal.specs.Format.{taken}
@@ -121,36 +121,58 @@ among_later gate batch batches place e is =
       here = subst (λ n. IsAt n is.batch place e) same is.here;
     }
 
-pub behind_is : (gate : ℕ) (batches : List (List ℕ)) → All IsContent batches → (k : ℕ) (place : Place) → slice_get (places_behind gate batches) k ≡ Some place
-    → (e : HistoryEntry) × (slice_get (entries_in batches) k ≡ Some e) × IsAmong gate batches place e
+-- the k-th place is that of this entry, the k-th of these batches
+abbrev pub IsFound : ℕ → List (List ℕ) → ℕ → Place → Type 0
+IsFound gate batches k place = (e : HistoryEntry) × (slice_get (entries_in batches) k ≡ Some e) × IsAmong gate batches place e
+
+found_first : (gate : ℕ) (batch : List ℕ) (batches : List (List ℕ)) → IsContent batch → (k : ℕ) (place : Place) → k < length (places_from (gate + 5) (entries_of batch))
+    → slice_get (places_from (gate + 5) (entries_of batch)) k ≡ Some place → IsFound gate (batch ∷ batches) k place
+found_first gate batch batches content k place lt found =
+    let one = from_is (gate + 5) (entries_of batch) k place found in
+    let octets : IsAt (gate + 5) batch place one.0 = subst (λ (l : List ℕ). IsAt (gate + 5) l place one.0) (sym content.are_entries.spelling) one.2 in
+    (one.0, get_left (entries_of batch) (entries_in batches) k (omega (arith, lt, length-places_from (gate + 5) (entries_of batch))) ∙ one.1, among_first gate batch batches place one.0 octets)
+
+found_later : (gate : ℕ) (batch : List ℕ) (batches : List (List ℕ)) (k j : ℕ) (place : Place) → k ≡ length (entries_of batch) + j → IsFound (gate + 5 + length batch) batches j place → IsFound gate (batch ∷ batches) k place
+found_later gate batch batches k j place is rest = (
+  rest.0,
+  ap (slice_get (entries_of batch ++ entries_in batches)) is ∙ get_right (entries_of batch) (entries_in batches) j ∙ rest.1,
+  among_later gate batch batches place rest.0 rest.2,
+)
+
+found_cons : (gate : ℕ) (batch : List ℕ) (batches : List (List ℕ)) → IsContent batch
+    → ((j : ℕ) (place : Place) → slice_get (places_behind (gate + 5 + length batch) batches) j ≡ Some place → IsFound (gate + 5 + length batch) batches j place)
+    → (k : ℕ) (place : Place) → slice_get (places_behind gate (batch ∷ batches)) k ≡ Some place → IsFound gate (batch ∷ batches) k place
+found_cons gate batch batches content later k place found = by_length (cases_lt k (length here))
+  where
+    here : List Place
+    here = places_from (gate + 5) (entries_of batch)
+
+    rest : List Place
+    rest = places_behind (gate + 5 + length batch) batches
+
+    by_length : (k < length here) ⊎ (length here ≤ k) → IsFound gate (batch ∷ batches) k place
+    by_length (inl lt) = found_first gate batch batches content k place lt (sym (get_left here rest k lt) ∙ found)
+    by_length (inr le) =
+        let past : length here + (k - length here) ≡ k = omega (arith, le) in
+        let is : k ≡ length (entries_of batch) + (k - length here) = omega (arith, le, length-places_from (gate + 5) (entries_of batch)) in
+        found_later gate batch batches k (k - length here) place is (later (k - length here) place (sym (get_right here rest (k - length here)) ∙ ap (slice_get (here ++ rest)) past ∙ found))
+
+-- the k-th place is that of the k-th entry
+pub behind_is : (gate : ℕ) (batches : List (List ℕ)) → All IsContent batches → (k : ℕ) (place : Place) → slice_get (places_behind gate batches) k ≡ Some place → IsFound gate batches k place
 behind_is gate [] contents k place found = absurd (none k found)
   where
     none : (k : ℕ) → slice_get {X = Place} [] k ≡ Some place → ⊥
     none zero found = cc
     none (suc k) found = cc
-behind_is gate (batch ∷ batches) contents k place found = by_length (cases_lt k (length here))
-  where
-    here : List Place
-    here = places_from (gate + 5) (entries_of batch)
+behind_is gate (batch ∷ batches) contents k place found =
+    found_cons gate batch batches (All-head IsContent batch batches contents) (λ j p at. behind_is (gate + 5 + length batch) batches (All-tail IsContent batch batches contents) j p at) k place found
 
-    first : IsContent batch
-    first = All-head IsContent batch batches contents
-
-    length-here : length here ≡ length (entries_of batch)
-    length-here = length-places_from (gate + 5) (entries_of batch)
-
-    by_length : (k < length here) ⊎ (length here ≤ k) → (e : HistoryEntry) × (slice_get (entries_in (batch ∷ batches)) k ≡ Some e) × IsAmong gate (batch ∷ batches) place e
-    by_length (inl lt) =
-        let one = from_is (gate + 5) (entries_of batch) k place (sym (get_left here (places_behind (gate + 5 + length batch) batches) k lt) ∙ found) in
-        let octets : IsAt (gate + 5) batch place one.0 = subst (λ (l : List ℕ). IsAt (gate + 5) l place one.0) (sym first.are_entries.spelling) one.2 in
-        (one.0, get_left (entries_of batch) (entries_in batches) k (omega (arith, lt, length-here)) ∙ one.1, among_first gate batch batches place one.0 octets)
-    by_length (inr le) =
-        let past : length here + (k - length here) ≡ k = omega (arith, le) in
-        let past_entries : k ≡ length (entries_of batch) + (k - length here) = omega (arith, le, length-here) in
-        let rest = behind_is (gate + 5 + length batch) batches (All-tail IsContent batch batches contents) (k - length here) place
-        (sym (get_right here (places_behind (gate + 5 + length batch) batches) (k - length here)) ∙ ap (slice_get (here ++ places_behind (gate + 5 + length batch) batches)) past ∙ found) in
-        (
-          rest.0,
-          ap (slice_get (entries_of batch ++ entries_in batches)) past_entries ∙ get_right (entries_of batch) (entries_in batches) (k - length here) ∙ rest.1,
-          among_later gate batch batches place rest.0 rest.2,
-        )
+pub length-places_behind : (gate : ℕ) (batches : List (List ℕ)) → length (places_behind gate batches) ≡ length (entries_in batches)
+length-places_behind gate [] = refl
+length-places_behind gate (batch ∷ batches) = omega (
+  arith,
+  length-append (places_from (gate + 5) (entries_of batch)) (places_behind (gate + 5 + length batch) batches),
+  length-append (entries_of batch) (entries_in batches),
+  length-places_from (gate + 5) (entries_of batch),
+  length-places_behind (gate + 5 + length batch) batches,
+)
