@@ -52,6 +52,17 @@ module _ {A : Type 0} {tells : Ghosts A} (trail : Trail A tells) where
       by_list [] is none = ap entries_of is ∙ none_of
       by_list (x ∷ l) is none = absurd (omega (arith, none))
 
+  pub entries_open : is_closed trail ≡ false → entries trail ≡ firm_entries trail ++ waiting trail
+  entries_open opened = ap (λ b. if b then firm_entries trail else firm_entries trail ++ waiting trail) opened
+
+  -- where no octet waits, all entries are firm
+  pub entries_firm : waiting_octets trail ≡ 0 → entries trail ≡ firm_entries trail
+  entries_firm none = by_closed (is_closed trail)
+    where
+      by_closed : (closed : Bool) → (let h : List HistoryEntry = if closed then firm_entries trail else firm_entries trail ++ waiting trail in h) ≡ firm_entries trail
+      by_closed true = refl
+      by_closed false = ap (λ (h : List HistoryEntry). firm_entries trail ++ h) (waiting-none none) ∙ append-nil (firm_entries trail)
+
   -- as the trail counts them
   pub firm_count : Told tells → trail.firm ≡ length (firm_entries trail)
   unfolding firm_entries
@@ -60,6 +71,13 @@ module _ {A : Type 0} {tells : Ghosts A} (trail : Trail A tells) where
   pub places_count : length trail.places.items ≡ trail.firm + length (waiting trail)
   unfolding waiting
   places_count = waiting_count trail.journal trail.size trail.waiting trail.places.items trail.firm trail.tally trail.sound
+
+  pub length_firm : waiting_octets trail ≡ 0 → length_of trail ≡ trail.firm
+  length_firm none = by_closed (is_closed trail)
+    where
+      by_closed : (closed : Bool) → (if closed then trail.firm else length trail.places.items) ≡ trail.firm
+      by_closed true = refl
+      by_closed false = omega (arith, places_count, ap length (waiting-none none))
 
   pub count : Told tells → length_of trail ≡ length (entries trail)
   count told = by_closed (is_closed trail)
