@@ -1,5 +1,6 @@
 pub mod Entries
 pub mod Placing
+pub mod Reopening
 pub mod Sounds
 pub mod Standing
 pub mod Tallies

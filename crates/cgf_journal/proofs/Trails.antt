@@ -95,7 +95,7 @@ module _ {A : Type 0} {tells : Ghosts A} (trail : Trail A tells) where
       by_closed false = live_is trail.journal trail.size trail.waiting trail.places.items trail.firm trail.tally trail.sound told
 
   -- a firm place is among the firm ones
-  get_firm : (k : ℕ) (place : Place) → IsPlaceOf trail k place → slice_get (take trail.firm trail.places.items) k ≡ Some place
+  pub get_firm : (k : ℕ) (place : Place) → IsPlaceOf trail k place → slice_get (take trail.firm trail.places.items) k ≡ Some place
   get_firm k place is =
       let low : k < length (take trail.firm trail.places.items) = omega (arith, is.0, length-take-le trail.firm trail.places.items trail.sound.firm_places) in
       sym (get_left (take trail.firm trail.places.items) (drop trail.firm trail.places.items) k low) ∙ ap (λ (l : List Place). slice_get l k) (take-append-drop trail.firm trail.places.items) ∙ is.1
