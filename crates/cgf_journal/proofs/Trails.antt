@@ -1,6 +1,7 @@
 -- What a trail tells of its entries.
 use Rattle.std.proofs.Common.{◌≡◌, ◌≢◌, ◌⊎◌, inl, inr, ℕ, ◌+◌, ◌-◌, ◌<◌, ◌≤◌, Bool, true, false, List, [], ◌∷◌, ◌++◌, length, take, drop, refl, sym, ◌∙◌, ap, subst, arith, length-append}
-use Rattle.std.specs.Prelude.{All, IsTrue, Some, get_or, if◌then◌else◌, slice_get}
+use Rattle.std.specs.Prelude.{All, Err, IsTrue, Ok, OnErr, Result, Some, if◌then◌else◌, nat_le, slice_get}
+use Rattle.std.proofs.lemmas.Bool.Decides.{nat_tests}
 use Rattle.std.proofs.lemmas.List.{append-nil, length-take-le, take-append-drop}
 use Rattle.std.proofs.lemmas.Option.{get_or_from_slice_get, slice_get_within}
 use Rattle.area_disk.specs.declared.area.Area.{Ghosts}
@@ -14,14 +15,29 @@ use Rattle.gate_journal.specs.Moments.{Leaves, Told}
 use Rattle.gate_journal.specs.State.{Keeps}
 use Rattle.gate_journal.proofs.Runs.{both, widen}
 use Rattle.entry_codec.specs.Content.{entries_of, spelled}
+use Rattle.entry_codec.specs.Room.{capacity_of}
+use Rattle.entry_codec.specs.Spelling.{cost_of}
 use Rattle.cgf_journal.specs.Format.{AreBatches, StandsFor, entries_in}
 use Rattle.cgf_journal.specs.Sound.{EndsBy, IsSound, places_behind}
-use Rattle.cgf_journal.specs.Tally.{TallyValue, tally_behind_all, tally_of}
+use Rattle.cgf_journal.specs.Tally.{TallyValue, has_room_behind, promised_by, tally_behind, tally_behind_all, tally_of}
 use Rattle.cgf_journal.specs.Trail.{IsKept, IsPlaceOf, IsSettled, StandsForOr, area_of, entries, firm_entries, header_of, is_closed, left_by_stop, length_of, stop_stands, tally, waiting, waiting_octets}
 use Rattle.cgf_journal.specs.declared.trail.Trail.{Trail}
 use Rattle.cgf_journal.proofs.Placing.{IsAmong, IsFound, behind_is, get_left, length-places_behind}
 use Rattle.cgf_journal.proofs.Sounds.{live_is, none_of, one_more_batch, waiting_count}
 use Rattle.cgf_journal.proofs.Standing.{keeps_either, keeps_for, keeps_more}
+
+pub on_err : {T E Q : Type 0} (r : Result T E) → Q → OnErr r Q
+on_err (Ok x) q = tt
+on_err (Err fault) q = q
+
+-- what has room has it beside what all entries cost
+pub room_costs : (t : TallyValue) (e : HistoryEntry) (size : ℕ) → has_room_behind t e size ≡ true → t.costs + cost_of e ≤ capacity_of size
+room_costs t e size room =
+    let within = leb-true (t.costs + cost_of e + promised_by (tally_behind t e)) (capacity_of size) room in
+    omega (arith, within)
+  where
+    leb-true : (m n : ℕ) → nat_le m n ≡ true → m ≤ n
+    leb-true m n is = grind (arith, nat_tests)
 
 -- what a trail holds stays where its journal lists the same
 pub kept : {A : Type 0} {tells : Ghosts A} (old new : Trail A tells) → header_of new ≡ header_of old → is_closed new ≡ is_closed old → (Told tells → journal.batches new.journal ≡ journal.batches old.journal)

@@ -1,5 +1,4 @@
 use Rattle.std.proofs.Common.{◌≡◌, ◌≢◌, ℕ, ◌+◌, Bool, true, false, if◌then◌else◌, List, [], ◌∷◌, ◌++◌, length, refl, sym, ◌∙◌, ap, subst, slice_get, rules}
-use Rattle.std.specs.Prelude.{OnErr, Result, Ok, Err}
 use Rattle.gw_base.specs.Buffer.{Buffered}
 use Rattle.gw_base.specs.declared.place.Place.{Place}
 use Rattle.gate_journal.specs.Journal as journal
@@ -12,12 +11,8 @@ use Rattle.cgf_journal.proofs.Entries.{entries_in-push}
 use Rattle.cgf_journal.proofs.Reopening.{either_way, end_goes, goes, list_goes, list_stays, stays, tally_closed}
 use Rattle.cgf_journal.proofs.Sounds.{dropped, settled as settled_sound}
 use Rattle.cgf_journal.proofs.Standing.{founded_is}
-use Rattle.cgf_journal.proofs.Trails.{get_firm, kept, leaves_either, places_count, settled, waiting-none}
+use Rattle.cgf_journal.proofs.Trails.{get_firm, kept, leaves_either, on_err, places_count, settled, waiting-none}
 use Rattle.cgf_journal.proofs.trail.Trail.reopen.Goals as goal
-
-on_err : {T E Q : Type 0} (r : Result T E) → Q → OnErr r Q
-on_err (Ok x) q = tt
-on_err (Err e) q = q
 
 pub returns-in_err-reopen-clause-err : goal.returns-in_err-reopen-clause-err
 returns-in_err-reopen-clause-err g c =
