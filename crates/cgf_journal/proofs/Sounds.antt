@@ -72,8 +72,8 @@ module _ {A : Type 0} {tells : Ghosts A} (journal : Journal A tells) (size : ℕ
   all_end later le =
       subst (All (EndsBy later)) (take-append-drop firm places)
       (All-append (EndsBy later) (take firm places) (drop firm places)
-        (All-weaker (EndsBy (end journal)) (EndsBy later) (λ place ends. omega (arith, ends, le)) (take firm places) sound.firm_ends)
-        (subst (All (EndsBy later)) (sym sound.waiting_placed) (places_from-ends (end journal + 5) pending later (omega (arith, le, length-spelled)))))
+      (All-weaker (EndsBy (end journal)) (EndsBy later) (λ place ends. omega (arith, ends, le)) (take firm places) sound.firm_ends)
+      (subst (All (EndsBy later)) (sym sound.waiting_placed) (places_from-ends (end journal + 5) pending later (omega (arith, le, length-spelled)))))
 
   -- the journal goes on without a batch more
   module _ (new : Journal A tells) (founded : is_founded (front_of new) ≡ true) (same_size : tells.size (area_of new) ≡ tells.size (area_of journal)) (same_end : end new ≡ end journal)

@@ -156,7 +156,7 @@ module _ {A : Type 0} {tells : Ghosts A} (trail : Trail A tells) where
       let more = one_more_batch trail.journal trail.size trail.waiting trail.places.items trail.firm trail.tally trail.sound told some in
       widen tells (area_of trail) new _ _
       (λ c has. keeps_either (journal.front_of trail.journal) (tells.size (area_of trail)) (header_of trail) (journal.batches trail.journal) trail.sound.founded (trail.sound.are_batches told) trail.waiting.octets more c has.0
-          (subst (λ (b : List ℕ). journal.KeepsOr (journal.front_of trail.journal) (header_of trail) (journal.batches trail.journal) b c) is has.1))
+      (subst (λ (b : List ℕ). journal.KeepsOr (journal.front_of trail.journal) (header_of trail) (journal.batches trail.journal) b c) is has.1))
       (both tells (area_of trail) new (λ c. length c ≡ tells.size (area_of trail)) (journal.KeepsOr (journal.front_of trail.journal) (header_of trail) (journal.batches trail.journal) batch) sized keeps)
 
   -- what a stop leaves

@@ -7,6 +7,8 @@ mod faults;
 mod key;
 mod opening;
 mod tally;
+#[cfg(test)]
+mod tests;
 mod trail;
 
 pub use faults::PushFault;
