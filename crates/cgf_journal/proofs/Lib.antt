@@ -1,4 +1,6 @@
 pub mod Entries
+pub mod KeptKeys
+pub mod KeptSums
 pub mod Placing
 pub mod Reopening
 pub mod Sounds
