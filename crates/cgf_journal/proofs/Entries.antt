@@ -15,28 +15,8 @@ use Rattle.cgf_journal.specs.Tally.{TallyValue, tally_behind, tally_behind_all}
 pub spelled-push : (h : List HistoryEntry) (e : HistoryEntry) → spelled (h ++ e ∷ []) ≡ spelled h ++ spelling e
 spelled-push h e = flat_map-append spelling h (e ∷ []) ∙ ap (λ (l : List ℕ). spelled h ++ l) (append-nil (spelling e))
 
--- one more entry behind others
-pub are_entries-push : (octets : List ℕ) (h : List HistoryEntry) (e : HistoryEntry) → AreEntries octets h → HasSpelling e → AreEntries (octets ++ spelling e) (h ++ e ∷ [])
-are_entries-push octets h e are fits = record {
-  spelling = ap (λ (l : List ℕ). l ++ spelling e) are.spelling ∙ sym (spelled-push h e);
-  each = All-push HasSpelling h e are.each fits;
-}
-
 pub entries_in-push : (batches : List (List ℕ)) (batch : List ℕ) → entries_in (batches ++ batch ∷ []) ≡ entries_in batches ++ entries_of batch
 entries_in-push batches batch = flat_map-append entries_of batches (batch ∷ []) ∙ ap (λ (h : List HistoryEntry). entries_in batches ++ h) (append-nil (entries_of batch))
-
--- entries cost their octets, and five each
-pub length-spelled : (h : List HistoryEntry) → length (spelled h) + 5 * length h ≡ costs_of h
-length-spelled [] = refl
-length-spelled (e ∷ h) = omega (arith, length-append (spelling e) (spelled h), length_of_spelling e, length-spelled h)
-
-pub costs_behind : (t : TallyValue) (h : List HistoryEntry) → (tally_behind_all t h).costs ≡ t.costs + costs_of h
-costs_behind t [] = omega arith
-costs_behind t (e ∷ h) = omega (arith, costs_behind (tally_behind t e) h)
-
-pub behind-push : (t : TallyValue) (h : List HistoryEntry) (e : HistoryEntry) → tally_behind_all t (h ++ e ∷ []) ≡ tally_behind (tally_behind_all t h) e
-behind-push t [] e = refl
-behind-push t (x ∷ h) e = behind-push (tally_behind t x) h e
 
 -- one more batch behind others
 pub are_batches-push : (size : ℕ) (batches : List (List ℕ)) (batch : List ℕ) → AreBatches size batches → IsContent batch → costs_of (entries_in batches ++ entries_of batch) ≤ capacity_of size → AreBatches size (batches ++ batch ∷ [])

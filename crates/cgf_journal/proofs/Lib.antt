@@ -3,7 +3,9 @@ pub mod KeptKeys
 pub mod KeptSums
 pub mod Meanings
 pub mod Placing
+pub mod Reopening
 pub mod Sounds
 pub mod Standing
 pub mod Takings
 pub mod Tallies
+pub mod Trails

@@ -14,15 +14,14 @@ use Rattle.gate_journal.specs.declared.journal.Journal.{Journal}
 use Rattle.entry_codec.specs.Content.{AreEntries, IsContent, entries_of, spelled}
 use Rattle.entry_codec.specs.Room.{capacity_of, costs_of}
 use Rattle.entry_codec.specs.Spelling.{HasSpelling, cost_of, entry_length, spelling}
-use Rattle.entry_codec.proofs.Contents.{entries_of_entries, more_entries, no_entries, one_entry}
+use Rattle.entry_codec.proofs.Contents.{costs_of-spelled, entries_of_entries, more_entries, no_entries, one_entry}
 use Rattle.entry_codec.proofs.Entries.{length_of_spelling}
-use Rattle.entry_codec.proofs.Rooms.{costs_of-spelled}
 use Rattle.cgf_journal.specs.Format.{AreBatches, entries_in}
 use Rattle.cgf_journal.specs.Sound.{EndsBy, IsSound, is_founded, places_behind, places_from}
 use Rattle.cgf_journal.specs.Tally.{Tallies, TallyValue, tally_behind, tally_behind_all, tally_of}
-use Rattle.cgf_journal.proofs.Entries.{are_batches-push, behind-push, costs_behind, entries_in-push}
+use Rattle.cgf_journal.proofs.Entries.{are_batches-push, entries_in-push}
 use Rattle.cgf_journal.proofs.Placing.{length-places_from, places_behind-push, places_from-ends, places_from-push}
-use Rattle.cgf_journal.proofs.Tallies.{tally_all}
+use Rattle.cgf_journal.proofs.Tallies.{tally_all, tally_all-append, tally_all-costs}
 
 -- where nothing was pushed, no entry waits
 pub none_of : entries_of [] ≡ []
@@ -41,7 +40,7 @@ module _ {A : Type 0} {tells : Ghosts A} (journal : Journal A tells) (size : ℕ
   length-spelled = ap length sound.are_entries.spelling
 
   pub live_costs : tally.live.costs ≡ tally.firm.costs + length waiting.octets + 5 * length pending
-  live_costs = omega (arith, ap (λ (t : TallyValue). t.costs) sound.live_tally, costs_behind tally.firm pending, costs_of-spelled pending, length-spelled)
+  live_costs = omega (arith, ap (λ (t : TallyValue). t.costs) sound.live_tally, tally_all-costs tally.firm pending, costs_of-spelled pending, length-spelled)
 
   pub waiting_count : length places ≡ firm + length pending
   waiting_count = omega (arith, sound.firm_places, length-drop firm places, ap length sound.waiting_placed, length-places_from (end journal + 5) pending)
@@ -61,7 +60,7 @@ module _ {A : Type 0} {tells : Ghosts A} (journal : Journal A tells) (size : ℕ
   fits some = omega (arith, some_wait some, live_costs, sound.taken, sound.within)
 
   pub live_is : Told tells → tally.live ≡ tally_of (entries_in (batches journal) ++ pending)
-  live_is told = sound.live_tally ∙ ap (λ (t : TallyValue). tally_behind_all t pending) (sound.firm_tally told) ∙ sym (tally_all (entries_in (batches journal)) pending)
+  live_is told = sound.live_tally ∙ ap (λ (t : TallyValue). tally_behind_all t pending) (sound.firm_tally told) ∙ tally_all (entries_in (batches journal)) pending
 
   pub one_more_batch : Told tells → waiting.octets ≢ [] → AreBatches (tells.size (area_of journal)) (batches journal ++ waiting.octets ∷ [])
   one_more_batch told some =
@@ -199,7 +198,7 @@ module _ {A : Type 0} {tells : Ghosts A} (journal : Journal A tells) (size : ℕ
             room = sound.room;
             short = omega (arith, short, length-append waiting.octets (spelling e), length_of_spelling e);
             are_entries = grown_entries;
-            live_tally = ap (λ (t : TallyValue). tally_behind t e) sound.live_tally ∙ sym (behind-push tally.firm pending e) ∙ ap (λ (h : List HistoryEntry). tally_behind_all tally.firm h) (sym pending-push);
+            live_tally = ap (λ (t : TallyValue). tally_behind t e) sound.live_tally ∙ sym (tally_all-append tally.firm pending (e ∷ [])) ∙ ap (λ (h : List HistoryEntry). tally_behind_all tally.firm h) (sym pending-push);
             waiting_placed = placed_last;
             torn_waits = λ closed. absurd (not_both closed);
             some_torn = λ closed. absurd (not_both closed);

@@ -36,15 +36,16 @@ pub stands_for : (size : ℕ) (header octets : List ℕ) (batches : List (List �
 stands_for size header octets batches sized are stands = record { batches = batches; stands = stands; are_batches = subst (λ n. AreBatches n batches) (sym sized) are; history = refl }
 
 -- batches of entries, and one more
-module _ (front : Front) (size : ℕ) (header : List ℕ) (batches : List (List ℕ)) (batch : List ℕ) (founded : is_founded front ≡ true) (are : AreBatches size batches) where
+module _ (front : Front) (size : ℕ) (header : List ℕ) (batches : List (List ℕ)) (founded : is_founded front ≡ true) (are : AreBatches size batches) where
   pub keeps_for : (octets : List ℕ) → length octets ≡ size → Keeps front header batches octets → StandsFor header octets (entries_in batches)
   keeps_for octets sized keeps = stands_for size header octets batches sized are (keeps_stands front header octets batches founded keeps)
 
-  pub keeps_more : AreBatches size (batches ++ batch ∷ []) → (octets : List ℕ) → length octets ≡ size → Keeps front header (batches ++ batch ∷ []) octets → StandsFor header octets (entries_in batches ++ entries_of batch)
-  keeps_more more octets sized keeps =
-      subst (λ (h : List HistoryEntry). StandsFor header octets h) (entries_in-push batches batch) (stands_for size header octets (batches ++ batch ∷ []) sized more (keeps_stands front header octets (batches ++ batch ∷ []) founded keeps))
+  module _ (batch : List ℕ) (more : AreBatches size (batches ++ batch ∷ [])) where
+    pub keeps_more : (octets : List ℕ) → length octets ≡ size → Keeps front header (batches ++ batch ∷ []) octets → StandsFor header octets (entries_in batches ++ entries_of batch)
+    keeps_more octets sized keeps =
+        subst (λ (h : List HistoryEntry). StandsFor header octets h) (entries_in-push batches batch)
+        (stands_for size header octets (batches ++ batch ∷ []) sized more (keeps_stands front header octets (batches ++ batch ∷ []) founded keeps))
 
-  pub keeps_either : AreBatches size (batches ++ batch ∷ []) → (octets : List ℕ) → length octets ≡ size → KeepsOr front header batches batch octets
-      → StandsForOr header (entries_in batches) (entries_in batches ++ entries_of batch) octets
-  keeps_either more octets sized (inl keeps) = inl (keeps_for octets sized keeps)
-  keeps_either more octets sized (inr keeps) = inr (keeps_more more octets sized keeps)
+    pub keeps_either : (octets : List ℕ) → length octets ≡ size → KeepsOr front header batches batch octets → StandsForOr header (entries_in batches) (entries_in batches ++ entries_of batch) octets
+    keeps_either octets sized (inl keeps) = inl (keeps_for octets sized keeps)
+    keeps_either octets sized (inr keeps) = inr (keeps_more octets sized keeps)

@@ -9,6 +9,8 @@ pub mod laws;
 mod listing;
 mod opening;
 mod tally;
+#[cfg(test)]
+mod tests;
 mod trail;
 
 pub use faults::PushFault;
