@@ -1,4 +1,5 @@
 pub mod Entries
+pub mod Founding
 pub mod KeptKeys
 pub mod KeptSums
 pub mod Meanings
