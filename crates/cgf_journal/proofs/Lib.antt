@@ -3,6 +3,7 @@ pub mod Founding
 pub mod KeptKeys
 pub mod KeptSums
 pub mod Meanings
+pub mod Opened
 pub mod Placing
 pub mod Reopening
 pub mod Sounds
