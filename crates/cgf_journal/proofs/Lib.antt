@@ -1,3 +1,4 @@
 pub mod KeptKeys
 pub mod KeptSums
+pub mod Takings
 pub mod Tallies
