@@ -84,8 +84,15 @@ one_taken content rest start at count before places grown old tally counted so_f
 pub costs_so_far : (content rest : List ℕ) (start at : ℕ) (before places : List Place) (old tally : Tallies) → AreTaken content rest start at before places old tally
     → tally.live.costs + 2 * length rest ≤ old.live.costs + 2 * length content
 costs_so_far content rest start at before places old tally so_far =
-    omega (arith, ap (λ (t : Tallies). t.live.costs) so_far.counted, tally_all-costs old.live so_far.entries, costs_at_most so_far.entries,
-    ap (λ (o : List ℕ). length o) so_far.are_entries.spelling, ap (λ (o : List ℕ). length o) so_far.parts, length-append so_far.front rest)
+    omega (
+      arith,
+      ap (λ (t : Tallies). t.live.costs) so_far.counted,
+      tally_all-costs old.live so_far.entries,
+      costs_at_most so_far.entries,
+      ap (λ (o : List ℕ). length o) so_far.are_entries.spelling,
+      ap (λ (o : List ℕ). length o) so_far.parts,
+      length-append so_far.front rest,
+    )
 
 -- ---- at the end
 

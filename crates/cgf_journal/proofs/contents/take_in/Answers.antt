@@ -1,25 +1,27 @@
-use Rattle.std.proofs.Common.{◌≡◌, ◌≢◌, ℕ, Option, subst, ◌+◌, ◌*◌, ◌≤◌, ◌==◌, not, false, true, List, [], length, sym, ap, ◌∙◌, arith, rules, Ok, Some, IfSome}
+use Rattle.std.proofs.Common.{ℕ, Option, subst, ◌+◌, List, sym, ap, ◌∙◌, arith, Ok, IfSome}
 use Rattle.std.proofs.lemmas.Bool.{not-true}
 use Rattle.cgf_journal.specs.Contents.{IsTakenIn}
-use Rattle.cgf_journal.specs.Tally.{Tallies}
 use Rattle.cgf_journal.proofs.Takings.{AreTaken, IsAllTaken, all_taken, costs_so_far, is_end, not_end, one_taken, rest_refuses}
 use Rattle.cgf_journal.proofs.contents.take_in.Goals as goal
 
 pub take_entry-requires-clause-costs : goal.take_entry-requires-clause-costs
 take_entry-requires-clause-costs c =
-    omega (arith, c.requires.costs,
-    costs_so_far c.args.content.now c.loop-rest.rest.now c.args.at c.loop-rest.from c.args.places.now.items c.loop-rest.places.items c.args.tally.now c.loop-rest.tally c.loop-rest.invariant)
+    omega (
+      arith,
+      c.requires.costs,
+      costs_so_far c.args.content.now c.loop-rest.rest.now c.args.at c.loop-rest.from c.args.places.now.items c.loop-rest.places.items c.args.tally.now c.loop-rest.tally c.loop-rest.invariant,
+    )
 
 pub returns-in_default-clause-refused : goal.returns-in_default-clause-refused
 returns-in_default-clause-refused c =
     let none = c.take_entry.ensures.none (c.in_ok-count.was ∙ ap (λ x. Ok x) c.in_default.is) in
     λ same is. rest_refuses c.args.content.now c.loop-rest.rest.now c.args.at c.loop-rest.from c.args.places.now.items c.loop-rest.places.items c.args.tally.now c.loop-rest.tally c.loop-rest.invariant
-        (not_end c.loop-rest.rest.now (sym c.is_empty.ensures ∙ c.loop-rest-test.true)) none is
+    (not_end c.loop-rest.rest.now (sym c.is_empty.ensures ∙ c.loop-rest-test.true)) none is
 
 pub loop-rest-preserved : goal.loop-rest-preserved
 loop-rest-preserved c =
     let one : IsTakenIn c.loop-rest.rest.now c.loop-rest.from c.in-Some.count c.loop-rest.places.items c.take_entry.new.places.items c.loop-rest.tally c.take_entry.new.tally =
-        subst (λ (found : Option ℕ). IfSome found (λ (count : ℕ). IsTakenIn c.loop-rest.rest.now c.loop-rest.from count c.loop-rest.places.items c.take_entry.new.places.items c.loop-rest.tally c.take_entry.new.tally)) c.in-Some.is c.in_ok-count.ensures.some in
+    subst (λ (found : Option ℕ). IfSome found (λ (count : ℕ). IsTakenIn c.loop-rest.rest.now c.loop-rest.from count c.loop-rest.places.items c.take_entry.new.places.items c.loop-rest.tally c.take_entry.new.tally)) c.in-Some.is c.in_ok-count.ensures.some in
     subst (λ (rest : List ℕ). AreTaken c.args.content.now rest c.args.at (c.loop-rest.from + c.in-Some.count) c.args.places.now.items c.take_entry.new.places.items c.args.tally.now c.take_entry.new.tally) (sym c.split_at.ensures.back)
     (one_taken c.args.content.now c.loop-rest.rest.now c.args.at c.loop-rest.from c.in-Some.count c.args.places.now.items c.loop-rest.places.items c.take_entry.new.places.items c.args.tally.now c.loop-rest.tally c.take_entry.new.tally c.loop-rest.invariant one)
 
