@@ -21,7 +21,7 @@ use Rattle.cgf_journal.specs.Sound.{EndsBy, IsSound, is_founded, places_behind, 
 use Rattle.cgf_journal.specs.Tally.{Tallies, TallyValue, tally_behind_all, tally_of}
 use Rattle.cgf_journal.proofs.Placing.{places_from-ends}
 use Rattle.cgf_journal.proofs.Sounds.{none_of}
-use Rattle.cgf_journal.proofs.Takings.{no_more}
+use Rattle.cgf_journal.proofs.Listings.{no_more}
 
 -- a batch costs its octets and its gate and length at least
 batch_costs : (batch : List ℕ) → IsContent batch → length batch + 5 ≤ costs_of (entries_of batch)

@@ -2,6 +2,7 @@ pub mod Entries
 pub mod Founding
 pub mod KeptKeys
 pub mod KeptSums
+pub mod Listings
 pub mod Meanings
 pub mod Opened
 pub mod Placing

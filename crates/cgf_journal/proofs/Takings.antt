@@ -1,122 +1,142 @@
--- Batches that an opening takes in, one after the other.
-use Rattle.std.proofs.Common.{◌≡◌, ℕ, ◌+◌, ◌<◌, ◌≤◌, List, [], ◌∷◌, ◌++◌, Result, Ok, Err, length, take, drop, refl, sym, ◌∙◌, ap, subst, arith, append_assoc}
-use Rattle.std.specs.Prelude.{All, IfOk, OnOk, Option, Some, unwrap_or}
-use Rattle.std.proofs.lemmas.List.{append-nil, drop_at, take_all}
-use Rattle.std.proofs.lemmas.List.Elements.{All-drop, All-head}
+-- A content that is taken in entry by entry, from its front on.
+use Rattle.std.proofs.Common.{◌≡◌, ◌≢◌, ℕ, suc, ◌+◌, ◌-◌, ◌*◌, ◌≤◌, ◌<◌, ◌==◌, Bool, true, false, List, [], ◌∷◌, ◌++◌, length, take, drop, refl, sym, ap, subst, ◌∙◌, arith, append_assoc}
+use Rattle.std.proofs.lemmas.Bool.{eqb-false, eqb-true}
+use Rattle.std.proofs.lemmas.List.{append-nil, length-append, take-append-drop}
+use Rattle.std.proofs.lemmas.List.Elements.{All-head}
 use Rattle.gw_base.specs.declared.history.HistoryEntry.{HistoryEntry}
 use Rattle.gw_base.specs.declared.place.Place.{Place}
-use Rattle.gate_journal.specs.Format.{end_of, header_length, taken}
-use Rattle.gate_journal.proofs.Spelling.{taken-append}
-use Rattle.entry_codec.specs.Content.{IsContent, entries_of}
-use Rattle.entry_codec.specs.Room.{capacity_of, costs_of}
-use Rattle.entry_codec.proofs.Contents.{costs_of-append}
-use Rattle.cgf_journal.specs.Format.{AreBatches, entries_in}
-use Rattle.cgf_journal.specs.Opening.{AreTakenIn, BreaksAt, IsTakenUpTo}
-use Rattle.cgf_journal.specs.Sound.{places_behind, places_from}
-use Rattle.cgf_journal.specs.Tally.{Tallies, TallyValue, tally_behind_all, tally_of}
-use Rattle.cgf_journal.proofs.Entries.{are_batches-push, entries_in-push}
-use Rattle.cgf_journal.proofs.Placing.{places_behind-push}
-use Rattle.cgf_journal.proofs.Tallies.{tally_all, tally_all-costs}
+use Rattle.entry_codec.specs.Content.{AreEntries, IsContent, entries_of, spelled}
+use Rattle.entry_codec.specs.Fault.{BeginsWith}
+use Rattle.entry_codec.specs.Room.{costs_of}
+use Rattle.entry_codec.specs.Spelling.{HasSpelling, entry_length, spelling}
+use Rattle.entry_codec.proofs.Contents.{costs_of-spelled, divided_entries, entries_of_entries, more_entries, no_entries, one_entry}
+use Rattle.entry_codec.proofs.Entries.{length_of_spelling}
+use Rattle.cgf_journal.specs.Contents.{IsTakenIn}
+use Rattle.cgf_journal.specs.Sound.{places_from}
+use Rattle.cgf_journal.specs.Tally.{Tallies, tally_behind_all}
+use Rattle.cgf_journal.proofs.Tallies.{tally_all-append, tally_all-costs}
 
--- the last of some batches is entries
-last_content : (some : List (List ℕ)) (batch : List ℕ) → All IsContent (some ++ batch ∷ []) → IsContent batch
-last_content some batch all =
-    All-head IsContent batch [] (subst (λ (l : List (List ℕ)). All IsContent l) (drop_at some (batch ∷ []) (length some) refl) (All-drop IsContent (length some) (some ++ batch ∷ []) all))
+-- ---- places
 
-module _ (size gate : ℕ) (some : List (List ℕ)) (places : List Place) (tally : Tallies) (taken_in : AreTakenIn size gate some places tally) (batch : List ℕ) where
-  live_behind : tally_behind_all tally.live (entries_of batch) ≡ tally_of (entries_in (some ++ batch ∷ []))
-  live_behind =
-      ap (λ (t : TallyValue). tally_behind_all t (entries_of batch)) taken_in.live
-      ∙ tally_all (entries_in some) (entries_of batch)
-      ∙ ap (λ (h : List HistoryEntry). tally_of h) (sym (entries_in-push some batch))
+pub places_from-append : (at : ℕ) (h g : List HistoryEntry) → places_from at (h ++ g) ≡ places_from at h ++ places_from (at + length (spelled h)) g
+places_from-append at [] g = ap (λ (k : ℕ). places_from k g) (omega arith)
+places_from-append at (e ∷ h) g =
+    let behind : at + entry_length e + length (spelled h) ≡ at + length (spelled (e ∷ h)) = omega (arith, length-append (spelling e) (spelled h), length_of_spelling e) in
+    ap (λ (ps : List Place). (let p : Place = record { at = at; length = entry_length e } in p) ∷ ps)
+    (places_from-append (at + entry_length e) h g ∙ ap (λ (k : ℕ). places_from (at + entry_length e) h ++ places_from k g) behind)
 
-  costs_are : (tally_behind_all tally.live (entries_of batch)).costs ≡ costs_of (entries_in (some ++ batch ∷ []))
-  costs_are = ap (λ (t : TallyValue). t.costs) live_behind
+pub length-places_from : (at : ℕ) (h : List HistoryEntry) → length (places_from at h) ≡ length h
+length-places_from at [] = refl
+length-places_from at (e ∷ h) = ap suc (length-places_from (at + entry_length e) h)
 
-  -- one more is taken in
-  pub one_more : (more : List Place) (new : Tallies) → IsContent batch → more ≡ places ++ places_from (gate + 5) (entries_of batch)
-      → new ≡ record { firm = tally.firm; live = tally_behind_all tally.live (entries_of batch) } → new.live.costs ≤ capacity_of size
-      → AreTakenIn size (gate + 5 + length batch) (some ++ batch ∷ []) more new
-  one_more more new content placed counted within =
-      let live : new.live ≡ tally_behind_all tally.live (entries_of batch) = ap (λ (t : Tallies). t.live) counted in
-      let costs : new.live.costs ≡ costs_of (entries_in (some ++ batch ∷ [])) = ap (λ (t : TallyValue). t.costs) live ∙ costs_are in
-      record {
-        are_batches = are_batches-push size some batch taken_in.are_batches content (subst (λ (h : List HistoryEntry). costs_of h ≤ capacity_of size) (entries_in-push some batch) (omega (arith, within, costs)));
-        gate_is = omega (arith, taken_in.gate_is, taken-append some (batch ∷ []));
-        placed =
-            placed
-            ∙ ap (λ (l : List Place). l ++ places_from (gate + 5) (entries_of batch)) taken_in.placed
-            ∙ ap (λ n. places_behind header_length some ++ places_from (n + 5) (entries_of batch)) taken_in.gate_is
-            ∙ sym (places_behind-push header_length some batch);
-        firm = ap (λ (t : Tallies). t.firm) counted ∙ taken_in.firm;
-        live = live ∙ live_behind;
-      }
+-- ---- costs
 
-  -- one that is no entries is none to take in
-  pub no_entries : (IsContent batch → ⊥) → AreBatches size (some ++ batch ∷ []) → ⊥
-  no_entries other are = other (last_content some batch are.contents)
+-- an entry has 25 octets at least
+pub costs_at_most : (h : List HistoryEntry) → costs_of h ≤ 2 * length (spelled h)
+costs_at_most [] = omega arith
+costs_at_most (e ∷ h) = omega (arith, costs_at_most h, length-append (spelling e) (spelled h), length_of_spelling e)
 
-  -- nor is one that costs too much
-  pub too_dear : (new : Tallies) → new ≡ record { firm = tally.firm; live = tally_behind_all tally.live (entries_of batch) } → capacity_of size < new.live.costs → AreBatches size (some ++ batch ∷ []) → ⊥
-  too_dear new counted past are =
-      let costs : new.live.costs ≡ costs_of (entries_in (some ++ batch ∷ [])) = ap (λ (t : Tallies). t.live.costs) counted ∙ costs_are in
-      omega (arith, past, costs, are.costs)
+-- ---- so far
 
--- a list that begins with batches before its end goes on behind them
-pub goes_on : (some more all : List (List ℕ)) (gate end : ℕ) → all ≡ some ++ more → gate ≡ end_of some → end ≡ end_of all → gate < end → (batch : List ℕ) × (rest : List (List ℕ)) × (all ≡ some ++ batch ∷ rest)
-goes_on some [] all gate end is at last before = absurd (omega (arith, at, last, before, ap taken (is ∙ append-nil some)))
-goes_on some (batch ∷ rest) all gate end is at last before = (batch, rest, is)
+-- a front of the content is entries that were taken in, and this is the rest
+pub record AreTaken (content rest : List ℕ) (start at : ℕ) (before places : List Place) (old tally : Tallies) : Type 0 where
+  pub front : List ℕ
+  pub entries : List HistoryEntry
+  pub parts : content ≡ front ++ rest
+  pub are_entries : AreEntries front entries
+  pub place : at ≡ start + length front
+  pub placed : places ≡ before ++ places_from start entries
+  pub counted : tally ≡ record { firm = old.firm; live = tally_behind_all old.live entries }
 
--- and one that ends there is these
-pub no_more : (some more all : List (List ℕ)) (gate : ℕ) → all ≡ some ++ more → gate ≡ end_of some → gate ≡ end_of all → all ≡ some
-no_more some [] all gate is at last = is ∙ append-nil some
-no_more some (batch ∷ rest) all gate is at last = absurd (omega (arith, at, last, ap taken is, taken-append some (batch ∷ rest)))
-
--- one more of a list is taken in
-pub up_to_next : (Listed : List (List ℕ) → Type 0) (size gate next : ℕ) (some : List (List ℕ)) (batch : List ℕ) (places : List Place) (tally : Tallies)
-    → AreTakenIn size next (some ++ batch ∷ []) places tally → ((all : List (List ℕ)) → Listed all → (rest : List (List ℕ)) × (all ≡ some ++ batch ∷ rest))
-    → IsTakenUpTo Listed size next places tally
-up_to_next Listed size gate next some batch places tally taken_in begins = record {
-  some = some ++ batch ∷ [];
-  taken_in = taken_in;
-  begins = λ all listed. let found = begins all listed in (found.0, found.1 ∙ sym (append_assoc some (batch ∷ []) found.0));
+pub none_taken : (content : List ℕ) (start : ℕ) (places : List Place) (tally : Tallies) → AreTaken content content start start places places tally tally
+none_taken content start places tally = record {
+  front = [];
+  entries = [];
+  parts = refl;
+  are_entries = no_entries;
+  place = omega arith;
+  placed = sym (append-nil places);
+  counted = refl;
 }
 
--- at first none is
-pub up_to_first : (Listed : List (List ℕ) → Type 0) (size : ℕ) (places : List Place) (tally : Tallies) → AreTakenIn size header_length [] places tally → IsTakenUpTo Listed size header_length places tally
-up_to_first Listed size places tally taken_in = record { some = []; taken_in = taken_in; begins = λ all listed. (all, refl) }
+pub one_taken : (content rest : List ℕ) (start at count : ℕ) (before places grown : List Place) (old tally counted : Tallies)
+    → AreTaken content rest start at before places old tally → IsTakenIn rest at count places grown tally counted
+    → AreTaken content (drop count rest) start (at + count) before grown old counted
+one_taken content rest start at count before places grown old tally counted so_far one =
+    let split : rest ≡ spelling one.entry ++ drop count rest = sym (take-append-drop count rest) ∙ ap (λ (o : List ℕ). o ++ drop count rest) one.front in
+    let lengths : length (so_far.front ++ spelling one.entry) ≡ length so_far.front + count = omega (arith, length-append so_far.front (spelling one.entry), length_of_spelling one.entry, one.size) in
+    let front_length : length so_far.front ≡ length (spelled so_far.entries) = ap (λ (o : List ℕ). length o) so_far.are_entries.spelling in
+    let here : at ≡ start + length (spelled so_far.entries) = omega (arith, so_far.place, front_length) in
+    let place : List Place = record { at = at; length = entry_length one.entry } ∷ [] in
+    record {
+      front = so_far.front ++ spelling one.entry;
+      entries = so_far.entries ++ one.entry ∷ [];
+      parts = so_far.parts ∙ ap (λ (o : List ℕ). so_far.front ++ o) split ∙ sym (append_assoc so_far.front (spelling one.entry) (drop count rest));
+      are_entries = more_entries so_far.front (spelling one.entry) so_far.entries (one.entry ∷ []) so_far.are_entries (one_entry one.entry one.fits);
+      place = omega (arith, so_far.place, lengths);
+      placed = one.placed ∙ ap (λ (ps : List Place). ps ++ place) so_far.placed ∙ append_assoc before (places_from start so_far.entries) place
+          ∙ ap (λ (ps : List Place). before ++ ps) (ap (λ (k : ℕ). places_from start so_far.entries ++ places_from k (one.entry ∷ [])) here ∙ sym (places_from-append start so_far.entries (one.entry ∷ [])));
+      counted = one.added ∙ ap (λ (t : Tallies). let r : Tallies = record { firm = t.firm; live = tally_behind_all t.live (one.entry ∷ []) } in r) so_far.counted
+          ∙ λ i. record { firm = old.firm; live = sym (tally_all-append old.live so_far.entries (one.entry ∷ [])) i };
+    }
 
--- where a batch was taken in and what is listed goes on with it, the listing has come to the next gate
-pub taken_next : {E : Type 0} (Listed : List (List ℕ) → Type 0) (size gate : ℕ) (some : List (List ℕ)) (batch : List ℕ) (result : Result ℕ E) (places : List Place) (tally : Tallies)
-    → IfOk result (λ next. next ≡ gate + 5 + length batch) → OnOk result (AreTakenIn size (gate + 5 + length batch) (some ++ batch ∷ []) places tally)
-    → ((all : List (List ℕ)) → Listed all → (rest : List (List ℕ)) × (all ≡ some ++ batch ∷ rest))
-    → IfOk result (λ next. IsTakenUpTo Listed size next places tally)
-taken_next Listed size gate some batch (Ok next) places tally is taken_in begins =
-    up_to_next Listed size gate next some batch places tally (subst (λ n. AreTakenIn size n (some ++ batch ∷ []) places tally) (sym is) taken_in) begins
-taken_next Listed size gate some batch (Err e) places tally is taken_in begins = tt
+-- what was taken in costs at most twice its octets, so that the rest can be counted too
+pub costs_so_far : (content rest : List ℕ) (start at : ℕ) (before places : List Place) (old tally : Tallies) → AreTaken content rest start at before places old tally
+    → tally.live.costs + 2 * length rest ≤ old.live.costs + 2 * length content
+costs_so_far content rest start at before places old tally so_far =
+    omega (
+      arith,
+      ap (λ (t : Tallies). t.live.costs) so_far.counted,
+      tally_all-costs old.live so_far.entries,
+      costs_at_most so_far.entries,
+      ap (λ (o : List ℕ). length o) so_far.are_entries.spelling,
+      ap (λ (o : List ℕ). length o) so_far.parts,
+      length-append so_far.front rest,
+    )
 
--- a batch that was read whole
-pub whole_read : (batch into : List ℕ) (n start : ℕ) → n ≡ length batch → start ≡ 0 → into ≡ take n (drop start batch) → into ≡ batch
-whole_read batch into n start size none is =
-    is ∙ ap (λ k. take n (drop k batch)) none ∙ take_all n batch (omega (arith, size))
+-- ---- at the end
 
--- what was found and read behind a gate before the end of a list is its next batch
-pub read_next : (all some more : List (List ℕ)) (gate end : ℕ) → all ≡ some ++ more → gate ≡ end_of some → end ≡ end_of all → gate < end
-    → (found : Option (ℕ × ℕ)) (place n : ℕ) (into : List ℕ) → found ≡ Some (place, n)
-    → ((batch : List ℕ) (rest : List (List ℕ)) → all ≡ some ++ batch ∷ rest → found ≡ Some (gate + 5, length batch))
-    → ((batch : List ℕ) (rest : List (List ℕ)) → all ≡ some ++ batch ∷ rest → place ≡ gate + 5 → n ≡ length batch → into ≡ batch)
-    → (rest : List (List ℕ)) × (all ≡ some ++ into ∷ rest)
-read_next all some more gate end is at last before found place n into answer finds reads =
-    let next = goes_on some more all gate end is at last before in
-    let same : ◌≡◌ {A = Option (ℕ × ℕ)} (Some (place, n)) (Some (gate + 5, length next.0)) = sym answer ∙ finds next.0 next.1 next.2 in
-    let there = same_pair place n (gate + 5) (length next.0) same in
-    (next.1, next.2 ∙ ap (λ (b : List ℕ). some ++ b ∷ next.1) (sym (reads next.0 next.1 next.2 there.0 there.1)))
+-- what was taken in is all
+pub record IsAllTaken (content : List ℕ) (start : ℕ) (before places : List Place) (old tally : Tallies) : Type 0 where
+  pub are_entries : AreEntries content (entries_of content)
+  pub placed : places ≡ before ++ places_from start (entries_of content)
+  pub counted : tally ≡ record { firm = old.firm; live = tally_behind_all old.live (entries_of content) }
+  pub costs : tally.live.costs ≡ old.live.costs + length content + 5 * length (entries_of content)
+  pub count : length places ≡ length before + length (entries_of content)
+
+pub all_taken : (content rest : List ℕ) (start at : ℕ) (before places : List Place) (old tally : Tallies) → AreTaken content rest start at before places old tally
+    → rest ≡ [] → IsAllTaken content start before places old tally
+all_taken content rest start at before places old tally so_far end =
+    let whole : content ≡ so_far.front = so_far.parts ∙ ap (λ (o : List ℕ). so_far.front ++ o) end ∙ append-nil so_far.front in
+    let are : AreEntries content so_far.entries = subst (λ (o : List ℕ). AreEntries o so_far.entries) (sym whole) so_far.are_entries in
+    let those : so_far.entries ≡ entries_of content = sym (entries_of_entries content so_far.entries are) in
+    let many : length so_far.entries ≡ length (entries_of content) = ap (λ (h : List HistoryEntry). length h) those in
+    record {
+      are_entries = subst (λ (h : List HistoryEntry). AreEntries content h) those are;
+      placed = so_far.placed ∙ ap (λ (h : List HistoryEntry). before ++ places_from start h) those;
+      counted = so_far.counted ∙ λ i. record { firm = old.firm; live = tally_behind_all old.live (those i) };
+      costs = omega (arith, many, ap (λ (t : Tallies). t.live.costs) so_far.counted, tally_all-costs old.live so_far.entries, costs_of-spelled so_far.entries, ap (λ (o : List ℕ). length o) are.spelling);
+      count = omega (arith, many, ap (λ (ps : List Place). length ps) so_far.placed, length-append before (places_from start so_far.entries), length-places_from start so_far.entries);
+    }
+
+-- a rest that begins with no entry refuses the content
+pub rest_refuses : (content rest : List ℕ) (start at : ℕ) (before places : List Place) (old tally : Tallies) → AreTaken content rest start at before places old tally
+    → rest ≢ [] → ((e : HistoryEntry) → BeginsWith rest e → ⊥) → IsContent content → ⊥
+rest_refuses content rest start at before places old tally so_far some none is =
+    let whole : AreEntries (so_far.front ++ rest) (entries_of content) = subst (λ (o : List ℕ). AreEntries o (entries_of content)) so_far.parts is.are_entries in
+    let others = divided_entries so_far.front rest so_far.entries (entries_of content) so_far.are_entries whole in
+    begins others.0 others.2
   where
-    same_pair : (a b c d : ℕ) → ◌≡◌ {A = Option (ℕ × ℕ)} (Some (a, b)) (Some (c, d)) → (a ≡ c) × (b ≡ d)
-    same_pair a b c d e = let both : ◌≡◌ {A = ℕ × ℕ} (a, b) (c, d) = ap (λ (o : Option (ℕ × ℕ)). unwrap_or o (a, b)) e in (ap (λ (p : ℕ × ℕ). p.0) both, ap (λ (p : ℕ × ℕ). p.1) both)
+    begins : (g : List HistoryEntry) → AreEntries rest g → ⊥
+    begins [] are = some are.spelling
+    begins (e ∷ g) are = none e (All-head HasSpelling e g are.each, (spelled g, are.spelling))
 
--- a list that stops there breaks at this gate
-pub breaks_here : (size gate at : ℕ) (all some : List (List ℕ)) (batch : List ℕ) (rest : List (List ℕ)) → gate ≡ end_of some → AreBatches size some → all ≡ some ++ batch ∷ rest
-    → (at ≡ gate) × (AreBatches size (some ++ batch ∷ []) → ⊥) → BreaksAt size all at
-breaks_here size gate at all some batch rest gate_is are is found =
-    record { some = some; batch = batch; more = rest; listed = is; place = found.0 ∙ gate_is; are_batches = are; unfit = found.1 }
+-- ---- tests of emptiness
+
+pub is_end : (octets : List ℕ) → (length octets == 0) ≡ true → octets ≡ []
+is_end [] e = refl
+is_end (x ∷ octets) e = absurd (omega (arith, eqb-true (length (x ∷ octets)) 0 e))
+
+pub not_end : (octets : List ℕ) → (length octets == 0) ≡ false → octets ≢ []
+not_end [] e = absurd (eqb-false 0 0 e refl)
+not_end (x ∷ octets) e = λ same. cc

@@ -1,7 +1,7 @@
 use Rattle.std.proofs.Common.{List, ℕ, sym, subst, arith}
 use Rattle.gate_journal.proofs.Agreeing.{place_of}
 use Rattle.cgf_journal.specs.Format.{AreBatches}
-use Rattle.cgf_journal.proofs.Takings.{no_more}
+use Rattle.cgf_journal.proofs.Listings.{no_more}
 use Rattle.cgf_journal.proofs.listing.list_before.Goals as goal
 
 pub returns-clause-are_batches : goal.returns-clause-are_batches

@@ -5,7 +5,7 @@ use Rattle.gate_journal.specs.Before.{AreBefore}
 use Rattle.gate_journal.specs.Format.{end_of, longest_batch}
 use Rattle.gate_journal.proofs.Agreeing.{place_of}
 use Rattle.cgf_journal.specs.Opening.{AreListedBefore}
-use Rattle.cgf_journal.proofs.Takings.{breaks_here, goes_on, read_next, taken_next}
+use Rattle.cgf_journal.proofs.Listings.{breaks_here, goes_on, read_next, taken_next}
 use Rattle.cgf_journal.proofs.listing.take_before.Goals as goal
 
 pub returns-clause-taken : goal.returns-clause-taken

@@ -4,7 +4,7 @@ use Rattle.std.proofs.lemmas.List.{length-take-le}
 use Rattle.gate_journal.specs.Format.{end_of, longest_batch}
 use Rattle.gate_journal.specs.Journal.{batches, end}
 use Rattle.cgf_journal.specs.Opening.{AreListed}
-use Rattle.cgf_journal.proofs.Takings.{breaks_here, read_next, taken_next, whole_read}
+use Rattle.cgf_journal.proofs.Listings.{breaks_here, read_next, taken_next, whole_read}
 use Rattle.cgf_journal.proofs.listing.take_next.Goals as goal
 
 pub batch-requires-clause-gate : goal.batch-requires-clause-gate

@@ -1,5 +1,5 @@
 use Rattle.std.proofs.Common.{◌≡◌, Ok, true, ◌∙◌, ap, arith}
-use Rattle.cgf_journal.proofs.Takings.{one_more, too_dear}
+use Rattle.cgf_journal.proofs.Listings.{one_more, too_dear}
 use Rattle.cgf_journal.proofs.listing.Listing.take.Goals as goal
 
 pub returns-then-size-costs-clause-unfit : goal.returns-then-size-costs-clause-unfit
