@@ -5,5 +5,6 @@ pub mod Placing
 pub mod Reopening
 pub mod Sounds
 pub mod Standing
+pub mod Takings
 pub mod Tallies
 pub mod Trails

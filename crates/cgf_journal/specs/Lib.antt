@@ -1,3 +1,4 @@
+pub mod Contents
 pub mod Follows
 pub mod Format
 pub mod Keys

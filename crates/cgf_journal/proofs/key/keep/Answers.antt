@@ -1,4 +1,4 @@
-use Rattle.std.proofs.Common.{◌≡◌, ◌∙◌, Bool, true, false, List, filter, map, rules}
+use Rattle.std.proofs.Common.{◌≡◌, ◌∙◌, true, false, filter, rules}
 use Rattle.std.proofs.lemmas.Fn.{filter_same}
 use Rattle.cgf_journal.specs.Keys.{counts, held_key}
 use Rattle.cgf_journal.specs.declared.key.KeptKey.{KeptKey}

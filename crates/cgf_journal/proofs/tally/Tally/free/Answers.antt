@@ -1,4 +1,4 @@
-use Rattle.std.proofs.Common.{List, ℕ, ap, ◌∙◌, arith, count_by}
+use Rattle.std.proofs.Common.{List, ap, ◌∙◌, arith, count_by}
 use Rattle.cgf_journal.specs.Keys.{counts}
 use Rattle.cgf_journal.specs.declared.key.KeptKey.{KeptKey}
 use Rattle.cgf_journal.proofs.KeptSums.{left_free}

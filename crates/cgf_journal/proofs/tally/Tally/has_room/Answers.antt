@@ -1,6 +1,5 @@
-use Rattle.std.proofs.Common.{◌≡◌, ℕ, ◌+◌, ◌*◌, ◌&&◌, if◌then◌else◌, nat_le, List, [], length, count_by, sym, ap, ◌∙◌, arith}
+use Rattle.std.proofs.Common.{◌≡◌, ◌+◌, ◌*◌, ◌&&◌, if◌then◌else◌, nat_le, List, length, count_by, sym, ap, ◌∙◌, arith}
 use Rattle.gw_base.specs.Entry.{act_view, entry_view}
-use Rattle.gw_base.specs.HeldKeys.{held_by}
 use Rattle.gw_base.specs.View.{stays_held}
 use Rattle.entry_codec.specs.Room.{capacity_of}
 use Rattle.cgf_journal.specs.Keys.{counts, key_of}
