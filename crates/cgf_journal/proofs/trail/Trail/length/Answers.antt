@@ -1,5 +1,5 @@
 use Rattle.std.proofs.Common.{◌≡◌, true, false, length, if◌then◌else◌, sym, ◌∙◌, ap, rules}
-use Rattle.cgf_journal.specs.Trail.{is_closed}
+use Rattle.cgf_journal.specs.Trail.{entries, is_closed}
 use Rattle.cgf_journal.proofs.Trails.{count}
 use Rattle.cgf_journal.proofs.trail.Trail.length.Goals as goal
 
@@ -13,5 +13,5 @@ pub returns-else-is_closed-clause-length : goal.returns-else-is_closed-clause-le
 returns-else-is_closed-clause-length g c = λ told.
     let t = c.args.self.now in
     let opened : is_closed t ≡ false = sym c.is_closed.ensures.closed ∙ c.if-is_closed.false in
-    let counted : c.len.result ≡ length t.places.items = search rules in
-    counted ∙ ap (λ b. if b then t.firm else length t.places.items) (sym opened) ∙ count t told
+    let all : length t.places.items ≡ length (entries t) = ap (λ b. if b then t.firm else length t.places.items) (sym opened) ∙ count t told in
+    search rules
