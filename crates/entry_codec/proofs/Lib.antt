@@ -1,8 +1,10 @@
 pub mod Acts
 pub mod Appends
+pub mod Contents
 pub mod Entries
 pub mod Fields
 pub mod Heads
 pub mod Lists
 pub mod Loops
 pub mod Parts
+pub mod Rooms

@@ -1,3 +1,6 @@
+pub mod Content
 pub mod Fault
+pub mod Props
 pub mod Reading
+pub mod Room
 pub mod Spelling

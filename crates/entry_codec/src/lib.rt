@@ -11,6 +11,7 @@ ghost use Rattle.entry_codec.specs.Spelling.{HasSpelling, entry_length, spelling
 use gw_base::Entry;
 
 mod fault;
+mod fits;
 mod kind;
 pub mod laws;
 mod reading;

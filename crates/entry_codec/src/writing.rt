@@ -2,9 +2,10 @@ ghost use Rattle.std.specs.Prelude.{◌≡◌, ◌≤◌, ◌<◌, ◌+◌, ◌-
 ghost use Rattle.std.specs.List.{flat_map};
 ghost use Rattle.byteorder.specs.Endian.{big_bytes};
 ghost use Rattle.gw_base.specs.Entry.{act_view, entry_view};
-ghost use Rattle.entry_codec.specs.Spelling.{body, code_of, cost_of, entry_length, kind_of, spelling};
+ghost use Rattle.entry_codec.specs.Spelling.{HasSpelling, body, code_of, cost_of, entry_length, kind_of, spelling};
 
 use crate::fault::Full;
+use crate::fits::entry_fits;
 use crate::kind::Kind;
 use byteorder::{BigEndian, ByteOrder};
 use gw_base::{Absolute, Act, Buffer, Caller, Entry, NodeId};
@@ -193,10 +194,12 @@ pub fn write(entry: &Entry<'_>, into: &mut Buffer) -> Result<(), Full>
     requires { entry_length (entry_view entry.now) < 2 ^ 32 }
     ensures written { OnOk result (into.new ≡
         record { octets = into.old.octets ++ spelling (entry_view entry.now); capacity = into.old.capacity }) }
+    ensures fits { HasSpelling (entry_view entry.now) }
     ensures unchanged { OnErr result (into.new ≡ into.old) }
     ensures full { (free : ℕ) → (result ≡ Err (record { free = free })) ↔
         ((free + length into.old.octets ≡ into.old.capacity) × (free < entry_length (entry_view entry.now))) }
 {
+    entry_fits(entry);
     let free = into.free();
     let whole = length_of(entry);
     if (free as u64) < whole {

@@ -1,4 +1,5 @@
 mod Adding
+pub mod Agreeing
 mod Apart
 mod Below
 mod Contents
@@ -11,7 +12,7 @@ mod Listing
 mod Openings
 mod Places
 mod Plans
-mod Runs
-mod Spelling
+pub mod Runs
+pub mod Spelling
 mod States
 mod Turns

@@ -36,6 +36,18 @@ module _ {A : Type 0} (area : Ghosts A) where
     now = λ c left. wide c (leaves.now c left);
   }
 
+  pub both : (old new : A) (P Q : List ℕ → Type 0) → Leaves area old new P → Leaves area old new Q → Leaves area old new (λ c. P c × Q c)
+  both old new P Q one two = record {
+    moments = record {
+      later = one.moments.later;
+      told_later = one.moments.told_later;
+      each = λ c told left. (one.moments.each c told left, two.moments.each c told left);
+      before = λ t c told le left.
+          ⊎_elim inl (λ has. ⊎_elim inl (λ has_too. inr (has, has_too)) (two.moments.before t c told le left)) (one.moments.before t c told le left);
+    };
+    now = λ c left. (one.now c left, two.now c left);
+  }
+
   pub join : (old mid new : A) (P : List ℕ → Type 0) → Leaves area old mid P → Leaves area mid new P → Leaves area old new P
   join old mid new P one two = record {
     moments = record {

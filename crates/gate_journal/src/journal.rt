@@ -45,7 +45,7 @@ pub struct Journal<A: Area> {
 }
 
 impl<A: Area> Journal<A> {
-    ghost use Rattle.gate_journal.specs.Journal.{area_of, header_of, front_of, batches, end, free_of, is_closed, torn, torn_stands, left_by_stop, AppendFollows, ReopenFollows, reopened, reopened_end, reopened_front, KeepsOr, IsSettled, IsSame, IsUnchanged, IsKept, IsGate, IsBatch, IsInside};
+    ghost use Rattle.gate_journal.specs.Journal.{area_of, header_of, front_of, batches, end, free_of, is_closed, torn, torn_stands, stop_stands, left_by_stop, AppendFollows, ReopenFollows, reopened, reopened_end, reopened_front, KeepsOr, IsSettled, IsSame, IsUnchanged, IsKept, IsGate, IsBatch, IsInside};
     ghost use Rattle.area_disk.specs.declared.plan.Outcome3.{Outcome3};
     ghost use Rattle.gate_journal.specs.declared.journal.Front.TheVariants.{Founded, Draft, Founding};
 
@@ -97,8 +97,10 @@ impl<A: Area> Journal<A> {
         ensures ok { Told A.Area → OnOk result (batches self.new ≡ batches self.old ++ batch.now ∷ []) }
         ensures err { Told A.Area → OnErr result (batches self.new ≡ batches self.old) }
 
-        // A crash at any moment of the call leaves the batches from before it, with the new one or without.
+        // A crash at any moment of the call leaves the batches from before it, with the new one or without, on as many
+        // octets as the area has.
         ensures any_moment { Told A.Area → Leaves A.Area (area_of self.old) (area_of self.new) (KeepsOr (front_of self.old) (header_of self.old) (batches self.old) batch.now) }
+        ensures sized { Told A.Area → Leaves A.Area (area_of self.old) (area_of self.new) (λ c. length c ≡ A.size (area_of self.old)) }
         ensures settled { OnOk result (IsSettled self.new) }
 
         ensures full { (free : ℕ) → (result ≡ Err (AppendFault.Full free)) ↔ ((free ≡ free_of self.old) × (free < length batch.now + 5)) }
@@ -150,9 +152,11 @@ impl<A: Area> Journal<A> {
         ensures ok { Told A.Area → OnOk result (batches self.new ≡ reopened self.old) }
         ensures err { Told A.Area → OnErr result (batches self.new ≡ batches self.old) }
 
-        // A crash at any moment of the call leaves the batches, with one whose append failed or without.
+        // A crash at any moment of the call leaves the batches, with one whose append failed or without, on as many
+        // octets as the area has.
         ensures any_moment { Told A.Area → Leaves A.Area (area_of self.old) (area_of self.new) (KeepsOr (front_of self.old) (header_of self.old) (batches self.old) (torn self.old)) }
         ensures any_moment_ready { Told A.Area → is_closed self.old ≡ false → Leaves A.Area (area_of self.old) (area_of self.new) (Keeps (front_of self.old) (header_of self.old) (batches self.old)) }
+        ensures sized { Told A.Area → Leaves A.Area (area_of self.old) (area_of self.new) (λ c. length c ≡ A.size (area_of self.old)) }
         ensures settled { OnOk result (IsSettled self.new) }
 
         ensures opened { OnOk result (is_closed self.new ≡ false) }
@@ -254,6 +258,7 @@ impl<A: Area> Journal<A> {
         ensures none { Told A.Area → IfOk result (λ found. IsNone found ↔ (gate ≡ end self.old)) }
         ensures end { gate ≡ end self.old → IfOk result (λ found. IsNone found) }
         ensures inside { IfOk result (λ found. IfSome found (λ content. (content.0 ≡ gate + 5) × (content.0 + content.1 ≤ end self.old))) }
+        ensures short { IfOk result (λ found. IfSome found (λ content. content.1 ≤ longest_batch)) }
         ensures kept { IsKept self.old self.new }
         ensures cause { HasCause (A.faults (area_of self.old)) (A.faults (area_of self.new)) result }
     {
@@ -280,6 +285,7 @@ impl<A: Area> Journal<A> {
     pub fn is_closed(&self) -> bool
         ensures closed { result ≡ is_closed self.now }
         ensures settled { result ≡ false → IsSettled self.now }
+        ensures none_torn { result ≡ false → (outcome : Outcome3) → stop_stands outcome self.now ≡ false }
         ensures stop { IsTrue A.tells_fate → Told A.Area → (outcome : Outcome3) → Keeps (front_of self.now) (header_of self.now) (left_by_stop outcome self.now) ((A.fate (area_of self.now)).leaves outcome) }
     {
         match self.front {
@@ -336,7 +342,7 @@ fn next_front(front: Front, first: u8) -> Front
 }
 
 // The place and the length of the content of a whole batch that ends before the first closed gate.
-fn content_behind(behind: Behind, gate: u64, end: u64) -> Option<(u64, u32)>
+pub(crate) fn content_behind(behind: Behind, gate: u64, end: u64) -> Option<(u64, u32)>
     requires fits { gate < end }
     requires short { end ≤ 268435456 }
     ensures { result ≡ content_at behind gate end }

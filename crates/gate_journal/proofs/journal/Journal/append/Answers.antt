@@ -3,7 +3,7 @@ use Rattle.gate_journal.specs.Format.{frame}
 use Rattle.gate_journal.specs.Journal.{batches, torn, stop_stands}
 use Rattle.gate_journal.proofs.Turns.{other_bool}
 use Rattle.gate_journal.specs.Moments.{Told}
-use Rattle.gate_journal.proofs.Runs.{begin}
+use Rattle.gate_journal.proofs.Runs.{begin, widen}
 use Rattle.gate_journal.proofs.States.{ready_of, content_of, settled, moments, batches_grow, batches_stay, sound_ok, sound_err}
 use Rattle.gate_journal.proofs.journal.Journal.append.Goals as goal
 
@@ -15,6 +15,11 @@ pub returns-then-free-length-clause-any_moment : goal.returns-then-free-length-c
 returns-then-free-length-clause-any_moment g c = λ told.
     let laws = g.met.A.Area g.world.𝓛 g.world.𝓜 g.world.𝓡 ((λ s x. x), (λ x. x), (λ x. x), λ x. x) in
     begin g.A.Area laws.only_now _ _ (λ d left. inl ((settled g.A.Area laws.holds laws.whole laws.same_size c.args.self.now c.requires.ready).crash told d left))
+
+pub returns-then-free-length-clause-sized : goal.returns-then-free-length-clause-sized
+returns-then-free-length-clause-sized g c = λ told.
+    let laws = g.met.A.Area g.world.𝓛 g.world.𝓜 g.world.𝓡 ((λ s x. x), (λ x. x), (λ x. x), λ x. x) in
+    begin g.A.Area laws.only_now _ _ (λ d left. laws.same_size c.args.self.now.area d told.1 left)
 
 pub returns-then-free-length-clause-unchanged : goal.returns-then-free-length-clause-unchanged
 unfolding batches torn
@@ -66,6 +71,18 @@ returns-in-Ok-clause-any_moment g c = λ told.
     c.add.ensures.any_moment told (λ opened. (content_of g.A.Area laws.holds laws.whole laws.same_size j.area j.buffer.items j.gate j.torn_length j.is_torn j.front j.address j.generation j.sound ready told).shut refl opened) (j.sound.durable told ready) in
     moments g.A.Area laws.holds laws.whole laws.same_size j.area j.buffer.items j.gate j.torn_length j.is_torn j.front j.address j.generation j.sound ready c.add.new.area c.fill.new.buffer.items c.args.batch.now framed c.requires.short is c.fill.ensures.held c.fill.ensures.size fits c.add.ensures.size told (left told)
 
+pub returns-in-Ok-clause-sized : goal.returns-in-Ok-clause-sized
+returns-in-Ok-clause-sized g c = λ told.
+    let laws = g.met.A.Area g.world.𝓛 g.world.𝓜 g.world.𝓡 ((λ s x. x), (λ x. x), (λ x. x), λ x. x) in
+    let j = c.args.self.now in
+    let ready = ready_of j.front j.is_torn c.requires.ready in
+    let framed = take (length c.args.batch.now + 5) c.deref.result.now in
+    let is : framed ≡ frame c.args.batch.now = ap (λ (l : List ℕ). take (length c.args.batch.now + 5) l) c.deref.ensures.value ∙ c.fill.ensures.framed in
+    let fits : length c.args.batch.now + 5 ≤ g.A.Area.size j.area - 1 - j.gate = omega (arith, c.length.ensures) in
+    let left = λ (told : Told g.A.Area).
+    c.add.ensures.any_moment told (λ opened. (content_of g.A.Area laws.holds laws.whole laws.same_size j.area j.buffer.items j.gate j.torn_length j.is_torn j.front j.address j.generation j.sound ready told).shut refl opened) (j.sound.durable told ready) in
+    widen g.A.Area _ _ _ _ (λ d adding. adding.size ∙ laws.whole j.area told.0) (left told)
+
 pub returns-in-Ok-clause-settled : goal.returns-in-Ok-clause-settled
 returns-in-Ok-clause-settled g c =
     let laws = g.met.A.Area g.world.𝓛 g.world.𝓜 g.world.𝓡 ((λ s x. x), (λ x. x), (λ x. x), λ x. x) in
@@ -96,6 +113,18 @@ returns-in-Err-clause-any_moment g c = λ told.
     let left = λ (told : Told g.A.Area).
     c.add.ensures.any_moment told (λ opened. (content_of g.A.Area laws.holds laws.whole laws.same_size j.area j.buffer.items j.gate j.torn_length j.is_torn j.front j.address j.generation j.sound ready told).shut refl opened) (j.sound.durable told ready) in
     moments g.A.Area laws.holds laws.whole laws.same_size j.area j.buffer.items j.gate j.torn_length j.is_torn j.front j.address j.generation j.sound ready c.add.new.area c.fill.new.buffer.items c.args.batch.now framed c.requires.short is c.fill.ensures.held c.fill.ensures.size fits c.add.ensures.size told (left told)
+
+pub returns-in-Err-clause-sized : goal.returns-in-Err-clause-sized
+returns-in-Err-clause-sized g c = λ told.
+    let laws = g.met.A.Area g.world.𝓛 g.world.𝓜 g.world.𝓡 ((λ s x. x), (λ x. x), (λ x. x), λ x. x) in
+    let j = c.args.self.now in
+    let ready = ready_of j.front j.is_torn c.requires.ready in
+    let framed = take (length c.args.batch.now + 5) c.deref.result.now in
+    let is : framed ≡ frame c.args.batch.now = ap (λ (l : List ℕ). take (length c.args.batch.now + 5) l) c.deref.ensures.value ∙ c.fill.ensures.framed in
+    let fits : length c.args.batch.now + 5 ≤ g.A.Area.size j.area - 1 - j.gate = omega (arith, c.length.ensures) in
+    let left = λ (told : Told g.A.Area).
+    c.add.ensures.any_moment told (λ opened. (content_of g.A.Area laws.holds laws.whole laws.same_size j.area j.buffer.items j.gate j.torn_length j.is_torn j.front j.address j.generation j.sound ready told).shut refl opened) (j.sound.durable told ready) in
+    widen g.A.Area _ _ _ _ (λ d adding. adding.size ∙ laws.whole j.area told.0) (left told)
 
 pub returns-then-free-length-clause-planned : goal.returns-then-free-length-clause-planned
 returns-then-free-length-clause-planned g c = λ fate told fits. absurd (omega (arith, c.length.ensures))

@@ -45,6 +45,11 @@ returns-in-Ok-clause-any_moment_ready g c = λ told ready.
     let j = c.args.self.now in
     widen g.A.Area _ _ _ _ (λ d. (settled g.A.Area laws.holds laws.whole laws.same_size j ready).crash told d) c.see.ensures.any_moment
 
+pub returns-in-Ok-clause-sized : goal.returns-in-Ok-clause-sized
+returns-in-Ok-clause-sized g c = λ told.
+    let laws = g.met.A.Area g.world.𝓛 g.world.𝓜 g.world.𝓡 ((λ s x. x), (λ x. x), (λ x. x), λ x. x) in
+    widen g.A.Area _ _ _ _ (λ d left. laws.same_size c.args.self.now.area d told.1 left) c.see.ensures.any_moment
+
 pub returns-in-Ok-clause-settled : goal.returns-in-Ok-clause-settled
 returns-in-Ok-clause-settled g c =
     let laws = g.met.A.Area g.world.𝓛 g.world.𝓜 g.world.𝓡 ((λ s x. x), (λ x. x), (λ x. x), λ x. x) in
@@ -68,6 +73,11 @@ returns-in-Err-clause-any_moment_ready g c = λ told ready.
     let laws = g.met.A.Area g.world.𝓛 g.world.𝓜 g.world.𝓡 ((λ s x. x), (λ x. x), (λ x. x), λ x. x) in
     let j = c.args.self.now in
     widen g.A.Area _ _ _ _ (λ d. (settled g.A.Area laws.holds laws.whole laws.same_size j ready).crash told d) c.see.ensures.any_moment
+
+pub returns-in-Err-clause-sized : goal.returns-in-Err-clause-sized
+returns-in-Err-clause-sized g c = λ told.
+    let laws = g.met.A.Area g.world.𝓛 g.world.𝓜 g.world.𝓡 ((λ s x. x), (λ x. x), (λ x. x), λ x. x) in
+    widen g.A.Area _ _ _ _ (λ d left. laws.same_size c.args.self.now.area d told.1 left) c.see.ensures.any_moment
 
 pub returns-in-Err-clause-torn : goal.returns-in-Err-clause-torn
 unfolding torn

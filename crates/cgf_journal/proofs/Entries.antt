@@ -1,0 +1,26 @@
+-- Entries: what they spell, what they cost, and which batches hold them.
+use Rattle.std.proofs.Common.{◌≡◌, ℕ, ◌+◌, ◌*◌, ◌≤◌, List, [], ◌∷◌, ◌++◌, length, refl, sym, ◌∙◌, ap, subst, arith, length-append, append_assoc}
+use Rattle.std.specs.Prelude.{All}
+use Rattle.std.proofs.lemmas.Grind.{flat_map-append}
+use Rattle.std.proofs.lemmas.List.{append-nil}
+use Rattle.std.proofs.lemmas.List.Elements.{All-push}
+use Rattle.gw_base.specs.declared.history.HistoryEntry.{HistoryEntry}
+use Rattle.entry_codec.specs.Content.{AreEntries, IsContent, entries_of, spelled}
+use Rattle.entry_codec.specs.Room.{capacity_of, costs_of}
+use Rattle.entry_codec.specs.Spelling.{HasSpelling, cost_of, entry_length, spelling}
+use Rattle.entry_codec.proofs.Entries.{length_of_spelling}
+use Rattle.cgf_journal.specs.Format.{AreBatches, entries_in}
+use Rattle.cgf_journal.specs.Tally.{TallyValue, tally_behind, tally_behind_all}
+
+pub spelled-push : (h : List HistoryEntry) (e : HistoryEntry) → spelled (h ++ e ∷ []) ≡ spelled h ++ spelling e
+spelled-push h e = flat_map-append spelling h (e ∷ []) ∙ ap (λ (l : List ℕ). spelled h ++ l) (append-nil (spelling e))
+
+pub entries_in-push : (batches : List (List ℕ)) (batch : List ℕ) → entries_in (batches ++ batch ∷ []) ≡ entries_in batches ++ entries_of batch
+entries_in-push batches batch = flat_map-append entries_of batches (batch ∷ []) ∙ ap (λ (h : List HistoryEntry). entries_in batches ++ h) (append-nil (entries_of batch))
+
+-- one more batch behind others
+pub are_batches-push : (size : ℕ) (batches : List (List ℕ)) (batch : List ℕ) → AreBatches size batches → IsContent batch → costs_of (entries_in batches ++ entries_of batch) ≤ capacity_of size → AreBatches size (batches ++ batch ∷ [])
+are_batches-push size batches batch are content costs = record {
+  contents = All-push IsContent batches batch are.contents content;
+  costs = subst (λ (h : List HistoryEntry). costs_of h ≤ capacity_of size) (sym (entries_in-push batches batch)) costs;
+}

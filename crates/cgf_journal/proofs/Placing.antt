@@ -1,0 +1,178 @@
+-- The places of entries, and what stands at them.
+use Rattle.std.proofs.Common.{◌≡◌, ◌⊎◌, inl, inr, ℕ, zero, suc, ◌+◌, ◌-◌, ◌<◌, ◌≤◌, List, [], ◌∷◌, ◌++◌, length, take, drop, Option, Some, None, refl, sym, ◌∙◌, ap, subst, arith, length-append, append_assoc}
+use Rattle.std.specs.Prelude.{All, slice_get}
+use Rattle.std.proofs.Math.Seq.{drop-append-add}
+use Rattle.std.proofs.lemmas.List.{append-nil, take_at}
+use Rattle.std.proofs.lemmas.List.Elements.{All-cons, All-head, All-nil, All-tail}
+use Rattle.std.proofs.lemmas.Bool.{cases_lt}
+use Rattle.gw_base.specs.declared.history.HistoryEntry.{HistoryEntry}
+use Rattle.gw_base.specs.declared.place.Place.{Place}
+use Rattle.gate_journal.specs.Format.{taken}
+use Rattle.entry_codec.specs.Content.{IsContent, entries_of, spelled}
+use Rattle.entry_codec.specs.Spelling.{entry_length, spelling}
+use Rattle.entry_codec.proofs.Entries.{length_of_spelling}
+use Rattle.cgf_journal.specs.Format.{entries_in}
+use Rattle.cgf_journal.specs.Sound.{EndsBy, places_behind, places_from}
+
+abbrev place_of : ℕ → HistoryEntry → Place
+place_of at e = record { at = at; length = entry_length e }
+
+pub length-places_from : (at : ℕ) (h : List HistoryEntry) → length (places_from at h) ≡ length h
+length-places_from at [] = refl
+length-places_from at (e ∷ h) = ap suc (length-places_from (at + entry_length e) h)
+
+pub places_from-push : (at : ℕ) (h : List HistoryEntry) (e : HistoryEntry) → places_from at (h ++ e ∷ []) ≡ places_from at h ++ record { at = at + length (spelled h); length = entry_length e } ∷ []
+places_from-push at [] e = let same : at ≡ at + 0 = omega arith in ap (λ n. place_of n e ∷ []) same
+places_from-push at (x ∷ h) e =
+    let same : at + entry_length x + length (spelled h) ≡ at + length (spelled (x ∷ h)) = omega (arith, length-append (spelling x) (spelled h), length_of_spelling x) in
+    ap (λ (l : List Place). place_of at x ∷ l) (places_from-push (at + entry_length x) h e ∙ ap (λ n. places_from (at + entry_length x) h ++ place_of n e ∷ []) same)
+
+-- the places end where the octets do
+pub places_from-ends : (at : ℕ) (h : List HistoryEntry) (end : ℕ) → at + length (spelled h) ≤ end → All (EndsBy end) (places_from at h)
+places_from-ends at [] end le = All-nil (EndsBy end)
+places_from-ends at (e ∷ h) end le =
+    let more = length-append (spelling e) (spelled h) in
+    let first : at + entry_length e ≤ end = omega (arith, le, more, length_of_spelling e) in
+    let rest : at + entry_length e + length (spelled h) ≤ end = omega (arith, le, more, length_of_spelling e) in
+    All-cons (EndsBy end) (place_of at e) (places_from (at + entry_length e) h) first (places_from-ends (at + entry_length e) h end rest)
+
+pub places_behind-push : (gate : ℕ) (batches : List (List ℕ)) (batch : List ℕ) → places_behind gate (batches ++ batch ∷ []) ≡ places_behind gate batches ++ places_from (gate + taken batches + 5) (entries_of batch)
+places_behind-push gate [] batch =
+    let same : gate + 5 ≡ gate + 0 + 5 = omega arith in
+    append-nil (places_from (gate + 5) (entries_of batch)) ∙ ap (λ n. places_from n (entries_of batch)) same
+places_behind-push gate (b ∷ batches) batch =
+    let same : gate + 5 + length b + taken batches + 5 ≡ gate + taken (b ∷ batches) + 5 = omega arith in
+    ap (λ (l : List Place). places_from (gate + 5) (entries_of b) ++ l)
+    (places_behind-push (gate + 5 + length b) batches batch ∙ ap (λ n. places_behind (gate + 5 + length b) batches ++ places_from n (entries_of batch)) same)
+    ∙ sym (append_assoc (places_from (gate + 5) (entries_of b)) (places_behind (gate + 5 + length b) batches) (places_from (gate + taken (b ∷ batches) + 5) (entries_of batch)))
+
+pub get_left : {A : Type 0} (xs ys : List A) (k : ℕ) → k < length xs → slice_get (xs ++ ys) k ≡ slice_get xs k
+get_left [] ys k lt = absurd (omega (arith, lt))
+get_left (x ∷ xs) ys zero lt = refl
+get_left (x ∷ xs) ys (suc k) lt = get_left xs ys k (omega (arith, lt))
+
+pub get_right : {A : Type 0} (xs ys : List A) (k : ℕ) → slice_get (xs ++ ys) (length xs + k) ≡ slice_get ys k
+get_right [] ys k = let same : 0 + k ≡ k = omega arith in ap (slice_get ys) same
+get_right (x ∷ xs) ys k = let same : suc (length xs) + k ≡ suc (length xs + k) = omega arith in ap (slice_get (x ∷ (xs ++ ys))) same ∙ get_right xs ys k
+
+-- In octets that stand at this place of an area, an entry has this place.
+pub record IsAt (at : ℕ) (octets : List ℕ) (place : Place) (e : HistoryEntry) : Type 0 where
+  pub low : at ≤ place.at
+  pub high : place.at + place.length ≤ at + length octets
+  pub size : place.length ≡ entry_length e
+  pub reads : take place.length (drop (place.at - at) octets) ≡ spelling e
+
+at_first : (at : ℕ) (e : HistoryEntry) (rest : List ℕ) → IsAt at (spelling e ++ rest) (place_of at e) e
+at_first at e rest =
+    let none : at - at ≡ 0 = omega arith in
+    record {
+      low = omega arith;
+      high = omega (arith, length-append (spelling e) rest, length_of_spelling e);
+      size = refl;
+      reads = ap (λ n. take (entry_length e) (drop n (spelling e ++ rest))) none ∙ take_at (spelling e) rest (entry_length e) (length_of_spelling e);
+    }
+
+at_later : (at : ℕ) (front octets : List ℕ) (place : Place) (e : HistoryEntry) → IsAt (at + length front) octets place e → IsAt at (front ++ octets) place e
+at_later at front octets place e is =
+    let behind : place.at - at ≡ length front + (place.at - (at + length front)) = omega (arith, is.low) in
+    record {
+      low = omega (arith, is.low);
+      high = omega (arith, is.high, length-append front octets);
+      size = is.size;
+      reads = ap (λ n. take place.length (drop n (front ++ octets))) behind ∙ ap (λ (l : List ℕ). take place.length l) (drop-append-add front octets (place.at - (at + length front))) ∙ is.reads;
+    }
+
+-- the k-th place is that of the k-th entry
+pub from_is : (at : ℕ) (h : List HistoryEntry) (k : ℕ) (place : Place) → slice_get (places_from at h) k ≡ Some place → (e : HistoryEntry) × (slice_get h k ≡ Some e) × IsAt at (spelled h) place e
+from_is at [] k place found = absurd (none k found)
+  where
+    none : (k : ℕ) → slice_get {X = Place} [] k ≡ Some place → ⊥
+    none zero found = cc
+    none (suc k) found = cc
+from_is at (e ∷ h) zero place found =
+    let same : place_of at e ≡ place = cc in
+    (e, refl, subst (λ (p : Place). IsAt at (spelling e ++ spelled h) p e) same (at_first at e (spelled h)))
+from_is at (e ∷ h) (suc k) place found =
+    let rest = from_is (at + entry_length e) h k place found in
+    let there : IsAt (at + length (spelling e)) (spelled h) place rest.0 = subst (λ n. IsAt (at + n) (spelled h) place rest.0) (sym (length_of_spelling e)) rest.2 in
+    (rest.0, rest.1, at_later at (spelling e) (spelled h) place rest.0 there)
+
+-- Among batches, the first behind this gate, an entry has this place.
+pub record IsAmong (gate : ℕ) (batches : List (List ℕ)) (place : Place) (e : HistoryEntry) : Type 0 where
+  pub some : List (List ℕ)
+  pub batch : List ℕ
+  pub more : List (List ℕ)
+  pub parts : batches ≡ some ++ batch ∷ more
+  pub here : IsAt (gate + taken some + 5) batch place e
+
+among_first : (gate : ℕ) (batch : List ℕ) (batches : List (List ℕ)) (place : Place) (e : HistoryEntry) → IsAt (gate + 5) batch place e → IsAmong gate (batch ∷ batches) place e
+among_first gate batch batches place e is =
+    let same : gate + 5 ≡ gate + 0 + 5 = omega arith in
+    record { some = []; batch = batch; more = batches; parts = refl; here = subst (λ n. IsAt n batch place e) same is }
+
+among_later : (gate : ℕ) (batch : List ℕ) (batches : List (List ℕ)) (place : Place) (e : HistoryEntry) → IsAmong (gate + 5 + length batch) batches place e → IsAmong gate (batch ∷ batches) place e
+among_later gate batch batches place e is =
+    let same : gate + 5 + length batch + taken is.some + 5 ≡ gate + taken (batch ∷ is.some) + 5 = omega arith in
+    record {
+      some = batch ∷ is.some;
+      batch = is.batch;
+      more = is.more;
+      parts = ap (λ (l : List (List ℕ)). batch ∷ l) is.parts;
+      here = subst (λ n. IsAt n is.batch place e) same is.here;
+    }
+
+-- the k-th place is that of this entry, the k-th of these batches
+abbrev pub IsFound : ℕ → List (List ℕ) → ℕ → Place → Type 0
+IsFound gate batches k place = (e : HistoryEntry) × (slice_get (entries_in batches) k ≡ Some e) × IsAmong gate batches place e
+
+found_first : (gate : ℕ) (batch : List ℕ) (batches : List (List ℕ)) → IsContent batch → (k : ℕ) (place : Place) → k < length (places_from (gate + 5) (entries_of batch))
+    → slice_get (places_from (gate + 5) (entries_of batch)) k ≡ Some place → IsFound gate (batch ∷ batches) k place
+found_first gate batch batches content k place lt found =
+    let one = from_is (gate + 5) (entries_of batch) k place found in
+    let octets : IsAt (gate + 5) batch place one.0 = subst (λ (l : List ℕ). IsAt (gate + 5) l place one.0) (sym content.are_entries.spelling) one.2 in
+    (one.0, get_left (entries_of batch) (entries_in batches) k (omega (arith, lt, length-places_from (gate + 5) (entries_of batch))) ∙ one.1, among_first gate batch batches place one.0 octets)
+
+found_later : (gate : ℕ) (batch : List ℕ) (batches : List (List ℕ)) (k j : ℕ) (place : Place) → k ≡ length (entries_of batch) + j → IsFound (gate + 5 + length batch) batches j place → IsFound gate (batch ∷ batches) k place
+found_later gate batch batches k j place is rest = (
+  rest.0,
+  ap (slice_get (entries_of batch ++ entries_in batches)) is ∙ get_right (entries_of batch) (entries_in batches) j ∙ rest.1,
+  among_later gate batch batches place rest.0 rest.2,
+)
+
+found_cons : (gate : ℕ) (batch : List ℕ) (batches : List (List ℕ)) → IsContent batch
+    → ((j : ℕ) (place : Place) → slice_get (places_behind (gate + 5 + length batch) batches) j ≡ Some place → IsFound (gate + 5 + length batch) batches j place)
+    → (k : ℕ) (place : Place) → slice_get (places_behind gate (batch ∷ batches)) k ≡ Some place → IsFound gate (batch ∷ batches) k place
+found_cons gate batch batches content later k place found = by_length (cases_lt k (length here))
+  where
+    here : List Place
+    here = places_from (gate + 5) (entries_of batch)
+
+    rest : List Place
+    rest = places_behind (gate + 5 + length batch) batches
+
+    by_length : (k < length here) ⊎ (length here ≤ k) → IsFound gate (batch ∷ batches) k place
+    by_length (inl lt) = found_first gate batch batches content k place lt (sym (get_left here rest k lt) ∙ found)
+    by_length (inr le) =
+        let past : length here + (k - length here) ≡ k = omega (arith, le) in
+        let is : k ≡ length (entries_of batch) + (k - length here) = omega (arith, le, length-places_from (gate + 5) (entries_of batch)) in
+        found_later gate batch batches k (k - length here) place is (later (k - length here) place (sym (get_right here rest (k - length here)) ∙ ap (slice_get (here ++ rest)) past ∙ found))
+
+-- the k-th place is that of the k-th entry
+pub behind_is : (gate : ℕ) (batches : List (List ℕ)) → All IsContent batches → (k : ℕ) (place : Place) → slice_get (places_behind gate batches) k ≡ Some place → IsFound gate batches k place
+behind_is gate [] contents k place found = absurd (none k found)
+  where
+    none : (k : ℕ) → slice_get {X = Place} [] k ≡ Some place → ⊥
+    none zero found = cc
+    none (suc k) found = cc
+behind_is gate (batch ∷ batches) contents k place found =
+    found_cons gate batch batches (All-head IsContent batch batches contents) (λ j p at. behind_is (gate + 5 + length batch) batches (All-tail IsContent batch batches contents) j p at) k place found
+
+pub length-places_behind : (gate : ℕ) (batches : List (List ℕ)) → length (places_behind gate batches) ≡ length (entries_in batches)
+length-places_behind gate [] = refl
+length-places_behind gate (batch ∷ batches) = omega (
+  arith,
+  length-append (places_from (gate + 5) (entries_of batch)) (places_behind (gate + 5 + length batch) batches),
+  length-append (entries_of batch) (entries_in batches),
+  length-places_from (gate + 5) (entries_of batch),
+  length-places_behind (gate + 5 + length batch) batches,
+)

@@ -1,0 +1,180 @@
+-- What a trail tells of its entries.
+use Rattle.std.proofs.Common.{◌≡◌, ◌≢◌, ◌⊎◌, inl, inr, ℕ, ◌+◌, ◌-◌, ◌<◌, ◌≤◌, Bool, true, false, List, [], ◌∷◌, ◌++◌, length, take, drop, refl, sym, ◌∙◌, ap, subst, arith, length-append}
+use Rattle.std.specs.Prelude.{All, Err, IsTrue, Ok, OnErr, Result, Some, if◌then◌else◌, nat_le, slice_get}
+use Rattle.std.proofs.lemmas.Bool.Decides.{nat_tests}
+use Rattle.std.proofs.lemmas.List.{append-nil, length-take-le, take-append-drop}
+use Rattle.std.proofs.lemmas.Option.{get_or_from_slice_get, slice_get_within}
+use Rattle.area_disk.specs.declared.area.Area.{Ghosts}
+use Rattle.area_disk.specs.declared.plan.Outcome3.{Outcome3}
+use Rattle.gw_base.specs.Buffer.{Buffered}
+use Rattle.gw_base.specs.declared.history.HistoryEntry.{HistoryEntry}
+use Rattle.gw_base.specs.declared.place.Place.{Place}
+use Rattle.gate_journal.specs.Format.{header_length}
+use Rattle.gate_journal.specs.Journal as journal
+use Rattle.gate_journal.specs.Moments.{Leaves, Told}
+use Rattle.gate_journal.specs.State.{Keeps}
+use Rattle.gate_journal.proofs.Runs.{both, widen}
+use Rattle.entry_codec.specs.Content.{entries_of, spelled}
+use Rattle.entry_codec.specs.Room.{capacity_of}
+use Rattle.entry_codec.specs.Spelling.{cost_of}
+use Rattle.cgf_journal.specs.Format.{AreBatches, StandsFor, entries_in}
+use Rattle.cgf_journal.specs.Sound.{EndsBy, IsSound, places_behind}
+use Rattle.cgf_journal.specs.Tally.{TallyValue, has_room_behind, promised_by, tally_behind, tally_behind_all, tally_of}
+use Rattle.cgf_journal.specs.Trail.{IsKept, IsPlaceOf, IsSettled, StandsForOr, area_of, entries, firm_entries, header_of, is_closed, left_by_stop, length_of, stop_stands, tally, waiting, waiting_octets}
+use Rattle.cgf_journal.specs.declared.trail.Trail.{Trail}
+use Rattle.cgf_journal.proofs.Placing.{IsAmong, IsFound, behind_is, get_left, length-places_behind}
+use Rattle.cgf_journal.proofs.Sounds.{live_is, none_of, one_more_batch, waiting_count}
+use Rattle.cgf_journal.proofs.Standing.{keeps_either, keeps_for, keeps_more}
+
+pub on_err : {T E Q : Type 0} (r : Result T E) → Q → OnErr r Q
+on_err (Ok x) q = tt
+on_err (Err fault) q = q
+
+-- what has room has it beside what all entries cost
+pub room_costs : (t : TallyValue) (e : HistoryEntry) (size : ℕ) → has_room_behind t e size ≡ true → t.costs + cost_of e ≤ capacity_of size
+room_costs t e size room =
+    let within = leb-true (t.costs + cost_of e + promised_by (tally_behind t e)) (capacity_of size) room in
+    omega (arith, within)
+  where
+    leb-true : (m n : ℕ) → nat_le m n ≡ true → m ≤ n
+    leb-true m n is = grind (arith, nat_tests)
+
+-- what a trail holds stays where its journal lists the same
+pub kept : {A : Type 0} {tells : Ghosts A} (old new : Trail A tells) → header_of new ≡ header_of old → is_closed new ≡ is_closed old → (Told tells → journal.batches new.journal ≡ journal.batches old.journal)
+    → new.waiting ≡ old.waiting → new.places.items ≡ old.places.items → new.firm ≡ old.firm → new.tally ≡ old.tally → IsKept old new
+unfolding firm_entries waiting
+kept old new header closed list waits places firm tallies = record {
+  header = header;
+  closed = closed;
+  firm_entries = λ told. ap entries_in (list told);
+  waiting = ap (λ (b : Buffered). entries_of b.octets) waits;
+  waiting_octets = ap (λ (b : Buffered). length b.octets) waits;
+  firm_length = firm;
+  length = λ i. if closed i then firm i else length (places i);
+  tally = λ i. if closed i then (tallies i).firm else (tallies i).live;
+  places = λ k place is. (subst (λ n. k < n) (sym firm) is.0, ap (λ (l : List Place). slice_get l k) places ∙ is.1);
+}
+
+module _ {A : Type 0} {tells : Ghosts A} (trail : Trail A tells) where
+  pub waiting_octets-none : waiting trail ≡ [] → waiting_octets trail ≡ 0
+  unfolding waiting
+  waiting_octets-none none = ap length (trail.sound.are_entries.spelling ∙ ap spelled none)
+
+  pub waiting-none : waiting_octets trail ≡ 0 → waiting trail ≡ []
+  unfolding waiting
+  waiting-none none = by_list trail.waiting.octets refl none
+    where
+      by_list : (l : List ℕ) → trail.waiting.octets ≡ l → length l ≡ 0 → entries_of trail.waiting.octets ≡ []
+      by_list [] is none = ap entries_of is ∙ none_of
+      by_list (x ∷ l) is none = absurd (omega (arith, none))
+
+  pub entries_open : is_closed trail ≡ false → entries trail ≡ firm_entries trail ++ waiting trail
+  entries_open opened = ap (λ b. if b then firm_entries trail else firm_entries trail ++ waiting trail) opened
+
+  -- where no octet waits, all entries are firm
+  pub entries_firm : waiting_octets trail ≡ 0 → entries trail ≡ firm_entries trail
+  entries_firm none = by_closed (is_closed trail)
+    where
+      by_closed : (closed : Bool) → (let h : List HistoryEntry = if closed then firm_entries trail else firm_entries trail ++ waiting trail in h) ≡ firm_entries trail
+      by_closed true = refl
+      by_closed false = ap (λ (h : List HistoryEntry). firm_entries trail ++ h) (waiting-none none) ∙ append-nil (firm_entries trail)
+
+  -- as the trail counts them
+  pub firm_count : Told tells → trail.firm ≡ length (firm_entries trail)
+  unfolding firm_entries
+  firm_count told = omega (arith, length-take-le trail.firm trail.places.items trail.sound.firm_places, ap length (trail.sound.firm_placed told), length-places_behind header_length (journal.batches trail.journal))
+
+  pub places_count : length trail.places.items ≡ trail.firm + length (waiting trail)
+  unfolding waiting
+  places_count = waiting_count trail.journal trail.size trail.waiting trail.places.items trail.firm trail.tally trail.sound
+
+  pub length_firm : waiting_octets trail ≡ 0 → length_of trail ≡ trail.firm
+  length_firm none = by_closed (is_closed trail)
+    where
+      by_closed : (closed : Bool) → (if closed then trail.firm else length trail.places.items) ≡ trail.firm
+      by_closed true = refl
+      by_closed false = omega (arith, places_count, ap length (waiting-none none))
+
+  pub count : Told tells → length_of trail ≡ length (entries trail)
+  count told = by_closed (is_closed trail)
+    where
+      by_closed : (closed : Bool) → (if closed then trail.firm else length trail.places.items) ≡ length (if closed then firm_entries trail else firm_entries trail ++ waiting trail)
+      by_closed true = firm_count told
+      by_closed false = omega (arith, firm_count told, places_count, length-append (firm_entries trail) (waiting trail))
+
+  pub tally_is : Told tells → tally trail ≡ tally_of (entries trail)
+  unfolding firm_entries waiting
+  tally_is told = by_closed (is_closed trail)
+    where
+      by_closed : (closed : Bool) → (let t : TallyValue = if closed then trail.tally.firm else trail.tally.live in t) ≡ tally_of (if closed then firm_entries trail else firm_entries trail ++ waiting trail)
+      by_closed true = trail.sound.firm_tally told
+      by_closed false = live_is trail.journal trail.size trail.waiting trail.places.items trail.firm trail.tally trail.sound told
+
+  -- a firm place is among the firm ones
+  pub get_firm : (k : ℕ) (place : Place) → IsPlaceOf trail k place → slice_get (take trail.firm trail.places.items) k ≡ Some place
+  get_firm k place is =
+      let low : k < length (take trail.firm trail.places.items) = omega (arith, is.0, length-take-le trail.firm trail.places.items trail.sound.firm_places) in
+      sym (get_left (take trail.firm trail.places.items) (drop trail.firm trail.places.items) k low) ∙ ap (λ (l : List Place). slice_get l k) (take-append-drop trail.firm trail.places.items) ∙ is.1
+
+  pub place_ends : (k : ℕ) (place : Place) → IsPlaceOf trail k place → place.at + place.length ≤ journal.end trail.journal
+  place_ends k place is =
+      let found = get_firm k place is in
+      subst (EndsBy (journal.end trail.journal)) (get_or_from_slice_get (take trail.firm trail.places.items) k place place found)
+      (trail.sound.firm_ends k place (slice_get_within (take trail.firm trail.places.items) k place found))
+
+  pub place_is : Told tells → (k : ℕ) (place : Place) → IsPlaceOf trail k place → IsFound header_length (journal.batches trail.journal) k place
+  place_is told k place is =
+      behind_is header_length (journal.batches trail.journal) (trail.sound.are_batches told).contents k place (ap (λ (l : List Place). slice_get l k) (sym (trail.sound.firm_placed told)) ∙ get_firm k place is)
+
+  pub entry_is : Told tells → (k : ℕ) (place : Place) (e : HistoryEntry) → IsPlaceOf trail k place → slice_get (firm_entries trail) k ≡ Some e → IsAmong header_length (journal.batches trail.journal) place e
+  unfolding firm_entries
+  entry_is told k place e is get =
+      let found = place_is told k place is in
+      let some : Some found.0 ≡ Some e = sym found.1 ∙ get in
+      let same : found.0 ≡ e = cc in
+      subst (λ (x : HistoryEntry). IsAmong header_length (journal.batches trail.journal) place x) same found.2
+
+  -- with the laws of the area
+  module _ (whole : (a : A) → IsTrue tells.tells_octets → length (tells.octets a) ≡ tells.size a) (same_size : (a : A) (c : List ℕ) → IsTrue tells.tells_crash → tells.may_leave a c → length c ≡ tells.size a) where
+    pub settled : journal.IsSettled trail.journal → IsSettled trail
+    unfolding firm_entries
+    settled is = record {
+      reads = λ told. still told (tells.octets (area_of trail)) (whole (area_of trail) told.0) (is.reads told);
+      crash = λ told c left. still told c (same_size (area_of trail) c told.1 left) (is.crash told c left);
+    }
+      where
+        still : Told tells → (c : List ℕ) → length c ≡ tells.size (area_of trail) → Keeps (journal.front_of trail.journal) (header_of trail) (journal.batches trail.journal) c → StandsFor (header_of trail) c (entries_in (journal.batches trail.journal))
+        still told = keeps_for (journal.front_of trail.journal) (tells.size (area_of trail)) (header_of trail) (journal.batches trail.journal) trail.sound.founded (trail.sound.are_batches told)
+
+  -- what the journal leaves in a call, stands for the firm entries, or with those that wait
+  pub leaves_either : (new : A) (batch : List ℕ) → Told tells → batch ≡ trail.waiting.octets → trail.waiting.octets ≢ []
+      → Leaves tells (area_of trail) new (λ c. length c ≡ tells.size (area_of trail))
+      → Leaves tells (area_of trail) new (journal.KeepsOr (journal.front_of trail.journal) (header_of trail) (journal.batches trail.journal) batch)
+      → Leaves tells (area_of trail) new (StandsForOr (header_of trail) (firm_entries trail) (firm_entries trail ++ waiting trail))
+  unfolding firm_entries waiting
+  leaves_either new batch told is some sized keeps =
+      let more = one_more_batch trail.journal trail.size trail.waiting trail.places.items trail.firm trail.tally trail.sound told some in
+      widen tells (area_of trail) new _ _
+      (λ c has. keeps_either (journal.front_of trail.journal) (tells.size (area_of trail)) (header_of trail) (journal.batches trail.journal) trail.sound.founded (trail.sound.are_batches told) trail.waiting.octets more c has.0
+      (subst (λ (b : List ℕ). journal.KeepsOr (journal.front_of trail.journal) (header_of trail) (journal.batches trail.journal) b c) is has.1))
+      (both tells (area_of trail) new (λ c. length c ≡ tells.size (area_of trail)) (journal.KeepsOr (journal.front_of trail.journal) (header_of trail) (journal.batches trail.journal) batch) sized keeps)
+
+  -- what a stop leaves
+  module _ (told : Told tells) (none_torn : is_closed trail ≡ false → (outcome : Outcome3) → stop_stands outcome trail ≡ false) (c : List ℕ) (sized : length c ≡ tells.size (area_of trail)) where
+    pub stop_is : (outcome : Outcome3) → Keeps (journal.front_of trail.journal) (header_of trail) (journal.left_by_stop outcome trail.journal) c → StandsFor (header_of trail) c (left_by_stop outcome trail)
+    unfolding firm_entries waiting
+    stop_is outcome keeps = by_stop (stop_stands outcome trail) refl keeps
+      where
+        closed_by_stop : (closed : Bool) → (closed ≡ false → true ≡ false) → closed ≡ true
+        closed_by_stop true none = refl
+        closed_by_stop false none = sym (none refl)
+
+        by_stop : (stands : Bool) → stop_stands outcome trail ≡ stands
+            → Keeps (journal.front_of trail.journal) (header_of trail) (if stands then journal.batches trail.journal ++ journal.torn trail.journal ∷ [] else journal.batches trail.journal) c
+            → StandsFor (header_of trail) c (if stands then firm_entries trail ++ waiting trail else firm_entries trail)
+        by_stop true is keeps =
+            let closed = closed_by_stop (is_closed trail) (λ e. sym is ∙ none_torn e outcome) in
+            let more = one_more_batch trail.journal trail.size trail.waiting trail.places.items trail.firm trail.tally trail.sound told (trail.sound.some_torn closed) in
+            keeps_more (journal.front_of trail.journal) (tells.size (area_of trail)) (header_of trail) (journal.batches trail.journal) trail.sound.founded (trail.sound.are_batches told) trail.waiting.octets more c sized
+            (subst (λ (b : List ℕ). Keeps (journal.front_of trail.journal) (header_of trail) (journal.batches trail.journal ++ b ∷ []) c) (trail.sound.torn_waits closed) keeps)
+        by_stop false is keeps = keeps_for (journal.front_of trail.journal) (tells.size (area_of trail)) (header_of trail) (journal.batches trail.journal) trail.sound.founded (trail.sound.are_batches told) c sized keeps

@@ -1,0 +1,8 @@
+use Rattle.gw_base.specs.Entry.{entry_view}
+use Rattle.cgf_journal.proofs.KeptSums.{one_more}
+use Rattle.cgf_journal.proofs.tally.Tally.add.Goals as goal
+
+pub returns-clause-ok : goal.returns-clause-ok
+returns-clause-ok c =
+    one_more c.self.inside.keys.items c.add_key.new.keys.items c.self.inside.firm c.self.inside.live c.behind-self-inside.result c.args.self.now (entry_view c.args.entry.now)
+    c.self.view_is c.in_ok-add_key.ensures.firm c.in_ok-add_key.ensures.live c.behind-self-inside.ensures

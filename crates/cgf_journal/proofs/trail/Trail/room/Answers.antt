@@ -1,0 +1,15 @@
+use Rattle.std.proofs.Common.{◌≡◌, ◌∙◌, ap, rules}
+use Rattle.gw_base.specs.Entry.{entry_view}
+use Rattle.cgf_journal.specs.Tally.{TallyValue, has_room_behind}
+use Rattle.cgf_journal.specs.Trail.{area_of, entries, tally}
+use Rattle.cgf_journal.proofs.Tallies.{room_is}
+use Rattle.cgf_journal.proofs.Trails.{tally_is}
+use Rattle.cgf_journal.proofs.trail.Trail.room.Goals as goal
+
+pub returns-clause-room : goal.returns-clause-room
+returns-clause-room g c = λ told.
+    let t = c.args.self.now in
+    let e = entry_view c.args.entry.now in
+    let size = g.A.Area.size (area_of t) in
+    let counted : c.has_room.result ≡ has_room_behind (tally t) e size = search rules in
+    counted ∙ ap (λ (v : TallyValue). has_room_behind v e size) (tally_is t told) ∙ room_is (entries t) e size

@@ -1,0 +1,77 @@
+// The contents of batches, entry by entry.
+ghost use Rattle.std.specs.Prelude.{◌≡◌, ◌≤◌, ◌<◌, ◌+◌, ◌*◌, ◌^◌, ◌++◌, true, false, length, None, Ok, IfOk, IfSome};
+ghost use Rattle.gw_base.specs.declared.history.HistoryEntry.{HistoryEntry};
+ghost use Rattle.entry_codec.specs.Content.{IsContent, entries_of};
+ghost use Rattle.entry_codec.specs.Fault.{BeginsWith};
+ghost use Rattle.cgf_journal.specs.Contents.{IsTakenIn};
+ghost use Rattle.cgf_journal.specs.Sound.{places_from};
+ghost use Rattle.cgf_journal.specs.Tally.{tally_behind_all};
+
+use crate::tally::Tally;
+use entry_codec::read;
+use gw_base::{NoMemory, Place};
+
+/// Takes in the entries of a batch's content, which begins at octet `at` of the area: adds their places and counts
+/// them. It answers whether the content is entries, at least one, and nothing else; where it isn't, those in front may
+/// have been taken in, as they may where there is no memory.
+///
+/// `numbers` needs an eighth as many places as there are octets.
+pub(crate) fn take_in(
+    content: &[u8],
+    at: u64,
+    numbers: &mut [u64],
+    places: &mut Vec<Place>,
+    tally: &mut Tally,
+) -> Result<bool, NoMemory>
+    requires numbers { length content.now ≤ 8 * length numbers.old }
+    requires costs { tally.old.live.costs + 2 * length content.now < 2 ^ 64 }
+    requires inside { at + length content.now < 2 ^ 64 }
+    requires short { length content.now < 2 ^ 32 }
+    ensures taken { result ≡ Ok true → IsContent content.now }
+    ensures places { result ≡ Ok true → places.new.items ≡ places.old.items ++ places_from at (entries_of content.now) }
+    ensures tally { result ≡ Ok true → tally.new ≡ record { firm = tally.old.firm; live = tally_behind_all tally.old.live (entries_of content.now) } }
+    ensures costs { result ≡ Ok true → tally.new.live.costs ≡ tally.old.live.costs + length content.now + 5 * length (entries_of content.now) }
+    ensures count { result ≡ Ok true → length places.new.items ≡ length places.old.items + length (entries_of content.now) }
+    ensures refused { result ≡ Ok false → ¬ (IsContent content.now) }
+    ensures numbers { length numbers.new ≡ length numbers.old }
+{
+    let mut rest = content;
+    let mut from = at;
+    while !rest.is_empty() {
+        let Some(count) = take_entry(rest, from, numbers, places, tally)? else {
+            return Ok(false);
+        };
+        rest = rest.split_at(count).1;
+        from += count as u64;
+    }
+    Ok(!content.is_empty())
+}
+
+/// Takes in the entry that the octets begin with, and answers how many octets it has; none where they begin with no
+/// entry.
+fn take_entry(
+    octets: &[u8],
+    at: u64,
+    numbers: &mut [u64],
+    places: &mut Vec<Place>,
+    tally: &mut Tally,
+) -> Result<Option<usize>, NoMemory>
+    requires numbers { length octets.now ≤ 8 * length numbers.old }
+    requires costs { tally.old.live.costs + 2 * length octets.now < 2 ^ 64 }
+    requires short { length octets.now < 2 ^ 32 }
+    ensures some { IfOk result (λ found. IfSome found (λ count. IsTakenIn octets.now at count places.old.items places.new.items tally.old tally.new)) }
+    ensures within { IfOk result (λ found. IfSome found (λ count. (25 ≤ count) × (count ≤ length octets.now))) }
+    ensures none { result ≡ Ok None → (e : HistoryEntry) → ¬ (BeginsWith octets.now e) }
+    ensures numbers { length numbers.new ≡ length numbers.old }
+{
+    let Ok((entry, count)) = read(octets, numbers) else {
+        return Ok(None);
+    };
+    let place = Place {
+        at,
+        length: count as u32,
+    };
+    tally.add(&entry)?;
+    places.push(place)?;
+    Ok(Some(count))
+}

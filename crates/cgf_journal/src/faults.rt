@@ -1,0 +1,35 @@
+// Why a call of a trail failed.
+use gw_base::NoMemory;
+use std::error::Error;
+use std::fmt;
+
+/// Why an entry wasn't pushed. Nothing changed.
+#[derive(Clone, Copy, Debug, PartialEq, Eq)]
+pub enum PushFault {
+    /// The batch has more octets free than these, 1,048,576 in all, only after a commit.
+    BatchFull { free: u64 },
+    /// There was no memory to keep the entry's place.
+    NoMemory,
+}
+
+impl fmt::Display for PushFault {
+    fn fmt<W: fmt::Write>(&self, f: &mut fmt::Formatter<W>) -> fmt::Result {
+        match *self {
+            PushFault::BatchFull { free } => write!(f, "the batch has {free} octets free"),
+            PushFault::NoMemory => write!(f, "out of memory"),
+        }
+    }
+}
+
+impl Error for PushFault {}
+
+impl From<NoMemory> for PushFault {
+    ghost use Rattle.std.specs.Prelude.{◌≡◌};
+    ghost use Rattle.cgf_journal.specs.declared.faults.PushFault.TheVariants.{NoMemory as none};
+
+    ghost from_gives = { λ _ fault. fault ≡ none };
+
+    fn from(_: NoMemory) -> Self {
+        PushFault::NoMemory
+    }
+}

@@ -1,0 +1,18 @@
+//! A gateway's history on a journal: the entries that stand, and those that wait for a commit.
+#![tactic(auto)]
+
+mod contents;
+mod drill;
+mod faults;
+mod key;
+pub mod laws;
+mod listing;
+mod opening;
+mod tally;
+#[cfg(test)]
+mod tests;
+mod trail;
+
+pub use faults::PushFault;
+pub use gate_journal::{Device, OpenFault};
+pub use trail::Trail;

@@ -1,0 +1,142 @@
+ghost use Rattle.std.specs.Prelude.{◌≡◌, ◌+◌, ◌*◌, ◌<◌, ◌^◌, false, [], if◌then◌else◌, nat_le, OnOk, OnErr};
+ghost use Rattle.gw_base.specs.Entry.{entry_view};
+ghost use Rattle.entry_codec.specs.Room.{capacity_of};
+ghost use Rattle.entry_codec.specs.Spelling.{cost_of};
+ghost use Rattle.cgf_journal.specs.Tally.{free_beside, has_room_behind, tally_behind, tally_of};
+
+use crate::key::{KeptKey, Sum, add_key, count_added, count_held, count_staying, due_behind, keep};
+use entry_codec::cost;
+use gw_base::{Entry, NoMemory};
+use std::alloc::Global;
+use std::marker::Model;
+
+/// What is promised behind a held key: a Release or a Cancel of it, and a Close.
+const PROMISED_FOR_A_KEY: u128 = 76;
+
+/// What is promised where a Close is due.
+const PROMISED_FOR_A_CLOSE: u128 = 30;
+
+/// The octets of an area that no batch has: the header's, and the gate behind the last batch.
+const TAKEN: u64 = 33;
+
+/// What the entries of a trail cost of its journal and what they promise: the firm ones, and all of
+/// them.
+#[derive(Debug, Drop)]
+pub(crate) struct Tally {
+    /// The keys that the firm entries or all entries hold, in the order of the Hold entries.
+    keys: Vec<KeptKey>,
+    firm: Sum,
+    live: Sum,
+}
+
+impl Model for Tally {
+    ghost use Rattle.cgf_journal.specs.Keys.{firm_tally, live_tally};
+    ghost use Rattle.cgf_journal.specs.Tally.{Tallies};
+
+    ghost Value = { Tallies };
+
+    ghost view = { λ t. record { firm = firm_tally t.keys.items t.firm; live = live_tally t.keys.items t.live } };
+}
+
+impl Tally {
+    /// The tally of no entry, which takes no memory.
+    pub(crate) fn new(alloc: Global) -> Tally
+        ensures { result ≡ record { firm = tally_of []; live = tally_of [] } }
+    {
+        let none = Sum {
+            costs: 0,
+            is_close_due: false,
+        };
+        Tally {
+            keys: Vec::new(alloc),
+            firm: none,
+            live: none,
+        }
+    }
+
+    /// Counts one more entry behind the others. Without memory for its key nothing changes.
+    pub(crate) fn add(&mut self, entry: &Entry<'_>) -> Result<(), NoMemory>
+        requires { self.old.live.costs + cost_of (entry_view entry.now) < 2 ^ 64 }
+        ensures ok { OnOk result (self.new ≡ record { firm = self.old.firm; live = tally_behind self.old.live (entry_view entry.now) }) }
+        ensures err { OnErr result (self.new ≡ self.old) }
+    {
+        add_key(&mut self.keys, &entry.act)?;
+        self.live = self.live.behind(entry);
+        Ok(())
+    }
+
+    /// Makes all entries firm.
+    pub(crate) fn settle(&mut self)
+        ensures { self.new ≡ record { firm = self.old.live; live = self.old.live } }
+    {
+        keep(&mut self.keys, false);
+        self.firm = self.live;
+    }
+
+    /// Takes all entries out but the firm ones.
+    pub(crate) fn revert(&mut self)
+        ensures { self.new ≡ record { firm = self.old.firm; live = self.old.firm } }
+    {
+        keep(&mut self.keys, true);
+        self.live = self.firm;
+    }
+
+    /// Whether an area of this size has room for one more entry behind the firm ones, or else behind all.
+    pub(crate) fn has_room(&self, behind_firm: bool, entry: &Entry<'_>, size: u64) -> bool
+        ensures { result ≡ has_room_behind (if behind_firm then self.now.firm else self.now.live) (entry_view entry.now) size }
+    {
+        let sum = Sum::of(behind_firm, self.firm, self.live);
+        let due = due_behind(sum.is_close_due, &entry.act);
+        let cost = cost(entry);
+        // Where there is room even if each key stays held, none is looked at.
+        if fits(sum.costs, cost, self.keys.len() as u64, 1, due, size) {
+            return true;
+        }
+        let staying = count_staying(&self.keys, behind_firm, &entry.act);
+        fits(sum.costs, cost, staying, count_added(&entry.act), due, size)
+    }
+
+    /// The octets that the firm entries, or else all, leave of the capacity of an area of this size.
+    pub(crate) fn free(&self, behind_firm: bool, size: u64) -> u64
+        ensures { result ≡ free_beside (if behind_firm then self.now.firm else self.now.live) size }
+    {
+        let sum = Sum::of(behind_firm, self.firm, self.live);
+        let held = count_held(&self.keys, behind_firm);
+        let taken = u128::from(sum.costs) + promised(held, 0, sum.is_close_due);
+        capacity(size).saturating_sub(taken) as u64
+    }
+
+    /// What all entries cost.
+    pub(crate) fn costs(&self) -> u64
+        ensures { result ≡ self.now.live.costs }
+    {
+        self.live.costs
+    }
+}
+
+/// The octets that are promised where so many keys are held, and so many more.
+fn promised(held: u64, more: u64, due: bool) -> u128
+    ensures { result ≡ 76 * (held + more) + (if due then 30 else 0) }
+{
+    let keys = PROMISED_FOR_A_KEY * (u128::from(held) + u128::from(more));
+    if due {
+        keys + PROMISED_FOR_A_CLOSE
+    } else {
+        keys
+    }
+}
+
+/// The octets that an area of this size has for batches.
+fn capacity(size: u64) -> u128
+    ensures value { result ≡ capacity_of size }
+    ensures within { result < 2 ^ 64 }
+{
+    u128::from(size.saturating_sub(TAKEN))
+}
+
+/// Whether costs, one more cost and what is promised are within the capacity.
+fn fits(costs: u64, cost: u64, held: u64, more: u64, due: bool, size: u64) -> bool
+    ensures { result ≡ nat_le (costs + cost + (76 * (held + more) + (if due then 30 else 0))) (capacity_of size) }
+{
+    u128::from(costs) + u128::from(cost) + promised(held, more, due) <= capacity(size)
+}

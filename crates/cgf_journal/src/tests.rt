@@ -1,0 +1,266 @@
+// Room by hand, what is read back, and what stops and failures leave.
+ghost use Rattle.std.specs.Prelude.{◌≡◌, ◌≤◌, false, IfOk};
+ghost use Rattle.cgf_journal.specs.Trail.{is_closed};
+
+use super::*;
+use area_disk::{Area, Drill, MemoryArea, Outcome3, Plan, Stop};
+use entry_codec::read;
+use gate_journal::Journal;
+use gw_base::{Act, Caller, Entry, Moment, NodeId};
+use std::alloc::{AllocError, Global};
+use std::process::Abort;
+use std::test::Fail;
+
+const ADDRESS: u32 = 0x0A00_0001;
+
+const NODE: NodeId = NodeId(0x0A00_0009);
+
+/// A packet of 11 octets.
+const PACKET: [u8; 11] = [1, 1, 6, 0, 0, 5, 0xA0, 3, 0x80, 1, 5];
+
+const KINDS: u64 = 9;
+
+fn plan(alloc: Global, stop: Option<Stop>) -> Plan {
+    Plan {
+        fail: Vec::new(alloc),
+        read_fail: Vec::new(alloc),
+        stop,
+    }
+}
+
+fn failing(alloc: Global, call: u64) -> Result<Plan, AllocError> {
+    Ok(Plan {
+        fail: vec![in alloc; call]?,
+        read_fail: Vec::new(alloc),
+        stop: None,
+    })
+}
+
+fn entry(act: Act<'_>) -> Result<Entry<'_>, Fail> {
+    Ok(Entry {
+        moment: Moment::of(1_709_164_800).ok_or("a moment")?,
+        caller: Caller {
+            session: 1,
+            serial: 2,
+        },
+        act,
+    })
+}
+
+fn opened(rt: &impl Abort, alloc: Global, area: MemoryArea) -> Result<Trail<MemoryArea>, Fail> {
+    assert!(rt; area.length() >= 100);
+    assert!(rt; area.length() <= 1000);
+    match Trail::open(alloc, area, ADDRESS) {
+        Ok(trail) => Ok(trail),
+        Err((fault, _)) => Err(fault)?,
+    }
+}
+
+fn fresh(rt: &impl Abort, alloc: Global, size: u64) -> Result<Trail<MemoryArea>, Fail> {
+    assert!(rt; size <= 1000);
+    opened(rt, alloc, MemoryArea::new(alloc, size, plan(alloc, None))?)
+}
+
+fn push(rt: &impl Abort, trail: &mut Trail<MemoryArea>, act: Act<'_>) -> Result<(), Fail> {
+    let entry = entry(act)?;
+    assert!(rt; !trail.is_closed());
+    assert!(rt; trail.room(&entry));
+    trail.push(&entry)?;
+    Ok(())
+}
+
+fn commit(rt: &impl Abort, trail: &mut Trail<MemoryArea>) -> Result<u64, Device> {
+    assert!(rt; !trail.is_closed());
+    trail.commit()
+}
+
+fn seal() -> Act<'static> {
+    Act::Seal {
+        node: NODE,
+        number: 65_537,
+    }
+}
+
+fn hold() -> Act<'static> {
+    Act::Hold {
+        node: NODE,
+        number: 65_536,
+        packet: &PACKET,
+    }
+}
+
+fn release() -> Act<'static> {
+    Act::Release {
+        node: NODE,
+        numbers: &[65_536],
+    }
+}
+
+// An act of each kind.
+fn act_of(kind: u64) -> Act<'static> {
+    match kind {
+        0 => Act::Start,
+        1 => Act::Path {
+            node: NODE,
+            port: 3386,
+            counter: 7,
+        },
+        2 => Act::File {
+            node: NODE,
+            number: 65_538,
+            packet: &PACKET,
+        },
+        3 => hold(),
+        4 => seal(),
+        5 => release(),
+        6 => Act::Cancel {
+            node: NODE,
+            numbers: &[1, 2],
+        },
+        7 => Act::Tick,
+        _ => Act::Close,
+    }
+}
+
+#[test]
+fn a_held_packet_keeps_room_for_its_release_and_a_close(rt: HostRuntime) -> Result<(), Fail> {
+    let mut trail = fresh(&rt, rt.alloc(), 234)?;
+    assert_eq!(&rt; trail.free(), 201);
+    push(&rt, &mut trail, Act::Start)?;
+    assert_eq!(&rt; trail.free(), 171);
+    push(&rt, &mut trail, hold())?;
+    assert_eq!(&rt; trail.free(), 42);
+    push(&rt, &mut trail, seal())?;
+    assert_eq!(&rt; trail.free(), 0);
+    assert!(&rt; !trail.room(&entry(seal())?));
+    push(&rt, &mut trail, release())?;
+    push(&rt, &mut trail, Act::Close)?;
+    assert_eq!(&rt; commit(&rt, &mut trail)?, 5);
+    assert_eq!(&rt; trail.free(), 0);
+    Ok(())
+}
+
+// The entries of a trail are one of each kind.
+fn holds_each_kind(
+    rt: &impl Abort,
+    alloc: Global,
+    trail: &mut Trail<MemoryArea>,
+) -> Result<(), Fail> {
+    assert_eq!(rt; trail.length(), KINDS);
+    for kind in 0..KINDS {
+        assert!(rt; kind < trail.firm());
+        let place = trail.entry_at(kind);
+        let mut octets = vec![in alloc; 0; place.length as usize]?;
+        trail.read(place, &mut octets)?;
+        let mut numbers = [0; 16];
+        assert!(rt; octets.len() < 128);
+        assert_eq!(rt;
+            read(&octets, &mut numbers),
+            Ok((entry(act_of(kind))?, octets.len()))
+        );
+    }
+    Ok(())
+}
+
+#[test]
+fn each_kind_of_entry_is_read_back(rt: HostRuntime) -> Result<(), Fail> {
+    let alloc = rt.alloc();
+    let mut trail = fresh(&rt, alloc, 1000)?;
+    for kind in 0..KINDS {
+        push(&rt, &mut trail, act_of(kind))?;
+        if kind == 3 {
+            assert_eq!(&rt; commit(&rt, &mut trail)?, 4);
+            assert_eq!(&rt; commit(&rt, &mut trail)?, 4);
+        }
+    }
+    assert_eq!(&rt; trail.firm(), 4);
+    assert_eq!(&rt; commit(&rt, &mut trail)?, KINDS);
+    holds_each_kind(&rt, alloc, &mut trail)?;
+    let mut again = opened(&rt, alloc, trail.into_area())?;
+    holds_each_kind(&rt, alloc, &mut again)
+}
+
+#[test]
+fn a_batch_that_is_no_entry_is_not_ours(rt: HostRuntime) -> Result<(), Fail> {
+    let alloc = rt.alloc();
+    let area = MemoryArea::new(alloc, 100, plan(alloc, None))?;
+    let mut journal = match Journal::open(alloc, area, ADDRESS, 0) {
+        Ok(journal) => journal,
+        Err((fault, _)) => return Err(fault)?,
+    };
+    assert!(&rt; !journal.is_closed());
+    journal.append(&[0xAA, 0xBB])?;
+    let area = journal.into_area();
+    assert_eq!(&rt; area.length(), 100);
+    let Err((fault, _)) = Trail::open(alloc, area, ADDRESS) else {
+        panic!(&rt; "opened")
+    };
+    assert_eq!(&rt; fault, OpenFault::NotOurs { at: 32 });
+    Ok(())
+}
+
+// How many entries are found after an opening under this plan.
+fn length_after_open(rt: &impl Abort, alloc: Global, plan: Plan) -> Result<u64, Fail> {
+    let area = MemoryArea::new(alloc, 200, plan)?;
+    match Trail::open(alloc, area, ADDRESS) {
+        Ok(_) => panic!(rt; "opened"),
+        Err((fault, mut area)) => {
+            assert_eq!(rt; fault, OpenFault::Device);
+            area.revive();
+            Ok(opened(rt, alloc, area)?.length())
+        }
+    }
+}
+
+// A closed trail, whose commit of one entry failed by this plan.
+fn torn(rt: &impl Abort, alloc: Global, plan: Plan) -> Result<Trail<MemoryArea>, Fail> {
+    let mut trail = fresh(rt, alloc, 200)?;
+    push(rt, &mut trail, Act::Start)?;
+    assert_eq!(rt; trail.length(), 1);
+    trail.arm(plan);
+    assert_eq!(rt; commit(rt, &mut trail), Err(Device));
+    assert!(rt; trail.is_closed());
+    assert_eq!(rt; trail.length(), 0);
+    Ok(trail)
+}
+
+// How many entries are found after a commit under this plan.
+fn length_after_commit(rt: &impl Abort, alloc: Global, plan: Plan) -> Result<u64, Fail> {
+    let mut area = torn(rt, alloc, plan)?.into_area();
+    area.revive();
+    Ok(opened(rt, alloc, area)?.length())
+}
+
+#[test]
+fn a_stop_leaves_all_entries_of_a_commit_or_none(rt: HostRuntime) -> Result<(), Fail> {
+    let alloc = rt.alloc();
+    for call in 1..6 {
+        for outcome in [Outcome3::Old, Outcome3::New, Outcome3::Rot] {
+            let stop = Some(Stop { call, outcome });
+            assert_eq!(&rt; length_after_open(&rt, alloc, plan(alloc, stop))?, 0);
+            if call < 5 {
+                let stands = call >= 3 && outcome == Outcome3::New;
+                assert_eq!(&rt;
+                    length_after_commit(&rt, alloc, plan(alloc, stop))?,
+                    u64::from(stands)
+                );
+            }
+        }
+    }
+    Ok(())
+}
+
+#[test]
+fn a_failed_commit_stands_by_its_gate(rt: HostRuntime) -> Result<(), Fail> {
+    let alloc = rt.alloc();
+    for call in 1..5 {
+        let mut trail = torn(&rt, alloc, failing(alloc, call)?)?;
+        assert_eq!(&rt; trail.calls(), call);
+        assert!(&rt; !trail.stopped());
+        assert!(&rt; trail.is_closed());
+        assert_eq!(&rt; trail.reopen()?, call == 4);
+        assert_eq!(&rt; trail.length(), u64::from(call == 4));
+        assert_eq!(&rt; trail.firm(), trail.length());
+    }
+    Ok(())
+}
