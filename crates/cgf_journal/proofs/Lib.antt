@@ -1,6 +1,10 @@
 pub mod Entries
+pub mod Founding
 pub mod KeptKeys
 pub mod KeptSums
+pub mod Listings
+pub mod Meanings
+pub mod Opened
 pub mod Placing
 pub mod Reopening
 pub mod Sounds

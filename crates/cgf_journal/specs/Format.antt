@@ -1,9 +1,9 @@
 -- Which octets of an area stand for which history.
-use Rattle.std.specs.Prelude.{◌≡◌, ◌⊎◌, ℕ, ◌+◌, ◌≤◌, ◌<◌, List, [], ◌∷◌, ◌++◌, length, take, All}
+use Rattle.std.specs.Prelude.{◌≡◌, ◌⊎◌, ℕ, ◌≤◌, List, [], ◌∷◌, ◌++◌, length, All}
 use Rattle.std.specs.List.{flat_map}
 use Rattle.gw_base.specs.declared.history.HistoryEntry.{HistoryEntry}
-use Rattle.gate_journal.specs.Format as journal
-use Rattle.gate_journal.specs.Format.{IsForeign, IsSmall, Stands, Starts, end_of, gate_at, open_gate}
+use Rattle.gate_journal.specs.Before.{AreBefore, batch_at}
+use Rattle.gate_journal.specs.Format.{Differs, IsWhole, Stands, gate_at, open_gate}
 use Rattle.entry_codec.specs.Content.{IsContent, entries_of}
 use Rattle.entry_codec.specs.Room.{capacity_of, costs_of}
 
@@ -23,24 +23,21 @@ pub record StandsFor (header octets : List ℕ) (h : List HistoryEntry) : Type 0
   pub are_batches : AreBatches (length octets) batches
   pub history : h ≡ entries_in batches
 
--- The octets stand for no history, and this open gate shows it: behind batches of entries comes one that is whole, but
--- holds something else, or whose entries cost too much.
+-- The batch behind the gate at this place is whole: by the journal's own tests, and as entries within the capacity
+-- behind those of these batches.
+pub record IsWholeBehind (octets : List ℕ) (batches : List (List ℕ)) (at : ℕ) : Type 0 where
+  pub whole : IsWhole octets at
+  pub are_batches : AreBatches (length octets) (batches ++ batch_at octets at ∷ [])
+
+-- Behind batches of entries the gate at this place is open, and its batch isn't whole.
 pub record IsSpoiled (header octets : List ℕ) (at : ℕ) : Type 0 where
   pub batches : List (List ℕ)
-  pub batch : List ℕ
+  pub before : AreBefore header octets at batches
   pub are_batches : AreBatches (length octets) batches
-  pub place : at ≡ end_of batches
-  pub front : take (end_of (batches ++ batch ∷ [])) octets ≡ header ++ journal.spelled (batches ++ batch ∷ [])
-  pub small : All IsSmall (batches ++ batch ∷ [])
-  pub whole : end_of (batches ++ batch ∷ []) < length octets
-  pub spoiled : AreBatches (length octets) (batches ++ batch ∷ []) → ⊥
-
--- The octets are no journal with this header where the journal's own batches are broken behind batches of entries.
-pub record IsBrokenOff (header octets : List ℕ) (at : ℕ) : Type 0 where
-  pub foreign : IsForeign header octets at
-  pub batches_before : (batches : List (List ℕ)) → take at octets ≡ header ++ journal.spelled batches → AreBatches (length octets) batches
+  pub opened : gate_at octets at ≡ open_gate
+  pub unwhole : IsWholeBehind octets batches at → ⊥
 
 -- The octets stand for no history and don't start either, and this place shows it: the first octet of the header that
 -- differs, or the first open gate whose batch isn't whole.
 abbrev pub IsForeignTo : List ℕ → List ℕ → ℕ → Type 0
-IsForeignTo header octets at = IsBrokenOff header octets at ⊎ IsSpoiled header octets at
+IsForeignTo header octets at = Differs header octets at ⊎ IsSpoiled header octets at

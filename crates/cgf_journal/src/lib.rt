@@ -5,6 +5,8 @@ mod contents;
 mod drill;
 mod faults;
 mod key;
+pub mod laws;
+mod listing;
 mod opening;
 mod tally;
 #[cfg(test)]

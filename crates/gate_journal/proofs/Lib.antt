@@ -1,4 +1,5 @@
 mod Adding
+pub mod Agreeing
 mod Apart
 mod Below
 mod Contents
@@ -12,6 +13,6 @@ mod Openings
 mod Places
 mod Plans
 pub mod Runs
-mod Spelling
+pub mod Spelling
 mod States
 mod Turns

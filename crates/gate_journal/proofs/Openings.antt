@@ -25,7 +25,7 @@ starts_of header octets false is = inr is
 pub shut_or_broken : (header : List ℕ) (long : length header ≡ 32) (gate : ℕ) (octets : List ℕ) (same : take 32 octets ≡ header) (low : 32 ≤ gate) (below : AreBelow gate octets) → gate < length octets → gate_at octets gate ≢ open_gate
     → (at : ℕ) → IsBroken header octets at → ⊥
 shut_or_broken header long gate octets same low below inside shut at broken =
-    let stop : Stop header octets gate (batches_below gate octets) = record { front = front_is header long gate octets same low below; small = below.small; inside = inside; stops = λ opened. absurd (shut opened) } in
+    let stop : Stop header octets gate (batches_below gate octets) = record { before = record { front = front_is header long gate octets same low below; small = below.small; inside = inside }; stops = λ opened. absurd (shut opened) } in
     shut (subst (λ n. gate_at octets n ≡ open_gate) (sym (one_place header long octets gate at (batches_below gate octets) broken.batches stop (stop_of_broken header long octets at broken))) broken.opened)
 
 module _ {A : Type 0} {g : Ghosts A} where

@@ -81,7 +81,7 @@ module _ (header : List ℕ) (long : length header ≡ 32) (place : ℕ) (octets
     pub whole_there : place < length octets → IsWhole octets (end_of some)
     whole_there inside = record { short = omega (arith, length_is, small); inside = omega (arith, length_is, gate_before) }
 
-    content_is : take (length batch) (drop (end_of some + 5) octets) ≡ batch
+    pub content_is : take (length batch) (drop (end_of some + 5) octets) ≡ batch
     content_is =
         within (end_of some + 5) (length batch) (omega (arith, gate_before))
         ∙ ap (λ (l : List ℕ). take (length batch) l) (behind_gate 5 (omega arith) ∙ drop_length batch (spelled more) small)

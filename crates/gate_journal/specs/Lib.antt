@@ -1,4 +1,5 @@
 pub mod Adding
+pub mod Before
 pub mod Format
 pub mod Journal
 pub mod Moments

@@ -258,6 +258,7 @@ impl<A: Area> Journal<A> {
         ensures none { Told A.Area → IfOk result (λ found. IsNone found ↔ (gate ≡ end self.old)) }
         ensures end { gate ≡ end self.old → IfOk result (λ found. IsNone found) }
         ensures inside { IfOk result (λ found. IfSome found (λ content. (content.0 ≡ gate + 5) × (content.0 + content.1 ≤ end self.old))) }
+        ensures short { IfOk result (λ found. IfSome found (λ content. content.1 ≤ longest_batch)) }
         ensures kept { IsKept self.old self.new }
         ensures cause { HasCause (A.faults (area_of self.old)) (A.faults (area_of self.new)) result }
     {
@@ -341,7 +342,7 @@ fn next_front(front: Front, first: u8) -> Front
 }
 
 // The place and the length of the content of a whole batch that ends before the first closed gate.
-fn content_behind(behind: Behind, gate: u64, end: u64) -> Option<(u64, u32)>
+pub(crate) fn content_behind(behind: Behind, gate: u64, end: u64) -> Option<(u64, u32)>
     requires fits { gate < end }
     requires short { end ≤ 268435456 }
     ensures { result ≡ content_at behind gate end }

@@ -1,6 +1,7 @@
 //! A journal of batches behind gates.
 #![tactic(auto)]
 
+mod before;
 mod device;
 mod drill;
 mod faults;
@@ -9,6 +10,7 @@ mod journal;
 mod opening;
 mod reading;
 
+pub use before::{batch_before, read_before};
 pub use faults::{AppendFault, Device, OpenFault};
 pub use journal::{Front, Journal};
 

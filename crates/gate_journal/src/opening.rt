@@ -185,6 +185,7 @@ impl<A: Area> Journal<A> {
         // The journal found is the one that the area stands for.
         ensures reads { Told A.Area → (bs : List (List ℕ)) → Stands (header (A.size area) address generation) (A.octets area) bs → IfOk result (λ journal. batches journal ≡ bs) }
         ensures anew { Told A.Area → Starts (header (A.size area) address generation) (A.octets area) → IfOk result (λ journal. batches journal ≡ []) }
+        ensures found { Told A.Area → IfOk result (λ journal. Starts (header (A.size area) address generation) (A.octets area) ⊎ (A.octets (area_of journal) ≡ A.octets area)) }
         ensures settled { IfOk result (λ journal. IsSettled journal) }
         ensures founded { IfOk result (λ journal. front_of journal ≡ Founded) }
         ensures open { IfOk result (λ journal. is_closed journal ≡ false) }
@@ -194,6 +195,7 @@ impl<A: Area> Journal<A> {
         // A crash at any moment leaves what it could before, unless the area is made anew.
         ensures moments { Told A.Area → (bs : List (List ℕ)) → Stands (header (A.size area) address generation) (A.octets area) bs → OnArea result (λ now. Leaves A.Area area now (A.may_leave area)) }
         ensures moments_foreign { Told A.Area → (at : ℕ) → IsForeign (header (A.size area) address generation) (A.octets area) at → OnArea result (λ now. Leaves A.Area area now (A.may_leave area)) }
+        ensures moments_else { Told A.Area → (Starts (header (A.size area) address generation) (A.octets area) → ⊥) → OnArea result (λ now. Leaves A.Area area now (A.may_leave area)) }
         ensures moments_anew { Told A.Area → Starts (header (A.size area) address generation) (A.octets area) → OnArea result (λ now. Leaves A.Area area now (λ c. A.may_leave area c ⊎ IsMaking (header (A.size area) address generation) c)) }
 
         // Each error.

@@ -2,7 +2,7 @@ use Rattle.std.proofs.Common.{inl, ◌≡◌, ℕ, List, ◌∙◌, ap, subst, a
 use Rattle.gate_journal.specs.Format.{header}
 use Rattle.gate_journal.specs.Verdicts.{IsVerdict}
 use Rattle.gate_journal.specs.declared.reading.Verdict.TheVariants.{Same}
-use Rattle.gate_journal.proofs.Apart.{same_not_starts}
+use Rattle.gate_journal.proofs.Agreeing.{same_not_starts}
 use Rattle.gate_journal.proofs.Openings.{calls_made}
 use Rattle.gate_journal.proofs.Runs.{widen}
 use Rattle.gate_journal.proofs.Spelling.{length-header, first-header}

@@ -3,7 +3,8 @@ use Rattle.gate_journal.specs.Format.{header, Differs, IsBroken, Stands}
 use Rattle.gate_journal.specs.Verdicts.{IsVerdict}
 use Rattle.gate_journal.specs.declared.reading.Verdict.TheVariants.{Starts as Begins, Same, Other}
 use Rattle.gate_journal.specs.declared.faults.OpenFault.TheVariants.{NotOurs}
-use Rattle.gate_journal.proofs.Apart.{same_not_starts, same_not_differs, stands_front, broken_front, one_difference}
+use Rattle.gate_journal.proofs.Apart.{stands_front, broken_front}
+use Rattle.gate_journal.proofs.Agreeing.{same_not_starts, same_not_differs, one_difference}
 use Rattle.gate_journal.proofs.Openings.{starts_of, list_read, calls_made}
 use Rattle.gate_journal.proofs.Spelling.{length-header, first-header}
 use Rattle.gate_journal.proofs.journal.Journal.open.Goals as goal

@@ -1,0 +1,56 @@
+use Rattle.std.proofs.Common.{◌≡◌, ℕ, ◌+◌, ◌≤◌, ◌<◌, List, ◌∷◌, ◌++◌, length, take, ◌∙◌, ap, subst, sym, arith}
+use Rattle.std.specs.Prelude.{IfSome}
+use Rattle.std.proofs.lemmas.List.{length-take-le}
+use Rattle.gate_journal.specs.Before.{AreBefore}
+use Rattle.gate_journal.specs.Format.{end_of, longest_batch}
+use Rattle.gate_journal.proofs.Agreeing.{place_of}
+use Rattle.cgf_journal.specs.Opening.{AreListedBefore}
+use Rattle.cgf_journal.proofs.Listings.{breaks_here, goes_on, read_next, taken_next}
+use Rattle.cgf_journal.proofs.listing.take_before.Goals as goal
+
+pub returns-clause-taken : goal.returns-clause-taken
+returns-clause-taken g c =
+    let o = g.A.Area.octets c.args.area.now in
+    let some = c.requires.taken.some in
+    let at = c.requires.taken.taken_in.gate_is in
+    let short = subst (λ o. IfSome o (λ (content : ℕ × ℕ). content.1 ≤ longest_batch)) c.in-Some.is c.in-Ok.ensures.short in
+    let within = subst (λ o. IfSome o (λ (content : ℕ × ℕ). content.0 + content.1 < g.A.Area.size c.args.area.now)) c.in-Some.is c.in-Ok.ensures.within in
+    let room : length (take c.in-Some.length c.args.content.now) ≡ c.in-Some.length = length-take-le c.in-Some.length c.args.content.now (omega (arith, short, within)) in
+    let next = λ (all : List (List ℕ)) (listed : AreListedBefore g.A.Area.tells_octets (g.A.Area.octets c.args.area.now) c.args.end all).
+    let begins = c.requires.taken.begins all listed in
+    read_next all some begins.0 c.args.gate c.args.end begins.1 at (place_of listed.header listed.long o c.args.end all listed.before) c.requires.inside c.in-Ok.found c.in-Some.place c.in-Some.length c.read_before.new.into c.in-Some.is
+    (λ batch rest is. c.in-Ok.ensures.found listed.told listed.header some batch rest listed.long (subst (λ (l : List (List ℕ)). AreBefore listed.header o c.args.end l) is listed.before) at)
+    (λ batch rest is place size.
+    c.in-Ok-read_before.ensures.content listed.told listed.header c.args.end some batch rest listed.long
+    (subst (λ (l : List ℕ). AreBefore listed.header l c.args.end (some ++ batch ∷ rest)) (sym c.batch_before.ensures.kept.octets) (subst (λ (l : List (List ℕ)). AreBefore listed.header o c.args.end l) is listed.before))
+    (place ∙ ap (λ n. n + 5) at) (room ∙ size)) in
+    taken_next (AreListedBefore g.A.Area.tells_octets o c.args.end) c.args.size c.args.gate some c.read_before.new.into c.take.result c.take.new.self.places.items c.take.new.self.tally c.take.ensures.next (c.take.ensures.taken some c.requires.taken.taken_in) next
+
+pub returns-clause-breaks : goal.returns-clause-breaks
+returns-clause-breaks g c = λ all listed stop stops.
+    let o = g.A.Area.octets c.args.area.now in
+    let some = c.requires.taken.some in
+    let at = c.requires.taken.taken_in.gate_is in
+    let short = subst (λ o. IfSome o (λ (content : ℕ × ℕ). content.1 ≤ longest_batch)) c.in-Some.is c.in-Ok.ensures.short in
+    let within = subst (λ o. IfSome o (λ (content : ℕ × ℕ). content.0 + content.1 < g.A.Area.size c.args.area.now)) c.in-Some.is c.in-Ok.ensures.within in
+    let room : length (take c.in-Some.length c.args.content.now) ≡ c.in-Some.length = length-take-le c.in-Some.length c.args.content.now (omega (arith, short, within)) in
+    let next = λ (all : List (List ℕ)) (listed : AreListedBefore g.A.Area.tells_octets (g.A.Area.octets c.args.area.now) c.args.end all).
+    let begins = c.requires.taken.begins all listed in
+    read_next all some begins.0 c.args.gate c.args.end begins.1 at (place_of listed.header listed.long o c.args.end all listed.before) c.requires.inside c.in-Ok.found c.in-Some.place c.in-Some.length c.read_before.new.into c.in-Some.is
+    (λ batch rest is. c.in-Ok.ensures.found listed.told listed.header some batch rest listed.long (subst (λ (l : List (List ℕ)). AreBefore listed.header o c.args.end l) is listed.before) at)
+    (λ batch rest is place size.
+    c.in-Ok-read_before.ensures.content listed.told listed.header c.args.end some batch rest listed.long
+    (subst (λ (l : List ℕ). AreBefore listed.header l c.args.end (some ++ batch ∷ rest)) (sym c.batch_before.ensures.kept.octets) (subst (λ (l : List (List ℕ)). AreBefore listed.header o c.args.end l) is listed.before))
+    (place ∙ ap (λ n. n + 5) at) (room ∙ size)) in
+    let found = next all listed in
+    breaks_here c.args.size c.args.gate stop all some c.read_before.new.into found.0 at c.requires.taken.taken_in.are_batches found.1 (c.take.ensures.unfit some c.requires.taken.taken_in stop stops)
+
+pub returns-in_default-found-clause-breaks : goal.returns-in_default-found-clause-breaks
+returns-in_default-found-clause-breaks g c = λ all listed stop stops.
+    let o = g.A.Area.octets c.args.area.now in
+    let some = c.requires.taken.some in
+    let at = c.requires.taken.taken_in.gate_is in
+    let begins = c.requires.taken.begins all listed in
+    let next = goes_on some begins.0 all c.args.gate c.args.end begins.1 at (place_of listed.header listed.long o c.args.end all listed.before) c.requires.inside in
+    let found = c.in-Ok.ensures.found listed.told listed.header some next.0 next.1 listed.long (subst (λ (l : List (List ℕ)). AreBefore listed.header o c.args.end l) next.2 listed.before) at in
+    absurd (c.in_default-found.not-Some (c.args.gate + 5, length next.0) found)

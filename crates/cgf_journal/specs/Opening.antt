@@ -1,0 +1,51 @@
+-- How far an opening has come: which batches it has taken in, and where it finds one that isn't whole.
+use Rattle.std.specs.Prelude.{◌≡◌, ℕ, ◌*◌, ◌≤◌, min, IsTrue, Bool, List, [], ◌∷◌, ◌++◌, length}
+use Rattle.area_disk.specs.declared.area.Area.{Ghosts}
+use Rattle.gw_base.specs.declared.place.Place.{Place}
+use Rattle.gate_journal.specs.Before.{AreBefore}
+use Rattle.gate_journal.specs.Format.{end_of, header_length, longest_batch}
+use Rattle.gate_journal.specs.Moments.{Told}
+use Rattle.cgf_journal.specs.Format.{AreBatches, entries_in}
+use Rattle.cgf_journal.specs.Sound.{places_behind}
+use Rattle.cgf_journal.specs.Tally.{Tallies, tally_of}
+
+-- The batches up to this gate were taken in: they are batches of entries, and these are their places and their tally.
+pub record AreTakenIn (size gate : ℕ) (some : List (List ℕ)) (places : List Place) (tally : Tallies) : Type 0 where
+  pub are_batches : AreBatches size some
+  pub gate_is : gate ≡ end_of some
+  pub placed : places ≡ places_behind header_length some
+  pub firm : tally.firm ≡ tally_of []
+  pub live : tally.live ≡ tally_of (entries_in some)
+
+-- Batches up to this gate were taken in, and each list that has Listed begins with them.
+pub record IsTakenUpTo (Listed : List (List ℕ) → Type 0) (size gate : ℕ) (places : List Place) (tally : Tallies) : Type 0 where
+  pub some : List (List ℕ)
+  pub taken_in : AreTakenIn size gate some places tally
+  pub begins : (all : List (List ℕ)) → Listed all → (more : List (List ℕ)) × (all ≡ some ++ more)
+
+-- Behind batches of entries the list has one, whose gate stands at this place, that isn't entries within the capacity.
+pub record BreaksAt (size : ℕ) (all : List (List ℕ)) (at : ℕ) : Type 0 where
+  pub some : List (List ℕ)
+  pub batch : List ℕ
+  pub more : List (List ℕ)
+  pub listed : all ≡ some ++ batch ∷ more
+  pub place : at ≡ end_of some
+  pub are_batches : AreBatches size some
+  pub unfit : AreBatches size (some ++ batch ∷ []) → ⊥
+
+-- these are the batches that are listed, as the area tells
+pub record AreListed {A : Type 0} (tells : Ghosts A) (listed all : List (List ℕ)) : Type 0 where
+  pub told : Told tells
+  pub same : listed ≡ all
+
+-- these batches stand before this place behind some header, as the area tells
+pub record AreListedBefore (tells_octets : Bool) (octets : List ℕ) (at : ℕ) (all : List (List ℕ)) : Type 0 where
+  pub told : IsTrue tells_octets
+  pub header : List ℕ
+  pub long : length header ≡ header_length
+  pub before : AreBefore header octets at all
+
+-- buffers of so many octets and so many numbers have room for each batch of an area of this size
+pub record AreBuffers (size octets numbers : ℕ) : Type 0 where
+  pub content : octets ≡ min longest_batch size
+  pub entries : octets ≤ 8 * numbers

@@ -1,0 +1,227 @@
+// The batches that an opening finds, taken in one after the other.
+ghost use Rattle.std.specs.Prelude.{vec_len, ◌≡◌, ◌≢◌, ℕ, ◌+◌, ◌*◌, ◌<◌, ◌≤◌, min, false, List, [], ◌∷◌, ◌++◌, length, Ok, Err, OnOk, OnErr, IfOk};
+ghost use Rattle.gate_journal.specs.Format.{end_of, longest_batch};
+ghost use Rattle.area_disk.specs.Disk.{Rose};
+ghost use Rattle.gate_journal.specs.Journal.{IsKept, IsSettled, area_of, batches, end, is_closed};
+ghost use Rattle.gate_journal.specs.Moments.{Kept, Told};
+ghost use Rattle.entry_codec.specs.Room.{capacity_of};
+ghost use Rattle.cgf_journal.specs.Format.{AreBatches};
+ghost use Rattle.cgf_journal.specs.Opening.{AreBuffers, AreListed, AreListedBefore, AreTakenIn, BreaksAt, IsTakenUpTo};
+
+use crate::contents::take_in;
+use crate::tally::Tally;
+use area_disk::Area;
+use gate_journal::{Device, Journal, OpenFault, batch_before, read_before};
+use gw_base::{NoMemory, Place};
+use std::alloc::Global;
+
+/// The most octets of a batch.
+pub(crate) const LONGEST: usize = 1_048_576;
+
+/// A buffer for the content of each batch of an area of this size.
+pub(crate) fn content_for(alloc: Global, size: u64) -> Result<Vec<u8>, NoMemory>
+    requires { size ≤ 268435456 }
+    ensures { IfOk result (λ content. vec_len content ≡ min longest_batch size) }
+{
+    let longest = size.min(LONGEST as u64);
+    Ok(vec![in alloc; 0; longest as usize]?)
+}
+
+/// What an opening has taken in.
+#[derive(Drop)]
+pub(crate) struct Listing {
+    /// The numbers of one entry.
+    pub(crate) numbers: Vec<u64>,
+    pub(crate) places: Vec<Place>,
+    pub(crate) tally: Tally,
+}
+
+impl Listing {
+    /// A listing that has taken in nothing, for batches of at most so many octets.
+    pub(crate) fn new(alloc: Global, longest: usize) -> Result<Listing, NoMemory>
+        ensures numbers { IfOk result (λ listing. longest ≤ 8 * vec_len listing.numbers) }
+        ensures taken { (size : ℕ) → IfOk result (λ listing. AreTakenIn size 32 [] listing.places.items listing.tally) }
+    {
+        Ok(Listing {
+            numbers: vec![in alloc; 0; longest / 8 + 1]?,
+            places: Vec::new(alloc),
+            tally: Tally::new(alloc),
+        })
+    }
+
+    // Takes in the batch behind this gate, which has this content, and answers the next gate.
+    fn take(&mut self, gate: u64, content: &[u8], size: u64) -> Result<u64, OpenFault>
+        requires long { 100 ≤ size }
+        requires short { size ≤ 268435456 }
+        requires inside { gate + 5 + length content.now ≤ size }
+        requires numbers { length content.now ≤ 8 * vec_len self.old.numbers }
+        requires costs { self.old.tally.live.costs ≤ capacity_of size }
+
+        ensures next { IfOk result (λ next. next ≡ gate + 5 + length content.now) }
+        ensures taken { (some : List (List ℕ)) → AreTakenIn size gate some self.old.places.items self.old.tally →
+            OnOk result (AreTakenIn size (gate + 5 + length content.now) (some ++ content.now ∷ []) self.new.places.items self.new.tally) }
+        ensures unfit { (some : List (List ℕ)) → AreTakenIn size gate some self.old.places.items self.old.tally → (at : ℕ) → result ≡ Err (OpenFault.NotOurs at) →
+            (at ≡ gate) × (AreBatches size (some ++ content.now ∷ []) → ⊥) }
+        ensures device { result ≢ Err OpenFault.Device }
+        ensures numbers { vec_len self.new.numbers ≡ vec_len self.old.numbers }
+    {
+        let at = gate + 5;
+        match take_in(
+            content,
+            at,
+            &mut self.numbers,
+            &mut self.places,
+            &mut self.tally,
+        ) {
+            Ok(true) => {
+                if size - 33 < self.tally.costs() {
+                    return Err(OpenFault::NotOurs { at: gate });
+                }
+                Ok(at + content.len() as u64)
+            }
+            Ok(false) => Err(OpenFault::NotOurs { at: gate }),
+            Err(NoMemory) => Err(OpenFault::NoMemory),
+        }
+    }
+}
+
+// Takes in the batch of a journal behind this gate, and answers the next gate.
+fn take_next<A: Area>(
+    journal: &mut Journal<A>,
+    gate: u64,
+    size: u64,
+    content: &mut [u8],
+    listing: &mut Listing,
+) -> Result<u64, OpenFault>
+    requires ready { is_closed journal.old ≡ false }
+    requires ends { Told A.Area → end journal.old ≡ end_of (batches journal.old) }
+    requires size { size ≡ A.size (area_of journal.old) }
+    requires long { 100 ≤ size }
+    requires short { size ≤ 268435456 }
+    requires end { end journal.old < size }
+    requires inside { gate < end journal.old }
+    requires taken { IsTakenUpTo (AreListed A.Area (batches journal.old)) size gate listing.old.places.items listing.old.tally }
+    requires buffers { AreBuffers size (length content.old) (vec_len listing.old.numbers) }
+
+    ensures next { IfOk result (λ next. (gate < next) × (next ≤ end journal.old)) }
+    ensures taken { IfOk result (λ next. IsTakenUpTo (AreListed A.Area (batches journal.old)) size next listing.new.places.items listing.new.tally) }
+    ensures breaks { Told A.Area → (at : ℕ) → result ≡ Err (OpenFault.NotOurs at) → BreaksAt size (batches journal.old) at }
+    ensures numbers { OnOk result (vec_len listing.new.numbers ≡ vec_len listing.old.numbers) }
+    ensures kept { IsKept journal.old journal.new }
+    ensures device { result ≡ Err OpenFault.Device → Rose (A.faults (area_of journal.old)) (A.faults (area_of journal.new)) }
+    ensures faults { OnOk result (A.faults (area_of journal.new) ≡ A.faults (area_of journal.old)) }
+    ensures faults_err { A.faults (area_of journal.old) ≤ A.faults (area_of journal.new) }
+{
+    let Ok(found) = journal.batch(gate) else {
+        return Err(OpenFault::Device);
+    };
+    let Some((place, length)) = found else {
+        return Err(OpenFault::NotOurs { at: gate });
+    };
+    let content = &mut content[..length as usize];
+    let Ok(()) = journal.read(place, content) else {
+        return Err(OpenFault::Device);
+    };
+    listing.take(gate, content, size)
+}
+
+/// Takes in all batches of a journal.
+///
+/// `NotOurs` says which is the first that isn't entries within the capacity.
+pub(crate) fn list<A: Area>(
+    journal: &mut Journal<A>,
+    size: u64,
+    content: &mut [u8],
+    listing: &mut Listing,
+) -> Result<(), OpenFault>
+    requires ready { is_closed journal.old ≡ false }
+    requires settled { IsSettled journal.old }
+    requires size { size ≡ A.size (area_of journal.old) }
+    requires long { 100 ≤ size }
+    requires short { size ≤ 268435456 }
+    requires taken { AreTakenIn size 32 [] listing.old.places.items listing.old.tally }
+    requires buffers { AreBuffers size (length content.old) (vec_len listing.old.numbers) }
+
+    ensures taken { OnOk result (IsTakenUpTo (AreListed A.Area (batches journal.old)) size (end journal.old) listing.new.places.items listing.new.tally) }
+    ensures breaks { Told A.Area → (at : ℕ) → result ≡ Err (OpenFault.NotOurs at) → BreaksAt size (batches journal.old) at }
+    ensures some { Told A.Area → OnErr result (batches journal.old ≢ []) }
+    ensures kept { IsKept journal.old journal.new }
+    ensures device { result ≡ Err OpenFault.Device → Rose (A.faults (area_of journal.old)) (A.faults (area_of journal.new)) }
+    ensures faults { OnOk result (A.faults (area_of journal.new) ≡ A.faults (area_of journal.old)) }
+    ensures faults_err { A.faults (area_of journal.old) ≤ A.faults (area_of journal.new) }
+{
+    let end = journal.end();
+    let mut gate = 32;
+    while gate < end {
+        gate = take_next(journal, gate, size, content, listing)?;
+    }
+    Ok(())
+}
+
+// Takes in the batch of an area behind this gate, of those before octet `end`, and answers the next gate.
+fn take_before<A: Area>(
+    area: &mut A,
+    gate: u64,
+    end: u64,
+    size: u64,
+    content: &mut [u8],
+    listing: &mut Listing,
+) -> Result<u64, OpenFault>
+    requires size { size ≡ A.size area.old }
+    requires long { 100 ≤ size }
+    requires short { size ≤ 268435456 }
+    requires inside { gate < end }
+    requires taken { IsTakenUpTo (AreListedBefore A.tells_octets (A.octets area.old) end) size gate listing.old.places.items listing.old.tally }
+    requires buffers { AreBuffers size (length content.old) (vec_len listing.old.numbers) }
+
+    ensures next { IfOk result (λ next. (gate < next) × (next ≤ end)) }
+    ensures taken { IfOk result (λ next. IsTakenUpTo (AreListedBefore A.tells_octets (A.octets area.old) end) size next listing.new.places.items listing.new.tally) }
+    ensures breaks { (all : List (List ℕ)) → AreListedBefore A.tells_octets (A.octets area.old) end all → (at : ℕ) → result ≡ Err (OpenFault.NotOurs at) → BreaksAt size all at }
+    ensures numbers { OnOk result (vec_len listing.new.numbers ≡ vec_len listing.old.numbers) }
+    ensures kept { Kept A.Area area.old area.new }
+    ensures device { result ≡ Err OpenFault.Device → Rose (A.faults area.old) (A.faults area.new) }
+    ensures faults { A.faults area.old ≤ A.faults area.new }
+    ensures faults_ok { OnOk result (A.faults area.new ≡ A.faults area.old) }
+{
+    let Ok(found) = batch_before(area, gate, end) else {
+        return Err(OpenFault::Device);
+    };
+    let Some((place, length)) = found else {
+        return Err(OpenFault::NotOurs { at: gate });
+    };
+    let content = &mut content[..length as usize];
+    let Ok(()) = read_before(area, place, content) else {
+        return Err(OpenFault::Device);
+    };
+    listing.take(gate, content, size)
+}
+
+/// Takes in all batches of an area before the one at octet `end`.
+///
+/// `NotOurs` says which is the first that isn't entries within the capacity.
+pub(crate) fn list_before<A: Area>(
+    area: &mut A,
+    end: u64,
+    size: u64,
+    content: &mut [u8],
+    listing: &mut Listing,
+) -> Result<(), OpenFault>
+    requires size { size ≡ A.size area.old }
+    requires long { 100 ≤ size }
+    requires short { size ≤ 268435456 }
+    requires taken { AreTakenIn size 32 [] listing.old.places.items listing.old.tally }
+    requires buffers { AreBuffers size (length content.old) (vec_len listing.old.numbers) }
+
+    ensures are_batches { (all : List (List ℕ)) → AreListedBefore A.tells_octets (A.octets area.old) end all → OnOk result (AreBatches size all) }
+    ensures breaks { (all : List (List ℕ)) → AreListedBefore A.tells_octets (A.octets area.old) end all → (at : ℕ) → result ≡ Err (OpenFault.NotOurs at) → BreaksAt size all at }
+    ensures begun { OnErr result (32 < end) }
+    ensures kept { Kept A.Area area.old area.new }
+    ensures device { result ≡ Err OpenFault.Device → Rose (A.faults area.old) (A.faults area.new) }
+    ensures faults { A.faults area.old ≤ A.faults area.new }
+{
+    let mut gate = 32;
+    while gate < end {
+        gate = take_before(area, gate, end, size, content, listing)?;
+    }
+    Ok(())
+}

@@ -1,0 +1,13 @@
+use Rattle.std.proofs.Common.{◌≡◌, ◌+◌, length, take, drop, sym, ◌∙◌, ap}
+use Rattle.gate_journal.specs.Format.{end_of, length_at}
+use Rattle.gate_journal.proofs.Agreeing.{batch_before}
+use Rattle.gate_journal.proofs.before.read_before.Goals as goal
+
+pub returns-in-Ok-clause-content : goal.returns-in-Ok-clause-content
+returns-in-Ok-clause-content g c = λ tells header end some batch more long before at size.
+    let o = g.A.Area.octets c.args.area.now in
+    let there = batch_before header long o end some batch more before in
+    c.in-Ok.ensures.read tells
+    ∙ ap (λ n. take n (drop c.args.at o)) (size ∙ sym there.number)
+    ∙ ap (λ n. take (length_at o (end_of some)) (drop n o)) at
+    ∙ there.content
