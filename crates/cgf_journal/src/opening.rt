@@ -48,9 +48,12 @@ impl<A: Area> Trail<A> {
     /// Opens the history of an area, for a gateway's address. It makes one sync and reads; an area whose making began,
     /// or whose octet 0 is 0, is made anew with four calls of the device more, and has no entry.
     ///
-    /// It refuses an area that is no journal of this gateway's, or whose batches are more than entries within the
-    /// capacity, with `NotOurs` and the place that shows it. It hands the area back where it fails; after `NotOurs` and
-    /// `NoMemory` nothing was written.
+    /// It refuses an area that is no journal of this gateway's, or whose batches aren't entries within the capacity, with
+    /// `NotOurs` and the place that shows it: the first octet of the header that differs, or the first open gate whose
+    /// batch isn't whole. It hands the area back where it fails; after `NotOurs` and `NoMemory` nothing was written.
+    ///
+    /// It takes memory for the entries that will wait (1,048,576 octets), for one batch and its numbers, which are no
+    /// longer than the area needs, and for the place and the key of each entry.
     pub fn open(alloc: Global, area: A, address: u32) -> Result<Trail<A>, (OpenFault, A)>
         requires long { 100 ≤ A.size area }
         requires short { A.size area ≤ 268435456 }

@@ -31,6 +31,21 @@ fn octets_of(alloc: Global, length: u8, kind: u8, body: &[u8]) -> Result<Vec<u8>
     Ok(octets)
 }
 
+/// A node's address, a number, and a packet of 11 octets.
+const PACKET: [u8; 23] = [
+    0x0A, 0, 0, 9, // node
+    0, 0, 0, 0, 0, 1, 0, 0, // number
+    1, 1, 6, 0, 0, 5, 0xA0, 3, 0x80, 1, 5, // packet
+];
+
+/// A node's address, how many numbers there are, and these.
+const NUMBERS: [u8; 24] = [
+    0x0A, 0, 0, 9, // node
+    0, 0, 0, 2, // count
+    0, 0, 0, 0, 0, 1, 0, 1, // 65,537
+    0x7F, 0xFF, 0xFF, 0xFF, 0xFF, 0xFF, 0xFF, 0xFF, // 2^63 - 1
+];
+
 /// The act is spelled so, costs five octets more, and is read back.
 fn is_spelled(rt: &impl Abort, alloc: Global, act: Act<'_>, octets: &[u8]) -> Result<(), Fail> {
     let moment = Moment::of(SECONDS).ok_or("a moment")?;
@@ -52,117 +67,68 @@ fn is_spelled(rt: &impl Abort, alloc: Global, act: Act<'_>, octets: &[u8]) -> Re
 }
 
 #[test]
-fn entries_without_a_body(rt: HostRuntime) -> Result<(), Fail> {
-    for (kind, act) in [(1, Act::Start), (8, Act::Tick), (9, Act::Close)] {
-        let octets = octets_of(rt.alloc(), 25, kind, &[])?;
-        is_spelled(&rt, rt.alloc(), act, &octets)?;
-    }
-    Ok(())
-}
-
-#[test]
-fn entries_of_a_node(rt: HostRuntime) -> Result<(), Fail> {
-    let path = Act::Path {
-        node: NODE,
-        port: 3386,
-        counter: 7,
-    };
-    let octets = octets_of(rt.alloc(), 32, 2, &[0x0A, 0, 0, 9, 0x0D, 0x3A, 7])?;
-    is_spelled(&rt, rt.alloc(), path, &octets)?;
-    let seal = Act::Seal {
-        node: NODE,
-        number: 65_537,
-    };
-    let octets = octets_of(rt.alloc(), 37, 5, &[0x0A, 0, 0, 9, 0, 0, 0, 0, 0, 1, 0, 1])?;
-    is_spelled(&rt, rt.alloc(), seal, &octets)
-}
-
-/// A node's address, a number, and a packet of 11 octets.
-const PACKET: [u8; 23] = [
-    0x0A, 0, 0, 9, // node
-    0, 0, 0, 0, 0, 1, 0, 0, // number
-    1, 1, 6, 0, 0, 5, 0xA0, 3, 0x80, 1, 5, // packet
-];
-
-#[test]
-fn entries_with_a_packet(rt: HostRuntime) -> Result<(), Fail> {
-    let file = Act::File {
-        node: NODE,
-        number: 65_536,
-        packet: &PACKET[12..],
-    };
-    let octets = octets_of(rt.alloc(), 48, 3, &PACKET)?;
-    is_spelled(&rt, rt.alloc(), file, &octets)?;
-    let hold = Act::Hold {
-        node: NODE,
-        number: 65_536,
-        packet: &PACKET[12..],
-    };
-    let octets = octets_of(rt.alloc(), 48, 4, &PACKET)?;
-    is_spelled(&rt, rt.alloc(), hold, &octets)
-}
-
-/// A node's address, how many numbers there are, and these.
-const NUMBERS: [u8; 24] = [
-    0x0A, 0, 0, 9, // node
-    0, 0, 0, 2, // count
-    0, 0, 0, 0, 0, 1, 0, 1, // 65,537
-    0x7F, 0xFF, 0xFF, 0xFF, 0xFF, 0xFF, 0xFF, 0xFF, // 2^63 - 1
-];
-
-#[test]
-fn entries_with_numbers(rt: HostRuntime) -> Result<(), Fail> {
-    let release = Act::Release {
-        node: NODE,
-        numbers: &[65_537],
-    };
-    let body = [0x0A, 0, 0, 9, 0, 0, 0, 1, 0, 0, 0, 0, 0, 1, 0, 1];
-    let octets = octets_of(rt.alloc(), 41, 6, &body)?;
-    is_spelled(&rt, rt.alloc(), release, &octets)?;
-    let cancel = Act::Cancel {
-        node: NODE,
-        numbers: &[65_537, 9_223_372_036_854_775_807],
-    };
-    let octets = octets_of(rt.alloc(), 49, 7, &NUMBERS)?;
-    is_spelled(&rt, rt.alloc(), cancel, &octets)
-}
-
-#[test]
-fn costs_by_hand(rt: HostRuntime) -> Result<(), Fail> {
-    let packet = [0; 11];
-    for (act, octets) in [
-        (Act::Start, 30),
+fn each_act_has_its_spelling_and_its_cost(rt: HostRuntime) -> Result<(), Fail> {
+    let node = NODE;
+    let (number, packet) = (65_536, &PACKET[12..]);
+    let acts: [(u8, Act<'_>, &[u8]); 9] = [
+        (25, Act::Start, &[]),
         (
-            Act::Hold {
-                node: NODE,
-                number: 65_536,
-                packet: &packet,
+            32,
+            Act::Path {
+                node,
+                port: 3386,
+                counter: 7,
             },
-            53,
+            &[0x0A, 0, 0, 9, 0x0D, 0x3A, 7],
         ),
         (
+            48,
+            Act::File {
+                node,
+                number,
+                packet,
+            },
+            &PACKET,
+        ),
+        (
+            48,
+            Act::Hold {
+                node,
+                number,
+                packet,
+            },
+            &PACKET,
+        ),
+        (
+            37,
             Act::Seal {
-                node: NODE,
+                node,
                 number: 65_537,
             },
-            42,
+            &[0x0A, 0, 0, 9, 0, 0, 0, 0, 0, 1, 0, 1],
         ),
         (
+            41,
             Act::Release {
-                node: NODE,
-                numbers: &[65_536],
+                node,
+                numbers: &[65_537],
             },
-            46,
+            &[0x0A, 0, 0, 9, 0, 0, 0, 1, 0, 0, 0, 0, 0, 1, 0, 1],
         ),
-        (Act::Close, 30),
-    ] {
-        let moment = Moment::of(SECONDS).ok_or("a moment")?;
-        let entry = Entry {
-            moment,
-            caller: CALLER,
-            act,
-        };
-        assert_eq!(rt; cost(&entry), octets);
+        (
+            49,
+            Act::Cancel {
+                node,
+                numbers: &[65_537, 9_223_372_036_854_775_807],
+            },
+            &NUMBERS,
+        ),
+        (25, Act::Tick, &[]),
+        (25, Act::Close, &[]),
+    ];
+    for (kind, (length, act, body)) in (1..).zip(acts) {
+        let octets = octets_of(rt.alloc(), length, kind, body)?;
+        is_spelled(&rt, rt.alloc(), act, &octets)?;
     }
     Ok(())
 }
@@ -182,12 +148,6 @@ fn fails_at(rt: &impl Abort, octets: &[u8], at: usize) {
     let mut numbers = [0; 16];
     assert!(rt; octets.len() < 128);
     assert_eq!(rt; seen(octets, &mut numbers), Err(at), "of {octets:?}");
-}
-
-/// Of an entry, so many octets alone fail where they end.
-fn cut_fails(rt: &impl Abort, octets: &[u8], count: usize) {
-    assert!(rt; count <= octets.len());
-    fails_at(rt, &octets[..count], count);
 }
 
 #[test]
@@ -222,29 +182,36 @@ fn octets_that_no_entry_begins_with(rt: HostRuntime) {
     }
 }
 
-#[test]
-fn entries_that_are_cut_or_count_wrong(rt: HostRuntime) -> Result<(), Fail> {
-    let start = octets_of(rt.alloc(), 25, 1, &[])?;
-    cut_fails(&rt, &start, 24);
-    let hold = octets_of(rt.alloc(), 48, 4, &PACKET)?;
-    cut_fails(&rt, &hold, 47);
-    cut_fails(&rt, &hold, 36);
-    for (high, low, at) in [(0, 3, 32), (0, 1, 32), (1, 2, 29)] {
-        let count = [0x0A, 0, 0, 9, high, 0, 0, low, 0, 0];
-        let octets = octets_of(rt.alloc(), 49, 6, &count)?;
-        fails_at(&rt, &octets, at);
-    }
-    let cancel = octets_of(rt.alloc(), 49, 7, &NUMBERS)?;
-    cut_fails(&rt, &cancel, 48);
+/// Of an entry with this length, kind and body, the first octets fail at this one.
+fn front_fails_at(
+    rt: &impl Abort,
+    alloc: Global,
+    (length, kind, body): (u8, u8, &[u8]),
+    count: usize,
+    at: usize,
+) -> Result<(), Fail> {
+    let octets = octets_of(alloc, length, kind, body)?;
+    assert!(rt; count <= octets.len());
+    fails_at(rt, &octets[..count], at);
     Ok(())
 }
 
 #[test]
-fn octets_behind_an_entry_are_left(rt: HostRuntime) -> Result<(), Fail> {
-    let octets = octets_of(rt.alloc(), 25, 9, &[1, 2, 3])?;
-    let mut numbers = [0; 16];
-    assert!(rt; octets.len() < 128);
-    assert_eq!(rt; seen(&octets, &mut numbers), Ok(25));
+fn entries_that_are_cut_or_count_wrong(rt: HostRuntime) -> Result<(), Fail> {
+    let fronts: [((u8, u8, &[u8]), usize, usize); 7] = [
+        // cut
+        ((25, 1, &[]), 24, 24),
+        ((48, 4, &PACKET), 47, 47),
+        ((48, 4, &PACKET), 36, 36),
+        ((49, 7, &NUMBERS), 48, 48),
+        // with three, one and many numbers in place of two
+        ((49, 6, &[0x0A, 0, 0, 9, 0, 0, 0, 3, 0, 0]), 35, 32),
+        ((49, 6, &[0x0A, 0, 0, 9, 0, 0, 0, 1, 0, 0]), 35, 32),
+        ((49, 6, &[0x0A, 0, 0, 9, 1, 0, 0, 2, 0, 0]), 35, 29),
+    ];
+    for (entry, count, at) in fronts {
+        front_fails_at(&rt, rt.alloc(), entry, count, at)?;
+    }
     Ok(())
 }
 

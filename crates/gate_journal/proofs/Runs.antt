@@ -83,6 +83,11 @@ module _ {A : Type 0} (area : Ghosts A) where
     calls = λ told. two.calls told ∙ one.calls told;
   }
 
+  -- a call that leaves no more than before
+  pub kept_leaves : OnlyNow → (old new : A) → Within (area.may_leave old) (area.may_leave new)
+      → Elapses (area.told_from old) (area.told_from new) (area.moment old) (area.moment new) (area.left_since old) (area.left_since new) (area.may_leave new) → Leaves area old new (area.may_leave old)
+  kept_leaves only_now old new within time = step old old new (area.may_leave old) (begin only_now old (area.may_leave old) (λ c left. left)) time within
+
   -- a read changes nothing
   pub kept_read : OnlyNow → (old new : A) → area.size new ≡ area.size old → area.octets new ≡ area.octets old → Within (area.may_leave old) (area.may_leave new)
       → Elapses (area.told_from old) (area.told_from new) (area.moment old) (area.moment new) (area.left_since old) (area.left_since new) (area.may_leave new)
@@ -90,6 +95,6 @@ module _ {A : Type 0} (area : Ghosts A) where
   kept_read only_now old new size octets within time calls = record {
     size = size;
     octets = octets;
-    leaves = step old old new (area.may_leave old) (begin only_now old (area.may_leave old) (λ c left. left)) time within;
+    leaves = kept_leaves only_now old new within time;
     calls = calls;
   }

@@ -2,7 +2,8 @@
 ghost use Rattle.std.specs.Prelude.{◌≡◌, ◌≢◌, ◌+◌, ◌<◌, ◌≤◌, ℕ, IsTrue, IfOk, OnOk, MatchOption, false, length, take, drop, slice_index};
 ghost use Rattle.area_disk.specs.Disk.{Only, HasCause, counted};
 ghost use Rattle.byteorder.specs.Endian.{big_number, big_bytes};
-ghost use Rattle.gate_journal.specs.Format.{gate_at};
+ghost use Rattle.area_disk.specs.Plan.{ReadAsPlanned};
+ghost use Rattle.gate_journal.specs.Format.{gate_at, length_at};
 ghost use Rattle.gate_journal.specs.Planned.{SyncPlanned};
 ghost use Rattle.gate_journal.specs.Moments.{Leaves, Kept};
 ghost use Rattle.gate_journal.specs.Verdicts.{IsVerdict, IsBehind, Fits, IsScanned, LiesIn};
@@ -103,6 +104,34 @@ fn number_of(field: &[u8; 4]) -> u32
     BigEndian::read_u32(field)
 }
 
+// Reads one octet.
+fn octet_at<A: Area>(area: &mut A, at: u64) -> Result<u8, Failed>
+    requires { at < A.size area.old }
+
+    ensures octet { IsTrue A.tells_octets → IfOk result (λ octet. octet ≡ gate_at (A.octets area.old) at) }
+    ensures kept { Kept A.Area area.old area.new }
+    ensures planned { IsTrue A.tells_fate → ReadAsPlanned (A.fate area.old) result (A.fate area.new) }
+    ensures cause { HasCause (A.faults area.old) (A.faults area.new) result }
+{
+    let mut octet = [0; 1];
+    area.read_at(at, &mut octet)?;
+    Ok(octet[0])
+}
+
+// Reads the length that stands behind a gate.
+fn length_behind<A: Area>(area: &mut A, at: u64) -> Result<u32, Failed>
+    requires inside { at + 5 ≤ A.size area.old }
+    requires short { A.size area.old ≤ 268435456 }
+
+    ensures length { IsTrue A.tells_octets → IfOk result (λ length. (length ≡ length_at (A.octets area.old) at) × (take 4 (drop (at + 1) (A.octets area.old)) ≡ big_bytes 4 length)) }
+    ensures kept { Kept A.Area area.old area.new }
+    ensures cause { HasCause (A.faults area.old) (A.faults area.new) result }
+{
+    let mut field = [0; 4];
+    area.read_at(at + 1, &mut field)?;
+    Ok(number_of(&field))
+}
+
 /// Reads a gate and the length behind it.
 pub fn read_gate<A: Area>(area: &mut A, at: u64) -> Result<Behind, Failed>
     requires inside { at < A.size area.old }
@@ -113,18 +142,15 @@ pub fn read_gate<A: Area>(area: &mut A, at: u64) -> Result<Behind, Failed>
     ensures kept { Kept A.Area area.old area.new }
     ensures cause { HasCause (A.faults area.old) (A.faults area.new) result }
 {
-    let mut gate = [0; 1];
-    area.read_at(at, &mut gate)?;
-    if gate[0] != OPEN {
+    let gate = octet_at(area, at)?;
+    if gate != OPEN {
         return Ok(Behind::Shut);
     }
     let size = area.length();
     if size < at + 6 {
         return Ok(Behind::Cut);
     }
-    let mut field = [0; 4];
-    area.read_at(at + 1, &mut field)?;
-    let length = number_of(&field);
+    let length = length_behind(area, at)?;
     if length as usize > LONGEST {
         return Ok(Behind::Cut);
     }
@@ -176,12 +202,7 @@ pub fn see<A: Area>(area: &mut A, gate: u64) -> Result<Ends, Failed>
     ensures cause { HasCause (A.faults area.old) (A.faults area.new) result }
 {
     area.sync()?;
-    let mut first = [0; 1];
-    area.read_at(0, &mut first)?;
-    let mut octet = [0; 1];
-    area.read_at(gate, &mut octet)?;
-    Ok(Ends {
-        first: first[0],
-        gate: octet[0],
-    })
+    let first = octet_at(area, 0)?;
+    let gate = octet_at(area, gate)?;
+    Ok(Ends { first, gate })
 }

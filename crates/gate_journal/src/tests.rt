@@ -1,223 +1,228 @@
 // The rows of the format on an area of 100 octets, and what stops and failures leave.
-ghost use Rattle.std.specs.Prelude.{◌≡◌, [], false, IfOk};
-ghost use Rattle.gate_journal.specs.Journal.{batches, is_closed};
+ghost use Rattle.std.specs.Prelude.{◌≡◌, false, length, OnOk};
+ghost use Rattle.gate_journal.specs.Journal.{is_closed};
 
 use super::*;
-use area_disk::{Area, Drill, MemoryArea, Outcome3, Plan, QuietArea, Stop};
+use area_disk::{Area, Drill, Failed, Fate, MemoryArea, Outcome3, Plan, QuietArea, Stop};
 use std::alloc::{AllocError, Global};
 use std::process::Abort;
 use std::test::Fail;
 
 const ADDRESS: u32 = 0x0A00_0001;
 
-fn no_plan(alloc: Global) -> Plan {
-    Plan {
-        fail: Vec::new(alloc),
-        read_fail: Vec::new(alloc),
-        stop: None,
-    }
-}
-
-fn stopping(alloc: Global, call: u64, outcome: Outcome3) -> Plan {
-    Plan {
-        fail: Vec::new(alloc),
-        read_fail: Vec::new(alloc),
-        stop: Some(Stop { call, outcome }),
-    }
-}
-
-fn failing(alloc: Global, call: u64) -> Result<Plan, AllocError> {
+// A plan for one counted call.
+fn plan(alloc: Global, call: u64, fate: Fate) -> Result<Plan, AllocError> {
+    let (fail, stop) = match fate {
+        Fate::Runs => (Vec::new(alloc), None),
+        Fate::Fails => (vec![in alloc; call]?, None),
+        Fate::Stops(outcome) => (Vec::new(alloc), Some(Stop { call, outcome })),
+    };
     Ok(Plan {
-        fail: vec![in alloc; call]?,
+        fail,
         read_fail: Vec::new(alloc),
-        stop: None,
+        stop,
     })
 }
 
-fn opened(rt: &impl Abort, alloc: Global, area: MemoryArea) -> Result<Journal<MemoryArea>, Fail> {
+fn area(alloc: Global, call: u64, fate: Fate) -> Result<MemoryArea, Fail> {
+    Ok(MemoryArea::new(alloc, 100, plan(alloc, call, fate)?)?)
+}
+
+// The journal of an area, or why it isn't opened, with the area.
+fn open<A: Area>(rt: &impl Abort, alloc: Global, area: A) -> Result<Journal<A>, (OpenFault, A)> {
     assert_eq!(rt; area.length(), 100);
-    match Journal::open(alloc, area, ADDRESS, 0) {
+    Journal::open(alloc, area, ADDRESS, 0)
+}
+
+fn opened<A: Area>(rt: &impl Abort, alloc: Global, area: A) -> Result<Journal<A>, Fail> {
+    match open(rt, alloc, area) {
         Ok(journal) => Ok(journal),
         Err((fault, _)) => Err(fault)?,
     }
 }
 
-fn octets(rt: &impl Abort, area: &mut MemoryArea) -> Result<[u8; 100], Fail> {
-    assert_eq!(rt; area.length(), 100);
-    let mut octets = [0; 100];
-    area.read_at(0, &mut octets)?;
-    Ok(octets)
-}
-
-// A journal without a batch.
-fn fresh(alloc: Global) -> Result<Journal<MemoryArea>, Fail>
-    ensures { IfOk result (λ journal. (batches journal ≡ []) × (is_closed journal ≡ false)) }
-{
-    let area = MemoryArea::new(alloc, 100, no_plan(alloc))?;
-    match Journal::open(alloc, area, ADDRESS, 0) {
-        Ok(journal) => Ok(journal),
-        Err((fault, _)) => Err(fault)?,
-    }
-}
-
-// The end of the journal that is found after an append under this plan.
-fn end_after_append(rt: &impl Abort, alloc: Global, plan: Plan) -> Result<u64, Fail> {
-    let area = MemoryArea::new(alloc, 100, no_plan(alloc))?;
-    let mut journal = opened(rt, alloc, area)?;
+fn append<A: Area>(
+    rt: &impl Abort,
+    journal: &mut Journal<A>,
+    batch: &[u8],
+) -> Result<(), AppendFault> {
+    assert!(rt; batch.len() < 100);
     assert!(rt; !journal.is_closed());
-    journal.arm(plan);
-    assert_eq!(rt; journal.append(&[0xAA, 0xBB]), Err(AppendFault::Device));
-    assert!(rt; journal.is_closed());
-    let mut area = journal.into_area();
-    area.revive();
-    Ok(opened(rt, alloc, area)?.end())
+    journal.append(batch)
 }
 
-// The end of the journal that is found after an opening under this plan.
-fn end_after_open(rt: &impl Abort, alloc: Global, plan: Plan) -> Result<u64, Fail> {
-    let area = MemoryArea::new(alloc, 100, plan)?;
+// Reads the first batch, which has two octets.
+fn first_pair<A: Area>(rt: &impl Abort, journal: &mut Journal<A>) -> Result<[u8; 2], Device> {
+    let mut pair = [0; 2];
+    assert!(rt; !journal.is_closed());
+    assert!(rt; journal.end() >= 39);
+    match journal.batch(32)? {
+        Some((at, 2)) => journal.read(at, &mut pair)?,
+        _ => panic!(rt; "no pair"),
+    }
+    Ok(pair)
+}
+
+// The first octets of an area of 100.
+fn read_front<A: Area>(rt: &impl Abort, area: &mut A, into: &mut [u8]) -> Result<(), Failed> {
     assert_eq!(rt; area.length(), 100);
-    match Journal::open(alloc, area, ADDRESS, 0) {
+    assert!(rt; into.len() <= 100);
+    area.read_at(0, into)
+}
+
+const FRONT: [u8; 40] = [
+    0x43, 0x47, 0x46, 0x4A, 0x52, 0x4E, 0x4C, 0x31, // CGFJRNL1
+    0, 0, 0, 0, 0, 0, 0, 100, // the area's length
+    10, 0, 0, 1, // address
+    0, 0, 0, 0, // generation
+    0, 0, 0, 0, 0, 0, 0, 0, //
+    0xA5, 0, 0, 0, 2, 0xAA, 0xBB, // an open gate, a length, a batch
+    0, // a closed gate
+];
+
+// The area of a journal with one batch of two octets, in which one of 56 doesn't fit.
+fn with_a_pair(rt: &impl Abort, alloc: Global) -> Result<MemoryArea, Fail> {
+    let mut journal = opened(rt, alloc, area(alloc, 0, Fate::Runs)?)?;
+    assert_eq!(rt; append(rt, &mut journal, &[0xAA, 0xBB]), Ok(()));
+    let full = append(rt, &mut journal, &[1; 56]);
+    assert_eq!(rt; full, Err(AppendFault::Full { free: 60 }));
+    Ok(journal.into_area())
+}
+
+// That area, opened again and filled with a batch of 55 octets.
+fn filled(rt: &impl Abort, alloc: Global, area: MemoryArea) -> Result<MemoryArea, Fail> {
+    let mut journal = opened(rt, alloc, area)?;
+    assert_eq!(rt; first_pair(rt, &mut journal), Ok([0xAA, 0xBB]));
+    assert_eq!(rt; append(rt, &mut journal, &[1; 55]), Ok(()));
+    assert_eq!(rt; journal.end(), 99);
+    Ok(journal.into_area())
+}
+
+// Why that area isn't opened once its first batch is said to be longer than the area.
+fn refusal_when_too_long(rt: &impl Abort, alloc: Global, mut area: MemoryArea) -> OpenFault {
+    assert_eq!(rt; area.length(), 100);
+    assert_eq!(rt; area.write_at(33, &[0, 0, 0, 0x40]), Ok(()));
+    match open(rt, alloc, area) {
         Ok(_) => panic!(rt; "opened"),
-        Err((fault, mut area)) => {
-            assert_eq!(rt; fault, OpenFault::Device);
-            area.revive();
-            Ok(opened(rt, alloc, area)?.end())
-        }
+        Err((fault, _)) => fault,
     }
 }
 
 #[test]
-fn the_octets_are_those_of_the_format(rt: HostRuntime) -> Result<(), Fail> {
-    let alloc = rt.alloc();
-    let area = MemoryArea::new(alloc, 100, no_plan(alloc))?;
-    let mut journal = opened(&rt, alloc, area)?;
-    assert!(&rt; !journal.is_closed());
-    journal.append(&[0xAA, 0xBB])?;
-    let mut area = journal.into_area();
-    let octets = octets(&rt, &mut area)?;
-    assert_eq!(&rt; &octets[..16], b"CGFJRNL1\0\0\0\0\0\0\0d".as_slice());
-    assert_eq!(&rt;
-        &octets[16..32],
-        [10, 0, 0, 1, 0, 0, 0, 0, 0, 0, 0, 0, 0, 0, 0, 0].as_slice()
-    );
-    assert_eq!(&rt;
-        &octets[32..40],
-        [0xA5, 0, 0, 0, 2, 0xAA, 0xBB, 0].as_slice()
-    );
-    Ok(())
-}
-
-#[test]
-fn a_batch_fits_or_leaves_the_journal_as_it_was(rt: HostRuntime) -> Result<(), Fail> {
-    let alloc = rt.alloc();
-    let area = MemoryArea::new(alloc, 100, no_plan(alloc))?;
-    let mut journal = opened(&rt, alloc, area)?;
-    assert!(&rt; !journal.is_closed());
-    journal.append(&[0xAA, 0xBB])?;
-    assert!(&rt; !journal.is_closed());
-    assert_eq!(&rt;
-        journal.append(&[1; 56]),
-        Err(AppendFault::Full { free: 60 })
-    );
-    assert!(&rt; !journal.is_closed());
-    journal.append(&[1; 55])?;
-    assert_eq!(&rt; journal.end(), 99);
-    Ok(())
-}
-
-#[test]
-fn a_batch_is_found_and_read(rt: HostRuntime) -> Result<(), Fail> {
-    let mut journal = fresh(rt.alloc())?;
-    journal.append(&[0xAA, 0xBB])?;
-    assert!(&rt; !journal.is_closed());
-    assert_eq!(&rt; journal.end(), 39);
-    assert_eq!(&rt; journal.batch(32)?, Some((37, 2)));
-    let mut content = [0; 2];
-    journal.read(37, &mut content)?;
-    assert_eq!(&rt; content, [0xAA, 0xBB]);
-    Ok(())
-}
-
-#[test]
-fn a_length_past_the_end_is_not_ours(rt: HostRuntime) -> Result<(), Fail> {
-    let alloc = rt.alloc();
-    let area = MemoryArea::new(alloc, 100, no_plan(alloc))?;
-    let mut journal = opened(&rt, alloc, area)?;
-    assert!(&rt; !journal.is_closed());
-    journal.append(&[0xAA, 0xBB])?;
-    let mut area = journal.into_area();
-    assert_eq!(&rt; area.length(), 100);
-    area.write_at(33, &[0, 0, 0, 0x40])?;
-    assert_eq!(&rt; area.length(), 100);
-    let Err((fault, _)) = Journal::open(alloc, area, ADDRESS, 0) else {
-        panic!(&rt; "opened")
-    };
+fn a_batch_stands_in_the_octets_of_the_format(rt: HostRuntime) -> Result<(), Fail> {
+    let mut area = with_a_pair(&rt, rt.alloc())?;
+    let mut front = [0; 40];
+    assert_eq!(&rt; read_front(&rt, &mut area, &mut front), Ok(()));
+    assert_eq!(&rt; front, FRONT);
+    let area = filled(&rt, rt.alloc(), area)?;
+    let fault = refusal_when_too_long(&rt, rt.alloc(), area);
     assert_eq!(&rt; fault, OpenFault::NotOurs { at: 32 });
     Ok(())
 }
 
-// Whether the batch stands that was being appended when the device stopped or failed: by the call, and then stopped
-// with what stood at the last sync, with what was written, with rot, and failed.
-const APPENDED: [[bool; 4]; 4] = [
-    [false, false, false, false],
-    [false, false, false, false],
-    [false, true, false, false],
-    [false, true, false, true],
+// What comes of the call that is planned: a stop that leaves what stood at the last sync, what was written, or rot;
+// or a failure.
+const FATES: [Fate; 4] = [
+    Fate::Stops(Outcome3::Old),
+    Fate::Stops(Outcome3::New),
+    Fate::Stops(Outcome3::Rot),
+    Fate::Fails,
 ];
 
-fn end_for(stands: bool) -> u64 {
-    if stands { 39 } else { 32 }
+// How many calls an opening makes after one that broke off, by the call and its fate: five where it makes the area
+// anew, one where that stands for no batch.
+const MADE: [[u64; 4]; 5] = [
+    [5, 5, 5, 5],
+    [5, 5, 5, 5],
+    [5, 5, 5, 5],
+    [5, 1, 5, 5],
+    [5, 1, 5, 1],
+];
+
+// The area that an opening hands back which broke off at this call.
+fn made_in_part(rt: &impl Abort, alloc: Global, call: u64, fate: Fate) -> Result<MemoryArea, Fail> {
+    let Err((fault, area)) = open(rt, alloc, area(alloc, call, fate)?) else {
+        panic!(rt; "opened")
+    };
+    assert_eq!(rt; (fault, area.calls()), (OpenFault::Device, call));
+    Ok(area)
+}
+
+// The end that the next opening finds, and how many calls it makes.
+fn found_anew(rt: &impl Abort, alloc: Global, mut area: MemoryArea) -> Result<(u64, u64), Fail> {
+    area.revive();
+    area.arm(plan(alloc, 0, Fate::Runs)?);
+    let journal = opened(rt, alloc, area)?;
+    Ok((journal.end(), journal.calls()))
 }
 
 #[test]
-fn a_batch_stands_by_the_call_and_the_outcome(rt: HostRuntime) -> Result<(), Fail> {
-    let alloc = rt.alloc();
-    for (i, row) in APPENDED.iter().enumerate() {
-        let call = i as u64 + 1;
-        let old = end_after_append(&rt, alloc, stopping(alloc, call, Outcome3::Old))?;
-        let new = end_after_append(&rt, alloc, stopping(alloc, call, Outcome3::New))?;
-        let rot = end_after_append(&rt, alloc, stopping(alloc, call, Outcome3::Rot))?;
-        let failed = end_after_append(&rt, alloc, failing(alloc, call)?)?;
-        assert_eq!(&rt;
-            [old, new, rot, failed],
-            [
-                end_for(row[0]),
-                end_for(row[1]),
-                end_for(row[2]),
-                end_for(row[3])
-            ]
-        );
+fn an_area_whose_making_broke_off_has_no_batch(rt: HostRuntime) -> Result<(), Fail> {
+    for (call, row) in (1..).zip(MADE) {
+        for (fate, calls) in FATES.iter().zip(row) {
+            let area = made_in_part(&rt, rt.alloc(), call, *fate)?;
+            let found = found_anew(&rt, rt.alloc(), area)?;
+            assert_eq!(&rt; found, (32, calls), "{fate:?} of call {call}");
+        }
     }
     Ok(())
 }
 
+// Where the list ends after an append that broke off, by the call and its fate: behind the batch where that stands.
+const APPENDED: [[u64; 4]; 4] = [
+    [32, 32, 32, 32],
+    [32, 32, 32, 32],
+    [32, 39, 32, 32],
+    [32, 39, 32, 39],
+];
+
+// The area of a journal whose append broke off, with the end where that ends that is opened again in place.
+fn appended_in_part(
+    rt: &impl Abort,
+    alloc: Global,
+    call: u64,
+    fate: Fate,
+) -> Result<(MemoryArea, Option<u64>), Fail> {
+    let mut journal = opened(rt, alloc, area(alloc, 0, Fate::Runs)?)?;
+    journal.arm(plan(alloc, call, fate)?);
+    let answer = append(rt, &mut journal, &[0xAA, 0xBB]);
+    assert_eq!(rt; answer, Err(AppendFault::Device));
+    assert!(rt; journal.is_closed());
+    assert_eq!(rt; journal.calls(), call);
+    let is_open = journal.reopen().is_ok();
+    assert_eq!(rt; is_open, !journal.stopped());
+    let end = if is_open { Some(journal.end()) } else { None };
+    Ok((journal.into_area(), end))
+}
+
 #[test]
-fn an_area_whose_making_stopped_has_no_batch(rt: HostRuntime) -> Result<(), Fail> {
-    let alloc = rt.alloc();
-    for call in 1..6 {
-        let old = end_after_open(&rt, alloc, stopping(alloc, call, Outcome3::Old))?;
-        let new = end_after_open(&rt, alloc, stopping(alloc, call, Outcome3::New))?;
-        let rot = end_after_open(&rt, alloc, stopping(alloc, call, Outcome3::Rot))?;
-        let failed = end_after_open(&rt, alloc, failing(alloc, call)?)?;
-        assert_eq!(&rt; [old, new, rot, failed], [32; 4]);
+fn a_batch_stands_by_the_call_that_broke_off(rt: HostRuntime) -> Result<(), Fail> {
+    for (call, row) in (1..).zip(APPENDED) {
+        for (fate, end) in FATES.iter().zip(row) {
+            let (area, in_place) = appended_in_part(&rt, rt.alloc(), call, *fate)?;
+            assert_eq!(&rt;
+                in_place.unwrap_or(end),
+                end,
+                "in place, {fate:?} of call {call}"
+            );
+            let found = found_anew(&rt, rt.alloc(), area)?;
+            assert_eq!(&rt; found, (end, 1), "{fate:?} of call {call}");
+        }
     }
     Ok(())
 }
 
-// What is found of a draft with one batch.
+// What is found of a draft with one batch, on an area that never fails.
 fn end_after_draft(rt: &impl Abort, alloc: Global, is_founded: bool) -> Result<u64, Fail> {
-    let area = MemoryArea::new(alloc, 100, no_plan(alloc))?;
+    let area = QuietArea::new(alloc, 100)?;
     assert_eq!(rt; area.length(), 100);
-    let mut journal = match Journal::draft(alloc, area, ADDRESS, 0) {
-        Ok(journal) => journal,
-        Err((fault, _)) => return Err(fault)?,
+    let Ok(mut journal) = Journal::draft(alloc, area, ADDRESS, 0) else {
+        panic!(rt; "no draft")
     };
     if is_founded {
-        journal.found()?;
+        assert_eq!(rt; journal.found(), Ok(()));
     }
-    assert!(rt; !journal.is_closed());
-    journal.append(&[0xAA, 0xBB])?;
+    assert_eq!(rt; append(rt, &mut journal, &[0xAA, 0xBB]), Ok(()));
     Ok(opened(rt, alloc, journal.into_area())?.end())
 }
 
@@ -225,37 +230,5 @@ fn end_after_draft(rt: &impl Abort, alloc: Global, is_founded: bool) -> Result<u
 fn a_draft_starts_until_it_is_founded(rt: HostRuntime) -> Result<(), Fail> {
     assert_eq!(&rt; end_after_draft(&rt, rt.alloc(), false)?, 32);
     assert_eq!(&rt; end_after_draft(&rt, rt.alloc(), true)?, 39);
-    Ok(())
-}
-
-#[test]
-fn a_failed_append_stands_by_its_gate(rt: HostRuntime) -> Result<(), Fail> {
-    let alloc = rt.alloc();
-    for call in 1..5 {
-        let area = MemoryArea::new(alloc, 100, no_plan(alloc))?;
-        let mut journal = opened(&rt, alloc, area)?;
-        assert!(&rt; !journal.is_closed());
-        journal.arm(failing(alloc, call)?);
-        assert_eq!(&rt; journal.append(&[0xAA, 0xBB]), Err(AppendFault::Device));
-        assert_eq!(&rt; journal.calls(), call);
-        assert!(&rt; !journal.stopped());
-        journal.reopen()?;
-        assert!(&rt; !journal.is_closed());
-        assert_eq!(&rt; journal.end(), end_for(call == 4));
-    }
-    Ok(())
-}
-
-#[test]
-fn a_quiet_area_has_a_journal(rt: HostRuntime) -> Result<(), Fail> {
-    let alloc = rt.alloc();
-    let area = QuietArea::new(alloc, 100)?;
-    let mut journal = match Journal::open(alloc, area, ADDRESS, 0) {
-        Ok(journal) => journal,
-        Err((fault, _)) => return Err(fault)?,
-    };
-    assert!(&rt; !journal.is_closed());
-    journal.append(&[0xAA, 0xBB])?;
-    assert_eq!(&rt; journal.end(), 39);
     Ok(())
 }

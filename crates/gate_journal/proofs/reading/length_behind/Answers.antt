@@ -1,0 +1,16 @@
+use Rattle.std.proofs.Common.{sym, ◌∙◌}
+use Rattle.gate_journal.proofs.Seen.{length_read}
+use Rattle.gate_journal.proofs.Runs.{kept_read}
+use Rattle.gate_journal.proofs.reading.length_behind.Goals as goal
+
+pub returns-clause-length : goal.returns-clause-length
+returns-clause-length g c = λ told. (
+  c.number_of.ensures.number ∙ length_read (g.A.Area.octets c.args.area.now) c.read_at.new.into c.args.at (c.in_ok-read_at.ensures.read told),
+  sym (c.in_ok-read_at.ensures.read told) ∙ sym c.number_of.ensures.spelled,
+)
+
+pub returns-clause-kept : goal.returns-clause-kept
+returns-clause-kept g c =
+    let laws = g.met.A.Area g.world.𝓛 g.world.𝓜 g.world.𝓡 ((λ s x. x), (λ x. x), (λ x. x), λ x. x) in
+    let read = c.in_ok-read_at.ensures in
+    kept_read g.A.Area laws.only_now _ _ read.size read.octets read.crash read.time read.calls

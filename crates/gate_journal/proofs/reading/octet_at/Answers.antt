@@ -1,0 +1,16 @@
+use Rattle.std.proofs.Common.{◌<◌, length, sym, arith}
+use Rattle.gate_journal.proofs.Seen.{gate_read}
+use Rattle.gate_journal.proofs.Runs.{kept_read}
+use Rattle.gate_journal.proofs.reading.octet_at.Goals as goal
+
+pub returns-clause-octet : goal.returns-clause-octet
+returns-clause-octet g c = λ told.
+    let laws = g.met.A.Area g.world.𝓛 g.world.𝓜 g.world.𝓡 ((λ s x. x), (λ x. x), (λ x. x), λ x. x) in
+    let inside : c.args.at < length (g.A.Area.octets c.args.area.now) = omega (arith, laws.whole c.args.area.now told) in
+    sym (gate_read (g.A.Area.octets c.args.area.now) c.read_at.new.into c.args.at inside (c.in_ok-read_at.ensures.read told))
+
+pub returns-clause-kept : goal.returns-clause-kept
+returns-clause-kept g c =
+    let laws = g.met.A.Area g.world.𝓛 g.world.𝓜 g.world.𝓡 ((λ s x. x), (λ x. x), (λ x. x), λ x. x) in
+    let read = c.in_ok-read_at.ensures in
+    kept_read g.A.Area laws.only_now _ _ read.size read.octets read.crash read.time read.calls
