@@ -1,16 +1,13 @@
 -- Entries: what they spell, what they cost, and which batches hold them.
-use Rattle.std.proofs.Common.{◌≡◌, ℕ, ◌+◌, ◌*◌, ◌≤◌, List, [], ◌∷◌, ◌++◌, length, refl, sym, ◌∙◌, ap, subst, arith, length-append, append_assoc}
-use Rattle.std.specs.Prelude.{All}
+use Rattle.std.proofs.Common.{◌≡◌, ℕ, ◌≤◌, List, [], ◌∷◌, ◌++◌, sym, ◌∙◌, ap, subst}
 use Rattle.std.proofs.lemmas.Grind.{flat_map-append}
 use Rattle.std.proofs.lemmas.List.{append-nil}
 use Rattle.std.proofs.lemmas.List.Elements.{All-push}
 use Rattle.gw_base.specs.declared.history.HistoryEntry.{HistoryEntry}
-use Rattle.entry_codec.specs.Content.{AreEntries, IsContent, entries_of, spelled}
+use Rattle.entry_codec.specs.Content.{IsContent, entries_of, spelled}
 use Rattle.entry_codec.specs.Room.{capacity_of, costs_of}
-use Rattle.entry_codec.specs.Spelling.{HasSpelling, cost_of, entry_length, spelling}
-use Rattle.entry_codec.proofs.Entries.{length_of_spelling}
+use Rattle.entry_codec.specs.Spelling.{spelling}
 use Rattle.cgf_journal.specs.Format.{AreBatches, entries_in}
-use Rattle.cgf_journal.specs.Tally.{TallyValue, tally_behind, tally_behind_all}
 
 pub spelled-push : (h : List HistoryEntry) (e : HistoryEntry) → spelled (h ++ e ∷ []) ≡ spelled h ++ spelling e
 spelled-push h e = flat_map-append spelling h (e ∷ []) ∙ ap (λ (l : List ℕ). spelled h ++ l) (append-nil (spelling e))

@@ -9,14 +9,13 @@ use Rattle.gate_journal.specs.Format.{end_of, header_length, taken}
 use Rattle.gate_journal.proofs.Spelling.{taken-append}
 use Rattle.entry_codec.specs.Content.{IsContent, entries_of}
 use Rattle.entry_codec.specs.Room.{capacity_of, costs_of}
-use Rattle.entry_codec.proofs.Contents.{costs_of-append}
 use Rattle.cgf_journal.specs.Format.{AreBatches, entries_in}
 use Rattle.cgf_journal.specs.Opening.{AreTakenIn, BreaksAt, IsTakenUpTo}
 use Rattle.cgf_journal.specs.Sound.{places_behind, places_from}
 use Rattle.cgf_journal.specs.Tally.{Tallies, TallyValue, tally_behind_all, tally_of}
 use Rattle.cgf_journal.proofs.Entries.{are_batches-push, entries_in-push}
 use Rattle.cgf_journal.proofs.Placing.{places_behind-push}
-use Rattle.cgf_journal.proofs.Tallies.{tally_all, tally_all-costs}
+use Rattle.cgf_journal.proofs.Tallies.{tally_all}
 
 -- the last of some batches is entries
 last_content : (some : List (List ℕ)) (batch : List ℕ) → All IsContent (some ++ batch ∷ []) → IsContent batch

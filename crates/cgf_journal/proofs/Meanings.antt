@@ -1,15 +1,15 @@
 -- Octets stand for one history, or start, or are foreign at one place.
-use Rattle.std.proofs.Common.{◌≡◌, ◌⊎◌, inl, inr, ⊎_elim, ℕ, ◌≤◌, List, [], ◌∷◌, ◌++◌, length, get_or, take, refl, sym, ◌∙◌, ap, subst, arith, append_assoc}
+use Rattle.std.proofs.Common.{◌≡◌, inl, inr, ℕ, List, [], ◌∷◌, ◌++◌, length, get_or, take, refl, sym, ◌∙◌, ap, subst, arith, append_assoc}
 use Rattle.std.specs.Prelude.{All}
 use Rattle.std.proofs.lemmas.Grind.{flat_map-append}
 use Rattle.std.proofs.lemmas.List.{take_at}
 use Rattle.std.proofs.lemmas.List.Elements.{All-take}
 use Rattle.gw_base.specs.declared.history.HistoryEntry.{HistoryEntry}
 use Rattle.gate_journal.specs.Before.{AreBefore, batch_at}
-use Rattle.gate_journal.specs.Format.{Differs, IsBroken, IsWhole, Stands, Starts, end_of, gate_at, open_gate}
+use Rattle.gate_journal.specs.Format.{IsBroken, IsWhole, Stands, Starts, end_of, gate_at}
 use Rattle.gate_journal.proofs.Agreeing.{Compared, equal, longer, shorter, batch_before, compare, front_before, one_difference, part_before, place_of, same_not_differs, same_not_starts, stands_before}
 use Rattle.entry_codec.specs.Content.{IsContent, entries_of}
-use Rattle.entry_codec.specs.Room.{capacity_of, costs_of}
+use Rattle.entry_codec.specs.Room.{costs_of}
 use Rattle.entry_codec.proofs.Contents.{costs_of-append}
 use Rattle.cgf_journal.specs.Format.{AreBatches, IsForeignTo, IsSpoiled, IsWholeBehind, StandsFor, entries_in}
 use Rattle.cgf_journal.specs.Opening.{BreaksAt}

@@ -1,11 +1,10 @@
 -- What the steps of an opening give together.
-use Rattle.std.proofs.Common.{◌≡◌, ◌≢◌, ◌⊎◌, inl, inr, ⊎_elim, ℕ, ◌+◌, ◌≤◌, List, [], ◌∷◌, ◌++◌, Result, Ok, Err, length, get_or, refl, sym, ◌∙◌, ap, subst, arith}
-use Rattle.std.specs.Prelude.{All, IfErr, IfOk, IsErrAnd, IsTrue, OnErr}
+use Rattle.std.proofs.Common.{◌≡◌, ◌≢◌, ◌⊎◌, inl, inr, ⊎_elim, ℕ, ◌≤◌, List, [], Result, Ok, Err, length, get_or, refl, sym, ◌∙◌, ap, subst, arith}
+use Rattle.std.specs.Prelude.{IfErr, IfOk, IsErrAnd, IsTrue, OnErr}
 use Rattle.std.proofs.lemmas.List.Elements.{All-nil}
 use Rattle.area_disk.specs.declared.area.Area.{Ghosts}
-use Rattle.gw_base.specs.declared.history.HistoryEntry.{HistoryEntry}
 use Rattle.gate_journal.specs.Before.{AreBefore}
-use Rattle.gate_journal.specs.Format.{Differs, IsBroken, IsForeign, Stands, Starts, end_of}
+use Rattle.gate_journal.specs.Format.{Differs, IsForeign, Stands, Starts, end_of}
 use Rattle.gate_journal.specs.Journal as journal
 use Rattle.gate_journal.specs.Moments.{Kept, Leaves, Told}
 use Rattle.gate_journal.specs.Opening.{IsMaking}

@@ -1,6 +1,6 @@
 -- What a trail tells of its entries.
-use Rattle.std.proofs.Common.{◌≡◌, ◌≢◌, ◌⊎◌, inl, inr, ℕ, ◌+◌, ◌-◌, ◌<◌, ◌≤◌, Bool, true, false, List, [], ◌∷◌, ◌++◌, length, take, drop, refl, sym, ◌∙◌, ap, subst, arith, length-append}
-use Rattle.std.specs.Prelude.{All, Err, IsTrue, Ok, OnErr, Result, Some, if◌then◌else◌, nat_le, slice_get}
+use Rattle.std.proofs.Common.{◌≡◌, ◌≢◌, ℕ, ◌+◌, ◌<◌, ◌≤◌, Bool, true, false, List, [], ◌∷◌, ◌++◌, length, take, drop, refl, sym, ◌∙◌, ap, subst, arith, length-append}
+use Rattle.std.specs.Prelude.{Err, IsTrue, Ok, OnErr, Result, Some, if◌then◌else◌, nat_le, slice_get}
 use Rattle.std.proofs.lemmas.Bool.Decides.{nat_tests}
 use Rattle.std.proofs.lemmas.List.{append-nil, length-take-le, take-append-drop}
 use Rattle.std.proofs.lemmas.Option.{get_or_from_slice_get, slice_get_within}
@@ -17,9 +17,9 @@ use Rattle.gate_journal.proofs.Runs.{both, widen}
 use Rattle.entry_codec.specs.Content.{entries_of, spelled}
 use Rattle.entry_codec.specs.Room.{capacity_of}
 use Rattle.entry_codec.specs.Spelling.{cost_of}
-use Rattle.cgf_journal.specs.Format.{AreBatches, StandsFor, entries_in}
-use Rattle.cgf_journal.specs.Sound.{EndsBy, IsSound, places_behind}
-use Rattle.cgf_journal.specs.Tally.{TallyValue, has_room_behind, promised_by, tally_behind, tally_behind_all, tally_of}
+use Rattle.cgf_journal.specs.Format.{StandsFor, entries_in}
+use Rattle.cgf_journal.specs.Sound.{EndsBy}
+use Rattle.cgf_journal.specs.Tally.{TallyValue, has_room_behind, promised_by, tally_behind, tally_of}
 use Rattle.cgf_journal.specs.Trail.{IsKept, IsPlaceOf, IsSettled, StandsForOr, area_of, entries, firm_entries, header_of, is_closed, left_by_stop, length_of, stop_stands, tally, waiting, waiting_octets}
 use Rattle.cgf_journal.specs.declared.trail.Trail.{Trail}
 use Rattle.cgf_journal.proofs.Placing.{IsAmong, IsFound, behind_is, get_left, length-places_behind}

@@ -1,5 +1,5 @@
 -- The keys that a tally keeps.
-use Rattle.std.specs.Prelude.{ℕ, ◌+◌, ◌&&◌, Bool, true, false, if◌then◌else◌, List, map, filter}
+use Rattle.std.specs.Prelude.{◌+◌, ◌&&◌, Bool, true, false, if◌then◌else◌, List, map, filter}
 use Rattle.gw_base.specs.declared.held.HeldKey.{HeldKey}
 use Rattle.gw_base.specs.declared.history.HistoryAct.{HistoryAct}
 use Rattle.gw_base.specs.declared.history.HistoryEntry.{HistoryEntry}

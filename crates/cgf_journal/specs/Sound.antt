@@ -4,7 +4,7 @@ use Rattle.area_disk.specs.declared.area.Area.{Ghosts}
 use Rattle.gw_base.specs.Buffer.{Buffered}
 use Rattle.gw_base.specs.declared.history.HistoryEntry.{HistoryEntry}
 use Rattle.gw_base.specs.declared.place.Place.{Place}
-use Rattle.gate_journal.specs.Format.{end_of, header_length, longest_batch}
+use Rattle.gate_journal.specs.Format.{header_length, longest_batch}
 use Rattle.gate_journal.specs.Journal.{area_of, batches, end, front_of, is_closed, torn}
 use Rattle.gate_journal.specs.Moments.{Told}
 use Rattle.gate_journal.specs.declared.journal.Front.TheVariants.{Founded, Draft, Founding}

@@ -36,15 +36,19 @@ fn failing(alloc: Global, call: u64) -> Result<Plan, AllocError> {
     })
 }
 
-fn entry(act: Act<'_>) -> Result<Entry<'_>, Fail> {
-    Ok(Entry {
-        moment: Moment::of(1_709_164_800).ok_or("a moment")?,
+fn moment() -> Result<Moment, Fail> {
+    Ok(Moment::of(1_709_164_800).ok_or("a moment")?)
+}
+
+fn entry(moment: Moment, act: Act<'_>) -> Entry<'_> {
+    Entry {
+        moment,
         caller: Caller {
             session: 1,
             serial: 2,
         },
         act,
-    })
+    }
 }
 
 fn opened(rt: &impl Abort, alloc: Global, area: MemoryArea) -> Result<Trail<MemoryArea>, Fail> {
@@ -62,7 +66,7 @@ fn fresh(rt: &impl Abort, alloc: Global, size: u64) -> Result<Trail<MemoryArea>,
 }
 
 fn push(rt: &impl Abort, trail: &mut Trail<MemoryArea>, act: Act<'_>) -> Result<(), Fail> {
-    let entry = entry(act)?;
+    let entry = entry(moment()?, act);
     assert!(rt; !trail.is_closed());
     assert!(rt; trail.room(&entry));
     trail.push(&entry)?;
@@ -132,7 +136,7 @@ fn a_held_packet_keeps_room_for_its_release_and_a_close(rt: HostRuntime) -> Resu
     assert_eq!(&rt; trail.free(), 42);
     push(&rt, &mut trail, seal())?;
     assert_eq!(&rt; trail.free(), 0);
-    assert!(&rt; !trail.room(&entry(seal())?));
+    assert!(&rt; !trail.room(&entry(moment()?, seal())));
     push(&rt, &mut trail, release())?;
     push(&rt, &mut trail, Act::Close)?;
     assert_eq!(&rt; commit(&rt, &mut trail)?, 5);
@@ -156,7 +160,7 @@ fn holds_each_kind(
         assert!(rt; octets.len() < 128);
         assert_eq!(rt;
             read(&octets, &mut numbers),
-            Ok((entry(act_of(kind))?, octets.len()))
+            Ok((entry(moment()?, act_of(kind)), octets.len()))
         );
     }
     Ok(())

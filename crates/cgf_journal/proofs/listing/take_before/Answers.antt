@@ -2,7 +2,7 @@ use Rattle.std.proofs.Common.{◌≡◌, ℕ, ◌+◌, ◌≤◌, ◌<◌, List,
 use Rattle.std.specs.Prelude.{IfSome}
 use Rattle.std.proofs.lemmas.List.{length-take-le}
 use Rattle.gate_journal.specs.Before.{AreBefore}
-use Rattle.gate_journal.specs.Format.{end_of, longest_batch}
+use Rattle.gate_journal.specs.Format.{longest_batch}
 use Rattle.gate_journal.proofs.Agreeing.{place_of}
 use Rattle.cgf_journal.specs.Opening.{AreListedBefore}
 use Rattle.cgf_journal.proofs.Listings.{breaks_here, goes_on, read_next, taken_next}

@@ -1,4 +1,4 @@
-use Rattle.std.proofs.Common.{◌≡◌, ◌≢◌, inl, ℕ, ◌+◌, ◌-◌, ◌<◌, ◌≤◌, ◌==◌, Bool, true, false, List, [], ◌∷◌, ◌++◌, length, refl, sym, ◌∙◌, ap, subst, arith, rules}
+use Rattle.std.proofs.Common.{◌≡◌, ◌≢◌, inl, ℕ, ◌+◌, ◌==◌, true, false, List, [], ◌∷◌, ◌++◌, length, refl, sym, ◌∙◌, ap, subst, arith, rules}
 use Rattle.std.specs.Prelude.{Err}
 use Rattle.std.proofs.lemmas.Bool.Decides.{nat_tests}
 use Rattle.gw_base.specs.Buffer.{Buffered}
@@ -9,7 +9,7 @@ use Rattle.gate_journal.proofs.Runs.{begin}
 use Rattle.cgf_journal.specs.Format.{entries_in}
 use Rattle.cgf_journal.specs.Sound.{IsSound}
 use Rattle.cgf_journal.specs.Tally.{Tallies}
-use Rattle.cgf_journal.specs.Trail.{StandsForOr, area_of, firm_entries, header_of, waiting, waiting_octets}
+use Rattle.cgf_journal.specs.Trail.{StandsForOr, area_of, firm_entries, header_of, waiting}
 use Rattle.cgf_journal.proofs.Entries.{entries_in-push}
 use Rattle.cgf_journal.proofs.Sounds.{fits, settled as settled_sound}
 use Rattle.cgf_journal.proofs.Standing.{founded_still}

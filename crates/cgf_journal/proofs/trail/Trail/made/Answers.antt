@@ -4,7 +4,7 @@ use Rattle.gate_journal.specs.Format.{longest_batch}
 use Rattle.cgf_journal.specs.Sound.{IsSound}
 use Rattle.cgf_journal.specs.Tally.{Tallies}
 use Rattle.cgf_journal.specs.Trail.{firm_entries}
-use Rattle.cgf_journal.proofs.Founding.{all_batches, made}
+use Rattle.cgf_journal.proofs.Founding.{made}
 use Rattle.cgf_journal.proofs.Trails.{entries_firm, settled}
 use Rattle.cgf_journal.proofs.trail.Trail.made.Goals as goal
 

@@ -1,11 +1,11 @@
-use Rattle.std.proofs.Common.{◌≡◌, ◌⊎◌, ℕ, ◌≤◌, List, ⊎_elim, refl, sym, ◌∙◌, ap, subst, arith}
-use Rattle.gate_journal.specs.Format.{IsForeign, Starts, header}
+use Rattle.std.proofs.Common.{◌≡◌, ◌⊎◌, ℕ, ◌≤◌, List, ⊎_elim, sym, ◌∙◌, subst}
+use Rattle.gate_journal.specs.Format.{header}
 use Rattle.gate_journal.specs.Journal as gates
 use Rattle.gate_journal.specs.declared.faults.OpenFault.{OpenFault}
 use Rattle.gate_journal.specs.declared.faults.OpenFault.TheVariants.{Device, NotOurs}
 use Rattle.gate_journal.proofs.Runs.{follow}
 use Rattle.gate_journal.proofs.Spelling.{first-header, length-header}
-use Rattle.cgf_journal.specs.Format.{AreBatches, IsForeignTo, StandsFor}
+use Rattle.cgf_journal.specs.Format.{AreBatches}
 use Rattle.cgf_journal.specs.Opening.{AreListedBefore, BreaksAt}
 use Rattle.cgf_journal.proofs.Meanings.{foreign_or_starts}
 use Rattle.cgf_journal.proofs.Opened.{calls_on, fault_is, found_is, leaves_on, other_fault, place_is, places_are, refused, stands_or_anew, widen_making}

@@ -1,4 +1,4 @@
-use Rattle.std.proofs.Common.{◌≡◌, ℕ, ◌+◌, ◌-◌, ◌<◌, ◌≤◌, Bool, true, if◌then◌else◌, List, [], ◌∷◌, ◌++◌, length, refl, sym, ◌∙◌, ap, subst, append_assoc, arith, slice_get}
+use Rattle.std.proofs.Common.{◌≡◌, ℕ, ◌+◌, ◌-◌, ◌<◌, ◌≤◌, if◌then◌else◌, List, [], ◌∷◌, ◌++◌, length, refl, sym, ◌∙◌, ap, subst, append_assoc, arith, slice_get}
 use Rattle.std.specs.Prelude.{Err, Ok, OnOk, Result}
 use Rattle.gw_base.specs.Buffer.{Buffered}
 use Rattle.gw_base.specs.Entry.{entry_view}
@@ -6,11 +6,10 @@ use Rattle.gw_base.specs.declared.history.HistoryEntry.{HistoryEntry}
 use Rattle.gw_base.specs.declared.place.Place.{Place}
 use Rattle.gate_journal.specs.Format.{longest_batch}
 use Rattle.entry_codec.specs.Content.{entries_of}
-use Rattle.entry_codec.specs.Room.{capacity_of}
-use Rattle.entry_codec.specs.Spelling.{cost_of, entry_length, spelling}
+use Rattle.entry_codec.specs.Spelling.{entry_length, spelling}
 use Rattle.entry_codec.specs.declared.fault.Full.{Full}
 use Rattle.cgf_journal.specs.Sound.{IsSound}
-use Rattle.cgf_journal.specs.Tally.{Tallies, TallyValue, has_room_behind, tally_behind}
+use Rattle.cgf_journal.specs.Tally.{Tallies, TallyValue, has_room_behind}
 use Rattle.cgf_journal.specs.Trail.{area_of, firm_entries, waiting}
 use Rattle.cgf_journal.proofs.Placing.{get_left}
 use Rattle.cgf_journal.proofs.Sounds.{pending-push, pushed}

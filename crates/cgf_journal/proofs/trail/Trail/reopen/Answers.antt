@@ -1,4 +1,4 @@
-use Rattle.std.proofs.Common.{◌≡◌, ◌≢◌, ℕ, ◌+◌, Bool, true, false, if◌then◌else◌, List, [], ◌∷◌, ◌++◌, length, refl, sym, ◌∙◌, ap, subst, slice_get, rules}
+use Rattle.std.proofs.Common.{◌≡◌, true, if◌then◌else◌, List, [], length, refl, sym, ◌∙◌, ap, subst, slice_get, rules}
 use Rattle.gw_base.specs.Buffer.{Buffered}
 use Rattle.gw_base.specs.declared.place.Place.{Place}
 use Rattle.gate_journal.specs.Journal as journal
