@@ -11,7 +11,8 @@ use Rattle.cdr_file.specs.Timestamp.{stamp_of}
 use Rattle.cdr_file.specs.declared.closure.ClosureReason.TheVariants.{Manual}
 use Rattle.gw_base.specs.declared.history.HistoryEntry.{HistoryEntry}
 use Rattle.cgf_top.specs.FiledRecords.{filed_records}
-use Rattle.cgf_top.specs.FeedReport.{end_lines, feed_settings, file_line, gateway_line, header_of, in_file, octets_line}
+use Rattle.cgf_top.specs.FeedReport.{end_lines, feed_settings, file_line, gateway_line, in_file, octets_line}
+use Rattle.cgf_top.specs.FileWriter.{header_of}
 use Rattle.cgf_top.specs.declared.gateway_book.filed.FiledRecord.{FiledRecord}
 
 kind_first : (filed : List FiledRecord) (d : FiledRecord) → 0 < length filed → cdr.run_kind (map in_file filed) ≡ (in_file (get_or filed 0 d)).kind

@@ -1,4 +1,5 @@
 pub mod Bounds
+pub mod Conditions
 pub mod Cuts
 pub mod Ends
 pub mod Filed

@@ -1,11 +1,8 @@
 -- What `feed` prints: the reply to each datagram, then the file of the records, then the gateway's counts.
-use Rattle.std.specs.Prelude.{ℕ, ◌<◌, ◌^◌, IfSome, ◌+◌, if◌then◌else◌, List, [], ◌∷◌, ◌++◌, length, map, Option, Some, None, Result, Ok, Err, codes, pos}
+use Rattle.std.specs.Prelude.{ℕ, ◌<◌, ◌^◌, IfSome, if◌then◌else◌, List, [], ◌∷◌, ◌++◌, length, map, Option, Some, None, Result, Ok, Err, codes, pos}
 use Rattle.std.specs.Fmt.{decimal}
 use Rattle.hex.specs.Hex.{encode_upper}
-use Rattle.cdr_file.specs.CdrFile.{FileSettings, file_octets, node_address}
-use Rattle.cdr_file.specs.ClosureReason.{code_of}
-use Rattle.cdr_file.specs.Timestamp.{stamp_of}
-use Rattle.cdr_file.specs.declared.file_header.FileHeader.{FileHeader}
+use Rattle.cdr_file.specs.CdrFile.{FileSettings, file_octets}
 use Rattle.cdr_file.specs.CdrFile as cdr
 use Rattle.cdr_file.specs.declared.closure.ClosureReason.TheVariants.{Manual}
 use Rattle.gtpp_message.specs.Message.{TransferResponse, VersionNotSupported}
@@ -119,24 +116,6 @@ abbrev pub file_line : List FiledRecord → List ℕ
 file_line [] = []
 file_line (filed ∷ more) =
     codes "file 1 00-0000000001.cdr " ++ octets_line (file_octets (map in_file (filed ∷ more)) 1 Manual feed_settings)
-
--- the header of a file by its first record, its last one, their number, and how many octets their CDRs have
-abbrev pub header_of : cdr.FiledRecord → cdr.FiledRecord → ℕ → ℕ → FileHeader
-header_of first last count octets = record {
-  length = 52 + octets;
-  header_length = 52;
-  high_release = first.kind.release;
-  high_version = first.kind.version;
-  low_release = first.kind.release;
-  low_version = first.kind.version;
-  opened = stamp_of first.moment (pos 0);
-  appended = stamp_of last.moment (pos 0);
-  count = count;
-  sequence = 1;
-  reason = code_of Manual;
-  address = node_address 167772161;
-  lost = 0;
-}
 
 -- The counts.
 abbrev pub gateway_line : List HistoryEntry → List ℕ

@@ -1,6 +1,7 @@
 pub mod Answer
 pub mod FeedReport
 pub mod FeedScript
+pub mod FileWriter
 pub mod FiledRecords
 pub mod PreparedValues
 pub mod Preparing

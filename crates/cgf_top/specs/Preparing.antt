@@ -1,14 +1,17 @@
--- What a gateway makes of a datagram before it looks at its history (3GPP TS 32.295, clause 6.2). The first condition that
--- holds decides: those of the header, whether such a message is sent to a gateway, those of the body, those of its records.
-use Rattle.std.specs.Prelude.{ℕ, Bool, true, ◌==◌, ◌||◌, if◌then◌else◌, List}
+-- What a gateway makes of a datagram before it looks at its history (3GPP TS 32.295, clause 6.2). The order in which the
+-- conditions stand is this project's own (profile), and docs/FORMATS.md tells it as a table.
+use Rattle.std.specs.Prelude.{ℕ, Bool, true, not, nat_lt, ◌==◌, ◌||◌, if◌then◌else◌, List, ◌∷◌, length, take, Result, Ok, Err}
 use Rattle.std.specs.List.{list_all}
 use Rattle.ber_frame.specs.Checked.{is_one_value}
-use Rattle.gtpp_message.specs.Message.{MessageValue, TransferValue, TransferRequest, Send, Possible, Cancel, Release}
+use Rattle.gtpp_header.specs.Header.{protocol_type_of, two_octets, version_of}
+use Rattle.gtpp_elements.specs.Reading.{elements_in}
+use Rattle.gtpp_message.specs.Message.{MessageValue, TransferValue, TransferRequest, Send, Possible, Cancel, Release, is_known}
 use Rattle.gtpp_message.specs.Packet.{PacketValue, Empty, Full, records_of}
-use Rattle.gtpp_message.specs.Reading as read
-use Rattle.gtpp_message.specs.Writing.{IsSendableTransfer, kind_of}
+use Rattle.gtpp_message.specs.Reading.{body_of, cause_of}
+use Rattle.gtpp_message.specs.Writing.{IsSendableTransfer}
+use Rattle.gtpp_message.specs.declared.flaw.Flaw.{Flaw}
 use Rattle.gtpp_message.specs.declared.reading.Why.{Why}
-use Rattle.gtpp_message.specs.declared.reading.Why.TheVariants.{Malformed, Stray}
+use Rattle.gtpp_message.specs.declared.reading.Why.TheVariants.{Cut, Malformed, NotPrime, Short, Stray, UnknownType}
 
 -- what a datagram is: one that isn't answered, one that a fixed message answers, a message of path management, or a request
 pub data PreparedValue : Type 0 where
@@ -49,16 +52,24 @@ received number message = Path number message
 abbrev pub refused : ℕ → ℕ → ℕ → PreparedValue
 refused kind cause number = if kind == 240 then Refused cause number else Drop (Malformed cause)
 
--- what a gateway makes of what is read
-abbrev pub prepared_from : read.ReadingValue → PreparedValue
-prepared_from (read.Drop why) = Drop why
-prepared_from (read.OtherVersion kind number) = if kind == 3 then Drop Stray else OtherVersion number
-prepared_from (read.Refused kind cause number) = if is_stray kind then Drop Stray else refused kind cause number
-prepared_from (read.Message number message) = if is_stray (kind_of message) then Drop Stray else received number message
+-- a message of a type that is sent to a gateway, by what its body says
+abbrev pub by_body : ℕ → ℕ → Result MessageValue Flaw → PreparedValue
+by_body kind number (Ok message) = received number message
+by_body kind number (Err flaw) = refused kind (cause_of flaw) number
 
--- what a gateway makes of the octets of a datagram
+-- What a gateway makes of the octets of a datagram: the first of these conditions that holds decides, and fewer than six
+-- octets are too short for a header.
 abbrev pub prepared_of : List ℕ → PreparedValue
-prepared_of octets = prepared_from (read.reading octets)
+prepared_of (flags ∷ kind ∷ length_high ∷ length_low ∷ number_high ∷ number_low ∷ rest) =
+    let stated = two_octets length_high length_low in
+    let number = two_octets number_high number_low in
+    if protocol_type_of flags == 1 then Drop NotPrime
+    else if not (version_of flags == 2) then (if kind == 3 then Drop Stray else OtherVersion number)
+    else if nat_lt (length rest) stated then Drop Cut
+    else if not (is_known kind) then Drop UnknownType
+    else if is_stray kind then Drop Stray
+    else by_body kind number (body_of kind (elements_in (take stated rest)))
+prepared_of _ = Drop Short
 
 -- the packet that a request sends says what its value says
 abbrev pub IsWhole : PreparedValue → Type 0

@@ -4,7 +4,8 @@ ghost use Rattle.std.specs.Prelude.{◌≡◌, ◌+◌, ◌%◌, ◌<◌, ◌++�
 ghost use Rattle.cdr_file.specs.CdrFile.{cdr_octets, file_octets, node_address, run_octets};
 ghost use Rattle.cdr_file.specs.FileHeader.{header_octets};
 ghost use Rattle.cdr_file.specs.Timestamp.{stamp_of};
-ghost use Rattle.cgf_top.specs.FeedReport.{feed_settings, header_of, in_file};
+ghost use Rattle.cgf_top.specs.FeedReport.{feed_settings, in_file};
+ghost use Rattle.cgf_top.specs.FileWriter.{header_of};
 
 use crate::gateway_book::FiledRecord;
 use cdr_file::{CdrHeader, ClosureReason, FileHeader, Offset16, stamp, write_cdr, write_header};

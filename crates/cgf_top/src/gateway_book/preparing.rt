@@ -1,12 +1,12 @@
-ghost use Rattle.std.specs.Prelude.{◌≡◌};
+ghost use Rattle.std.specs.Prelude.{◌≡◌, ◌==◌, if◌then◌else◌};
 ghost use Rattle.std.specs.List.{list_all};
 ghost use Rattle.ber_frame.specs.Checked.{is_one_value};
 ghost use Rattle.gtpp_message.specs.Packet.{IsPacket};
-ghost use Rattle.gtpp_message.specs.Reading as of;
 ghost use Rattle.gtpp_message.specs.Values.{message_value, packet_value, transfer_value};
-ghost use Rattle.gtpp_message.specs.Writing.{IsSendableMessage, IsSendableTransfer};
+ghost use Rattle.gtpp_message.specs.Writing.{IsSendableMessage, IsSendableTransfer, kind_of};
 ghost use Rattle.cgf_top.specs.PreparedValues.{prepared_value};
-ghost use Rattle.cgf_top.specs.Preparing.{IsWhole, has_values, is_stray, prepared_from, prepared_of, refused, requested, sends_values};
+ghost use Rattle.cgf_top.specs.Preparing.{IsWhole, has_values, is_stray, prepared_of, received, refused, requested, sends_values};
+ghost use Rattle.cgf_top.specs.Preparing as value;
 
 use gtpp_message::{Message, Packet, Reading, Records, Transfer, Why, kind, read};
 use transfer_cmd::cause;
@@ -66,7 +66,7 @@ pub fn prepare(octets: &[u8]) -> Prepared<'_>
 
 /// A message of this type and of another version.
 fn other_version<'a>(kind: u8, number: u16) -> Prepared<'a>
-    ensures prepared { prepared_value result ≡ prepared_from (of.OtherVersion kind number) }
+    ensures prepared { prepared_value result ≡ (if kind == 3 then value.Drop Why.Stray else value.OtherVersion number) }
     ensures whole { IsWhole (prepared_value result) }
 {
     if kind == kind::VERSION_NOT_SUPPORTED {
@@ -78,7 +78,7 @@ fn other_version<'a>(kind: u8, number: u16) -> Prepared<'a>
 
 /// A message of this type with a body that isn't one of the type, for which this cause stands.
 fn refused<'a>(kind: u8, cause: u8, number: u16) -> Prepared<'a>
-    ensures prepared { prepared_value result ≡ prepared_from (of.Refused kind cause number) }
+    ensures prepared { prepared_value result ≡ (if is_stray kind then value.Drop Why.Stray else refused kind cause number) }
     ensures whole { IsWhole (prepared_value result) }
 {
     if is_stray(kind) {
@@ -107,7 +107,9 @@ fn is_stray(kind: u8) -> bool
 /// A message that was read.
 fn received(number: u16, message: Message<'_>) -> Prepared<'_>
     requires { IsSendableMessage (message_value message) }
-    ensures prepared { prepared_value result ≡ prepared_from (of.Message number (message_value message.entry)) }
+    ensures prepared { prepared_value result ≡
+        (if is_stray (kind_of (message_value message.entry)) then value.Drop Why.Stray
+        else received number (message_value message.entry)) }
     ensures whole { IsWhole (prepared_value result) }
 {
     match message {
