@@ -8,7 +8,7 @@ use std::fmt;
 pub enum PushFault {
     /// The batch has more octets free than these, 1,048,576 in all, only after a commit.
     BatchFull { free: u64 },
-    /// There was no memory to keep the entry's place.
+    /// There was no memory for the place or the key of the entry.
     NoMemory,
 }
 
