@@ -1,10 +1,10 @@
-ghost use Rattle.std.specs.Prelude.{◌≡◌, ◌==◌, ◌<◌, ◌^◌, ◌++◌, [], true, map, filter, IfOk, OnOk, IfSome};
-ghost use Rattle.std.specs.List.{list_any};
+ghost use Rattle.std.specs.Prelude.{◌≡◌, ◌<◌, ◌^◌, true, map, filter, IfOk, IfSome};
 ghost use Rattle.gtpp_message.specs.Values.{packet_value, transfer_value};
 ghost use Rattle.gw_base.specs.History.{top_of};
 ghost use Rattle.transfer_cmd.specs.Lists.{is_held};
-ghost use Rattle.cgf_top.specs.Answer.{act_of, answer_of, changing, held_once, is_in_range, judged, listed, named_numbers, once_behind, sending, sending_again, sent, state_in, with_number};
+ghost use Rattle.cgf_top.specs.Answer.{act_of, answer_of, changing, held_once, is_in_range, judged, listed, named_numbers, sending, sending_again, sent, state_in};
 
+use crate::gateway_book::numbers::once;
 use gtpp_elements::Numbers;
 use gtpp_message::{Packet, Transfer};
 use gw_base::{
@@ -233,31 +233,4 @@ fn held_numbers(
         }
     }
     Ok(held)
-}
-
-/// Each number once, in the order in which they come first.
-fn once(alloc: Global, numbers: &[Absolute]) -> Result<Vec<Absolute>, NoMemory>
-    ensures { IfOk result (λ once. once.items ≡ once_behind [] numbers.now) }
-{
-    let mut once = Vec::new(alloc);
-    for number in numbers {
-        add_once(&mut once, *number)?;
-    }
-    Ok(once)
-}
-
-/// Adds a number, if it isn't there yet.
-fn add_once(numbers: &mut Vec<Absolute>, number: Absolute) -> Result<(), NoMemory>
-    ensures { OnOk result (numbers.new.items ≡ with_number numbers.old.items number) }
-{
-    if !lists(numbers, number) {
-        numbers.push(number)?;
-    }
-    Ok(())
-}
-
-fn lists(numbers: &[Absolute], number: Absolute) -> bool
-    ensures { result ≡ list_any (λ y. y == number) numbers.now }
-{
-    numbers.iter().any(|y| *y == number)
 }
