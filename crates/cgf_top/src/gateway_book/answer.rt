@@ -1,6 +1,6 @@
 ghost use Rattle.std.specs.Prelude.{◌≡◌, ◌<◌, ◌^◌, true, map, filter, IfOk, IfSome};
 ghost use Rattle.gtpp_message.specs.Values.{packet_value, transfer_value};
-ghost use Rattle.gw_base.specs.History.{top_of};
+ghost use Rattle.gw_base.specs.History.{epoch_of, top_of};
 ghost use Rattle.transfer_cmd.specs.Lists.{is_held};
 ghost use Rattle.cgf_top.specs.Answer.{act_of, answer_of, changing, held_once, is_in_range, judged, listed, named_numbers, sending, sending_again, sent, state_in};
 
@@ -41,25 +41,29 @@ pub fn answer_to(
     ensures { IfOk result (λ answer. answer ≡ answer_of history.now node number (transfer_value body.now)) }
 {
     let number = nearest_number(scan::top(history, node), number);
+    let epoch = scan::epoch(history, node);
     match body {
         Transfer::Send(packet) => {
-            let (ask, state) = (sending(*packet), state_in(history, node, number));
+            let (ask, state) = (sending(*packet), state_in(history, node, epoch, number));
             sent(alloc, ask, state, node, number, packet.octets())
         }
         Transfer::Possible(packet) => {
-            let (ask, state) = (sending_again(*packet), state_in(history, node, number));
+            let (ask, state) = (
+                sending_again(*packet),
+                state_in(history, node, epoch, number),
+            );
             sent(alloc, ask, state, node, number, packet.octets())
         }
-        Transfer::Cancel(numbers) => listed(alloc, false, history, node, numbers),
-        Transfer::Release(numbers) => listed(alloc, true, history, node, numbers),
+        Transfer::Cancel(numbers) => listed(alloc, false, history, node, epoch, numbers),
+        Transfer::Release(numbers) => listed(alloc, true, history, node, epoch, numbers),
     }
 }
 
 /// The state of a number in the node's present epoch.
-fn state_in(history: &[HistoryEntry], node: NodeId, number: Absolute) -> KeyState
+fn state_in(history: &[HistoryEntry], node: NodeId, epoch: u64, number: Absolute) -> KeyState
+    requires { epoch ≡ epoch_of node.0 history.now }
     ensures { result ≡ state_in history.now node number }
 {
-    let epoch = scan::epoch(history, node);
     scan::state(
         history,
         PacketKey {
@@ -145,13 +149,15 @@ fn listed(
     release: bool,
     history: &[HistoryEntry],
     node: NodeId,
+    epoch: u64,
     numbers: &Numbers<'_>,
 ) -> Result<Answer, NoMemory>
-    requires { IfSome (top_of node.0 history.now) (λ t. t < 2 ^ 63) }
+    requires bounded { IfSome (top_of node.0 history.now) (λ t. t < 2 ^ 63) }
+    requires present { epoch ≡ epoch_of node.0 history.now }
     ensures { IfOk result (λ answer. answer ≡ listed release history.now node (named_numbers history.now node numbers.now)) }
 {
     let numbers = named_numbers(alloc, history, node, numbers)?;
-    let states = states_in(alloc, history, node, &numbers)?;
+    let states = states_in(alloc, history, node, epoch, &numbers)?;
     match judge(&states, release) {
         Verdict::Wrong => Ok(Answer {
             cause: cause::NUMBERS_INCORRECT,
@@ -162,7 +168,8 @@ fn listed(
             act: None,
         }),
         Verdict::Change => {
-            let held = once(alloc, &held_numbers(alloc, history, node, &numbers)?)?;
+            let held = held_numbers(alloc, history, node, epoch, &numbers)?;
+            let held = once(alloc, &held)?;
             Ok(Answer {
                 cause: cause::ACCEPTED,
                 act: Some(changing(release, node, held)),
@@ -206,13 +213,15 @@ fn states_in(
     alloc: Global,
     history: &[HistoryEntry],
     node: NodeId,
+    epoch: u64,
     numbers: &[Absolute],
 ) -> Result<Vec<KeyState>, NoMemory>
+    requires { epoch ≡ epoch_of node.0 history.now }
     ensures { IfOk result (λ states. states.items ≡ map (state_in history.now node) numbers.now) }
 {
     let mut states = Vec::new(alloc);
     for number in numbers {
-        states.push(state_in(history, node, *number))?;
+        states.push(state_in(history, node, epoch, *number))?;
     }
     Ok(states)
 }
@@ -222,13 +231,15 @@ fn held_numbers(
     alloc: Global,
     history: &[HistoryEntry],
     node: NodeId,
+    epoch: u64,
     numbers: &[Absolute],
 ) -> Result<Vec<Absolute>, NoMemory>
+    requires { epoch ≡ epoch_of node.0 history.now }
     ensures { IfOk result (λ held. held.items ≡ filter (λ x. is_held (state_in history.now node x)) numbers.now) }
 {
     let mut held = Vec::new(alloc);
     for number in numbers {
-        if matches!(state_in(history, node, *number), KeyState::Held) {
+        if matches!(state_in(history, node, epoch, *number), KeyState::Held) {
             held.push(*number)?;
         }
     }
