@@ -1,7 +1,6 @@
 -- What a gateway answers to a request, by its history, and the entry that the request calls for (3GPP TS 32.295,
 -- clauses 5.1.3 and 6.2.4.5).
-use Rattle.std.specs.Prelude.{ℕ, ◌^◌, Bool, true, false, ◌&&◌, ◌==◌, nat_le, nat_lt, if◌then◌else◌, List, [], ◌∷◌, ◌++◌, map, filter, Option, Some, None, is_none}
-use Rattle.std.specs.List.{list_any}
+use Rattle.std.specs.Prelude.{ℕ, ◌^◌, Bool, true, false, ◌&&◌, nat_le, nat_lt, if◌then◌else◌, List, [], map, filter, Option, Some, None, is_none}
 use Rattle.gtpp_message.specs.Message.{TransferValue, Send, Possible, Cancel, Release}
 use Rattle.gtpp_message.specs.Packet.{PacketValue, Empty, Full, packet_octets}
 use Rattle.gw_base.specs.History.{epoch_of, state_of, top_of}
@@ -17,6 +16,7 @@ use Rattle.transfer_cmd.specs.declared.decision.Ask.{Ask}
 use Rattle.transfer_cmd.specs.declared.decision.Ask.TheVariants as ask
 use Rattle.transfer_cmd.specs.declared.verdict.Verdict.{Verdict}
 use Rattle.transfer_cmd.specs.declared.verdict.Verdict.TheVariants.{Wrong, Before, Change}
+use Rattle.cgf_top.specs.Numbers.{once_behind}
 use Rattle.cgf_top.specs.declared.gateway_book.answer.Answer.{Answer}
 
 -- the state of a number in the node's present epoch
@@ -60,15 +60,6 @@ sent asked state node number packet =
 -- the request numbers that a list names
 abbrev pub named_numbers : List HistoryEntry → NodeId → List ℕ → List ℕ
 named_numbers h node numbers = map (nearest (top_of node.0 h)) numbers
-
--- the numbers with one more, if it isn't among them
-abbrev pub with_number : List ℕ → ℕ → List ℕ
-with_number numbers x = if list_any (λ y. y == x) numbers then numbers else numbers ++ x ∷ []
-
--- each number once, in the order in which they come first, behind those that came before
-abbrev pub once_behind : List ℕ → List ℕ → List ℕ
-once_behind before [] = before
-once_behind before (x ∷ xs) = once_behind (with_number before x) xs
 
 -- the held ones of these numbers, each once
 abbrev pub held_once : List HistoryEntry → NodeId → List ℕ → List ℕ

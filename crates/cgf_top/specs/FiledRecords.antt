@@ -3,11 +3,13 @@ use Rattle.std.specs.Prelude.{ℕ, ◌+◌, ◌&&◌, ◌==◌, if◌then◌else
 use Rattle.std.specs.List.{flat_map}
 use Rattle.gtpp_message.specs.Packet.{PacketForm, packet_of}
 use Rattle.gw_base.specs.History.{begins_epoch, epoch_of, names, state_of}
+use Rattle.gw_base.specs.declared.address.NodeId.{NodeId}
 use Rattle.gw_base.specs.declared.history.HistoryAct.{HistoryAct}
 use Rattle.gw_base.specs.declared.history.HistoryAct.TheVariants.{File, Hold, Release}
 use Rattle.gw_base.specs.declared.history.HistoryEntry.{HistoryEntry}
 use Rattle.gw_base.specs.declared.history.PacketKey.{PacketKey}
 use Rattle.transfer_cmd.specs.Lists.{is_held}
+use Rattle.cgf_top.specs.Numbers.{once_behind}
 use Rattle.cgf_top.specs.declared.gateway_book.filed.FiledRecord.{FiledRecord}
 
 -- the records of a packet of this format and version, from the one with this index on
@@ -54,10 +56,15 @@ held_packet key h = (hold_from key (record { epoch = 0; packet = [] }) h).packet
 abbrev pub released_records : PacketKey → ℕ → List HistoryEntry → List FiledRecord
 released_records key moment before = if is_held (state_of key before) then records_of key moment (held_packet key before) else []
 
--- the records that an entry files, by the entries before it
+-- the records that the release of these numbers of a node files, number after number
+abbrev pub released_by : List HistoryEntry → ℕ → NodeId → List ℕ → List FiledRecord
+released_by before moment n numbers =
+    flat_map (λ x. released_records (record { node = n; epoch = epoch_of n.0 before; number = x }) moment before) numbers
+
+-- the records that an entry files, by the entries before it: a release that names a number twice files its records once
 abbrev pub filed_by : List HistoryEntry → ℕ → HistoryAct → List FiledRecord
 filed_by before moment (File n x packet) = records_of (record { node = n; epoch = epoch_of n.0 before; number = x }) moment packet
-filed_by before moment (Release n xs) = flat_map (λ x. released_records (record { node = n; epoch = epoch_of n.0 before; number = x }) moment before) xs
+filed_by before moment (Release n xs) = released_by before moment n (once_behind [] xs)
 filed_by before moment _ = []
 
 -- the records that the rest of a history files, by the entries before it

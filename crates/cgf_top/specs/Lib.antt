@@ -3,6 +3,7 @@ pub mod FeedReport
 pub mod FeedScript
 pub mod FileWriter
 pub mod FiledRecords
+pub mod Numbers
 pub mod PreparedValues
 pub mod Preparing
 pub mod Run

@@ -1,10 +1,10 @@
-ghost use Rattle.std.specs.Prelude.{◌≡◌, ◌==◌, ◌<◌, ◌^◌, ◌++◌, [], true, map, filter, IfOk, OnOk, IfSome};
-ghost use Rattle.std.specs.List.{list_any};
+ghost use Rattle.std.specs.Prelude.{◌≡◌, ◌<◌, ◌^◌, true, map, filter, IfOk, IfSome};
 ghost use Rattle.gtpp_message.specs.Values.{packet_value, transfer_value};
-ghost use Rattle.gw_base.specs.History.{top_of};
+ghost use Rattle.gw_base.specs.History.{epoch_of, top_of};
 ghost use Rattle.transfer_cmd.specs.Lists.{is_held};
-ghost use Rattle.cgf_top.specs.Answer.{act_of, answer_of, changing, held_once, is_in_range, judged, listed, named_numbers, once_behind, sending, sending_again, sent, state_in, with_number};
+ghost use Rattle.cgf_top.specs.Answer.{act_of, answer_of, changing, held_once, is_in_range, judged, listed, named_numbers, sending, sending_again, sent, state_in};
 
+use crate::gateway_book::numbers::once;
 use gtpp_elements::Numbers;
 use gtpp_message::{Packet, Transfer};
 use gw_base::{
@@ -41,25 +41,29 @@ pub fn answer_to(
     ensures { IfOk result (λ answer. answer ≡ answer_of history.now node number (transfer_value body.now)) }
 {
     let number = nearest_number(scan::top(history, node), number);
+    let epoch = scan::epoch(history, node);
     match body {
         Transfer::Send(packet) => {
-            let (ask, state) = (sending(*packet), state_in(history, node, number));
+            let (ask, state) = (sending(*packet), state_in(history, node, epoch, number));
             sent(alloc, ask, state, node, number, packet.octets())
         }
         Transfer::Possible(packet) => {
-            let (ask, state) = (sending_again(*packet), state_in(history, node, number));
+            let (ask, state) = (
+                sending_again(*packet),
+                state_in(history, node, epoch, number),
+            );
             sent(alloc, ask, state, node, number, packet.octets())
         }
-        Transfer::Cancel(numbers) => listed(alloc, false, history, node, numbers),
-        Transfer::Release(numbers) => listed(alloc, true, history, node, numbers),
+        Transfer::Cancel(numbers) => listed(alloc, false, history, node, epoch, numbers),
+        Transfer::Release(numbers) => listed(alloc, true, history, node, epoch, numbers),
     }
 }
 
 /// The state of a number in the node's present epoch.
-fn state_in(history: &[HistoryEntry], node: NodeId, number: Absolute) -> KeyState
+fn state_in(history: &[HistoryEntry], node: NodeId, epoch: u64, number: Absolute) -> KeyState
+    requires { epoch ≡ epoch_of node.0 history.now }
     ensures { result ≡ state_in history.now node number }
 {
-    let epoch = scan::epoch(history, node);
     scan::state(
         history,
         PacketKey {
@@ -145,13 +149,15 @@ fn listed(
     release: bool,
     history: &[HistoryEntry],
     node: NodeId,
+    epoch: u64,
     numbers: &Numbers<'_>,
 ) -> Result<Answer, NoMemory>
-    requires { IfSome (top_of node.0 history.now) (λ t. t < 2 ^ 63) }
+    requires bounded { IfSome (top_of node.0 history.now) (λ t. t < 2 ^ 63) }
+    requires present { epoch ≡ epoch_of node.0 history.now }
     ensures { IfOk result (λ answer. answer ≡ listed release history.now node (named_numbers history.now node numbers.now)) }
 {
     let numbers = named_numbers(alloc, history, node, numbers)?;
-    let states = states_in(alloc, history, node, &numbers)?;
+    let states = states_in(alloc, history, node, epoch, &numbers)?;
     match judge(&states, release) {
         Verdict::Wrong => Ok(Answer {
             cause: cause::NUMBERS_INCORRECT,
@@ -162,7 +168,8 @@ fn listed(
             act: None,
         }),
         Verdict::Change => {
-            let held = once(alloc, &held_numbers(alloc, history, node, &numbers)?)?;
+            let held = held_numbers(alloc, history, node, epoch, &numbers)?;
+            let held = once(alloc, &held)?;
             Ok(Answer {
                 cause: cause::ACCEPTED,
                 act: Some(changing(release, node, held)),
@@ -206,13 +213,15 @@ fn states_in(
     alloc: Global,
     history: &[HistoryEntry],
     node: NodeId,
+    epoch: u64,
     numbers: &[Absolute],
 ) -> Result<Vec<KeyState>, NoMemory>
+    requires { epoch ≡ epoch_of node.0 history.now }
     ensures { IfOk result (λ states. states.items ≡ map (state_in history.now node) numbers.now) }
 {
     let mut states = Vec::new(alloc);
     for number in numbers {
-        states.push(state_in(history, node, *number))?;
+        states.push(state_in(history, node, epoch, *number))?;
     }
     Ok(states)
 }
@@ -222,42 +231,17 @@ fn held_numbers(
     alloc: Global,
     history: &[HistoryEntry],
     node: NodeId,
+    epoch: u64,
     numbers: &[Absolute],
 ) -> Result<Vec<Absolute>, NoMemory>
+    requires { epoch ≡ epoch_of node.0 history.now }
     ensures { IfOk result (λ held. held.items ≡ filter (λ x. is_held (state_in history.now node x)) numbers.now) }
 {
     let mut held = Vec::new(alloc);
     for number in numbers {
-        if matches!(state_in(history, node, *number), KeyState::Held) {
+        if matches!(state_in(history, node, epoch, *number), KeyState::Held) {
             held.push(*number)?;
         }
     }
     Ok(held)
-}
-
-/// Each number once, in the order in which they come first.
-fn once(alloc: Global, numbers: &[Absolute]) -> Result<Vec<Absolute>, NoMemory>
-    ensures { IfOk result (λ once. once.items ≡ once_behind [] numbers.now) }
-{
-    let mut once = Vec::new(alloc);
-    for number in numbers {
-        add_once(&mut once, *number)?;
-    }
-    Ok(once)
-}
-
-/// Adds a number, if it isn't there yet.
-fn add_once(numbers: &mut Vec<Absolute>, number: Absolute) -> Result<(), NoMemory>
-    ensures { OnOk result (numbers.new.items ≡ with_number numbers.old.items number) }
-{
-    if !lists(numbers, number) {
-        numbers.push(number)?;
-    }
-    Ok(())
-}
-
-fn lists(numbers: &[Absolute], number: Absolute) -> bool
-    ensures { result ≡ list_any (λ y. y == number) numbers.now }
-{
-    numbers.iter().any(|y| *y == number)
 }

@@ -1,10 +1,10 @@
 ghost use Rattle.std.specs.Prelude.{◌≡◌, ◌++◌, Some, IfOk, OnOk, if◌then◌else◌};
 ghost use Rattle.gw_base.specs.History.{epoch_of};
-ghost use Rattle.gw_base.specs.declared.history.HistoryAct.TheVariants as act;
 ghost use Rattle.gtpp_message.specs.Packet.{IsPacket, packet_octets};
 ghost use Rattle.gtpp_message.specs.Values.{packet_value};
-ghost use Rattle.cgf_top.specs.FiledRecords.{filed_by, filed_records, held_packet, packet_behind, records_of, released_records};
+ghost use Rattle.cgf_top.specs.FiledRecords.{filed_by, filed_records, held_packet, packet_behind, records_of, released_by, released_records};
 
+use crate::gateway_book::numbers::once;
 use crate::gateway_book::record_octets::RecordOctets;
 use gtpp_message::Packet;
 use gw_base::{
@@ -60,7 +60,8 @@ fn file_entry(
             append_packet(alloc, filed, key, entry.moment, packet.octets())
         }
         HistoryAct::Release { node, numbers } => {
-            release(alloc, filed, before, entry.moment, *node, numbers.numbers())
+            let numbers = once(alloc, numbers.numbers())?;
+            release(alloc, filed, before, entry.moment, *node, &numbers)
         }
         _ => Ok(()),
     }
@@ -78,7 +79,7 @@ fn present_key(history: &[HistoryEntry], node: NodeId, number: Absolute) -> Pack
     }
 }
 
-/// Appends the records of the held packets that a release names.
+/// Appends the records of the held packets of these numbers, which are released.
 fn release(
     alloc: Global,
     filed: &mut Vec<FiledRecord>,
@@ -87,7 +88,7 @@ fn release(
     node: NodeId,
     numbers: &[Absolute],
 ) -> Result<(), NoMemory>
-    ensures { OnOk result (filed.new.items ≡ filed.old.items ++ filed_by before.now moment (act.Release node numbers.now)) }
+    ensures { OnOk result (filed.new.items ≡ filed.old.items ++ released_by before.now moment node numbers.now) }
 {
     for number in numbers {
         let key = present_key(before, node, *number);

@@ -2,6 +2,7 @@
 
 mod answer;
 mod filed;
+mod numbers;
 mod preparing;
 mod record_octets;
 

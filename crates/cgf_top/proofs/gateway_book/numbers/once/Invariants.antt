@@ -1,6 +1,6 @@
 use Rattle.std.proofs.Common.{◌≡◌, [], drop}
-use Rattle.cgf_top.specs.Answer.{once_behind}
-use Rattle.cgf_top.proofs.gateway_book.answer.once.Given as goal
+use Rattle.cgf_top.specs.Numbers.{once_behind}
+use Rattle.cgf_top.proofs.gateway_book.numbers.once.Given as goal
 
 -- the numbers that are left go on behind those so far
 abbrev pub invariant-loop-number : goal.invariant-loop-number
