@@ -1,7 +1,13 @@
--- Which gateways are alive: none to begin with, and each from its Node Alive Response on.
-use Rattle.std.proofs.Common.{◌≡◌, ℕ, zero, suc, ◌<◌, Bool, true, false, List, [], ◌∷◌, length, get_or, set, IsTrue, refl, arith}
+-- Which gateways are alive: those that told so, among the messages that were heard.
+use Rattle.std.proofs.Common.{◌≡◌, ℕ, zero, suc, ◌<◌, Bool, true, false, ◌==◌, ◌||◌, inl, inr, List, [], ◌∷◌, ◌++◌, length, get_or, set, refl, ap, sym, ◌∙◌, arith}
+use Rattle.std.proofs.lemmas.Bool.{false≢true, eq-eqb}
+use Rattle.std.proofs.lemmas.Bool.Decides.{eqb_tells}
+use Rattle.std.proofs.lemmas.Grind.{get_or-set_at}
+use Rattle.std.proofs.lemmas.List.{get_or-set_other, length-set}
+use Rattle.std.proofs.lemmas.List.Folds.{list_any-append}
 use Rattle.std.specs.Prelude.{replicate}
-use Rattle.path_mgmt.specs.NodePath.{PathsOfNode, is_alive, node_after, node_after_all}
+use Rattle.std.specs.List.{list_any}
+use Rattle.path_mgmt.specs.NodePath.{PathsOfNode, is_alive, node_after, node_after_all, node_anew, tells_alive}
 use Rattle.path_mgmt.specs.declared.event.PathEvent.{PathEvent}
 use Rattle.path_mgmt.specs.declared.event.PathEvent.TheVariants.{EchoAsked, EchoTold, AliveAsked, AliveTold}
 
@@ -11,33 +17,60 @@ none_set zero place = refl
 none_set (suc count) zero = refl
 none_set (suc count) (suc place) = none_set count place
 
--- a flag that is set is true
-is_set : (flags : List Bool) (place : ℕ) → place < length flags → IsTrue (get_or (set flags place true) place false)
-is_set [] place below = absurd (omega (arith, below))
-is_set (flag ∷ flags) zero below = search
-is_set (flag ∷ flags) (suc place) below = is_set flags place (omega (arith, below))
+-- behind a write of true at a place, a flag is true where it stands there or was true before
+after_set : (flags : List Bool) (place other : ℕ) → other < length flags →
+    get_or (set flags place true) other false ≡ ((other == place) || get_or flags other false)
+after_set flags place other below =
+    elim (eqb_tells other place) [
+      | inl is ↦
+          get_or-set_at flags place other true false is.1 (omega (arith, is.1, below))
+          ∙ sym (ap (λ b. b || get_or flags other false) is.0)
+      | inr isnt ↦
+          get_or-set_other flags place other true false isnt.1
+          ∙ sym (ap (λ b. b || get_or flags other false) isnt.0)
+    ]
 
--- a flag that is true stays so where another, or the same, is set
-stays_set : (flags : List Bool) (place other : ℕ) → IsTrue (get_or flags other false) →
-    IsTrue (get_or (set flags place true) other false)
-stays_set [] place other is_true = is_true
-stays_set (flag ∷ flags) zero zero is_true = search
-stays_set (flag ∷ flags) zero (suc other) is_true = is_true
-stays_set (flag ∷ flags) (suc place) zero is_true = is_true
-stays_set (flag ∷ flags) (suc place) (suc other) is_true = stays_set flags place other is_true
+-- the first of three tests may stand second
+second_first : (a b c : Bool) → ((b || a) || c) ≡ (a || (b || c))
+second_first true true c = refl
+second_first true false c = refl
+second_first false true c = refl
+second_first false false c = refl
 
--- a gateway that is alive stays so, whatever is heard
-stays_alive : (node : PathsOfNode) (gateway : ℕ) (heard : List (ℕ × PathEvent)) → IsTrue (is_alive node gateway) →
-    IsTrue (is_alive (node_after_all node heard) gateway)
-stays_alive node gateway [] alive = alive
-stays_alive node gateway ((from, EchoAsked number) ∷ heard) alive = stays_alive node gateway heard alive
-stays_alive node gateway ((from, EchoTold number counter) ∷ heard) alive = stays_alive node gateway heard alive
-stays_alive node gateway ((from, AliveAsked number) ∷ heard) alive = stays_alive node gateway heard alive
-stays_alive node gateway ((from, AliveTold number) ∷ heard) alive =
-    stays_alive (node_after node from (AliveTold number)) gateway heard (stays_set node.alive from gateway alive)
+-- one test that passes is enough
+one_passes : (a b c : Bool) → b ≡ true → (a || (b || c)) ≡ true
+one_passes true b c passes = refl
+one_passes false true c passes = refl
+one_passes false false c passes = absurd (false≢true passes)
 
--- a gateway is alive from its Node Alive Response on, whatever is heard after it
-pub alive_from_then_on : (node : PathsOfNode) (gateway number : ℕ) (heard : List (ℕ × PathEvent)) → gateway < length node.alive →
-    IsTrue (is_alive (node_after_all (node_after node gateway (AliveTold number)) heard) gateway)
-alive_from_then_on node gateway number heard below =
-    stays_alive (node_after node gateway (AliveTold number)) gateway heard (is_set node.alive gateway below)
+-- a test with none beside it
+alone : (a : Bool) → a ≡ (a || false)
+alone true = refl
+alone false = refl
+
+-- a gateway is alive where it was so before, or where it told so
+alive_behind : (node : PathsOfNode) (gateway : ℕ) (heard : List (ℕ × PathEvent)) → gateway < length node.alive →
+    is_alive (node_after_all node heard) gateway ≡ (is_alive node gateway || list_any (tells_alive gateway) heard)
+alive_behind node gateway [] below = alone (is_alive node gateway)
+alive_behind node gateway ((from, EchoAsked number) ∷ heard) below = alive_behind node gateway heard below
+alive_behind node gateway ((from, EchoTold number counter) ∷ heard) below = alive_behind node gateway heard below
+alive_behind node gateway ((from, AliveAsked number) ∷ heard) below = alive_behind node gateway heard below
+alive_behind node gateway ((from, AliveTold number) ∷ heard) below =
+    alive_behind (node_after node from (AliveTold number)) gateway heard (omega (arith, length-set node.alive from true, below))
+    ∙ ap (λ b. b || list_any (tells_alive gateway) heard) (after_set node.alive from gateway below)
+    ∙ second_first (is_alive node gateway) (gateway == from) (list_any (tells_alive gateway) heard)
+
+-- to a node that began with none, a gateway is alive exactly where it told so
+pub alive_exactly : (counter gateway : ℕ) (heard : List (ℕ × PathEvent)) → gateway < 256 →
+    is_alive (node_after_all (node_anew counter) heard) gateway ≡ list_any (tells_alive gateway) heard
+alive_exactly counter gateway heard below =
+    alive_behind (node_anew counter) gateway heard below
+    ∙ ap (λ b. b || list_any (tells_alive gateway) heard) (none_set 256 gateway)
+
+-- from its Node Alive Response on a gateway stays alive
+pub stays_alive : (counter gateway number : ℕ) (before after : List (ℕ × PathEvent)) → gateway < 256 →
+    is_alive (node_after_all (node_anew counter) (before ++ (gateway, AliveTold number) ∷ after)) gateway ≡ true
+stays_alive counter gateway number before after below =
+    alive_exactly counter gateway (before ++ (gateway, AliveTold number) ∷ after) below
+    ∙ list_any-append (tells_alive gateway) before ((gateway, AliveTold number) ∷ after)
+    ∙ one_passes (list_any (tells_alive gateway) before) (gateway == gateway) (list_any (tells_alive gateway) after) (eq-eqb gateway gateway refl)

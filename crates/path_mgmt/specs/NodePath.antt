@@ -1,5 +1,5 @@
 -- The node's end of its paths (3GPP TS 32.295, clause 6.2).
-use Rattle.std.specs.Prelude.{ℕ, Bool, true, false, ◌==◌, ◌&&◌, List, [], ◌∷◌, None, replicate, slice_index_or, slice_set}
+use Rattle.std.specs.Prelude.{ℕ, Bool, true, false, ◌==◌, List, [], ◌∷◌, None, replicate, slice_index_or, slice_set}
 use Rattle.path_mgmt.specs.declared.event.PathAnswer.{PathAnswer}
 use Rattle.path_mgmt.specs.declared.event.PathEvent.{PathEvent}
 use Rattle.path_mgmt.specs.declared.event.PathEvent.TheVariants.{EchoAsked, EchoTold, AliveAsked, AliveTold}
@@ -37,13 +37,9 @@ abbrev pub node_after_all : PathsOfNode → List (ℕ × PathEvent) → PathsOfN
 node_after_all node [] = node
 node_after_all node ((gateway, event) ∷ heard) = node_after_all (node_after node gateway event) heard
 
--- whether this is a Node Alive Response
-abbrev pub is_alive_told : PathEvent → Bool
-is_alive_told (AliveTold number) = true
-is_alive_told (EchoAsked number) = false
-is_alive_told (EchoTold number told) = false
-is_alive_told (AliveAsked number) = false
-
--- whether this message from a gateway tells that another, or the same, is alive
-abbrev pub tells_alive : ℕ → ℕ → PathEvent → Bool
-tells_alive other gateway event = (other == gateway) && is_alive_told event
+-- whether this message, with the gateway that it comes from, tells that the given gateway is alive
+abbrev pub tells_alive : ℕ → ℕ × PathEvent → Bool
+tells_alive gateway (from, AliveTold number) = gateway == from
+tells_alive gateway (from, EchoAsked number) = false
+tells_alive gateway (from, EchoTold number told) = false
+tells_alive gateway (from, AliveAsked number) = false

@@ -1,15 +1,22 @@
 //! Laws of the definitions that [`GatewayPath::hear`](crate::GatewayPath::hear) and
 //! [`NodePath::hear`](crate::NodePath::hear) cite. Each stands on a function that does nothing.
 
-ghost use Rattle.std.specs.Prelude.{◌≡◌, ℕ, ◌<◌, Option, Some, None, List, length, IsTrue};
+ghost use Rattle.std.specs.Prelude.{◌≡◌, ℕ, ◌<◌, Option, Some, List, ◌∷◌, ◌++◌, IsTrue};
+ghost use Rattle.std.specs.List.{list_any};
 ghost use Rattle.path_mgmt.specs.GatewayPath.{heard_at_gateway};
-ghost use Rattle.path_mgmt.specs.NodePath.{PathsOfNode, is_alive, node_after, node_after_all};
+ghost use Rattle.path_mgmt.specs.NodePath.{is_alive, node_after_all, node_anew, tells_alive};
 ghost use Rattle.path_mgmt.specs.declared.event.PathEvent.{PathEvent};
 
-/// A gateway that has told that it is alive stays so, whatever is heard from whom after it.
+/// A gateway is alive to a node exactly where one of the messages that the node heard tells it.
+pub fn a_gateway_is_alive_where_it_told_so()
+    ensures { (counter gateway : ℕ) (heard : List (ℕ × PathEvent)) → gateway < 256 →
+        is_alive (node_after_all (node_anew counter) heard) gateway ≡ list_any (tells_alive gateway) heard }
+{}
+
+/// From its Node Alive Response on a gateway stays alive, whatever was heard and is heard.
 pub fn a_gateway_stays_alive()
-    ensures { (node : PathsOfNode) (gateway number : ℕ) (heard : List (ℕ × PathEvent)) → gateway < length node.alive →
-        IsTrue (is_alive (node_after_all (node_after node gateway (PathEvent.AliveTold number)) heard) gateway) }
+    ensures { (counter gateway number : ℕ) (before after : List (ℕ × PathEvent)) → gateway < 256 →
+        IsTrue (is_alive (node_after_all (node_anew counter) (before ++ (gateway, PathEvent.AliveTold number) ∷ after)) gateway) }
 {}
 
 /// Two Echo Responses with one counter open one epoch at most: the second, to which that counter

@@ -1,4 +1,4 @@
-ghost use Rattle.std.specs.Prelude.{◌≡◌, ℕ, ◌<◌, ◌||◌, false};
+ghost use Rattle.std.specs.Prelude.{◌≡◌, ℕ, ◌||◌, false};
 ghost use Rattle.path_mgmt.specs.NodePath.{heard_at_node, is_alive, node_after, node_anew, tells_alive};
 
 use crate::event::{PathAnswer, PathEvent};
@@ -37,7 +37,7 @@ impl NodePath {
     pub fn hear(&mut self, gateway: u8, event: PathEvent) -> PathAnswer
         ensures answer { result ≡ heard_at_node self.old.counter event }
         ensures node { self.new ≡ node_after self.old gateway event }
-        ensures alive { (other : ℕ) → is_alive self.new other ≡ (tells_alive other gateway event || is_alive self.old other) }
+        ensures alive { (other : ℕ) → is_alive self.new other ≡ (tells_alive other (gateway, event) || is_alive self.old other) }
     {
         match event {
             PathEvent::EchoAsked { number } => PathAnswer::replying(PathEvent::EchoTold {
@@ -60,6 +60,7 @@ impl NodePath {
     pub fn is_alive(&self, gateway: u8) -> bool
         ensures { result ≡ is_alive self.now gateway }
     {
-        self.alive[usize::from(gateway)]
+        let place = usize::from(gateway);
+        self.alive[place]
     }
 }

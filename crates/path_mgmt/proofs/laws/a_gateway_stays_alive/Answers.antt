@@ -1,5 +1,5 @@
-use Rattle.path_mgmt.proofs.Alive.{alive_from_then_on}
+use Rattle.path_mgmt.proofs.Alive.{stays_alive}
 use Rattle.path_mgmt.proofs.laws.a_gateway_stays_alive.Goals as goal
 
 pub returns : goal.returns
-returns c = alive_from_then_on
+returns c = stays_alive
