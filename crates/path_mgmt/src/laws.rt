@@ -16,7 +16,8 @@ pub fn a_gateway_is_alive_where_it_told_so()
 /// From its Node Alive Response on a gateway stays alive, whatever was heard and is heard.
 pub fn a_gateway_stays_alive()
     ensures { (counter gateway number : ℕ) (before after : List (ℕ × PathEvent)) → gateway < 256 →
-        IsTrue (is_alive (node_after_all (node_anew counter) (before ++ (gateway, PathEvent.AliveTold number) ∷ after)) gateway) }
+        let heard = before ++ (gateway, PathEvent.AliveTold number) ∷ after in
+        IsTrue (is_alive (node_after_all (node_anew counter) heard) gateway) }
 {}
 
 /// Two Echo Responses with one counter open one epoch at most: the second, to which that counter

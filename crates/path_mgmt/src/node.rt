@@ -37,7 +37,8 @@ impl NodePath {
     pub fn hear(&mut self, gateway: u8, event: PathEvent) -> PathAnswer
         ensures answer { result ≡ heard_at_node self.old.counter event }
         ensures node { self.new ≡ node_after self.old gateway event }
-        ensures alive { (other : ℕ) → is_alive self.new other ≡ (tells_alive other (gateway, event) || is_alive self.old other) }
+        ensures alive { (other : ℕ) →
+            is_alive self.new other ≡ (tells_alive other (gateway, event) || is_alive self.old other) }
     {
         match event {
             PathEvent::EchoAsked { number } => PathAnswer::replying(PathEvent::EchoTold {
