@@ -1,0 +1,60 @@
+ghost use Rattle.std.specs.Prelude.{◌≡◌, None};
+ghost use Rattle.file_rotate.specs.Cutting.{cut_of, mark_cuts, mark_file, record_cuts, record_file};
+ghost use Rattle.file_rotate.specs.Items.{AreLimits};
+
+use crate::cut::Cut;
+use crate::limits::Limits;
+use crate::open_file::{OpenFile, kind_change, limit_reached, mark_reason, still, with_record};
+use gw_base::{CdrKind, Moment};
+use std::marker::Model;
+
+/// Cuts the records of one stream into files: it is told each item of the stream in order, and
+/// answers where files are closed. No call takes memory.
+#[derive(Debug, Drop)]
+pub struct Cutter {
+    limits: Limits,
+    file: Option<OpenFile>,
+}
+
+impl Model for Cutter {
+    ghost use Rattle.file_rotate.specs.Cutting.{Cutting, IsSound};
+
+    ghost Value = { Cutting };
+
+    ghost view = { λ cutter. record { limits = cutter.limits; file = cutter.file } };
+
+    ghost invariant = { λ cutter. IsSound cutter.limits cutter.file };
+}
+
+impl Cutter {
+    /// A cutter with no open file.
+    pub fn new(limits: Limits) -> Cutter
+        requires { AreLimits limits }
+        ensures { result ≡ record { limits = limits; file = None } }
+    {
+        Cutter { limits, file: None }
+    }
+
+    /// The next item is a record of that many octets, filed at a moment.
+    pub fn put(&mut self, kind: CdrKind, length: u16, moment: Moment) -> Cut
+        ensures cut { result ≡ cut_of (record_cuts self.old.limits self.old.file kind length moment) }
+        ensures kept { self.new ≡ record self.old { file = record_file self.old.limits self.old.file kind length moment } }
+    {
+        let before = kind_change(&self.file, kind);
+        let going_on = still(before, self.file.take());
+        let file = with_record(self.limits, going_on, kind, length, moment);
+        let after = limit_reached(self.limits, &file);
+        self.file = still(after, Some(file));
+        Cut::of(before, after)
+    }
+
+    /// The next item is a Close if `closes`, else a Tick.
+    pub fn mark(&mut self, closes: bool, moment: Moment) -> Cut
+        ensures cut { result ≡ cut_of (mark_cuts self.old.limits self.old.file closes moment) }
+        ensures kept { self.new ≡ record self.old { file = mark_file self.old.limits self.old.file closes moment } }
+    {
+        let before = mark_reason(&self.file, self.limits, closes, moment);
+        self.file = still(before, self.file.take());
+        Cut::of(before, None)
+    }
+}

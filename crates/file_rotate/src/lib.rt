@@ -1,0 +1,18 @@
+//! When the CDR file of one stream of records is closed, and why (3GPP TS 32.297, clause 6.1.1).
+//!
+//! The records of a stream are cut into files one after the other: `division_of` of
+//! `specs/Division.antt` says which file has which records.
+#![tactic(auto)]
+
+mod cut;
+mod cutter;
+mod laws;
+mod limits;
+mod open_file;
+#[cfg(test)]
+mod tests;
+
+pub use cut::Cut;
+pub use cutter::Cutter;
+pub use laws::{cutter_divides, cutter_keeps_the_run, division_closes_where_files_end};
+pub use limits::Limits;
