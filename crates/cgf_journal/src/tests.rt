@@ -36,11 +36,10 @@ fn failing(alloc: Global, call: u64) -> Result<Plan, AllocError> {
     })
 }
 
-fn moment() -> Result<Moment, Fail> {
-    Ok(Moment::of(1_709_164_800).ok_or("a moment")?)
-}
-
-fn entry(moment: Moment, act: Act<'_>) -> Entry<'_> {
+fn entry<'a>(rt: &impl Abort, act: Act<'a>) -> Entry<'a> {
+    let Some(moment) = Moment::of(1_709_164_800) else {
+        panic!(rt; "no moment")
+    };
     Entry {
         moment,
         caller: Caller {
@@ -51,26 +50,32 @@ fn entry(moment: Moment, act: Act<'_>) -> Entry<'_> {
     }
 }
 
-fn opened(rt: &impl Abort, alloc: Global, area: MemoryArea) -> Result<Trail<MemoryArea>, Fail> {
-    assert!(rt; area.length() >= 100);
-    assert!(rt; area.length() <= 1000);
-    match Trail::open(alloc, area, ADDRESS) {
-        Ok(trail) => Ok(trail),
-        Err((fault, _)) => Err(fault)?,
+fn area_of(rt: &impl Abort, alloc: Global, size: u64, plan: Plan) -> MemoryArea {
+    assert!(rt; size <= 1000);
+    match MemoryArea::new(alloc, size, plan) {
+        Ok(area) => area,
+        Err(_) => panic!(rt; "no memory for an area"),
     }
 }
 
-fn fresh(rt: &impl Abort, alloc: Global, size: u64) -> Result<Trail<MemoryArea>, Fail> {
-    assert!(rt; size <= 1000);
-    opened(rt, alloc, MemoryArea::new(alloc, size, plan(alloc, None))?)
+fn opened(rt: &impl Abort, alloc: Global, area: MemoryArea) -> Trail<MemoryArea> {
+    assert!(rt; area.length() >= 100);
+    assert!(rt; area.length() <= 1000);
+    match Trail::open(alloc, area, ADDRESS) {
+        Ok(trail) => trail,
+        Err(_) => panic!(rt; "not opened"),
+    }
 }
 
-fn push(rt: &impl Abort, trail: &mut Trail<MemoryArea>, act: Act<'_>) -> Result<(), Fail> {
-    let entry = entry(moment()?, act);
+fn fresh(rt: &impl Abort, alloc: Global, size: u64) -> Trail<MemoryArea> {
+    opened(rt, alloc, area_of(rt, alloc, size, plan(alloc, None)))
+}
+
+fn push(rt: &impl Abort, trail: &mut Trail<MemoryArea>, act: Act<'_>) {
+    let entry = entry(rt, act);
     assert!(rt; !trail.is_closed());
     assert!(rt; trail.room(&entry));
-    trail.push(&entry)?;
-    Ok(())
+    assert_eq!(rt; trail.push(&entry), Ok(()));
 }
 
 fn commit(rt: &impl Abort, trail: &mut Trail<MemoryArea>) -> Result<u64, Device> {
@@ -127,21 +132,18 @@ fn act_of(kind: u64) -> Act<'static> {
 }
 
 #[test]
-fn a_held_packet_keeps_room_for_its_release_and_a_close(rt: HostRuntime) -> Result<(), Fail> {
-    let mut trail = fresh(&rt, rt.alloc(), 234)?;
+fn a_held_packet_keeps_room_for_its_release_and_a_close(rt: HostRuntime) {
+    let mut trail = fresh(&rt, rt.alloc(), 234);
     assert_eq!(&rt; trail.free(), 201);
-    push(&rt, &mut trail, Act::Start)?;
-    assert_eq!(&rt; trail.free(), 171);
-    push(&rt, &mut trail, hold())?;
-    assert_eq!(&rt; trail.free(), 42);
-    push(&rt, &mut trail, seal())?;
+    for (act, free) in [(Act::Start, 171), (hold(), 42), (seal(), 0)] {
+        push(&rt, &mut trail, act);
+        assert_eq!(&rt; trail.free(), free);
+    }
+    assert!(&rt; !trail.room(&entry(&rt, seal())));
+    push(&rt, &mut trail, release());
+    push(&rt, &mut trail, Act::Close);
+    assert_eq!(&rt; commit(&rt, &mut trail), Ok(5));
     assert_eq!(&rt; trail.free(), 0);
-    assert!(&rt; !trail.room(&entry(moment()?, seal())));
-    push(&rt, &mut trail, release())?;
-    push(&rt, &mut trail, Act::Close)?;
-    assert_eq!(&rt; commit(&rt, &mut trail)?, 5);
-    assert_eq!(&rt; trail.free(), 0);
-    Ok(())
 }
 
 // The entries of a trail are one of each kind.
@@ -160,7 +162,7 @@ fn holds_each_kind(
         assert!(rt; octets.len() < 128);
         assert_eq!(rt;
             read(&octets, &mut numbers),
-            Ok((entry(moment()?, act_of(kind)), octets.len()))
+            Ok((entry(rt, act_of(kind)), octets.len()))
         );
     }
     Ok(())
@@ -169,100 +171,99 @@ fn holds_each_kind(
 #[test]
 fn each_kind_of_entry_is_read_back(rt: HostRuntime) -> Result<(), Fail> {
     let alloc = rt.alloc();
-    let mut trail = fresh(&rt, alloc, 1000)?;
+    let mut trail = fresh(&rt, alloc, 1000);
     for kind in 0..KINDS {
-        push(&rt, &mut trail, act_of(kind))?;
+        push(&rt, &mut trail, act_of(kind));
         if kind == 3 {
-            assert_eq!(&rt; commit(&rt, &mut trail)?, 4);
-            assert_eq!(&rt; commit(&rt, &mut trail)?, 4);
+            assert_eq!(&rt; commit(&rt, &mut trail), Ok(4));
+            assert_eq!(&rt; commit(&rt, &mut trail), Ok(4));
         }
     }
     assert_eq!(&rt; trail.firm(), 4);
-    assert_eq!(&rt; commit(&rt, &mut trail)?, KINDS);
+    assert_eq!(&rt; commit(&rt, &mut trail), Ok(KINDS));
     holds_each_kind(&rt, alloc, &mut trail)?;
-    let mut again = opened(&rt, alloc, trail.into_area())?;
+    let mut again = opened(&rt, alloc, trail.into_area());
     holds_each_kind(&rt, alloc, &mut again)
 }
 
 #[test]
-fn a_batch_that_is_no_entry_is_not_ours(rt: HostRuntime) -> Result<(), Fail> {
+fn a_batch_that_is_no_entry_is_not_ours(rt: HostRuntime) {
     let alloc = rt.alloc();
-    let area = MemoryArea::new(alloc, 100, plan(alloc, None))?;
-    let mut journal = match Journal::open(alloc, area, ADDRESS, 0) {
-        Ok(journal) => journal,
-        Err((fault, _)) => return Err(fault)?,
+    let area = area_of(&rt, alloc, 100, plan(alloc, None));
+    assert_eq!(&rt; area.length(), 100);
+    let Ok(mut journal) = Journal::open(alloc, area, ADDRESS, 0) else {
+        panic!(&rt; "not opened")
     };
     assert!(&rt; !journal.is_closed());
-    journal.append(&[0xAA, 0xBB])?;
+    assert_eq!(&rt; journal.append(&[0xAA, 0xBB]), Ok(()));
     let area = journal.into_area();
     assert_eq!(&rt; area.length(), 100);
     let Err((fault, _)) = Trail::open(alloc, area, ADDRESS) else {
         panic!(&rt; "opened")
     };
     assert_eq!(&rt; fault, OpenFault::NotOurs { at: 32 });
-    Ok(())
 }
 
 // How many entries are found after an opening under this plan.
-fn length_after_open(rt: &impl Abort, alloc: Global, plan: Plan) -> Result<u64, Fail> {
-    let area = MemoryArea::new(alloc, 200, plan)?;
+fn length_after_open(rt: &impl Abort, alloc: Global, plan: Plan) -> u64 {
+    let area = area_of(rt, alloc, 200, plan);
+    assert_eq!(rt; area.length(), 200);
     match Trail::open(alloc, area, ADDRESS) {
         Ok(_) => panic!(rt; "opened"),
         Err((fault, mut area)) => {
             assert_eq!(rt; fault, OpenFault::Device);
             area.revive();
-            Ok(opened(rt, alloc, area)?.length())
+            opened(rt, alloc, area).length()
         }
     }
 }
 
 // A closed trail, whose commit of one entry failed by this plan.
-fn torn(rt: &impl Abort, alloc: Global, plan: Plan) -> Result<Trail<MemoryArea>, Fail> {
-    let mut trail = fresh(rt, alloc, 200)?;
-    push(rt, &mut trail, Act::Start)?;
+fn torn(rt: &impl Abort, alloc: Global, plan: Plan) -> Trail<MemoryArea> {
+    let mut trail = fresh(rt, alloc, 200);
+    push(rt, &mut trail, Act::Start);
     assert_eq!(rt; trail.length(), 1);
     trail.arm(plan);
     assert_eq!(rt; commit(rt, &mut trail), Err(Device));
     assert!(rt; trail.is_closed());
     assert_eq!(rt; trail.length(), 0);
-    Ok(trail)
+    trail
 }
 
 // How many entries are found after a commit under this plan.
-fn length_after_commit(rt: &impl Abort, alloc: Global, plan: Plan) -> Result<u64, Fail> {
-    let mut area = torn(rt, alloc, plan)?.into_area();
+fn length_after_commit(rt: &impl Abort, alloc: Global, plan: Plan) -> u64 {
+    let mut area = torn(rt, alloc, plan).into_area();
     area.revive();
-    Ok(opened(rt, alloc, area)?.length())
+    opened(rt, alloc, area).length()
 }
 
 #[test]
-fn a_stop_leaves_all_entries_of_a_commit_or_none(rt: HostRuntime) -> Result<(), Fail> {
+fn a_stop_leaves_all_entries_of_a_commit_or_none(rt: HostRuntime) {
     let alloc = rt.alloc();
     for call in 1..6 {
         for outcome in [Outcome3::Old, Outcome3::New, Outcome3::Rot] {
             let stop = Some(Stop { call, outcome });
-            assert_eq!(&rt; length_after_open(&rt, alloc, plan(alloc, stop))?, 0);
+            assert_eq!(&rt; length_after_open(&rt, alloc, plan(alloc, stop)), 0);
             if call < 5 {
                 let stands = call >= 3 && outcome == Outcome3::New;
                 assert_eq!(&rt;
-                    length_after_commit(&rt, alloc, plan(alloc, stop))?,
+                    length_after_commit(&rt, alloc, plan(alloc, stop)),
                     u64::from(stands)
                 );
             }
         }
     }
-    Ok(())
 }
 
 #[test]
 fn a_failed_commit_stands_by_its_gate(rt: HostRuntime) -> Result<(), Fail> {
     let alloc = rt.alloc();
     for call in 1..5 {
-        let mut trail = torn(&rt, alloc, failing(alloc, call)?)?;
+        let mut trail = torn(&rt, alloc, failing(alloc, call)?);
         assert_eq!(&rt; trail.calls(), call);
         assert!(&rt; !trail.stopped());
         assert!(&rt; trail.is_closed());
-        assert_eq!(&rt; trail.reopen()?, call == 4);
+        assert_eq!(&rt; trail.reopen(), Ok(call == 4));
         assert_eq!(&rt; trail.length(), u64::from(call == 4));
         assert_eq!(&rt; trail.firm(), trail.length());
     }
