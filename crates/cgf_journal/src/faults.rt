@@ -6,7 +6,7 @@ use std::fmt;
 /// Why an entry wasn't pushed. Nothing changed.
 #[derive(Clone, Copy, Debug, PartialEq, Eq)]
 pub enum PushFault {
-    /// The batch has more octets free than these, 1,048,576 in all, only after a commit.
+    /// The entry has more octets than these, which are free of the 1,048,576 of a batch. All are free after a commit.
     BatchFull { free: u64 },
     /// There was no memory for the place or the key of the entry.
     NoMemory,
