@@ -151,20 +151,14 @@ pub trait Area: Send + Drop {
     ghost same_size: { (a : Self) (c : List ℕ) → IsTrue tells_crash → may_leave a c → length c ≡ size a };
 
     /// So it did at each moment since one that is told.
-    ghost same_size_since: {
-        (a : Self) (t : ℕ) (c : List ℕ) → IsTrue tells_crash → told_from a ≤ t → t ≤ moment a → left_since a t c →
-            length c ≡ size a
-    };
+    ghost same_size_since: { (a : Self) (t : ℕ) (c : List ℕ) → IsTrue tells_crash → told_from a ≤ t → t ≤ moment a → left_since a t c →
+        length c ≡ size a };
 
     /// This moment is one of those since an earlier one.
-    ghost counts_now: {
-        (a : Self) (t : ℕ) (c : List ℕ) → told_from a ≤ t → t ≤ moment a → may_leave a c → left_since a t c
-    };
+    ghost counts_now: { (a : Self) (t : ℕ) (c : List ℕ) → told_from a ≤ t → t ≤ moment a → may_leave a c → left_since a t c };
 
     /// Since this moment there is no other.
-    ghost only_now: {
-        (a : Self) (c : List ℕ) → told_from a ≤ moment a → left_since a (moment a) c → may_leave a c
-    };
+    ghost only_now: { (a : Self) (c : List ℕ) → told_from a ≤ moment a → left_since a (moment a) c → may_leave a c };
 
     /// What a stop would leave is what a crash may leave.
     ghost may_stop: { (a : Self) (o : Outcome3) → IsTrue tells_fate → may_leave a ((fate a).leaves o) };
