@@ -114,7 +114,7 @@ abbrev promised_after : List HistoryEntry → HistoryAct → ℕ
 promised_after h act = 76 * length (filter (λ (key : HeldKey). stays_held act key) (held_keys h) ++ held_by act []) + (if due_after (is_close_due h) act then 30 else 0)
 
 promises_are : (h : List HistoryEntry) (e : HistoryEntry) → promised_octets (h ++ e ∷ []) ≡ promised_after h e.act
-promises_are h e = λ i. 76 * length (held_behind h e i) + (if due_after h e i then 30 else 0)
+promises_are h e = λ i. 76 * length (held_behind h e i) + (if due_goes_on h e i then 30 else 0)
 
 pub same_room : RoomIsOfTheAct
 same_room h a b size same =
