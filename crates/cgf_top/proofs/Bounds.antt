@@ -11,7 +11,7 @@ use Rattle.std.proofs.lemmas.Bool.{ltb-true}
 use Rattle.gw_base.specs.Nearest.{nearest}
 use Rattle.gw_base.specs.declared.key_state.KeyState.{KeyState}
 use Rattle.transfer_cmd.specs.Lists.{verdict_of}
-use Rattle.transfer_cmd.specs.Table.{cause_of, state_given}
+use Rattle.transfer_cmd.specs.Table.{answer_cause, state_given}
 use Rattle.transfer_cmd.specs.declared.decision.Ask.{Ask}
 use Rattle.transfer_cmd.specs.declared.decision.Ask.TheVariants as ask
 use Rattle.transfer_cmd.specs.declared.verdict.Verdict.{Verdict}
@@ -84,7 +84,7 @@ small_called false cause asked node number packet e = tt
 small_sent : (b : Bool) (asked : Ask) (state : KeyState) (node : NodeId) (number : ℕ) (packet : List ℕ) → is_none (state_given asked state) ≡ b →
     IsSmallAct (sent asked state node number packet).act
 small_sent true asked state node number packet e = rw e tt
-small_sent false asked state node number packet e = rw e (small_called (is_in_range number) (cause_of asked state) asked node number packet refl)
+small_sent false asked state node number packet e = rw e (small_called (is_in_range number) (answer_cause asked state) asked node number packet refl)
 
 small_judged : (v : Verdict) (release : Bool) (node : NodeId) (held : List ℕ) → IsSmallAct (judged v release node held).act
 small_judged verdict.Wrong release node held = tt

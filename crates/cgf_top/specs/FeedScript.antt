@@ -3,7 +3,7 @@ use Rattle.std.specs.Prelude.{ℕ, ◌≡◌, ◌+◌, ◌≤◌, Bool, true, fa
 use Rattle.std.specs.List.{flat_map}
 use Rattle.std.specs.Str.{bytes_eq}
 use Rattle.gtpp_message.specs.Message.{TransferValue, Send, Possible, Cancel, Release}
-use Rattle.gtpp_message.specs.Packet.{PacketValue, Empty, Full, records_of}
+use Rattle.gtpp_message.specs.Packet.{PacketValue, Empty, Full, packet_records}
 use Rattle.gw_base.specs.CdrKind.{kind_of}
 use Rattle.gw_base.specs.declared.kind.CdrKind.{CdrKind}
 use Rattle.gw_base.specs.declared.address.Addr.{Addr}
@@ -77,7 +77,7 @@ abbrev pub behind_records : Progress → List (List ℕ) → Option Progress
 behind_records p records = with_records p (p.records + length records) (p.octets + cdr_sizes records)
 
 abbrev pub behind_packet : Progress → PacketValue → Option Progress
-behind_packet p packet = if is_built_packet packet then behind_records p (records_of packet) else None
+behind_packet p packet = if is_built_packet packet then behind_records p (packet_records packet) else None
 
 -- behind a request
 abbrev pub behind_request : Progress → TransferValue → Option Progress

@@ -3,6 +3,7 @@
 #![tactic(auto)]
 
 mod element;
+pub mod element_types;
 mod elements;
 mod fault;
 pub mod laws;

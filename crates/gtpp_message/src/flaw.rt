@@ -1,5 +1,5 @@
 ghost use Rattle.std.specs.Prelude.{◌≡◌};
-ghost use Rattle.gtpp_message.specs.Reading.{cause_of};
+ghost use Rattle.gtpp_message.specs.Reading.{flaw_cause};
 
 use case_table::cases;
 
@@ -17,7 +17,7 @@ pub enum Flaw {
 impl Flaw {
     /// The cause that answers it (3GPP TS 32.295, clause 6.2.4.6).
     pub fn cause(self) -> u8
-        ensures { result ≡ cause_of self }
+        ensures { result ≡ flaw_cause self }
     {
         // The flaws are those of `Flaw`, in its order.
         let causes = cases![0 => 193, 0; 1 => 202, 0; 2 => 201, 0];

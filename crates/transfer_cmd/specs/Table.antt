@@ -8,25 +8,25 @@ use Rattle.transfer_cmd.specs.declared.decision.Ask.TheVariants.{Send, Possible,
 
 -- the cause that is answered: 128 accepted, 252 duplicated packets already fulfilled, 253 already fulfilled, 255 not
 -- fulfilled
-abbrev pub cause_of : Ask → KeyState → ℕ
-cause_of Send Fresh = 128
-cause_of Send Filed = 253
-cause_of Send Sealed = 255
-cause_of Send Held = 252
-cause_of Send Released = 252
-cause_of Send Cancelled = 252
-cause_of Possible Fresh = 128
-cause_of Possible Filed = 253
-cause_of Possible Sealed = 255
-cause_of Possible Held = 252
-cause_of Possible Released = 252
-cause_of Possible Cancelled = 252
-cause_of Empty Fresh = 128
-cause_of Empty Filed = 253
-cause_of Empty Sealed = 128
-cause_of Empty Held = 252
-cause_of Empty Released = 252
-cause_of Empty Cancelled = 252
+abbrev pub answer_cause : Ask → KeyState → ℕ
+answer_cause Send Fresh = 128
+answer_cause Send Filed = 253
+answer_cause Send Sealed = 255
+answer_cause Send Held = 252
+answer_cause Send Released = 252
+answer_cause Send Cancelled = 252
+answer_cause Possible Fresh = 128
+answer_cause Possible Filed = 253
+answer_cause Possible Sealed = 255
+answer_cause Possible Held = 252
+answer_cause Possible Released = 252
+answer_cause Possible Cancelled = 252
+answer_cause Empty Fresh = 128
+answer_cause Empty Filed = 253
+answer_cause Empty Sealed = 128
+answer_cause Empty Held = 252
+answer_cause Empty Released = 252
+answer_cause Empty Cancelled = 252
 
 -- the state that the number gets, where the request calls for an entry
 abbrev pub state_given : Ask → KeyState → Option KeyState

@@ -4,6 +4,7 @@
 
 pub mod cause;
 mod decision;
+pub mod laws;
 #[cfg(test)]
 mod tests;
 mod verdict;
