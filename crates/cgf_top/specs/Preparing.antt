@@ -3,6 +3,7 @@
 use Rattle.std.specs.Prelude.{ℕ, Bool, true, ◌==◌, if◌then◌else◌, List}
 use Rattle.std.specs.List.{list_all}
 use Rattle.ber_frame.specs.Checked.{is_one_value}
+use Rattle.gw_base.specs.declared.cause.TheConstants.{CDR_DECODING_ERROR}
 use Rattle.gtpp_message.specs.Message.{MessageValue, TransferValue, TransferRequest, Send, Possible, Cancel, Release}
 use Rattle.gtpp_message.specs.Packet.{PacketValue, Empty, Full, packet_records}
 use Rattle.gtpp_message.specs.Reading.{ReadingValue}
@@ -33,9 +34,9 @@ sends_values (Possible packet) = has_values packet
 sends_values (Cancel numbers) = true
 sends_values (Release numbers) = true
 
--- a request that was read: cause 177 says that a record of it can't be decoded
+-- a request that was read, whose records may be such that they can't be decoded
 abbrev pub requested : ℕ → TransferValue → PreparedValue
-requested number body = if sends_values body then Request number body else Refused 177 number
+requested number body = if sends_values body then Request number body else Refused CDR_DECODING_ERROR number
 
 -- a message that was read
 abbrev pub received : ℕ → MessageValue → PreparedValue

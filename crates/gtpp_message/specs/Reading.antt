@@ -9,6 +9,7 @@ use Rattle.gtpp_elements.specs.Numbers.{numbers_in}
 use Rattle.gtpp_elements.specs.Reading.{elements_in}
 use Rattle.gtpp_elements.specs.declared.element_types.TheConstants.{CAUSE, COMMAND, NODE_ADDRESS, RECOMMENDED, RECOVERY, RESPONDED}
 use Rattle.gtpp_elements.specs.declared.fault.ElementFault.{ElementFault}
+use Rattle.gw_base.specs.declared.cause.TheConstants.{ELEMENT_INCORRECT, ELEMENT_MISSING, INVALID_MESSAGE_FORMAT}
 use Rattle.gtpp_message.specs.Message.{MessageValue, TransferValue, EchoRequest, EchoResponse, VersionNotSupported, NodeAliveRequest, NodeAliveResponse, RedirectionRequest, RedirectionResponse, TransferRequest, TransferResponse, Send, Possible, Cancel, Release, command_needs, is_message_type}
 use Rattle.gtpp_message.specs.Packet.{PacketValue, packet_reading}
 use Rattle.gtpp_message.specs.declared.command.TheConstants.{CANCEL, RELEASE, SEND, SEND_POSSIBLE}
@@ -31,11 +32,11 @@ abbrev pub ◌>>=◌ : {A B : Type 0} → Result A Flaw → (A → Result B Flaw
 (Ok x) >>= f = f x
 (Err flaw) >>= f = Err flaw
 
--- the cause that answers a flaw: invalid message format, mandatory element missing, mandatory element incorrect
+-- the cause that answers a flaw
 abbrev pub flaw_cause : Flaw → ℕ
-flaw_cause Elements = 193
-flaw_cause Missing = 202
-flaw_cause Incorrect = 201
+flaw_cause Elements = INVALID_MESSAGE_FORMAT
+flaw_cause Missing = ELEMENT_MISSING
+flaw_cause Incorrect = ELEMENT_INCORRECT
 
 -- the value of an element that must stand there
 abbrev pub present : Option (List ℕ) → Result (List ℕ) Flaw

@@ -7,9 +7,8 @@ ghost use Rattle.gtpp_message.specs.Writing.{body_octets, written};
 use crate::draft::Draft;
 use crate::message::Message;
 use crate::parts::{Parts, sent_parts};
-use gtpp_elements::Full;
 use gtpp_header::{HEADER_OCTETS, Header};
-use gw_base::{Buffer, Short};
+use gw_base::{Buffer, Full, Short};
 
 /// Appends a message in the one spelling in which it is sent. Where there isn't room for all of
 /// it, the buffer stays as it was.

@@ -2,10 +2,10 @@ ghost use Rattle.std.specs.Prelude.{◌≡◌, ◌<◌, All};
 ghost use Rattle.transfer_cmd.specs.Rows.{place_of_state, rows_for, state_marked};
 ghost use Rattle.transfer_cmd.specs.Table.{answer_cause, state_given};
 
-use crate::cause::{ACCEPTED, ALREADY_FULFILLED, DUPLICATE_ALREADY_FULFILLED, NOT_FULFILLED};
 use case_table::{Cases, cases};
 use gw_base::KeyState;
 use gw_base::KeyState::{Cancelled, Filed, Fresh, Held, Released, Sealed};
+use gw_base::cause::{ACCEPTED, ALREADY_FULFILLED, DUPLICATE_ALREADY_FULFILLED, NOT_FULFILLED};
 
 /// What a request asks of the number that it bears.
 #[derive(Clone, Copy, Debug, PartialEq, Eq)]

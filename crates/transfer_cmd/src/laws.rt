@@ -7,7 +7,7 @@ ghost use Rattle.transfer_cmd.specs.Table.{answer_cause, state_given};
 ghost use Rattle.transfer_cmd.specs.declared.decision.Ask.{Ask};
 ghost use Rattle.transfer_cmd.specs.declared.verdict.Verdict.{Verdict};
 
-use crate::cause::ACCEPTED;
+use gw_base::cause::ACCEPTED;
 
 /// An answer that calls for an entry is Request accepted; of a list it is so just where it does.
 pub fn an_entry_is_accepted()

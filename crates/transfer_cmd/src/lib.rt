@@ -2,7 +2,6 @@
 //! the state of the number that it names.
 #![tactic(auto)]
 
-pub mod cause;
 mod decision;
 pub mod laws;
 #[cfg(test)]

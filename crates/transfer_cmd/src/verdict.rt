@@ -2,8 +2,8 @@ ghost use Rattle.std.specs.Prelude.{◌≡◌};
 ghost use Rattle.std.specs.List.{list_any};
 ghost use Rattle.transfer_cmd.specs.Lists.{is_held, is_wrong, verdict_cause, verdict_of};
 
-use crate::cause::{ACCEPTED, DUPLICATE_ALREADY_FULFILLED, NUMBERS_INCORRECT};
 use gw_base::KeyState;
+use gw_base::cause::{ACCEPTED, DUPLICATE_ALREADY_FULFILLED, NUMBERS_INCORRECT};
 
 /// What a request to release or to cancel the packets of a list of numbers comes to.
 #[derive(Clone, Copy, Debug, PartialEq, Eq)]

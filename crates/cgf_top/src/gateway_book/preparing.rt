@@ -8,7 +8,7 @@ ghost use Rattle.cgf_top.specs.PreparedValues.{prepared_value};
 ghost use Rattle.cgf_top.specs.Preparing.{IsWhole, has_values, prepared_of, received, requested, sends_values};
 
 use gtpp_message::{Message, Packet, Reading, Records, Role, Transfer, Why, read_as};
-use transfer_cmd::cause;
+use gw_base::cause::CDR_DECODING_ERROR;
 
 /// What a gateway makes of a datagram before it looks at its history.
 #[derive(Debug, Drop)]
@@ -79,7 +79,7 @@ fn requested(number: u16, body: Transfer<'_>) -> Prepared<'_>
         Prepared::Request { number, body }
     } else {
         Prepared::Refused {
-            cause: cause::CDR_DECODING_ERROR,
+            cause: CDR_DECODING_ERROR,
             number,
         }
     }
