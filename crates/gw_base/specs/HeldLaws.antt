@@ -1,5 +1,5 @@
--- What one more entry after a history changes.
-use Rattle.std.proofs.Common.{◌≡◌, ℕ, ◌+◌, ◌-◌, ◌&&◌, Bool, true, false, not, if◌then◌else◌, List, [], ◌∷◌, ◌++◌, length, length-append, Option, Some, None, refl, sym, ap, ◌∙◌, append_assoc, arith, slice_get, filter, count_by}
+-- What one more entry at the end changes of the copies that a gateway holds.
+use Rattle.std.proofs.Common.{◌≡◌, ℕ, ◌+◌, ◌&&◌, Bool, true, false, not, if◌then◌else◌, List, [], ◌∷◌, ◌++◌, refl, sym, ap, ◌∙◌, append_assoc, arith, filter, count_by}
 use Rattle.std.proofs.lemmas.List.{append-nil}
 use Rattle.std.proofs.lemmas.List.Elements.{filter-append}
 use Rattle.std.proofs.lemmas.List.Sums.{sum_by-append}
@@ -8,65 +8,12 @@ use Rattle.gw_base.specs.declared.held.HeldKey.{HeldKey}
 use Rattle.gw_base.specs.declared.history.HistoryAct.{HistoryAct}
 use Rattle.gw_base.specs.declared.history.HistoryAct.TheVariants.{Start, Path, File, Hold, Seal, Release, Cancel, Tick, Close}
 use Rattle.gw_base.specs.declared.history.HistoryEntry.{HistoryEntry}
-use Rattle.gw_base.specs.declared.history.PacketKey.{PacketKey}
 use Rattle.gw_base.specs.declared.scan.Copies.{Copies}
 use Rattle.gw_base.specs.declared.scan.HoldFate.{HoldFate}
 use Rattle.gw_base.specs.declared.scan.HoldFate.TheVariants as fate
-use Rattle.gw_base.specs.declared.scan.KeyScan.{KeyScan}
 use Rattle.gw_base.specs.HeldKeys.{held_by, held_if, held_keys}
-use Rattle.gw_base.specs.History.{begins_epoch, copies_of, due_after, due_from, epoch_of, fate_of, last_moment, names, scan_after, scan_from, top_after, top_from, with_entry, with_fate}
-use Rattle.gw_base.specs.Known.{known_from, named_node, with_node}
-use Rattle.gw_base.specs.Starts.{is_start, opening_after, opening_from, start_count}
-use Rattle.gw_base.specs.TickDue.{tick_after, tick_from}
-use Rattle.gw_base.specs.View.{node_view_after, node_view_of, stays_held, strands, view_after, view_of}
-
--- ---- scans from the front
-
-pub scan_from-append : (key : PacketKey) (s : KeyScan) (h : List HistoryEntry) (e : HistoryEntry) → scan_from key s (h ++ e ∷ []) ≡ scan_after key (scan_from key s h) e.act
-scan_from-append key s [] e = refl
-scan_from-append key s (d ∷ h) e = scan_from-append key (scan_after key s d.act) h e
-
-known_from-append : (known : List NodeId) (h : List HistoryEntry) (e : HistoryEntry) → known_from known (h ++ e ∷ []) ≡ with_node (known_from known h) (named_node e.act)
-known_from-append known [] e = refl
-known_from-append known (d ∷ h) e = known_from-append (with_node known (named_node d.act)) h e
-
-due_from-append : (due : Bool) (h : List HistoryEntry) (e : HistoryEntry) → due_from due (h ++ e ∷ []) ≡ due_after (due_from due h) e.act
-due_from-append due [] e = refl
-due_from-append due (d ∷ h) e = due_from-append (due_after due d.act) h e
-
-tick_from-append : (last : Option ℕ) (h : List HistoryEntry) (e : HistoryEntry) → tick_from last (h ++ e ∷ []) ≡ tick_after (tick_from last h) e.act e.moment
-tick_from-append last [] e = refl
-tick_from-append last (d ∷ h) e = tick_from-append (tick_after last d.act d.moment) h e
-
-opening_from-append : (node : ℕ) (opening : Option ℕ) (h : List HistoryEntry) (e : HistoryEntry) → opening_from node opening (h ++ e ∷ []) ≡ opening_after node (opening_from node opening h) e.act
-opening_from-append node opening [] e = refl
-opening_from-append node opening (d ∷ h) e = opening_from-append node (opening_after node opening d.act) h e
-
-top_from-append : (node : ℕ) (top : Option ℕ) (h : List HistoryEntry) (e : HistoryEntry) → top_from node top (h ++ e ∷ []) ≡ top_after node (top_from node top h) e.act
-top_from-append node top [] e = refl
-top_from-append node top (d ∷ h) e = top_from-append node (top_after node top d.act) h e
-
--- ---- counts
-
-epoch_of-append : (node : ℕ) (h : List HistoryEntry) (e : HistoryEntry) → epoch_of node (h ++ e ∷ []) ≡ epoch_of node h + (if begins_epoch node e.act then 1 else 0)
-epoch_of-append node [] e = omega arith
-epoch_of-append node (d ∷ h) e = omega (arith, epoch_of-append node h e)
-
-start_count-append : (h : List HistoryEntry) (e : HistoryEntry) → start_count (h ++ e ∷ []) ≡ start_count h + (if is_start e.act then 1 else 0)
-start_count-append h e = sum_by-append (λ (d : HistoryEntry). if is_start d.act then 1 else 0) h (e ∷ []) ∙ omega arith
-
--- ---- the last moment
-
-get_last : (h : List HistoryEntry) (e : HistoryEntry) → slice_get (h ++ e ∷ []) (length h) ≡ Some e
-get_last [] e = refl
-get_last (d ∷ h) e = get_last h e
-
-last_moment-append : (h : List HistoryEntry) (e : HistoryEntry) → last_moment (h ++ e ∷ []) ≡ e.moment
-last_moment-append h e =
-    let at : length (h ++ e ∷ []) - 1 ≡ length h = omega (arith, length-append h (e ∷ [])) in
-    rw (at, get_last h e) refl
-
--- ---- held copies
+use Rattle.gw_base.specs.History.{begins_epoch, copies_of, fate_of, names, with_entry, with_fate}
+use Rattle.gw_base.specs.View.{stays_held, strands}
 
 -- what became of a held number after one more entry
 abbrev fate_after : HoldFate → Bool → Bool → HoldFate
@@ -108,7 +55,7 @@ held_by-append (Cancel n xs) h e = refl
 held_by-append Tick h e = refl
 held_by-append Close h e = refl
 
-held_keys-append : (h : List HistoryEntry) (e : HistoryEntry) → held_keys (h ++ e ∷ []) ≡ filter (λ (key : HeldKey). stays_held e.act key) (held_keys h) ++ held_by e.act []
+pub held_keys-append : (h : List HistoryEntry) (e : HistoryEntry) → held_keys (h ++ e ∷ []) ≡ filter (λ (key : HeldKey). stays_held e.act key) (held_keys h) ++ held_by e.act []
 held_keys-append [] e = append-nil (held_by e.act [])
 held_keys-append (d ∷ h) e =
     rw (held_by-append d.act h e, held_keys-append h e, filter-append (λ (key : HeldKey). stays_held e.act key) (held_by d.act h) (held_keys h), append_assoc) refl
@@ -154,26 +101,6 @@ stranded_by_entry (Cancel n xs) h e old new keys r = r
 stranded_by_entry Tick h e old new keys r = r
 stranded_by_entry Close h e old new keys r = r
 
-stranded-append : (h : List HistoryEntry) (e : HistoryEntry) → (copies_of (h ++ e ∷ [])).stranded ≡ (copies_of h).stranded + count_by (λ (key : HeldKey). strands e.act key) (held_keys h)
+pub stranded-append : (h : List HistoryEntry) (e : HistoryEntry) → (copies_of (h ++ e ∷ [])).stranded ≡ (copies_of h).stranded + count_by (λ (key : HeldKey). strands e.act key) (held_keys h)
 stranded-append [] e = stranded_alone e.act
 stranded-append (d ∷ h) e = stranded_by_entry d.act h e (copies_of h) (copies_of (h ++ e ∷ [])) (held_keys h) (stranded-append h e)
-
--- ---- the views
-
-pub view_of-append : (h : List HistoryEntry) (e : HistoryEntry) → view_of (h ++ e ∷ []) ≡ view_after (view_of h) e
-view_of-append h e = λ i. record {
-  starts = start_count-append h e i;
-  known = known_from-append [] h e i;
-  held = held_keys-append h e i;
-  stranded = stranded-append h e i;
-  moment = last_moment-append h e i;
-  is_close_due = due_from-append false h e i;
-  last_tick = tick_from-append None h e i;
-}
-
-pub node_view_of-append : (node : ℕ) (h : List HistoryEntry) (e : HistoryEntry) → node_view_of node (h ++ e ∷ []) ≡ node_view_after node (node_view_of node h) e.act
-node_view_of-append node h e = λ i. record {
-  epoch = epoch_of-append node h e i;
-  opening = opening_from-append node None h e i;
-  top = top_from-append node None h e i;
-}
