@@ -1,12 +1,14 @@
 -- The octets of a whole CDR file (3GPP TS 32.297, clause 6.1), for a run of records of one kind.
-use Rattle.std.specs.Prelude.{ℕ, ◌+◌, List, [], ◌∷◌, ◌++◌, ℤ, length, replicate, sum_by}
+use Rattle.std.specs.Prelude.{ℕ, ◌+◌, List, [], ◌∷◌, ◌++◌, ℤ, length, map, replicate, sum_by}
 use Rattle.std.specs.List.{flat_map}
 use Rattle.byteorder.specs.Endian.{big_bytes}
 use Rattle.gw_base.specs.declared.kind.CdrKind.{CdrKind}
 use Rattle.cdr_file.specs.declared.cdr_header.CdrHeader.{CdrHeader}
+use Rattle.cdr_file.specs.declared.file.Cdr.{Cdr}
+use Rattle.cdr_file.specs.declared.file.CdrFile.{CdrFile}
 use Rattle.cdr_file.specs.declared.closure.ClosureReason.{ClosureReason}
 use Rattle.cdr_file.specs.declared.file_header.FileHeader.{FileHeader}
-use Rattle.cdr_file.specs.CdrHeader.{cdr_header_octets}
+use Rattle.cdr_file.specs.CdrHeader.{spelled_cdr}
 use Rattle.cdr_file.specs.ClosureReason.{code_of}
 use Rattle.cdr_file.specs.FileHeader.{header_octets}
 use Rattle.cdr_file.specs.Timestamp.{stamp_of}
@@ -32,9 +34,13 @@ cdr_header filed = record {
   ts = 0;
 }
 
--- a CDR is its header and the record's octets
+-- the CDR that a record becomes
+abbrev pub cdr_of : FiledRecord → Cdr
+cdr_of filed = record { header = cdr_header filed; octets = filed.octets }
+
+-- its octets
 abbrev pub cdr_octets : FiledRecord → List ℕ
-cdr_octets filed = cdr_header_octets (cdr_header filed) ++ filed.octets
+cdr_octets filed = spelled_cdr (cdr_of filed)
 
 -- the CDRs of a run, one after the other
 abbrev pub run_octets : List FiledRecord → List ℕ
@@ -100,3 +106,12 @@ file_header run sequence reason settings = record {
 abbrev pub file_octets : List FiledRecord → ℕ → ClosureReason → FileSettings → List ℕ
 file_octets run sequence reason settings =
     header_octets (file_header run sequence reason settings) ++ run_octets run
+
+-- what is read of the file of a run
+abbrev pub read_file : List FiledRecord → ℕ → ClosureReason → FileSettings → CdrFile
+read_file run sequence reason settings = record {
+  header = file_header run sequence reason settings;
+  filter = [];
+  extension = [];
+  cdrs = map cdr_of run;
+}

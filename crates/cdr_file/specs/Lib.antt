@@ -1,7 +1,13 @@
-pub mod Calendar
+-- What public clauses cite.
 pub mod CdrFile
 pub mod CdrHeader
 pub mod ClosureReason
 pub mod FileHeader
+pub mod Listing
+pub mod Reading
 pub mod SharedOctet
+pub mod Spelling
 pub mod Timestamp
+
+-- Steps: the calendar, by which a timestamp is given.
+pub mod Calendar

@@ -7,17 +7,30 @@
 
 mod cdr_header;
 mod closure;
+mod fault;
+mod file;
 mod file_header;
 mod laws;
+mod listing;
 mod octet;
 mod offset;
+mod reading;
+mod stamp_fields;
 mod timestamp;
 
 pub use cdr_header::{CdrHeader, write_cdr};
 pub use closure::ClosureReason;
+pub use fault::{FileFault, FileKind};
+pub use file::{Cdr, CdrFile, Cdrs};
 pub use file_header::{FileHeader, write_header};
-pub use laws::file_octets_law;
+pub use laws::{
+    file_octets_law, stamp_fields_law, what_is_read_is_spelled, what_is_spelled_is_read,
+    what_is_written_is_read,
+};
+pub use listing::{cdr_line, head_lines, list};
 pub use offset::Offset16;
+pub use reading::read;
+pub use stamp_fields::StampFields;
 pub use timestamp::stamp;
 
 #[cfg(test)]
