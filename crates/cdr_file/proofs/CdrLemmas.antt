@@ -74,8 +74,10 @@ unfolding cdr_fault
 no_fault_again place cdr rest is =
     let long : length (spelled_cdr cdr) ≤ length (spelled_cdr cdr ++ rest) = omega (arith, length-append (spelled_cdr cdr) rest) in
     let least : 4 ≤ length (spelled_cdr cdr) = omega (arith, length-append (cdr_header_octets cdr.header) cdr.octets, length-cdr_header_octets cdr.header) in
-    rw (le-ltb (length (spelled_cdr cdr ++ rest)) 4 (omega arith),
-      le-ltb (length (spelled_cdr cdr ++ rest)) (cdr_end (spelled_cdr cdr ++ rest)) (omega (arith, end_again cdr rest is))) refl
+    rw (
+      le-ltb (length (spelled_cdr cdr ++ rest)) 4 (omega arith),
+      le-ltb (length (spelled_cdr cdr ++ rest)) (cdr_end (spelled_cdr cdr ++ rest)) (omega (arith, end_again cdr rest is)),
+    ) refl
 
 -- one step of reading, where octets aren't empty
 pub step_is : (most place : ℕ) (octets : List ℕ) → 0 < length octets →
@@ -127,8 +129,7 @@ cdr_is octets fit header whole =
     let fourth = shared_from 3 octets (omega arith) in
     let body : drop 4 octets ≡ take n (drop 4 octets) ++ drop (4 + n) octets = part_from 4 n octets in
     let stated : length (take n (drop 4 octets)) ≡ n = omega (arith, length-take n (drop 4 octets), length-drop 4 octets) in
-    let bound : n < 65536 = number_fits 2 0 octets fit in
-    (
+    let bound : n < 65536 = number_fits 2 0 octets fit in (
       record {
         header = record {
           length = bound;
@@ -140,7 +141,7 @@ cdr_is octets fit header whole =
         stated = sym stated;
       },
       count
-      ∙ ap (λ (rest : List ℕ). big_bytes 2 n ++ rest) (third ∙ ap (λ (rest : List ℕ). shared_octet (high_at 2 octets) (low_at 2 octets) ∷ rest) (fourth ∙ ap (λ (rest : List ℕ). shared_octet (high_at 3 octets) (low_at 3 octets) ∷ rest) body))
+          ∙ ap (λ (rest : List ℕ). big_bytes 2 n ++ rest) (third ∙ ap (λ (rest : List ℕ). shared_octet (high_at 2 octets) (low_at 2 octets) ∷ rest) (fourth ∙ ap (λ (rest : List ℕ). shared_octet (high_at 3 octets) (low_at 3 octets) ∷ rest) body)),
     )
 
 pub cdrs_are : (most place : ℕ) (octets : List ℕ) (cdrs : List Cdr) → AreOctets octets → cdrs_up_to most place octets ≡ Ok cdrs →

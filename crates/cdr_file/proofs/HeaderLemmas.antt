@@ -98,9 +98,14 @@ parts_again h filter extension rest fits small_filter small_extension =
 pub length-header_with : (h : FileHeader) (filter extension : List ℕ) → length h.address ≡ 20 →
     length (header_with h filter extension) ≡ 52 + length filter + length extension
 length-header_with h filter extension long =
-    omega (arith, length-field_octets h long, length-append (field_octets h) (with_length filter ++ with_length extension),
-      length-append (with_length filter) (with_length extension), length-append (big_bytes 2 (length filter)) filter,
-      length-append (big_bytes 2 (length extension)) extension)
+    omega (
+      arith,
+      length-field_octets h long,
+      length-append (field_octets h) (with_length filter ++ with_length extension),
+      length-append (with_length filter) (with_length extension),
+      length-append (big_bytes 2 (length filter)) filter,
+      length-append (big_bytes 2 (length extension)) extension,
+    )
 
 -- a header that is whole has no fault
 pub no_header_fault : (octets : List ℕ) → HasHeader octets → header_fault octets ≡ None

@@ -9,3 +9,4 @@ pub mod ReadLemmas
 pub mod StampLemmas
 pub mod WrittenLemmas
 pub mod ListingLemmas
+pub mod RunLemmas

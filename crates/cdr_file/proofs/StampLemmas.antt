@@ -3,7 +3,6 @@ use Rattle.std.proofs.Common.{◌≡◌, ℕ, ◌+◌, ◌*◌, ◌/◌, ◌%◌
 use Rattle.cdr_file.specs.Timestamp.{AreFields, fields_of, packed}
 use Rattle.cdr_file.specs.declared.stamp_fields.StampFields.{StampFields}
 
-
 pub stamp_again : (stamp : ℕ) → stamp < 2 ^ 32 → packed (fields_of stamp) ≡ stamp
 stamp_again stamp fits = omega arith
 

@@ -4,10 +4,10 @@ pub mod CdrHeader
 pub mod ClosureReason
 pub mod FileHeader
 pub mod Listing
+pub mod Names
 pub mod Reading
 pub mod SharedOctet
 pub mod Spelling
 pub mod Timestamp
-
 -- Steps: the calendar, by which a timestamp is given.
 pub mod Calendar

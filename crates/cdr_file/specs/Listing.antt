@@ -43,18 +43,18 @@ release_text release version = decimal release ++ (46 ∷ decimal version)
 -- the line of a header
 abbrev pub file_line : FileHeader → List ℕ
 file_line header = line (codes "file")
-  (decimal header.length
-  ∷ decimal header.header_length
-  ∷ release_text header.high_release header.high_version
-  ∷ release_text header.low_release header.low_version
-  ∷ stamp_text header.opened
-  ∷ stamp_text header.appended
-  ∷ decimal header.count
-  ∷ decimal header.sequence
-  ∷ decimal header.reason
-  ∷ encode_upper header.address
-  ∷ decimal header.lost
-  ∷ [])
+    (decimal header.length
+    ∷ decimal header.header_length
+    ∷ release_text header.high_release header.high_version
+    ∷ release_text header.low_release header.low_version
+    ∷ stamp_text header.opened
+    ∷ stamp_text header.appended
+    ∷ decimal header.count
+    ∷ decimal header.sequence
+    ∷ decimal header.reason
+    ∷ encode_upper header.address
+    ∷ decimal header.lost
+    ∷ [])
 
 -- the line of octets that a header may have, if there are any
 abbrev pub extra_line : List ℕ → List ℕ → List ℕ
@@ -69,13 +69,13 @@ octets_text (octet ∷ octets) = encode_upper (octet ∷ octets)
 -- the line of the CDR with a number, from 1
 abbrev pub cdr_line : ℕ → Cdr → List ℕ
 cdr_line number cdr = line (codes "cdr")
-  (decimal number
-  ∷ decimal cdr.header.length
-  ∷ release_text cdr.header.release cdr.header.version
-  ∷ decimal cdr.header.format
-  ∷ decimal cdr.header.ts
-  ∷ octets_text cdr.octets
-  ∷ [])
+    (decimal number
+    ∷ decimal cdr.header.length
+    ∷ release_text cdr.header.release cdr.header.version
+    ∷ decimal cdr.header.format
+    ∷ decimal cdr.header.ts
+    ∷ octets_text cdr.octets
+    ∷ [])
 
 -- the lines of CDRs, the first of which has this number
 abbrev pub cdr_lines : ℕ → List Cdr → List ℕ

@@ -39,8 +39,13 @@ pub enum FileKind {
 }
 
 impl FileKind {
+    ghost use Rattle.std.specs.Prelude.{◌≡◌};
+    ghost use Rattle.cdr_file.specs.Names.{name_of};
+
     /// The name of this kind, as it is printed.
-    pub fn name(self) -> &'static str {
+    pub fn name(self) -> &'static str
+        ensures { result.now ≡ name_of self }
+    {
         match self {
             FileKind::Short => "Short",
             FileKind::FileLength => "FileLength",

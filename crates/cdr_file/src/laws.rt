@@ -1,8 +1,8 @@
 //! Laws of CDR files. Each holds for every file, and stands on a function that does nothing.
 
-ghost use Rattle.std.specs.Prelude.{◌≡◌, ◌<◌, ◌^◌, ◌↔◌, ◌++◌, ◌∷◌, [], ℕ, List, length, Ok};
+ghost use Rattle.std.specs.Prelude.{◌≡◌, ◌≢◌, ◌<◌, ◌^◌, ◌↔◌, ◌++◌, ◌∷◌, [], ℕ, List, length, Ok};
 ghost use Rattle.byteorder.specs.Endian.{big_number};
-ghost use Rattle.cdr_file.specs.CdrFile.{FiledRecord, FileSettings, cdr_octets, file_header, file_octets, read_file, run_octets};
+ghost use Rattle.cdr_file.specs.CdrFile.{FiledRecord, FileSettings, cdr_octets, facts_of, facts_of_one, facts_with, file_header, file_octets, read_file, run_octets};
 ghost use Rattle.cdr_file.specs.CdrHeader.{AreCdrs};
 ghost use Rattle.cdr_file.specs.FileHeader.{IsFileHeader, header_octets};
 ghost use Rattle.cdr_file.specs.Reading.{file_in};
@@ -26,6 +26,13 @@ pub fn file_octets_law()
         big_number 4 (file_octets run sequence reason settings) ≡ length (file_octets run sequence reason settings) }
     ensures growth { (run : List FiledRecord) (last : FiledRecord)
         → run_octets (run ++ last ∷ []) ≡ run_octets run ++ cdr_octets last }
+{}
+
+/// What a header says of a run of records, by its first record and then a record more each time.
+pub fn run_facts_law()
+    ensures first { (filed : FiledRecord) → facts_of (filed ∷ []) ≡ facts_of_one filed }
+    ensures more { (run : List FiledRecord) (last : FiledRecord) → run ≢ [] →
+        facts_of (run ++ last ∷ []) ≡ facts_with (facts_of run) last }
 {}
 
 /// Octets are read as a file exactly where they spell it.

@@ -12,13 +12,12 @@ returns-in-Some-clause-fault c =
 pub loop-rest-preserved : goal.loop-rest-preserved
 loop-rest-preserved c =
     let some : 0 < length c.loop-rest.rest.now = some_left _ (sym c.is_empty.ensures ∙ c.loop-rest-test.true) in
-    let none : c.cdr_fault.result ≡ None = search rules in
-    (
+    let none : c.cdr_fault.result ≡ None = search rules in (
       omega (arith, ap length c.in_ok-cdr.ensures.1, length-drop (cdr_end c.loop-rest.rest.now) c.loop-rest.rest.now, c.loop-rest.invariant.0),
       rw c.in_ok-push_cdr.ensures
-      (cdr_read (length c.args.octets.now) _ _ c.loop-rest.rest.now c.in_ok-cdr.after.now c.loop-rest.cdrs.items c.in_ok-cdr.cdr some c.loop-rest.invariant.0
-      refl (sym c.cdr_fault.ensures.fault ∙ none) (c.cdr_fault.ensures.whole none) c.in_ok-cdr.ensures.0 c.in_ok-cdr.ensures.1 refl
-      ∙ c.loop-rest.invariant.1),
+          (cdr_read (length c.args.octets.now) _ _ c.loop-rest.rest.now c.in_ok-cdr.after.now c.loop-rest.cdrs.items c.in_ok-cdr.cdr some c.loop-rest.invariant.0
+          refl (sym c.cdr_fault.ensures.fault ∙ none) (c.cdr_fault.ensures.whole none) c.in_ok-cdr.ensures.0 c.in_ok-cdr.ensures.1 refl
+          ∙ c.loop-rest.invariant.1),
     )
 
 pub returns-clause-cdrs : goal.returns-clause-cdrs
