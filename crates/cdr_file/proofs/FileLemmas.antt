@@ -5,18 +5,12 @@ use Rattle.std.proofs.lemmas.List.{append-nil}
 use Rattle.std.proofs.lemmas.List.Sums.{sum_by-cons, sum_by_push}
 use Rattle.byteorder.specs.Endian.{big_bytes, big_number}
 use Rattle.byteorder.specs.Numbers.{big_number-reads_back}
-use Rattle.cdr_file.specs.declared.cdr_header.CdrHeader.{CdrHeader}
 use Rattle.cdr_file.specs.declared.closure.ClosureReason.{ClosureReason}
 use Rattle.cdr_file.specs.declared.file_header.FileHeader.{FileHeader}
-use Rattle.cdr_file.specs.CdrHeader.{cdr_header_octets}
+use Rattle.cdr_file.specs.Laws.{length-run_octets}
 use Rattle.cdr_file.specs.FileHeader.{field_octets, header_octets, with_length}
 use Rattle.cdr_file.specs.SharedOctet.{shared_octet}
 use Rattle.cdr_file.specs.CdrFile.{FiledRecord, FileSettings, cdr_length, cdr_octets, file_header, file_length, file_octets, last_moment, node_address, run_octets}
-
--- a CDR's header has four octets
-pub length-cdr_header_octets : (header : CdrHeader) → length (cdr_header_octets header) ≡ 4
-unfolding cdr_header_octets
-length-cdr_header_octets header = refl
 
 -- the fields have 48
 pub length-field_octets : (header : FileHeader) → length header.address ≡ 20 → length (field_octets header) ≡ 48
@@ -60,17 +54,6 @@ header_octets-is header =
 pub length-node_address : (ip : ℕ) → length (node_address ip) ≡ 20
 unfolding node_address
 length-node_address ip = refl
-
--- a CDR has as many octets as its length says
-pub length-cdr_octets : (filed : FiledRecord) → length (cdr_octets filed) ≡ cdr_length filed
-length-cdr_octets filed =
-    omega (arith, length-append {A = ℕ}, length-cdr_header_octets)
-
--- and so have the CDRs of a run
-pub length-run_octets : (run : List FiledRecord) → length (run_octets run) ≡ sum_by cdr_length run
-length-run_octets [] = refl
-length-run_octets (first ∷ later) =
-    omega (arith, length-append (cdr_octets first) (run_octets later), length-cdr_octets first, length-run_octets later, sum_by-cons cdr_length first later)
 
 -- the length that a file's header says is that of the whole file
 pub length-file_octets : (run : List FiledRecord) (sequence : ℕ) (reason : ClosureReason) (settings : FileSettings) → length (file_octets run sequence reason settings) ≡ file_length run

@@ -9,5 +9,6 @@ pub mod Reading
 pub mod SharedOctet
 pub mod Spelling
 pub mod Timestamp
--- Steps: the calendar, by which a timestamp is given.
+-- Steps: the calendar, by which a timestamp is given, and laws for the proofs above.
 pub mod Calendar
+pub mod Laws

@@ -36,7 +36,8 @@ fn a_file_is_listed(rt: HostRuntime) -> Result<(), Fail> {
         cdr 1 1 7.31 7 1 05\ncdr 2 0 3.0 1 0 -\n";
     assert!(rt; list(rt.alloc(), &two)?.as_slice() == expected.as_bytes());
     let cdrs = two.cdrs.into_vec();
-    let last = cdr_line(rt.alloc(), 2, &cdrs[1])?;
+    let last = cdrs.last().ok_or("no CDR")?;
+    let last = cdr_line(rt.alloc(), 2, last)?;
     assert!(rt; last.as_slice() == b"cdr 2 0 3.0 1 0 -\n".as_slice());
     Ok(())
 }
@@ -68,7 +69,8 @@ fn the_first_fault_of_a_file_is_told_with_its_place(rt: HostRuntime) -> Result<(
         for (at, octet) in edits {
             octets[at] = octet;
         }
-        let fault = read(rt.alloc(), &octets[..length]).err();
+        let front = octets.get(..length).ok_or("more octets than the file has")?;
+        let fault = read(rt.alloc(), front).err();
         assert!(rt;
             fault == Some(FileFault::Bad { place, kind }),
             "{length}: {kind}"
