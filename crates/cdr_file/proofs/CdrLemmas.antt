@@ -1,19 +1,19 @@
 -- CDRs are read exactly where octets spell them.
-use Rattle.std.proofs.Common.{◌≡◌, ℕ, zero, suc, ◌+◌, ◌*◌, ◌<◌, ◌≤◌, Bool, true, false, cond, List, [], ◌∷◌, ◌++◌, length, take, drop, Option, Some, None, Result, Ok, Err, nat_lt, refl, ap, sym, ◌∙◌, arith, append_assoc}
+use Rattle.std.proofs.Common.{◌≡◌, ℕ, zero, suc, ◌+◌, ◌<◌, ◌≤◌, Bool, true, false, cond, List, [], ◌∷◌, ◌++◌, length, take, drop, Option, Some, None, Result, Ok, Err, refl, ap, sym, ◌∙◌, arith, append_assoc}
 use Rattle.std.specs.List.{flat_map}
 use Rattle.std.proofs.lemmas.Bool.{le-ltb, ltb-false}
-use Rattle.std.proofs.lemmas.List.{take_at, drop_at, take-append-drop, length-append, length-take, length-drop}
+use Rattle.std.proofs.lemmas.List.{take_at, drop_at, length-append, length-take, length-drop}
 use Rattle.byteorder.specs.Endian.{big_bytes, big_number}
 use Rattle.byteorder.specs.Numbers.{big_number-reads_back}
 use Rattle.cdr_file.specs.Laws.{length-cdr_header_octets}
 use Rattle.cdr_file.specs.CdrHeader.{AreCdrs, IsCdr, IsCdrHeader, cdr_header_octets, spelled_cdr}
-use Rattle.cdr_file.specs.Reading.{cdr_end, cdr_fault, cdr_header_in, cdr_in, cdr_tests, cdrs_from, cdrs_up_to, high_at, in_front, low_at, unless}
+use Rattle.cdr_file.specs.Reading.{cdr_end, cdr_fault, cdr_header_in, cdr_in, cdrs_up_to, high_at, in_front, low_at, unless}
 use Rattle.cdr_file.specs.SharedOctet.{shared_octet}
 use Rattle.cdr_file.specs.Spelling.{AreOctets}
 use Rattle.cdr_file.specs.declared.cdr_header.CdrHeader.{CdrHeader}
 use Rattle.cdr_file.specs.declared.fault.FileFault.{FileFault}
 use Rattle.cdr_file.specs.declared.file.Cdr.{Cdr}
-use Rattle.cdr_file.proofs.NumberLemmas.{AreOctets-drop, high_again, low_again, number_fits, number_front_2, octet_from, part_from, shared_from}
+use Rattle.cdr_file.proofs.NumberLemmas.{AreOctets-drop, high_again, low_again, number_fits, number_front_2, part_from, shared_from}
 
 -- Faults.
 

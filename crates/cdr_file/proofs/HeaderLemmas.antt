@@ -1,12 +1,12 @@
 -- The header of a file, its routeing filter and its private extension, are read exactly where octets spell them.
-use Rattle.std.proofs.Common.{◌≡◌, ℕ, zero, suc, ◌+◌, ◌*◌, ◌/◌, ◌%◌, ◌<◌, ◌≤◌, ◌^◌, Bool, true, false, not, List, [], ◌∷◌, ◌++◌, length, take, drop, Option, Some, None, refl, ap, sym, ◌∙◌, arith, append_assoc}
-use Rattle.std.specs.Prelude.{slice_index, nat_lt, ◌==◌}
+use Rattle.std.proofs.Common.{◌≡◌, ℕ, ◌+◌, ◌<◌, ◌≤◌, ◌^◌, List, [], ◌∷◌, ◌++◌, length, take, drop, None, refl, ap, sym, ◌∙◌, arith, append_assoc}
+use Rattle.std.specs.Prelude.{slice_index}
 use Rattle.std.proofs.lemmas.Bool.{le-ltb, eq-eqb}
-use Rattle.std.proofs.lemmas.List.{take_at, drop_at, length-append, length-take, length-drop}
+use Rattle.std.proofs.lemmas.List.{take_at, drop_at, length-append}
 use Rattle.byteorder.specs.Endian.{big_bytes, big_number}
 use Rattle.byteorder.specs.Numbers.{big_number-reads_back}
 use Rattle.cdr_file.specs.FileHeader.{IsFileHeader, field_octets, header_with, with_length}
-use Rattle.cdr_file.specs.Reading.{HasHeader, extension_in, extension_length, extension_place, filter_in, filter_length, header_end, header_fault, header_in, high_at, low_at, number_at}
+use Rattle.cdr_file.specs.Reading.{HasHeader, extension_in, extension_length, extension_place, filter_in, filter_length, header_end, header_fault, header_in, number_at}
 use Rattle.cdr_file.specs.SharedOctet.{shared_octet}
 use Rattle.cdr_file.specs.Spelling.{AreOctets}
 use Rattle.cdr_file.specs.declared.file_header.FileHeader.{FileHeader}

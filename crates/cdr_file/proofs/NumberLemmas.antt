@@ -1,10 +1,10 @@
 -- Octets, and the numbers and lists that stand in them.
-use Rattle.std.proofs.Common.{◌≡◌, ℕ, zero, suc, ◌+◌, ◌*◌, ◌/◌, ◌%◌, ◌<◌, ◌≤◌, ◌^◌, List, [], ◌∷◌, ◌++◌, length, take, drop, get_or, refl, ap, sym, ◌∙◌, arith, append_assoc, add-one}
+use Rattle.std.proofs.Common.{◌≡◌, ℕ, zero, suc, ◌+◌, ◌/◌, ◌%◌, ◌<◌, ◌≤◌, ◌^◌, List, [], ◌∷◌, ◌++◌, length, take, drop, get_or, refl, ap, sym, ◌∙◌, arith}
 use Rattle.std.specs.Prelude.{slice_index}
-use Rattle.std.proofs.lemmas.List.{take_at, drop_at, take-append-drop, length-append, length-take, length-drop}
+use Rattle.std.proofs.lemmas.List.{drop_at, take-append-drop, length-take, length-drop}
 use Rattle.std.proofs.lemmas.Nat.{be_bytes_2, be_bytes_4}
 use Rattle.byteorder.specs.Endian.{big_bytes, big_number}
-use Rattle.byteorder.specs.Numbers.{big_from-lt, big_number-reads_back}
+use Rattle.byteorder.specs.Numbers.{big_from-lt}
 use Rattle.cdr_file.specs.Reading.{high_at, low_at, number_at}
 use Rattle.cdr_file.specs.SharedOctet.{shared_octet}
 use Rattle.cdr_file.specs.Spelling.{AreOctets}

@@ -1,12 +1,11 @@
 -- The steps in which a file is read are those of the definition.
-use Rattle.std.proofs.Common.{◌≡◌, ◌≢◌, ℕ, ◌+◌, ◌≤◌, Bool, true, false, List, [], ◌∷◌, length, drop, Option, Some, None, Result, Ok, Err, refl, ap, sym, ◌∙◌, arith}
+use Rattle.std.proofs.Common.{◌≡◌, ◌≢◌, ℕ, List, length, drop, Option, Some, None, Result, Ok, Err, refl, ap, sym, ◌∙◌}
 use Rattle.std.proofs.lemmas.Bool.{eq-eqb, ne_eqb}
-use Rattle.cdr_file.specs.Reading.{HasHeader, cdrs_from, cdrs_in, count_tests, extension_in, file_in, file_with, filter_in, first_fault, header_end, header_fault, header_in, number_at, unless, with_cdrs}
+use Rattle.cdr_file.specs.Reading.{cdrs_from, cdrs_in, count_tests, extension_in, file_in, file_with, filter_in, first_fault, header_end, header_fault, header_in, number_at, unless, with_cdrs}
 use Rattle.cdr_file.specs.declared.fault.FileFault.{FileFault}
 use Rattle.cdr_file.specs.declared.fault.FileFault.TheVariants.{Bad}
 use Rattle.cdr_file.specs.declared.fault.FileKind.TheVariants as kind
 use Rattle.cdr_file.specs.declared.file.Cdr.{Cdr}
-use Rattle.cdr_file.specs.declared.file.CdrFile.{CdrFile}
 use Rattle.cdr_file.specs.declared.file_header.FileHeader.{FileHeader}
 
 pub header_faulty : (octets : List ℕ) (fault : FileFault) → header_fault octets ≡ Some fault → file_in octets ≡ Err fault

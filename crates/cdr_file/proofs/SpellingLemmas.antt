@@ -1,13 +1,12 @@
 -- A file is read exactly where octets spell it.
-use Rattle.std.proofs.Common.{◌≡◌, ℕ, ◌+◌, ◌<◌, ◌≤◌, ◌^◌, Bool, true, false, not, List, [], ◌∷◌, ◌++◌, length, take, drop, Option, Some, None, Result, Ok, Err, refl, ap, sym, subst, ◌∙◌, arith, append_assoc}
+use Rattle.std.proofs.Common.{◌≡◌, ℕ, ◌+◌, Bool, true, false, not, List, ◌++◌, length, drop, Option, None, Result, Ok, Err, refl, ap, sym, subst, ◌∙◌, arith}
 use Rattle.std.specs.List.{flat_map}
-use Rattle.std.specs.Prelude.{◌==◌, ◌||◌}
+use Rattle.std.specs.Prelude.{◌||◌}
 use Rattle.std.proofs.lemmas.Bool.{eq-eqb, eqb-true, ltb-false}
-use Rattle.std.proofs.lemmas.Bool.Decides.{eqb_tells}
 use Rattle.std.proofs.lemmas.List.{length-append}
-use Rattle.cdr_file.specs.CdrHeader.{AreCdrs, spelled_cdr}
+use Rattle.cdr_file.specs.CdrHeader.{spelled_cdr}
 use Rattle.cdr_file.specs.FileHeader.{IsFileHeader, header_with}
-use Rattle.cdr_file.specs.Reading.{HasHeader, cdrs_from, cdrs_in, cdrs_up_to, count_tests, extension_in, extension_length, extension_place, file_in, file_with, filter_in, filter_length, first_fault, header_end, header_fault, header_in, number_at, unless, with_cdrs}
+use Rattle.cdr_file.specs.Reading.{HasHeader, cdrs_from, cdrs_in, count_tests, extension_in, extension_length, extension_place, file_in, file_with, filter_in, filter_length, first_fault, header_end, header_fault, header_in, number_at, unless, with_cdrs}
 use Rattle.cdr_file.specs.Spelling.{AreOctets, IsFile, Spells, spelled_file}
 use Rattle.cdr_file.specs.declared.fault.FileFault.{FileFault}
 use Rattle.cdr_file.specs.declared.file.Cdr.{Cdr}

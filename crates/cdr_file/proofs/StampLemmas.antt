@@ -1,5 +1,5 @@
 -- The fields of a timestamp.
-use Rattle.std.proofs.Common.{◌≡◌, ℕ, ◌+◌, ◌*◌, ◌/◌, ◌%◌, ◌<◌, ◌^◌, refl, ap, sym, ◌∙◌, arith}
+use Rattle.std.proofs.Common.{◌≡◌, ℕ, ◌/◌, ◌%◌, ◌<◌, ◌^◌, arith}
 use Rattle.cdr_file.specs.Timestamp.{AreFields, fields_of, packed}
 use Rattle.cdr_file.specs.declared.stamp_fields.StampFields.{StampFields}
 

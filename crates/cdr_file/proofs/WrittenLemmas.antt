@@ -1,8 +1,8 @@
 -- What is written of a run of records is read back.
-use Rattle.std.proofs.Common.{◌≡◌, ℕ, ◌+◌, ◌<◌, ◌≤◌, ◌^◌, List, [], ◌∷◌, ◌++◌, length, map, Result, Ok, refl, ap, sym, ◌∙◌, arith}
+use Rattle.std.proofs.Common.{◌≡◌, ℕ, List, [], ◌∷◌, ◌++◌, length, map, Ok, refl, ap, sym, ◌∙◌, arith}
 use Rattle.std.specs.List.{flat_map}
 use Rattle.std.proofs.lemmas.List.{length-map}
-use Rattle.cdr_file.specs.CdrFile.{FiledRecord, FileSettings, cdr_of, file_header, file_octets, node_address, read_file, run_octets}
+use Rattle.cdr_file.specs.CdrFile.{FiledRecord, FileSettings, cdr_of, file_header, file_octets, read_file, run_octets}
 use Rattle.cdr_file.specs.CdrHeader.{AreCdrs, spelled_cdr}
 use Rattle.cdr_file.specs.FileHeader.{IsFileHeader, header_octets, header_with}
 use Rattle.cdr_file.specs.Reading.{file_in}

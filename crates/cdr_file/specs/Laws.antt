@@ -1,5 +1,5 @@
 -- How many octets CDRs have, for proofs above.
-use Rattle.std.proofs.Common.{◌≡◌, ℕ, ◌+◌, List, [], ◌∷◌, ◌++◌, length, length-append, sum_by, refl, arith}
+use Rattle.std.proofs.Common.{◌≡◌, ℕ, List, [], ◌∷◌, length, length-append, sum_by, refl, arith}
 use Rattle.std.proofs.lemmas.List.Sums.{sum_by-cons}
 use Rattle.cdr_file.specs.CdrFile.{FiledRecord, cdr_length, cdr_octets, run_octets}
 use Rattle.cdr_file.specs.CdrHeader.{cdr_header_octets}

@@ -1,4 +1,4 @@
-use Rattle.std.proofs.Common.{◌≡◌, ◌-◌, rules, ◌<◌, length, None, ap, sym, ◌∙◌, inr, arith, refl}
+use Rattle.std.proofs.Common.{◌≡◌, rules, ◌<◌, length, None, ap, sym, ◌∙◌, inr, arith, refl}
 use Rattle.std.proofs.lemmas.List.{length-drop}
 use Rattle.cdr_file.specs.Reading.{cdr_end}
 use Rattle.cdr_file.proofs.LoopLemmas.{all_read, cdr_read, fault_read, none_left, some_left}
