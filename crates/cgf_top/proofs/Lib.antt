@@ -8,3 +8,4 @@ pub mod Numbers
 pub mod Records
 pub mod Reports
 pub mod Streams
+pub mod Whole
