@@ -28,9 +28,10 @@ below_ten c e = let h = in_range c e in omega (arith, digit_value_digit c h, h.0
 
 all_digits : (cs : List ℕ) → list_all is_ascii_digit cs ≡ true → AllDigits 10 cs
 all_digits [] e = tt
-all_digits (c ∷ cs) e =
-    (below_ten c (first_true (is_ascii_digit c) (list_all is_ascii_digit cs) e),
-     all_digits cs (second_true (is_ascii_digit c) (list_all is_ascii_digit cs) e))
+all_digits (c ∷ cs) e = (
+  below_ten c (first_true (is_ascii_digit c) (list_all is_ascii_digit cs) e),
+  all_digits cs (second_true (is_ascii_digit c) (list_all is_ascii_digit cs) e),
+)
 
 digits_of : (word : List ℕ) → is_decimal word ≡ true → AllDigits 10 word
 digits_of word e = all_digits word (second_true (has_decimal_form word) (list_all is_ascii_digit word) e)

@@ -10,6 +10,5 @@ pub use rule::Rule;
 pub use rules::{RuleFault, Rules};
 pub use text::{cut, decoded, number, octets, words};
 
-
 #[cfg(test)]
 mod tests;

@@ -43,7 +43,11 @@ fn the_first_rule_that_matches_gives_the_stream(rt: HostRuntime) -> Result<(), F
 #[test]
 fn tags_are_compared_as_read_and_formats_from_7_on_are_one(rt: HostRuntime) -> Result<(), Fail> {
     // The long form of an identifier, in small digits, and blanks between the words.
-    let rules = rules_of(&rt, rt.alloc(), &["  rule  bf8000 *   4 ", "rule * 9 6", "rule A0 * 3"])?;
+    let rules = rules_of(
+        &rt,
+        rt.alloc(),
+        &["  rule  bf8000 *   4 ", "rule * 9 6", "rule A0 * 3"],
+    )?;
     assert_eq!(rt; rules.stream(Some(CONTEXT_0), 1), 4);
     assert_eq!(rt; rules.stream(None, 7), 6);
     assert_eq!(rt; rules.stream(None, 255), 6);
@@ -56,8 +60,21 @@ fn tags_are_compared_as_read_and_formats_from_7_on_are_one(rt: HostRuntime) -> R
 #[test]
 fn a_line_of_another_form_is_no_rule(rt: HostRuntime) -> Result<(), Fail> {
     let lines = [
-        "", "rule", "rule A0 1", "rule A0 1 5 5", "Rule A0 1 5", "role A0 1 5", "rule A0 1 16", "rule A0 256 5",
-        "rule A0 01 5", "rule A0 1 +5", "rule A 1 5", "rule A0FF 1 5", "rule BF 1 5", "rule ** 1 5", "rule A0 - 5",
+        "",
+        "rule",
+        "rule A0 1",
+        "rule A0 1 5 5",
+        "Rule A0 1 5",
+        "role A0 1 5",
+        "rule A0 1 16",
+        "rule A0 256 5",
+        "rule A0 01 5",
+        "rule A0 1 +5",
+        "rule A 1 5",
+        "rule A0FF 1 5",
+        "rule BF 1 5",
+        "rule ** 1 5",
+        "rule A0 - 5",
         "rule A0 1 *",
     ];
     let mut rules = Rules::none(rt.alloc());

@@ -78,15 +78,15 @@ pub line_read : (text : List ℕ) (progress next : Progress) (lines more : List 
 line_read text progress next lines more rest raws raw said form size read here e formed sized after grown = record {
   before = read.before ++ raw ∷ [];
   follows = after ∙ ap (λ (p : Progress). progress_after p form size) read.follows
-    ∙ ap (λ f. progress_after (progress_of read.before) f size) formed
-    ∙ ap (progress_after (progress_of read.before) (form_of (line_content raw))) sized
-    ∙ sym (progress_of-append read.before raw);
+      ∙ ap (λ f. progress_after (progress_of read.before) f size) formed
+      ∙ ap (progress_after (progress_of read.before) (form_of (line_content raw))) sized
+      ∙ sym (progress_of-append read.before raw);
   so_far =
-    let reads : reading_of (progress_of read.before) raw ≡ Ok said = ap (λ (p : Progress). reading_of p raw) (sym read.follows) ∙ e in
-    ap (λ front. with_front front (script_after (read.before ++ raw ∷ []) raws)) grown
-    ∙ one_in_front lines said (length read.before + 1) (script_after (read.before ++ raw ∷ []) raws)
-    ∙ ap (with_front lines) (sym (goes_on read.before raw raws said reads) ∙ ap (script_after read.before) (sym here))
-    ∙ read.so_far;
+      let reads : reading_of (progress_of read.before) raw ≡ Ok said = ap (λ (p : Progress). reading_of p raw) (sym read.follows) ∙ e in
+      ap (λ front. with_front front (script_after (read.before ++ raw ∷ []) raws)) grown
+      ∙ one_in_front lines said (length read.before + 1) (script_after (read.before ++ raw ∷ []) raws)
+      ∙ ap (with_front lines) (sym (goes_on read.before raw raws said reads) ∙ ap (script_after read.before) (sym here))
+      ∙ read.so_far;
 }
 
 refuses : (front : List Line) (script : Result (List Line) Refusal) (refusal : Refusal) → with_front front (Err refusal) ≡ script → script ≡ Err refusal

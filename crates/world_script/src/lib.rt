@@ -14,6 +14,5 @@ pub use fault::{InputFault, InputKind};
 pub use line::Line;
 pub use script::Script;
 
-
 #[cfg(test)]
 mod tests;

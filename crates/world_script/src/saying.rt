@@ -122,7 +122,9 @@ fn limit_on(what: &[u8], number: &[u8]) -> Result<Line, InputKind>
 {
     if what == b"records".as_slice() {
         return match number_between(1, 1_000_000, number) {
-            Some(count) => Ok(Line::LimitRecords { count: count as u32 }),
+            Some(count) => Ok(Line::LimitRecords {
+                count: count as u32,
+            }),
             None => Err(InputKind::Number),
         };
     }

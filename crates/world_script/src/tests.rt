@@ -25,7 +25,14 @@ fn assert_settings(rt: &impl Abort, script: &Script) {
     assert!(rt; matches!(script.line(0), Some(Line::Blank)));
     assert!(rt; matches!(script.line(1), Some(Line::Reserve { length: 234 })));
     assert!(rt; matches!(script.line(2), Some(Line::LimitRecords { count: 2 })));
-    assert!(rt; matches!(script.line(3), Some(Line::LimitSize { size: 1_000_000_000 })));
+    assert!(rt;
+        matches!(
+            script.line(3),
+            Some(Line::LimitSize {
+                size: 1_000_000_000
+            })
+        )
+    );
     assert!(rt; matches!(script.line(4), Some(Line::LimitOpen { seconds: 60 })));
     assert!(rt; matches!(script.line(5), Some(Line::Offset { minutes: -210 })));
     if let Some(Line::Rule { text }) = script.line(6) {
@@ -46,7 +53,13 @@ fn every_form_of_line_is_read(rt: HostRuntime) -> Result<(), Fail> {
         assert!(rt; false, "no moment");
     }
     if let Some(Line::Datagram { from, octets }) = script.line(9) {
-        assert_eq!(rt; *from, Addr { ip: 0x0A00_0101, port: 40_001 });
+        assert_eq!(rt;
+            *from,
+            Addr {
+                ip: 0x0A00_0101,
+                port: 40_001
+            }
+        );
         assert_eq!(rt; octets.octets(), [0x4E, 1, 0, 0, 0, 5].as_slice());
     } else {
         assert!(rt; false, "no datagram");
