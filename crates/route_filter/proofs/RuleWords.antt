@@ -1,7 +1,6 @@
 -- Lines that have other than three words after the first.
-use Rattle.std.proofs.Common.{◌≡◌, ℕ, ◌<◌, ◌≤◌, List, [], ◌∷◌, length, map, Option, Some, None, refl, arith}
+use Rattle.std.proofs.Common.{◌≡◌, ℕ, ◌<◌, List, [], ◌∷◌, length, map, None, refl, arith}
 use Rattle.std.specs.Borrow.{Bor}
-use Rattle.gw_base.specs.declared.tag.Tag.{Tag}
 use Rattle.route_filter.specs.Rules.{rule_by}
 
 abbrev now_of : List (Bor (List ℕ)) → List (List ℕ)
