@@ -13,11 +13,12 @@ use Rattle.gate_journal.specs.declared.journal.Front.TheVariants.{Founded}
 use Rattle.gate_journal.specs.declared.journal.Journal.{Journal}
 use Rattle.entry_codec.specs.Content.{AreEntries, IsContent, entries_of, spelled}
 use Rattle.entry_codec.specs.Room.{costs_of}
-use Rattle.entry_codec.proofs.Contents.{costs_of-append, costs_of-spelled, no_entries}
+use Rattle.entry_codec.specs.Laws.{costs_of-append, costs_of-spelled, no_entries}
 use Rattle.cgf_journal.specs.Format.{AreBatches, entries_in}
 use Rattle.cgf_journal.specs.Opening.{AreListed, IsTakenUpTo}
 use Rattle.cgf_journal.specs.Sound.{EndsBy, IsSound, is_founded, places_behind, places_from}
 use Rattle.cgf_journal.specs.Tally.{Tallies, TallyValue, tally_behind_all, tally_of}
+use Rattle.cgf_journal.proofs.Tallies.{tally_of-costs}
 use Rattle.cgf_journal.proofs.Placing.{places_from-ends}
 use Rattle.cgf_journal.proofs.Sounds.{none_of}
 use Rattle.cgf_journal.proofs.Listings.{no_more}
@@ -63,7 +64,7 @@ module _ {A : Type 0} {tells : Ghosts A} (journal : Journal A tells) (size : ℕ
   all_batches told = subst (λ (l : List (List ℕ)). AreBatches size l) (sym (all_taken told)) taken_in.taken_in.are_batches
 
   costs_are : tally.live.costs ≡ costs_of (entries_in taken_in.some)
-  costs_are = ap (λ (t : TallyValue). t.costs) taken_in.taken_in.live
+  costs_are = ap (λ (t : TallyValue). t.costs) taken_in.taken_in.live ∙ tally_of-costs (entries_in taken_in.some)
 
   pub made : front_of journal ≡ Founded → is_closed journal ≡ false
       → IsSound journal size (record { octets = []; capacity = longest_batch }) places (length places) (record { firm = tally.live; live = tally.live })

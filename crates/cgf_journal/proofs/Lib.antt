@@ -1,11 +1,14 @@
+pub mod Changes
 pub mod Entries
 pub mod Founding
-pub mod KeptKeys
+pub mod KeysLemmas
 pub mod KeptSums
 pub mod Listings
 pub mod Meanings
 pub mod Opened
+pub mod Orders
 pub mod Placing
+pub mod Ranks
 pub mod Reopening
 pub mod Sounds
 pub mod Standing

@@ -15,7 +15,7 @@ use Rattle.cgf_journal.specs.Sound.{places_behind, places_from}
 use Rattle.cgf_journal.specs.Tally.{Tallies, TallyValue, tally_behind_all, tally_of}
 use Rattle.cgf_journal.proofs.Entries.{are_batches-push, entries_in-push}
 use Rattle.cgf_journal.proofs.Placing.{places_behind-push}
-use Rattle.cgf_journal.proofs.Tallies.{tally_all}
+use Rattle.cgf_journal.proofs.Tallies.{tally_all, tally_of-costs}
 
 -- the last of some batches is entries
 last_content : (some : List (List ℕ)) (batch : List ℕ) → All IsContent (some ++ batch ∷ []) → IsContent batch
@@ -30,7 +30,7 @@ module _ (size gate : ℕ) (some : List (List ℕ)) (places : List Place) (tally
       ∙ ap (λ (h : List HistoryEntry). tally_of h) (sym (entries_in-push some batch))
 
   costs_are : (tally_behind_all tally.live (entries_of batch)).costs ≡ costs_of (entries_in (some ++ batch ∷ []))
-  costs_are = ap (λ (t : TallyValue). t.costs) live_behind
+  costs_are = ap (λ (t : TallyValue). t.costs) live_behind ∙ tally_of-costs (entries_in (some ++ batch ∷ []))
 
   -- one more is taken in
   pub one_more : (more : List Place) (new : Tallies) → IsContent batch → more ≡ places ++ places_from (gate + 5) (entries_of batch)

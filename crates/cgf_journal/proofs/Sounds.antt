@@ -15,13 +15,13 @@ use Rattle.entry_codec.specs.Content.{AreEntries, entries_of, spelled}
 use Rattle.entry_codec.specs.Room.{capacity_of, costs_of}
 use Rattle.entry_codec.specs.Spelling.{HasSpelling, cost_of, entry_length, spelling}
 use Rattle.entry_codec.proofs.Contents.{costs_of-spelled, entries_of_entries, more_entries, no_entries, one_entry}
-use Rattle.entry_codec.proofs.Entries.{length_of_spelling}
+use Rattle.entry_codec.specs.Laws.{length_of_spelling}
 use Rattle.cgf_journal.specs.Format.{AreBatches, entries_in}
 use Rattle.cgf_journal.specs.Sound.{EndsBy, IsSound, is_founded, places_behind, places_from}
 use Rattle.cgf_journal.specs.Tally.{Tallies, TallyValue, tally_behind, tally_behind_all, tally_of}
 use Rattle.cgf_journal.proofs.Entries.{are_batches-push, entries_in-push}
 use Rattle.cgf_journal.proofs.Placing.{length-places_from, places_behind-push, places_from-ends, places_from-push}
-use Rattle.cgf_journal.proofs.Tallies.{tally_all, tally_all-append, tally_all-costs}
+use Rattle.cgf_journal.proofs.Tallies.{tally_all, tally_all-append, tally_all-costs, tally_of-costs}
 
 -- where nothing was pushed, no entry waits
 pub none_of : entries_of [] ≡ []
@@ -64,7 +64,7 @@ module _ {A : Type 0} {tells : Ghosts A} (journal : Journal A tells) (size : ℕ
 
   pub one_more_batch : Told tells → waiting.octets ≢ [] → AreBatches (tells.size (area_of journal)) (batches journal ++ waiting.octets ∷ [])
   one_more_batch told some =
-      let costs : costs_of (entries_in (batches journal) ++ pending) ≤ capacity_of (tells.size (area_of journal)) = omega (arith, ap (λ (t : TallyValue). t.costs) (live_is told), sound.within) in
+      let costs : costs_of (entries_in (batches journal) ++ pending) ≤ capacity_of (tells.size (area_of journal)) = omega (arith, ap (λ (t : TallyValue). t.costs) (live_is told), tally_of-costs (entries_in (batches journal) ++ pending), sound.within) in
       are_batches-push (tells.size (area_of journal)) (batches journal) waiting.octets (sound.are_batches told) (record { some = some; are_entries = sound.are_entries }) costs
 
   -- every place ends before a later gate
@@ -161,7 +161,7 @@ module _ {A : Type 0} {tells : Ghosts A} (journal : Journal A tells) (size : ℕ
           taken = omega (arith, sound.taken, end_is, live_costs, some_wait some);
           within = omega (arith, sound.within, same_size);
           are_batches = λ told. subst (λ n. AreBatches n (batches new)) (sym same_size) (subst (λ (bs : List (List ℕ)). AreBatches (tells.size (area_of journal)) bs) (sym (list told)) (one_more_batch told some));
-          firm_tally = λ told. live_is told ∙ ap tally_of (sym (firm_grows told));
+          firm_tally = λ told. live_is told ∙ ap (λ (h : List HistoryEntry). tally_of h) (sym (firm_grows told));
           firm_placed = λ told. all ∙ placed told;
         }
       where

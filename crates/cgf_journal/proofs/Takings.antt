@@ -10,7 +10,7 @@ use Rattle.entry_codec.specs.Fault.{BeginsWith}
 use Rattle.entry_codec.specs.Room.{costs_of}
 use Rattle.entry_codec.specs.Spelling.{HasSpelling, entry_length, spelling}
 use Rattle.entry_codec.proofs.Contents.{costs_of-spelled, divided_entries, entries_of_entries, more_entries, no_entries, one_entry}
-use Rattle.entry_codec.proofs.Entries.{length_of_spelling}
+use Rattle.entry_codec.specs.Laws.{length_of_spelling}
 use Rattle.cgf_journal.specs.Contents.{IsTakenIn}
 use Rattle.cgf_journal.specs.Sound.{places_from}
 use Rattle.cgf_journal.specs.Tally.{Tallies, tally_behind_all}

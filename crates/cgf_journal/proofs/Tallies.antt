@@ -1,40 +1,143 @@
--- The tally of a history, changed by one entry after the other.
-use Rattle.std.proofs.Common.{◌≡◌, ℕ, ◌+◌, ◌-◌, nat_le, List, [], ◌∷◌, ◌++◌, refl, sym, ap, ◌∙◌, arith, append_assoc}
+-- The tally of a history tells what its entries cost and promise.
+use Rattle.std.proofs.Common.{◌≡◌, ℕ, suc, zero-add, ◌+◌, ◌-◌, ◌*◌, ◌&&◌, Bool, true, false, cond, if◌then◌else◌, nat_lt, nat_le, List, [], ◌∷◌, ◌++◌, length, filter, refl, sym, ap, ◌∙◌, arith, append_assoc, subst}
 use Rattle.std.proofs.lemmas.List.{append-nil}
+use Rattle.gw_base.specs.declared.held.HeldKey.{HeldKey}
+use Rattle.gw_base.specs.declared.history.HistoryAct.{HistoryAct}
 use Rattle.gw_base.specs.declared.history.HistoryEntry.{HistoryEntry}
-use Rattle.gw_base.specs.HeldKeys.{promised_octets}
-use Rattle.gw_base.specs.View.{HistoryView}
+use Rattle.gw_base.specs.HeldKeys.{held_by, held_keys, promised_octets}
+use Rattle.gw_base.specs.History.{due_after, is_close_due}
+use Rattle.gw_base.specs.View.{HistoryView, stays_held}
 use Rattle.gw_base.specs.ViewLaws.{view_of-append}
+use Rattle.entry_codec.specs.Laws.{costs_of-append}
 use Rattle.entry_codec.specs.Room.{capacity_of, costs_of, has_room}
 use Rattle.entry_codec.specs.Spelling.{cost_of}
-use Rattle.entry_codec.proofs.Contents.{costs_of-append}
-use Rattle.cgf_journal.specs.Tally.{TallyValue, free_beside, has_room_behind, promised_by, tally_behind, tally_behind_all, tally_of}
+use Rattle.cgf_journal.specs.Rank.{rank_of}
+use Rattle.cgf_journal.specs.Tally.{TallyValue, free_beside, has_room_behind, held_after, key_in_order, keys_in_order, no_tally, promised_by, tally_behind, tally_behind_all, tally_of}
 
--- what a view tells of a tally
-abbrev with_costs : ℕ → HistoryView → TallyValue
-with_costs costs v = record { costs = costs; held = v.held; is_close_due = v.is_close_due }
-
-pub tally_goes_on : (h : List HistoryEntry) (e : HistoryEntry) → tally_of (h ++ e ∷ []) ≡ tally_behind (tally_of h) e
-tally_goes_on h e =
-    let costs : costs_of (h ++ e ∷ []) ≡ costs_of h + cost_of e = omega (arith, costs_of-append h (e ∷ [])) in
-    λ i. with_costs (costs i) (view_of-append h e i)
-
-pub tally_all : (h g : List HistoryEntry) → tally_behind_all (tally_of h) g ≡ tally_of (h ++ g)
-tally_all h [] = ap (λ (k : List HistoryEntry). tally_of k) (sym (append-nil h))
-tally_all h (e ∷ g) =
-    ap (λ (t : TallyValue). tally_behind_all t g) (sym (tally_goes_on h e))
-    ∙ tally_all (h ++ e ∷ []) g ∙ ap (λ (k : List HistoryEntry). tally_of k) (append_assoc h (e ∷ []) g)
+-- ---- one entry after the other
 
 pub tally_all-append : (t : TallyValue) (h g : List HistoryEntry) → tally_behind_all t (h ++ g) ≡ tally_behind_all (tally_behind_all t h) g
 tally_all-append t [] g = refl
 tally_all-append t (e ∷ h) g = tally_all-append (tally_behind t e) h g
 
+pub tally_goes_on : (h : List HistoryEntry) (e : HistoryEntry) → tally_of (h ++ e ∷ []) ≡ tally_behind (tally_of h) e
+tally_goes_on h e = tally_all-append no_tally h (e ∷ [])
+
+pub tally_all : (h g : List HistoryEntry) → tally_behind_all (tally_of h) g ≡ tally_of (h ++ g)
+tally_all h g = sym (tally_all-append no_tally h g)
+
 pub tally_all-costs : (t : TallyValue) (g : List HistoryEntry) → (tally_behind_all t g).costs ≡ t.costs + costs_of g
 tally_all-costs t [] = omega arith
 tally_all-costs t (e ∷ g) = omega (arith, tally_all-costs (tally_behind t e) g)
 
+-- ---- the held keys, in another order
+
+-- how many keys pass a test
+abbrev passing : (HeldKey → Bool) → List HeldKey → ℕ
+passing p [] = 0
+passing p (key ∷ keys) = cond (p key) 1 0 + passing p keys
+
+moved : (a b c n : ℕ) → n ≡ b + c → a + n ≡ a + b + c
+moved a b c n e = omega (arith, e)
+
+turned : (c n : ℕ) → c + n ≡ n + c
+turned c n = omega arith
+
+one_longer : (n m : ℕ) → n ≡ m → 1 + n ≡ suc m
+one_longer n m e = omega (arith, e)
+
+-- as many keys of the two lists pass each test
+abbrev AreAlike : List HeldKey → List HeldKey → Type 0
+AreAlike keys others = (p : HeldKey → Bool) → passing p keys ≡ passing p others
+
+passing_both : (p q : HeldKey → Bool) (keys : List HeldKey) → passing p (filter q keys) ≡ passing (λ (key : HeldKey). q key && p key) keys
+passing_both p q [] = refl
+passing_both p q (key ∷ keys) = by_test (q key) (passing_both p q keys)
+  where
+    by_test : (a : Bool) → passing p (filter q keys) ≡ passing (λ (k : HeldKey). q k && p k) keys
+        → passing p (cond a (key ∷ filter q keys) (filter q keys)) ≡ cond (a && p key) 1 0 + passing (λ (k : HeldKey). q k && p k) keys
+    by_test true rest = ap (λ (n : ℕ). cond (p key) 1 0 + n) rest
+    by_test false rest = rest ∙ sym (zero-add (passing (λ (k : HeldKey). q k && p k) keys))
+
+filter_alike : (q : HeldKey → Bool) (keys others : List HeldKey) → AreAlike keys others → AreAlike (filter q keys) (filter q others)
+filter_alike q keys others alike p = passing_both p q keys ∙ alike (λ (key : HeldKey). q key && p key) ∙ sym (passing_both p q others)
+
+passing_in_order : (p : HeldKey → Bool) (key : HeldKey) (keys : List HeldKey) → passing p (key_in_order key keys) ≡ passing p keys + cond (p key) 1 0
+passing_in_order p key [] = turned (cond (p key) 1 0) 0
+passing_in_order p key (first ∷ keys) = by_order (nat_lt (rank_of first.node.0 first.number) (rank_of key.node.0 key.number)) (passing_in_order p key keys)
+  where
+    by_order : (b : Bool) → passing p (key_in_order key keys) ≡ passing p keys + cond (p key) 1 0
+        → passing p (cond b (first ∷ key_in_order key keys) (key ∷ first ∷ keys)) ≡ passing p (first ∷ keys) + cond (p key) 1 0
+    by_order true rest = moved (cond (p first) 1 0) (passing p keys) (cond (p key) 1 0) (passing p (key_in_order key keys)) rest
+    by_order false rest = turned (cond (p key) 1 0) (passing p (first ∷ keys))
+
+passing_all_in_order : (p : HeldKey → Bool) (more keys : List HeldKey) → passing p (keys_in_order more keys) ≡ passing p keys + passing p more
+passing_all_in_order p [] keys = omega arith
+passing_all_in_order p (key ∷ more) keys =
+    passing_in_order p key (keys_in_order more keys) ∙ ap (λ (n : ℕ). n + cond (p key) 1 0) (passing_all_in_order p more keys)
+    ∙ regrouped (passing p keys) (passing p more) (cond (p key) 1 0)
+  where
+    regrouped : (k m c : ℕ) → k + m + c ≡ k + (c + m)
+    regrouped k m c = omega arith
+
+passing-append : (p : HeldKey → Bool) (keys more : List HeldKey) → passing p (keys ++ more) ≡ passing p keys + passing p more
+passing-append p [] more = sym (zero-add (passing p more))
+passing-append p (key ∷ keys) more = moved (cond (p key) 1 0) (passing p keys) (passing p more) (passing p (keys ++ more)) (passing-append p keys more)
+
+after_alike : (act : HistoryAct) (keys others : List HeldKey) → AreAlike keys others → AreAlike (held_after act keys) (filter (λ (key : HeldKey). stays_held act key) others ++ held_by act [])
+after_alike act keys others alike p =
+    passing_all_in_order p (held_by act []) (filter (λ (key : HeldKey). stays_held act key) keys)
+    ∙ ap (λ (n : ℕ). n + passing p (held_by act [])) (filter_alike (λ (key : HeldKey). stays_held act key) keys others alike p)
+    ∙ sym (passing-append p (filter (λ (key : HeldKey). stays_held act key) others) (held_by act []))
+
+passing_all : (keys : List HeldKey) → passing (λ (key : HeldKey). true) keys ≡ length keys
+passing_all [] = refl
+passing_all (key ∷ keys) = one_longer (passing (λ (k : HeldKey). true) keys) (length keys) (passing_all keys)
+
+length_alike : (keys others : List HeldKey) → AreAlike keys others → length keys ≡ length others
+length_alike keys others alike = sym (passing_all keys) ∙ alike (λ (key : HeldKey). true) ∙ passing_all others
+
+-- ---- what a tally tells of a history
+
+record Tells (t : TallyValue) (h : List HistoryEntry) : Type 0 where
+  costs : t.costs ≡ costs_of h
+  held : AreAlike t.held (held_keys h)
+  due : t.is_close_due ≡ is_close_due h
+
+tells_next : (t : TallyValue) (h : List HistoryEntry) (e : HistoryEntry) → Tells t h → Tells (tally_behind t e) (h ++ e ∷ [])
+tells_next t h e tells = record {
+  costs = omega (arith, tells.costs, costs_of-append h (e ∷ []));
+  held = λ p. after_alike e.act t.held (held_keys h) tells.held p ∙ sym (ap (λ (v : HistoryView). passing p v.held) (view_of-append h e));
+  due = ap (λ (b : Bool). due_after b e.act) tells.due ∙ sym (ap (λ (v : HistoryView). v.is_close_due) (view_of-append h e));
+}
+
+tells_all : (t : TallyValue) (h g : List HistoryEntry) → Tells t h → Tells (tally_behind_all t g) (h ++ g)
+tells_all t h [] tells = let P : List HistoryEntry → Type 0 = λ k. Tells t k in subst P (sym (append-nil h)) tells
+tells_all t h (e ∷ g) tells =
+    let P : List HistoryEntry → Type 0 = λ k. Tells (tally_behind_all t (e ∷ g)) k in
+    subst P (append_assoc h (e ∷ []) g) (tells_all (tally_behind t e) (h ++ e ∷ []) g (tells_next t h e tells))
+
+none_told : Tells no_tally []
+none_told = record { costs = refl; held = λ p. refl; due = refl }
+
+tells_of : (h : List HistoryEntry) → Tells (tally_of h) h
+tells_of h = tells_all no_tally [] h none_told
+
+pub tally_of-costs : (h : List HistoryEntry) → (tally_of h).costs ≡ costs_of h
+tally_of-costs h = (tells_of h).costs
+
+promises_are : (h : List HistoryEntry) → promised_by (tally_of h) ≡ promised_octets h
+promises_are h =
+    let tells = tells_of h in
+    let long = length_alike (tally_of h).held (held_keys h) tells.held in
+    λ i. 76 * long i + (if tells.due i then 30 else 0)
+
 pub room_is : (h : List HistoryEntry) (e : HistoryEntry) (size : ℕ) → has_room_behind (tally_of h) e size ≡ has_room h e size
-room_is h e size = ap (λ (t : TallyValue). nat_le (costs_of h + cost_of e + promised_by t) (capacity_of size)) (sym (tally_goes_on h e))
+room_is h e size =
+    let after = tally_goes_on h e in
+    let costs : (tally_behind (tally_of h) e).costs ≡ costs_of h + cost_of e = ap (λ (n : ℕ). n + cost_of e) (tally_of-costs h) in
+    let promises : promised_by (tally_behind (tally_of h) e) ≡ promised_octets (h ++ e ∷ []) = ap (λ (t : TallyValue). promised_by t) (sym after) ∙ promises_are (h ++ e ∷ []) in
+    λ i. nat_le (costs i + promises i) (capacity_of size)
 
 pub free_is : (h : List HistoryEntry) (size : ℕ) → free_beside (tally_of h) size ≡ capacity_of size - (costs_of h + promised_octets h)
-free_is h size = refl
+free_is h size = λ i. capacity_of size - (tally_of-costs h i + promises_are h i)

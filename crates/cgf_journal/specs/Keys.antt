@@ -1,47 +1,58 @@
--- The keys that a tally keeps.
-use Rattle.std.specs.Prelude.{◌+◌, ◌&&◌, Bool, true, false, if◌then◌else◌, List, map, filter}
+-- The keys that a tally keeps, as lists.
+use Rattle.std.specs.Prelude.{◌≡◌, ◌^◌, ◌<◌, ◌≤◌, ◌==◌, ◌&&◌, ℕ, Bool, true, if◌then◌else◌, List, [], ◌∷◌, filter, length, map, slice_index_or, All}
 use Rattle.gw_base.specs.declared.held.HeldKey.{HeldKey}
-use Rattle.gw_base.specs.declared.history.HistoryAct.{HistoryAct}
-use Rattle.gw_base.specs.declared.history.HistoryEntry.{HistoryEntry}
-use Rattle.gw_base.specs.History.{due_after}
-use Rattle.gw_base.specs.View.{stays_held}
-use Rattle.entry_codec.specs.Spelling.{cost_of}
-use Rattle.cgf_journal.specs.Tally.{TallyValue}
+pub use Rattle.cgf_journal.specs.Rank.{rank_of}
 use Rattle.cgf_journal.specs.declared.key.KeptKey.{KeptKey}
-use Rattle.cgf_journal.specs.declared.key.Sum.{Sum}
 
 abbrev pub key_of : KeptKey → HeldKey
 key_of kept = record { node = kept.node; number = kept.number }
 
--- whether the firm entries hold a key, or else all
-abbrev pub counts : Bool → KeptKey → Bool
-counts firm kept = if firm then kept.is_firm else kept.is_live
+-- whether a key is this number of this node
+abbrev pub is_named : ℕ → ℕ → HeldKey → Bool
+is_named node number key = (node == key.node.0) && (number == key.number)
+
+-- whether the firm entries hold a key, or else all, in this round
+abbrev pub counts : Bool → ℕ → KeptKey → Bool
+counts firm round kept = if firm && (kept.round == round) then kept.was_held else kept.is_held
 
 -- those that the firm entries hold, or else all
-abbrev pub counted_keys : Bool → List KeptKey → List HeldKey
-counted_keys firm keys = map key_of (filter (λ kept. counts firm kept) keys)
+abbrev pub counted_keys : Bool → ℕ → List KeptKey → List HeldKey
+counted_keys firm round keys = map key_of (filter (λ kept. counts firm round kept) keys)
 
-abbrev pub firm_keys : List KeptKey → List HeldKey
-firm_keys keys = counted_keys true keys
+-- a key as all entries hold it or don't from this round on
+abbrev pub changed_key : Bool → ℕ → KeptKey → KeptKey
+changed_key held round kept = record kept { was_held = counts true round kept; is_held = held; round = round }
 
-abbrev pub live_keys : List KeptKey → List HeldKey
-live_keys keys = counted_keys false keys
+-- a key as the firm entries hold it, or else all, for both
+abbrev pub settled_key : Bool → ℕ → KeptKey → KeptKey
+settled_key firm round kept = record kept { was_held = counts firm round kept; is_held = counts firm round kept }
 
--- a key behind one more entry
-abbrev pub key_behind : HistoryAct → KeptKey → KeptKey
-key_behind act kept = record kept { is_live = kept.is_live && stays_held act (key_of kept) }
+abbrev pub rank : KeptKey → ℕ
+rank kept = rank_of kept.node.0 kept.number
 
--- a key that the firm entries hold, and all
-abbrev pub held_key : KeptKey → KeptKey
-held_key kept = record kept { is_firm = true; is_live = true }
+-- The keys are in this order, each once.
+abbrev pub AreAscending : List KeptKey → Type 0
+AreAscending keys = (i j : ℕ) (d : KeptKey) → i < j → j < length keys → rank (slice_index_or keys i d) < rank (slice_index_or keys j d)
 
--- a sum behind one more entry
-abbrev pub sum_behind : Sum → HistoryEntry → Sum
-sum_behind sum e = record { costs = sum.costs + cost_of e; is_close_due = due_after sum.is_close_due e.act }
+-- No key changed after this round, and each number has 64 bits.
+abbrev pub AreUpTo : ℕ → List KeptKey → Type 0
+AreUpTo round keys = All (λ (kept : KeptKey). (kept.round ≤ round) × (kept.number < 2 ^ 64)) keys
 
--- what keys and a sum tell of the firm entries, and of all
-abbrev pub firm_tally : List KeptKey → Sum → TallyValue
-firm_tally keys sum = record { costs = sum.costs; held = firm_keys keys; is_close_due = sum.is_close_due }
+-- This number of this node stands here.
+pub record IsFound (keys : List KeptKey) (at node number : ℕ) : Type 0 where
+  pub inside : at < length keys
+  pub named : (d : KeptKey) → is_named node number (key_of (slice_index_or keys at d)) ≡ true
+  pub before : (j : ℕ) (d : KeptKey) → j < at → rank (slice_index_or keys j d) < rank_of node number
+  pub later : (j : ℕ) (d : KeptKey) → at < j → j < length keys → rank_of node number < rank (slice_index_or keys j d)
 
-abbrev pub live_tally : List KeptKey → Sum → TallyValue
-live_tally keys sum = record { costs = sum.costs; held = live_keys keys; is_close_due = sum.is_close_due }
+-- This number of this node doesn't stand among the keys, and belongs here.
+pub record IsAbsent (keys : List KeptKey) (at node number : ℕ) : Type 0 where
+  pub inside : at ≤ length keys
+  pub before : (j : ℕ) (d : KeptKey) → j < at → rank (slice_index_or keys j d) < rank_of node number
+  pub later : (j : ℕ) (d : KeptKey) → at ≤ j → j < length keys → rank_of node number < rank (slice_index_or keys j d)
+
+-- The numbers of this node begin here.
+pub record IsFirstOf (keys : List KeptKey) (at node : ℕ) : Type 0 where
+  pub inside : at ≤ length keys
+  pub before : (j : ℕ) (d : KeptKey) → j < at → rank (slice_index_or keys j d) < rank_of node 0
+  pub later : (j : ℕ) (d : KeptKey) → at ≤ j → j < length keys → rank_of node 0 ≤ rank (slice_index_or keys j d)

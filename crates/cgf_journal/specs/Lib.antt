@@ -3,6 +3,9 @@ pub mod Follows
 pub mod Format
 pub mod Keys
 pub mod Opening
+pub mod Rank
+pub mod Sorted
 pub mod Sound
+pub mod Sums
 pub mod Tally
 pub mod Trail

@@ -8,6 +8,8 @@ mod key;
 pub mod laws;
 mod listing;
 mod opening;
+mod sorted;
+mod sum;
 mod tally;
 #[cfg(test)]
 mod tests;

@@ -4,7 +4,8 @@ ghost use Rattle.entry_codec.specs.Room.{capacity_of};
 ghost use Rattle.entry_codec.specs.Spelling.{cost_of};
 ghost use Rattle.cgf_journal.specs.Tally.{free_beside, has_room_behind, tally_behind, tally_of};
 
-use crate::key::{KeptKey, Sum, add_key, count_added, count_held, count_staying, due_after, keep};
+use crate::sorted::SortedKeys;
+use crate::sum::{Sum, count_added};
 use entry_codec::cost;
 use gw_base::{Entry, NoMemory};
 use std::alloc::Global;
@@ -23,19 +24,19 @@ const TAKEN: u64 = 33;
 /// them.
 #[derive(Debug, Drop)]
 pub(crate) struct Tally {
-    /// The keys that the firm entries or all entries hold, in the order of the Hold entries.
-    keys: Vec<KeptKey>,
+    keys: SortedKeys,
     firm: Sum,
     live: Sum,
 }
 
 impl Model for Tally {
-    ghost use Rattle.cgf_journal.specs.Keys.{firm_tally, live_tally};
+    ghost use Rattle.cgf_journal.specs.Sorted.{firm_keys, live_keys};
+    ghost use Rattle.cgf_journal.specs.Sums.{tally_with};
     ghost use Rattle.cgf_journal.specs.Tally.{Tallies};
 
     ghost Value = { Tallies };
 
-    ghost view = { λ t. record { firm = firm_tally t.keys.items t.firm; live = live_tally t.keys.items t.live } };
+    ghost view = { λ t. record { firm = tally_with t.firm (firm_keys t.keys); live = tally_with t.live (live_keys t.keys) } };
 }
 
 impl Tally {
@@ -48,7 +49,7 @@ impl Tally {
             is_close_due: false,
         };
         Tally {
-            keys: Vec::new(alloc),
+            keys: SortedKeys::new(alloc),
             firm: none,
             live: none,
         }
@@ -60,8 +61,8 @@ impl Tally {
         ensures ok { OnOk result (self.new ≡ record { firm = self.old.firm; live = tally_behind self.old.live (entry_view entry.now) }) }
         ensures err { OnErr result (self.new ≡ self.old) }
     {
-        add_key(&mut self.keys, &entry.act)?;
-        self.live = self.live.behind(entry);
+        self.keys.note(&entry.act)?;
+        self.live = self.live.after(entry);
         Ok(())
     }
 
@@ -69,7 +70,7 @@ impl Tally {
     pub(crate) fn settle(&mut self)
         ensures { self.new ≡ record { firm = self.old.live; live = self.old.live } }
     {
-        keep(&mut self.keys, false);
+        self.keys.settle();
         self.firm = self.live;
     }
 
@@ -77,7 +78,7 @@ impl Tally {
     pub(crate) fn revert(&mut self)
         ensures { self.new ≡ record { firm = self.old.firm; live = self.old.firm } }
     {
-        keep(&mut self.keys, true);
+        self.keys.revert();
         self.live = self.firm;
     }
 
@@ -86,13 +87,14 @@ impl Tally {
         ensures { result ≡ has_room_behind (if behind_firm then self.now.firm else self.now.live) (entry_view entry.now) size }
     {
         let sum = Sum::of(behind_firm, self.firm, self.live);
-        let due = due_after(sum.is_close_due, &entry.act);
+        let due = entry.act.due_after(sum.is_close_due);
         let cost = cost(entry);
         // Where there is room even if each key stays held, none is looked at.
-        if fits(sum.costs, cost, self.keys.len() as u64, 1, due, size) {
+        let held = self.keys.count(behind_firm);
+        if fits(sum.costs, cost, held, 1, due, size) {
             return true;
         }
-        let staying = count_staying(&self.keys, behind_firm, &entry.act);
+        let staying = self.keys.count_staying(behind_firm, &entry.act);
         fits(sum.costs, cost, staying, count_added(&entry.act), due, size)
     }
 
@@ -101,7 +103,7 @@ impl Tally {
         ensures { result ≡ free_beside (if behind_firm then self.now.firm else self.now.live) size }
     {
         let sum = Sum::of(behind_firm, self.firm, self.live);
-        let held = count_held(&self.keys, behind_firm);
+        let held = self.keys.count(behind_firm);
         let taken = u128::from(sum.costs) + promised(held, 0, sum.is_close_due);
         capacity(size).saturating_sub(taken) as u64
     }

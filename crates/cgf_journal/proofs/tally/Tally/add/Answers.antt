@@ -4,5 +4,5 @@ use Rattle.cgf_journal.proofs.tally.Tally.add.Goals as goal
 
 pub returns-clause-ok : goal.returns-clause-ok
 returns-clause-ok c =
-    one_more c.self.inside.keys.items c.add_key.new.keys.items c.self.inside.firm c.self.inside.live c.behind-self-inside.result c.args.self.now (entry_view c.args.entry.now)
-    c.self.view_is c.in_ok-add_key.ensures.firm c.in_ok-add_key.ensures.live c.behind-self-inside.ensures
+    one_more c.self.inside.keys c.note.new.self c.self.inside.firm c.self.inside.live c.after-self-inside.result c.args.self.now (entry_view c.args.entry.now)
+    c.self.view_is c.in_ok-note.ensures.firm c.in_ok-note.ensures.ok c.after-self-inside.ensures

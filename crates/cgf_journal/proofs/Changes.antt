@@ -1,0 +1,213 @@
+-- What a change of sorted keys makes of those that are held.
+use Rattle.std.proofs.Common.{inl, inr, ◌⊎◌, ◌≡◌, ℕ, ◌+◌, ◌<◌, ◌≤◌, ◌^◌, ◌==◌, ◌&&◌, ◌||◌, not, cond, Bool, true, false, List, [], ◌∷◌, ◌++◌, length, take, drop, map, filter, refl, sym, ap, ◌∙◌, subst, arith}
+use Rattle.std.specs.Prelude.{slice_index_or, slice_set}
+use Rattle.std.specs.List.{list_any}
+use Rattle.std.proofs.lemmas.Bool.{and_parts, cases_eq, cases_lt, eq-eqb, eqb-true, ne_eqb, true≢false}
+use Rattle.std.proofs.lemmas.List.{get_or_default, get_or-set_other, get_or-set_same, length-set}
+use Rattle.std.proofs.lemmas.List.Folds.{list_any-append}
+use Rattle.gw_base.specs.declared.address.NodeId.{NodeId}
+use Rattle.gw_base.specs.declared.entry.Act.{Act}
+use Rattle.gw_base.specs.declared.entry.Act.TheVariants as lent
+use Rattle.gw_base.specs.Entry.{act_view}
+use Rattle.gw_base.specs.declared.history.HistoryAct.{HistoryAct}
+use Rattle.gw_base.specs.declared.held.HeldKey.{HeldKey}
+use Rattle.gw_base.specs.declared.history.HistoryAct.TheVariants.{Close, Path, Release, Seal, Start, Tick}
+use Rattle.gw_base.specs.View.{stays_held}
+use Rattle.cgf_journal.specs.Keys.{AreAscending, AreUpTo, IsAbsent, IsFirstOf, IsFound, changed_key, counted_keys, counts, is_named, key_of, rank, rank_of}
+use Rattle.cgf_journal.specs.Sorted.{IsChanged, firm_keys, live_keys}
+use Rattle.cgf_journal.specs.Tally.{held_after, held_with, key_in_order}
+use Rattle.cgf_journal.specs.declared.key.KeptKey.{KeptKey}
+use Rattle.cgf_journal.specs.declared.sorted.SortedKeys.{SortedKeys}
+use Rattle.cgf_journal.proofs.KeysLemmas.{Before, Later, count-changed, firm-changed, firm-inserted, held_kept, length-key_in_order, let_go, live-changed, live-inserted, others_stay, with_change}
+use Rattle.cgf_journal.proofs.Ranks.{before_node, not_of_node, of_node, past_node}
+
+abbrev pub new_key : NodeId → ℕ → ℕ → KeptKey
+new_key n x r = record { node = n; number = x; was_held = false; is_held = true; round = r }
+
+-- ---- one key changed
+
+key_is : (n : NodeId) (x : ℕ) (key : HeldKey) → is_named n.0 x key ≡ true → key ≡ record { node = n; number = x }
+key_is n x key named =
+    let b = and_parts (n.0 == key.node.0) (x == key.number) named in
+    let node = sym (eqb-true n.0 key.node.0 b.0) in
+    let number = sym (eqb-true x key.number b.1) in
+    λ i. record { node = record { 0 = node i }; number = number i }
+
+pub live_after : (old new : SortedKeys) (at : ℕ) (held : Bool) (n : NodeId) (x : ℕ) → IsChanged at held old new → IsFound old.keys.items at n.0 x
+    → live_keys new ≡ with_change held n x (live_keys old)
+live_after old new at held n x change found =
+    let d = new_key n x 0 in
+    let now = changed_key held old.round (slice_index_or old.keys.items at d) in
+    (λ i. counted_keys false (change.round i) (change.keys d i))
+    ∙ live-changed n x old.round old.keys.items at now found.inside (key_is n x (key_of (slice_index_or old.keys.items at d)) (found.named d)) found.named found.before
+    (λ j e le lt. found.later j e (omega (arith, le)) lt)
+
+pub firm_after : (old new : SortedKeys) (at : ℕ) (held : Bool) → IsChanged at held old new → at < length old.keys.items → firm_keys new ≡ firm_keys old
+firm_after old new at held change inside =
+    let d = new_key (record { 0 = 0 }) 0 0 in
+    let now = changed_key held old.round (slice_index_or old.keys.items at d) in
+    (λ i. counted_keys true (change.round i) (change.keys d i))
+    ∙ firm-changed old.round old.keys.items at now inside
+    (λ e. ap (λ (k : KeptKey). key_of k) (get_or_default old.keys.items at d e inside))
+    (λ e. count-changed held old.round (slice_index_or old.keys.items at d) ∙ ap (λ (k : KeptKey). counts true old.round k) (get_or_default old.keys.items at d e inside))
+
+-- ---- one key more
+
+pub absent_stay : (n : NodeId) (x : ℕ) (s : Bool) (r : ℕ) (keys : List KeptKey) (at : ℕ) → IsAbsent keys at n.0 x
+    → filter (λ (key : HeldKey). stays_held (Seal n x) key) (counted_keys s r keys) ≡ counted_keys s r keys
+absent_stay n x s r keys at absent = others_stay n x s r keys (λ j d lt e. by_place j d lt e (cases_lt j at))
+  where
+    by_place : (j : ℕ) (d : KeptKey) → j < length keys → rank (slice_index_or keys j d) ≡ rank_of n.0 x → (j < at) ⊎ (at ≤ j) → ⊥
+    by_place j d lt e (inl before) = omega (arith, absent.before j d before, e)
+    by_place j d lt e (inr later) = omega (arith, absent.later j d later lt, e)
+
+pub live_more : (n : NodeId) (x r : ℕ) (keys now : List KeptKey) (at : ℕ) → IsAbsent keys at n.0 x → now ≡ take at keys ++ new_key n x r ∷ drop at keys
+    → counted_keys false r now ≡ held_with n x (counted_keys false r keys)
+live_more n x r keys now at absent is =
+    ap (λ (l : List KeptKey). counted_keys false r l) is
+    ∙ live-inserted (record { node = n; number = x }) r keys at (new_key n x r) absent.inside refl refl absent.before absent.later
+    ∙ ap (λ (l : List HeldKey). key_in_order (record { node = n; number = x }) l) (sym (absent_stay n x false r keys at absent))
+
+pub length_more : (n : NodeId) (x r : ℕ) (keys now : List KeptKey) (at : ℕ) → IsAbsent keys at n.0 x → now ≡ take at keys ++ new_key n x r ∷ drop at keys
+    → length (counted_keys false r now) ≡ length (counted_keys false r keys) + 1
+length_more n x r keys now at absent is =
+    ap (λ (l : List KeptKey). length (counted_keys false r l)) is
+    ∙ ap (λ (l : List HeldKey). length l) (live-inserted (record { node = n; number = x }) r keys at (new_key n x r) absent.inside refl refl absent.before absent.later)
+    ∙ length-key_in_order (record { node = n; number = x }) (counted_keys false r keys)
+
+pub firm_more : (n : NodeId) (x r : ℕ) (keys now : List KeptKey) (at : ℕ) → now ≡ take at keys ++ new_key n x r ∷ drop at keys → counted_keys true r now ≡ counted_keys true r keys
+firm_more n x r keys now at is = ap (λ (l : List KeptKey). counted_keys true r l) is ∙ firm-inserted r keys at (new_key n x r) (rw (eq-eqb r r refl) refl)
+
+-- ---- numbers named one after the other
+
+both_pass : (p q r : HeldKey → Bool) → ((key : HeldKey) → r key ≡ (q key && p key)) → (keys : List HeldKey) → filter p (filter q keys) ≡ filter r keys
+both_pass p q r same [] = refl
+both_pass p q r same (key ∷ keys) = by_tests (q key) (p key) refl (same key) (both_pass p q r same keys)
+  where
+    by_tests : (a b : Bool) → p key ≡ b → r key ≡ (a && p key) → filter p (filter q keys) ≡ filter r keys
+        → filter p (cond a (key ∷ filter q keys) (filter q keys)) ≡ cond (r key) (key ∷ filter r keys) (filter r keys)
+    by_tests true true is e rest = rw (e ∙ is) (rw is (ap (λ (l : List HeldKey). key ∷ l) rest))
+    by_tests true false is e rest = rw (e ∙ is) (rw is rest)
+    by_tests false b is e rest = rw e rest
+
+one_of_more : (a b c : Bool) → not (a && (b || (c || false))) ≡ (not (a && b) && not (a && c))
+one_of_more true true c = refl
+one_of_more true false true = refl
+one_of_more true false false = refl
+one_of_more false b c = refl
+
+pub next_named : (n : NodeId) (x : ℕ) (xs : List ℕ) (keys : List HeldKey)
+    → filter (λ (key : HeldKey). stays_held (Seal n x) key) (filter (λ (key : HeldKey). stays_held (Release n xs) key) keys) ≡ filter (λ (key : HeldKey). stays_held (Release n (xs ++ x ∷ [])) key) keys
+next_named n x xs keys =
+    both_pass (λ (key : HeldKey). stays_held (Seal n x) key) (λ (key : HeldKey). stays_held (Release n xs) key) (λ (key : HeldKey). stays_held (Release n (xs ++ x ∷ [])) key)
+    (λ key. ap (λ (b : Bool). not ((n.0 == key.node.0) && b)) (list_any-append (λ (y : ℕ). y == key.number) xs (x ∷ [])) ∙ one_of_more (n.0 == key.node.0) (list_any (λ (y : ℕ). y == key.number) xs) (x == key.number)) keys
+
+none_of_none : (a : Bool) → not (a && false) ≡ true
+none_of_none true = refl
+none_of_none false = refl
+
+pub none_named : (n : NodeId) (keys : List HeldKey) → filter (λ (key : HeldKey). stays_held (Release n []) key) keys ≡ keys
+none_named n [] = refl
+none_named n (key ∷ keys) = rw (none_of_none (n.0 == key.node.0)) (ap (λ (l : List HeldKey). key ∷ l) (none_named n keys))
+
+-- ---- the numbers of a node
+
+abbrev pub of_others : NodeId → HeldKey → Bool
+of_others n key = stays_held (Path n 0 0) key
+
+pub other_passes : (n : NodeId) (key : HeldKey) → (n.0 ≡ key.node.0 → ⊥) → of_others n key ≡ true
+other_passes n key ne = rw (ne_eqb n.0 key.node.0 ne) refl
+
+pub own_fails : (n : NodeId) (key : HeldKey) → n.0 ≡ key.node.0 → of_others n key ≡ false
+own_fails n key e = rw (eq-eqb n.0 key.node.0 e) refl
+
+key-set : (keys : List KeptKey) (at : ℕ) (now e : KeptKey) → at < length keys → key_of now ≡ key_of (slice_index_or keys at e)
+    → (j : ℕ) (d : KeptKey) → key_of (slice_index_or (slice_set keys at now) j d) ≡ key_of (slice_index_or keys j d)
+key-set keys at now e inside same j d = by_place (cases_eq j at)
+  where
+    by_place : (j ≡ at) ⊎ (j ≡ at → ⊥) → key_of (slice_index_or (slice_set keys at now) j d) ≡ key_of (slice_index_or keys j d)
+    by_place (inl here) =
+        ap (λ (k : ℕ). key_of (slice_index_or (slice_set keys at now) k d)) here ∙ ap (λ (k : KeptKey). key_of k) (get_or-set_same keys at now d inside)
+        ∙ same ∙ ap (λ (k : KeptKey). key_of k) (get_or_default keys at e d inside) ∙ ap (λ (k : ℕ). key_of (slice_index_or keys k d)) (sym here)
+    by_place (inr other) = ap (λ (k : KeptKey). key_of k) (get_or-set_other keys at j now d other)
+
+-- What stands while the numbers of a node are let go, from `first` on up to `at`; they end at `end`.
+pub record IsLettingGo (n : NodeId) (begun s : SortedKeys) (at end : ℕ) : Type 0 where
+  pub firm : firm_keys s ≡ firm_keys begun
+  pub live : filter (λ (key : HeldKey). of_others n key) (live_keys s) ≡ filter (λ (key : HeldKey). of_others n key) (live_keys begun)
+  pub inside : (at ≤ end) × (end ≤ length s.keys.items)
+  pub gone : (j : ℕ) (d : KeptKey) → j < at → (slice_index_or s.keys.items j d).is_held ≡ true → of_others n (key_of (slice_index_or s.keys.items j d)) ≡ true
+  pub own : (j : ℕ) (d : KeptKey) → at ≤ j → j < end → n.0 ≡ (slice_index_or s.keys.items j d).node.0
+  pub past : (j : ℕ) (d : KeptKey) → end ≤ j → j < length s.keys.items → n.0 ≡ (slice_index_or s.keys.items j d).node.0 → ⊥
+
+pub begins : (n : NodeId) (s : SortedKeys) (first end : ℕ) → IsFirstOf s.keys.items first n.0 → IsFirstOf s.keys.items end (n.0 + 1) → IsLettingGo n s s first end
+begins n s first end starts ends = record {
+  firm = refl;
+  live = refl;
+  inside = (elim (cases_lt end first) [
+      | inl lt ↦
+          let d = new_key n 0 0 in
+          let k = slice_index_or s.keys.items end d in
+          absurd (before_node k.node.0 n.0 k.number (starts.before end d lt) (ends.later end d (omega arith) (omega (arith, lt, starts.inside))))
+      | inr le ↦ le
+    ], ends.inside);
+  gone = λ j d lt held. other_passes n (key_of (slice_index_or s.keys.items j d)) (not_of_node (slice_index_or s.keys.items j d).node.0 n.0 (slice_index_or s.keys.items j d).number (starts.before j d lt));
+  own = λ j d le lt. of_node (slice_index_or s.keys.items j d).node.0 n.0 (slice_index_or s.keys.items j d).number (s.up_to j d (omega (arith, lt, ends.inside))).1 (starts.later j d le (omega (arith, lt, ends.inside))) (ends.before j d lt);
+  past = λ j d le lt. past_node (slice_index_or s.keys.items j d).node.0 n.0 (slice_index_or s.keys.items j d).number (s.up_to j d lt).1 (ends.later j d le lt);
+}
+
+pub goes_on : (n : NodeId) (begun s next : SortedKeys) (at end : ℕ) → at < end → IsChanged at false s next → IsLettingGo n begun s at end → IsLettingGo n begun next (at + 1) end
+goes_on n begun s next at end more change so_far =
+    let d0 = new_key n 0 0 in
+    let within : at < length s.keys.items = omega (arith, more, so_far.inside.1) in
+    let now = changed_key false s.round (slice_index_or s.keys.items at d0) in
+    let is = change.keys d0 in
+    let same = key-set s.keys.items at now d0 within refl in
+    let long : length next.keys.items ≡ length s.keys.items = ap (λ (l : List KeptKey). length l) is ∙ length-set s.keys.items at now in
+    let node : (j : ℕ) (d : KeptKey) → (slice_index_or next.keys.items j d).node.0 ≡ (slice_index_or s.keys.items j d).node.0 =
+    λ j d. ap (λ (l : List KeptKey). (slice_index_or l j d).node.0) is ∙ ap (λ (key : HeldKey). key.node.0) (same j d) in
+    record {
+      firm = firm_after s next at false change within ∙ so_far.firm;
+      live =
+          (λ i. filter (λ (key : HeldKey). of_others n key) (counted_keys false (change.round i) (is i)))
+          ∙ let_go (λ (key : HeldKey). of_others n key) s.round s.keys.items at now within refl (λ d. own_fails n (key_of (slice_index_or s.keys.items at d)) (so_far.own at d (omega arith) more))
+          ∙ so_far.live;
+      inside = (omega (arith, more), omega (arith, long, so_far.inside.1));
+      gone = λ j d lt held. elim (cases_eq j at) [
+        | inl here ↦
+            let free : (slice_index_or next.keys.items j d).is_held ≡ false =
+            ap (λ (l : List KeptKey). (slice_index_or l j d).is_held) is ∙ ap (λ (k : ℕ). (slice_index_or (slice_set s.keys.items at now) k d).is_held) here ∙ ap (λ (k : KeptKey). k.is_held) (get_or-set_same s.keys.items at now d within) in
+            absurd (true≢false (sym held ∙ free))
+        | inr other ↦
+            let was : slice_index_or next.keys.items j d ≡ slice_index_or s.keys.items j d = ap (λ (l : List KeptKey). slice_index_or l j d) is ∙ get_or-set_other s.keys.items at j now d other in
+            ap (λ (k : KeptKey). of_others n (key_of k)) was ∙ so_far.gone j d (elim (cases_lt j at) [
+              | inl below ↦ below
+              | inr ge ↦ absurd (other (omega (arith, lt, ge)))
+            ]) (sym (ap (λ (k : KeptKey). k.is_held) was) ∙ held)
+      ];
+      own = λ j d le lt. so_far.own j d (omega (arith, le)) lt ∙ sym (node j d);
+      past = λ j d le lt e. so_far.past j d le (omega (arith, lt, long)) (e ∙ node j d);
+    }
+
+pub ends_free : (n : NodeId) (begun s : SortedKeys) (at end : ℕ) → end ≤ at → IsLettingGo n begun s at end
+    → live_keys s ≡ filter (λ (key : HeldKey). of_others n key) (live_keys begun)
+ends_free n begun s at end done so_far =
+    sym (held_kept (λ (key : HeldKey). of_others n key) s.round s.keys.items (λ j d lt held. elim (cases_lt j at) [
+      | inl below ↦ so_far.gone j d below held
+      | inr past ↦ other_passes n (key_of (slice_index_or s.keys.items j d)) (so_far.past j d (omega (arith, done, past)) lt)
+    ])) ∙ so_far.live
+
+-- ---- entries that name nothing
+
+all_stay : (act : HistoryAct) → ((key : HeldKey) → stays_held act key ≡ true) → (keys : List HeldKey) → filter (λ (key : HeldKey). stays_held act key) keys ≡ keys
+all_stay act stay [] = refl
+all_stay act stay (key ∷ keys) = rw (stay key) (ap (λ (l : List HeldKey). key ∷ l) (all_stay act stay keys))
+
+pub after_start : (act : Act) (keys : List HeldKey) → act ≡ lent.Start → keys ≡ held_after (act_view act) keys
+after_start act keys is = sym (ap (λ (a : Act). held_after (act_view a) keys) is ∙ all_stay Start (λ key. refl) keys)
+
+pub after_tick : (act : Act) (keys : List HeldKey) → act ≡ lent.Tick → keys ≡ held_after (act_view act) keys
+after_tick act keys is = sym (ap (λ (a : Act). held_after (act_view a) keys) is ∙ all_stay Tick (λ key. refl) keys)
+
+pub after_close : (act : Act) (keys : List HeldKey) → act ≡ lent.Close → keys ≡ held_after (act_view act) keys
+after_close act keys is = sym (ap (λ (a : Act). held_after (act_view a) keys) is ∙ all_stay Close (λ key. refl) keys)

@@ -1,0 +1,10 @@
+use Rattle.std.proofs.Common.{List, map}
+use Rattle.cgf_journal.specs.Keys.{settled_key}
+use Rattle.cgf_journal.specs.declared.key.KeptKey.{KeptKey}
+use Rattle.cgf_journal.proofs.Orders.{written}
+use Rattle.cgf_journal.proofs.sorted.settle_all.Goals as goal
+
+pub returns : goal.returns
+returns c =
+    written (λ (kept : KeptKey). settled_key c.args.firm c.args.round kept) c.args.keys.now.len c.deref_mut.result.now c.args.keys.now.items c.settle_keys.new.keys _
+    c.settle_keys.ensures c.deref_mut.ensures.len c.deref_mut.ensures.value

@@ -1,0 +1,229 @@
+// The keys that a tally keeps, in order.
+ghost use Rattle.std.specs.Prelude.{◌≡◌, ◌&&◌, count_by, ◌+◌, ◌<◌, ◌≤◌, ◌^◌, [], true, false, filter, length, vec_len, IfOk, IfErr, OnOk, OnErr, slice_index_or, slice_set, map};
+ghost use Rattle.gw_base.specs.Entry.{act_view};
+ghost use Rattle.gw_base.specs.View.{stays_held};
+ghost use Rattle.gw_base.specs.declared.history.HistoryAct.TheVariants.{Path, Release, Seal};
+ghost use Rattle.cgf_journal.specs.Keys.{AreAscending, AreUpTo, IsAbsent, IsFirstOf, IsFound, counted_keys, counts, key_of, settled_key};
+ghost use Rattle.cgf_journal.specs.declared.key.KeptKey.{KeptKey};
+ghost use Rattle.cgf_journal.specs.Tally.{held_after, held_with};
+
+use crate::key::{KeptKey, one_if};
+use gw_base::{Absolute, Act, NoMemory, NodeId};
+use std::alloc::Global;
+
+/// Where a node's number stands among keys in order, or else the place where it belongs.
+fn search(keys: &[KeptKey], node: NodeId, number: Absolute) -> Result<usize, usize>
+    requires { AreAscending keys.now }
+    ensures found { IfOk result (λ at. IsFound keys.now at node.0 number) }
+    ensures absent { IfErr result (λ at. IsAbsent keys.now at node.0 number) }
+{
+    let at = keys.partition_point(|kept| kept.is_before(node, number));
+    if at == keys.len() {
+        return Err(at);
+    }
+    if keys[at].is_at(node, number) {
+        return Ok(at);
+    }
+    Err(at)
+}
+
+/// Where the numbers of a node begin.
+fn first_of(keys: &[KeptKey], node: NodeId) -> usize
+    requires { AreAscending keys.now }
+    ensures { IsFirstOf keys.now result node.0 }
+{
+    keys.partition_point(|kept| kept.is_before(node, 0))
+}
+
+/// Where the numbers of a node end.
+fn end_of(keys: &[KeptKey], node: NodeId) -> usize
+    requires { AreAscending keys.now }
+    ensures { IsFirstOf keys.now result (node.0 + 1) }
+{
+    keys.partition_point(|kept| kept.is_up_to(node))
+}
+
+fn count_staying(keys: &[KeptKey], firm: bool, round: u64, act: &Act<'_>) -> u64
+    ensures { result ≡ count_by (λ kept. counts firm round kept && stays_held (act_view act.now) (key_of kept)) keys.now }
+{
+    keys.iter()
+        .filter(|kept| kept.counts(firm, round) && act.stays_held(kept.key()))
+        .count() as u64
+}
+
+/// The key that stands here.
+fn kept_at(keys: &[KeptKey], at: usize) -> KeptKey
+    requires { at < length keys.now }
+    ensures { (d : KeptKey) → result ≡ slice_index_or keys.now at d }
+{
+    keys[at]
+}
+
+/// The keys that the firm entries hold and those that all hold, in order, with how many they are.
+#[derive(Debug, Drop)]
+pub(crate) struct SortedKeys {
+    keys: Vec<KeptKey>,
+    round: u64,
+    firm: u64,
+    live: u64,
+    ghost ascending: { AreAscending keys.items },
+    ghost up_to: { AreUpTo round keys.items },
+    ghost firm_counted: { firm ≡ length (counted_keys true round keys.items) },
+    ghost live_counted: { live ≡ length (counted_keys false round keys.items) },
+}
+
+impl SortedKeys {
+    ghost use Rattle.cgf_journal.specs.Sorted.{IsChanged, firm_keys, keys_of, live_keys};
+
+    /// No keys, which take no memory.
+    pub(crate) fn new(alloc: Global) -> SortedKeys
+        ensures firm { firm_keys result ≡ [] }
+        ensures live { live_keys result ≡ [] }
+    {
+        SortedKeys {
+            keys: Vec::new(alloc),
+            round: 0,
+            firm: 0,
+            live: 0,
+        }
+    }
+
+    /// How many keys the firm entries hold, or else all.
+    pub(crate) fn count(&self, firm: bool) -> u64
+        ensures { result ≡ length (keys_of firm self.now) }
+    {
+        if firm { self.firm } else { self.live }
+    }
+
+    /// How many of these stay held after an entry.
+    pub(crate) fn count_staying(&self, firm: bool, act: &Act<'_>) -> u64
+        ensures { result ≡ length (filter (λ key. stays_held (act_view act.now) key) (keys_of firm self.now)) }
+    {
+        count_staying(&self.keys, firm, self.round, act)
+    }
+
+    // The key that stands here is held by all entries from now on, or isn't.
+    fn change(&mut self, at: usize, held: bool)
+        requires { at < length self.old.keys.items }
+        ensures { IsChanged at held self.old self.new }
+    {
+        let kept = kept_at(&self.keys, at);
+        self.keys[at] = kept.changed(held, self.round);
+        self.live = self.live - one_if(kept.is_held) + one_if(held);
+    }
+
+    /// All entries hold this number of this node. Without memory for it nothing changes.
+    fn hold(&mut self, node: NodeId, number: Absolute) -> Result<(), NoMemory>
+        ensures ok { OnOk result (live_keys self.new ≡ held_with node number (live_keys self.old)) }
+        ensures err { OnErr result (live_keys self.new ≡ live_keys self.old) }
+        ensures firm { firm_keys self.new ≡ firm_keys self.old }
+    {
+        let at = match search(&self.keys, node, number) {
+            Ok(at) => {
+                self.change(at, true);
+                return Ok(());
+            }
+            Err(at) => at,
+        };
+        let kept = KeptKey {
+            node,
+            number,
+            was_held: false,
+            is_held: true,
+            round: self.round,
+        };
+        match self.keys.insert(at, kept) {
+            Ok(()) => {
+                self.live += 1;
+                Ok(())
+            }
+            Err(_) => Err(NoMemory),
+        }
+    }
+
+    /// All entries hold this number of this node no more.
+    fn free(&mut self, node: NodeId, number: Absolute)
+        ensures live { live_keys self.new ≡ filter (λ key. stays_held (Seal node number) key) (live_keys self.old) }
+        ensures firm { firm_keys self.new ≡ firm_keys self.old }
+    {
+        if let Ok(at) = search(&self.keys, node, number) {
+            self.change(at, false);
+        }
+    }
+
+    /// All entries hold these numbers of this node no more.
+    fn free_all(&mut self, node: NodeId, numbers: &[Absolute])
+        ensures live { live_keys self.new ≡ filter (λ key. stays_held (Release node numbers.now) key) (live_keys self.old) }
+        ensures firm { firm_keys self.new ≡ firm_keys self.old }
+    {
+        for number in numbers {
+            self.free(node, *number);
+        }
+    }
+
+    /// All entries hold no number of this node any more.
+    fn free_node(&mut self, node: NodeId)
+        ensures live { live_keys self.new ≡ filter (λ key. stays_held (Path node 0 0) key) (live_keys self.old) }
+        ensures firm { firm_keys self.new ≡ firm_keys self.old }
+    {
+        let mut at = first_of(&self.keys, node);
+        let end = end_of(&self.keys, node);
+        while at < end {
+            self.change(at, false);
+            at += 1;
+        }
+    }
+
+    /// What one more entry makes of the keys that all entries hold. Without memory nothing changes.
+    pub(crate) fn note(&mut self, act: &Act<'_>) -> Result<(), NoMemory>
+        ensures ok { OnOk result (live_keys self.new ≡ held_after (act_view act.now) (live_keys self.old)) }
+        ensures err { OnErr result (live_keys self.new ≡ live_keys self.old) }
+        ensures firm { firm_keys self.new ≡ firm_keys self.old }
+    {
+        match *act {
+            Act::Start | Act::Tick | Act::Close => {}
+            Act::Path { node, .. } => self.free_node(node),
+            Act::File { node, number, .. } | Act::Seal { node, number } => self.free(node, number),
+            Act::Hold { node, number, .. } => return self.hold(node, number),
+            Act::Release { node, numbers } | Act::Cancel { node, numbers } => {
+                self.free_all(node, numbers);
+            }
+        }
+        Ok(())
+    }
+
+    /// Makes what all entries hold firm.
+    pub(crate) fn settle(&mut self)
+        ensures firm { firm_keys self.new ≡ live_keys self.old }
+        ensures live { live_keys self.new ≡ live_keys self.old }
+    {
+        self.firm = self.live;
+        match self.round.checked_add(1) {
+            Some(round) => self.round = round,
+            None => settle_all(&mut self.keys, false, self.round),
+        }
+    }
+
+    /// Goes back to what the firm entries hold.
+    pub(crate) fn revert(&mut self)
+        ensures firm { firm_keys self.new ≡ firm_keys self.old }
+        ensures live { live_keys self.new ≡ firm_keys self.old }
+    {
+        self.live = self.firm;
+        settle_all(&mut self.keys, true, self.round);
+    }
+}
+
+fn settle_all(keys: &mut Vec<KeptKey>, firm: bool, round: u64)
+    ensures { keys.new.items ≡ map (λ kept. settled_key firm round kept) keys.old.items }
+{
+    settle_keys(keys, firm, round);
+}
+
+fn settle_keys(keys: &mut [KeptKey], firm: bool, round: u64)
+    ensures { keys.new ≡ map (λ kept. settled_key firm round kept) keys.old }
+{
+    for key in keys.iter_mut() {
+        *key = key.settled(firm, round);
+    }
+}
