@@ -1,4 +1,5 @@
 -- What public clauses cite.
+pub mod Appending
 pub mod Content
 pub mod Fault
 pub mod Room

@@ -16,18 +16,3 @@ impl fmt::Display for EntryFault {
 }
 
 impl Error for EntryFault {}
-
-/// There isn't room in a buffer, which stays as it was.
-#[derive(Clone, Copy, Debug, PartialEq, Eq)]
-pub struct Full {
-    /// How many octets there is room for.
-    pub free: usize,
-}
-
-impl fmt::Display for Full {
-    fn fmt<W: fmt::Write>(&self, f: &mut fmt::Formatter<W>) -> fmt::Result {
-        write!(f, "room for {} octets alone", self.free)
-    }
-}
-
-impl Error for Full {}

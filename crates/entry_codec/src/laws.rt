@@ -22,7 +22,8 @@ pub fn spelled_is_read_back()
 
 /// What is read is spelled so.
 pub fn what_is_read_is_spelled()
-    ensures { (octets : List ℕ) (e : HistoryEntry) (more : List ℕ) → AreBelow 256 octets → entry_at octets ≡ Ok (e, more) →
+    ensures { (octets : List ℕ) (e : HistoryEntry) (more : List ℕ) → AreBelow 256 octets →
+        entry_at octets ≡ Ok (e, more) →
         HasSpelling e × (octets ≡ spelling e ++ more) }
 {}
 
@@ -33,7 +34,8 @@ pub fn spellings_differ()
 
 /// No spelling is the beginning of a longer one.
 pub fn no_spelling_begins_another()
-    ensures { (a b : HistoryEntry) (more : List ℕ) → HasSpelling a → HasSpelling b → spelling b ≡ spelling a ++ more → more ≡ [] }
+    ensures { (a b : HistoryEntry) (more : List ℕ) → HasSpelling a → HasSpelling b →
+        spelling b ≡ spelling a ++ more → more ≡ [] }
 {}
 
 /// What is spelled, entry by entry, is read back so, and nothing else spells it.
@@ -48,7 +50,8 @@ pub fn one_entry_is_entries()
 
 /// Entries that follow entries are the entries of both.
 pub fn entries_go_on()
-    ensures { (a b : List ℕ) (h g : List HistoryEntry) → AreEntries a h → AreEntries b g → AreEntries (a ++ b) (h ++ g) }
+    ensures { (a b : List ℕ) (h g : List HistoryEntry) → AreEntries a h → AreEntries b g →
+        AreEntries (a ++ b) (h ++ g) }
 {}
 
 /// Where octets that begin with entries are entries, those in front are the first of them, and the rest are entries too.
@@ -78,25 +81,29 @@ pub fn room_is_of_the_act()
 
 /// An entry with room keeps costs and promises within the capacity.
 pub fn room_keeps_within()
-    ensures { (h : List HistoryEntry) (e : HistoryEntry) (size : ℕ) → has_room h e size ≡ true → IsWithin (h ++ e ∷ []) size }
+    ensures { (h : List HistoryEntry) (e : HistoryEntry) (size : ℕ) → has_room h e size ≡ true →
+        IsWithin (h ++ e ∷ []) size }
 {}
 
 /// A Close that is due always has room.
 pub fn a_due_close_has_room()
-    ensures { (h : List HistoryEntry) (moment : ℕ) (caller : Caller) (size : ℕ) → IsWithin h size → is_close_due h ≡ true →
+    ensures { (h : List HistoryEntry) (moment : ℕ) (caller : Caller) (size : ℕ) → IsWithin h size →
+        is_close_due h ≡ true →
         has_room h (record { moment = moment; caller = caller; act = Close }) size ≡ true }
 {}
 
 /// A Release of held numbers, each named once, always has room.
 pub fn a_release_of_held_numbers_has_room()
-    ensures { (h : List HistoryEntry) (moment : ℕ) (caller : Caller) (node : NodeId) (numbers : List ℕ) (size : ℕ) → IsWithin h size →
+    ensures { (h : List HistoryEntry) (moment : ℕ) (caller : Caller) (node : NodeId) (numbers : List ℕ) (size : ℕ) →
+        IsWithin h size →
         numbers ≢ [] → IsDistinct (λ x y. x == y) numbers → All (λ x. holds node.0 x (held_keys h) ≡ true) numbers →
         has_room h (record { moment = moment; caller = caller; act = Release node numbers }) size ≡ true }
 {}
 
 /// A Cancel of held numbers, each named once, always has room.
 pub fn a_cancel_of_held_numbers_has_room()
-    ensures { (h : List HistoryEntry) (moment : ℕ) (caller : Caller) (node : NodeId) (numbers : List ℕ) (size : ℕ) → IsWithin h size →
+    ensures { (h : List HistoryEntry) (moment : ℕ) (caller : Caller) (node : NodeId) (numbers : List ℕ) (size : ℕ) →
+        IsWithin h size →
         numbers ≢ [] → IsDistinct (λ x y. x == y) numbers → All (λ x. holds node.0 x (held_keys h) ≡ true) numbers →
         has_room h (record { moment = moment; caller = caller; act = Cancel node numbers }) size ≡ true }
 {}

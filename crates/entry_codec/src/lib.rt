@@ -19,7 +19,7 @@ mod reading;
 mod tests;
 mod writing;
 
-pub use fault::{EntryFault, Full};
+pub use fault::EntryFault;
 pub use writing::{cost, write};
 
 /// Reads the entry that the octets begin with, and says how many octets it has.

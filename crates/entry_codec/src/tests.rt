@@ -1,7 +1,7 @@
 ghost use Rattle.std.specs.Prelude.{◌≤◌, ◌*◌, length};
 
-use crate::{Full, cost, read, write};
-use gw_base::{Act, Buffer, Caller, Entry, Moment, NodeId};
+use crate::{cost, read, write};
+use gw_base::{Act, Buffer, Caller, Entry, Full, Moment, NodeId};
 use std::alloc::{AllocError, Global};
 use std::process::Abort;
 use std::test::Fail;

@@ -2,13 +2,13 @@ ghost use Rattle.std.specs.Prelude.{◌≡◌, ◌≤◌, ◌<◌, ◌+◌, ◌-
 ghost use Rattle.std.specs.List.{flat_map};
 ghost use Rattle.byteorder.specs.Endian.{big_bytes};
 ghost use Rattle.gw_base.specs.Entry.{act_view, entry_view};
+ghost use Rattle.entry_codec.specs.Appending.{with_octets};
 ghost use Rattle.entry_codec.specs.Spelling.{HasSpelling, body, code_of, cost_of, entry_length, kind_of, spelling};
 
-use crate::fault::Full;
 use crate::fits::entry_fits;
 use crate::kind::Kind;
 use byteorder::{BigEndian, ByteOrder};
-use gw_base::{Absolute, Act, Buffer, Caller, Entry, NodeId};
+use gw_base::{Absolute, Act, Buffer, Caller, Entry, Full, NodeId};
 
 /// The octets of an entry before its body: its length, its kind, its moment, the session and the
 /// serial.
@@ -19,15 +19,15 @@ const BATCH_HEAD: u64 = 5;
 
 fn put_octet(into: &mut Buffer, octet: u8)
     requires { length into.old.octets + 1 ≤ into.old.capacity }
-    ensures octet { into.new ≡ record { octets = into.old.octets ++ octet ∷ []; capacity = into.old.capacity } }
-    ensures number { into.new ≡ record { octets = into.old.octets ++ big_bytes 1 octet; capacity = into.old.capacity } }
+    ensures octet { into.new ≡ with_octets into.old (octet ∷ []) }
+    ensures number { into.new ≡ with_octets into.old (big_bytes 1 octet) }
 {
     into.append(&[octet]);
 }
 
 fn put_u16(into: &mut Buffer, number: u16)
     requires { length into.old.octets + 2 ≤ into.old.capacity }
-    ensures { into.new ≡ record { octets = into.old.octets ++ big_bytes 2 number; capacity = into.old.capacity } }
+    ensures { into.new ≡ with_octets into.old (big_bytes 2 number) }
 {
     let mut field = [0; 2];
     BigEndian::write_u16(&mut field, number);
@@ -36,7 +36,7 @@ fn put_u16(into: &mut Buffer, number: u16)
 
 fn put_u32(into: &mut Buffer, number: u32)
     requires { length into.old.octets + 4 ≤ into.old.capacity }
-    ensures { into.new ≡ record { octets = into.old.octets ++ big_bytes 4 number; capacity = into.old.capacity } }
+    ensures { into.new ≡ with_octets into.old (big_bytes 4 number) }
 {
     let mut field = [0; 4];
     BigEndian::write_u32(&mut field, number);
@@ -45,7 +45,7 @@ fn put_u32(into: &mut Buffer, number: u32)
 
 fn put_u64(into: &mut Buffer, number: u64)
     requires { length into.old.octets + 8 ≤ into.old.capacity }
-    ensures { into.new ≡ record { octets = into.old.octets ++ big_bytes 8 number; capacity = into.old.capacity } }
+    ensures { into.new ≡ with_octets into.old (big_bytes 8 number) }
 {
     let mut field = [0; 8];
     BigEndian::write_u64(&mut field, number);
@@ -54,7 +54,7 @@ fn put_u64(into: &mut Buffer, number: u64)
 
 fn put_numbers(into: &mut Buffer, numbers: &[Absolute])
     requires { length into.old.octets + 8 * length numbers.now ≤ into.old.capacity }
-    ensures { into.new ≡ record { octets = into.old.octets ++ flat_map (big_bytes 8) numbers.now; capacity = into.old.capacity } }
+    ensures { into.new ≡ with_octets into.old (flat_map (big_bytes 8) numbers.now) }
 {
     for number in numbers {
         put_u64(into, *number);
@@ -115,7 +115,7 @@ pub fn cost(entry: &Entry<'_>) -> u64
 
 fn put_key(into: &mut Buffer, node: NodeId, number: Absolute)
     requires { length into.old.octets + 12 ≤ into.old.capacity }
-    ensures { into.new ≡ record { octets = into.old.octets ++ (big_bytes 4 node.0 ++ big_bytes 8 number); capacity = into.old.capacity } }
+    ensures { into.new ≡ with_octets into.old (big_bytes 4 node.0 ++ big_bytes 8 number) }
 {
     put_u32(into, node.0);
     put_u64(into, number);
@@ -123,7 +123,7 @@ fn put_key(into: &mut Buffer, node: NodeId, number: Absolute)
 
 fn put_path(into: &mut Buffer, node: NodeId, port: u16, counter: u8)
     requires { length into.old.octets + 7 ≤ into.old.capacity }
-    ensures { into.new ≡ record { octets = into.old.octets ++ (big_bytes 4 node.0 ++ (big_bytes 2 port ++ big_bytes 1 counter)); capacity = into.old.capacity } }
+    ensures { into.new ≡ with_octets into.old (big_bytes 4 node.0 ++ (big_bytes 2 port ++ big_bytes 1 counter)) }
 {
     put_u32(into, node.0);
     put_u16(into, port);
@@ -132,7 +132,7 @@ fn put_path(into: &mut Buffer, node: NodeId, port: u16, counter: u8)
 
 fn put_packet(into: &mut Buffer, node: NodeId, number: Absolute, packet: &[u8])
     requires { length into.old.octets + (12 + length packet.now) ≤ into.old.capacity }
-    ensures { into.new ≡ record { octets = into.old.octets ++ (big_bytes 4 node.0 ++ (big_bytes 8 number ++ packet.now)); capacity = into.old.capacity } }
+    ensures { into.new ≡ with_octets into.old (big_bytes 4 node.0 ++ (big_bytes 8 number ++ packet.now)) }
 {
     put_key(into, node, number);
     into.append(packet);
@@ -141,7 +141,8 @@ fn put_packet(into: &mut Buffer, node: NodeId, number: Absolute, packet: &[u8])
 fn put_list(into: &mut Buffer, node: NodeId, numbers: &[Absolute])
     requires few { length numbers.now < 2 ^ 32 }
     requires room { length into.old.octets + (8 + 8 * length numbers.now) ≤ into.old.capacity }
-    ensures { into.new ≡ record { octets = into.old.octets ++ (big_bytes 4 node.0 ++ (big_bytes 4 (length numbers.now) ++ flat_map (big_bytes 8) numbers.now)); capacity = into.old.capacity } }
+    ensures { into.new ≡ with_octets into.old (big_bytes 4 node.0 ++ (big_bytes 4 (length numbers.now) ++
+        flat_map (big_bytes 8) numbers.now)) }
 {
     put_u32(into, node.0);
     put_u32(into, numbers.len() as u32);
@@ -152,7 +153,7 @@ fn put_list(into: &mut Buffer, node: NodeId, numbers: &[Absolute])
 fn put_body(into: &mut Buffer, act: &Act<'_>)
     requires short { length (body (act_view act.now)) < 2 ^ 32 }
     requires room { length into.old.octets + length (body (act_view act.now)) ≤ into.old.capacity }
-    ensures { into.new ≡ record { octets = into.old.octets ++ body (act_view act.now); capacity = into.old.capacity } }
+    ensures { into.new ≡ with_octets into.old (body (act_view act.now)) }
 {
     match *act {
         Act::Start | Act::Tick | Act::Close => {}
@@ -180,7 +181,8 @@ fn put_body(into: &mut Buffer, act: &Act<'_>)
 
 fn put_head(into: &mut Buffer, whole: u32, code: u8, seconds: u64, caller: Caller)
     requires { length into.old.octets + 25 ≤ into.old.capacity }
-    ensures { into.new ≡ record { octets = into.old.octets ++ (big_bytes 4 whole ++ (code ∷ (big_bytes 8 seconds ++ (big_bytes 4 caller.session ++ big_bytes 8 caller.serial)))); capacity = into.old.capacity } }
+    ensures { into.new ≡ with_octets into.old (big_bytes 4 whole ++ (code ∷ (big_bytes 8 seconds ++
+        (big_bytes 4 caller.session ++ big_bytes 8 caller.serial)))) }
 {
     put_u32(into, whole);
     put_octet(into, code);
@@ -193,7 +195,7 @@ fn put_head(into: &mut Buffer, whole: u32, code: u8, seconds: u64, caller: Calle
 pub fn write(entry: &Entry<'_>, into: &mut Buffer) -> Result<(), Full>
     requires { entry_length (entry_view entry.now) < 2 ^ 32 }
     ensures written { OnOk result (into.new ≡
-        record { octets = into.old.octets ++ spelling (entry_view entry.now); capacity = into.old.capacity }) }
+        with_octets into.old (spelling (entry_view entry.now))) }
     ensures fits { HasSpelling (entry_view entry.now) }
     ensures unchanged { OnErr result (into.new ≡ into.old) }
     ensures full { (free : ℕ) → (result ≡ Err (record { free = free })) ↔
