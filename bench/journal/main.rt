@@ -6,7 +6,7 @@ use area_disk::{Area, QuietArea};
 use cgf_journal::Trail;
 use gw_base::{Act, Caller, Entry, Moment, NodeId};
 use std::alloc::Global;
-use std::time::Instant;
+use std::time::{CpuClock, Duration};
 
 const ADDRESS: u32 = 0x0A00_0001;
 const NODE: NodeId = NodeId(0x0A00_0009);
@@ -34,15 +34,13 @@ fn add(trail: &mut Trail<QuietArea>, moment: Moment, act: Act<'_>) -> Timed<()> 
     Ok(())
 }
 
-fn milliseconds(rt: &HostRuntime, start: Instant) -> Timed<u128> {
-    match start.elapsed(rt) {
-        Ok(time) => Ok(time.as_millis()),
-        Err(_) => Err("no clock"),
-    }
+/// The processor time that this thread has used so far, which a busy machine doesn't change.
+fn now(rt: &HostRuntime) -> Timed<Duration> {
+    rt.thread_cpu_time().map_err(|_| "no clock")
 }
 
-fn now(rt: &HostRuntime) -> Timed<Instant> {
-    Instant::now(rt).map_err(|_| "no clock")
+fn milliseconds(rt: &HostRuntime, start: Duration) -> Timed<u128> {
+    Ok(now(rt)?.as_millis().saturating_sub(start.as_millis()))
 }
 
 fn opened(alloc: Global, area: QuietArea) -> Timed<Trail<QuietArea>> {
