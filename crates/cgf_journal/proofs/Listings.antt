@@ -119,3 +119,7 @@ pub breaks_here : (size gate at : ℕ) (all some : List (List ℕ)) (batch : Lis
     → (at ≡ gate) × (AreBatches size (some ++ batch ∷ []) → ⊥) → BreaksAt size all at
 breaks_here size gate at all some batch rest gate_is are is found =
     record { some = some; batch = batch; more = rest; listed = is; place = found.0 ∙ gate_is; are_batches = are; unfit = found.1 }
+
+-- what was taken in costs at most the capacity
+pub costs_within : (size gate : ℕ) (some : List (List ℕ)) (places : List Place) (tally : Tallies) → AreTakenIn size gate some places tally → tally.live.costs ≤ capacity_of size
+costs_within size gate some places tally taken_in = omega (arith, ap (λ (t : TallyValue). t.costs) taken_in.live, tally_of-costs (entries_in some), taken_in.are_batches.costs)

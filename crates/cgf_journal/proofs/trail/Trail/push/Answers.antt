@@ -7,7 +7,7 @@ use Rattle.gw_base.specs.declared.place.Place.{Place}
 use Rattle.gate_journal.specs.Format.{longest_batch}
 use Rattle.entry_codec.specs.Content.{entries_of}
 use Rattle.entry_codec.specs.Spelling.{entry_length, spelling}
-use Rattle.entry_codec.specs.declared.fault.Full.{Full}
+use Rattle.gw_base.specs.declared.fault.Full.{Full}
 use Rattle.cgf_journal.specs.Sound.{IsSound}
 use Rattle.cgf_journal.specs.Tally.{Tallies, TallyValue, has_room_behind}
 use Rattle.cgf_journal.specs.Trail.{area_of, firm_entries, waiting}
