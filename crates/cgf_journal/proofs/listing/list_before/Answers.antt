@@ -1,7 +1,7 @@
 use Rattle.std.proofs.Common.{List, ℕ, sym, subst, arith}
 use Rattle.gate_journal.proofs.Agreeing.{place_of}
 use Rattle.cgf_journal.specs.Format.{AreBatches}
-use Rattle.cgf_journal.proofs.Listings.{costs_within, no_more}
+use Rattle.cgf_journal.proofs.Listings.{no_more}
 use Rattle.cgf_journal.proofs.listing.list_before.Goals as goal
 
 pub returns-clause-are_batches : goal.returns-clause-are_batches
@@ -11,8 +11,3 @@ returns-clause-are_batches g c = λ all listed.
     let last = place_of listed.header listed.long (g.A.Area.octets c.args.area.now) c.args.end all listed.before in
     let same = no_more taken.some begins.0 all c.loop-gate.gate begins.1 taken.taken_in.gate_is (omega (arith, last, c.loop-gate.invariant.high)) in
     subst (λ (l : List (List ℕ)). AreBatches c.args.size l) (sym same) taken.taken_in.are_batches
-
-pub take-requires-clause-costs : goal.take-requires-clause-costs
-take-requires-clause-costs g c =
-    let taken = c.loop-gate.invariant.taken in
-    costs_within c.args.size c.loop-gate.gate taken.some c.loop-gate.listing.places.items c.loop-gate.listing.tally taken.taken_in

@@ -5,7 +5,7 @@ use Rattle.gate_journal.specs.Before.{AreBefore}
 use Rattle.gate_journal.specs.Format.{longest_batch}
 use Rattle.gate_journal.proofs.Agreeing.{place_of}
 use Rattle.cgf_journal.specs.Opening.{AreListedBefore}
-use Rattle.cgf_journal.proofs.Listings.{breaks_here, goes_on, read_next, taken_next}
+use Rattle.cgf_journal.proofs.Listings.{breaks_here, costs_within, goes_on, read_next, taken_next}
 use Rattle.cgf_journal.proofs.listing.take_before.Goals as goal
 
 pub returns-clause-taken : goal.returns-clause-taken
@@ -54,3 +54,7 @@ returns-in_default-found-clause-breaks g c = λ all listed stop stops.
     let next = goes_on some begins.0 all c.args.gate c.args.end begins.1 at (place_of listed.header listed.long o c.args.end all listed.before) c.requires.inside in
     let found = c.in-Ok.ensures.found listed.told listed.header some next.0 next.1 listed.long (subst (λ (l : List (List ℕ)). AreBefore listed.header o c.args.end l) next.2 listed.before) at in
     absurd (c.in_default-found.not-Some (c.args.gate + 5, length next.0) found)
+
+pub take-requires-clause-costs : goal.take-requires-clause-costs
+take-requires-clause-costs g c =
+    costs_within c.args.size c.args.gate c.requires.taken.some c.args.listing.now.places.items c.args.listing.now.tally c.requires.taken.taken_in

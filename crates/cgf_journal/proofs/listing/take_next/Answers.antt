@@ -4,7 +4,7 @@ use Rattle.std.proofs.lemmas.List.{length-take-le}
 use Rattle.gate_journal.specs.Format.{end_of, longest_batch}
 use Rattle.gate_journal.specs.Journal.{batches, end}
 use Rattle.cgf_journal.specs.Opening.{AreListed}
-use Rattle.cgf_journal.proofs.Listings.{breaks_here, read_next, taken_next, whole_read}
+use Rattle.cgf_journal.proofs.Listings.{breaks_here, costs_within, read_next, taken_next, whole_read}
 use Rattle.cgf_journal.proofs.listing.take_next.Goals as goal
 
 pub batch-requires-clause-gate : goal.batch-requires-clause-gate
@@ -50,3 +50,7 @@ returns-clause-breaks g c = λ told stop stops.
     (c.in-Ok-read.ensures.content listed.told some batch rest (c.batch.ensures.kept.batches ∙ listed.same ∙ is) (omega (arith, place, at)) (omega (arith, place, at, room, size)))) in
     let found = next (batches c.args.journal.now) (record { told = told; same = refl }) in
     breaks_here c.args.size c.args.gate stop (batches c.args.journal.now) some c.read.new.into found.0 at c.requires.taken.taken_in.are_batches found.1 (c.take.ensures.unfit some c.requires.taken.taken_in stop stops)
+
+pub take-requires-clause-costs : goal.take-requires-clause-costs
+take-requires-clause-costs g c =
+    costs_within c.args.size c.args.gate c.requires.taken.some c.args.listing.now.places.items c.args.listing.now.tally c.requires.taken.taken_in
