@@ -7,6 +7,7 @@ mod Counts
 mod Framing
 mod Fronts
 mod Seen
+mod Kept
 mod Laying
 mod Listing
 mod Openings
@@ -15,4 +16,5 @@ mod Plans
 pub mod Runs
 pub mod Spelling
 mod States
+mod Syncs
 mod Turns

@@ -6,8 +6,8 @@ use Rattle.std.proofs.lemmas.List.{take_at, drop_at, append-nil, drop-drop, drop
 use Rattle.std.proofs.lemmas.List.Elements.{All-drop, All-head}
 use Rattle.byteorder.specs.Endian.{big_bytes, big_number}
 use Rattle.byteorder.specs.Numbers.{big_from-take, length-bytes_high_first}
-use Rattle.gate_journal.specs.Format.{open_gate, spelled, taken, end_of, IsSmall, IsWhole, gate_at, length_at}
-use Rattle.gate_journal.specs.Verdicts.{IsBehind, content_at}
+use Rattle.gate_journal.specs.Format.{open_gate, spelled, taken, end_of, longest_batch, IsSmall, IsWhole, gate_at, length_at}
+use Rattle.gate_journal.specs.Verdicts.{Fits, IsBehind, content_at}
 use Rattle.gate_journal.specs.declared.reading.Behind.{Behind}
 use Rattle.gate_journal.specs.declared.reading.Behind.TheVariants.{Shut, Whole, Cut}
 use Rattle.gate_journal.proofs.Contents.{length-rest}
@@ -117,12 +117,12 @@ module _ (header : List ℕ) (long : length header ≡ 32) (place : ℕ) (octets
       let P : Bool → Type 0 = λ b. answer b (end_of some + 5) n ≡ answer false (end_of some + 5) (length batch) in
       subst P (sym (⊎_elim (λ yes. absurd (omega (arith, yes.1, fits))) (λ no. no.0) (ltb_tells place (end_of some + 5 + n)))) (ap (λ m. answer false (end_of some + 5) m) is)
 
-pub content_inside : (behind : Behind) (gate end : ℕ) → IfSome (content_at behind gate end) (λ content. (content.0 ≡ gate + 5) × (content.0 + content.1 ≤ end))
-content_inside Shut gate end = tt
-content_inside Cut gate end = tt
-content_inside (Whole n) gate end =
-    let P : Bool → Type 0 = λ b. IfSome (answer b (gate + 5) n) (λ content. (content.0 ≡ gate + 5) × (content.0 + content.1 ≤ end)) in
-    ⊎_elim (λ yes. subst P (sym yes.0) tt) (λ no. subst P (sym no.0) (refl, no.1)) (ltb_tells end (gate + 5 + n))
+pub content_inside : (size : ℕ) (behind : Behind) (gate end : ℕ) → Fits size gate behind → IfSome (content_at behind gate end) (λ content. (content.0 ≡ gate + 5) × (content.0 + content.1 ≤ end) × (content.1 ≤ longest_batch))
+content_inside size Shut gate end fits = tt
+content_inside size Cut gate end fits = tt
+content_inside size (Whole n) gate end fits =
+    let P : Bool → Type 0 = λ b. IfSome (answer b (gate + 5) n) (λ content. (content.0 ≡ gate + 5) × (content.0 + content.1 ≤ end) × (content.1 ≤ longest_batch)) in
+    ⊎_elim (λ yes. subst P (sym yes.0) tt) (λ no. subst P (sym no.0) (refl, no.1, fits.0)) (ltb_tells end (gate + 5 + n))
 
 -- a gate before the place has a batch behind it
 pub behind_some : (batches some more : List (List ℕ)) → batches ≡ some ++ more → end_of some < end_of batches → (batch : List ℕ) × (rest : List (List ℕ)) × (batches ≡ some ++ batch ∷ rest)

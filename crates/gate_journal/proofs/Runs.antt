@@ -1,10 +1,27 @@
 -- How what a crash leaves goes on over the calls of an area.
-use Rattle.std.proofs.Common.{inl, inr, ⊎_elim, ◌≡◌, ℕ, ◌≤◌, List, refl, subst, ◌∙◌, arith}
+use Rattle.std.proofs.Common.{inl, inr, ⊎_elim, ◌≡◌, ℕ, ◌≤◌, List, Result, refl, sym, ap, subst, ◌∙◌, arith}
 use Rattle.area_disk.specs.Disk.{Elapses, Only, Torn, Follows, Within}
+use Rattle.area_disk.specs.Plan.{Prospect, ReadAsPlanned, Schedule}
 use Rattle.area_disk.specs.declared.area.Area.{Ghosts}
 use Rattle.area_disk.proofs.Moments.{started, goes_on}
 use Rattle.std.specs.Prelude.{IsTrue}
 use Rattle.gate_journal.specs.Moments.{Leaves, Kept}
+use Rattle.gate_journal.specs.Planned.{ReadOn}
+
+-- reads one after the other
+pub read_on_trans : (a b c : Prospect) → ReadOn a b → ReadOn b c → ReadOn a c
+read_on_trans a b c one two = record {
+  schedule = two.schedule ∙ ap (λ (s : Schedule). record s { reads = c.schedule.reads }) one.schedule;
+  spare = two.spare ∙ one.spare;
+  leaves = λ outcome. two.leaves outcome ∙ one.leaves outcome;
+}
+
+pub read_on : {T E : Type 0} (old : Prospect) (result : Result T E) (new : Prospect) → ReadAsPlanned old result new → ReadOn old new
+read_on old result new read = record {
+  schedule = read.schedule ∙ ap (λ n. record old.schedule { reads = n }) (sym (ap (λ (s : Schedule). s.reads) read.schedule));
+  spare = read.spare;
+  leaves = read.leaves;
+}
 
 module _ {A : Type 0} (area : Ghosts A) where
   -- since this moment there is no other
@@ -73,7 +90,13 @@ module _ {A : Type 0} (area : Ghosts A) where
   follow old mid new P one two = join old mid new P one (widen mid new (area.may_leave mid) P one.now two)
 
   pub kept_refl : OnlyNow → (a : A) → Kept area a a
-  kept_refl only_now a = record { size = refl; octets = refl; leaves = begin only_now a (area.may_leave a) (λ c left. left); calls = λ told. refl }
+  kept_refl only_now a = record {
+    size = refl;
+    octets = refl;
+    leaves = begin only_now a (area.may_leave a) (λ c left. left);
+    calls = λ told. refl;
+    planned = λ told. record { schedule = refl; spare = refl; leaves = λ outcome. refl };
+  }
 
   pub kept_trans : (a b c : A) → Kept area a b → Kept area b c → Kept area a c
   kept_trans a b c one two = record {
@@ -81,6 +104,7 @@ module _ {A : Type 0} (area : Ghosts A) where
     octets = two.octets ∙ one.octets;
     leaves = follow a b c (area.may_leave a) one.leaves two.leaves;
     calls = λ told. two.calls told ∙ one.calls told;
+    planned = λ told. read_on_trans (area.fate a) (area.fate b) (area.fate c) (one.planned told) (two.planned told);
   }
 
   -- a call that leaves no more than before
@@ -91,10 +115,11 @@ module _ {A : Type 0} (area : Ghosts A) where
   -- a read changes nothing
   pub kept_read : OnlyNow → (old new : A) → area.size new ≡ area.size old → area.octets new ≡ area.octets old → Within (area.may_leave old) (area.may_leave new)
       → Elapses (area.told_from old) (area.told_from new) (area.moment old) (area.moment new) (area.left_since old) (area.left_since new) (area.may_leave new)
-      → (IsTrue area.tells_calls → area.calls new ≡ area.calls old) → Kept area old new
-  kept_read only_now old new size octets within time calls = record {
+      → (IsTrue area.tells_calls → area.calls new ≡ area.calls old) → (IsTrue area.tells_fate → ReadOn (area.fate old) (area.fate new)) → Kept area old new
+  kept_read only_now old new size octets within time calls planned = record {
     size = size;
     octets = octets;
     leaves = kept_leaves only_now old new within time;
     calls = calls;
+    planned = planned;
   }

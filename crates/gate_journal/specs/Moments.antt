@@ -1,7 +1,8 @@
 -- What a crash leaves at any moment of a call on an area.
 use Rattle.std.specs.Prelude.{◌≡◌, ℕ, ◌≤◌, List, IsTrue, Result, OnOk, OnErr}
-use Rattle.area_disk.specs.Disk.{LeavesOnly, counted}
+use Rattle.area_disk.specs.Disk.{LeavesOnly, HasCause, counted}
 use Rattle.area_disk.specs.declared.area.Area.{Ghosts}
+use Rattle.gate_journal.specs.Planned.{ReadOn}
 
 -- the area tells what a read gives and what a crash may leave
 abbrev pub Told : {A : Type 0} → Ghosts A → Type 0
@@ -21,9 +22,19 @@ pub record Calls {T E : Type 0} (n before now : ℕ) (result : Result T E) : Typ
   pub ok : OnOk result (now ≡ counted n before)
   pub failed : OnErr result (RoseUpTo n before now)
 
--- a call changed nothing that a read gives or that a crash may leave, and made no counted call
+-- a call changed nothing that a read gives or that a crash may leave, and made no counted call: at most it read
 pub record Kept {A : Type 0} (area : Ghosts A) (old new : A) : Type 0 where
   pub size : area.size new ≡ area.size old
   pub octets : area.octets new ≡ area.octets old
   pub leaves : Leaves area old new (area.may_leave old)
   pub calls : IsTrue area.tells_calls → area.calls new ≡ area.calls old
+  pub planned : IsTrue area.tells_fate → ReadOn (area.fate old) (area.fate new)
+
+-- what is counted of a call that makes n counted calls, and of one that makes one
+pub record Counts {A T E : Type 0} (n : ℕ) (area : Ghosts A) (old new : A) (result : Result T E) : Type 0 where
+  pub calls : IsTrue area.tells_calls → Calls n (area.calls old) (area.calls new) result
+  pub cause : HasCause (area.faults old) (area.faults new) result
+
+pub record CountsOne {A T E : Type 0} (area : Ghosts A) (old new : A) (result : Result T E) : Type 0 where
+  pub calls : IsTrue area.tells_calls → area.calls new ≡ counted 1 (area.calls old)
+  pub cause : HasCause (area.faults old) (area.faults new) result

@@ -5,6 +5,6 @@ use Rattle.gate_journal.proofs.opening.make_anew.Goals as goal
 
 pub returns-in-Err-found-clause-calls_device : goal.returns-in-Err-found-clause-calls_device
 returns-in-Err-found-clause-calls_device g c = λ told device.
-    let found = c.in-Err-found.ensures.calls told in
-    subst (λ a. RoseUpTo 4 (g.A.Area.calls c.args.area) (g.A.Area.calls a)) (sym c.into_area.ensures)
+    let found = c.in-Err-found.ensures.counted.calls told in
+    subst (λ a. RoseUpTo 4 (g.A.Area.calls c.args.area) (g.A.Area.calls a)) (sym c.into_area.ensures.area)
     (more_calls 2 2 _ _ _ _ (c.in-Ok.ensures.calls told) found).failed
