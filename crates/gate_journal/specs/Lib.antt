@@ -11,6 +11,11 @@ pub mod Planned
 pub mod Reading
 pub mod Reopening
 pub mod State
--- what clauses of steps cite
+-- laws of the format, for the layers above
+pub mod Agreeing
+pub mod Places
+pub mod Spelling
+-- steps of proofs
 pub mod Adding
+pub mod Fronts
 pub mod Verdicts

@@ -1,6 +1,6 @@
 use Rattle.std.proofs.Common.{◌≡◌, ◌+◌, length, take, drop, sym, ◌∙◌, ap}
 use Rattle.gate_journal.specs.Format.{end_of, length_at}
-use Rattle.gate_journal.proofs.Agreeing.{batch_before}
+use Rattle.gate_journal.specs.Agreeing.{batch_before}
 use Rattle.gate_journal.proofs.before.read_before.Goals as goal
 
 pub returns-in-Ok-clause-content : goal.returns-in-Ok-clause-content

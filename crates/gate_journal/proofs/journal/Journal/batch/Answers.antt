@@ -6,8 +6,9 @@ use Rattle.gate_journal.specs.Reading.{IsBatch}
 use Rattle.gate_journal.specs.State.{batches_below}
 use Rattle.gate_journal.specs.Verdicts.{IsBehind, content_at}
 use Rattle.gate_journal.proofs.Kept.{kept_journal}
-use Rattle.gate_journal.proofs.Places.{small_among, content_found, content_inside, behind_some, before_end, next_gate, if_some}
-use Rattle.gate_journal.proofs.Spelling.{length-header}
+use Rattle.gate_journal.proofs.Finding.{content_found, content_inside, if_some}
+use Rattle.gate_journal.specs.Places.{small_among, behind_some, before_end, next_gate}
+use Rattle.gate_journal.specs.Spelling.{length-header}
 use Rattle.gate_journal.proofs.States.{settled}
 use Rattle.gate_journal.proofs.Turns.{other_bool}
 use Rattle.gate_journal.proofs.journal.Journal.batch.Goals as goal

@@ -2,10 +2,10 @@ use Rattle.std.proofs.Common.{inl, ◌≡◌, ℕ, List, ◌∙◌, ap, subst, a
 use Rattle.gate_journal.specs.Format.{header}
 use Rattle.gate_journal.specs.Verdicts.{IsVerdict}
 use Rattle.gate_journal.specs.declared.reading.Verdict.TheVariants.{Same}
-use Rattle.gate_journal.proofs.Agreeing.{same_not_starts}
+use Rattle.gate_journal.specs.Agreeing.{same_not_starts}
 use Rattle.gate_journal.proofs.Openings.{calls_made}
 use Rattle.gate_journal.proofs.Runs.{widen}
-use Rattle.gate_journal.proofs.Spelling.{length-header, first-header}
+use Rattle.gate_journal.specs.Spelling.{length-header, first-header}
 use Rattle.gate_journal.proofs.journal.Journal.draft.Goals as goal
 
 pub returns-in-Ok-Starts-clause-calls_any : goal.returns-in-Ok-Starts-clause-calls_any

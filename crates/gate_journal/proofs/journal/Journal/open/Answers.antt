@@ -4,9 +4,9 @@ use Rattle.gate_journal.specs.Verdicts.{IsVerdict}
 use Rattle.gate_journal.specs.declared.reading.Verdict.TheVariants.{Starts as Begins, Same, Other}
 use Rattle.gate_journal.specs.declared.faults.OpenFault.TheVariants.{NotOurs}
 use Rattle.gate_journal.proofs.Apart.{stands_front, broken_front}
-use Rattle.gate_journal.proofs.Agreeing.{same_not_starts, same_not_differs, one_difference}
+use Rattle.gate_journal.specs.Agreeing.{same_not_starts, same_not_differs, one_difference}
 use Rattle.gate_journal.proofs.Openings.{starts_of, list_read, calls_made}
-use Rattle.gate_journal.proofs.Spelling.{length-header, first-header}
+use Rattle.gate_journal.specs.Spelling.{length-header, first-header}
 use Rattle.gate_journal.proofs.journal.Journal.open.Goals as goal
 
 pub returns-in-Ok-Starts-clause-reads : goal.returns-in-Ok-Starts-clause-reads

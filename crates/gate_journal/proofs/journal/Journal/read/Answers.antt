@@ -2,10 +2,10 @@ use Rattle.std.proofs.Common.{ℕ, List, ◌++◌, length, drop, refl, ◌∙◌
 use Rattle.gate_journal.specs.Format.{header, spelled}
 use Rattle.gate_journal.specs.Journal.{batches}
 use Rattle.gate_journal.specs.State.{batches_below}
-use Rattle.gate_journal.proofs.Places.{part_is, small_among}
+use Rattle.gate_journal.specs.Places.{part_is, small_among}
 use Rattle.gate_journal.proofs.Kept.{kept_journal}
 use Rattle.gate_journal.proofs.Runs.{kept_read, read_on}
-use Rattle.gate_journal.proofs.Spelling.{length-header}
+use Rattle.gate_journal.specs.Spelling.{length-header}
 use Rattle.gate_journal.proofs.journal.Journal.read.Goals as goal
 
 pub returns-in-Ok-clause-content : goal.returns-in-Ok-clause-content
