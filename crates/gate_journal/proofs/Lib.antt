@@ -1,6 +1,7 @@
 mod Adding
 mod Apart
 mod Below
+mod Calm
 mod Contents
 mod Counts
 mod Finding

@@ -80,3 +80,25 @@ sync_ran old result mid new failed sync ran read runs =
           running = ap (λ (s : Schedule). s.stopped) sync.schedule ∙ ap (λ b. b || is_stop (sync_fate old)) (running old.schedule not_failed) ∙ stop_is (sync_fate old) not_failed;
           none = ap (λ (s : Schedule). s.read_fail) sync.schedule ∙ none;
         }
+
+-- reads behind a sync and reads that came out as planned
+pub sync_on : (old mid new : Prospect) (failed : Bool) → SyncPlanned old false mid → ReadOn mid new → (ReadsRun mid.schedule → failed ≡ false) → SyncPlanned old failed new
+sync_on old mid new failed one read runs = record {
+  fails = λ e. absurd (other_bool (sym (one.fails e)));
+  runs = λ none. runs (running_after none) ∙ one.runs none;
+  course = (λ i. record { schedule = read.schedule i; spare = read.spare i }) ∙ ap (λ (c : Course). with_reads new.schedule.reads c) one.course;
+  leaves = λ outcome. read.leaves outcome ∙ one.leaves outcome;
+}
+  where
+    stop_is : (fate : Fate) → is_failure fate ≡ false → is_stop fate ≡ false
+    stop_is Runs e = refl
+    stop_is Fails e = refl
+    stop_is (Stops o) e = absurd (other_bool e)
+
+    running_after : old.schedule.read_fail ≡ [] → ReadsRun mid.schedule
+    running_after none =
+        let ran = sym (one.runs none) in
+        record {
+          running = ap (λ (c : Course). c.schedule.stopped) one.course ∙ ap (λ b. b || is_stop (sync_fate old)) (running old.schedule ran) ∙ stop_is (sync_fate old) ran;
+          none = ap (λ (c : Course). c.schedule.read_fail) one.course ∙ none;
+        }

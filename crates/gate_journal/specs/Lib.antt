@@ -7,6 +7,7 @@ pub mod Journal
 pub mod Kept
 pub mod Moments
 pub mod Opening
+pub mod OpenPlanned
 pub mod Planned
 pub mod Reading
 pub mod Reopening
@@ -18,4 +19,5 @@ pub mod Spelling
 -- steps of proofs
 pub mod Adding
 pub mod Fronts
+pub mod Making
 pub mod Verdicts

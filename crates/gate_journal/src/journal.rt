@@ -49,7 +49,7 @@ pub struct Journal<A: Area> {
 impl<A: Area> Journal<A> {
     ghost use Rattle.area_disk.specs.declared.plan.Outcome3.TheVariants.{New};
     ghost use Rattle.gate_journal.specs.Appending.{AppendCounts, AppendLeaves, AppendsAsPlanned, IsAppended, IsTorn};
-    ghost use Rattle.gate_journal.specs.Founding.{FoundLeaves, FoundStays, IsFounded, IsFounding};
+    ghost use Rattle.gate_journal.specs.Founding.{FoundFollows, FoundLeaves, FoundStays, IsFounded, IsFounding};
     ghost use Rattle.gate_journal.specs.Journal.{IsSettled, NoneTorn, Rests, StopLeaves, area_of, batches, end, free_of, front_of, header_of, is_closed, stop_stands, torn_stands};
     ghost use Rattle.gate_journal.specs.Kept.{IsKept, IsUnchanged, Stays};
     ghost use Rattle.gate_journal.specs.Reading.{IsContent, IsFound, IsGate, IsInside, IsRead};
@@ -172,6 +172,7 @@ impl<A: Area> Journal<A> {
         ensures any_moment { FoundLeaves self.old self.new }
         ensures stays { FoundStays self.old self.new }
         ensures counted { Counts 2 A.Area (area_of self.old) (area_of self.new) result }
+        ensures planned { IsTrue A.tells_fate → FoundFollows self.old self.new result }
     {
         match put(&mut self.area, 0, &[FIRST]) {
             Ok(()) => {
