@@ -1,3 +1,2 @@
 mod Changes
-pub mod Moments
 mod Stretches

@@ -23,21 +23,15 @@ Within old new = (c : List ℕ) → new c → old c
 abbrev pub Only : List ℕ → (List ℕ → Type 0) → Type 0
 Only octets outcomes = (c : List ℕ) → outcomes c → c ≡ octets
 
--- Time goes on: a crash since t, where that is told, might have left what it might have left before, or what it
--- may leave now.
-pub record Elapses (told_before told before now : ℕ) (past since : ℕ → List ℕ → Type 0) (may_leave : List ℕ → Type 0) : Type 0 where
-  pub later : before ≤ now
-  pub told_later : told_before ≤ told
-  pub nothing_else : (t : ℕ) (c : List ℕ) → told ≤ t → t ≤ before → since t c → past t c ⊎ may_leave c
-  pub keeps : (t : ℕ) (c : List ℕ) → told ≤ t → t ≤ before → past t c → since t c
-
--- A crash at any moment since old leaves octets that have P, where the moments since old are told.
-pub record LeavesOnly {A : Type 0} (told_from moment : A → ℕ) (left_since : A → ℕ → List ℕ → Type 0) (old new : A) (P : List ℕ → Type 0) : Type 0 where
+-- Time goes on from old to new: a crash since t, where that is told, might have left what it might have left before,
+-- or what it may leave now.
+pub record Elapses {A : Type 0} (told_from moment : A → ℕ) (left_since : A → ℕ → List ℕ → Type 0)
+    (may_leave : A → List ℕ → Type 0) (old new : A) : Type 0 where
   pub later : moment old ≤ moment new
   pub told_later : told_from old ≤ told_from new
-  pub each : (c : List ℕ) → told_from new ≤ moment old → left_since new (moment old) c → P c
-  -- for a run that began earlier
-  pub before : (t : ℕ) (c : List ℕ) → told_from new ≤ t → t ≤ moment old → left_since new t c → left_since old t c ⊎ P c
+  pub nothing_else : (t : ℕ) (c : List ℕ) → told_from new ≤ t → t ≤ moment old → left_since new t c →
+      left_since old t c ⊎ may_leave new c
+  pub keeps : (t : ℕ) (c : List ℕ) → told_from new ≤ t → t ≤ moment old → left_since old t c → left_since new t c
 
 -- so many octets 0
 unfoldable pub zeros : ℕ → List ℕ

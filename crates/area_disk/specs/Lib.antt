@@ -1,10 +1,20 @@
+-- what public clauses cite
+pub mod Armed
+pub mod Course
 pub mod Disk
-pub mod Memory
-pub mod Octets
-pub mod Outside
+pub mod Moments
 pub mod Past
-pub mod PastLaws
 pub mod Plan
+pub mod Stretch
+-- what the members of the areas in memory are made of
+pub mod Memory
 pub mod Quiet
 pub mod Sound
-pub mod Stretch
+-- lemmas, which layers above use too
+pub mod ArmedLaws
+pub mod CourseLaws
+pub mod MomentLaws
+-- steps of proofs
+pub mod Octets
+pub mod Outside
+pub mod PastLaws

@@ -7,7 +7,7 @@ use Rattle.area_disk.specs.Plan.{Prospect, most_unsynced, rot, written_as}
 use Rattle.area_disk.specs.Stretch.{SameOutside, filled, left_as}
 use Rattle.area_disk.specs.Outside.{same_refl, same_everywhere, same_filled, filled_written, follows_write}
 use Rattle.area_disk.specs.Past.{Change, Past, image_after, IsOutcome, LeftSince, moment_of, told_of, noted}
-use Rattle.area_disk.specs.PastLaws.{past_counts_now, past_only_now, goes_noted}
+use Rattle.area_disk.specs.PastLaws.{past_counts_now, past_only_now, past_same_size, goes_noted, goes_same}
 use Rattle.area_disk.specs.declared.disk.Disk.{Disk}
 use Rattle.area_disk.specs.declared.memory.MemoryArea.{MemoryArea}
 use Rattle.area_disk.specs.declared.plan.Outcome3.{Outcome3}
@@ -54,30 +54,41 @@ disk_counts_now disk t octets le left = past_counts_now disk.past t octets le (o
 pub disk_only_now : (disk : Disk) (octets : List ℕ) → told_of disk.past ≤ moment_of disk.past → LeftSince disk.past (moment_of disk.past) octets → DiskMayLeave disk octets
 disk_only_now disk octets told left = now_outcome disk octets (past_only_now disk.past octets told left)
 
+-- at each moment a crash left as many octets
+pub disk_same_size : (disk : Disk) (t : ℕ) (octets : List ℕ) → LeftSince disk.past t octets → length octets ≡ length disk.present.items
+disk_same_size disk t octets left = past_same_size disk.past (length disk.present.items) t octets disk.sound.first_size disk.sound.changes_fit left
+
 -- what a stop would leave is what a crash may leave
 pub disk_may_stop : (disk : Disk) (o : Outcome3) → DiskMayLeave disk (leaves_of disk o)
 disk_may_stop disk Old = disk.sound.agrees
 disk_may_stop disk New = same_refl disk.unsynced.items disk.present.items
 disk_may_stop disk Rot = same_filled rot disk.unsynced.items disk.present.items disk.sound.fit
 
--- how time goes on from one disk to another
-abbrev pub DiskElapses : Disk → Disk → Type 0
-DiskElapses old new = Elapses (told_of old.past) (told_of new.past) (moment_of old.past) (moment_of new.past) (LeftSince old.past) (LeftSince new.past) (DiskMayLeave new)
+-- how time goes on from one area to another
+abbrev pub AreaElapses : MemoryArea → MemoryArea → Type 0
+AreaElapses old new = Elapses (λ (a : MemoryArea). told_of a.disk.past) (λ (a : MemoryArea). moment_of a.disk.past) (λ (a : MemoryArea) (t : ℕ) (octets : List ℕ). LeftSince a.disk.past t octets) (λ (a : MemoryArea) (octets : List ℕ). DiskMayLeave a.disk octets) old new
 
 -- one change is one step of time
-pub elapses_noted : (old new : Disk) (change : Change) → new.past ≡ noted change old.past → DiskElapses old new
+pub elapses_noted : (old new : MemoryArea) (change : Change) → new.disk.past ≡ noted change old.disk.past → AreaElapses old new
 elapses_noted old new change is =
-    let Goes : Past → Type 0 = λ q. Elapses (told_of old.past) (told_of q) (moment_of old.past) (moment_of q) (LeftSince old.past) (LeftSince q) (IsOutcome q) in
-    let time = subst Goes (sym is) (goes_noted change old.past) in
+    let time = subst (λ (q : Past). Elapses told_of moment_of LeftSince IsOutcome old.disk.past q) (sym is) (goes_noted change old.disk.past) in
     record {
       later = time.later;
       told_later = time.told_later;
-      nothing_else = λ t octets told le left. ⊎_elim (λ past. inl past) (λ out. inr (now_outcome new octets out)) (time.nothing_else t octets told le left);
+      nothing_else = λ t octets told le left. ⊎_elim (λ past. inl past) (λ out. inr (now_outcome new.disk octets out)) (time.nothing_else t octets told le left);
       keeps = time.keeps;
     }
 
-pub elapses_same : (disk : Disk) → DiskElapses disk disk
-elapses_same disk = record { later = omega arith; told_later = omega arith; nothing_else = λ t octets told le left. inl left; keeps = λ t octets told le left. left }
+pub elapses_same : (old new : MemoryArea) → new.disk ≡ old.disk → AreaElapses old new
+elapses_same old new is =
+    let past_is : new.disk.past ≡ old.disk.past = ap (λ (d : Disk). d.past) is in
+    let time = subst (λ (q : Past). Elapses told_of moment_of LeftSince IsOutcome old.disk.past q) (sym past_is) (goes_same old.disk.past) in
+    record {
+      later = time.later;
+      told_later = time.told_later;
+      nothing_else = λ t octets told le left. ⊎_elim (λ past. inl past) (λ out. inr (now_outcome new.disk octets out)) (time.nothing_else t octets told le left);
+      keeps = time.keeps;
+    }
 
 -- each outcome after a write is one before it, torn in its range
 pub disk_follows_write : (old new : Disk) (at : ℕ) (from : List ℕ) → at + length from ≤ length old.present.items → new.present.items ≡ overwritten old.present.items at from
@@ -140,8 +151,8 @@ module _ (old new : MemoryArea) (kept : IsKept old new) where
   pub kept_within : Within (DiskMayLeave old.disk) (DiskMayLeave new.disk)
   kept_within octets left = subst (λ (d : Disk). DiskMayLeave d octets) kept.disk left
 
-  pub kept_elapses : DiskElapses old.disk new.disk
-  kept_elapses = subst (λ (d : Disk). DiskElapses old.disk d) (sym kept.disk) (elapses_same old.disk)
+  pub kept_elapses : AreaElapses old new
+  kept_elapses = elapses_same old new kept.disk
 
   pub kept_leaves_of : (o : Outcome3) → leaves_of new.disk o ≡ leaves_of old.disk o
   kept_leaves_of o = ap (λ (d : Disk). leaves_of d o) kept.disk
@@ -153,8 +164,8 @@ module _ (old new : MemoryArea) (o : Outcome3) (left : IsLeft old o new) where
   pub left_within : Within (DiskMayLeave old.disk) (DiskMayLeave new.disk)
   left_within = disk_within_stop old.disk new.disk o left.present left.unsynced
 
-  pub left_elapses : DiskElapses old.disk new.disk
-  left_elapses = elapses_noted old.disk new.disk left.past.0 left.past.1
+  pub left_elapses : AreaElapses old new
+  left_elapses = elapses_noted old new left.past.0 left.past.1
 
   pub left_leaves_of : (p : Outcome3) → leaves_of new.disk p ≡ leaves_of old.disk o
   left_leaves_of Old = left.firm ∙ left.present

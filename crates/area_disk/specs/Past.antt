@@ -12,6 +12,10 @@ pub record Change : Type 0 where
   pub octets : List ℕ
   pub settles : Bool
 
+-- what it wrote lies in an area of n octets
+abbrev pub IsWithin : ℕ → Change → Type 0
+IsWithin n c = c.at + length c.octets ≤ n
+
 -- the octets and what was unsynced at a first moment, and the changes since
 pub record Past : Type 0 where
   pub first : ℕ

@@ -1,12 +1,14 @@
 -- What one change more makes of a past.
 use Rattle.std.proofs.Common.{◌≡◌, ◌⊎◌, inl, inr, ℕ, zero, suc, ◌+◌, ◌≤◌, ◌<◌, Bool, true, false, ◌&&◌, nat_lt, nat_le, List, [], ◌∷◌, ◌++◌, length, take, refl, sym, ◌∙◌, ap, subst, arith}
 use Rattle.std.proofs.lemmas.List.{take-append-le, take_all, length_push}
+use Rattle.std.specs.Prelude.{All}
+use Rattle.std.proofs.lemmas.List.Elements.{All-nil, All-cons, All-push, All-take, All-head, All-tail}
 use Rattle.std.proofs.lemmas.Bool.{cases_lt}
 use Rattle.std.proofs.lemmas.Bool.Decides.{nat_tests}
 use Rattle.area_disk.specs.Disk.{overwritten, Elapses, last_count}
 use Rattle.area_disk.specs.Octets.{length-overwritten}
 use Rattle.area_disk.specs.Stretch.{SameOutside}
-use Rattle.area_disk.specs.Past.{Change, Past, image_after, unsynced_with, unsynced_after, IsOutcome, up_to, LeftSince, moment_of, first_told, told_of, anew, pushed, pushed_where, noted_where, noted, most_calls, most_octets, octets_in}
+use Rattle.area_disk.specs.Past.{Change, Past, IsWithin, image_after, unsynced_with, unsynced_after, IsOutcome, up_to, LeftSince, moment_of, first_told, told_of, anew, pushed, pushed_where, noted_where, noted, most_calls, most_octets, octets_in}
 use Rattle.area_disk.specs.declared.stretch.Stretch.{Stretch}
 
 pub image_after-push : (changes : List Change) (c : Change) (image : List ℕ) → image_after (changes ++ c ∷ []) image ≡ overwritten (image_after changes image) c.at c.octets
@@ -53,6 +55,28 @@ noted_size c p n first now fits = by_size (nat_lt most_octets (length c.octets))
     by_size true = ap length (image_after-push p.changes c p.image) ∙ length-overwritten (image_after p.changes p.image) c.at c.octets (omega (arith, now, fits)) ∙ now
     by_size false = by_room (nat_lt (length p.changes) most_calls && nat_le (octets_in p.changes + length c.octets) most_octets)
 
+-- each change lies in the area
+pub noted_within : (c : Change) (p : Past) (n : ℕ) → All (IsWithin n) p.changes → IsWithin n c → All (IsWithin n) (noted c p).changes
+noted_within c p n all fits = by_size (nat_lt most_octets (length c.octets))
+  where
+    by_room : (b : Bool) → All (IsWithin n) (pushed_where b c p).changes
+    by_room true = All-push (IsWithin n) p.changes c all fits
+    by_room false = All-cons (IsWithin n) c [] fits (All-nil (IsWithin n))
+
+    by_size : (b : Bool) → All (IsWithin n) (noted_where b c p).changes
+    by_size true = All-nil (IsWithin n)
+    by_size false = by_room (nat_lt (length p.changes) most_calls && nat_le (octets_in p.changes + length c.octets) most_octets)
+
+image_size : (n : ℕ) (changes : List Change) (image : List ℕ) → All (IsWithin n) changes → length image ≡ n → length (image_after changes image) ≡ n
+image_size n [] image all size = size
+image_size n (c ∷ changes) image all size =
+    let fits = All-head (IsWithin n) c changes all in
+    image_size n changes (overwritten image c.at c.octets) (All-tail (IsWithin n) c changes all) (length-overwritten image c.at c.octets (omega (arith, fits, size)) ∙ size)
+
+-- at each moment a crash left as many octets
+pub past_same_size : (p : Past) (n t : ℕ) (octets : List ℕ) → length p.image ≡ n → All (IsWithin n) p.changes → LeftSince p t octets → length octets ≡ n
+past_same_size p n t octets size all left = left.3.size ∙ image_size n (take left.0 p.changes) p.image (All-take (IsWithin n) left.0 p.changes all) size
+
 -- a told moment is one before the numbers end
 told_when : (n first t : ℕ) (b : Bool) → nat_lt n last_count ≡ b → first_told b first ≤ t → t ≤ last_count → (n < last_count) × (first ≤ t)
 told_when n first t true is le end = (grind (arith, nat_tests), le)
@@ -93,7 +117,7 @@ past_only_now p octets told left =
 
 -- how time goes on from one past to another
 abbrev Goes : Past → Past → Type 0
-Goes p q = Elapses (told_of p) (told_of q) (moment_of p) (moment_of q) (LeftSince p) (LeftSince q) (IsOutcome q)
+Goes p q = Elapses told_of moment_of LeftSince IsOutcome p q
 
 goes_pushed : (c : Change) (p : Past) → Goes p (pushed c p)
 goes_pushed c p = record {
@@ -173,7 +197,7 @@ goes_passed c p = record {
         omega (arith, here.0, here.1, le, length_push p.changes c)
 
 -- one change more is one step of time
-pub goes_noted : (c : Change) (p : Past) → Elapses (told_of p) (told_of (noted c p)) (moment_of p) (moment_of (noted c p)) (LeftSince p) (LeftSince (noted c p)) (IsOutcome (noted c p))
+pub goes_noted : (c : Change) (p : Past) → Elapses told_of moment_of LeftSince IsOutcome p (noted c p)
 goes_noted c p = by_size (nat_lt most_octets (length c.octets))
   where
     by_room : (b : Bool) → Goes p (pushed_where b c p)
@@ -185,5 +209,5 @@ goes_noted c p = by_size (nat_lt most_octets (length c.octets))
     by_size false = by_room (nat_lt (length p.changes) most_calls && nat_le (octets_in p.changes + length c.octets) most_octets)
 
 -- where nothing changes, no time passes
-pub goes_same : (p : Past) → Elapses (told_of p) (told_of p) (moment_of p) (moment_of p) (LeftSince p) (LeftSince p) (IsOutcome p)
+pub goes_same : (p : Past) → Elapses told_of moment_of LeftSince IsOutcome p p
 goes_same p = record { later = omega arith; told_later = omega arith; nothing_else = λ t octets told le left. inl left; keeps = λ t octets told le left. left }

@@ -1,7 +1,7 @@
 -- What a plan says of the calls to come, and what a stop leaves.
-use Rattle.std.specs.Prelude.{◌≡◌, ℕ, zero, suc, ◌-◌, Bool, true, false, ◌||◌, ◌==◌, if◌then◌else◌, List, length, replicate, Option, None, Some, Result, is_err}
+use Rattle.std.specs.Prelude.{◌≡◌, ℕ, zero, suc, ◌+◌, ◌-◌, Bool, true, false, ◌&&◌, ◌||◌, ◌==◌, nat_lt, if◌then◌else◌, List, length, replicate, Option, None, Some, Result, is_err}
 use Rattle.std.specs.List.{list_any}
-use Rattle.area_disk.specs.Disk.{counted, overwritten}
+use Rattle.area_disk.specs.Disk.{counted, last_count, overwritten}
 use Rattle.area_disk.specs.declared.plan.Outcome3.{Outcome3}
 use Rattle.area_disk.specs.declared.plan.Outcome3.TheVariants.{Old, New, Rot}
 use Rattle.area_disk.specs.declared.plan.Fate.{Fate}
@@ -28,14 +28,24 @@ abbrev pub stop_at : Option Stop → ℕ → Fate
 stop_at None n = Runs
 stop_at (Some stop) n = if stop.call == n then Stops stop.outcome else Runs
 
+-- what is planned for the call with this number
+abbrev pub planned_for : Schedule → ℕ → Fate
+planned_for s n = if is_among s.fail n then Fails else stop_at s.stop n
+
+-- of the next call, where the object is stopped or not, and has a number for it or not
+abbrev pub fate_where : Bool → Bool → Fate → Fate
+fate_where true is_numbered planned = Fails
+fate_where false true planned = planned
+fate_where false false planned = Runs
+
 -- What comes of the next counted call. From a stop on it fails; else it fails where its number is listed, and is
--- stopped where the stop has its number.
+-- stopped where the stop has its number. Past the last number calls run.
 unfoldable pub next_fate : Schedule → Fate
-next_fate s = if s.stopped || is_among s.fail (counted 1 s.calls) then Fails else stop_at s.stop (counted 1 s.calls)
+next_fate s = fate_where s.stopped (nat_lt s.calls last_count) (planned_for s (s.calls + 1))
 
 -- the next read fails
 unfoldable pub next_read_fails : Schedule → Bool
-next_read_fails s = s.stopped || is_among s.read_fail (counted 1 s.reads)
+next_read_fails s = s.stopped || (nat_lt s.reads last_count && is_among s.read_fail (s.reads + 1))
 
 abbrev pub is_stop : Fate → Bool
 is_stop Runs = false
@@ -49,6 +59,10 @@ after_call fate s = record s { calls = counted 1 s.calls; stopped = s.stopped ||
 -- after a read
 abbrev pub after_read : Schedule → Schedule
 after_read s = record s { reads = counted 1 s.reads }
+
+-- the same plan after so many reads
+abbrev pub with_reads : ℕ → Schedule → Schedule
+with_reads reads s = record s { reads = reads }
 
 abbrev pub with_stopped : Bool → Schedule → Schedule
 with_stopped stopped s = record s { stopped = stopped }

@@ -1,13 +1,14 @@
 -- What holds between the octets of an area in memory and its past.
 use Rattle.std.proofs.Common.{◌≡◌, ℕ, ◌+◌, ◌≤◌, ◌<◌, true, false, List, [], ◌∷◌, ◌++◌, length, refl, sym, ◌∙◌, ap, subst, arith}
+use Rattle.std.specs.Prelude.{All}
 use Rattle.std.proofs.lemmas.List.{length_push}
 use Rattle.area_disk.specs.Disk.{overwritten}
 use Rattle.area_disk.specs.Octets.{length-overwritten}
 use Rattle.area_disk.specs.Plan.{most_unsynced, rot, written_as}
 use Rattle.area_disk.specs.Stretch.{SameOutside, EachFits, left_as, left_by}
 use Rattle.area_disk.specs.Outside.{same_refl, same_trans, same_more, same_written, same_filled, EachFits-push, filled-push}
-use Rattle.area_disk.specs.Past.{Change, Past, image_after, unsynced_after, noted}
-use Rattle.area_disk.specs.PastLaws.{noted_image, noted_unsynced, noted_size}
+use Rattle.area_disk.specs.Past.{Change, Past, IsWithin, image_after, unsynced_after, noted}
+use Rattle.area_disk.specs.PastLaws.{noted_image, noted_unsynced, noted_size, noted_within}
 use Rattle.area_disk.specs.declared.plan.Outcome3.{Outcome3}
 use Rattle.area_disk.specs.declared.plan.Outcome3.TheVariants.{Old, New, Rot}
 use Rattle.area_disk.specs.declared.stretch.Stretch.{Stretch}
@@ -20,6 +21,7 @@ pub record IsSound (present firm : List ℕ) (unsynced : List Stretch) (capacity
   pub agrees : SameOutside unsynced present firm
   pub image_is : image_after past.changes past.image ≡ present
   pub unsynced_is : unsynced_after past.changes past.unsynced ≡ unsynced
+  pub changes_fit : All (IsWithin (length present)) past.changes
   pub few : length unsynced ≤ most_unsynced
   pub room : most_unsynced + 1 ≤ capacity
 
@@ -41,6 +43,7 @@ sound_written present firm unsynced capacity later past at from sound fits spare
       agrees = same_trans (unsynced ++ s ∷ []) present (overwritten present at from) firm (same_written unsynced present at from fits) (same_more unsynced s present firm sound.agrees);
       image_is = noted_image change past ∙ ap (λ (l : List ℕ). overwritten l at from) sound.image_is;
       unsynced_is = noted_unsynced change past ∙ ap (λ (l : List Stretch). l ++ s ∷ []) sound.unsynced_is;
+      changes_fit = subst (λ n. All (IsWithin n) (noted change past).changes) (sym size) (noted_within change past (length present) sound.changes_fit fits);
       few = omega (arith, length_push unsynced s, spare);
       room = omega (arith, sound.room, grows);
     }
@@ -59,6 +62,7 @@ sound_settled present firm octets unsynced capacity later past at part sound fit
       agrees = same_refl [] octets;
       image_is = noted_image change past ∙ ap (λ (l : List ℕ). overwritten l at part) sound.image_is ∙ is;
       unsynced_is = noted_unsynced change past;
+      changes_fit = subst (λ n. All (IsWithin n) (noted change past).changes) (sym size) (noted_within change past (length present) sound.changes_fit fits);
       few = omega arith;
       room = omega (arith, sound.room, grows);
     }

@@ -99,12 +99,13 @@ pub trait Area: Send + Drop {
     fn read_at(&mut self, at: u64, into: &mut [u8]) -> Result<(), Failed>
         requires { at + length into.old ≤ size self.old }
 
-        ensures read { IsTrue tells_octets → OnOk result (into.new ≡ take (length into.old) (drop at (octets self.old))) }
+        ensures read { IsTrue tells_octets →
+            OnOk result (into.new ≡ take (length into.old) (drop at (octets self.old))) }
         ensures size { size self.new ≡ size self.old }
         ensures octets { octets self.new ≡ octets self.old }
 
         ensures crash { Within (may_leave self.old) (may_leave self.new) }
-        ensures time { Elapses (told_from self.old) (told_from self.new) (moment self.old) (moment self.new) (left_since self.old) (left_since self.new) (may_leave self.new) }
+        ensures time { Elapses told_from moment left_since may_leave self.old self.new }
 
         ensures calls { IsTrue tells_calls → calls self.new ≡ calls self.old }
         ensures planned { IsTrue tells_fate → ReadAsPlanned (fate self.old) result (fate self.new) }
@@ -116,10 +117,11 @@ pub trait Area: Send + Drop {
         requires { at + length from.now ≤ size self.old }
 
         ensures size { size self.new ≡ size self.old }
-        ensures written { IsTrue tells_octets → OnOk result (octets self.new ≡ overwritten (octets self.old) at from.now) }
+        ensures written { IsTrue tells_octets →
+            OnOk result (octets self.new ≡ overwritten (octets self.old) at from.now) }
 
         ensures crash { Follows (Torn at (length from.now)) (may_leave self.old) (may_leave self.new) }
-        ensures time { Elapses (told_from self.old) (told_from self.new) (moment self.old) (moment self.new) (left_since self.old) (left_since self.new) (may_leave self.new) }
+        ensures time { Elapses told_from moment left_since may_leave self.old self.new }
 
         ensures calls { IsTrue tells_calls → calls self.new ≡ counted 1 (calls self.old) }
         ensures planned { IsTrue tells_fate → WriteAsPlanned (fate self.old) at from.now result (fate self.new) }
@@ -133,7 +135,7 @@ pub trait Area: Send + Drop {
 
         ensures durable { IsTrue tells_crash → OnOk result (Only (octets self.new) (may_leave self.new)) }
         ensures crash { Within (may_leave self.old) (may_leave self.new) }
-        ensures time { Elapses (told_from self.old) (told_from self.new) (moment self.old) (moment self.new) (left_since self.old) (left_since self.new) (may_leave self.new) }
+        ensures time { Elapses told_from moment left_since may_leave self.old self.new }
 
         ensures calls { IsTrue tells_calls → calls self.new ≡ counted 1 (calls self.old) }
         ensures planned { IsTrue tells_fate → SyncAsPlanned (fate self.old) result (fate self.new) }
@@ -147,6 +149,10 @@ pub trait Area: Send + Drop {
 
     /// A crash leaves as many octets.
     ghost same_size: { (a : Self) (c : List ℕ) → IsTrue tells_crash → may_leave a c → length c ≡ size a };
+
+    /// So it did at each moment since one that is told.
+    ghost same_size_since: { (a : Self) (t : ℕ) (c : List ℕ) → IsTrue tells_crash → told_from a ≤ t → t ≤ moment a → left_since a t c →
+        length c ≡ size a };
 
     /// This moment is one of those since an earlier one.
     ghost counts_now: { (a : Self) (t : ℕ) (c : List ℕ) → told_from a ≤ t → t ≤ moment a → may_leave a c → left_since a t c };

@@ -60,7 +60,7 @@ pub trait DrillArea: Area + Drill {
 
     ghost kept_crash: { (old new : Self) → Self.kept old new → Within (Self.may_leave old) (Self.may_leave new) };
 
-    ghost kept_time: { (old new : Self) → Self.kept old new → Elapses (Self.told_from old) (Self.told_from new) (Self.moment old) (Self.moment new) (Self.left_since old) (Self.left_since new) (Self.may_leave new) };
+    ghost kept_time: { (old new : Self) → Self.kept old new → Elapses Self.told_from Self.moment Self.left_since Self.may_leave old new };
 
     ghost kept_leaves: { (old new : Self) (o : Outcome3) → Self.kept old new → (Self.fate new).leaves o ≡ (Self.fate old).leaves o };
 
@@ -75,7 +75,8 @@ pub trait DrillArea: Area + Drill {
 
     ghost left_crash: { (old new : Self) (o : Outcome3) → Self.left old o new → Within (Self.may_leave old) (Self.may_leave new) };
 
-    ghost left_time: { (old new : Self) (o : Outcome3) → Self.left old o new → Elapses (Self.told_from old) (Self.told_from new) (Self.moment old) (Self.moment new) (Self.left_since old) (Self.left_since new) (Self.may_leave new) };
+    ghost left_time: { (old new : Self) (o : Outcome3) → Self.left old o new →
+        Elapses Self.told_from Self.moment Self.left_since Self.may_leave old new };
 
     ghost left_leaves: { (old new : Self) (o p : Outcome3) → Self.left old o new → (Self.fate new).leaves p ≡ (Self.fate old).leaves o };
 

@@ -5,6 +5,7 @@
 mod area;
 mod disk;
 mod drill;
+pub mod laws;
 mod memory;
 mod past;
 mod plan;

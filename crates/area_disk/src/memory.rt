@@ -5,7 +5,7 @@ ghost use Rattle.area_disk.specs.Disk.{HasCause, Only, zeros};
 ghost use Rattle.area_disk.specs.Plan.{schedule_of, next_fate, fate_with, most_unsynced};
 ghost use Rattle.area_disk.specs.Outside.{same_refl};
 ghost use Rattle.area_disk.specs.Past.{moment_of, told_of, LeftSince};
-ghost use Rattle.area_disk.specs.Memory.{prospect_of, leaves_of, DiskMayLeave, disk_counts_now, disk_only_now, disk_may_stop, IsKept, IsLeft, kept_disk_size, kept_present, kept_within, kept_elapses, kept_leaves_of, kept_disk_spare, left_within, left_elapses, left_leaves_of, left_disk_spare};
+ghost use Rattle.area_disk.specs.Memory.{prospect_of, leaves_of, DiskMayLeave, disk_counts_now, disk_only_now, disk_same_size, disk_may_stop, IsKept, IsLeft, kept_disk_size, kept_present, kept_within, kept_elapses, kept_leaves_of, kept_disk_spare, left_within, left_elapses, left_leaves_of, left_disk_spare};
 ghost use Rattle.area_disk.specs.declared.plan.Outcome3.{Outcome3};
 
 use crate::disk::Disk;
@@ -102,6 +102,8 @@ impl Area for MemoryArea {
     ghost whole = { λ a told. refl };
 
     ghost same_size = { λ a octets told left. left.size };
+
+    ghost same_size_since = { λ a t octets tells told le left. disk_same_size a.disk t octets left };
 
     ghost counts_now = { λ a t octets told le left. disk_counts_now a.disk t octets le left };
 

@@ -6,7 +6,7 @@ use crate::{Fate, Plan};
 use std::marker::Model;
 
 /// Counts the calls of an object in memory, and says what its plan makes of them. Contracts see it as its
-/// `Schedule`. Its counts stand still at 2^64 - 1. No call takes memory.
+/// `Schedule`. Its counts stand still at 2^64 - 1, and calls past the last number run. No call takes memory.
 #[derive(Drop)]
 pub struct PlannedCalls {
     plan: Plan,
@@ -41,8 +41,13 @@ impl PlannedCalls {
     pub fn next_fate(&self) -> Fate
         ensures { result ≡ next_fate self.now }
     {
-        let number = self.calls.saturating_add(1);
-        if self.stopped || self.plan.fail.contains(&number) {
+        if self.stopped {
+            return Fate::Fails;
+        }
+        let Some(number) = self.calls.checked_add(1) else {
+            return Fate::Runs;
+        };
+        if self.plan.fail.contains(&number) {
             return Fate::Fails;
         }
         match self.plan.stop {
@@ -61,14 +66,28 @@ impl PlannedCalls {
         }
     }
 
-    /// Counts one read, and says whether it fails.
+    // Whether the next read fails.
     #[tactic(auto, unfolding(crate::specs::Plan::next_read_fails))]
+    fn next_read_fails(&self) -> bool
+        ensures { result ≡ next_read_fails self.now }
+    {
+        if self.stopped {
+            return true;
+        }
+        match self.reads.checked_add(1) {
+            Some(number) => self.plan.read_fail.contains(&number),
+            None => false,
+        }
+    }
+
+    /// Counts one read, and says whether it fails.
     pub fn count_read(&mut self) -> bool
         ensures fails { result ≡ next_read_fails self.old }
         ensures counted { self.new ≡ after_read self.old }
     {
+        let fails = self.next_read_fails();
         self.reads = self.reads.saturating_add(1);
-        self.stopped || self.plan.read_fail.contains(&self.reads)
+        fails
     }
 
     /// The number of counted calls since the plan was armed.

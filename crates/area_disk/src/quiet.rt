@@ -43,7 +43,7 @@ impl QuietArea {
 }
 
 impl Area for QuietArea {
-    ghost use Rattle.std.proofs.Common.{refl, ap};
+    ghost use Rattle.std.proofs.Common.{refl, ap, le_trans};
     ghost use Rattle.std.proofs.Math.Bridge.{no_suc-le-zero};
     ghost use Rattle.area_disk.specs.Quiet.{no_prospect, not_told};
 
@@ -78,6 +78,8 @@ impl Area for QuietArea {
     ghost whole = { λ a told. refl };
 
     ghost same_size = { λ a c told left. ap length left };
+
+    ghost same_size_since = { λ a t c tells told le left. absurd (no_suc-le-zero (le_trans told le)) };
 
     ghost counts_now = { λ a t c le now left. tt };
 

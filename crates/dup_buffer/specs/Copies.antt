@@ -1,51 +1,48 @@
--- The copies of possibly duplicated packets that a gateway holds.
-use Rattle.std.specs.Prelude.{ℕ, ◌==◌, not, Bool, List, Option, filter, find}
-use Rattle.std.specs.List.{IsDistinct}
-use Rattle.std.specs.Option.{option_map}
-use Rattle.gw_base.specs.declared.address.NodeId.{NodeId}
-use Rattle.gw_base.specs.declared.held.HeldKey.{HeldKey}
+-- The copies of possibly duplicated packets that a gateway holds, however they are stored: by what is found of them
+-- and by their counts.
+use Rattle.std.specs.Prelude.{ℕ, ◌+◌, ◌-◌, ◌==◌, ◌&&◌, if◌then◌else◌, Option, None, Some, is_some}
 use Rattle.gw_base.specs.declared.place.Place.{Place}
-use Rattle.gw_base.specs.HeldKeys.{is_key}
 
--- a copy: whose it is, which number it bears, and where it lies in the journal
-pub record HeldCopy : Type 0 where
-  pub node : NodeId
-  pub number : ℕ
-  pub place : Place
-
--- the copies, in the order in which they were held, and how many more need no memory
-pub record HeldCopies : Type 0 where
-  pub copies : List HeldCopy
-  pub spare : ℕ
+-- what is held
+pub record Copies : Type 0 where
+  -- where the copy of a node's number lies in the journal, if it is held
+  pub place_of : ℕ → ℕ → Option Place
+  -- how many copies are held
+  pub count : ℕ
+  -- how many of them are a node's
+  pub count_of : ℕ → ℕ
 
 -- the most copies that are held
 abbrev pub most_copies : ℕ
 most_copies = 65536
 
--- the key that a copy holds
-abbrev pub key_of : HeldCopy → HeldKey
-key_of copy = record { node = copy.node; number = copy.number }
+abbrev pub no_copies : Copies
+no_copies = record { place_of = λ node number. None; count = 0; count_of = λ node. 0 }
 
--- whether a copy is of a node
-abbrev pub is_of : ℕ → HeldCopy → Bool
-is_of node copy = copy.node.0 == node
+-- the copies with one more, that of a node's number
+abbrev pub with_copy : ℕ → ℕ → Place → Copies → Copies
+with_copy node number place copies = record {
+  place_of = λ n k. if (node == n) && (number == k) then Some place else copies.place_of n k;
+  count = copies.count + 1;
+  count_of = λ n. if node == n then copies.count_of n + 1 else copies.count_of n;
+}
 
--- whether a copy is that of a node's number
-abbrev pub is_copy : ℕ → ℕ → HeldCopy → Bool
-is_copy node number copy = is_key node number (key_of copy)
-
--- no two copies are of one node's number
-abbrev pub AreApart : List HeldCopy → Type 0
-AreApart copies = IsDistinct (λ copy later. is_copy copy.node.0 copy.number later) copies
-
--- where the copy of a node's number lies, if it is held
-abbrev pub place_of : ℕ → ℕ → List HeldCopy → Option Place
-place_of node number copies = option_map (λ copy. copy.place) (find (is_copy node number) copies)
+-- how many copies of a node's number are held: one or none
+abbrev pub held_of : ℕ → ℕ → Copies → ℕ
+held_of node number copies = if is_some (copies.place_of node number) then 1 else 0
 
 -- the copies but that of a node's number
-abbrev pub without : ℕ → ℕ → List HeldCopy → List HeldCopy
-without node number copies = filter (λ copy. not (is_copy node number copy)) copies
+abbrev pub without_copy : ℕ → ℕ → Copies → Copies
+without_copy node number copies = record {
+  place_of = λ n k. if (node == n) && (number == k) then None else copies.place_of n k;
+  count = copies.count - held_of node number copies;
+  count_of = λ n. if node == n then copies.count_of n - held_of node number copies else copies.count_of n;
+}
 
 -- the copies but those of a node
-abbrev pub without_node : ℕ → List HeldCopy → List HeldCopy
-without_node node copies = filter (λ copy. not (is_of node copy)) copies
+abbrev pub without_node : ℕ → Copies → Copies
+without_node node copies = record {
+  place_of = λ n k. if n == node then None else copies.place_of n k;
+  count = copies.count - copies.count_of node;
+  count_of = λ n. if n == node then 0 else copies.count_of n;
+}

@@ -1,2 +1,3 @@
+-- What public clauses cite: `Copies`, and `copies_of` of `Stored`, whose other names are the type's invariant.
 pub mod Copies
 pub mod Stored

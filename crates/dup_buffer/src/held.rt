@@ -1,5 +1,6 @@
-ghost use Rattle.std.specs.Prelude.{◌≡◌, ◌↔◌, ◌≤◌, ◌+◌, ◌++◌, [], ◌∷◌, not, ◌==◌, length, count_by, None, IfOk, OnOk, OnErr, OnSome};
-ghost use Rattle.dup_buffer.specs.Copies.{AreApart, is_of, most_copies, place_of, without, without_node};
+ghost use Rattle.std.specs.Prelude.{◌≡◌, ◌↔◌, ◌≤◌, ◌+◌, not, ◌==◌, None, IfOk, OnOk, OnErr};
+ghost use Rattle.dup_buffer.specs.Stored.{copies_of};
+ghost use Rattle.dup_buffer.specs.Copies.{most_copies, no_copies, with_copy, without_copy, without_node};
 
 use crate::fault::HoldFault;
 use gw_base::{Absolute, NoMemory, NodeId, Place};
@@ -29,20 +30,19 @@ impl Key {
 }
 
 /// The copies of possibly duplicated packets that a gateway holds, with the place of each in its
-/// journal, in the order in which they were held.
+/// journal.
 #[derive(Debug, Drop)]
 pub struct Held {
     places: IndexMap<Key, Place>,
 }
 
 impl Model for Held {
-    ghost use Rattle.dup_buffer.specs.Copies.{HeldCopies};
-    ghost use Rattle.dup_buffer.specs.Stored.{IsStored, copies_of};
+    ghost use Rattle.dup_buffer.specs.Stored.{IsStored, Stored};
     ghost use Rattle.indexmap.specs.IndexMap.{spare};
 
-    ghost Value = { HeldCopies };
+    ghost Value = { Stored };
 
-    ghost view = { λ held. record { copies = copies_of held.places.entries; spare = spare held.places } };
+    ghost view = { λ held. record { entries = held.places.entries; spare = spare held.places } };
 
     ghost invariant = { λ held. IsStored held.places };
 }
@@ -50,7 +50,7 @@ impl Model for Held {
 impl Held {
     /// No copies, and room for `spare` of them.
     pub fn new(alloc: Global, spare: usize) -> Result<Held, NoMemory>
-        ensures empty { IfOk result (λ held. held.copies ≡ []) }
+        ensures empty { IfOk result (λ held. copies_of held ≡ no_copies) }
         ensures room { IfOk result (λ held. spare ≤ held.spare) }
     {
         Ok(Held {
@@ -60,28 +60,26 @@ impl Held {
 
     /// How many copies are held: at most 65,536.
     pub fn count(&self) -> usize
-        ensures value { result ≡ length self.now.copies }
+        ensures value { result ≡ (copies_of self.now).count }
         ensures within { result ≤ most_copies }
-        ensures apart { AreApart self.now.copies }
     {
         self.places.len()
     }
 
     /// Where the copy of a node's number lies, if it is held.
     pub fn find(&self, node: NodeId, number: Absolute) -> Option<Place>
-        ensures { result ≡ place_of node.0 number self.now.copies }
+        ensures { result ≡ (copies_of self.now).place_of node.0 number }
     {
         self.places.get(&Key::of(node, number)).copied()
     }
 
     /// Holds one more copy, which isn't held yet. It takes no memory where there is spare room.
     pub fn hold(&mut self, node: NodeId, number: Absolute, place: Place) -> Result<(), HoldFault>
-        requires { place_of node.0 number self.old.copies ≡ None }
-        ensures held { OnOk result (self.new.copies ≡
-            self.old.copies ++ (record { node = node; number = number; place = place }) ∷ []) }
-        ensures kept { OnErr result (self.new.copies ≡ self.old.copies) }
+        requires { (copies_of self.old).place_of node.0 number ≡ None }
+        ensures held { OnOk result (copies_of self.new ≡ with_copy node.0 number place (copies_of self.old)) }
+        ensures kept { OnErr result (copies_of self.new ≡ copies_of self.old) }
 
-        ensures full { (result ≡ Err HoldFault.Full) ↔ (length self.old.copies ≡ most_copies) }
+        ensures full { (result ≡ Err HoldFault.Full) ↔ ((copies_of self.old).count ≡ most_copies) }
         ensures no_memory { result ≡ Err HoldFault.NoMemory → self.old.spare ≡ 0 }
 
         ensures spare { self.old.spare ≤ self.new.spare + 1 }
@@ -98,8 +96,8 @@ impl Held {
 
     /// Takes out the copy of a node's number, if it is held, and says where it lies.
     pub fn take(&mut self, node: NodeId, number: Absolute) -> Option<Place>
-        ensures value { result ≡ place_of node.0 number self.old.copies }
-        ensures others { self.new.copies ≡ without node.0 number self.old.copies }
+        ensures value { result ≡ (copies_of self.old).place_of node.0 number }
+        ensures others { copies_of self.new ≡ without_copy node.0 number (copies_of self.old) }
         ensures spare { self.old.spare ≤ self.new.spare }
     {
         self.places.shift_remove(&Key::of(node, number))
@@ -107,8 +105,8 @@ impl Held {
 
     /// Takes out all copies of a node, and says how many there were.
     pub fn drop_node(&mut self, node: NodeId) -> u64
-        ensures value { result ≡ count_by (is_of node.0) self.old.copies }
-        ensures others { self.new.copies ≡ without_node node.0 self.old.copies }
+        ensures value { result ≡ (copies_of self.old).count_of node.0 }
+        ensures others { copies_of self.new ≡ without_node node.0 (copies_of self.old) }
         ensures spare { self.old.spare ≤ self.new.spare }
     {
         let before = self.places.len();

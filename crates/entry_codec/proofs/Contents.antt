@@ -6,9 +6,9 @@ use Rattle.std.proofs.lemmas.List.Elements.{All-append, All-cons, All-head, All-
 use Rattle.gw_base.specs.declared.history.HistoryEntry.{HistoryEntry}
 use Rattle.entry_codec.specs.Content.{AreEntries, entries_of, entries_up_to, spelled, with_next}
 use Rattle.entry_codec.specs.Reading.{entry_at}
-use Rattle.entry_codec.specs.Room.{costs_of}
 use Rattle.entry_codec.specs.Spelling.{HasSpelling, spelling}
-use Rattle.entry_codec.proofs.Entries.{entry_part, length_of_spelling, same_entry}
+use Rattle.entry_codec.proofs.Entries.{entry_part, same_entry}
+pub use Rattle.entry_codec.specs.Laws.{costs_of-append, costs_of-spelled, length_of_spelling, more_entries, no_entries, one_entry}
 
 -- ---- reading them back
 
@@ -35,22 +35,7 @@ entries_of_entries octets h are =
 pub unique_entries : (octets : List ℕ) (h g : List HistoryEntry) → AreEntries octets h → AreEntries octets g → h ≡ g
 unique_entries octets h g p q = sym (entries_of_entries octets h p) ∙ entries_of_entries octets g q
 
--- ---- more of them
-
-pub no_entries : AreEntries [] []
-no_entries = record { spelling = refl; each = All-nil HasSpelling }
-
-pub one_entry : (e : HistoryEntry) → HasSpelling e → AreEntries (spelling e) (e ∷ [])
-one_entry e fits = record {
-  spelling = sym (append-nil (spelling e));
-  each = All-cons HasSpelling e [] fits (All-nil HasSpelling);
-}
-
-pub more_entries : (a b : List ℕ) (h g : List HistoryEntry) → AreEntries a h → AreEntries b g → AreEntries (a ++ b) (h ++ g)
-more_entries a b h g p q = record {
-  spelling = (λ i. p.spelling i ++ q.spelling i) ∙ sym (flat_map-append spelling h g);
-  each = All-append HasSpelling h g p.each q.each;
-}
+-- ---- in parts
 
 -- what is spelled in front of a whole is its first entries
 first_entries : (h g : List HistoryEntry) (b : List ℕ) → All HasSpelling h → All HasSpelling g → spelled h ++ b ≡ spelled g → (f : List HistoryEntry) × (g ≡ h ++ f) × AreEntries b f
@@ -64,13 +49,3 @@ first_entries (x ∷ h) (y ∷ g) b p q e =
 
 pub divided_entries : (a b : List ℕ) (h g : List HistoryEntry) → AreEntries a h → AreEntries (a ++ b) g → (f : List HistoryEntry) × (g ≡ h ++ f) × AreEntries b f
 divided_entries a b h g p q = first_entries h g b p.each q.each (ap (λ (o : List ℕ). o ++ b) (sym p.spelling) ∙ q.spelling)
-
--- ---- what they cost
-
-pub costs_of-append : (h g : List HistoryEntry) → costs_of (h ++ g) ≡ costs_of h + costs_of g
-costs_of-append [] g = omega arith
-costs_of-append (e ∷ h) g = omega (arith, costs_of-append h g)
-
-pub costs_of-spelled : (h : List HistoryEntry) → costs_of h ≡ length (spelled h) + 5 * length h
-costs_of-spelled [] = refl
-costs_of-spelled (e ∷ h) = omega (arith, costs_of-spelled h, length-append (spelling e) (spelled h), length_of_spelling e)

@@ -14,6 +14,7 @@ use Rattle.entry_codec.proofs.Acts.{IsActOf, IsKind, act_length, act_part, list_
 use Rattle.entry_codec.proofs.Fields.{IsNumber, number_part, wide4, wide8}
 use Rattle.entry_codec.proofs.Heads.{IsLength, IsMoment, is_length_long, length_part, moment_part}
 use Rattle.entry_codec.proofs.Parts.{IsPart, done_part, not_both, ok_is, then_part}
+pub use Rattle.entry_codec.specs.Laws.{length_of_spelling}
 
 -- ---- lengths and kinds
 
@@ -164,9 +165,6 @@ pub same_entry : (a b : HistoryEntry) (x y : List ℕ) → HasSpelling a → Has
 same_entry a b x y fa fb e =
     let both = ok_is (a, x) (b, y) (sym (entry_part.again a x fa) ∙ ap entry_at e ∙ entry_part.again b y fb) in
     (ap (λ (p : HistoryEntry × List ℕ). p.0) both, ap (λ (p : HistoryEntry × List ℕ). p.1) both)
-
-pub length_of_spelling : (e : HistoryEntry) → length (spelling e) ≡ entry_length e
-length_of_spelling e = omega arith
 
 take_past : (xs ys : List ℕ) (k : ℕ) → take (length xs + k) (xs ++ ys) ≡ xs ++ take k ys
 take_past [] ys k = let e : 0 + k ≡ k = omega arith in rw e refl

@@ -1,5 +1,5 @@
 -- What is promised is room enough for a Close that is due, and for Releases and Cancels of held numbers.
-use Rattle.std.proofs.Common.{◌≡◌, ◌≢◌, ℕ, ◌+◌, ◌*◌, ◌≤◌, ◌==◌, ◌&&◌, ◌||◌, not, Bool, true, false, cond, if◌then◌else◌, List, [], ◌∷◌, ◌++◌, length, All, filter, refl, sym, ap, ◌∙◌, arith}
+use Rattle.std.proofs.Common.{◌≡◌, ◌≢◌, ℕ, ◌+◌, ◌*◌, ◌≤◌, ◌==◌, ◌&&◌, ◌||◌, not, Bool, true, false, cond, if◌then◌else◌, nat_le, List, [], ◌∷◌, ◌++◌, length, All, filter, refl, sym, ap, ◌∙◌, arith}
 use Rattle.std.specs.List.{AllByRecursion, IsDistinct, list_any}
 use Rattle.std.proofs.lemmas.Bool.{and_parts, eq-eqb, eqb-false, eqb-true, le-leb, leb-true, ne_eqb}
 use Rattle.std.proofs.lemmas.List.{append-nil}
@@ -15,9 +15,10 @@ use Rattle.gw_base.specs.HeldKeys.{held_by, held_keys, holds, is_key, promised_o
 use Rattle.gw_base.specs.History.{due_behind, is_close_due}
 use Rattle.gw_base.specs.View.{stays_held}
 use Rattle.gw_base.proofs.ViewLemmas.{view_of-append}
+use Rattle.entry_codec.specs.LawTypes.{RoomIsOfTheAct}
 use Rattle.entry_codec.specs.Room.{IsWithin, capacity_of, costs_of, has_room}
-use Rattle.entry_codec.specs.Spelling.{cost_of}
-use Rattle.entry_codec.proofs.Contents.{costs_of-append}
+use Rattle.entry_codec.specs.Spelling.{body, cost_of}
+use Rattle.entry_codec.specs.Laws.{costs_of-append}
 use Rattle.entry_codec.proofs.Fields.{length_numbers}
 
 -- ---- keys that stay held
@@ -107,6 +108,19 @@ due_at_most true = omega arith
 due_at_most false = omega arith
 
 -- ---- the laws
+
+-- what an act and what stands before it leave of a history's promises
+abbrev promised_after : List HistoryEntry → HistoryAct → ℕ
+promised_after h act = 76 * length (filter (λ (key : HeldKey). stays_held act key) (held_keys h) ++ held_by act []) + (if due_behind (is_close_due h) act then 30 else 0)
+
+promises_are : (h : List HistoryEntry) (e : HistoryEntry) → promised_octets (h ++ e ∷ []) ≡ promised_after h e.act
+promises_are h e = λ i. 76 * length (held_behind h e i) + (if due_after h e i then 30 else 0)
+
+pub same_room : RoomIsOfTheAct
+same_room h a b size same =
+    (λ i. nat_le (costs_of h + cost_of a + promises_are h a i) (capacity_of size))
+    ∙ (λ i. nat_le (costs_of h + (25 + length (body (same i)) + 5) + promised_after h (same i)) (capacity_of size))
+    ∙ sym (λ i. nat_le (costs_of h + cost_of b + promises_are h b i) (capacity_of size))
 
 pub stays_within : (h : List HistoryEntry) (e : HistoryEntry) (size : ℕ) → has_room h e size ≡ true → IsWithin (h ++ e ∷ []) size
 stays_within h e size room =

@@ -9,7 +9,8 @@ ghost use Rattle.gw_base.specs.declared.history.HistoryAct.TheVariants.{Close, R
 ghost use Rattle.gw_base.specs.declared.history.HistoryEntry.{HistoryEntry};
 ghost use Rattle.gw_base.specs.HeldKeys.{held_keys, holds};
 ghost use Rattle.gw_base.specs.History.{is_close_due};
-ghost use Rattle.entry_codec.specs.Content.{AreEntries, entries_of, spelled};
+ghost use Rattle.entry_codec.specs.Content.{AreEntries, spelled};
+ghost use Rattle.entry_codec.specs.LawTypes.{EntriesAreReadBack, EntriesDivide, RoomIsOfTheAct};
 ghost use Rattle.entry_codec.specs.Room.{IsWithin, costs_of, has_room};
 ghost use Rattle.entry_codec.specs.Reading.{entry_at};
 ghost use Rattle.entry_codec.specs.Spelling.{AreBelow, HasSpelling, spelling};
@@ -37,7 +38,7 @@ pub fn no_spelling_begins_another()
 
 /// What is spelled, entry by entry, is read back so, and nothing else spells it.
 pub fn entries_are_read_back()
-    ensures { (octets : List ℕ) (entries : List HistoryEntry) → AreEntries octets entries → entries_of octets ≡ entries }
+    ensures { EntriesAreReadBack }
 {}
 
 /// The octets of one entry are that entry alone.
@@ -45,15 +46,14 @@ pub fn one_entry_is_entries()
     ensures { (e : HistoryEntry) → HasSpelling e → AreEntries (spelling e) (e ∷ []) }
 {}
 
-/// Entries behind entries are the entries of both.
+/// Entries that follow entries are the entries of both.
 pub fn entries_go_on()
     ensures { (a b : List ℕ) (h g : List HistoryEntry) → AreEntries a h → AreEntries b g → AreEntries (a ++ b) (h ++ g) }
 {}
 
 /// Where octets that begin with entries are entries, those in front are the first of them, and the rest are entries too.
 pub fn entries_divide()
-    ensures { (a b : List ℕ) (h g : List HistoryEntry) → AreEntries a h → AreEntries (a ++ b) g →
-        (f : List HistoryEntry) × (g ≡ h ++ f) × AreEntries b f }
+    ensures { EntriesDivide }
 {}
 
 /// Octets are the entries of at most one history.
@@ -69,6 +69,11 @@ pub fn costs_are_octets_and_five_each()
 /// What entries cost is the sum over their parts.
 pub fn costs_add_up()
     ensures { (h g : List HistoryEntry) → costs_of (h ++ g) ≡ costs_of h + costs_of g }
+{}
+
+/// Room for an entry depends on its act alone: neither the moment nor the caller matters.
+pub fn room_is_of_the_act()
+    ensures { RoomIsOfTheAct }
 {}
 
 /// An entry with room keeps costs and promises within the capacity.

@@ -7,7 +7,7 @@ use Rattle.gw_base.specs.declared.kind.CdrKind.{CdrKind}
 use Rattle.file_rotate.specs.declared.limits.Limits.{Limits}
 use Rattle.file_rotate.specs.declared.open_file.OpenFile.{OpenFile}
 use Rattle.file_rotate.specs.Cutting.{answers_from, file_of, file_with, item_cuts, item_file, limit_reached, marked_from, with_record}
-use Rattle.file_rotate.specs.Division.{Cuts, cdr_length, cuts_at, divided_from, Division, ends_after, ends_before, ends_behind, joined, run_behind, still, with_cuts}
+use Rattle.file_rotate.specs.Division.{Cuts, cdr_length, cuts_at, divided_from, Division, ends_after, ends_before, run_limit_reached, joined, run_after, still, with_cuts}
 use Rattle.file_rotate.specs.Items.{Filed, Item, Record, Tick, Close}
 
 same_file : (kind : CdrKind) (opened : ℕ) (count count' octets octets' : ℕ) → count ≡ count' → octets ≡ octets'
@@ -28,10 +28,10 @@ some_is : {A : Type 0} {a b : A} → Some a ≡ Some b → a ≡ b
 some_is e = cc
 
 -- the limits are those of the run
-ends_behind-kept : {P : Type 0} (limits : Limits) (run : List (Filed P)) (file : OpenFile) → file_of run ≡ Some file → ends_behind limits run ≡ limit_reached limits file
-unfolding ends_behind
-ends_behind-kept limits [] file e = cc
-ends_behind-kept limits (first ∷ later) file e = ap (λ (f : OpenFile). limit_reached limits f) (some_is e)
+run_limit_reached-kept : {P : Type 0} (limits : Limits) (run : List (Filed P)) (file : OpenFile) → file_of run ≡ Some file → run_limit_reached limits run ≡ limit_reached limits file
+unfolding run_limit_reached
+run_limit_reached-kept limits [] file e = cc
+run_limit_reached-kept limits (first ∷ later) file e = ap (λ (f : OpenFile). limit_reached limits f) (some_is e)
 
 ends_before-kept : {P : Type 0} (limits : Limits) (run : List (Filed P)) (item : Item P) → ends_before limits run item ≡ (item_cuts limits (file_of run) item).before
 unfolding ends_before
@@ -54,7 +54,7 @@ file_of-joined limits run filed =
 ends_after-kept : {P : Type 0} (limits : Limits) (run : List (Filed P)) (item : Item P)
     → ends_after limits (joined (ends_before limits run item) run item) item ≡ (item_cuts limits (file_of run) item).after
 unfolding ends_after
-ends_after-kept limits run (Record filed) = ends_behind-kept limits (joined (ends_before limits run (Record filed)) run (Record filed)) _ (file_of-joined limits run filed)
+ends_after-kept limits run (Record filed) = run_limit_reached-kept limits (joined (ends_before limits run (Record filed)) run (Record filed)) _ (file_of-joined limits run filed)
 ends_after-kept limits run (Tick moment) = refl
 ends_after-kept limits run (Close moment) = refl
 
@@ -74,21 +74,21 @@ mark-kept limits run reason item e =
     ∙ sym (file_of-still (ends_before limits run item) run)
     ∙ ap (λ (r : List (Filed _)). file_of r) (sym (append-nil (still (ends_before limits run item) run [])))
 
--- what is kept behind an item is that of the run behind it
-pub file_of-behind : {P : Type 0} (limits : Limits) (run : List (Filed P)) (item : Item P)
-    → item_file limits (file_of run) item ≡ file_of (run_behind (cuts_at limits run item) run item)
+-- what is kept after an item is that of the run after it
+pub file_of-run_after : {P : Type 0} (limits : Limits) (run : List (Filed P)) (item : Item P)
+    → item_file limits (file_of run) item ≡ file_of (run_after (cuts_at limits run item) run item)
 unfolding ends_after
-file_of-behind limits run (Record filed) =
+file_of-run_after limits run (Record filed) =
     sym (file_of-still (ends_after limits (joined (ends_before limits run (Record filed)) run (Record filed)) (Record filed)) (joined (ends_before limits run (Record filed)) run (Record filed))
     ∙ ap (λ (reason : Option ClosureReason). still reason (file_of (joined (ends_before limits run (Record filed)) run (Record filed))) None) (ends_after-kept limits run (Record filed))
     ∙ ap (λ (file : Option OpenFile). still (item_cuts limits (file_of run) (Record filed)).after file None) (file_of-joined limits run filed))
-file_of-behind limits run (Tick moment) = mark-kept limits run _ (Tick moment) (ends_before-kept limits run (Tick moment))
-file_of-behind limits run (Close moment) = mark-kept limits run _ (Close moment) (ends_before-kept limits run (Close moment))
+file_of-run_after limits run (Tick moment) = mark-kept limits run _ (Tick moment) (ends_before-kept limits run (Tick moment))
+file_of-run_after limits run (Close moment) = mark-kept limits run _ (Close moment) (ends_before-kept limits run (Close moment))
 
 -- the answers from an open run on mark the division from it on
 pub marked_is_divided : {P : Type 0} (limits : Limits) (run : List (Filed P)) (items : List (Item P)) → marked_from run (answers_from limits (file_of run) items) ≡ divided_from limits run items
 marked_is_divided limits run [] = refl
 marked_is_divided {P} limits run (item ∷ items) =
-    ap (λ (cuts : Cuts). with_cuts cuts run item (marked_from (run_behind cuts run item) (answers_from limits (item_file limits (file_of run) item) items))) (cuts-kept limits run item)
-    ∙ ap (λ (file : Option OpenFile). with_cuts (cuts_at limits run item) run item (marked_from (run_behind (cuts_at limits run item) run item) (answers_from limits file items))) (file_of-behind limits run item)
-    ∙ ap (λ (division : Division P). with_cuts (cuts_at limits run item) run item division) (marked_is_divided limits (run_behind (cuts_at limits run item) run item) items)
+    ap (λ (cuts : Cuts). with_cuts cuts run item (marked_from (run_after cuts run item) (answers_from limits (item_file limits (file_of run) item) items))) (cuts-kept limits run item)
+    ∙ ap (λ (file : Option OpenFile). with_cuts (cuts_at limits run item) run item (marked_from (run_after (cuts_at limits run item) run item) (answers_from limits file items))) (file_of-run_after limits run item)
+    ∙ ap (λ (division : Division P). with_cuts (cuts_at limits run item) run item division) (marked_is_divided limits (run_after (cuts_at limits run item) run item) items)

@@ -1,3 +1,4 @@
 pub mod CuttingLemmas
 pub mod OnlyLemmas
 pub mod RunLemmas
+pub mod GoingOnLemmas

@@ -3,7 +3,7 @@ use Rattle.std.proofs.Common.{◌≡◌, inl, inr, List, [], ◌∷◌, ◌++◌
 use Rattle.std.proofs.lemmas.List.{append-nil}
 use Rattle.cdr_file.specs.declared.closure.ClosureReason.{ClosureReason}
 use Rattle.file_rotate.specs.declared.limits.Limits.{Limits}
-use Rattle.file_rotate.specs.Division.{AreRuns, ClosedRun, Cuts, Division, EndsBefore, EndsBehind, IsQuiet, IsRun, closed_first, divided_from, ends_after, ends_before, joined, run_behind, with_cuts}
+use Rattle.file_rotate.specs.Division.{AreRuns, ClosedRun, Cuts, Division, EndsBefore, EndsAfter, IsQuiet, IsRun, closed_first, divided_from, ends_after, ends_before, joined, run_after, with_cuts}
 use Rattle.file_rotate.specs.Items.{Filed, Item, record_in, records_of}
 use Rattle.file_rotate.proofs.CuttingLemmas.{same_cuts}
 use Rattle.file_rotate.proofs.RunLemmas.{head_is, none_before, not_split, tail_is}
@@ -12,9 +12,9 @@ use Rattle.file_rotate.proofs.RunLemmas.{head_is, none_before, not_split, tail_i
 
 divided_at : {P : Type 0} (limits : Limits) (run : List (Filed P)) (item : Item P) (items : List (Item P)) (before after : Option ClosureReason) → ends_before limits run item ≡ before
     → ends_after limits (joined before run item) item ≡ after
-    → divided_from limits run (item ∷ items) ≡ with_cuts (record { before = before; after = after }) run item (divided_from limits (run_behind (record { before = before; after = after }) run item) items)
+    → divided_from limits run (item ∷ items) ≡ with_cuts (record { before = before; after = after }) run item (divided_from limits (run_after (record { before = before; after = after }) run item) items)
 divided_at {P} limits run item items before after b a =
-    ap (λ (cuts : Cuts). with_cuts cuts run item (divided_from limits (run_behind cuts run item) items))
+    ap (λ (cuts : Cuts). with_cuts cuts run item (divided_from limits (run_after cuts run item) items))
     (same_cuts _ _ _ _ b (ap (λ (reason : Option ClosureReason). ends_after limits (joined reason run item) item) b ∙ a))
 
 divided_before : {P : Type 0} (limits : Limits) (run : List (Filed P)) (item : Item P) (items : List (Item P)) (reason : ClosureReason) → ends_before limits run item ≡ Some reason
@@ -60,12 +60,12 @@ in_front {P} run closed others left_open division same others_are =
     ap (λ (r : List (Filed P)). let d : Division P = record { closed = (record { run = r; reason = closed.reason }) ∷ others; left_open = left_open } in d) same
     ∙ ap (λ (d : Division P). closed_first (Some closed.reason) run d) others_are
 
--- the first run ends behind an item, and no file is closed before the first item
-only_behind : {P : Type 0} (limits : Limits) (run : List (Filed P)) (item : Item P) (items front rest : List (Item P)) (closed : ClosedRun P) (others : List (ClosedRun P)) (left_open : List (Filed P))
+-- the first run ends after an item, and no file is closed before the first item
+only_after : {P : Type 0} (limits : Limits) (run : List (Filed P)) (item : Item P) (items front rest : List (Item P)) (closed : ClosedRun P) (others : List (ClosedRun P)) (left_open : List (Filed P))
     → OnlyThese limits items → ends_before limits run item ≡ None → items ≡ front ++ rest → closed.run ≡ run ++ records_of (item ∷ front) → AreRuns limits [] rest others left_open
     → (before : List (Item P)) (last : Item P) → item ∷ front ≡ before ++ last ∷ [] → IsQuiet limits run before → ends_before limits (run ++ records_of before) last ≡ None
     → ends_after limits ((run ++ records_of before) ++ record_in last) last ≡ Some closed.reason → Are limits run (item ∷ items) (closed ∷ others) left_open
-only_behind {P} limits run item items front rest closed others left_open only none split records later [] last joined quiet goes_on ends =
+only_after {P} limits run item items front rest closed others left_open only none split records later [] last joined quiet goes_on ends =
     let alone : front ≡ [] = tail_is joined in
     let after : ends_after limits (run ++ record_in item) item ≡ Some closed.reason =
     subst (λ (at : Item P). ends_after limits (run ++ record_in at) at ≡ Some closed.reason) (sym (head_is joined))
@@ -76,7 +76,7 @@ only_behind {P} limits run item items front rest closed others left_open only no
     in_front (run ++ record_in item) closed others left_open (divided_from limits [] items) same
     (only [] others left_open (subst (λ (xs : List (Item P)). AreRuns limits [] xs others left_open) rest_is later))
     ∙ sym (divided_at limits run item items None (Some closed.reason) none after)
-only_behind {P} limits run item items front rest closed others left_open only none split records later (x ∷ before) last joined quiet goes_on ends =
+only_after {P} limits run item items front rest closed others left_open only none split records later (x ∷ before) last joined quiet goes_on ends =
     let quiet_item : IsQuiet limits run (item ∷ before) = subst (λ (y : Item P). IsQuiet limits run (y ∷ before)) (sym (head_is joined)) quiet in
     let goes_on_item : ends_before limits (run ++ (record_in item ++ records_of before)) last ≡ None =
     subst (λ (y : Item P). ends_before limits (run ++ (record_in y ++ records_of before)) last ≡ None) (sym (head_is joined)) goes_on in
@@ -101,7 +101,7 @@ only_behind {P} limits run item items front rest closed others left_open only no
     )
     ∙ sym (divided_at limits run item items None None none (first_after limits run item before quiet_item))
 
--- the first run ends before an item behind the first
+-- the first run ends before an item after the first
 only_before : {P : Type 0} (limits : Limits) (run : List (Filed P)) (item : Item P) (items front rest : List (Item P)) (closed : ClosedRun P) (others : List (ClosedRun P)) (left_open : List (Filed P))
     → OnlyThese limits items → ends_before limits run item ≡ None → items ≡ front ++ rest → closed.run ≡ run ++ records_of (item ∷ front) → AreRuns limits [] rest others left_open
     → EndsBefore limits run (item ∷ front) rest closed.reason → Are limits run (item ∷ items) (closed ∷ others) left_open
@@ -134,8 +134,8 @@ reason_before {P} limits run item items rest reason split e =
 not_both : {A : Type 0} {o : Option A} {a : A} → o ≡ None → o ≡ Some a → ⊥
 not_both none some = cc
 
-not_behind_none : {P : Type 0} (limits : Limits) (run : List (Filed P)) (reason : ClosureReason) → EndsBehind limits run [] reason → ⊥
-not_behind_none limits run reason e = not_split e.front e.last [] e.joined
+not_after_none : {P : Type 0} (limits : Limits) (run : List (Filed P)) (reason : ClosureReason) → EndsAfter limits run [] reason → ⊥
+not_after_none limits run reason e = not_split e.front e.last [] e.joined
 
 -- the first run has the first item
 only_first : {P : Type 0} (limits : Limits) (run : List (Filed P)) (item : Item P) (items front rest : List (Item P)) (closed : ClosedRun P) (others : List (ClosedRun P)) (left_open : List (Filed P))
@@ -143,7 +143,7 @@ only_first : {P : Type 0} (limits : Limits) (run : List (Filed P)) (item : Item 
     → Are limits run (item ∷ items) (closed ∷ others) left_open
 only_first limits run item items front rest closed others left_open only none split is_run later = elim is_run.ends [
   | inl e ↦ only_before limits run item items front rest closed others left_open only none split is_run.records later e
-  | inr e ↦ only_behind limits run item items front rest closed others left_open only none split is_run.records later e.front e.last e.joined e.quiet e.goes_on e.ends
+  | inr e ↦ only_after limits run item items front rest closed others left_open only none split is_run.records later e.front e.last e.joined e.quiet e.goes_on e.ends
 ]
 
 -- no file is closed before the first item
@@ -157,7 +157,7 @@ only_on {P} limits run item items only none (closed ∷ others) left_open runs =
     by_front : (front : List (Item P)) → item ∷ items ≡ front ++ runs.1 → IsRun limits run front runs.1 closed → Are limits run (item ∷ items) (closed ∷ others) left_open
     by_front [] split is_run = elim is_run.ends [
       | inl e ↦ absurd (not_both none (reason_before limits run item items runs.1 closed.reason split e))
-      | inr e ↦ absurd (not_behind_none limits run closed.reason e)
+      | inr e ↦ absurd (not_after_none limits run closed.reason e)
     ]
     by_front (x ∷ front) split is_run =
         only_first limits run item items front runs.1 closed others left_open only none (tail_is split)
@@ -189,7 +189,7 @@ only_closed {P} limits run item items reason only some (closed ∷ others) left_
       | inl e ↦ in_front run closed others left_open (divided_from limits [] (item ∷ items)) (is_run.records ∙ append-nil run)
           (only_on limits [] item items only (none_before limits item) others left_open (subst (λ (xs : List (Item P)). AreRuns limits [] xs others left_open) (sym split) runs.4))
           ∙ sym (divided_before limits run item items closed.reason (reason_before limits run item items runs.1 closed.reason split e))
-      | inr e ↦ absurd (not_behind_none limits run closed.reason e)
+      | inr e ↦ absurd (not_after_none limits run closed.reason e)
     ]
     by_front (x ∷ front) split is_run =
         absurd (not_both (goes_on limits run item front runs.1 closed (subst (λ (y : Item P). IsRun limits run (y ∷ front) runs.1 closed) (sym (head_is split)) is_run)) some)

@@ -4,7 +4,7 @@ use Rattle.std.specs.List.{flat_map}
 use Rattle.std.proofs.lemmas.List.{append-nil}
 use Rattle.cdr_file.specs.declared.closure.ClosureReason.{ClosureReason}
 use Rattle.file_rotate.specs.declared.limits.Limits.{Limits}
-use Rattle.file_rotate.specs.Division.{AreRuns, ClosedRun, Division, EndsBefore, EndsBehind, IsQuiet, IsRun, divided_from, ends_after, ends_before, joined, run_behind, with_cuts}
+use Rattle.file_rotate.specs.Division.{AreRuns, ClosedRun, Division, EndsBefore, EndsAfter, IsQuiet, IsRun, divided_from, ends_after, ends_before, joined, run_after, with_cuts}
 use Rattle.file_rotate.specs.Items.{Filed, Item, record_in, records_of}
 
 -- ---- lists
@@ -27,7 +27,7 @@ records_of-append (item ∷ front) rest =
 
 -- ---- quiet items
 
--- what holds of each place in a list of items behind a run
+-- what holds of each place in a list of items after a run
 at_each : {P : Type 0} (Q : List (Filed P) → Item P → Type 0) (run : List (Filed P)) (item : Item P) (items : List (Item P)) → Q run item
     → ((front : List (Item P)) (at : Item P) (rest : List (Item P)) → items ≡ front ++ at ∷ rest → Q ((run ++ record_in item) ++ records_of front) at)
     → (front : List (Item P)) (at : Item P) (rest : List (Item P)) → item ∷ items ≡ front ++ at ∷ rest → Q (run ++ records_of front) at
@@ -63,9 +63,9 @@ ends_before_more {P} limits run item items rest reason before after e = record {
   ends = subst (λ (r : List (Filed P)). ends_before limits r e.item ≡ Some reason) (append_assoc run (record_in item) (records_of items)) e.ends;
 }
 
-ends_behind_more : {P : Type 0} (limits : Limits) (run : List (Filed P)) (item : Item P) (items : List (Item P)) (reason : ClosureReason) → ends_before limits run item ≡ None
-    → ends_after limits (run ++ record_in item) item ≡ None → EndsBehind limits (run ++ record_in item) items reason → EndsBehind limits run (item ∷ items) reason
-ends_behind_more {P} limits run item items reason before after e = record {
+ends_after_more : {P : Type 0} (limits : Limits) (run : List (Filed P)) (item : Item P) (items : List (Item P)) (reason : ClosureReason) → ends_before limits run item ≡ None
+    → ends_after limits (run ++ record_in item) item ≡ None → EndsAfter limits (run ++ record_in item) items reason → EndsAfter limits run (item ∷ items) reason
+ends_after_more {P} limits run item items reason before after e = record {
   front = item ∷ e.front;
   last = e.last;
   joined = ap (λ (xs : List (Item P)). item ∷ xs) e.joined;
@@ -80,7 +80,7 @@ run_more limits run item items rest closed before after is_run = record {
   records = is_run.records ∙ append_assoc run (record_in item) (records_of items);
   ends = elim is_run.ends [
     | inl e ↦ inl (ends_before_more limits run item items rest closed.reason before after e)
-    | inr e ↦ inr (ends_behind_more limits run item items closed.reason before after e)
+    | inr e ↦ inr (ends_after_more limits run item items closed.reason before after e)
   ];
 }
 
@@ -104,7 +104,7 @@ none_before limits item = refl
 -- at an item before which no file is closed
 divides_on : {P : Type 0} (limits : Limits) (run : List (Filed P)) (item : Item P) (items : List (Item P)) (after : Option ClosureReason)
     → ((r : List (Filed P)) → Divides limits r items (divided_from limits r items)) → ends_before limits run item ≡ None → ends_after limits (run ++ record_in item) item ≡ after
-    → Divides limits run (item ∷ items) (with_cuts (record { before = None; after = after }) run item (divided_from limits (run_behind (record { before = None; after = after }) run item) items))
+    → Divides limits run (item ∷ items) (with_cuts (record { before = None; after = after }) run item (divided_from limits (run_after (record { before = None; after = after }) run item) items))
 divides_on limits run item items None rest before at = runs_more limits run item items _ _ before at (rest (run ++ record_in item))
 divides_on {P} limits run item items (Some reason) rest before at = (
   item ∷ [],
@@ -127,7 +127,7 @@ divides_on {P} limits run item items (Some reason) rest before at = (
 -- at any item
 divides_at : {P : Type 0} (limits : Limits) (run : List (Filed P)) (item : Item P) (items : List (Item P)) (before after : Option ClosureReason)
     → ((r : List (Filed P)) → Divides limits r items (divided_from limits r items)) → ends_before limits run item ≡ before → ends_after limits (joined before run item) item ≡ after
-    → Divides limits run (item ∷ items) (with_cuts (record { before = before; after = after }) run item (divided_from limits (run_behind (record { before = before; after = after }) run item) items))
+    → Divides limits run (item ∷ items) (with_cuts (record { before = before; after = after }) run item (divided_from limits (run_after (record { before = before; after = after }) run item) items))
 divides_at limits run item items None after rest before at = divides_on limits run item items after rest before at
 divides_at {P} limits run item items (Some reason) after rest before at = (
   [],

@@ -10,7 +10,7 @@ use Rattle.gw_base.specs.declared.kind.CdrKind.{CdrKind}
 use Rattle.file_rotate.specs.declared.cut.Cut.{Cut}
 use Rattle.file_rotate.specs.declared.limits.Limits.{Limits}
 use Rattle.file_rotate.specs.declared.open_file.OpenFile.{OpenFile}
-use Rattle.file_rotate.specs.Division.{Cuts, Division, run_behind, run_length, still, with_cuts}
+use Rattle.file_rotate.specs.Division.{Cuts, Division, run_after, run_length, still, with_cuts}
 use Rattle.file_rotate.specs.Items.{AreLimits, Filed, Item, Record, Tick, Close, same_kind}
 
 -- a cutter: its limits, and what it keeps of the open file, if there is one
@@ -59,7 +59,7 @@ with_record (Some file) kind octets moment = record {
   octets = file.octets + (cdr_header_length kind + octets);
 }
 
--- why a file is closed behind its last record
+-- why a file is closed after its last record
 abbrev pub limit_reached : Limits → OpenFile → Option ClosureReason
 limit_reached limits file =
     if nat_le limits.size file.octets then Some SizeLimit
@@ -76,7 +76,7 @@ record_cuts limits file kind octets moment = record {
   after = limit_reached limits (file_with file kind octets moment);
 }
 
--- what is kept behind the record
+-- what is kept after the record
 abbrev pub record_file : Limits → Option OpenFile → CdrKind → ℕ → ℕ → Option OpenFile
 record_file limits file kind octets moment =
     still (limit_reached limits (file_with file kind octets moment)) (Some (file_with file kind octets moment)) None
@@ -92,7 +92,7 @@ mark_reason limits (Some file) false moment = if is_long_ago limits.open_time mo
 abbrev pub mark_cuts : Limits → Option OpenFile → Bool → ℕ → Cuts
 mark_cuts limits file closes moment = record { before = mark_reason limits file closes moment; after = None }
 
--- what is kept behind it
+-- what is kept after it
 abbrev pub mark_file : Limits → Option OpenFile → Bool → ℕ → Option OpenFile
 mark_file limits file closes moment = still (mark_reason limits file closes moment) file None
 
@@ -107,6 +107,11 @@ abbrev pub item_file : {P : Type 0} → Limits → Option OpenFile → Item P �
 item_file limits file (Record filed) = record_file limits file filed.kind filed.octets filed.moment
 item_file limits file (Tick moment) = mark_file limits file false moment
 item_file limits file (Close moment) = mark_file limits file true moment
+
+-- what is kept after a list of items
+abbrev pub file_after : {P : Type 0} → Limits → Option OpenFile → List (Item P) → Option OpenFile
+file_after limits file [] = file
+file_after limits file (item ∷ items) = file_after limits (item_file limits file item) items
 
 -- an item and what a cutter answered to it
 pub record Answered (P : Type 0) : Type 0 where
@@ -123,11 +128,11 @@ answers_from limits file (item ∷ items) =
 abbrev pub answers : {P : Type 0} → Limits → List (Item P) → List (Answered P)
 answers limits items = answers_from limits None items
 
--- the division that answers mark: a file is closed before an item, and behind it, where its answer says so
+-- the division that answers mark: a file is closed before an item, and after it, where its answer says so
 abbrev pub marked_from : {P : Type 0} → List (Filed P) → List (Answered P) → Division P
 marked_from run [] = record { closed = []; left_open = run }
 marked_from run (answered ∷ later) =
-    with_cuts answered.cuts run answered.item (marked_from (run_behind answered.cuts run answered.item) later)
+    with_cuts answered.cuts run answered.item (marked_from (run_after answered.cuts run answered.item) later)
 
 abbrev pub marked : {P : Type 0} → List (Answered P) → Division P
 marked answered = marked_from [] answered

@@ -21,10 +21,10 @@ run_length (first ∷ later) = header_length first.kind + sum_by cdr_length (fir
 
 -- When a file ends.
 
--- the reason for which the file of a run is closed behind its last record: its length has reached the size, or else
+-- the reason for which the file of a run is closed after its last record: its length has reached the size, or else
 -- its count has reached the limit
-unfoldable pub ends_behind : {P : Type 0} → Limits → List (Filed P) → Option ClosureReason
-ends_behind limits run =
+unfoldable pub run_limit_reached : {P : Type 0} → Limits → List (Filed P) → Option ClosureReason
+run_limit_reached limits run =
     if nat_le limits.size (run_length run) then Some SizeLimit
     else if nat_le limits.count (length run) then Some CountLimit
     else None
@@ -37,15 +37,15 @@ ends_before limits (first ∷ later) (Record filed) = if same_kind first.kind fi
 ends_before limits (first ∷ later) (Tick moment) = if is_long_ago limits.open_time moment first.moment then Some OpenTimeLimit else None
 ends_before limits (first ∷ later) (Close moment) = Some Manual
 
--- the reason for which the file of a run is closed behind its last item: none but behind a record
+-- the reason for which the file of a run is closed after its last item: none but after a record
 unfoldable pub ends_after : {P : Type 0} → Limits → List (Filed P) → Item P → Option ClosureReason
-ends_after limits run (Record filed) = ends_behind limits run
+ends_after limits run (Record filed) = run_limit_reached limits run
 ends_after limits run (Tick moment) = None
 ends_after limits run (Close moment) = None
 
 -- The division.
 
--- the reasons for which a file is closed before an item, and behind it
+-- the reasons for which a file is closed before an item, and after it
 pub record Cuts : Type 0 where
   pub before : Option ClosureReason
   pub after : Option ClosureReason
@@ -59,7 +59,7 @@ still (Some reason) there otherwise = otherwise
 abbrev pub joined : {P : Type 0} → Option ClosureReason → List (Filed P) → Item P → List (Filed P)
 joined before run item = still before run [] ++ record_in item
 
--- where files are closed at an item that comes in behind an open run
+-- where files are closed at an item that comes in after an open run
 abbrev pub cuts_at : {P : Type 0} → Limits → List (Filed P) → Item P → Cuts
 cuts_at limits run item = record {
   before = ends_before limits run item;
@@ -84,9 +84,9 @@ closed_first (Some reason) run division = record {
   left_open = division.left_open;
 }
 
--- the open run behind an item
-abbrev pub run_behind : {P : Type 0} → Cuts → List (Filed P) → Item P → List (Filed P)
-run_behind cuts run item = still cuts.after (joined cuts.before run item) []
+-- the open run after an item
+abbrev pub run_after : {P : Type 0} → Cuts → List (Filed P) → Item P → List (Filed P)
+run_after cuts run item = still cuts.after (joined cuts.before run item) []
 
 -- the division of what begins with an open run and an item, by that of what follows
 abbrev pub with_cuts : {P : Type 0} → Cuts → List (Filed P) → Item P → Division P → Division P
@@ -95,15 +95,22 @@ with_cuts cuts run item division = closed_first cuts.before run (closed_first cu
 abbrev pub divided_from : {P : Type 0} → Limits → List (Filed P) → List (Item P) → Division P
 divided_from limits run [] = record { closed = []; left_open = run }
 divided_from limits run (item ∷ items) =
-    with_cuts (cuts_at limits run item) run item (divided_from limits (run_behind (cuts_at limits run item) run item) items)
+    with_cuts (cuts_at limits run item) run item (divided_from limits (run_after (cuts_at limits run item) run item) items)
 
 -- the division of a list of items: each file is closed as soon as it ends
 abbrev pub division_of : {P : Type 0} → Limits → List (Item P) → Division P
 division_of limits items = divided_from limits [] items
 
+-- a division, and what its open run and more items divide into: what was closed stays in front
+abbrev pub goes_on : {P : Type 0} → Limits → Division P → List (Item P) → Division P
+goes_on limits division items = record {
+  closed = division.closed ++ (divided_from limits division.left_open items).closed;
+  left_open = (divided_from limits division.left_open items).left_open;
+}
+
 -- What makes it the division.
 
--- no file ends at any of these items, which come in behind an open run
+-- no file ends at any of these items, which come in after an open run
 pub record IsQuiet {P : Type 0} (limits : Limits) (run : List (Filed P)) (items : List (Item P)) : Type 0 where
   pub before : (front : List (Item P)) (item : Item P) (rest : List (Item P)) → items ≡ front ++ item ∷ rest
       → ends_before limits (run ++ records_of front) item ≡ None
@@ -118,8 +125,8 @@ pub record EndsBefore {P : Type 0} (limits : Limits) (run : List (Filed P)) (ite
   pub quiet : IsQuiet limits run items
   pub ends : ends_before limits (run ++ records_of items) item ≡ Some reason
 
--- it ends behind the last of these items, and no sooner
-pub record EndsBehind {P : Type 0} (limits : Limits) (run : List (Filed P)) (items : List (Item P)) (reason : ClosureReason) : Type 0 where
+-- it ends after the last of these items, and no sooner
+pub record EndsAfter {P : Type 0} (limits : Limits) (run : List (Filed P)) (items : List (Item P)) (reason : ClosureReason) : Type 0 where
   pub front : List (Item P)
   pub last : Item P
   pub joined : items ≡ front ++ last ∷ []
@@ -127,10 +134,10 @@ pub record EndsBehind {P : Type 0} (limits : Limits) (run : List (Filed P)) (ite
   pub goes_on : ends_before limits (run ++ records_of front) last ≡ None
   pub ends : ends_after limits ((run ++ records_of front) ++ record_in last) last ≡ Some reason
 
--- a file's records are an open run and those of these items, and it ends behind them and no sooner
+-- a file's records are an open run and those of these items, and it ends after them and no sooner
 pub record IsRun {P : Type 0} (limits : Limits) (run : List (Filed P)) (items rest : List (Item P)) (closed : ClosedRun P) : Type 0 where
   pub records : closed.run ≡ run ++ records_of items
-  pub ends : EndsBefore limits run items rest closed.reason ⊎ EndsBehind limits run items closed.reason
+  pub ends : EndsBefore limits run items rest closed.reason ⊎ EndsAfter limits run items closed.reason
 
 -- these are the closed runs and the open one of an open run and a list of items: the records are those of the items in
 -- order, each closed run ends where its file first ends, and none ends within the open one

@@ -10,7 +10,7 @@ pub struct Cut {
     /// Why the open file is closed before this item, if it is: 5 before a record of another kind, 2
     /// at a Tick, 4 at a Close.
     pub before: Option<u8>,
-    /// Why the file that has this record is closed behind it, if it is: 1 where it has reached the
+    /// Why the file that has this record is closed after it, if it is: 1 where it has reached the
     /// size, else 3 where it has reached the count.
     pub after: Option<u8>,
 }

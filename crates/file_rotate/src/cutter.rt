@@ -1,5 +1,5 @@
 ghost use Rattle.std.specs.Prelude.{◌≡◌, None};
-ghost use Rattle.file_rotate.specs.Cutting.{cut_of, mark_cuts, mark_file, record_cuts, record_file};
+ghost use Rattle.file_rotate.specs.Cutting.{IsSound, cut_of, mark_cuts, mark_file, record_cuts, record_file};
 ghost use Rattle.file_rotate.specs.Items.{AreLimits};
 
 use crate::cut::Cut;
@@ -10,7 +10,7 @@ use std::marker::Model;
 
 /// Cuts the records of one stream into files: it is told each item of the stream in order, and
 /// answers where files are closed. No call takes memory.
-#[derive(Debug, Drop)]
+#[derive(Clone, Copy, Debug)]
 pub struct Cutter {
     limits: Limits,
     file: Option<OpenFile>,
@@ -22,6 +22,8 @@ impl Model for Cutter {
     ghost Value = { Cutting };
 
     ghost view = { λ cutter. record { limits = cutter.limits; file = cutter.file } };
+
+    ghost inverse = { λ cutting. record { limits = cutting.limits; file = cutting.file } };
 
     ghost invariant = { λ cutter. IsSound cutter.limits cutter.file };
 }
@@ -39,6 +41,7 @@ impl Cutter {
     pub fn put(&mut self, kind: CdrKind, length: u16, moment: Moment) -> Cut
         ensures cut { result ≡ cut_of (record_cuts self.old.limits self.old.file kind length moment) }
         ensures kept { self.new ≡ record self.old { file = record_file self.old.limits self.old.file kind length moment } }
+        ensures sound { IsSound self.old.limits self.old.file }
     {
         let before = kind_change(&self.file, kind);
         let going_on = still(before, self.file.take());
@@ -52,6 +55,7 @@ impl Cutter {
     pub fn mark(&mut self, closes: bool, moment: Moment) -> Cut
         ensures cut { result ≡ cut_of (mark_cuts self.old.limits self.old.file closes moment) }
         ensures kept { self.new ≡ record self.old { file = mark_file self.old.limits self.old.file closes moment } }
+        ensures sound { IsSound self.old.limits self.old.file }
     {
         let before = mark_reason(&self.file, self.limits, closes, moment);
         self.file = still(before, self.file.take());

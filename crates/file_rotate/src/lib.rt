@@ -14,5 +14,8 @@ mod tests;
 
 pub use cut::Cut;
 pub use cutter::Cutter;
-pub use laws::{cutter_divides, cutter_keeps_the_run, division_closes_where_files_end};
+pub use laws::{
+    cutter_divides, cutter_keeps_the_open_run, cutter_keeps_the_run,
+    division_closes_where_files_end, division_goes_on,
+};
 pub use limits::Limits;

@@ -15,7 +15,7 @@ const FILE_HEADER: u32 = 52;
 const CDR_HEADER: u32 = 4;
 
 /// What is kept of an open file.
-#[derive(Debug, Drop)]
+#[derive(Clone, Copy, Debug)]
 pub(crate) struct OpenFile {
     /// The kind of its records.
     pub kind: CdrKind,
@@ -120,7 +120,7 @@ pub(crate) fn with_record(
     }
 }
 
-/// Why a file is closed behind its last record.
+/// Why a file is closed after its last record.
 pub(crate) fn limit_reached(limits: Limits, file: &OpenFile) -> Option<ClosureReason>
     ensures reason { result ≡ limit_reached limits file.now }
     ensures below { result ≡ None → IsBelow limits file.now }

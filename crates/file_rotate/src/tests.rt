@@ -55,7 +55,7 @@ fn cut(cutter: &mut Cutter, step: Step) -> Option<Cut> {
     }
 }
 
-/// The codes of the reasons before an item and behind it.
+/// The codes of the reasons before an item and after it.
 type Codes = (Option<u8>, Option<u8>);
 
 const NONE: Codes = (None, None);

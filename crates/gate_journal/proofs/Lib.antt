@@ -12,7 +12,6 @@ mod Laying
 mod Listing
 mod Openings
 mod Plans
-pub mod Runs
 mod States
 mod Syncs
 mod Turns

@@ -19,7 +19,7 @@ use Rattle.gate_journal.specs.declared.journal.Journal.{Journal}
 use Rattle.gate_journal.specs.declared.reading.Verdict.TheVariants.{Starts as Begins}
 use Rattle.gate_journal.proofs.Apart.{Stop, stop_of_broken, one_place, one_list, stands_front, broken_front}
 use Rattle.gate_journal.proofs.Listing.{front_is}
-use Rattle.gate_journal.proofs.Runs.{follow}
+use Rattle.area_disk.specs.MomentLaws.{follow}
 use Rattle.gate_journal.proofs.Syncs.{sync_on}
 
 pub starts_of : (header octets : List ℕ) (blank : Bool) → IsVerdict header octets (Begins blank) → Starts header octets

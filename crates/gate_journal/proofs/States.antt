@@ -15,7 +15,7 @@ use Rattle.gate_journal.specs.declared.journal.Journal.{Journal}
 use Rattle.gate_journal.specs.declared.journal.Front.{Front}
 use Rattle.gate_journal.specs.declared.journal.Front.TheVariants.{Founded, Draft, Founding}
 use Rattle.gate_journal.proofs.Contents.{listed_below, place_is}
-use Rattle.gate_journal.proofs.Runs.{widen}
+use Rattle.area_disk.specs.MomentLaws.{widen}
 use Rattle.gate_journal.specs.Spelling.{length-header, first-header, length-frame}
 use Rattle.gate_journal.proofs.Turns.{other_bool, is_adding, added_open, adding, taken_in, founding, content_keeps, content_keeps_or, content_keeps_any, moved, any_batch, after_gate, after_first}
 

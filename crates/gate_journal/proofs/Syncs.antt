@@ -1,31 +1,13 @@
 -- How a sync and the reads after it come out as planned.
 use Rattle.std.proofs.Common.{◌≡◌, ℕ, Bool, true, false, List, [], Result, refl, sym, ◌∙◌, ap, subst}
 use Rattle.std.specs.Prelude.{is_err, ◌||◌}
-use Rattle.area_disk.specs.Plan.{Prospect, Schedule, next_fate, next_read_fails, after_call, is_failure, is_among, is_stop, sync_fate, spare_after_sync, LeavesAfterSync, ReadAsPlanned, SyncAsPlanned}
-use Rattle.area_disk.specs.Disk.{counted}
+use Rattle.area_disk.specs.Plan.{Prospect, Schedule, next_fate, after_call, is_failure, is_stop, sync_fate, spare_after_sync, LeavesAfterSync, SyncAsPlanned}
+use Rattle.area_disk.specs.ArmedLaws.{stopped_fails}
 use Rattle.area_disk.specs.declared.plan.Fate.{Fate}
 use Rattle.area_disk.specs.declared.plan.Fate.TheVariants.{Runs, Fails, Stops}
 use Rattle.area_disk.specs.declared.plan.Outcome3.{Outcome3}
 use Rattle.gate_journal.specs.Planned.{Course, course_of, after_sync, fate_of_sync, outcome_left, with_reads, ReadOn, ReadsRun, SyncPlanned}
 use Rattle.gate_journal.proofs.Turns.{other_bool}
-
--- where no read is to fail, none does
-pub reads_run : (s : Schedule) → ReadsRun s → next_read_fails s ≡ false
-unfolding next_read_fails
-reads_run s runs = ap (λ b. b || is_among s.read_fail (counted 1 s.reads)) runs.running ∙ ap (λ (l : List ℕ). is_among l (counted 1 s.reads)) runs.none
-
-pub read_runs : {T E : Type 0} (old : Prospect) (result : Result T E) (new : Prospect) → ReadAsPlanned old result new → ReadsRun old.schedule → is_err result ≡ false
-read_runs old result new read runs = read.fails ∙ reads_run old.schedule runs
-
-pub runs_on : (old new : Prospect) → ReadOn old new → ReadsRun old.schedule → ReadsRun new.schedule
-runs_on old new read runs = record {
-  running = ap (λ (s : Schedule). s.stopped) read.schedule ∙ runs.running;
-  none = ap (λ (s : Schedule). s.read_fail) read.schedule ∙ runs.none;
-}
-
-stopped_fails : (s : Schedule) → s.stopped ≡ true → is_failure (next_fate s) ≡ true
-unfolding next_fate
-stopped_fails s is = let e = is in cc
 
 -- a call ran: nothing is stopped
 pub running : (s : Schedule) → is_failure (next_fate s) ≡ false → s.stopped ≡ false
@@ -33,7 +15,7 @@ running s ran = either s.stopped refl
   where
     either : (b : Bool) → s.stopped ≡ b → s.stopped ≡ false
     either false is = is
-    either true is = absurd (other_bool (sym (stopped_fails s is) ∙ ran))
+    either true is = absurd (other_bool (sym (ap is_failure (stopped_fails s is).0) ∙ ran))
 
 -- what the outcomes leave after a sync
 left_after : (fate : Fate) (old new : Outcome3 → List ℕ) → LeavesAfterSync fate old new → (outcome : Outcome3) → new outcome ≡ old (outcome_left fate outcome)
@@ -78,7 +60,7 @@ sync_ran old result mid new failed sync ran read runs =
         let not_failed : is_failure (sync_fate old) ≡ false = sym sync.fails ∙ ran in
         record {
           running = ap (λ (s : Schedule). s.stopped) sync.schedule ∙ ap (λ b. b || is_stop (sync_fate old)) (running old.schedule not_failed) ∙ stop_is (sync_fate old) not_failed;
-          none = ap (λ (s : Schedule). s.read_fail) sync.schedule ∙ none;
+          reads = ap (λ (s : Schedule). s.read_fail) sync.schedule ∙ none;
         }
 
 -- reads behind a sync and reads that came out as planned
@@ -100,5 +82,5 @@ sync_on old mid new failed one read runs = record {
         let ran = sym (one.runs none) in
         record {
           running = ap (λ (c : Course). c.schedule.stopped) one.course ∙ ap (λ b. b || is_stop (sync_fate old)) (running old.schedule ran) ∙ stop_is (sync_fate old) ran;
-          none = ap (λ (c : Course). c.schedule.read_fail) one.course ∙ none;
+          reads = ap (λ (c : Course). c.schedule.read_fail) one.course ∙ none;
         }

@@ -1,34 +1,8 @@
--- What a crash leaves at any moment of a call on an area.
-use Rattle.std.specs.Prelude.{◌≡◌, ℕ, ◌≤◌, List, IsTrue, Result, OnOk, OnErr}
-use Rattle.area_disk.specs.Disk.{LeavesOnly, HasCause, counted}
+-- What a crash leaves at any moment of a call on an area: words of area_disk; and what is counted of a call.
+use Rattle.std.specs.Prelude.{◌≡◌, ℕ, IsTrue, Result}
+use Rattle.area_disk.specs.Disk.{HasCause, counted}
 use Rattle.area_disk.specs.declared.area.Area.{Ghosts}
-use Rattle.gate_journal.specs.Planned.{ReadOn}
-
--- the area tells what a read gives and what a crash may leave
-abbrev pub Told : {A : Type 0} → Ghosts A → Type 0
-Told area = IsTrue area.tells_octets × IsTrue area.tells_crash
-
--- What a crash leaves has P: at each moment since the call's start that is told, and now.
-pub record Leaves {A : Type 0} (area : Ghosts A) (old new : A) (P : List ℕ → Type 0) : Type 0 where
-  pub moments : LeavesOnly area.told_from area.moment area.left_since old new P
-  pub now : (c : List ℕ) → area.may_leave new c → P c
-
--- a count of calls after at least one more and at most n
-abbrev pub RoseUpTo : ℕ → ℕ → ℕ → Type 0
-RoseUpTo n before now = (k : ℕ) × (1 ≤ k) × (k ≤ n) × (now ≡ counted k before)
-
--- a call made n counted calls, or those up to the one that failed
-pub record Calls {T E : Type 0} (n before now : ℕ) (result : Result T E) : Type 0 where
-  pub ok : OnOk result (now ≡ counted n before)
-  pub failed : OnErr result (RoseUpTo n before now)
-
--- a call changed nothing that a read gives or that a crash may leave, and made no counted call: at most it read
-pub record Kept {A : Type 0} (area : Ghosts A) (old new : A) : Type 0 where
-  pub size : area.size new ≡ area.size old
-  pub octets : area.octets new ≡ area.octets old
-  pub leaves : Leaves area old new (area.may_leave old)
-  pub calls : IsTrue area.tells_calls → area.calls new ≡ area.calls old
-  pub planned : IsTrue area.tells_fate → ReadOn (area.fate old) (area.fate new)
+pub use Rattle.area_disk.specs.Moments.{Told, Leaves, RoseUpTo, Calls, Kept}
 
 -- what is counted of a call that makes n counted calls, and of one that makes one
 pub record Counts {A T E : Type 0} (n : ℕ) (area : Ghosts A) (old new : A) (result : Result T E) : Type 0 where

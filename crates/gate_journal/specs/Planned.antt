@@ -1,32 +1,14 @@
 -- What comes by the plan of the calls of an append, and what a stop leaves of its batch.
 use Rattle.std.specs.Prelude.{◌≡◌, ℕ, Bool, true, false, ◌==◌, List, [], Result, is_err}
 use Rattle.area_disk.specs.Disk.{overwritten}
+pub use Rattle.area_disk.specs.Armed.{ReadsRun}
+pub use Rattle.area_disk.specs.Course.{Course, ReadOn, course_of, fate_of_write, fate_of_sync, after_write, after_sync}
 use Rattle.area_disk.specs.Plan.{Schedule, Prospect, next_fate, fate_with, after_call, spare_after_write, spare_after_sync, written_as, is_failure}
 use Rattle.area_disk.specs.declared.plan.Fate.{Fate}
 use Rattle.area_disk.specs.declared.plan.Fate.TheVariants.{Runs, Fails, Stops}
 use Rattle.area_disk.specs.declared.plan.Outcome3.{Outcome3}
 use Rattle.area_disk.specs.declared.plan.Outcome3.TheVariants.{Old, New, Rot}
 use Rattle.gate_journal.specs.Format.{open_gate, gate_at}
-
--- the calls made and planned, and how many writes are still taken before a sync
-pub record Course : Type 0 where
-  pub schedule : Schedule
-  pub spare : ℕ
-
-abbrev pub course_of : Prospect → Course
-course_of prospect = record { schedule = prospect.schedule; spare = prospect.spare }
-
-abbrev pub fate_of_write : Course → Fate
-fate_of_write course = fate_with course.spare (next_fate course.schedule)
-
-abbrev pub fate_of_sync : Course → Fate
-fate_of_sync course = next_fate course.schedule
-
-abbrev pub after_write : Fate → Course → Course
-after_write fate course = record { schedule = after_call fate course.schedule; spare = spare_after_write fate course.spare }
-
-abbrev pub after_sync : Fate → Course → Course
-after_sync fate course = record { schedule = after_call fate course.schedule; spare = spare_after_sync fate course.spare }
 
 -- how a write and the sync behind it end: both ran, or one of them failed or was stopped
 pub data Ending : Type 0 where
@@ -131,14 +113,3 @@ pub record SyncPlanned (old : Prospect) (failed : Bool) (new : Prospect) : Type 
   pub runs : old.schedule.read_fail ≡ [] → failed ≡ is_failure (fate_of_sync (course_of old))
   pub course : course_of new ≡ with_reads new.schedule.reads (after_sync (fate_of_sync (course_of old)) (course_of old))
   pub leaves : (outcome : Outcome3) → new.leaves outcome ≡ old.leaves (outcome_left (fate_of_sync (course_of old)) outcome)
-
--- no read fails by this plan
-pub record ReadsRun (schedule : Schedule) : Type 0 where
-  pub running : schedule.stopped ≡ false
-  pub none : schedule.read_fail ≡ []
-
--- only reads were made: what is planned for the counted calls, and what a stop leaves, is as before
-pub record ReadOn (old new : Prospect) : Type 0 where
-  pub schedule : new.schedule ≡ record old.schedule { reads = new.schedule.reads }
-  pub spare : new.spare ≡ old.spare
-  pub leaves : (outcome : Outcome3) → new.leaves outcome ≡ old.leaves outcome

@@ -35,6 +35,10 @@ SpellsHeader header (flags ∷ kind ∷ length_high ∷ length_low ∷ number_hi
     × (header.length ≤ length rest)
 SpellsHeader header _ = ⊥
 
+-- the octets are one message, from its header to the end of its payload
+abbrev pub IsWholeMessage : List ℕ → Type 0
+IsWholeMessage octets = (header : Header) × SpellsHeader header octets × (length octets ≡ 6 + header.length)
+
 -- octet 1 as it is sent: version 2, protocol type 0, the spare bits 4 to 2 set, and bit 1 clear
 abbrev pub sent_flags : ℕ
 sent_flags = 2 * 2 ^ 5 + 0 * 2 ^ 4 + 7 * 2 ^ 1 + 0

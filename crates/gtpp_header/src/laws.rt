@@ -2,7 +2,7 @@
 //! for every list of octets, and stands on a function that does nothing.
 
 ghost use Rattle.std.specs.Prelude.{◌≡◌, ℕ, ◌≤◌, ◌↔◌, List, ◌∷◌, ◌++◌, length};
-ghost use Rattle.gtpp_header.specs.Header.{SpellsHeader, spelled, version_of, protocol_type_of};
+ghost use Rattle.gtpp_header.specs.Header.{IsWholeMessage, SpellsHeader, spelled, version_of, protocol_type_of};
 ghost use Rattle.gtpp_header.specs.Reading.{IsFinal, header_reading};
 ghost use Rattle.gtpp_header.specs.declared.Header.{Header};
 
@@ -16,6 +16,12 @@ pub fn what_is_read_is_spelled()
 pub fn written_is_read_back()
     ensures { (header : Header) (payload : List ℕ) → header.length ≤ length payload →
         header_reading (spelled header ++ payload) ≡ Ok header }
+{}
+
+/// A header before a payload of just its length is one message.
+pub fn written_is_a_whole_message()
+    ensures { (header : Header) (payload : List ℕ) → header.length ≡ length payload →
+        IsWholeMessage (spelled header ++ payload) }
 {}
 
 /// Only where too few octets have come yet can further ones change the answer.

@@ -35,15 +35,15 @@ pub struct Header {
     pub number: u16,
 }
 
-/// The version of GTP' that octet 1 names.
-fn version(flags: u8) -> u8
+/// The version of GTP' that octet 1 names, at most 7. A stream tests it before the rest has come.
+pub fn version(flags: u8) -> u8
     ensures { result ≡ version_of flags }
 {
     flags >> 5
 }
 
 /// Whether octet 1 has the protocol type of GTP, and not of GTP'.
-fn is_gtp(flags: u8) -> bool
+pub fn is_gtp(flags: u8) -> bool
     ensures { IsTrue result ↔ (protocol_type_of flags ≡ 1) }
 {
     (flags >> 4) & 1 == 1

@@ -199,6 +199,11 @@ message_said kind elements message known e =
       ]
     ]
 
+-- a message that is read of a known type is of that type
+pub kind_said : (kind : ℕ) (elements : List Element) (message : MessageValue) → is_known kind ≡ true → message_of kind elements ≡ Ok message → kind ≡ kind_of message
+unfolding SaysKind
+kind_said kind elements message known e = (message_said kind elements message known e).0
+
 -- what numbers say is read
 numbers_again : (kind : ℕ) (elements : List Element) (value numbers : List ℕ) → first_value kind elements ≡ Some value → SpellsNumbers numbers value → numbers_among kind elements ≡ Ok numbers
 numbers_again kind elements value numbers found (even, is) =

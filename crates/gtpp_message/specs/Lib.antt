@@ -2,6 +2,7 @@ pub mod Message
 pub mod Names
 pub mod Packet
 pub mod Reading
+pub mod Role
 pub mod Spelling
 pub mod Values
 pub mod Writing

@@ -5,7 +5,9 @@ ghost use Rattle.std.specs.Prelude.{◌≡◌, ◌↔◌, ◌≤◌, ◌++◌, �
 ghost use Rattle.gtpp_message.specs.Message.{MessageValue};
 ghost use Rattle.gtpp_message.specs.Packet.{SpellRecords, records_at};
 ghost use Rattle.gtpp_message.specs.Reading as of;
+ghost use Rattle.gtpp_message.specs.Role.{for_role, role_reading};
 ghost use Rattle.gtpp_message.specs.Spelling.{Spells};
+ghost use Rattle.gtpp_message.specs.declared.role.Role.{Role};
 ghost use Rattle.gtpp_message.specs.Writing.{IsSendableMessage, body_octets, written};
 
 /// The records of a packet are read exactly where the octets spell them, one after the other, and
@@ -23,6 +25,13 @@ pub fn what_is_read_is_spelled()
     gtpp_header::laws::what_is_read_is_spelled();
     gtpp_elements::laws::what_is_read_is_spelled();
 }
+
+/// An end of a path reads what is read at neither end, but for what is stray there and for what no
+/// message answers.
+pub fn a_role_reads_what_is_read()
+    ensures { (role : Role) (octets : List ℕ) →
+        role_reading role octets ≡ for_role role (of.reading octets) }
+{}
 
 /// A message that is read may be sent: its packet's value says what the packet says.
 pub fn what_is_read_may_be_sent()

@@ -11,6 +11,7 @@ mod packet;
 mod parse;
 mod reading;
 mod records;
+mod role;
 mod spell;
 #[cfg(test)]
 mod tests;
@@ -20,4 +21,5 @@ pub use packet::Packet;
 pub use parse::read;
 pub use reading::{Reading, Why};
 pub use records::Records;
+pub use role::{Role, read_as};
 pub use spell::write;

@@ -1,3 +1,8 @@
+ghost use Rattle.std.specs.Prelude.{◌≡◌};
+ghost use Rattle.gtpp_message.specs.Values.{message_value};
+ghost use Rattle.gtpp_message.specs.Writing.{kind_of};
+
+use crate::kind;
 use crate::packet::Packet;
 use gtpp_elements::Numbers;
 
@@ -49,4 +54,23 @@ pub enum Transfer<'a> {
     Cancel(Numbers<'a>),
     /// Release Data Packet: the sequence numbers of the packets.
     Release(Numbers<'a>),
+}
+
+impl Message<'_> {
+    /// The type of the message.
+    pub fn kind(&self) -> u8
+        ensures { result ≡ kind_of (message_value self.now) }
+    {
+        match self {
+            Message::EchoRequest => kind::ECHO_REQUEST,
+            Message::EchoResponse { .. } => kind::ECHO_RESPONSE,
+            Message::VersionNotSupported => kind::VERSION_NOT_SUPPORTED,
+            Message::NodeAliveRequest { .. } => kind::NODE_ALIVE_REQUEST,
+            Message::NodeAliveResponse => kind::NODE_ALIVE_RESPONSE,
+            Message::RedirectionRequest { .. } => kind::REDIRECTION_REQUEST,
+            Message::RedirectionResponse { .. } => kind::REDIRECTION_RESPONSE,
+            Message::TransferRequest { .. } => kind::TRANSFER_REQUEST,
+            Message::TransferResponse { .. } => kind::TRANSFER_RESPONSE,
+        }
+    }
 }

@@ -59,7 +59,7 @@ fn behind(header: Header, octets: &[u8]) -> Reading<'_>
 }
 
 /// What the body of a message of a known type says.
-fn read_body(kind: u8, body: &[u8]) -> Result<Message<'_>, Flaw>
+pub fn read_body(kind: u8, body: &[u8]) -> Result<Message<'_>, Flaw>
     ensures { seen message_value result ≡ body_of kind (elements_in body.now) }
 {
     match gtpp_elements::read(body) {

@@ -1,7 +1,7 @@
 ghost use Rattle.std.specs.Prelude.{◌≡◌, ◌<◌, ◌≤◌, ◌+◌, ◌++◌, ◌↔◌, ℕ, List, length, OnOk, OnErr};
 ghost use Rattle.gtpp_elements.specs.Elements.{IsValue, element_octets, octets_of};
 ghost use Rattle.gtpp_message.specs.Values.{lent, message_value, transfer_value};
-ghost use Rattle.gtpp_message.specs.Writing.{body_octets, command_element, command_of, kind_of, optional_element, transfer_elements, transfer_octets, written};
+ghost use Rattle.gtpp_message.specs.Writing.{body_octets, command_element, command_of, optional_element, transfer_elements, transfer_octets, written};
 
 use crate::kind;
 use crate::message::{Message, Transfer};
@@ -29,29 +29,12 @@ pub fn write(number: u16, message: &Message<'_>, into: &mut Buffer) -> Result<()
         return Err(Full { free });
     }
     into.append(&gtpp_header::write(Header {
-        kind: kind_of(message),
+        kind: message.kind(),
         length: length as u16,
         number,
     }));
     put_body(message, into);
     Ok(())
-}
-
-/// The type of a message.
-fn kind_of(message: &Message<'_>) -> u8
-    ensures { result ≡ kind_of (message_value message.now) }
-{
-    match message {
-        Message::EchoRequest => kind::ECHO_REQUEST,
-        Message::EchoResponse { .. } => kind::ECHO_RESPONSE,
-        Message::VersionNotSupported => kind::VERSION_NOT_SUPPORTED,
-        Message::NodeAliveRequest { .. } => kind::NODE_ALIVE_REQUEST,
-        Message::NodeAliveResponse => kind::NODE_ALIVE_RESPONSE,
-        Message::RedirectionRequest { .. } => kind::REDIRECTION_REQUEST,
-        Message::RedirectionResponse { .. } => kind::REDIRECTION_RESPONSE,
-        Message::TransferRequest { .. } => kind::TRANSFER_REQUEST,
-        Message::TransferResponse { .. } => kind::TRANSFER_RESPONSE,
-    }
 }
 
 /// How many octets an element of one octet has, and one that states its length beside its value.

@@ -1,4 +1,4 @@
-use Rattle.entry_codec.proofs.Contents.{costs_of-append}
+use Rattle.entry_codec.specs.Laws.{costs_of-append}
 use Rattle.entry_codec.proofs.laws.costs_add_up.Goals as goal
 
 pub returns : goal.returns

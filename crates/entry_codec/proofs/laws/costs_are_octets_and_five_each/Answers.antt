@@ -1,4 +1,4 @@
-use Rattle.entry_codec.proofs.Contents.{costs_of-spelled}
+use Rattle.entry_codec.specs.Laws.{costs_of-spelled}
 use Rattle.entry_codec.proofs.laws.costs_are_octets_and_five_each.Goals as goal
 
 pub returns : goal.returns

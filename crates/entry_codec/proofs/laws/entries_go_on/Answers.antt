@@ -1,4 +1,4 @@
-use Rattle.entry_codec.proofs.Contents.{more_entries}
+use Rattle.entry_codec.specs.Laws.{more_entries}
 use Rattle.entry_codec.proofs.laws.entries_go_on.Goals as goal
 
 pub returns : goal.returns

@@ -1,4 +1,4 @@
-use Rattle.entry_codec.proofs.Contents.{one_entry}
+use Rattle.entry_codec.specs.Laws.{one_entry}
 use Rattle.entry_codec.proofs.laws.one_entry_is_entries.Goals as goal
 
 pub returns : goal.returns

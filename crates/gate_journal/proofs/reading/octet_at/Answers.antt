@@ -1,7 +1,7 @@
 use Rattle.std.proofs.Common.{◌<◌, length, sym, arith}
 use Rattle.gate_journal.proofs.Seen.{gate_read}
-use Rattle.gate_journal.proofs.Runs.{kept_read, read_on}
-use Rattle.gate_journal.proofs.Syncs.{read_runs}
+use Rattle.area_disk.specs.CourseLaws.{read_on, read_runs}
+use Rattle.area_disk.specs.MomentLaws.{kept_read}
 use Rattle.gate_journal.proofs.Turns.{other_bool}
 use Rattle.gate_journal.proofs.reading.octet_at.Goals as goal
 

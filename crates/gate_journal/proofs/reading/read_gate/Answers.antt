@@ -1,7 +1,7 @@
 use Rattle.std.proofs.Common.{ℕ, List, ◌+◌, take, drop, ap, ◌∙◌, sym}
 use Rattle.gate_journal.specs.Format.{length_at}
-use Rattle.gate_journal.proofs.Runs.{kept_trans}
-use Rattle.gate_journal.proofs.Syncs.{runs_on}
+use Rattle.area_disk.specs.MomentLaws.{kept_trans}
+use Rattle.area_disk.specs.CourseLaws.{runs_on}
 use Rattle.gate_journal.proofs.Turns.{other_bool}
 use Rattle.gate_journal.proofs.reading.read_gate.Goals as goal
 

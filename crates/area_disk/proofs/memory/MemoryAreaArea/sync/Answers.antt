@@ -6,11 +6,11 @@ use Rattle.area_disk.proofs.memory.MemoryAreaArea.sync.Goals as goal
 pub returns-in-Runs-clause-time : goal.returns-in-Runs-clause-time
 returns-in-Runs-clause-time c =
     let settled : Change = record { at = 0; octets = []; settles = true } in
-    elapses_noted c.args.self.now.disk c.settle.new.self settled c.settle.ensures.past
+    elapses_noted c.args.self.now _ settled c.settle.ensures.past
 
 pub returns-in-Stops-clause-crash : goal.returns-in-Stops-clause-crash
 returns-in-Stops-clause-crash c =
     disk_within_stop c.args.self.now.disk c.stop.new.self c.in-Stops.outcome (c.stop.ensures.present ∙ written_as_none c.in-Stops.outcome (leaves_of c.args.self.now.disk c.in-Stops.outcome)) c.stop.ensures.unsynced
 
 pub returns-in-Stops-clause-time : goal.returns-in-Stops-clause-time
-returns-in-Stops-clause-time c = elapses_noted c.args.self.now.disk c.stop.new.self c.stop.ensures.past.0 c.stop.ensures.past.1
+returns-in-Stops-clause-time c = elapses_noted c.args.self.now _ c.stop.ensures.past.0 c.stop.ensures.past.1

@@ -13,7 +13,7 @@ returns-in-Runs-clause-crash c = disk_follows_write c.args.self.now.disk c.write
 pub returns-in-Runs-clause-time : goal.returns-in-Runs-clause-time
 returns-in-Runs-clause-time c =
     let change : Change = record { at = c.args.at; octets = c.args.from.now; settles = false } in
-    elapses_noted c.args.self.now.disk c.write.new.self change c.write.ensures.past
+    elapses_noted c.args.self.now _ change c.write.ensures.past
 
 pub returns-in-Runs-clause-planned : goal.returns-in-Runs-clause-planned
 returns-in-Runs-clause-planned c = λ told.
@@ -33,4 +33,4 @@ pub returns-in-Stops-clause-crash : goal.returns-in-Stops-clause-crash
 returns-in-Stops-clause-crash c = disk_follows_stop c.args.self.now.disk c.stop.new.self c.in-Stops.outcome c.args.at c.args.from.now c.requires c.stop.ensures.present c.stop.ensures.unsynced
 
 pub returns-in-Stops-clause-time : goal.returns-in-Stops-clause-time
-returns-in-Stops-clause-time c = elapses_noted c.args.self.now.disk c.stop.new.self c.stop.ensures.past.0 c.stop.ensures.past.1
+returns-in-Stops-clause-time c = elapses_noted c.args.self.now _ c.stop.ensures.past.0 c.stop.ensures.past.1

@@ -4,7 +4,7 @@ use Rattle.gate_journal.specs.Journal.{batches, torn, stop_stands}
 use Rattle.gate_journal.proofs.Turns.{other_bool}
 use Rattle.gate_journal.specs.Moments.{Told}
 use Rattle.gate_journal.proofs.Kept.{as_before}
-use Rattle.gate_journal.proofs.Runs.{begin}
+use Rattle.area_disk.specs.MomentLaws.{begin}
 use Rattle.gate_journal.proofs.States.{ready_of, closed_when_torn, content_of, settled, moments, batches_grow, batches_stay, sound_ok, sound_err}
 use Rattle.gate_journal.proofs.journal.Journal.append.Goals as goal
 

@@ -1,6 +1,6 @@
 use Rattle.std.proofs.Common.{refl}
 use Rattle.gate_journal.proofs.Kept.{as_before}
-use Rattle.gate_journal.proofs.Runs.{begin, step}
+use Rattle.area_disk.specs.MomentLaws.{begin, step}
 use Rattle.gate_journal.proofs.journal.Journal.arm.Goals as goal
 
 pub returns-clause-same : goal.returns-clause-same

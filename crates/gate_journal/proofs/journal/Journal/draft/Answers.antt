@@ -7,7 +7,7 @@ use Rattle.gate_journal.specs.Verdicts.{IsVerdict}
 use Rattle.gate_journal.specs.declared.reading.Verdict.TheVariants.{Starts as Begins, Same}
 use Rattle.gate_journal.proofs.Calm.{looked, put_on}
 use Rattle.gate_journal.proofs.Openings.{calls_behind, calls_made, drafted, rose_on, starts_of}
-use Rattle.gate_journal.proofs.Runs.{widen}
+use Rattle.area_disk.specs.MomentLaws.{widen}
 use Rattle.gate_journal.proofs.journal.Journal.draft.Goals as goal
 
 pub returns-in-Ok-Starts-clause-ok : goal.returns-in-Ok-Starts-clause-ok

@@ -2,7 +2,7 @@ use Rattle.std.proofs.Common.{refl, ap}
 use Rattle.std.specs.Prelude.{◌&&◌, ◌==◌}
 use Rattle.gate_journal.specs.Format.{open_gate, gate_at, header}
 use Rattle.gate_journal.specs.Journal.{batches, torn, torn_stands}
-use Rattle.gate_journal.proofs.Runs.{widen}
+use Rattle.area_disk.specs.MomentLaws.{widen}
 use Rattle.gate_journal.proofs.States.{settled, ready_of, founding_keeps, founding_batches, founding_sound, founded_sound}
 use Rattle.gate_journal.proofs.journal.Journal.found.Goals as goal
 

@@ -4,7 +4,8 @@ use Rattle.gate_journal.specs.Journal.{batches}
 use Rattle.gate_journal.specs.State.{batches_below}
 use Rattle.gate_journal.specs.Places.{part_is, small_among}
 use Rattle.gate_journal.proofs.Kept.{kept_journal}
-use Rattle.gate_journal.proofs.Runs.{kept_read, read_on}
+use Rattle.area_disk.specs.CourseLaws.{read_on}
+use Rattle.area_disk.specs.MomentLaws.{kept_read}
 use Rattle.gate_journal.specs.Spelling.{length-header}
 use Rattle.gate_journal.proofs.journal.Journal.read.Goals as goal
 

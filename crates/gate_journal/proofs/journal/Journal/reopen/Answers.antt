@@ -4,7 +4,7 @@ use Rattle.gate_journal.specs.Format.{open_gate, gate_at, header}
 use Rattle.gate_journal.specs.State.{IsSound, batches_below, front_after, gate_after}
 use Rattle.gate_journal.specs.Journal.{batches, torn, torn_stands, stop_stands, closed_by}
 use Rattle.gate_journal.proofs.Turns.{other_bool}
-use Rattle.gate_journal.proofs.Runs.{widen}
+use Rattle.area_disk.specs.MomentLaws.{widen}
 use Rattle.gate_journal.proofs.States.{settled, ready_of, open_after, length-torn, gate_moves, moves_or_stays, keeps_any, kept_batches, kept_sound, reopened_sound, reopened_batches}
 use Rattle.gate_journal.proofs.journal.Journal.reopen.Goals as goal
 

@@ -1,47 +1,48 @@
 -- How what a crash leaves goes on over the calls of an area.
-use Rattle.std.proofs.Common.{inl, inr, ⊎_elim, ◌≡◌, ℕ, ◌≤◌, List, Result, refl, sym, ap, subst, ◌∙◌, arith}
-use Rattle.area_disk.specs.Disk.{Elapses, Only, Torn, Follows, Within}
-use Rattle.area_disk.specs.Plan.{Prospect, ReadAsPlanned, Schedule}
-use Rattle.area_disk.specs.declared.area.Area.{Ghosts}
-use Rattle.area_disk.proofs.Moments.{started, goes_on}
+use Rattle.std.proofs.Common.{inl, inr, ⊎_elim, ◌≡◌, ℕ, ◌≤◌, List, refl, subst, ◌∙◌, arith}
 use Rattle.std.specs.Prelude.{IsTrue}
-use Rattle.gate_journal.specs.Moments.{Leaves, Kept}
-use Rattle.gate_journal.specs.Planned.{ReadOn}
-
--- reads one after the other
-pub read_on_trans : (a b c : Prospect) → ReadOn a b → ReadOn b c → ReadOn a c
-read_on_trans a b c one two = record {
-  schedule = two.schedule ∙ ap (λ (s : Schedule). record s { reads = c.schedule.reads }) one.schedule;
-  spare = two.spare ∙ one.spare;
-  leaves = λ outcome. two.leaves outcome ∙ one.leaves outcome;
-}
-
-pub read_on : {T E : Type 0} (old : Prospect) (result : Result T E) (new : Prospect) → ReadAsPlanned old result new → ReadOn old new
-read_on old result new read = record {
-  schedule = read.schedule ∙ ap (λ n. record old.schedule { reads = n }) (sym (ap (λ (s : Schedule). s.reads) read.schedule));
-  spare = read.spare;
-  leaves = read.leaves;
-}
+use Rattle.area_disk.specs.Course.{ReadOn}
+use Rattle.area_disk.specs.CourseLaws.{read_on_trans}
+use Rattle.area_disk.specs.Disk.{Elapses, Only, Torn, Follows, Within}
+use Rattle.area_disk.specs.Moments.{LeavesOnly, Leaves, Kept}
+use Rattle.area_disk.specs.declared.area.Area.{Ghosts}
 
 module _ {A : Type 0} (area : Ghosts A) where
   -- since this moment there is no other
   abbrev pub OnlyNow : Type 0
   OnlyNow = (a : A) (c : List ℕ) → area.told_from a ≤ area.moment a → area.left_since a (area.moment a) c → area.may_leave a c
 
+  -- one step of time
+  abbrev pub Goes : A → A → Type 0
+  Goes old new = Elapses area.told_from area.moment area.left_since area.may_leave old new
+
+  -- before the first call
   pub begin : OnlyNow → (old : A) (P : List ℕ → Type 0) → ((c : List ℕ) → area.may_leave old c → P c) → Leaves area old old P
   begin only_now old P here = record {
-    moments = started area.told_from area.moment area.left_since old P (λ c told left. here c (only_now old c told left));
+    moments = record {
+      later = omega arith;
+      told_later = omega arith;
+      each = λ c told left. here c (only_now old c told left);
+      before = λ t c told le left. inl left;
+    };
     now = here;
   }
 
-  pub step : (old mid new : A) (P : List ℕ → Type 0) → Leaves area old mid P
-      → Elapses (area.told_from mid) (area.told_from new) (area.moment mid) (area.moment new) (area.left_since mid) (area.left_since new) (area.may_leave new)
-      → ((c : List ℕ) → area.may_leave new c → P c) → Leaves area old new P
+  -- one call more, after which a crash leaves what has P
+  pub step : (old mid new : A) (P : List ℕ → Type 0) → Leaves area old mid P → Goes mid new → ((c : List ℕ) → area.may_leave new c → P c) → Leaves area old new P
   step old mid new P so_far time here = record {
-    moments = goes_on area.told_from area.moment area.left_since old mid new P (area.may_leave new) so_far.moments time here;
+    moments = record {
+      later = omega (arith, so_far.moments.later, time.later);
+      told_later = omega (arith, so_far.moments.told_later, time.told_later);
+      each = λ c told left.
+          ⊎_elim (so_far.moments.each c (omega (arith, told, time.told_later))) (here c) (time.nothing_else (area.moment old) c told so_far.moments.later left);
+      before = λ t c told le left.
+          ⊎_elim (so_far.moments.before t c (omega (arith, told, time.told_later)) le) (λ now. inr (here c now)) (time.nothing_else t c told (omega (arith, le, so_far.moments.later)) left);
+    };
     now = here;
   }
 
+  -- a weaker P
   pub widen : (old new : A) (P Q : List ℕ → Type 0) → ((c : List ℕ) → P c → Q c) → Leaves area old new P → Leaves area old new Q
   widen old new P Q wide leaves = record {
     moments = record {
@@ -53,6 +54,7 @@ module _ {A : Type 0} (area : Ghosts A) where
     now = λ c left. wide c (leaves.now c left);
   }
 
+  -- two facts at once
   pub both : (old new : A) (P Q : List ℕ → Type 0) → Leaves area old new P → Leaves area old new Q → Leaves area old new (λ c. P c × Q c)
   both old new P Q one two = record {
     moments = record {
@@ -65,6 +67,7 @@ module _ {A : Type 0} (area : Ghosts A) where
     now = λ c left. (one.now c left, two.now c left);
   }
 
+  -- two runs, one after the other
   pub join : (old mid new : A) (P : List ℕ → Type 0) → Leaves area old mid P → Leaves area mid new P → Leaves area old new P
   join old mid new P one two = record {
     moments = record {
@@ -109,13 +112,12 @@ module _ {A : Type 0} (area : Ghosts A) where
 
   -- a call that leaves no more than before
   pub kept_leaves : OnlyNow → (old new : A) → Within (area.may_leave old) (area.may_leave new)
-      → Elapses (area.told_from old) (area.told_from new) (area.moment old) (area.moment new) (area.left_since old) (area.left_since new) (area.may_leave new) → Leaves area old new (area.may_leave old)
+      → Goes old new → Leaves area old new (area.may_leave old)
   kept_leaves only_now old new within time = step old old new (area.may_leave old) (begin only_now old (area.may_leave old) (λ c left. left)) time within
 
   -- a read changes nothing
   pub kept_read : OnlyNow → (old new : A) → area.size new ≡ area.size old → area.octets new ≡ area.octets old → Within (area.may_leave old) (area.may_leave new)
-      → Elapses (area.told_from old) (area.told_from new) (area.moment old) (area.moment new) (area.left_since old) (area.left_since new) (area.may_leave new)
-      → (IsTrue area.tells_calls → area.calls new ≡ area.calls old) → (IsTrue area.tells_fate → ReadOn (area.fate old) (area.fate new)) → Kept area old new
+      → Goes old new → (IsTrue area.tells_calls → area.calls new ≡ area.calls old) → (IsTrue area.tells_fate → ReadOn (area.fate old) (area.fate new)) → Kept area old new
   kept_read only_now old new size octets within time calls planned = record {
     size = size;
     octets = octets;

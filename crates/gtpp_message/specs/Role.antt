@@ -1,0 +1,68 @@
+-- How each end of a path reads a datagram (3GPP TS 32.295, clause 6.2). The order in which the conditions stand is this
+-- project's own (profile), and docs/FORMATS.md tells it as a table.
+use Rattle.std.specs.Prelude.{ℕ, Bool, not, nat_lt, ◌==◌, ◌||◌, if◌then◌else◌, List, ◌∷◌, length, take, drop, Result, Ok, Err}
+use Rattle.gtpp_header.specs.Header.{protocol_type_of, two_octets, version_of}
+use Rattle.gtpp_header.specs.declared.Header.{Header}
+use Rattle.gtpp_header.specs.declared.fault.HeadFault.{HeadFault}
+use Rattle.gtpp_header.specs.declared.fault.HeadFault.TheVariants as head
+use Rattle.gtpp_elements.specs.Reading.{elements_in}
+use Rattle.gtpp_message.specs.Message.{MessageValue, is_known}
+use Rattle.gtpp_message.specs.Reading.{ReadingValue, Drop, Message, OtherVersion, Refused, body_of, cause_of}
+use Rattle.gtpp_message.specs.Writing.{kind_of}
+use Rattle.gtpp_message.specs.declared.flaw.Flaw.{Flaw}
+use Rattle.gtpp_message.specs.declared.reading.Why.{Why}
+use Rattle.gtpp_message.specs.declared.reading.Why.TheVariants as why
+use Rattle.gtpp_message.specs.declared.role.Role.{Role}
+use Rattle.gtpp_message.specs.declared.role.Role.TheVariants.{Gateway, Node}
+
+-- no message of this type is sent to this end: to a gateway Version Not Supported, Node Alive Response, Redirection Request
+-- and Response, and Data Record Transfer Response; to a node Version Not Supported, Node Alive Request and Data Record
+-- Transfer Request
+abbrev pub is_stray : Role → ℕ → Bool
+is_stray Gateway kind = (kind == 3) || (kind == 5) || (kind == 6) || (kind == 7) || (kind == 241)
+is_stray Node kind = (kind == 3) || (kind == 4) || (kind == 240)
+
+-- a response with a cause answers a message of this type: Redirection Request, Data Record Transfer Request
+abbrev pub has_refusal : ℕ → Bool
+has_refusal kind = (kind == 6) || (kind == 240)
+
+-- a message with a body that isn't one of its type: it is refused where a response answers it, and else dropped
+abbrev pub refused : ℕ → ℕ → ℕ → ReadingValue
+refused kind cause number = if has_refusal kind then Refused kind cause number else Drop (why.Malformed cause)
+
+-- a message of a type that is sent to this end, by what its body says
+abbrev pub by_body : ℕ → ℕ → Result MessageValue Flaw → ReadingValue
+by_body kind number (Ok message) = Message number message
+by_body kind number (Err flaw) = refused kind (cause_of flaw) number
+
+-- What this end reads of the octets of a datagram: the first of these conditions that holds decides, and fewer than six
+-- octets are too short for a header.
+abbrev pub role_reading : Role → List ℕ → ReadingValue
+role_reading role (flags ∷ kind ∷ length_high ∷ length_low ∷ number_high ∷ number_low ∷ rest) =
+    let stated = two_octets length_high length_low in
+    let number = two_octets number_high number_low in
+    if protocol_type_of flags == 1 then Drop why.NotPrime
+    else if not (version_of flags == 2) then (if kind == 3 then Drop why.Stray else OtherVersion kind number)
+    else if nat_lt (length rest) stated then Drop why.Cut
+    else if not (is_known kind) then Drop why.UnknownType
+    else if is_stray role kind then Drop why.Stray
+    else by_body kind number (body_of kind (elements_in (take stated rest)))
+role_reading role _ = Drop why.Short
+
+-- what was read at neither end, as this end takes it: the stray is dropped, and so is what no message answers
+abbrev pub for_role : Role → ReadingValue → ReadingValue
+for_role role (Message number message) = if is_stray role (kind_of message) then Drop why.Stray else Message number message
+for_role role (Refused kind cause number) = if is_stray role kind then Drop why.Stray else refused kind cause number
+for_role role (OtherVersion kind number) = if kind == 3 then Drop why.Stray else OtherVersion kind number
+for_role role (Drop why) = Drop why
+
+-- The same behind a header that was read: a step of the proof.
+abbrev pub read_at : Role → Result Header HeadFault → List ℕ → ReadingValue
+read_at role (Ok header) octets =
+    if not (is_known header.kind) then Drop why.UnknownType
+    else if is_stray role header.kind then Drop why.Stray
+    else by_body header.kind header.number (body_of header.kind (elements_in (take header.length (drop 6 octets))))
+read_at role (Err head.Short) octets = Drop why.Short
+read_at role (Err head.NotPrime) octets = Drop why.NotPrime
+read_at role (Err (head.Version version kind number)) octets = if kind == 3 then Drop why.Stray else OtherVersion kind number
+read_at role (Err (head.Cut length)) octets = Drop why.Cut
