@@ -1,4 +1,4 @@
-use Rattle.std.proofs.Common.{◌≡◌, ◌+◌, length, take, drop, sym, ◌∙◌, ap}
+use Rattle.std.proofs.Common.{take, drop, sym, ◌∙◌, ap}
 use Rattle.gate_journal.specs.Format.{end_of, length_at}
 use Rattle.gate_journal.specs.Agreeing.{batch_before}
 use Rattle.area_disk.specs.CourseLaws.{read_runs}
