@@ -154,6 +154,7 @@ fn holds_each_kind(
 ) -> Result<(), Fail> {
     assert_eq!(rt; trail.length(), KINDS);
     for kind in 0..KINDS {
+        assert!(rt; kind < trail.length());
         assert!(rt; kind < trail.firm());
         let place = trail.entry_at(kind);
         let mut octets = vec![in alloc; 0; place.length as usize]?;

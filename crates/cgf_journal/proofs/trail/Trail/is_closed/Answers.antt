@@ -12,4 +12,4 @@ pub returns-clause-stop : goal.returns-clause-stop
 returns-clause-stop g c = λ fate told outcome.
     let laws = g.met.A.Area g.world.𝓛 g.world.𝓜 g.world.𝓡 ((λ s x. x), (λ x. x), (λ x. x), λ x. x) in
     let t = c.args.self.now in
-    stop_is t told (λ e. c.is_closed.ensures.none_torn (c.is_closed.ensures.closed ∙ e)) _ (laws.same_size (area_of t) _ told.1 (laws.may_stop (area_of t) outcome fate)) outcome (c.is_closed.ensures.stop fate told outcome)
+    stop_is t told (λ e. (c.is_closed.ensures.none_torn (c.is_closed.ensures.closed ∙ e)).stops) _ (laws.same_size (area_of t) _ told.1 (laws.may_stop (area_of t) outcome fate)) outcome (c.is_closed.ensures.stop fate told outcome)
