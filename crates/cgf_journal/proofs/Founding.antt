@@ -13,7 +13,7 @@ use Rattle.gate_journal.specs.declared.journal.Front.TheVariants.{Founded}
 use Rattle.gate_journal.specs.declared.journal.Journal.{Journal}
 use Rattle.entry_codec.specs.Content.{AreEntries, IsContent, entries_of, spelled}
 use Rattle.entry_codec.specs.Room.{costs_of}
-use Rattle.entry_codec.proofs.Contents.{costs_of-append, costs_of-spelled, no_entries}
+use Rattle.entry_codec.specs.Laws.{costs_of-append, costs_of-spelled, no_entries}
 use Rattle.cgf_journal.specs.Format.{AreBatches, entries_in}
 use Rattle.cgf_journal.specs.Opening.{AreListed, IsTakenUpTo}
 use Rattle.cgf_journal.specs.Sound.{EndsBy, IsSound, is_founded, places_behind, places_from}

@@ -10,7 +10,7 @@ use Rattle.gate_journal.specs.Format.{IsBroken, IsWhole, Stands, Starts, end_of,
 use Rattle.gate_journal.specs.Agreeing.{Compared, equal, longer, shorter, batch_before, compare, front_before, one_difference, part_before, place_of, same_not_differs, same_not_starts, stands_before}
 use Rattle.entry_codec.specs.Content.{IsContent, entries_of}
 use Rattle.entry_codec.specs.Room.{costs_of}
-use Rattle.entry_codec.proofs.Contents.{costs_of-append}
+use Rattle.entry_codec.specs.Laws.{costs_of-append}
 use Rattle.cgf_journal.specs.Format.{AreBatches, IsForeignBy, IsSpoiledBy, StandsFor, entries_in}
 use Rattle.cgf_journal.specs.Opening.{BreaksAt}
 

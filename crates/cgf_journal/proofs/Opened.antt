@@ -15,7 +15,7 @@ use Rattle.gate_journal.specs.declared.faults.OpenFault.TheVariants.{Device, NoM
 use Rattle.gate_journal.specs.declared.journal.Front.TheVariants.{Founded}
 use Rattle.gate_journal.specs.declared.journal.Journal.{Journal}
 use Rattle.gate_journal.specs.Agreeing.{stands_before}
-use Rattle.gate_journal.proofs.Runs.{follow, widen}
+use Rattle.area_disk.specs.MomentLaws.{follow, widen}
 use Rattle.entry_codec.specs.Content.{IsContent}
 use Rattle.gw_base.specs.declared.history.HistoryEntry.{HistoryEntry}
 use Rattle.cgf_journal.specs.Fit.{AllFit, AreFit, IsUnfitTo, StandsFit}

@@ -14,8 +14,9 @@ use Rattle.gate_journal.specs.declared.journal.Journal.{Journal}
 use Rattle.entry_codec.specs.Content.{AreEntries, entries_of, spelled}
 use Rattle.entry_codec.specs.Room.{capacity_of, costs_of}
 use Rattle.entry_codec.specs.Spelling.{HasSpelling, cost_of, entry_length, spelling}
-use Rattle.entry_codec.proofs.Contents.{costs_of-spelled, entries_of_entries, more_entries, no_entries, one_entry}
-use Rattle.entry_codec.proofs.Entries.{length_of_spelling}
+use Rattle.entry_codec.specs.Laws.{costs_of-spelled, more_entries, no_entries, one_entry}
+use Rattle.entry_codec.proofs.Contents.{entries_of_entries}
+use Rattle.entry_codec.specs.Laws.{length_of_spelling}
 use Rattle.cgf_journal.specs.Format.{AreBatches, cheapest_entry, entries_in}
 use Rattle.cgf_journal.specs.Sound.{EndsBy, IsSound, is_founded, places_behind, places_from}
 use Rattle.cgf_journal.specs.Tally.{Tallies, TallyValue, tally_behind, tally_behind_all, tally_of}

@@ -14,16 +14,16 @@ use Rattle.gate_journal.specs.Format.{header_length}
 use Rattle.gate_journal.specs.Journal as journal
 use Rattle.gate_journal.specs.Moments.{Leaves, Told}
 use Rattle.gate_journal.specs.State.{Keeps}
-use Rattle.gate_journal.proofs.Runs.{both, widen}
+use Rattle.area_disk.specs.MomentLaws.{OnlyNow, begin, both, widen}
 use Rattle.entry_codec.specs.Content.{entries_of, spelled}
 use Rattle.entry_codec.specs.Room.{capacity_of, costs_of}
 use Rattle.entry_codec.specs.Spelling.{HasSpelling, cost_of, entry_length}
-use Rattle.entry_codec.proofs.Contents.{costs_of-spelled}
+use Rattle.entry_codec.specs.Laws.{costs_of-spelled}
 use Rattle.cgf_journal.specs.Format.{StandsFor, cheapest_entry, entries_in}
 use Rattle.cgf_journal.specs.Sound.{EndsBy}
 use Rattle.cgf_journal.specs.Outcomes.{IsKept}
 use Rattle.cgf_journal.specs.Tally.{TallyValue, free_beside, has_room_behind, promised_by, tally_behind, tally_of}
-use Rattle.cgf_journal.specs.Trail.{IsFirmPlaceOf, IsPlaceOf, IsSettled, StandsForOr, area_of, entries, firm_entries, free_of, has_room_of, header_of, is_closed, left_by_stop, length_of, stop_stands, tally, waiting, waiting_octets}
+use Rattle.cgf_journal.specs.Trail.{IsAtRest, IsFirmPlaceOf, IsPlaceOf, IsSettled, StandsForOr, area_of, entries, firm_entries, free_of, has_room_of, header_of, is_closed, left_by_stop, length_of, stop_stands, tally, waiting, waiting_octets}
 use Rattle.cgf_journal.specs.declared.trail.Trail.{Trail}
 use Rattle.cgf_journal.proofs.Entries.{each_spelled}
 use Rattle.cgf_journal.proofs.Placing.{IsAmong, IsFound, behind_is, from_is, get_left, get_right, length-places_behind}
@@ -250,16 +250,35 @@ module _ {A : Type 0} {tells : Ghosts A} (trail : Trail A tells) where
           later_length (k - trail.firm) place e (later_place (k - trail.firm) place (ap (λ n. slice_get trail.places.items n) at ∙ is)) (later_get high (is_closed trail) inside get)
 
   -- with the laws of the area
-  module _ (whole : (a : A) → IsTrue tells.tells_octets → length (tells.octets a) ≡ tells.size a) (same_size : (a : A) (c : List ℕ) → IsTrue tells.tells_crash → tells.may_leave a c → length c ≡ tells.size a) where
+  module _ (whole : (a : A) → IsTrue tells.tells_octets → length (tells.octets a) ≡ tells.size a) (same_size : SameSize tells) (only_now : OnlyNow tells) where
     pub settled : journal.IsSettled trail.journal → IsSettled trail
     unfolding firm_entries
     settled is = record {
       reads = λ told. still told (tells.octets (area_of trail)) (whole (area_of trail) told.0) (is.reads told);
       crash = λ told c left. still told c (same_size (area_of trail) c told.1 left) (is.crash told c left);
+      still = λ told. begin tells only_now (area_of trail) _ (λ c left. still told c (same_size (area_of trail) c told.1 left) (is.crash told c left));
     }
       where
         still : Told tells → (c : List ℕ) → length c ≡ tells.size (area_of trail) → Keeps (journal.front_of trail.journal) (header_of trail) (journal.batches trail.journal) c → StandsFor (header_of trail) c (entries_in (journal.batches trail.journal))
         still told = keeps_for (journal.front_of trail.journal) (tells.size (area_of trail)) (header_of trail) (journal.batches trail.journal) trail.sound.founded (trail.sound.are_batches told)
+
+    -- closed or not
+    pub at_rest : (is_closed trail ≡ false → journal.IsSettled trail.journal) → journal.Rests trail.journal → IsAtRest trail
+    unfolding firm_entries waiting
+    at_rest opened rests = record {
+      reads = λ told. by_closed told (tells.octets (area_of trail)) (whole (area_of trail) told.0) (λ e. (opened e).reads told) (rests.reads told) (is_closed trail) refl;
+      still = λ told. begin tells only_now (area_of trail) _ (λ c left. by_closed told c (same_size (area_of trail) c told.1 left) (λ e. (opened e).crash told c left) (rests.crash told c left) (is_closed trail) refl);
+    }
+      where
+        by_closed : Told tells → (c : List ℕ) → length c ≡ tells.size (area_of trail) → (is_closed trail ≡ false → Keeps (journal.front_of trail.journal) (header_of trail) (journal.batches trail.journal) c)
+            → journal.KeepsOr (journal.front_of trail.journal) (header_of trail) (journal.batches trail.journal) (journal.torn trail.journal) c → (closed : Bool) → is_closed trail ≡ closed
+            → StandsForOr (header_of trail) (entries_in (journal.batches trail.journal)) (entries_in (journal.batches trail.journal) ++ entries_of trail.waiting.octets) c
+        by_closed told c sized opened keeps true e =
+            keeps_either (journal.front_of trail.journal) (tells.size (area_of trail)) (header_of trail) (journal.batches trail.journal) trail.sound.founded (trail.sound.are_batches told) trail.waiting.octets
+            (one_more_batch trail.journal trail.size trail.waiting trail.places.items trail.firm trail.tally trail.sound told (trail.sound.some_torn e)) c sized
+            (subst (λ (b : List ℕ). journal.KeepsOr (journal.front_of trail.journal) (header_of trail) (journal.batches trail.journal) b c) (trail.sound.torn_waits e) keeps)
+        by_closed told c sized opened keeps false e =
+            inl (keeps_for (journal.front_of trail.journal) (tells.size (area_of trail)) (header_of trail) (journal.batches trail.journal) trail.sound.founded (trail.sound.are_batches told) c sized (opened e))
 
   -- what the journal leaves in a call, stands for the firm entries, or with those that wait
   pub leaves_either : (new : A) (batch : List ℕ) → Told tells → batch ≡ trail.waiting.octets → trail.waiting.octets ≢ []

@@ -5,7 +5,7 @@ use Rattle.area_disk.specs.declared.plan.Outcome3.{Outcome3}
 use Rattle.gw_base.specs.declared.history.HistoryEntry.{HistoryEntry}
 use Rattle.gw_base.specs.declared.place.Place.{Place}
 use Rattle.gate_journal.specs.Journal as journal
-use Rattle.gate_journal.specs.Moments.{Told}
+use Rattle.gate_journal.specs.Moments.{Leaves, Told}
 use Rattle.entry_codec.specs.Content.{entries_of}
 use Rattle.cgf_journal.specs.Format.{StandsFor, entries_in}
 use Rattle.cgf_journal.specs.Tally.{TallyValue, free_beside, has_room_behind}
@@ -90,3 +90,10 @@ StandsForOr header h g octets = StandsFor header octets h ⊎ StandsFor header o
 pub record IsSettled {A : Type 0} {tells : Ghosts A} (trail : Trail A tells) : Type 0 where
   pub reads : Told tells → StandsFor (header_of trail) (tells.octets (area_of trail)) (firm_entries trail)
   pub crash : Told tells → (c : List ℕ) → tells.may_leave (area_of trail) c → StandsFor (header_of trail) c (firm_entries trail)
+  pub still : Told tells → Leaves tells (area_of trail) (area_of trail) (λ c. StandsFor (header_of trail) c (firm_entries trail))
+
+-- What is written stands, closed or not: what a read gives stands for the firm entries, or for these with those that
+-- wait, and so does all that a crash may leave.
+pub record IsAtRest {A : Type 0} {tells : Ghosts A} (trail : Trail A tells) : Type 0 where
+  pub reads : Told tells → StandsForOr (header_of trail) (firm_entries trail) (firm_entries trail ++ waiting trail) (tells.octets (area_of trail))
+  pub still : Told tells → Leaves tells (area_of trail) (area_of trail) (StandsForOr (header_of trail) (firm_entries trail) (firm_entries trail ++ waiting trail))

@@ -53,8 +53,9 @@ pub struct Trail<A: Area> {
 
 impl<A: Area> Trail<A> {
     ghost use Rattle.area_disk.specs.declared.plan.Outcome3.{Outcome3};
+    ghost use Rattle.area_disk.specs.declared.plan.Outcome3.TheVariants.{New};
     ghost use Rattle.cgf_journal.specs.Outcomes.{AllFirm, AreTorn, CommitCalls, CommitPlanned, CrashLeaves, FirmPlacesStay, FirmStays, IsKept, IsPushed, IsReopened, ReopenCalls, ReopenPlanned, Stays, TornDropped, TornStand, UnmadeIfNone};
-    ghost use Rattle.cgf_journal.specs.Trail.{IsFirmPlaceOf, IsPlace, IsPlaceOf, IsSettled, area_of, entries, firm_entries, firm_length, free_of, has_room_of, header_of, is_closed, left_by_stop, length_of, torn_stands, waiting, waiting_octets};
+    ghost use Rattle.cgf_journal.specs.Trail.{IsAtRest, IsFirmPlaceOf, IsPlace, IsPlaceOf, IsSettled, area_of, entries, firm_entries, firm_length, free_of, has_room_of, header_of, is_closed, left_by_stop, length_of, stop_stands, torn_stands, waiting, waiting_octets};
 
     /// Adds an entry behind the others. It is firm after the next commit.
     ///
@@ -157,8 +158,10 @@ impl<A: Area> Trail<A> {
         ensures closed { result ≡ is_closed self.now }
         ensures settled { Told A.Area → result ≡ false → IsSettled self.now }
         ensures open { Told A.Area → result ≡ false → entries self.now ≡ firm_entries self.now ++ waiting self.now }
+        ensures rests { IsAtRest self.now }
         ensures stop { IsTrue A.tells_fate → Told A.Area → (outcome : Outcome3) →
             StandsFor (header_of self.now) ((A.fate (area_of self.now)).leaves outcome) (left_by_stop outcome self.now) }
+        ensures torn { IsTrue A.tells_fate → torn_stands self.now ≡ stop_stands New self.now }
     {
         self.journal.is_closed()
     }
@@ -244,8 +247,14 @@ impl<A: Area> Trail<A> {
 
     /// Hands the area back as it is. It takes no memory.
     pub fn into_area(self) -> A
-        ensures { result ≡ area_of self }
+        ensures area { result ≡ area_of self }
+        ensures long { 100 ≤ A.size result }
+        ensures short { A.size result ≤ 268435456 }
+        ensures rests { IsAtRest self }
+        ensures stop { IsTrue A.tells_fate → Told A.Area → (outcome : Outcome3) →
+            StandsFor (header_of self) ((A.fate (area_of self)).leaves outcome) (left_by_stop outcome self) }
     {
+        let _closed = self.journal.is_closed();
         let Trail {
             journal,
             size: _,

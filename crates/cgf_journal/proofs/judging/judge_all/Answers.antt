@@ -1,6 +1,6 @@
 use Rattle.std.proofs.Common.{ℕ, Option, Ok, IfSome, List, subst, sym, ap, ◌∙◌}
 use Rattle.cgf_journal.specs.Judged.{IsJudgedEntry, IsJudgedUpTo}
-use Rattle.cgf_journal.proofs.Judging.{all_judged, begins_judging, one_judged, one_unfit}
+use Rattle.cgf_journal.proofs.Verdicts.{all_judged, begins_judging, one_judged, one_unfit}
 use Rattle.cgf_journal.proofs.Takings.{is_end, not_end}
 use Rattle.cgf_journal.proofs.judging.judge_all.Goals as goal
 

@@ -26,8 +26,7 @@ returns-clause-taken g c =
     let at = c.requires.taken.taken_in.gate_is in
     let content = subst (λ o. IfSome o (λ (content : ℕ × ℕ). IsContent c.args.journal.now c.batch.new.self c.args.gate content.0 content.1)) c.in-Some.is c.in-Ok.ensures.some in
     let short = content.short in
-    let inside = (content.place, content.inside) in
-    let room : length (take c.in-Some.length c.args.content.now) ≡ c.in-Some.length = length-take-le c.in-Some.length c.args.content.now (omega (arith, short, inside)) in
+    let room : length (take c.in-Some.length c.args.content.now) ≡ c.in-Some.length = length-take-le c.in-Some.length c.args.content.now (omega (arith, short, content.place, content.inside)) in
     let next = λ (all : List (List ℕ)) (listed : AreListed g.A.Area (batches c.args.journal.now) all).
     let begins = c.requires.taken.begins all listed in
     read_next all some begins.0 c.args.gate (end j) begins.1 at (c.requires.ends listed.told ∙ ap end_of listed.same) c.requires.inside c.in-Ok.found c.in-Some.place c.in-Some.length c.read.new.into c.in-Some.is
@@ -44,8 +43,7 @@ returns-clause-breaks g c = λ told stop stops.
     let at = c.requires.taken.taken_in.gate_is in
     let content = subst (λ o. IfSome o (λ (content : ℕ × ℕ). IsContent c.args.journal.now c.batch.new.self c.args.gate content.0 content.1)) c.in-Some.is c.in-Ok.ensures.some in
     let short = content.short in
-    let inside = (content.place, content.inside) in
-    let room : length (take c.in-Some.length c.args.content.now) ≡ c.in-Some.length = length-take-le c.in-Some.length c.args.content.now (omega (arith, short, inside)) in
+    let room : length (take c.in-Some.length c.args.content.now) ≡ c.in-Some.length = length-take-le c.in-Some.length c.args.content.now (omega (arith, short, content.place, content.inside)) in
     let next = λ (all : List (List ℕ)) (listed : AreListed g.A.Area (batches c.args.journal.now) all).
     let begins = c.requires.taken.begins all listed in
     read_next all some begins.0 c.args.gate (end j) begins.1 at (c.requires.ends listed.told ∙ ap end_of listed.same) c.requires.inside c.in-Ok.found c.in-Some.place c.in-Some.length c.read.new.into c.in-Some.is

@@ -1,5 +1,7 @@
-use Rattle.std.proofs.Common.{◌≡◌, Ok, true, false, List, [], sym, subst, ◌∙◌, ap}
+use Rattle.std.proofs.Common.{◌≡◌, ℕ, Result, Ok, Err, rules, true, false, List, [], sym, subst, ◌∙◌, ap}
 use Rattle.gw_base.specs.declared.history.HistoryEntry.{HistoryEntry}
+use Rattle.gate_journal.specs.declared.faults.OpenFault.{OpenFault}
+use Rattle.gate_journal.specs.declared.faults.OpenFault.TheVariants.{NotOurs}
 use Rattle.cgf_journal.specs.Fit.{AllFit, AreFit}
 use Rattle.cgf_journal.specs.Format.{entries_in}
 use Rattle.cgf_journal.specs.Judged.{IsJudged}
@@ -23,3 +25,9 @@ returns-in-Ok-false-clause-unfit g c = λ some taken_in judged at is.
       λ (are : AreFit g.J.Judge.fits c.args.size _).
       c.judge_all.ensures.unfit (entries_in some) refused judged (subst (λ (h : List HistoryEntry). AllFit (g.J.Judge.fits c.args.size) [] h) (entries_in-push some c.args.content.now) are.fit),
     )
+
+pub returns-in_err-next-clause-unfit : goal.returns-in_err-next-clause-unfit
+returns-in_err-next-clause-unfit g c = λ some taken_in judged at is.
+    let failed : ◌≡◌ {A = Result ℕ OpenFault} c.take.result (Err (NotOurs at)) = search rules in
+    let found = c.take.ensures.unfit some taken_in at failed in
+    (found.0, λ (are : AreFit g.J.Judge.fits c.args.size _). found.1 are.are_batches)

@@ -5,7 +5,7 @@ use Rattle.gw_base.specs.Buffer.{Buffered}
 use Rattle.gw_base.specs.declared.history.HistoryEntry.{HistoryEntry}
 use Rattle.gate_journal.specs.Journal as journal
 use Rattle.gate_journal.specs.Moments.{Leaves}
-use Rattle.gate_journal.proofs.Runs.{begin}
+use Rattle.area_disk.specs.MomentLaws.{begin}
 use Rattle.entry_codec.specs.Content.{entries_of}
 use Rattle.cgf_journal.specs.Format.{entries_in}
 use Rattle.cgf_journal.specs.Sound.{IsSound}
@@ -43,14 +43,14 @@ returns-then-is_empty-clause-ok g c =
       length = all;
       room = same_room _ _ refl refl;
       free = same_free _ _ refl refl;
-      settled = settled _ laws.whole laws.same_size (c.is_closed-is_closed.ensures.settled c.if-prove.false);
+      settled = settled _ laws.whole laws.same_size laws.only_now (c.is_closed-is_closed.ensures.settled c.if-prove.false);
     }
 
 pub returns-then-is_empty-clause-any_moment : goal.returns-then-is_empty-clause-any_moment
 returns-then-is_empty-clause-any_moment g c = λ told.
     let laws = g.met.A.Area g.world.𝓛 g.world.𝓜 g.world.𝓡 ((λ s x. x), (λ x. x), (λ x. x), λ x. x) in
     let t = c.args.self.now in
-    begin g.A.Area laws.only_now _ _ (λ d left. inl ((settled t laws.whole laws.same_size (c.is_closed-is_closed.ensures.settled c.if-prove.false)).crash told d left))
+    begin g.A.Area laws.only_now _ _ (λ d left. inl ((settled t laws.whole laws.same_size laws.only_now (c.is_closed-is_closed.ensures.settled c.if-prove.false)).crash told d left))
 
 pub invariant_of-self-in-Ok : goal.invariant_of-self-in-Ok
 invariant_of-self-in-Ok g c =
@@ -99,7 +99,7 @@ returns-in-Ok-clause-ok g c =
       length = ap (λ b. if b then c.len-self.result else length t.places.items) opened ∙ counted;
       room = same_room _ _ c.append.ensures.stays.size tallies;
       free = same_free _ _ c.append.ensures.stays.size tallies;
-      settled = settled _ laws.whole laws.same_size c.in-Ok.ensures.ok.settled;
+      settled = settled _ laws.whole laws.same_size laws.only_now c.in-Ok.ensures.ok.settled;
     }
 
 pub returns-in-Ok-clause-any_moment : goal.returns-in-Ok-clause-any_moment

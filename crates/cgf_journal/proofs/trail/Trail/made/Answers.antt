@@ -40,7 +40,7 @@ returns-clause-fresh g c =
       none_waits = ap (λ (w : Buffered). entries_of w.octets) c.requires.waiting ∙ none_of;
       emptied = emptied;
       length = ap (λ b. if b then c.len.result else length c.args.listing.places.items) c.requires.ready ∙ counted;
-      settled = settled _ laws.whole laws.same_size c.requires.settled;
+      settled = settled _ laws.whole laws.same_size laws.only_now c.requires.settled;
     }
 
 pub returns-clause-are_fit : goal.returns-clause-are_fit

@@ -5,7 +5,7 @@ use Rattle.gate_journal.specs.Format.{header}
 use Rattle.gate_journal.specs.Journal as gates
 use Rattle.gate_journal.specs.declared.faults.OpenFault.{OpenFault}
 use Rattle.gate_journal.specs.declared.faults.OpenFault.TheVariants.{Device, NotOurs}
-use Rattle.gate_journal.proofs.Runs.{follow}
+use Rattle.area_disk.specs.MomentLaws.{follow}
 use Rattle.gate_journal.specs.Spelling.{first-header, length-header}
 use Rattle.cgf_journal.specs.Fit.{AreFit, IsUnfitTo, StandsFit}
 use Rattle.cgf_journal.specs.Format.{entries_in}

@@ -9,7 +9,7 @@ use Rattle.gate_journal.specs.Format.{longest_batch}
 use Rattle.entry_codec.specs.Content.{entries_of}
 use Rattle.entry_codec.specs.Spelling.{entry_length, spelling}
 use Rattle.entry_codec.specs.declared.fault.Full.{Full}
-use Rattle.entry_codec.proofs.Entries.{length_of_spelling}
+use Rattle.entry_codec.specs.Laws.{length_of_spelling}
 use Rattle.cgf_journal.specs.Sound.{IsSound}
 use Rattle.cgf_journal.specs.Tally.{Tallies, TallyValue, has_room_behind}
 use Rattle.cgf_journal.specs.Trail.{area_of, firm_entries, has_room_of, waiting}

@@ -3,7 +3,7 @@ use Rattle.std.proofs.lemmas.Result.{on_ok_weaker}
 use Rattle.gate_journal.specs.Format.{end_of}
 use Rattle.gate_journal.specs.Reading.{IsRead}
 use Rattle.entry_codec.specs.Content.{AreEntries}
-use Rattle.entry_codec.proofs.Contents.{one_entry}
+use Rattle.entry_codec.specs.Laws.{one_entry}
 use Rattle.cgf_journal.proofs.Trails.{entry_is, kept, place_ends, place_is, spelling_is}
 use Rattle.cgf_journal.proofs.trail.Trail.read.Goals as goal
 

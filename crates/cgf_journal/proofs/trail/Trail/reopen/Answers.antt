@@ -55,7 +55,7 @@ returns-then-end-clause-ok g c =
       emptied = ap (λ (w : Buffered). length w.octets) c.clear.ensures;
       opened = c.in_ok-reopen.ensures.ok.ready;
       length = ap (λ b. if b then t.firm else length c.truncate.new.self.items) c.in_ok-reopen.ensures.ok.ready ∙ left;
-      settled = settled _ laws.whole laws.same_size c.in_ok-reopen.ensures.ok.settled;
+      settled = settled _ laws.whole laws.same_size laws.only_now c.in_ok-reopen.ensures.ok.settled;
     }
 
 pub returns-then-end-clause-dropped : goal.returns-then-end-clause-dropped
@@ -119,7 +119,7 @@ returns-clause-ok g c =
       emptied = ap (λ (w : Buffered). length w.octets) c.clear-2.ensures;
       opened = c.in_ok-reopen.ensures.ok.ready;
       length = ap (λ b. if b then c.len-self.result else length t.places.items) c.in_ok-reopen.ensures.ok.ready ∙ counted;
-      settled = settled _ laws.whole laws.same_size c.in_ok-reopen.ensures.ok.settled;
+      settled = settled _ laws.whole laws.same_size laws.only_now c.in_ok-reopen.ensures.ok.settled;
     }
 
 pub returns-clause-taken_in : goal.returns-clause-taken_in

@@ -6,7 +6,8 @@ use Rattle.gw_base.specs.declared.history.HistoryEntry.{HistoryEntry}
 use Rattle.entry_codec.specs.Content.{AreEntries, IsContent, entries_of, spelled}
 use Rattle.entry_codec.specs.Fault.{BeginsWith}
 use Rattle.entry_codec.specs.Spelling.{HasSpelling, spelling}
-use Rattle.entry_codec.proofs.Contents.{divided_entries, entries_of_entries, more_entries, no_entries, one_entry}
+use Rattle.entry_codec.specs.Laws.{more_entries, no_entries, one_entry}
+use Rattle.entry_codec.proofs.Contents.{divided_entries, entries_of_entries}
 use Rattle.cgf_journal.specs.Fit.{AllFit}
 use Rattle.cgf_journal.specs.Judged.{IsJudged, IsJudgedEntry, IsJudgedMore, IsJudgedUpTo, IsUnfitIn}
 use Rattle.cgf_journal.specs.declared.judge.Judge.{Ghosts}
