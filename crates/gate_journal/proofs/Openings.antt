@@ -1,10 +1,9 @@
 -- What the steps of an opening make of its answer.
-use Rattle.std.proofs.Common.{◌≡◌, ◌≢◌, inl, inr, ⊎_elim, ◌⊎◌, ℕ, ◌+◌, ◌<◌, ◌≤◌, Bool, true, false, List, [], length, get_or, take, Result, Ok, Err, sym, ◌∙◌, ap, subst, arith}
+use Rattle.std.proofs.Common.{◌≡◌, ◌≢◌, inl, inr, ⊎_elim, ◌⊎◌, ℕ, ◌+◌, ◌<◌, ◌≤◌, Bool, true, false, List, [], length, take, Result, Ok, Err, sym, ◌∙◌, ap, subst, arith}
 use Rattle.std.specs.Prelude.{IsTrue, IfOk, IfErr}
 use Rattle.area_disk.specs.Disk.{Rose, counted}
 use Rattle.area_disk.specs.declared.area.Area.{Ghosts}
-use Rattle.gate_journal.specs.Agreeing.{same_not_starts}
-use Rattle.gate_journal.specs.Format.{open_gate, gate_at, Differs, IsBroken, IsForeign, Stands, Starts}
+use Rattle.gate_journal.specs.Format.{open_gate, gate_at, IsBroken, Stands, Starts}
 use Rattle.gate_journal.specs.Journal.{area_of, front_of, header_of, batches, IsSettled}
 use Rattle.gate_journal.specs.Making.{IsAnew, IsReadyWith}
 use Rattle.gate_journal.specs.Moments.{Told, Kept, Leaves, RoseUpTo}
@@ -17,7 +16,7 @@ use Rattle.gate_journal.specs.declared.faults.OpenFault.TheVariants.{Device, NoM
 use Rattle.gate_journal.specs.declared.journal.Front.TheVariants.{Draft, Founded}
 use Rattle.gate_journal.specs.declared.journal.Journal.{Journal}
 use Rattle.gate_journal.specs.declared.reading.Verdict.TheVariants.{Starts as Begins}
-use Rattle.gate_journal.proofs.Apart.{Stop, stop_of_broken, one_place, one_list, stands_front, broken_front}
+use Rattle.gate_journal.proofs.Apart.{Stop, stop_of_broken, one_place, one_list}
 use Rattle.gate_journal.proofs.Listing.{front_is}
 use Rattle.area_disk.specs.MomentLaws.{follow}
 use Rattle.gate_journal.proofs.Syncs.{sync_on}
@@ -32,13 +31,6 @@ pub shut_or_broken : (header : List ℕ) (long : length header ≡ 32) (gate : �
 shut_or_broken header long gate octets same low below inside shut at broken =
     let stop : Stop header octets gate (batches_below gate octets) = record { before = record { front = front_is header long gate octets same low below; small = below.small; inside = inside }; stops = λ opened. absurd (shut opened) } in
     shut (subst (λ n. gate_at octets n ≡ open_gate) (sym (one_place header long octets gate at (batches_below gate octets) broken.batches stop (stop_of_broken header long octets at broken))) broken.opened)
-
-pub stands_not_starts : (header : List ℕ) (long : length header ≡ 32) (begins : get_or header 0 0 ≡ 67) (octets : List ℕ) (bs : List (List ℕ)) → Stands header octets bs → Starts header octets → ⊥
-stands_not_starts header long begins octets bs stands = same_not_starts header long octets (stands_front header long octets bs stands) begins
-
-pub foreign_not_starts : (header : List ℕ) (long : length header ≡ 32) (begins : get_or header 0 0 ≡ 67) (octets : List ℕ) (at : ℕ) → IsForeign header octets at → Starts header octets → ⊥
-foreign_not_starts header long begins octets at foreign =
-    ⊎_elim (λ (d : Differs header octets at). d.begun) (λ b. same_not_starts header long octets (broken_front header long octets at b) begins) foreign
 
 module _ {A : Type 0} {g : Ghosts A} where
   -- a journal that was made anew

@@ -14,6 +14,7 @@ pub mod Reopening
 pub mod State
 -- laws of the format, for the layers above
 pub mod Agreeing
+pub mod Beginnings
 pub mod Places
 pub mod Spelling
 -- steps of proofs

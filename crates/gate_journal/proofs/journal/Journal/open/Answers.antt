@@ -1,5 +1,6 @@
 use Rattle.std.proofs.Common.{inl, ⊎_elim, ℕ, List, sym, ◌∙◌, ap, subst, arith}
 use Rattle.gate_journal.specs.Agreeing.{same_not_starts, same_not_differs, one_difference}
+use Rattle.gate_journal.specs.Beginnings.{foreign_not_starts, stands_not_starts}
 use Rattle.gate_journal.specs.Format.{header, Differs, IsBroken}
 use Rattle.gate_journal.specs.Moments.{Told}
 use Rattle.gate_journal.specs.Spelling.{length-header, first-header}
@@ -8,7 +9,7 @@ use Rattle.gate_journal.specs.declared.reading.Verdict.TheVariants.{Starts as Be
 use Rattle.gate_journal.specs.declared.faults.OpenFault.TheVariants.{NotOurs}
 use Rattle.gate_journal.proofs.Apart.{broken_front}
 use Rattle.gate_journal.proofs.Calm.{append_on, looked}
-use Rattle.gate_journal.proofs.Openings.{starts_of, stands_not_starts, foreign_not_starts, opened_anew, opened_same, rose_on, calls_behind, calls_made, calls_one, calls_few, leaves_unmade, planned_unmade}
+use Rattle.gate_journal.proofs.Openings.{starts_of, opened_anew, opened_same, rose_on, calls_behind, calls_made, calls_one, calls_few, leaves_unmade, planned_unmade}
 use Rattle.gate_journal.proofs.journal.Journal.open.Goals as goal
 
 pub returns-in-Ok-Starts-clause-ok : goal.returns-in-Ok-Starts-clause-ok
