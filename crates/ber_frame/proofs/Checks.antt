@@ -56,7 +56,7 @@ inner_goes_on value endless limit at v rest tag goes_on e =
     let there : at + (length (v ++ rest) - length rest) ≡ at + length v = omega (arith, length-append v rest) in
     rw (goes_on, e, there) refl
 
--- behind so many inner values the reading comes to what it comes to from there on
+-- after so many inner values the reading comes to what it comes to from there on
 inner_passes : (IsValue : List ℕ → Type 0) (value : Reader) → ReadsValues IsValue value → AreLong IsValue
     → (endless : Bool) (values : List (List ℕ)) (at : ℕ) (rest : List ℕ) → AllByRecursion (IsInner IsValue endless) values
     → (outcome : Result (List ℕ) BerFault) → ((limit : ℕ) → length rest < limit → inner_values_at value endless limit (at + length (concat values)) rest ≡ outcome)
@@ -153,11 +153,11 @@ all_cases : (tag : Tag) (outcome : Result (List ℕ) BerFault) → (outcome >>= 
 all_cases tag (Ok rest) = refl
 all_cases tag (Err fault) = refl
 
-behind_head : (levels at : ℕ) (octets : List ℕ) (tag : Tag) (size : Option ℕ) (head rest : List ℕ) → AfterHead octets tag size head rest
+reads_after_head : (levels at : ℕ) (octets : List ℕ) (tag : Tag) (size : Option ℕ) (head rest : List ℕ) → AfterHead octets tag size head rest
     → (outcome : Result (List ℕ) BerFault) → contents_at (value_at levels) at (at + length head) tag.constructed size rest ≡ outcome
     → value_at (suc levels) at octets ≡ tagged tag outcome
 unfolding value_at
-behind_head levels at octets tag size head rest h outcome e =
+reads_after_head levels at octets tag size head rest h outcome e =
     let from : at + (length octets - length rest) ≡ at + length head = omega (arith, ap length h.joined, length-append head rest) in
     rw (head_reads octets tag size head rest h, from, e) (all_cases tag outcome)
 
@@ -166,7 +166,7 @@ holds_read : (levels : ℕ) → ReadsValues (IsOneValue levels) (value_at levels
 holds_read levels reads at octets more tag h =
     let parts : octets ++ more ≡ h.head ++ (h.contents ++ more) = ap (λ (x : List ℕ). x ++ more) h.joined ∙ append_assoc h.head h.contents more in
     let after : AfterHead (octets ++ more) tag h.size h.head (h.contents ++ more) = record { joined = parts; is_head = h.is_head; is_allowed = is_allowed (IsOneValue levels) tag.constructed h.size h.contents h.is_contents } in
-    behind_head levels at (octets ++ more) tag h.size h.head (h.contents ++ more) after (rest_is more)
+    reads_after_head levels at (octets ++ more) tag h.size h.head (h.contents ++ more) after (rest_is more)
     (contents_read (IsOneValue levels) (value_at levels) reads (λ v it. value_long levels v it.0 it.1) at (at + length h.head) tag.constructed h.size h.contents more h.is_contents)
 
 value_reads : (levels : ℕ) → ReadsValues (IsOneValue levels) (value_at levels)
@@ -189,7 +189,7 @@ value_fails zero at octets fault (inl h) = head_wrong zero at octets h.0 h.1 ∙
 value_fails zero at octets fault (inr h) = deep_wrong at octets h.0 h.1 h.2 h.3 h.4 ∙ ap (λ (f : BerFault). Err f) (sym h.5)
 value_fails (suc levels) at octets fault (inl h) = head_wrong (suc levels) at octets h.0 h.1 ∙ ap (λ (f : BerFault). Err f) (sym h.2)
 value_fails (suc levels) at octets fault (inr h) =
-    behind_head levels at octets h.0 h.1 h.2 h.3 h.4 (Err fault)
+    reads_after_head levels at octets h.0 h.1 h.2 h.3 h.4 (Err fault)
     (contents_fail (IsOneValue levels) (ValueFails levels) (value_at levels) (value_reads levels) (λ v it. value_long levels v it.0 it.1) (value_fails levels)
     at (at + length h.2) h.0.constructed h.1 h.3 fault h.5)
 

@@ -216,7 +216,7 @@ long_length_too_big octets rest size e le =
     let top : capped (number_in 256 octets) ≡ 2 ^ 32 = omega (arith, e) in
     rw (le-ltb (length (octets ++ rest)) (length octets) there, take_at octets rest (length octets) refl, octets_number_is octets, top) refl
 
--- what is read behind a first octet from 81 to FE
+-- what is read after a first octet from 81 to FE
 long_form : (first : ℕ) (octets : List ℕ) → 128 < first → first < 255 → length_at (first ∷ octets) ≡ long_length (first - 128) octets
 unfolding length_at
 long_form first octets above below =

@@ -10,9 +10,9 @@ use Rattle.ber_frame.specs.Reading.{identifier_at, whole_tag, whole_identifier}
 use Rattle.ber_frame.proofs.Heads.{identifier_reads, identifier_fails, identifier_decide}
 use Rattle.ber_frame.proofs.Stops.{ok, err}
 
-behind : (tag : Tag) (count at : ℕ) (rest : List ℕ) → rest ≢ [] → count ≡ at + length rest → whole_tag count (Ok (tag, rest)) ≡ err (fault_at at Trailing)
-behind tag count at [] some e = absurd (some refl)
-behind tag count at (a ∷ rest) some e =
+trailing : (tag : Tag) (count at : ℕ) (rest : List ℕ) → rest ≢ [] → count ≡ at + length rest → whole_tag count (Ok (tag, rest)) ≡ err (fault_at at Trailing)
+trailing tag count at [] some e = absurd (some refl)
+trailing tag count at (a ∷ rest) some e =
     let place : count - length (a ∷ rest) ≡ at = omega (arith, e) in
     ap (λ (n : ℕ). err (fault_at n Trailing)) place
 
@@ -23,7 +23,7 @@ wrong_reads : (octets : List ℕ) (fault : BerFault) → IdentifierRefused octet
 wrong_reads octets fault (inl h) = ap (whole_tag (length octets)) (identifier_fails octets h.0 h.1) ∙ ap err (sym h.2)
 wrong_reads octets fault (inr h) =
     let read : identifier_at octets ≡ Ok (h.3.0, h.1) = identifier_reads octets h.3.0 h.1 (record { identifier = h.0; joined = h.2; is_identifier = h.3.1 }) in
-    ap (whole_tag (length octets)) read ∙ behind h.3.0 (length octets) (length h.0) h.1 h.4 (omega (arith, ap length h.2, length-append h.0 h.1)) ∙ ap err (sym h.5)
+    ap (whole_tag (length octets)) read ∙ trailing h.3.0 (length octets) (length h.0) h.1 h.4 (omega (arith, ap length h.2, length-append h.0 h.1)) ∙ ap err (sym h.5)
 
 data Judged (octets : List ℕ) : Type 0 where
   right : (tag : Tag) → IsIdentifier octets tag → Judged octets

@@ -97,18 +97,18 @@ abbrev pub HeadFault : ℕ → List ℕ → BerFault → Type 0
 HeadFault at octets fault = (kind : BerKind) × HeadFails octets kind × (fault ≡ fault_at at kind)
 
 -- They are right, and what follows them is wrong.
-abbrev pub BehindHead : List ℕ → (Tag → Option ℕ → List ℕ → List ℕ → Type 0) → Type 0
-BehindHead octets IsWrong =
+abbrev pub PastHead : List ℕ → (Tag → Option ℕ → List ℕ → List ℕ → Type 0) → Type 0
+PastHead octets IsWrong =
     (tag : Tag) × (size : Option ℕ) × (head : List ℕ) × (rest : List ℕ) × AfterHead octets tag size head rest × IsWrong tag size head rest
 
 -- The first fault of the value that begins at this place and has these octets before it up to the end of what encloses
 -- it, where values may lie at most `levels` deep.
 unfoldable pub ValueFails : ℕ → ℕ → List ℕ → BerFault → Type 0
 ValueFails zero at octets fault =
-    HeadFault at octets fault ⊎ BehindHead octets (λ tag size head rest. fault ≡ fault_at at TooDeep)
+    HeadFault at octets fault ⊎ PastHead octets (λ tag size head rest. fault ≡ fault_at at TooDeep)
 ValueFails (suc levels) at octets fault =
     HeadFault at octets fault
-    ⊎ BehindHead octets (λ tag size head rest.
+    ⊎ PastHead octets (λ tag size head rest.
     ContentsFail (IsOneValue levels) (ValueFails levels) at (at + length head) tag.constructed size rest fault)
 
 -- octets follow what stands in front and is right

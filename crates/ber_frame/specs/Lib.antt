@@ -1,7 +1,9 @@
+-- what public clauses cite
 pub mod Head
 pub mod Value
 pub mod Faults
-pub mod Reading
 pub mod Checked
+-- steps of proofs; of `Reading`, `checked` uses the head that is read
+pub mod Reading
 pub mod Walk
 pub mod State

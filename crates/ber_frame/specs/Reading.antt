@@ -1,4 +1,5 @@
 -- Reading identifier and length from left to right: what stands in front, and the octets after it.
+-- A step of proofs: of it public contracts see no more than the head that `checked` reads.
 use Rattle.std.specs.Prelude.{◌≡◌, ℕ, ◌+◌, ◌*◌, ◌-◌, ◌%◌, ◌^◌, Bool, true, false, List, [], ◌∷◌, length, take, drop, fold, min, Option, Some, None, Result, Ok, Err, nat_lt, ◌==◌, if◌then◌else◌}
 use Rattle.gw_base.specs.declared.tag.Tag.{Tag}
 use Rattle.ber_frame.specs.declared.fault.BerKind.{BerKind}
@@ -19,7 +20,7 @@ capped number = min number (2 ^ 32)
 abbrev pub next_digit : ℕ → ℕ → ℕ → ℕ
 next_digit base high digit = capped (high * base + digit)
 
--- the tag number in base 128 behind a front that spells `high`
+-- the tag number in base 128 after a front that spells `high`
 unfoldable pub groups_at : ℕ → List ℕ → Option (ℕ × List ℕ)
 groups_at high [] = None
 groups_at high (octet ∷ octets) =

@@ -1,4 +1,5 @@
 -- What the fields of a walk mean.
+-- A step of proofs: no public contract cites it.
 use Rattle.std.specs.Prelude.{◌≡◌, ◌+◌, ◌<◌, ◌≤◌, ◌^◌, length, drop, map}
 use Rattle.ber_frame.specs.declared.walk.Level.{Level}
 use Rattle.ber_frame.specs.declared.walk.Walk.TheInside.{Inside}

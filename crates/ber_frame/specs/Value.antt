@@ -13,7 +13,7 @@ begins_with_end (zero ∷ suc b ∷ octets) = false
 begins_with_end (suc a ∷ b ∷ octets) = false
 
 -- Whether the inner values are over before these octets. Those of a definite length fill the contents exactly, and
--- behind those of an endless one 00 00 stands in the place of a value (clause 8.1.5).
+-- after those of an endless one 00 00 stands in the place of a value (clause 8.1.5).
 abbrev pub are_over : Bool → List ℕ → Bool
 are_over false [] = true
 are_over false (octet ∷ octets) = false
@@ -24,7 +24,7 @@ abbrev pub IsInner : (List ℕ → Type 0) → Bool → List ℕ → Type 0
 IsInner IsValue endless octets = IsValue octets × (are_over endless octets ≡ false)
 
 -- The contents of a value: of a primitive one any octets, as many as the length says; of a constructed one values, one
--- after the other, as many octets in all as the length says, or, where the length is indefinite, with 00 00 behind them.
+-- after the other, as many octets in all as the length says, or, where the length is indefinite, with 00 00 after them.
 -- A primitive value has no indefinite length (clauses 8.1.3.2, 8.1.3.6 and 8.1.4).
 abbrev pub IsContents : (List ℕ → Type 0) → Bool → Option ℕ → List ℕ → Type 0
 IsContents IsValue false (Some size) octets = length octets ≡ size

@@ -1,4 +1,5 @@
 -- The walk through a value: where it stands, and one step of it.
+-- A step of proofs: no public contract cites it.
 use Rattle.std.specs.Prelude.{◌≡◌, ℕ, zero, suc, ◌+◌, ◌-◌, ◌*◌, Bool, true, false, List, [], ◌∷◌, length, take, drop, Option, Some, None, Result, Ok, Err, nat_lt, if◌then◌else◌}
 use Rattle.gw_base.specs.declared.tag.Tag.{Tag}
 use Rattle.ber_frame.specs.declared.fault.BerFault.{BerFault}
@@ -29,14 +30,14 @@ abbrev pub open_with : Bool → List ℕ → Opened
 open_with endless after = record { endless = endless; after = after }
 
 -- how many octets the walk has before it
-abbrev pub octets_behind : List Opened → ℕ
-octets_behind [] = 0
-octets_behind (o ∷ opened) = length o.after + octets_behind opened
+abbrev pub octets_later : List Opened → ℕ
+octets_later [] = 0
+octets_later (o ∷ opened) = length o.after + octets_later opened
 
 abbrev pub octets_left : Place → ℕ
-octets_left p = length p.window + octets_behind p.opened
+octets_left p = length p.window + octets_later p.opened
 
--- the place at the beginning of the contents, or behind them where they aren't values
+-- the place at the beginning of the contents, or after them where they aren't values
 abbrev pub at_contents : ℕ → ℕ → List ℕ → List Opened → Bool → Option ℕ → Result Place BerFault
 at_contents start from rest opened constructed None = Ok (place from rest (open_with true [] ∷ opened))
 at_contents start from rest opened true (Some size) =
@@ -60,7 +61,7 @@ after_head p (Ok h) =
 unfoldable pub entered : Place → Result (Tag × Place) BerFault
 entered p = after_head p (head_at p.window)
 
--- the place behind the innermost value
+-- the place after the innermost value
 abbrev pub closed : Place → Opened → List Opened → Place
 closed p o outer = if o.endless then place (p.at + 2) (drop 2 p.window) outer else place p.at o.after outer
 

@@ -1,8 +1,8 @@
 //! Laws of the definitions that [`check`](crate::check) cites, for all octets.
 
-ghost use Rattle.std.specs.Prelude.{◌≡◌, ◌↔◌, ◌<◌, ℕ, List, All, Ok, Err, true};
+ghost use Rattle.std.specs.Prelude.{◌≡◌, ◌↔◌, ◌<◌, ℕ, List, All, Ok, Err, Some, true};
 ghost use Rattle.gw_base.specs.declared.tag.Tag.{Tag};
-ghost use Rattle.ber_frame.specs.Checked.{checked, is_one_value};
+ghost use Rattle.ber_frame.specs.Checked.{checked, is_one_value, outer_tag};
 ghost use Rattle.ber_frame.specs.Faults.{BerFails};
 ghost use Rattle.ber_frame.specs.Value.{BerValue, IsOneValue};
 ghost use Rattle.ber_frame.specs.declared.fault.BerFault.{BerFault};
@@ -23,4 +23,10 @@ pub fn what_fails_is_told()
 pub fn one_value_is_told()
     ensures { (octets : List ℕ) → All (λ octet. octet < 256) octets →
         (is_one_value octets ≡ true) ↔ IsOneValue 32 octets }
+{}
+
+/// The outer tag is told exactly where octets are one value with this tag.
+pub fn outer_tag_is_of_the_value()
+    ensures { (octets : List ℕ) (tag : Tag) → All (λ octet. octet < 256) octets →
+        (outer_tag octets ≡ Some tag) ↔ BerValue 32 octets tag }
 {}

@@ -2,7 +2,7 @@
 
 ghost use Rattle.std.specs.Prelude.{◌≡◌, ◌↔◌, ◌<◌, ◌+◌, ◌^◌, ◌∷◌, [], length, IsTrue, OnOk};
 ghost use Rattle.ber_frame.specs.Value.{are_over};
-ghost use Rattle.ber_frame.specs.Walk.{place, open_with, Enters, Steps, octets_behind, steps_left};
+ghost use Rattle.ber_frame.specs.Walk.{place, open_with, Enters, Steps, octets_later, steps_left};
 
 use crate::fault::{BerFault, BerKind};
 use crate::head::head;
@@ -85,7 +85,7 @@ impl<'a> Walk<'a> {
     /// Enters a value whose contents, values again, begin here.
     fn descend(&mut self, at: usize, contents: &'a [u8], endless: bool, after: &'a [u8])
         requires room { length self.old.opened < 32 }
-        requires bounds { at + length contents.now + length after.now + octets_behind self.old.opened
+        requires bounds { at + length contents.now + length after.now + octets_later self.old.opened
             < 2 ^ 63 }
         ensures { self.new ≡ place at contents.now (open_with endless after.now ∷ self.old.opened) }
     {

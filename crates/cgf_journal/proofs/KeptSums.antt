@@ -8,7 +8,7 @@ use Rattle.gw_base.specs.declared.history.HistoryAct.{HistoryAct}
 use Rattle.gw_base.specs.declared.history.HistoryAct.TheVariants.{Start, Path, File, Hold, Seal, Release, Cancel, Tick, Close}
 use Rattle.gw_base.specs.declared.history.HistoryEntry.{HistoryEntry}
 use Rattle.gw_base.specs.HeldKeys.{held_by}
-use Rattle.gw_base.specs.History.{due_behind}
+use Rattle.gw_base.specs.History.{due_after}
 use Rattle.gw_base.specs.View.{stays_held}
 use Rattle.entry_codec.specs.Room.{capacity_of}
 use Rattle.entry_codec.specs.Spelling.{cost_of}
@@ -71,7 +71,7 @@ one_at_most Close = omega arith
 
 -- the costs and promises behind an entry where so many keys are held
 abbrev load : Sum → HistoryEntry → ℕ → ℕ
-load sum e held = sum.costs + cost_of e + (76 * held + (if due_behind sum.is_close_due e.act then 30 else 0))
+load sum e held = sum.costs + cost_of e + (76 * held + (if due_after sum.is_close_due e.act then 30 else 0))
 
 abbrev staying : Bool → List KeptKey → HistoryAct → ℕ
 staying b keys act = count_by (λ (kept : KeptKey). counts b kept && stays_held act (key_of kept)) keys

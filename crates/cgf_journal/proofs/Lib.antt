@@ -1,5 +1,7 @@
 pub mod Entries
+pub mod Fitting
 pub mod Founding
+pub mod Verdicts
 pub mod KeptKeys
 pub mod KeptSums
 pub mod Listings

@@ -10,7 +10,7 @@ use Rattle.gw_base.specs.declared.place.Place.{Place}
 use Rattle.gate_journal.specs.Format.{taken}
 use Rattle.entry_codec.specs.Content.{IsContent, entries_of, spelled}
 use Rattle.entry_codec.specs.Spelling.{entry_length, spelling}
-use Rattle.entry_codec.proofs.Entries.{length_of_spelling}
+use Rattle.entry_codec.specs.Laws.{length_of_spelling}
 use Rattle.cgf_journal.specs.Format.{entries_in}
 use Rattle.cgf_journal.specs.Sound.{EndsBy, places_behind, places_from}
 

@@ -7,7 +7,7 @@ use Rattle.gw_base.specs.View.{HistoryView}
 use Rattle.gw_base.proofs.ViewLemmas.{view_of-append}
 use Rattle.entry_codec.specs.Room.{capacity_of, costs_of, has_room}
 use Rattle.entry_codec.specs.Spelling.{cost_of}
-use Rattle.entry_codec.proofs.Contents.{costs_of-append}
+use Rattle.entry_codec.specs.Laws.{costs_of-append}
 use Rattle.cgf_journal.specs.Tally.{TallyValue, free_beside, has_room_behind, promised_by, tally_behind, tally_behind_all, tally_of}
 
 -- what a view tells of a tally

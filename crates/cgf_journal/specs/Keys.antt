@@ -3,7 +3,7 @@ use Rattle.std.specs.Prelude.{◌+◌, ◌&&◌, Bool, true, false, if◌then◌
 use Rattle.gw_base.specs.declared.held.HeldKey.{HeldKey}
 use Rattle.gw_base.specs.declared.history.HistoryAct.{HistoryAct}
 use Rattle.gw_base.specs.declared.history.HistoryEntry.{HistoryEntry}
-use Rattle.gw_base.specs.History.{due_behind}
+use Rattle.gw_base.specs.History.{due_after}
 use Rattle.gw_base.specs.View.{stays_held}
 use Rattle.entry_codec.specs.Spelling.{cost_of}
 use Rattle.cgf_journal.specs.Tally.{TallyValue}
@@ -37,7 +37,7 @@ held_key kept = record kept { is_firm = true; is_live = true }
 
 -- a sum behind one more entry
 abbrev pub sum_behind : Sum → HistoryEntry → Sum
-sum_behind sum e = record { costs = sum.costs + cost_of e; is_close_due = due_behind sum.is_close_due e.act }
+sum_behind sum e = record { costs = sum.costs + cost_of e; is_close_due = due_after sum.is_close_due e.act }
 
 -- what keys and a sum tell of the firm entries, and of all
 abbrev pub firm_tally : List KeptKey → Sum → TallyValue

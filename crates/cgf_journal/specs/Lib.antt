@@ -1,8 +1,14 @@
-pub mod Contents
+-- What public clauses cite.
+pub mod Fit
 pub mod Follows
 pub mod Format
+pub mod Outcomes
+pub mod Results
+pub mod Trail
+-- Steps of proofs, and private clauses.
+pub mod Contents
+pub mod Judged
 pub mod Keys
 pub mod Opening
 pub mod Sound
 pub mod Tally
-pub mod Trail

@@ -3,7 +3,7 @@ use Rattle.std.specs.Prelude.{ℕ, ◌+◌, ◌-◌, ◌*◌, Bool, nat_le, if�
 use Rattle.gw_base.specs.declared.held.HeldKey.{HeldKey}
 use Rattle.gw_base.specs.declared.history.HistoryEntry.{HistoryEntry}
 use Rattle.gw_base.specs.HeldKeys.{held_by, held_keys}
-use Rattle.gw_base.specs.History.{due_behind, is_close_due}
+use Rattle.gw_base.specs.History.{due_after, is_close_due}
 use Rattle.gw_base.specs.View.{stays_held}
 use Rattle.entry_codec.specs.Room.{capacity_of, costs_of}
 use Rattle.entry_codec.specs.Spelling.{cost_of}
@@ -23,7 +23,7 @@ abbrev pub tally_behind : TallyValue → HistoryEntry → TallyValue
 tally_behind t e = record {
   costs = t.costs + cost_of e;
   held = filter (λ key. stays_held e.act key) t.held ++ held_by e.act [];
-  is_close_due = due_behind t.is_close_due e.act;
+  is_close_due = due_after t.is_close_due e.act;
 }
 
 -- the tally behind these entries

@@ -3,7 +3,7 @@ ghost use Rattle.std.specs.Prelude.{◌≡◌, ◌==◌, ◌+◌, ◌&&◌, ◌<
 ghost use Rattle.std.specs.List.{list_any};
 ghost use Rattle.gw_base.specs.Entry.{act_view, entry_view};
 ghost use Rattle.gw_base.specs.HeldKeys.{held_by};
-ghost use Rattle.gw_base.specs.History.{begins_epoch, due_behind, names};
+ghost use Rattle.gw_base.specs.History.{begins_epoch, due_after, names};
 ghost use Rattle.gw_base.specs.View.{stays_held};
 ghost use Rattle.entry_codec.specs.Spelling.{cost_of};
 ghost use Rattle.cgf_journal.specs.Keys.{counted_keys, counts, held_key, key_behind, key_of, sum_behind};
@@ -116,8 +116,8 @@ pub(crate) fn stays_held(act: &Act<'_>, key: HeldKey) -> bool
 }
 
 /// Whether a Close is due behind an entry, by whether it was due before.
-pub(crate) fn due_behind(due: bool, act: &Act<'_>) -> bool
-    ensures { result ≡ due_behind due (act_view act.now) }
+pub(crate) fn due_after(due: bool, act: &Act<'_>) -> bool
+    ensures { result ≡ due_after due (act_view act.now) }
 {
     match act {
         Act::File { .. } | Act::Release { .. } => true,
@@ -148,7 +148,7 @@ impl Sum {
     {
         Sum {
             costs: self.costs + cost(entry),
-            is_close_due: due_behind(self.is_close_due, &entry.act),
+            is_close_due: due_after(self.is_close_due, &entry.act),
         }
     }
 }

@@ -4,7 +4,7 @@ ghost use Rattle.entry_codec.specs.Room.{capacity_of};
 ghost use Rattle.entry_codec.specs.Spelling.{cost_of};
 ghost use Rattle.cgf_journal.specs.Tally.{free_beside, has_room_behind, tally_behind, tally_of};
 
-use crate::key::{KeptKey, Sum, add_key, count_added, count_held, count_staying, due_behind, keep};
+use crate::key::{KeptKey, Sum, add_key, count_added, count_held, count_staying, due_after, keep};
 use entry_codec::cost;
 use gw_base::{Entry, NoMemory};
 use std::alloc::Global;
@@ -86,7 +86,7 @@ impl Tally {
         ensures { result ≡ has_room_behind (if behind_firm then self.now.firm else self.now.live) (entry_view entry.now) size }
     {
         let sum = Sum::of(behind_firm, self.firm, self.live);
-        let due = due_behind(sum.is_close_due, &entry.act);
+        let due = due_after(sum.is_close_due, &entry.act);
         let cost = cost(entry);
         // Where there is room even if each key stays held, none is looked at.
         if fits(sum.costs, cost, self.keys.len() as u64, 1, due, size) {
@@ -104,6 +104,13 @@ impl Tally {
         let held = count_held(&self.keys, behind_firm);
         let taken = u128::from(sum.costs) + promised(held, 0, sum.is_close_due);
         capacity(size).saturating_sub(taken) as u64
+    }
+
+    /// What the firm entries cost.
+    pub(crate) fn firm_costs(&self) -> u64
+        ensures { result ≡ self.now.firm.costs }
+    {
+        self.firm.costs
     }
 
     /// What all entries cost.

@@ -2,7 +2,7 @@
 use Rattle.std.proofs.Common.{◌≡◌, ℕ, ◌<◌, ◌^◌, Bool, true, false, ◌==◌, ◌&&◌, nat_le, nat_lt, if◌then◌else◌, List, [], ◌∷◌, ◌++◌, map, Option, Some, None, IfSome, is_none, refl, ap, sym, ◌∙◌, subst, arith}
 use Rattle.gtpp_message.specs.Message.{TransferValue, Send, Possible, Cancel, Release}
 use Rattle.gtpp_message.specs.Packet.{packet_octets}
-use Rattle.gw_base.specs.History.{raised, top_entry, top_from, top_of}
+use Rattle.gw_base.specs.History.{raised, top_after, top_from, top_of}
 use Rattle.gw_base.specs.declared.address.NodeId.{NodeId}
 use Rattle.gw_base.specs.declared.history.HistoryAct.{HistoryAct}
 use Rattle.gw_base.specs.declared.history.HistoryAct.TheVariants as act
@@ -31,9 +31,9 @@ pub bounded_start : (now : ℕ) → IsBounded (with_act [] now (Some act.Start))
 bounded_start now node = tt
 
 -- the greatest number behind one more entry
-top_behind : (node : ℕ) (top : Option ℕ) (h : List HistoryEntry) (e : HistoryEntry) → top_from node top (h ++ e ∷ []) ≡ top_entry node (top_from node top h) e.act
+top_behind : (node : ℕ) (top : Option ℕ) (h : List HistoryEntry) (e : HistoryEntry) → top_from node top (h ++ e ∷ []) ≡ top_after node (top_from node top h) e.act
 top_behind node top [] e = refl
-top_behind node top (f ∷ h) e = top_behind node (top_entry node top f.act) h e
+top_behind node top (f ∷ h) e = top_behind node (top_after node top f.act) h e
 
 abbrev IsBelow : Option ℕ → Type 0
 IsBelow top = IfSome top (λ t. t < 2 ^ 63)
@@ -46,7 +46,7 @@ chosen_below : (b : Bool) (raise top : Option ℕ) → IsBelow raise → IsBelow
 chosen_below true raise top h k = h
 chosen_below false raise top h k = k
 
-small_top : (node : ℕ) (top : Option ℕ) (a : HistoryAct) → IsBelow top → IsSmall a → IsBelow (top_entry node top a)
+small_top : (node : ℕ) (top : Option ℕ) (a : HistoryAct) → IsBelow top → IsSmall a → IsBelow (top_after node top a)
 small_top node top act.Start h small = h
 small_top node top (act.Path n port counter) h small = chosen_below (n.0 == node) None top tt h
 small_top node top (act.File n x packet) h small = chosen_below (n.0 == node) (raised top x) top (raised_below top x h small) h

@@ -158,7 +158,7 @@ fn record(
     ensures err { OnErr result (history.new.items ≡ history.old.items) }
 {
     if let Some(act) = act {
-        let moment = scan::moment_behind(history, now);
+        let moment = scan::moment_after(history, now);
         let caller = Caller::NONE;
         history.push(HistoryEntry {
             moment,
@@ -264,7 +264,7 @@ fn print_gateway(
 {
     let entries = history.len();
     let records = filed.len();
-    let scan::Copies { held, stranded } = scan::count_copies(history);
+    let scan::Copies { held, stranded } = scan::copies_of(history);
     let line = format!(in alloc;
         "gateway 1 entries {entries} records {records} held {held} stranded {stranded}\n"
     )?;

@@ -12,7 +12,7 @@ use Rattle.gw_base.specs.declared.history.HistoryAct.{HistoryAct}
 use Rattle.gw_base.specs.declared.history.HistoryAct.TheVariants.{Cancel, Close, Release}
 use Rattle.gw_base.specs.declared.history.HistoryEntry.{HistoryEntry}
 use Rattle.gw_base.specs.HeldKeys.{held_by, held_keys, holds, is_key, promised_octets}
-use Rattle.gw_base.specs.History.{due_behind, is_close_due}
+use Rattle.gw_base.specs.History.{due_after, is_close_due}
 use Rattle.gw_base.specs.View.{stays_held}
 use Rattle.gw_base.proofs.ViewLemmas.{view_of-append}
 use Rattle.entry_codec.specs.LawTypes.{RoomIsOfTheAct}
@@ -100,8 +100,8 @@ released n (x ∷ xs) keys apart held =
 pub held_behind : (h : List HistoryEntry) (e : HistoryEntry) → held_keys (h ++ e ∷ []) ≡ filter (λ (key : HeldKey). stays_held e.act key) (held_keys h) ++ held_by e.act []
 held_behind h e = ap (λ v. v.held) (view_of-append h e)
 
-pub due_after : (h : List HistoryEntry) (e : HistoryEntry) → is_close_due (h ++ e ∷ []) ≡ due_behind (is_close_due h) e.act
-due_after h e = ap (λ v. v.is_close_due) (view_of-append h e)
+pub due_goes_on : (h : List HistoryEntry) (e : HistoryEntry) → is_close_due (h ++ e ∷ []) ≡ due_after (is_close_due h) e.act
+due_goes_on h e = ap (λ v. v.is_close_due) (view_of-append h e)
 
 due_at_most : (b : Bool) → (if b then 30 else 0) ≤ 30
 due_at_most true = omega arith
@@ -111,10 +111,10 @@ due_at_most false = omega arith
 
 -- what an act and what stands before it leave of a history's promises
 abbrev promised_after : List HistoryEntry → HistoryAct → ℕ
-promised_after h act = 76 * length (filter (λ (key : HeldKey). stays_held act key) (held_keys h) ++ held_by act []) + (if due_behind (is_close_due h) act then 30 else 0)
+promised_after h act = 76 * length (filter (λ (key : HeldKey). stays_held act key) (held_keys h) ++ held_by act []) + (if due_after (is_close_due h) act then 30 else 0)
 
 promises_are : (h : List HistoryEntry) (e : HistoryEntry) → promised_octets (h ++ e ∷ []) ≡ promised_after h e.act
-promises_are h e = λ i. 76 * length (held_behind h e i) + (if due_after h e i then 30 else 0)
+promises_are h e = λ i. 76 * length (held_behind h e i) + (if due_goes_on h e i then 30 else 0)
 
 pub same_room : RoomIsOfTheAct
 same_room h a b size same =
@@ -135,7 +135,7 @@ due_close h moment caller size within due =
     let before : promised_octets h ≡ 76 * length (held_keys h) + 30 = rw due refl in
     let keys : length (held_keys (h ++ e ∷ [])) ≡ length (filter (λ (key : HeldKey). stays_held Close key) (held_keys h)) =
     ap (λ (l : List HeldKey). length l) (held_behind h e ∙ append-nil (filter (λ (key : HeldKey). stays_held Close key) (held_keys h))) in
-    let after : promised_octets (h ++ e ∷ []) ≡ 76 * length (held_keys (h ++ e ∷ [])) = rw (due_after h e) (omega arith) in
+    let after : promised_octets (h ++ e ∷ []) ≡ 76 * length (held_keys (h ++ e ∷ [])) = rw (due_goes_on h e) (omega arith) in
     le-leb (costs_of h + cost_of e + promised_octets (h ++ e ∷ [])) (capacity_of size)
     (omega (arith, within, before, after, keys, length-filter-le (λ (key : HeldKey). stays_held Close key) (held_keys h)))
 

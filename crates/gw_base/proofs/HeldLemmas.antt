@@ -24,16 +24,16 @@ more_by_fate fate.Held n x keys copies h = omega arith
 more_by_fate fate.Stranded n x keys copies h = h
 more_by_fate fate.Settled n x keys copies h = h
 
-more_by_entry : (act : HistoryAct) (behind : List HistoryEntry) (keys : List HeldKey) (copies : Copies) → length keys ≡ copies.held → length (held_by act behind ++ keys) ≡ (with_entry act behind copies).held
-more_by_entry (Hold n x packet) behind keys copies h = more_by_fate (fate_of n.0 x behind) n x keys copies h
-more_by_entry Start behind keys copies h = h
-more_by_entry (Path n port counter) behind keys copies h = h
-more_by_entry (File n x packet) behind keys copies h = h
-more_by_entry (Seal n x) behind keys copies h = h
-more_by_entry (Release n xs) behind keys copies h = h
-more_by_entry (Cancel n xs) behind keys copies h = h
-more_by_entry Tick behind keys copies h = h
-more_by_entry Close behind keys copies h = h
+more_by_entry : (act : HistoryAct) (later : List HistoryEntry) (keys : List HeldKey) (copies : Copies) → length keys ≡ copies.held → length (held_by act later ++ keys) ≡ (with_entry act later copies).held
+more_by_entry (Hold n x packet) later keys copies h = more_by_fate (fate_of n.0 x later) n x keys copies h
+more_by_entry Start later keys copies h = h
+more_by_entry (Path n port counter) later keys copies h = h
+more_by_entry (File n x packet) later keys copies h = h
+more_by_entry (Seal n x) later keys copies h = h
+more_by_entry (Release n xs) later keys copies h = h
+more_by_entry (Cancel n xs) later keys copies h = h
+more_by_entry Tick later keys copies h = h
+more_by_entry Close later keys copies h = h
 
 pub length-held_keys : (h : List HistoryEntry) → length (held_keys h) ≡ (copies_of h).held
 length-held_keys [] = refl
@@ -46,16 +46,16 @@ one_by_fate fate.Held n x = omega arith
 one_by_fate fate.Stranded n x = omega arith
 one_by_fate fate.Settled n x = omega arith
 
-one_by_entry : (act : HistoryAct) (behind : List HistoryEntry) → length (held_by act behind) ≤ 1
-one_by_entry (Hold n x packet) behind = one_by_fate (fate_of n.0 x behind) n x
-one_by_entry Start behind = omega arith
-one_by_entry (Path n port counter) behind = omega arith
-one_by_entry (File n x packet) behind = omega arith
-one_by_entry (Seal n x) behind = omega arith
-one_by_entry (Release n xs) behind = omega arith
-one_by_entry (Cancel n xs) behind = omega arith
-one_by_entry Tick behind = omega arith
-one_by_entry Close behind = omega arith
+one_by_entry : (act : HistoryAct) (later : List HistoryEntry) → length (held_by act later) ≤ 1
+one_by_entry (Hold n x packet) later = one_by_fate (fate_of n.0 x later) n x
+one_by_entry Start later = omega arith
+one_by_entry (Path n port counter) later = omega arith
+one_by_entry (File n x packet) later = omega arith
+one_by_entry (Seal n x) later = omega arith
+one_by_entry (Release n xs) later = omega arith
+one_by_entry (Cancel n xs) later = omega arith
+one_by_entry Tick later = omega arith
+one_by_entry Close later = omega arith
 
 -- ---- the same as the state says
 
@@ -110,7 +110,7 @@ same_fate h m x node number true true p q = rw (eqb-true m node p, eqb-true x nu
 same_fate h m x node number true false p q = refl
 same_fate h m x node number false b p q = refl
 
--- what an entry holds is what it names, where it makes it Held and what is behind keeps it
+-- what an entry holds is what it names, where it makes it Held and what follows keeps it
 held_by_is : (act : HistoryAct) (h : List HistoryEntry) (node number : ℕ) → holds node number (held_by act h) ≡ (names node number act && (is_held (given_state act) && is_kept (fate_of node number h)))
 held_by_is (Hold n x packet) h node number = held_if_is (fate_of n.0 x h) n x node number ∙ same_fate h n.0 x node number (n.0 == node) (x == number) refl refl
 held_by_is Start h node number = refl
@@ -134,8 +134,8 @@ EndsAsHeld node number epoch h k s = epoch ≡ epoch_of node.0 h + k → (0 < ep
     → is_held (scan_from (key_of node epoch number) (scan_at k s) h).state ≡ (holds node.0 number (held_keys h) || (is_held s && is_kept (fate_of node.0 number h)))
 
 -- one more entry in front, by its tests
-abbrev EndsBehind : NodeId → ℕ → ℕ → List HistoryEntry → ℕ → KeyState → KeyState → Bool → Bool → Bool → Type 0
-EndsBehind node number epoch h k s given begins named held =
+abbrev EndsAfter : NodeId → ℕ → ℕ → List HistoryEntry → ℕ → KeyState → KeyState → Bool → Bool → Bool → Type 0
+EndsAfter node number epoch h k s given begins named held =
     is_held (scan_from (key_of node epoch number) (scan_at ((if begins then 1 else 0) + k) (if (k == epoch) && named then given else s)) h).state
     ≡ ((held || holds node.0 number (held_keys h)) || (is_held s && is_kept (if begins then fate.Stranded else (if named then fate.Settled else fate_of node.0 number h))))
 
@@ -145,30 +145,30 @@ or_swapped true false c = refl
 or_swapped false true c = refl
 or_swapped false false c = sym (and_false c)
 
-behind : (node : NodeId) (number epoch : ℕ) (h : List HistoryEntry) (k : ℕ) (s given : KeyState) (begins named same : Bool)
+entry_ends : (node : NodeId) (number epoch : ℕ) (h : List HistoryEntry) (k : ℕ) (s given : KeyState) (begins named same : Bool)
     → ((j : ℕ) (t : KeyState) → EndsAsHeld node number epoch h j t)
     → (k == epoch) ≡ same → epoch ≡ ((if begins then 1 else 0) + epoch_of node.0 h) + k → (0 < (if begins then 1 else 0) + epoch_of node.0 h → is_held s ≡ false)
     → (begins ≡ true → named ≡ false)
-    → EndsBehind node number epoch h k s given begins named (named && (is_held given && is_kept (fate_of node.0 number h)))
-behind node number epoch h k s given true true same ih is at fresh not_named = absurd (let e = not_named refl in cc)
-behind node number epoch h k s given true false same ih is at fresh not_named =
+    → EndsAfter node number epoch h k s given begins named (named && (is_held given && is_kept (fate_of node.0 number h)))
+entry_ends node number epoch h k s given true true same ih is at fresh not_named = absurd (let e = not_named refl in cc)
+entry_ends node number epoch h k s given true false same ih is at fresh not_named =
     let unheld : is_held s ≡ false = fresh (omega arith) in
     rw (is, and_false same) (ih (1 + k) s (omega arith) (λ _. unheld) ∙ rw (unheld, or_false) refl)
-behind node number epoch h k s given false true true ih is at fresh not_named =
+entry_ends node number epoch h k s given false true true ih is at fresh not_named =
     let here : k ≡ epoch = eqb-true k epoch is in
     rw is (ih (0 + k) given (omega arith) (λ lt. absurd (omega (arith, here, at, lt))) ∙ or_swapped (is_held given && is_kept (fate_of node.0 number h)) (holds node.0 number (held_keys h)) (is_held s))
-behind node number epoch h k s given false true false ih is at fresh not_named =
+entry_ends node number epoch h k s given false true false ih is at fresh not_named =
     let apart : k ≢ epoch = eqb-false k epoch is in
     let later : 0 < epoch_of node.0 h = omega (arith, apart, at) in
     let unheld : is_held s ≡ false = fresh (omega (arith, later)) in
     let left : is_kept (fate_of node.0 number h) ≡ false = kept_epoch h node.0 number later in
     rw (is, left, and_false (is_held given)) (ih (0 + k) s (omega arith) (λ lt. unheld) ∙ rw (unheld, or_false) refl)
-behind node number epoch h k s given false false same ih is at fresh not_named = rw (is, and_false same) (ih (0 + k) s (omega arith) (λ lt. fresh (omega (arith, lt))))
+entry_ends node number epoch h k s given false false same ih is at fresh not_named = rw (is, and_false same) (ih (0 + k) s (omega arith) (λ lt. fresh (omega (arith, lt))))
 
 pub ends_as_held : (node : NodeId) (number epoch : ℕ) (h : List HistoryEntry) (k : ℕ) (s : KeyState) → EndsAsHeld node number epoch h k s
 ends_as_held node number epoch [] k s at fresh = sym (and_true (is_held s))
 ends_as_held node number epoch (e ∷ h) k s at fresh =
-    rw (list_any-append (λ (key : HeldKey). is_key node.0 number key) (held_by e.act h) (held_keys h), held_by_is e.act h node.0 number) (behind node number epoch h k s (given_state e.act) (begins_epoch node.0 e.act) (names node.0 number e.act) (k == epoch) (λ j t. ends_as_held node number epoch h j t) refl at fresh (begins_names_none e.act node.0 number))
+    rw (list_any-append (λ (key : HeldKey). is_key node.0 number key) (held_by e.act h) (held_keys h), held_by_is e.act h node.0 number) (entry_ends node number epoch h k s (given_state e.act) (begins_epoch node.0 e.act) (names node.0 number e.act) (k == epoch) (λ j t. ends_as_held node number epoch h j t) refl at fresh (begins_names_none e.act node.0 number))
 
 pub state_is_held : (node : NodeId) (number : ℕ) (h : List HistoryEntry) → holds node.0 number (held_keys h) ≡ is_held (state_of (key_of node (epoch_of node.0 h) number) h)
 state_is_held node number h = sym (ends_as_held node number (epoch_of node.0 h) h 0 Fresh (omega arith) (λ lt. refl) ∙ or_false (holds node.0 number (held_keys h)))

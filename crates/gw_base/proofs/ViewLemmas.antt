@@ -1,4 +1,4 @@
--- What one more entry behind a history changes.
+-- What one more entry after a history changes.
 use Rattle.std.proofs.Common.{◌≡◌, ℕ, ◌+◌, ◌-◌, ◌&&◌, Bool, true, false, not, if◌then◌else◌, List, [], ◌∷◌, ◌++◌, length, length-append, Option, Some, None, refl, sym, ap, ◌∙◌, append_assoc, arith, slice_get, filter, count_by}
 use Rattle.std.proofs.lemmas.List.{append-nil}
 use Rattle.std.proofs.lemmas.List.Elements.{filter-append}
@@ -14,37 +14,37 @@ use Rattle.gw_base.specs.declared.scan.HoldFate.{HoldFate}
 use Rattle.gw_base.specs.declared.scan.HoldFate.TheVariants as fate
 use Rattle.gw_base.specs.declared.scan.KeyScan.{KeyScan}
 use Rattle.gw_base.specs.HeldKeys.{held_by, held_if, held_keys}
-use Rattle.gw_base.specs.History.{begins_epoch, copies_of, due_behind, due_from, epoch_of, fate_of, last_moment, names, scan_entry, scan_from, top_entry, top_from, with_entry, with_fate}
+use Rattle.gw_base.specs.History.{begins_epoch, copies_of, due_after, due_from, epoch_of, fate_of, last_moment, names, scan_after, scan_from, top_after, top_from, with_entry, with_fate}
 use Rattle.gw_base.specs.Known.{known_from, named_node, with_node}
-use Rattle.gw_base.specs.Starts.{is_start, opening_behind, opening_from, start_count}
-use Rattle.gw_base.specs.TickDue.{tick_behind, tick_from}
-use Rattle.gw_base.specs.View.{node_view_behind, node_view_of, stays_held, strands, view_behind, view_of}
+use Rattle.gw_base.specs.Starts.{is_start, opening_after, opening_from, start_count}
+use Rattle.gw_base.specs.TickDue.{tick_after, tick_from}
+use Rattle.gw_base.specs.View.{node_view_after, node_view_of, stays_held, strands, view_after, view_of}
 
 -- ---- scans from the front
 
-pub scan_from-append : (key : PacketKey) (s : KeyScan) (h : List HistoryEntry) (e : HistoryEntry) → scan_from key s (h ++ e ∷ []) ≡ scan_entry key (scan_from key s h) e.act
+pub scan_from-append : (key : PacketKey) (s : KeyScan) (h : List HistoryEntry) (e : HistoryEntry) → scan_from key s (h ++ e ∷ []) ≡ scan_after key (scan_from key s h) e.act
 scan_from-append key s [] e = refl
-scan_from-append key s (d ∷ h) e = scan_from-append key (scan_entry key s d.act) h e
+scan_from-append key s (d ∷ h) e = scan_from-append key (scan_after key s d.act) h e
 
 known_from-append : (known : List NodeId) (h : List HistoryEntry) (e : HistoryEntry) → known_from known (h ++ e ∷ []) ≡ with_node (known_from known h) (named_node e.act)
 known_from-append known [] e = refl
 known_from-append known (d ∷ h) e = known_from-append (with_node known (named_node d.act)) h e
 
-due_from-append : (due : Bool) (h : List HistoryEntry) (e : HistoryEntry) → due_from due (h ++ e ∷ []) ≡ due_behind (due_from due h) e.act
+due_from-append : (due : Bool) (h : List HistoryEntry) (e : HistoryEntry) → due_from due (h ++ e ∷ []) ≡ due_after (due_from due h) e.act
 due_from-append due [] e = refl
-due_from-append due (d ∷ h) e = due_from-append (due_behind due d.act) h e
+due_from-append due (d ∷ h) e = due_from-append (due_after due d.act) h e
 
-tick_from-append : (last : Option ℕ) (h : List HistoryEntry) (e : HistoryEntry) → tick_from last (h ++ e ∷ []) ≡ tick_behind (tick_from last h) e.act e.moment
+tick_from-append : (last : Option ℕ) (h : List HistoryEntry) (e : HistoryEntry) → tick_from last (h ++ e ∷ []) ≡ tick_after (tick_from last h) e.act e.moment
 tick_from-append last [] e = refl
-tick_from-append last (d ∷ h) e = tick_from-append (tick_behind last d.act d.moment) h e
+tick_from-append last (d ∷ h) e = tick_from-append (tick_after last d.act d.moment) h e
 
-opening_from-append : (node : ℕ) (opening : Option ℕ) (h : List HistoryEntry) (e : HistoryEntry) → opening_from node opening (h ++ e ∷ []) ≡ opening_behind node (opening_from node opening h) e.act
+opening_from-append : (node : ℕ) (opening : Option ℕ) (h : List HistoryEntry) (e : HistoryEntry) → opening_from node opening (h ++ e ∷ []) ≡ opening_after node (opening_from node opening h) e.act
 opening_from-append node opening [] e = refl
-opening_from-append node opening (d ∷ h) e = opening_from-append node (opening_behind node opening d.act) h e
+opening_from-append node opening (d ∷ h) e = opening_from-append node (opening_after node opening d.act) h e
 
-top_from-append : (node : ℕ) (top : Option ℕ) (h : List HistoryEntry) (e : HistoryEntry) → top_from node top (h ++ e ∷ []) ≡ top_entry node (top_from node top h) e.act
+top_from-append : (node : ℕ) (top : Option ℕ) (h : List HistoryEntry) (e : HistoryEntry) → top_from node top (h ++ e ∷ []) ≡ top_after node (top_from node top h) e.act
 top_from-append node top [] e = refl
-top_from-append node top (d ∷ h) e = top_from-append node (top_entry node top d.act) h e
+top_from-append node top (d ∷ h) e = top_from-append node (top_after node top d.act) h e
 
 -- ---- counts
 
@@ -68,28 +68,28 @@ last_moment-append h e =
 
 -- ---- held copies
 
--- what became of a held number behind one more entry
-abbrev fate_behind : HoldFate → Bool → Bool → HoldFate
-fate_behind fate.Held begins named = if begins then fate.Stranded else (if named then fate.Settled else fate.Held)
-fate_behind fate.Stranded begins named = fate.Stranded
-fate_behind fate.Settled begins named = fate.Settled
+-- what became of a held number after one more entry
+abbrev fate_after : HoldFate → Bool → Bool → HoldFate
+fate_after fate.Held begins named = if begins then fate.Stranded else (if named then fate.Settled else fate.Held)
+fate_after fate.Stranded begins named = fate.Stranded
+fate_after fate.Settled begins named = fate.Settled
 
-fate_of-append : (node number : ℕ) (h : List HistoryEntry) (e : HistoryEntry) → fate_of node number (h ++ e ∷ []) ≡ fate_behind (fate_of node number h) (begins_epoch node e.act) (names node number e.act)
+fate_of-append : (node number : ℕ) (h : List HistoryEntry) (e : HistoryEntry) → fate_of node number (h ++ e ∷ []) ≡ fate_after (fate_of node number h) (begins_epoch node e.act) (names node number e.act)
 fate_of-append node number [] e = refl
 fate_of-append node number (d ∷ h) e = by_tests (begins_epoch node d.act) (names node number d.act) (fate_of-append node number h e)
   where
-    by_tests : (begins named : Bool) → fate_of node number (h ++ e ∷ []) ≡ fate_behind (fate_of node number h) (begins_epoch node e.act) (names node number e.act)
-        → (if begins then fate.Stranded else (if named then fate.Settled else fate_of node number (h ++ e ∷ []))) ≡ fate_behind (if begins then fate.Stranded else (if named then fate.Settled else fate_of node number h)) (begins_epoch node e.act) (names node number e.act)
+    by_tests : (begins named : Bool) → fate_of node number (h ++ e ∷ []) ≡ fate_after (fate_of node number h) (begins_epoch node e.act) (names node number e.act)
+        → (if begins then fate.Stranded else (if named then fate.Settled else fate_of node number (h ++ e ∷ []))) ≡ fate_after (if begins then fate.Stranded else (if named then fate.Settled else fate_of node number h)) (begins_epoch node e.act) (names node number e.act)
     by_tests true named rest = refl
     by_tests false true rest = refl
     by_tests false false rest = rest
 
-held_if-behind : (f : HoldFate) (n : NodeId) (x : ℕ) (begins named : Bool) → held_if (fate_behind f begins named) n x ≡ filter (λ (key : HeldKey). not begins && not named) (held_if f n x)
-held_if-behind fate.Held n x true named = refl
-held_if-behind fate.Held n x false true = refl
-held_if-behind fate.Held n x false false = refl
-held_if-behind fate.Stranded n x begins named = refl
-held_if-behind fate.Settled n x begins named = refl
+held_if-after : (f : HoldFate) (n : NodeId) (x : ℕ) (begins named : Bool) → held_if (fate_after f begins named) n x ≡ filter (λ (key : HeldKey). not begins && not named) (held_if f n x)
+held_if-after fate.Held n x true named = refl
+held_if-after fate.Held n x false true = refl
+held_if-after fate.Held n x false false = refl
+held_if-after fate.Stranded n x begins named = refl
+held_if-after fate.Settled n x begins named = refl
 
 held_if-stays : (f : HoldFate) (n : NodeId) (x : ℕ) (act : HistoryAct) → filter (λ (key : HeldKey). not (begins_epoch n.0 act) && not (names n.0 x act)) (held_if f n x) ≡ filter (λ (key : HeldKey). stays_held act key) (held_if f n x)
 held_if-stays fate.Held n x act = refl
@@ -98,7 +98,7 @@ held_if-stays fate.Settled n x act = refl
 
 held_by-append : (act : HistoryAct) (h : List HistoryEntry) (e : HistoryEntry) → held_by act (h ++ e ∷ []) ≡ filter (λ (key : HeldKey). stays_held e.act key) (held_by act h)
 held_by-append (Hold n x packet) h e =
-    ap (λ (f : HoldFate). held_if f n x) (fate_of-append n.0 x h e) ∙ held_if-behind (fate_of n.0 x h) n x (begins_epoch n.0 e.act) (names n.0 x e.act) ∙ held_if-stays (fate_of n.0 x h) n x e.act
+    ap (λ (f : HoldFate). held_if f n x) (fate_of-append n.0 x h e) ∙ held_if-after (fate_of n.0 x h) n x (begins_epoch n.0 e.act) (names n.0 x e.act) ∙ held_if-stays (fate_of n.0 x h) n x e.act
 held_by-append Start h e = refl
 held_by-append (Path n port counter) h e = refl
 held_by-append (File n x packet) h e = refl
@@ -128,13 +128,13 @@ stranded_alone Close = refl
 
 stranded_by_fate : (f : HoldFate) (n : NodeId) (x : ℕ) (act : HistoryAct) (named : Bool) (old new : Copies) (keys : List HeldKey)
     → new.stranded ≡ old.stranded + count_by (λ (key : HeldKey). strands act key) keys
-    → (with_fate (fate_behind f (begins_epoch n.0 act) named) new).stranded ≡ (with_fate f old).stranded + count_by (λ (key : HeldKey). strands act key) (held_if f n x ++ keys)
+    → (with_fate (fate_after f (begins_epoch n.0 act) named) new).stranded ≡ (with_fate f old).stranded + count_by (λ (key : HeldKey). strands act key) (held_if f n x ++ keys)
 stranded_by_fate fate.Held n x act named old new keys h = by_tests (begins_epoch n.0 act) named ∙ ap (λ (k : ℕ). old.stranded + k) (sym first)
   where
     first : count_by (λ (key : HeldKey). strands act key) (held_if fate.Held n x ++ keys) ≡ (if begins_epoch n.0 act then 1 else 0) + count_by (λ (key : HeldKey). strands act key) keys
     first = sum_by-append (λ (key : HeldKey). if strands act key then 1 else 0) (held_if fate.Held n x) keys ∙ omega arith
 
-    by_tests : (begins named : Bool) → (with_fate (fate_behind fate.Held begins named) new).stranded ≡ old.stranded + ((if begins then 1 else 0) + count_by (λ (key : HeldKey). strands act key) keys)
+    by_tests : (begins named : Bool) → (with_fate (fate_after fate.Held begins named) new).stranded ≡ old.stranded + ((if begins then 1 else 0) + count_by (λ (key : HeldKey). strands act key) keys)
     by_tests true named = omega (arith, h)
     by_tests false true = omega (arith, h)
     by_tests false false = omega (arith, h)
@@ -160,7 +160,7 @@ stranded-append (d ∷ h) e = stranded_by_entry d.act h e (copies_of h) (copies_
 
 -- ---- the views
 
-pub view_of-append : (h : List HistoryEntry) (e : HistoryEntry) → view_of (h ++ e ∷ []) ≡ view_behind (view_of h) e
+pub view_of-append : (h : List HistoryEntry) (e : HistoryEntry) → view_of (h ++ e ∷ []) ≡ view_after (view_of h) e
 view_of-append h e = λ i. record {
   starts = start_count-append h e i;
   known = known_from-append [] h e i;
@@ -171,7 +171,7 @@ view_of-append h e = λ i. record {
   last_tick = tick_from-append None h e i;
 }
 
-pub node_view_of-append : (node : ℕ) (h : List HistoryEntry) (e : HistoryEntry) → node_view_of node (h ++ e ∷ []) ≡ node_view_behind node (node_view_of node h) e.act
+pub node_view_of-append : (node : ℕ) (h : List HistoryEntry) (e : HistoryEntry) → node_view_of node (h ++ e ∷ []) ≡ node_view_after node (node_view_of node h) e.act
 node_view_of-append node h e = λ i. record {
   epoch = epoch_of-append node h e i;
   opening = opening_from-append node None h e i;

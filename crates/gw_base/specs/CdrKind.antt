@@ -1,6 +1,12 @@
 -- The kind of a packet's records: what the header of each of its CDRs says (3GPP TS 32.297, clause 6.1.2).
-use Rattle.std.specs.Prelude.{ℕ, ◌-◌, ◌/◌, ◌%◌, min, nat_lt, if◌then◌else◌}
+use Rattle.std.specs.Prelude.{ℕ, ◌-◌, ◌<◌, ◌/◌, ◌%◌, min, nat_lt, if◌then◌else◌}
 use Rattle.gw_base.specs.declared.kind.CdrKind.{CdrKind}
+
+-- a kind that a CDR's header can say: three bits for the release and for the format, five for the version
+pub record IsCdrKind (kind : CdrKind) : Type 0 where
+  pub release : kind.release < 8
+  pub version : kind.version < 32
+  pub format : kind.format < 8
 
 -- the release that the low four bits of a format version's first octet stand for: release 99 and all
 -- before it are 0, and what three bits can't say is 7

@@ -17,10 +17,10 @@ abbrev pub held_if : HoldFate → NodeId → ℕ → List HeldKey
 held_if fate.Held n x = (record { node = n; number = x }) ∷ []
 held_if _ n x = []
 
--- the key that an entry holds, by the entries behind it
+-- the key that an entry holds, by the entries that follow it
 abbrev pub held_by : HistoryAct → List HistoryEntry → List HeldKey
-held_by (Hold n x packet) behind = held_if (fate_of n.0 x behind) n x
-held_by _ behind = []
+held_by (Hold n x packet) later = held_if (fate_of n.0 x later) n x
+held_by _ later = []
 
 -- the held keys of present epochs, in the order of the Hold entries: those that no later entry of their epoch names
 abbrev pub held_keys : List HistoryEntry → List HeldKey

@@ -45,16 +45,16 @@ given_state (Release n xs) = Released
 given_state (Cancel n xs) = Cancelled
 given_state _ = Fresh
 
--- the scan behind one more entry
-abbrev pub scan_entry : PacketKey → KeyScan → HistoryAct → KeyScan
-scan_entry key s act = record {
+-- the scan after one more entry
+abbrev pub scan_after : PacketKey → KeyScan → HistoryAct → KeyScan
+scan_after key s act = record {
   epoch = (if begins_epoch key.node.0 act then 1 else 0) + s.epoch;
   state = if (s.epoch == key.epoch) && names key.node.0 key.number act then given_state act else s.state;
 }
 
 abbrev pub scan_from : PacketKey → KeyScan → List HistoryEntry → KeyScan
 scan_from key s [] = s
-scan_from key s (e ∷ h) = scan_from key (scan_entry key s e.act) h
+scan_from key s (e ∷ h) = scan_from key (scan_after key s e.act) h
 
 -- a key's state: what the last entry of its epoch that names it gives, and Fresh where none does
 abbrev pub state_of : PacketKey → List HistoryEntry → KeyState
@@ -66,17 +66,17 @@ state_of key h = (scan_from key (record { epoch = 0; state = Fresh }) h).state
 abbrev pub raised : Option ℕ → ℕ → Option ℕ
 raised top x = Some (option_map_or (λ t. max t x) top x)
 
--- the greatest number that the entries of a node's present epoch name, behind one more entry
-abbrev pub top_entry : ℕ → Option ℕ → HistoryAct → Option ℕ
-top_entry node top (Path n port counter) = if n.0 == node then None else top
-top_entry node top (File n x packet) = if n.0 == node then raised top x else top
-top_entry node top (Hold n x packet) = if n.0 == node then raised top x else top
-top_entry node top (Seal n x) = if n.0 == node then raised top x else top
-top_entry node top _ = top
+-- the greatest number that the entries of a node's present epoch name, after one more entry
+abbrev pub top_after : ℕ → Option ℕ → HistoryAct → Option ℕ
+top_after node top (Path n port counter) = if n.0 == node then None else top
+top_after node top (File n x packet) = if n.0 == node then raised top x else top
+top_after node top (Hold n x packet) = if n.0 == node then raised top x else top
+top_after node top (Seal n x) = if n.0 == node then raised top x else top
+top_after node top _ = top
 
 abbrev pub top_from : ℕ → Option ℕ → List HistoryEntry → Option ℕ
 top_from node top [] = top
-top_from node top (e ∷ h) = top_from node (top_entry node top e.act) h
+top_from node top (e ∷ h) = top_from node (top_after node top e.act) h
 
 -- the greatest number that File, Hold and Seal entries of the node's present epoch name, where one does
 abbrev pub top_of : ℕ → List HistoryEntry → Option ℕ
@@ -94,16 +94,16 @@ moment_after h now = max now (last_moment h)
 
 -- Closing.
 
--- whether a Close is due behind an entry, by whether it was due before
-abbrev pub due_behind : Bool → HistoryAct → Bool
-due_behind due (File n x packet) = true
-due_behind due (Release n xs) = true
-due_behind due Close = false
-due_behind due _ = due
+-- whether a Close is due after an entry, by whether it was due before
+abbrev pub due_after : Bool → HistoryAct → Bool
+due_after due (File n x packet) = true
+due_after due (Release n xs) = true
+due_after due Close = false
+due_after due _ = due
 
 abbrev pub due_from : Bool → List HistoryEntry → Bool
 due_from due [] = due
-due_from due (e ∷ h) = due_from (due_behind due e.act) h
+due_from due (e ∷ h) = due_from (due_after due e.act) h
 
 -- a Close is due where a File or a Release stands after the last Close
 abbrev pub is_close_due : List HistoryEntry → Bool
@@ -111,7 +111,7 @@ is_close_due h = due_from false h
 
 -- Held copies.
 
--- what became of a held number, by the entries behind its Hold: it is held as long as no entry of its epoch names
+-- what became of a held number, by the entries that follow its Hold: it is held as long as no entry of its epoch names
 -- it, and stranded where the node's next epoch begins before one does
 abbrev pub fate_of : ℕ → ℕ → List HistoryEntry → HoldFate
 fate_of node number [] = fate.Held
@@ -124,10 +124,10 @@ with_fate fate.Held copies = record { held = copies.held + 1; stranded = copies.
 with_fate fate.Stranded copies = record { held = copies.held; stranded = copies.stranded + 1 }
 with_fate fate.Settled copies = copies
 
--- the number of copies with that of one more entry, by the entries behind it
+-- the number of copies with that of one more entry, by the entries that follow it
 abbrev pub with_entry : HistoryAct → List HistoryEntry → Copies → Copies
-with_entry (Hold n x packet) behind copies = with_fate (fate_of n.0 x behind) copies
-with_entry _ behind copies = copies
+with_entry (Hold n x packet) later copies = with_fate (fate_of n.0 x later) copies
+with_entry _ later copies = copies
 
 -- how many copies are held in present epochs, and how many are stranded in earlier ones
 abbrev pub copies_of : List HistoryEntry → Copies

@@ -1,6 +1,7 @@
 pub mod Buffer
 pub mod CdrKind
 pub mod Entry
+pub mod Facts
 pub mod Faults
 pub mod HeldKeys
 pub mod History

@@ -8,7 +8,7 @@ pub record MemoryTime : Type 0 where
   pub fail : List ℕ
   pub faults : ℕ
 
--- the moments that are left behind the first, and the last one again where there is no other
-abbrev pub behind_first : List ℕ → List ℕ
-behind_first (moment ∷ later ∷ rest) = later ∷ rest
-behind_first moments = moments
+-- the moments that are left after the first, and the last one again where there is no other
+abbrev pub after_first : List ℕ → List ℕ
+after_first (moment ∷ later ∷ rest) = later ∷ rest
+after_first moments = moments

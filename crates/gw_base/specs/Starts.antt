@@ -27,14 +27,14 @@ counters_of node (e ∷ h) = counter_in node e.act ++ counters_of node h
 abbrev pub starts_of : ℕ → List HistoryEntry → List ℕ
 starts_of node h = 0 ∷ counters_of node h
 
--- the counter of the Path that began a node's epoch, behind one more entry
-abbrev pub opening_behind : ℕ → Option ℕ → HistoryAct → Option ℕ
-opening_behind node opening (Path n port counter) = if n.0 == node then Some counter else opening
-opening_behind node opening _ = opening
+-- the counter of the Path that began a node's epoch, after one more entry
+abbrev pub opening_after : ℕ → Option ℕ → HistoryAct → Option ℕ
+opening_after node opening (Path n port counter) = if n.0 == node then Some counter else opening
+opening_after node opening _ = opening
 
 abbrev pub opening_from : ℕ → Option ℕ → List HistoryEntry → Option ℕ
 opening_from node opening [] = opening
-opening_from node opening (e ∷ h) = opening_from node (opening_behind node opening e.act) h
+opening_from node opening (e ∷ h) = opening_from node (opening_after node opening e.act) h
 
 -- the counter of the Path that began a node's present epoch, where one did
 abbrev pub opening_of : ℕ → List HistoryEntry → Option ℕ

@@ -6,17 +6,17 @@ use Rattle.gw_base.specs.declared.history.HistoryAct.TheVariants.{Tick, Close}
 use Rattle.gw_base.specs.declared.history.HistoryEntry.{HistoryEntry}
 use Rattle.gw_base.specs.History.{is_close_due}
 
--- the moment of the last Tick behind the last Close, behind one more entry
-abbrev pub tick_behind : Option ℕ → HistoryAct → ℕ → Option ℕ
-tick_behind last Tick moment = Some moment
-tick_behind last Close moment = None
-tick_behind last _ moment = last
+-- the moment of the last Tick after the last Close, after one more entry
+abbrev pub tick_after : Option ℕ → HistoryAct → ℕ → Option ℕ
+tick_after last Tick moment = Some moment
+tick_after last Close moment = None
+tick_after last _ moment = last
 
 abbrev pub tick_from : Option ℕ → List HistoryEntry → Option ℕ
 tick_from last [] = last
-tick_from last (e ∷ h) = tick_from (tick_behind last e.act e.moment) h
+tick_from last (e ∷ h) = tick_from (tick_after last e.act e.moment) h
 
--- the moment of the last Tick behind the last Close, where there is one
+-- the moment of the last Tick after the last Close, where there is one
 abbrev pub last_tick : List HistoryEntry → Option ℕ
 last_tick h = tick_from None h
 
@@ -24,7 +24,7 @@ last_tick h = tick_from None h
 abbrev pub is_long_ago : ℕ → ℕ → ℕ → Bool
 is_long_ago open_time now moment = nat_le (moment + open_time) now
 
--- a Tick is due where a Close is due, and where no Tick stands behind the last Close or the last one lies at least
+-- a Tick is due where a Close is due, and where no Tick stands after the last Close or the last one lies at least
 -- the open time back
 abbrev pub is_tick_due : ℕ → ℕ → List HistoryEntry → Bool
 is_tick_due open_time now h = is_close_due h && option_map_or (λ moment. is_long_ago open_time now moment) (last_tick h) true

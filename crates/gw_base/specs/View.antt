@@ -5,10 +5,10 @@ use Rattle.gw_base.specs.declared.held.HeldKey.{HeldKey}
 use Rattle.gw_base.specs.declared.history.HistoryAct.{HistoryAct}
 use Rattle.gw_base.specs.declared.history.HistoryEntry.{HistoryEntry}
 use Rattle.gw_base.specs.HeldKeys.{held_by, held_keys}
-use Rattle.gw_base.specs.History.{begins_epoch, copies_of, due_behind, epoch_of, is_close_due, last_moment, names, top_entry, top_of}
+use Rattle.gw_base.specs.History.{begins_epoch, copies_of, due_after, epoch_of, is_close_due, last_moment, names, top_after, top_of}
 use Rattle.gw_base.specs.Known.{known_nodes, named_node, with_node}
-use Rattle.gw_base.specs.Starts.{is_start, opening_behind, opening_of, start_count}
-use Rattle.gw_base.specs.TickDue.{last_tick, tick_behind}
+use Rattle.gw_base.specs.Starts.{is_start, opening_after, opening_of, start_count}
+use Rattle.gw_base.specs.TickDue.{last_tick, tick_after}
 
 -- what a history says of all nodes together
 pub record HistoryView : Type 0 where
@@ -31,7 +31,7 @@ view_of h = record {
   last_tick = last_tick h;
 }
 
--- whether a held key stays held behind an entry: the entry neither begins an epoch of its node nor names it
+-- whether a held key stays held after an entry: the entry neither begins an epoch of its node nor names it
 abbrev pub stays_held : HistoryAct → HeldKey → Bool
 stays_held act key = not (begins_epoch key.node.0 act) && not (names key.node.0 key.number act)
 
@@ -39,16 +39,16 @@ stays_held act key = not (begins_epoch key.node.0 act) && not (names key.node.0 
 abbrev pub strands : HistoryAct → HeldKey → Bool
 strands act key = begins_epoch key.node.0 act
 
--- the view behind one more entry
-abbrev pub view_behind : HistoryView → HistoryEntry → HistoryView
-view_behind v e = record {
+-- the view after one more entry
+abbrev pub view_after : HistoryView → HistoryEntry → HistoryView
+view_after v e = record {
   starts = v.starts + (if is_start e.act then 1 else 0);
   known = with_node v.known (named_node e.act);
   held = filter (λ key. stays_held e.act key) v.held ++ held_by e.act [];
   stranded = v.stranded + count_by (λ key. strands e.act key) v.held;
   moment = e.moment;
-  is_close_due = due_behind v.is_close_due e.act;
-  last_tick = tick_behind v.last_tick e.act e.moment;
+  is_close_due = due_after v.is_close_due e.act;
+  last_tick = tick_after v.last_tick e.act e.moment;
 }
 
 -- what a history says of one node
@@ -60,10 +60,10 @@ pub record NodeView : Type 0 where
 abbrev pub node_view_of : ℕ → List HistoryEntry → NodeView
 node_view_of node h = record { epoch = epoch_of node h; opening = opening_of node h; top = top_of node h }
 
--- the node's view behind one more entry
-abbrev pub node_view_behind : ℕ → NodeView → HistoryAct → NodeView
-node_view_behind node v act = record {
+-- the node's view after one more entry
+abbrev pub node_view_after : ℕ → NodeView → HistoryAct → NodeView
+node_view_after node v act = record {
   epoch = v.epoch + (if begins_epoch node act then 1 else 0);
-  opening = opening_behind node v.opening act;
-  top = top_entry node v.top act;
+  opening = opening_after node v.opening act;
+  top = top_after node v.top act;
 }

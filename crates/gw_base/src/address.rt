@@ -6,7 +6,7 @@ pub struct Addr {
 }
 
 /// A serving node, known by its IPv4 address alone.
-#[derive(Clone, Copy, Debug, PartialEq, Eq)]
+#[derive(Clone, Copy, Debug, PartialEq, Eq, PartialOrd, Ord, Hash)]
 pub struct NodeId(pub u32);
 
 /// A gateway, known by its IPv4 address.

@@ -1,4 +1,4 @@
-ghost use Rattle.std.specs.Prelude.{◌≤◌, OnErr};
+ghost use Rattle.std.specs.Prelude.{◌≡◌, ◌≤◌, OnOk, OnErr};
 ghost use Rattle.gw_base.specs.Faults.{Rose};
 
 use crate::fault::Failed;
@@ -14,5 +14,6 @@ pub trait Clock {
     /// Some moment.
     fn now(&mut self) -> Result<Moment, Failed>
         ensures counted { faults self.old ≤ faults self.new }
+        ensures ok { OnOk result (faults self.new ≡ faults self.old) }
         ensures failed { OnErr result (Rose (faults self.old) (faults self.new)) };
 }

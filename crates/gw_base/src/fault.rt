@@ -14,6 +14,21 @@ impl fmt::Display for Failed {
 
 impl Error for Failed {}
 
+/// There isn't room in a buffer, which stays as it was.
+#[derive(Clone, Copy, Debug, PartialEq, Eq)]
+pub struct Full {
+    /// How many octets there is room for.
+    pub free: usize,
+}
+
+impl fmt::Display for Full {
+    fn fmt<W: fmt::Write>(&self, f: &mut fmt::Formatter<W>) -> fmt::Result {
+        write!(f, "room for {} octets alone", self.free)
+    }
+}
+
+impl Error for Full {}
+
 /// There was no memory for what the call had to keep. All objects are as before the call.
 #[derive(Clone, Copy, Debug, PartialEq, Eq)]
 pub struct NoMemory;

@@ -6,11 +6,11 @@ ghost use Rattle.gw_base.specs.HeldKeys.{held_keys, holds, is_held, promised_oct
 use crate::address::{Absolute, NodeId};
 use crate::fault::NoMemory;
 use crate::history::{HistoryAct, HistoryEntry};
-use crate::scan::{HoldFate, count_copies, hold_fate, is_close_due};
+use crate::scan::{HoldFate, copies_of, fate_of, is_close_due};
 use std::alloc::Global;
 
 /// A number of a node that is held in the node's present epoch.
-#[derive(Clone, Copy, Debug, PartialEq, Eq)]
+#[derive(Clone, Copy, Debug, PartialEq, Eq, PartialOrd, Ord, Hash)]
 pub struct HeldKey {
     pub node: NodeId,
     pub number: Absolute,
@@ -27,17 +27,17 @@ pub fn held_keys(alloc: Global, history: &[HistoryEntry]) -> Result<Vec<HeldKey>
     ensures { IfOk result (λ keys. keys.items ≡ held_keys history.now) }
 {
     let mut keys = Vec::new(alloc);
-    let mut behind = history;
-    while let Some((entry, rest)) = behind.split_first() {
+    let mut left = history;
+    while let Some((entry, later)) = left.split_first() {
         if let HistoryAct::Hold { node, number, .. } = &entry.act {
-            if hold_fate(rest, *node, *number) == HoldFate::Held {
+            if fate_of(later, *node, *number) == HoldFate::Held {
                 keys.push(HeldKey {
                     node: *node,
                     number: *number,
                 })?;
             }
         }
-        behind = rest;
+        left = later;
     }
     Ok(keys)
 }
@@ -47,7 +47,7 @@ pub fn held_keys(alloc: Global, history: &[HistoryEntry]) -> Result<Vec<HeldKey>
 pub fn promised_octets(history: &[HistoryEntry]) -> u128
     ensures { result ≡ promised_octets history.now }
 {
-    let keys = u128::from(count_copies(history).held) * PROMISED_FOR_A_KEY;
+    let keys = u128::from(copies_of(history).held) * PROMISED_FOR_A_KEY;
     if is_close_due(history) {
         keys + PROMISED_FOR_A_CLOSE
     } else {

@@ -112,7 +112,7 @@ impl Absolutes {
 
 /// A request number of a node, within one of the node's epochs. The epochs are counted by the Path
 /// entries that began them; epoch 0 is the one before the first.
-#[derive(Clone, Copy, Debug, PartialEq, Eq)]
+#[derive(Clone, Copy, Debug, PartialEq, Eq, PartialOrd, Ord, Hash)]
 pub struct PacketKey {
     pub node: NodeId,
     pub epoch: u64,

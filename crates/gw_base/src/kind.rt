@@ -1,5 +1,5 @@
 ghost use Rattle.std.specs.Prelude.{◌≡◌, ◌<◌};
-ghost use Rattle.gw_base.specs.CdrKind.{kind_of, release_of};
+ghost use Rattle.gw_base.specs.CdrKind.{IsCdrKind, kind_of, release_of};
 
 /// What the header of a CDR says of its record (3GPP TS 32.297, clause 6.1.2): the release, from 0
 /// to 7, and the version, from 0 to 31, of the specification that the record follows, and its data
@@ -18,7 +18,7 @@ const MOST_IN_3_BITS: u8 = 7;
 const MOST_IN_5_BITS: u8 = 31;
 
 /// The releases that the low four bits of the first octet of a format version stand for begin
-/// behind this one.
+/// above this value.
 const BELOW_FIRST_RELEASE: u8 = 3;
 
 /// The greatest value of these four bits that stands for a release of its own.
@@ -27,9 +27,7 @@ const LAST_RELEASE: u8 = 9;
 /// The kind of the records of a packet, by its data record format and format version octets.
 pub fn cdr_kind(format: u8, version: u16) -> CdrKind
     ensures kind { result ≡ kind_of format version }
-    ensures release { result.release < 8 }
-    ensures version { result.version < 32 }
-    ensures format { result.format < 8 }
+    ensures within { IsCdrKind result }
 {
     let digit = (version / 256 % 16) as u8;
     let version = (version % 256) as u8;

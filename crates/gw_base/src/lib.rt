@@ -2,9 +2,12 @@
 //! output, a clock, and what a fault of each looks like.
 #![tactic(auto)]
 
+mod act;
 mod address;
 mod buffer;
+pub mod cause;
 mod clock;
+mod counted;
 mod entry;
 mod fault;
 mod held;
@@ -30,11 +33,13 @@ mod tag;
 mod tick;
 mod view;
 
+pub use act::lists;
 pub use address::{Absolute, Addr, GatewayId, NodeId};
 pub use buffer::Buffer;
 pub use clock::Clock;
+pub use counted::Counted;
 pub use entry::{Act, Entry};
-pub use fault::{Failed, NoMemory};
+pub use fault::{Failed, Full, NoMemory};
 pub use history::{Absolutes, Caller, HistoryAct, HistoryEntry, PacketKey};
 pub use item::Item;
 pub use key_state::KeyState;

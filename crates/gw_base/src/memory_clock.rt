@@ -1,6 +1,6 @@
-ghost use Rattle.std.specs.Prelude.{◌≡◌, ◌≤◌, ◌<◌, ◌↔◌, Some, length, slice_get, IsErr, OnOk, OnErr, IfOk, Contains};
+ghost use Rattle.std.specs.Prelude.{◌≡◌, ◌≤◌, ◌<◌, ◌↔◌, Some, length, slice_get, IsErr, OnOk, OnErr, IfOk, Contains, is_ok, if◌then◌else◌};
 ghost use Rattle.gw_base.specs.Faults.{Rose, next_count};
-ghost use Rattle.gw_base.specs.MemoryClock.{behind_first};
+ghost use Rattle.gw_base.specs.MemoryClock.{after_first};
 
 use crate::clock::Clock;
 use crate::fault::Failed;
@@ -47,7 +47,7 @@ impl MemoryClock {
     /// The next moment, which is passed where it isn't the last.
     fn give(&mut self) -> Moment
         ensures given { slice_get self.old.left 0 ≡ Some result }
-        ensures left { self.new ≡ record self.old { left = behind_first self.old.left } }
+        ensures left { self.new ≡ record self.old { left = after_first self.old.left } }
     {
         let moment = self.moments[self.given];
         if self.given + 1 < self.moments.len() {
@@ -62,12 +62,14 @@ impl Clock for MemoryClock {
 
     fn now(&mut self) -> Result<Moment, Failed>
         ensures counted { self.old.faults ≤ self.new.faults }
+        ensures ok { OnOk result (self.new.faults ≡ self.old.faults) }
         ensures failed { OnErr result (Rose self.old.faults self.new.faults) }
 
         ensures fails { IsErr result ↔ Contains self.old.fail (next_count self.old.calls) }
         ensures given { IfOk result (λ moment. slice_get self.old.left 0 ≡ Some moment) }
-        ensures left { OnOk result (self.new.left ≡ behind_first self.old.left) }
+        ensures left { OnOk result (self.new.left ≡ after_first self.old.left) }
         ensures kept { OnErr result (self.new.left ≡ self.old.left) }
+        ensures faults { self.new.faults ≡ (if is_ok result then self.old.faults else next_count self.old.faults) }
         ensures calls { self.new.calls ≡ next_count self.old.calls }
         ensures plan { self.new.fail ≡ self.old.fail }
     {

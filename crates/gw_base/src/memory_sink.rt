@@ -1,4 +1,4 @@
-ghost use Rattle.std.specs.Prelude.{◌≡◌, ◌<◌, ◌≤◌, ◌↔◌, ◌+◌, ◌++◌, ◌⊎◌, [], length, take, min, IsErr, OnErr, IfOk, Contains, is_ok, if◌then◌else◌};
+ghost use Rattle.std.specs.Prelude.{◌≡◌, ◌≢◌, ◌<◌, ◌≤◌, ◌↔◌, ◌+◌, ◌++◌, ◌⊎◌, [], length, take, min, IsErr, OnOk, OnErr, IfOk, Contains, is_ok, if◌then◌else◌};
 ghost use Rattle.std.specs.Io.KnownBytes.{Appends};
 ghost use Rattle.gw_base.specs.Faults.{Rose, next_count};
 ghost use Rattle.gw_base.specs.Written.{AppendsFront};
@@ -66,6 +66,7 @@ impl Sink for MemorySink {
         ensures front { OnErr result (AppendsFront (Some self.old.written) (Some self.new.written) from.now) }
         ensures stalled { result ≡ Ok 0 → 0 < length from.now → Rose self.old.faults self.new.faults }
         ensures counted { self.old.faults ≤ self.new.faults }
+        ensures ok { OnOk result (result ≢ Ok 0 ⊎ length from.now ≡ 0 → self.new.faults ≡ self.old.faults) }
         ensures failed { OnErr result (Rose self.old.faults self.new.faults) }
 
         ensures whole { IfOk result (λ n. n ≡ length from.now) }

@@ -1,4 +1,4 @@
-ghost use Rattle.std.specs.Prelude.{◌≡◌, ◌≤◌, ◌↔◌, ◌+◌, [], length, take, drop, min, IsErr, OnErr, IfOk, Contains, is_ok, if◌then◌else◌};
+ghost use Rattle.std.specs.Prelude.{◌≡◌, ◌≤◌, ◌↔◌, ◌+◌, [], length, take, drop, min, IsErr, OnOk, OnErr, IfOk, Contains, is_ok, if◌then◌else◌};
 ghost use Rattle.std.specs.Io.KnownBytes.{ReadConsumes};
 ghost use Rattle.gw_base.specs.Faults.{Rose, next_count};
 
@@ -72,6 +72,7 @@ impl Source for MemorySource {
         ensures within { IfOk result (λ n. n ≤ length into.new) }
         ensures taken { ReadConsumes (Some self.old.left) (Some self.new.left) result into.new }
         ensures counted { self.old.faults ≤ self.new.faults }
+        ensures ok { OnOk result (self.new.faults ≡ self.old.faults) }
         ensures failed { OnErr result (Rose self.old.faults self.new.faults) }
 
         ensures fails { IsErr result ↔ Contains self.old.fail (next_count self.old.calls) }

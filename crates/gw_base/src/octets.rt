@@ -1,4 +1,4 @@
-ghost use Rattle.std.specs.Prelude.{◌≡◌, List, ℕ, IfOk};
+ghost use Rattle.std.specs.Prelude.{◌≡◌, ◌++◌, List, ℕ, IfOk, OnOk, OnErr};
 
 use crate::fault::NoMemory;
 use std::alloc::Global;
@@ -40,6 +40,15 @@ impl Octets {
         ensures { result.items ≡ self }
     {
         self.octets
+    }
+
+    /// Appends octets. Without memory nothing changes.
+    pub fn append(&mut self, from: &[u8]) -> Result<(), NoMemory>
+        ensures ok { OnOk result (self.new ≡ self.old ++ from.now) }
+        ensures err { OnErr result (self.new ≡ self.old) }
+    {
+        self.octets.extend_from_slice(from)?;
+        Ok(())
     }
 
     /// The octets, in order.

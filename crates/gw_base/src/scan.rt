@@ -1,6 +1,5 @@
-ghost use Rattle.std.specs.Prelude.{◌≡◌, ◌==◌, ◌≤◌, ◌<◌, ◌-◌, ◌^◌, length};
-ghost use Rattle.std.specs.List.{list_any};
-ghost use Rattle.gw_base.specs.History.{begins_epoch, copies_of, epoch_of, fate_of, given_state, is_close_due, moment_after, names, scan_entry, state_of, top_entry, top_of};
+ghost use Rattle.std.specs.Prelude.{◌≡◌, ◌≤◌, ◌<◌, ◌-◌, ◌^◌, length};
+ghost use Rattle.gw_base.specs.History.{copies_of, epoch_of, fate_of, is_close_due, moment_after, scan_after, state_of, top_after, top_of};
 
 use crate::address::{Absolute, NodeId};
 pub use crate::held::{
@@ -16,50 +15,9 @@ pub use crate::tick::{is_tick_due, last_tick};
 pub use crate::view::{key_scan_goes_on, node_view_goes_on, view_goes_on};
 
 impl HistoryAct {
-    /// Whether the entry begins an epoch of a node.
-    pub fn begins_epoch(&self, node: NodeId) -> bool
-        ensures { result ≡ begins_epoch node.0 self.now }
-    {
-        match self {
-            HistoryAct::Path { node: named, .. } => *named == node,
-            _ => false,
-        }
-    }
-
-    /// Whether the entry names a number of a node.
-    pub fn names(&self, node: NodeId, number: Absolute) -> bool
-        ensures { result ≡ names node.0 number self.now }
-    {
-        match self {
-            HistoryAct::File {
-                node: named,
-                number: x,
-                ..
-            }
-            | HistoryAct::Hold {
-                node: named,
-                number: x,
-                ..
-            }
-            | HistoryAct::Seal {
-                node: named,
-                number: x,
-            } => *named == node && *x == number,
-            HistoryAct::Release {
-                node: named,
-                numbers,
-            }
-            | HistoryAct::Cancel {
-                node: named,
-                numbers,
-            } => *named == node && lists(numbers.numbers(), number),
-            _ => false,
-        }
-    }
-
-    /// The greatest number that a node's present epoch names, behind this entry.
-    fn top_behind(&self, node: NodeId, top: Option<Absolute>) -> Option<Absolute>
-        ensures { result ≡ top_entry node.0 top self.now }
+    /// The greatest number that a node's present epoch names, after this entry.
+    fn top_after(&self, node: NodeId, top: Option<Absolute>) -> Option<Absolute>
+        ensures { result ≡ top_after node.0 top self.now }
     {
         match self {
             HistoryAct::Path { node: named, .. } if *named == node => None,
@@ -80,26 +38,6 @@ impl HistoryAct {
             _ => top,
         }
     }
-
-    /// The state that the entry gives to the numbers that it names.
-    fn given_state(&self) -> KeyState
-        ensures { result ≡ given_state self.now }
-    {
-        match self {
-            HistoryAct::File { .. } => KeyState::Filed,
-            HistoryAct::Hold { .. } => KeyState::Held,
-            HistoryAct::Seal { .. } => KeyState::Sealed,
-            HistoryAct::Release { .. } => KeyState::Released,
-            HistoryAct::Cancel { .. } => KeyState::Cancelled,
-            _ => KeyState::Fresh,
-        }
-    }
-}
-
-fn lists(numbers: &[Absolute], number: Absolute) -> bool
-    ensures { result ≡ list_any (λ x. x == number) numbers.now }
-{
-    numbers.iter().any(|x| *x == number)
 }
 
 /// The number of a node's present epoch: how many Path entries of it there are.
@@ -124,10 +62,10 @@ struct KeyScan {
 }
 
 impl KeyScan {
-    /// The scan behind one more entry.
-    fn behind(self, key: PacketKey, act: &HistoryAct) -> KeyScan
+    /// The scan after one more entry.
+    fn after(self, key: PacketKey, act: &HistoryAct) -> KeyScan
         requires { self.epoch < 2 ^ 64 - 1 }
-        ensures { result ≡ scan_entry key self act.now }
+        ensures { result ≡ scan_after key self act.now }
     {
         let names = self.epoch == key.epoch && act.names(key.node, key.number);
         let begins = act.begins_epoch(key.node);
@@ -147,7 +85,7 @@ pub fn state(history: &[HistoryEntry], key: PacketKey) -> KeyState
         state: KeyState::Fresh,
     };
     for entry in history {
-        scan = scan.behind(key, &entry.act);
+        scan = scan.after(key, &entry.act);
     }
     scan.state
 }
@@ -158,13 +96,13 @@ pub fn top(history: &[HistoryEntry], node: NodeId) -> Option<Absolute>
 {
     let mut top = None;
     for entry in history {
-        top = entry.act.top_behind(node, top);
+        top = entry.act.top_after(node, top);
     }
     top
 }
 
 /// The moment that an entry made now bears: never less than that of the last entry.
-pub fn moment_behind(history: &[HistoryEntry], now: Moment) -> Moment
+pub fn moment_after(history: &[HistoryEntry], now: Moment) -> Moment
     ensures { result ≡ moment_after history.now now }
 {
     match history.last() {
@@ -179,11 +117,7 @@ pub fn is_close_due(history: &[HistoryEntry]) -> bool
 {
     let mut due = false;
     for entry in history {
-        due = match entry.act {
-            HistoryAct::File { .. } | HistoryAct::Release { .. } => true,
-            HistoryAct::Close => false,
-            _ => due,
-        };
+        due = entry.act.due_after(due);
     }
     due
 }
@@ -199,11 +133,11 @@ pub enum HoldFate {
     Settled,
 }
 
-/// What became of a held number, by the entries behind its Hold.
-pub fn hold_fate(behind: &[HistoryEntry], node: NodeId, number: Absolute) -> HoldFate
-    ensures { result ≡ fate_of node.0 number behind.now }
+/// What became of a held number, by the entries that follow its Hold.
+pub fn fate_of(later: &[HistoryEntry], node: NodeId, number: Absolute) -> HoldFate
+    ensures { result ≡ fate_of node.0 number later.now }
 {
-    for entry in behind {
+    for entry in later {
         if entry.act.begins_epoch(node) {
             return HoldFate::Stranded;
         }
@@ -224,23 +158,23 @@ pub struct Copies {
 }
 
 /// The copies that are held and that are stranded.
-pub fn count_copies(history: &[HistoryEntry]) -> Copies
+pub fn copies_of(history: &[HistoryEntry]) -> Copies
     ensures { result ≡ copies_of history.now }
 {
     let mut copies = Copies {
         held: 0,
         stranded: 0,
     };
-    let mut behind = history;
-    while let Some((entry, rest)) = behind.split_first() {
+    let mut left = history;
+    while let Some((entry, later)) = left.split_first() {
         if let HistoryAct::Hold { node, number, .. } = &entry.act {
-            match hold_fate(rest, *node, *number) {
+            match fate_of(later, *node, *number) {
                 HoldFate::Held => copies.held += 1,
                 HoldFate::Stranded => copies.stranded += 1,
                 HoldFate::Settled => {}
             }
         }
-        behind = rest;
+        left = later;
     }
     copies
 }

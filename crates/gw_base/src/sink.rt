@@ -1,4 +1,4 @@
-ghost use Rattle.std.specs.Prelude.{◌≡◌, ◌<◌, ◌≤◌, length, take, IfOk, OnErr};
+ghost use Rattle.std.specs.Prelude.{◌≡◌, ◌≢◌, ◌<◌, ◌≤◌, ◌⊎◌, length, take, IfOk, OnOk, OnErr};
 ghost use Rattle.std.specs.Io.KnownBytes.{Appends};
 ghost use Rattle.gw_base.specs.Faults.{Rose};
 ghost use Rattle.gw_base.specs.Written.{AppendsFront};
@@ -23,5 +23,6 @@ pub trait Sink {
         ensures front { OnErr result (AppendsFront (written self.old) (written self.new) from.now) }
         ensures stalled { result ≡ Ok 0 → 0 < length from.now → Rose (faults self.old) (faults self.new) }
         ensures counted { faults self.old ≤ faults self.new }
+        ensures ok { OnOk result (result ≢ Ok 0 ⊎ length from.now ≡ 0 → faults self.new ≡ faults self.old) }
         ensures failed { OnErr result (Rose (faults self.old) (faults self.new)) };
 }

@@ -1,4 +1,4 @@
-ghost use Rattle.std.specs.Prelude.{◌≤◌, length, IfOk, OnErr};
+ghost use Rattle.std.specs.Prelude.{◌≡◌, ◌≤◌, length, IfOk, OnOk, OnErr};
 ghost use Rattle.std.specs.Io.KnownBytes.{ReadConsumes};
 ghost use Rattle.gw_base.specs.Faults.{Rose};
 
@@ -20,5 +20,6 @@ pub trait Source {
         ensures within { IfOk result (λ n. n ≤ length into.new) }
         ensures taken { ReadConsumes (left self.old) (left self.new) result into.new }
         ensures counted { faults self.old ≤ faults self.new }
+        ensures ok { OnOk result (faults self.new ≡ faults self.old) }
         ensures failed { OnErr result (Rose (faults self.old) (faults self.new)) };
 }

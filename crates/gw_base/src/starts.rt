@@ -1,7 +1,7 @@
 ghost use Rattle.std.specs.Prelude.{◌≡◌, ◌≤◌, Some, slice_get, length, List, ℕ};
 ghost use Rattle.gw_base.specs.declared.history.HistoryEntry.{HistoryEntry};
 ghost use Rattle.gw_base.specs.History.{epoch_of};
-ghost use Rattle.gw_base.specs.Starts.{is_start, opening_behind, opening_of, start_count, start_of, starts_of};
+ghost use Rattle.gw_base.specs.Starts.{is_start, opening_after, opening_of, start_count, start_of, starts_of};
 
 use crate::address::NodeId;
 use crate::history::{HistoryAct, HistoryEntry};
@@ -14,9 +14,9 @@ impl HistoryAct {
         matches!(self, HistoryAct::Start)
     }
 
-    /// The counter of the Path that began a node's epoch, behind this entry.
-    fn opening_behind(&self, node: NodeId, opening: Option<u8>) -> Option<u8>
-        ensures { result ≡ opening_behind node.0 opening self.now }
+    /// The counter of the Path that began a node's epoch, after this entry.
+    fn opening_after(&self, node: NodeId, opening: Option<u8>) -> Option<u8>
+        ensures { result ≡ opening_after node.0 opening self.now }
     {
         match self {
             HistoryAct::Path {
@@ -43,7 +43,7 @@ pub fn opening(history: &[HistoryEntry], node: NodeId) -> Option<u8>
 {
     let mut opening = None;
     for entry in history {
-        opening = entry.act.opening_behind(node, opening);
+        opening = entry.act.opening_after(node, opening);
     }
     opening
 }

@@ -3,8 +3,8 @@ ghost use Rattle.gw_base.specs.CdrKind.{kind_of};
 ghost use Rattle.gw_base.specs.Nearest.{nearest};
 
 use crate::scan::{
-    Copies, HeldKey, count_copies, epoch, held_keys, is_close_due, is_tick_due, known_nodes,
-    last_tick, moment_behind, opening, promised_octets, start, start_count, state, top,
+    Copies, HeldKey, copies_of, epoch, held_keys, is_close_due, is_tick_due, known_nodes,
+    last_tick, moment_after, opening, promised_octets, start, start_count, state, top,
 };
 use crate::{
     Absolutes, Act, Buffer, Caller, CdrKind, Clock, Entry, Failed, HistoryAct, HistoryEntry,
@@ -318,14 +318,14 @@ fn copies_held_and_stranded_and_what_is_due(rt: HostRuntime) -> Result<(), Fail>
     ] {
         let front = &history[..length];
         let want = Copies { held, stranded };
-        assert_eq!(rt; count_copies(front), want, "of {length}");
+        assert_eq!(rt; copies_of(front), want, "of {length}");
         assert_eq!(rt; is_close_due(front), is_due, "of {length}");
     }
     let early = Moment::of(5).ok_or("a moment")?;
     let late = Moment::of(25).ok_or("a moment")?;
-    assert_eq!(rt; moment_behind(&history, early).seconds(), 20);
-    assert_eq!(rt; moment_behind(&history, late).seconds(), 25);
-    assert_eq!(rt; moment_behind(&[], early).seconds(), 5);
+    assert_eq!(rt; moment_after(&history, early).seconds(), 20);
+    assert_eq!(rt; moment_after(&history, late).seconds(), 25);
+    assert_eq!(rt; moment_after(&[], early).seconds(), 5);
     Ok(())
 }
 

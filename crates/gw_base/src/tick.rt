@@ -1,14 +1,14 @@
 ghost use Rattle.std.specs.Prelude.{◌≡◌};
-ghost use Rattle.gw_base.specs.TickDue.{is_long_ago, is_tick_due, last_tick, tick_behind};
+ghost use Rattle.gw_base.specs.TickDue.{is_long_ago, is_tick_due, last_tick, tick_after};
 
 use crate::history::{HistoryAct, HistoryEntry};
 use crate::moment::Moment;
 use crate::scan::is_close_due;
 
 impl HistoryEntry {
-    /// The moment of the last Tick behind the last Close, behind this entry.
-    fn tick_behind(&self, last: Option<Moment>) -> Option<Moment>
-        ensures { result ≡ tick_behind last self.now.act self.now.moment }
+    /// The moment of the last Tick after the last Close, after this entry.
+    fn tick_after(&self, last: Option<Moment>) -> Option<Moment>
+        ensures { result ≡ tick_after last self.now.act self.now.moment }
     {
         match self.act {
             HistoryAct::Tick => Some(self.moment),
@@ -18,13 +18,13 @@ impl HistoryEntry {
     }
 }
 
-/// The moment of the last Tick behind the last Close, where there is one.
+/// The moment of the last Tick after the last Close, where there is one.
 pub fn last_tick(history: &[HistoryEntry]) -> Option<Moment>
     ensures { result ≡ last_tick history.now }
 {
     let mut last = None;
     for entry in history {
-        last = entry.tick_behind(last);
+        last = entry.tick_after(last);
     }
     last
 }
@@ -39,7 +39,7 @@ fn is_long_ago(open_time: u64, now: Moment, moment: Moment) -> bool
     }
 }
 
-/// Whether a Tick is due at a moment: a Close is due, and no Tick stands behind the last Close or
+/// Whether a Tick is due at a moment: a Close is due, and no Tick stands after the last Close or
 /// the last one lies at least the open time, in seconds, back.
 pub fn is_tick_due(history: &[HistoryEntry], open_time: u64, now: Moment) -> bool
     ensures { result ≡ is_tick_due open_time now history.now }

@@ -17,7 +17,7 @@ none_set zero place = refl
 none_set (suc count) zero = refl
 none_set (suc count) (suc place) = none_set count place
 
--- behind a write of true at a place, a flag is true where it stands there or was true before
+-- after a write of true at a place, a flag is true where it stands there or was true before
 after_set : (flags : List Bool) (place other : ℕ) → other < length flags →
     get_or (set flags place true) other false ≡ ((other == place) || get_or flags other false)
 after_set flags place other below =
@@ -49,14 +49,14 @@ alone true = refl
 alone false = refl
 
 -- a gateway is alive where it was so before, or where it told so
-alive_behind : (node : PathsOfNode) (gateway : ℕ) (heard : List (ℕ × PathEvent)) → gateway < length node.alive →
+alive_after : (node : PathsOfNode) (gateway : ℕ) (heard : List (ℕ × PathEvent)) → gateway < length node.alive →
     is_alive (node_after_all node heard) gateway ≡ (is_alive node gateway || list_any (tells_alive gateway) heard)
-alive_behind node gateway [] below = alone (is_alive node gateway)
-alive_behind node gateway ((from, EchoAsked number) ∷ heard) below = alive_behind node gateway heard below
-alive_behind node gateway ((from, EchoTold number counter) ∷ heard) below = alive_behind node gateway heard below
-alive_behind node gateway ((from, AliveAsked number) ∷ heard) below = alive_behind node gateway heard below
-alive_behind node gateway ((from, AliveTold number) ∷ heard) below =
-    alive_behind (node_after node from (AliveTold number)) gateway heard (omega (arith, length-set node.alive from true, below))
+alive_after node gateway [] below = alone (is_alive node gateway)
+alive_after node gateway ((from, EchoAsked number) ∷ heard) below = alive_after node gateway heard below
+alive_after node gateway ((from, EchoTold number counter) ∷ heard) below = alive_after node gateway heard below
+alive_after node gateway ((from, AliveAsked number) ∷ heard) below = alive_after node gateway heard below
+alive_after node gateway ((from, AliveTold number) ∷ heard) below =
+    alive_after (node_after node from (AliveTold number)) gateway heard (omega (arith, length-set node.alive from true, below))
     ∙ ap (λ b. b || list_any (tells_alive gateway) heard) (after_set node.alive from gateway below)
     ∙ second_first (is_alive node gateway) (gateway == from) (list_any (tells_alive gateway) heard)
 
@@ -64,7 +64,7 @@ alive_behind node gateway ((from, AliveTold number) ∷ heard) below =
 pub alive_exactly : (counter gateway : ℕ) (heard : List (ℕ × PathEvent)) → gateway < 256 →
     is_alive (node_after_all (node_anew counter) heard) gateway ≡ list_any (tells_alive gateway) heard
 alive_exactly counter gateway heard below =
-    alive_behind (node_anew counter) gateway heard below
+    alive_after (node_anew counter) gateway heard below
     ∙ ap (λ b. b || list_any (tells_alive gateway) heard) (none_set 256 gateway)
 
 -- from its Node Alive Response on a gateway stays alive

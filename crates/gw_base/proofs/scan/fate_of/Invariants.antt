@@ -1,7 +1,7 @@
 use Rattle.std.proofs.Common.{◌≡◌, drop}
 use Rattle.gw_base.specs.History.{fate_of}
-use Rattle.gw_base.proofs.scan.hold_fate.Given as goal
+use Rattle.gw_base.proofs.scan.fate_of.Given as goal
 
 -- what is left decides
 abbrev pub invariant-loop-entry : goal.invariant-loop-entry
-invariant-loop-entry l = fate_of l.node.0 l.number (drop l.entry-index l.behind) ≡ fate_of l.node.0 l.number l.behind
+invariant-loop-entry l = fate_of l.node.0 l.number (drop l.entry-index l.later) ≡ fate_of l.node.0 l.number l.later

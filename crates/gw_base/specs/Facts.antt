@@ -1,0 +1,28 @@
+-- What a value that stands for a history tells of it.
+use Rattle.std.specs.Prelude.{ℕ, ◌≡◌, ◌≤◌, ◌++◌, Bool, true, List, length}
+use Rattle.gw_base.specs.declared.history.HistoryEntry.{HistoryEntry}
+
+-- The numbers hold always, the lists where they are told: a size that stays, counts of faults and of cuts that never
+-- fall, a length that never falls, the list of entries that the value stands for, those that are firm, and those that
+-- a fault tore off the list, of which nobody knows whether they will be found again
+pub record Facts : Type 0 where
+  pub size : ℕ
+  pub faults : ℕ
+  pub cuts : ℕ
+  pub length : ℕ
+  pub list : List HistoryEntry
+  pub firm : List HistoryEntry
+  pub torn : List HistoryEntry
+
+-- the list and the torn entries, one after the other
+abbrev pub joined : Facts → List HistoryEntry
+joined f = f.list ++ f.torn
+
+-- facts that fit together: the list begins with the firm part, and the length is at most that of the firm part
+pub record AreSound (f : Facts) : Type 0 where
+  pub begins : (rest : List HistoryEntry) × (f.list ≡ f.firm ++ rest)
+  pub within : f.length ≤ length f.firm
+
+-- a fact of the lists, which holds where they are told
+abbrev pub WhereTold : Bool → Type 0 → Type 0
+WhereTold told fact = told ≡ true → fact
