@@ -1,4 +1,5 @@
 -- What public clauses cite.
+pub mod Comes
 pub mod Fit
 pub mod Follows
 pub mod Format

@@ -1,11 +1,14 @@
 -- What each outcome of a call leaves of a trail, from the trail before it to the one after it.
 use Rattle.std.specs.Prelude.{◌≡◌, ◌≢◌, ℕ, ◌+◌, ◌<◌, IsTrue, Bool, false, List, [], ◌∷◌, ◌++◌, length, Result, Ok, is_err}
+use Rattle.area_disk.specs.Armed.{Armed, IsArmed, calls_under}
+use Rattle.area_disk.specs.Course.{IsTied}
 use Rattle.area_disk.specs.Disk.{HasCause, counted}
 use Rattle.area_disk.specs.declared.area.Area.{Ghosts}
 use Rattle.gw_base.specs.declared.history.HistoryEntry.{HistoryEntry}
 use Rattle.gw_base.specs.declared.place.Place.{Place}
 use Rattle.gate_journal.specs.Moments.{Calls, Leaves, Told}
 use Rattle.entry_codec.specs.Spelling.{entry_length}
+use Rattle.cgf_journal.specs.Comes.{CommitComes, ReopenComes, plan_of}
 use Rattle.cgf_journal.specs.Follows.{CommitFollows, ReopenFollows}
 use Rattle.cgf_journal.specs.Trail.{IsFirmPlaceOf, IsPlaceOf, IsSettled, StandsForOr, area_of, entries, firm_entries, firm_length, free_of, has_room_of, header_of, is_closed, length_of, torn_stands, waiting, waiting_octets}
 use Rattle.cgf_journal.specs.declared.trail.Trail.{Trail}
@@ -80,9 +83,10 @@ module _ {A : Type 0} {tells : Ghosts A} (old new : Trail A tells) where
     pub calls : IsTrue tells.tells_calls → waiting_octets old ≢ 0 → Calls 4 (tells.calls (area_of old)) (tells.calls (area_of new)) result
     pub cause : HasCause (tells.faults (area_of old)) (tells.faults (area_of new)) result
 
-  -- A commit of entries comes out as was planned.
-  abbrev pub CommitPlanned : {E : Type 0} → Result ℕ E → Type 0
-  CommitPlanned result = IsTrue tells.tells_fate → Told tells → waiting_octets old ≢ 0 → CommitFollows old new (is_err result)
+  -- A commit of entries comes out as was planned, call by call, and as was armed for one of its four calls.
+  pub record CommitPlanned {E : Type 0} (result : Result ℕ E) : Type 0 where
+    pub follows : IsTrue tells.tells_fate → Told tells → waiting_octets old ≢ 0 → CommitFollows old new (is_err result)
+    pub comes : IsTrue tells.tells_fate → Told tells → waiting old ≢ [] → (a : Armed) → IsTied a (plan_of old) → CommitComes new (is_err result) (calls_under a 4)
 
   -- The trail is open again: it answers whether the torn entries stand, and none waits any more.
   pub record IsReopened (stands : Bool) : Type 0 where
@@ -117,6 +121,7 @@ module _ {A : Type 0} {tells : Ghosts A} (old new : Trail A tells) where
     pub calls : IsTrue tells.tells_calls → tells.calls (area_of new) ≡ counted 1 (tells.calls (area_of old))
     pub cause : HasCause (tells.faults (area_of old)) (tells.faults (area_of new)) result
 
-  -- An opening again comes out as was planned.
-  abbrev pub ReopenPlanned : {E : Type 0} → Result Bool E → Type 0
-  ReopenPlanned result = IsTrue tells.tells_fate → ReopenFollows old new (is_err result)
+  -- An opening again comes out as was planned, and as was armed for its one call.
+  pub record ReopenPlanned {E : Type 0} (result : Result Bool E) : Type 0 where
+    pub follows : IsTrue tells.tells_fate → ReopenFollows old new (is_err result)
+    pub comes : IsTrue tells.tells_fate → (a : Armed) → IsArmed a (plan_of old).schedule → ReopenComes old new (is_err result) (calls_under a 1)

@@ -11,6 +11,7 @@ use Rattle.cgf_journal.specs.Format.{entries_in}
 use Rattle.cgf_journal.specs.Sound.{IsSound}
 use Rattle.cgf_journal.specs.Tally.{Tallies, TallyValue}
 use Rattle.cgf_journal.specs.Trail.{StandsForOr, area_of, firm_entries, header_of, length_of, waiting}
+use Rattle.cgf_journal.proofs.Coming.{commit_planned}
 use Rattle.cgf_journal.proofs.Entries.{entries_in-push}
 use Rattle.cgf_journal.proofs.Reopening.{either_way}
 use Rattle.cgf_journal.proofs.Sounds.{fits, none_of as none_wait, settled as settled_sound}
@@ -122,12 +123,26 @@ returns-in-Err-Device-clause-any_moment g c = λ told.
     subst (λ (h : List HistoryEntry). Leaves g.A.Area (area_of t) (journal.area_of c.append.new.self) (StandsForOr (header_of t) (firm_entries t) h)) (sym (entries_open t c.requires.ready))
     (leaves_either t _ _ told c.octets-2.ensures some laws.same_size laws.same_size_since c.append.ensures.stays.size (c.append.ensures.any_moment told))
 
-pub returns-in-Err-Device-clause-planned : goal.returns-in-Err-Device-clause-planned
-returns-in-Err-Device-clause-planned g c = λ fate told waits.
+pub returns-then-is_empty-clause-planned : goal.returns-then-is_empty-clause-planned
+returns-then-is_empty-clause-planned g c =
+    let t = c.args.self.now in
+    commit_planned _ _ _ (λ fate told some. absurd (some (none_of t.waiting.octets c.octets.result.now c.octets.ensures (sym c.is_empty.ensures ∙ c.if-is_empty.true))))
+
+pub returns-in-Ok-clause-planned : goal.returns-in-Ok-clause-planned
+returns-in-Ok-clause-planned g c =
     let t = c.args.self.now in
     let some : t.waiting.octets ≢ [] = λ e. not_none t.waiting.octets c.octets.result.now c.octets.ensures (sym c.is_empty.ensures ∙ c.if-is_empty.false) e in
+    commit_planned _ _ _ (λ fate told waits.
+    let planned = c.in-Ok.ensures.planned fate told (omega (arith, ap length c.octets-2.ensures, fits t.journal t.size t.waiting t.places.items t.firm t.tally t.sound some)) in
+    record { fails = planned.fails; course = planned.course; stands = planned.stands })
+
+pub returns-in-Err-Device-clause-planned : goal.returns-in-Err-Device-clause-planned
+returns-in-Err-Device-clause-planned g c =
+    let t = c.args.self.now in
+    let some : t.waiting.octets ≢ [] = λ e. not_none t.waiting.octets c.octets.result.now c.octets.ensures (sym c.is_empty.ensures ∙ c.if-is_empty.false) e in
+    commit_planned _ _ _ (λ fate told waits.
     let planned = c.in-Err-Device.ensures.planned fate told (omega (arith, ap length c.octets-2.ensures, fits t.journal t.size t.waiting t.places.items t.firm t.tally t.sound some)) in
-    record { fails = planned.fails; course = planned.course; stands = planned.stands }
+    record { fails = planned.fails; course = planned.course; stands = planned.stands })
 
 pub returns-in-Ok-clause-unmade : goal.returns-in-Ok-clause-unmade
 returns-in-Ok-clause-unmade g c =

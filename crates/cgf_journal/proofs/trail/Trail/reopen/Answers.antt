@@ -1,4 +1,5 @@
 use Rattle.std.proofs.Common.{◌≡◌, true, if◌then◌else◌, List, [], length, refl, sym, ◌∙◌, ap, arith, subst, slice_get, rules}
+use Rattle.std.specs.Prelude.{is_err}
 use Rattle.std.proofs.lemmas.List.{length-take-le}
 use Rattle.gw_base.specs.Buffer.{Buffered}
 use Rattle.gw_base.specs.declared.place.Place.{Place}
@@ -8,6 +9,7 @@ use Rattle.cgf_journal.specs.Format.{entries_in}
 use Rattle.cgf_journal.specs.Sound.{IsSound, is_founded}
 use Rattle.cgf_journal.specs.Tally.{Tallies, TallyValue}
 use Rattle.cgf_journal.specs.Trail.{firm_entries, waiting}
+use Rattle.cgf_journal.proofs.Coming.{reopen_failed, reopen_planned}
 use Rattle.cgf_journal.proofs.Entries.{entries_in-push}
 use Rattle.cgf_journal.proofs.Reopening.{either_way, end_goes, goes, list_goes, list_stays, stays, tally_closed}
 use Rattle.cgf_journal.proofs.Sounds.{dropped, none_of, settled as settled_sound}
@@ -151,3 +153,14 @@ returns-clause-any_moment g c = λ told.
     let t = c.args.self.now in
     let j = c.reopen.new.self in
     leaves_either t _ _ told (t.sound.torn_waits c.requires.closed) (t.sound.some_torn c.requires.closed) laws.same_size laws.same_size_since c.reopen.ensures.stays.size (c.reopen.ensures.any_moment.any told)
+
+pub returns-in_err-reopen-clause-planned : goal.returns-in_err-reopen-clause-planned
+returns-in_err-reopen-clause-planned g c =
+    let failing : is_err c.from_residual.result ≡ true = search rules in
+    reopen_failed _ _ _ failing (λ fate. let planned = c.in_err-reopen.ensures.planned fate in record { planned = planned.planned; stands = planned.stands })
+
+pub returns-then-end-clause-planned : goal.returns-then-end-clause-planned
+returns-then-end-clause-planned g c = reopen_planned _ _ _ (λ fate. let planned = c.in_ok-reopen.ensures.planned fate in record { planned = planned.planned; stands = planned.stands })
+
+pub returns-clause-planned : goal.returns-clause-planned
+returns-clause-planned g c = reopen_planned _ _ _ (λ fate. let planned = c.in_ok-reopen.ensures.planned fate in record { planned = planned.planned; stands = planned.stands })
