@@ -85,74 +85,10 @@ records_end p old is within =
 
 -- The records that are filed.
 
--- as many records as are asked for
-abbrev IsOfLength : ℕ → Option (List (List ℕ)) → Type 0
-IsOfLength count None = Unit {0}
-IsOfLength count (Some records) = length records ≡ count
-
-one_longer : (count : ℕ) (r : List ℕ) (more : Option (List (List ℕ))) → IsOfLength count more → IsOfLength (suc count) (option_map (λ records. r ∷ records) more)
-one_longer count r None h = tt
-one_longer count r (Some more) h = omega (arith, h)
-
-records_length : (count : ℕ) (octets : List ℕ) → IsOfLength count (packet.records_at count octets)
-records_length zero [] = refl
-records_length zero (x ∷ xs) = tt
-records_length (suc count) octets =
-    elim (packet.record_at octets) as (λ parts. IsOfLength (suc count) (option_and_then (λ p. option_map (λ records. p.0 ∷ records) (packet.records_at count p.1)) parts))
-    [ None ↦ tt | Some p ↦ one_longer count p.0 (packet.records_at count p.1) (records_length count p.1) ]
-
--- what was read is the packet of so many records, of this format and version
-record IsForm (count format version : ℕ) (found : Option packet.PacketForm) : Type 0 where
-  form : packet.PacketForm
-  is : found ≡ Some form
-  of_format : form.format ≡ format
-  of_version : form.version ≡ version
-  so_many : length form.records ≡ count
-
-form_inside : (c : ℕ) (v : List ℕ) (count format version : ℕ) (value : List ℕ) (none : Bool) (f w : ℕ) (records : Option (List (List ℕ))) → IsOfLength c records →
-    option_map (λ (p : packet.PacketForm). packet.Full c p.format p.version v) (cond none None (option_map (λ rs. let p : packet.PacketForm = record { format = f; version = w; records = rs } in p) records))
-    ≡ Some (packet.Full count format version value) →
-    IsForm count format version (cond none None (option_map (λ rs. let p : packet.PacketForm = record { format = f; version = w; records = rs } in p) records))
-form_inside c v count format version value true f w records h e = cc
-form_inside c v count format version value false f w None h e = cc
-form_inside c v count format version value false f w (Some records) h e =
-    let number : c ≡ count = cc in
-    record { form = record { format = f; version = w; records = records }; is = refl; of_format = cc; of_version = cc; so_many = h ∙ number }
-
-full_form : (spells : List ℕ) (count format version : ℕ) (value : List ℕ) → packet.full_packet spells ≡ Some (packet.Full count format version value) →
-    IsForm count format version (packet.packet_of spells)
-full_form [] count format version value e = cc
-full_form (a ∷ []) count format version value e = cc
-full_form (a ∷ b ∷ []) count format version value e = cc
-full_form (a ∷ b ∷ c ∷ []) count format version value e = cc
-full_form (a ∷ b ∷ c ∷ d ∷ octets) count format version value e =
-    form_inside a (a ∷ b ∷ c ∷ d ∷ octets) count format version value (a == 0) b (256 * c + d) (packet.records_at a octets) (records_length a octets) e
-
-by_emptiness : (empty : Bool) (full : Option packet.PacketValue) (count format version : ℕ) (value : List ℕ) →
-    cond empty (Some packet.Empty) full ≡ Some (packet.Full count format version value) → full ≡ Some (packet.Full count format version value)
-by_emptiness true full count format version value e = cc
-by_emptiness false full count format version value e = e
-
-form_of : (count format version : ℕ) (value : List ℕ) → packet.IsPacket (packet.Full count format version value) → IsForm count format version (packet.packet_of value)
-form_of count format version value is =
-    full_form value count format version value (by_emptiness (packet.is_empty_packet value) (packet.full_packet value) count format version value is)
-
--- a packet has as many records as it says
-pub records_count : (count format version : ℕ) (value : List ℕ) → packet.IsPacket (packet.Full count format version value) →
-    length (packet.packet_records (packet.Full count format version value)) ≡ count
-records_count count format version value is =
-    let form = form_of count format version value is in
-    ap (λ (found : Option packet.PacketForm). length (option_map_or (λ (p : packet.PacketForm). p.records) found [])) form.is ∙ form.so_many
-
--- the records that a packet's value files are those of the packet
-pub records_filed : (key : PacketKey) (moment count format version : ℕ) (value : List ℕ) → packet.IsPacket (packet.Full count format version value) →
-    records_of key moment value ≡ records_from key moment format version 0 (packet.packet_records (packet.Full count format version value))
-records_filed key moment count format version value is =
-    let form = form_of count format version value is in
-    ap (records_in key moment) form.is
-    ∙ ap (λ f. records_from key moment f form.form.version 0 form.form.records) form.of_format
-    ∙ ap (λ v. records_from key moment format v 0 form.form.records) form.of_version
-    ∙ ap (λ (found : Option packet.PacketForm). records_from key moment format version 0 (option_map_or (λ (p : packet.PacketForm). p.records) found [])) (sym form.is)
+-- the records that a packet's value files are those of the packet that is stated with it
+pub records_filed : (key : PacketKey) (moment count format version : ℕ) (value : List ℕ) → packet.IsPacket (packet.Full (packet.stated_form count format version value) value) →
+    records_of key moment value ≡ records_from key moment format version 0 (packet.packet_records (packet.Full (packet.stated_form count format version value) value))
+records_filed key moment count format version value is = ap (records_in key moment) is
 
 -- the first of the records is filed
 pub filed_more : (key : PacketKey) (moment format version index : ℕ) (old rest : List (List ℕ)) (r : List ℕ) (front new : List FiledRecord) → old ≡ r ∷ rest →

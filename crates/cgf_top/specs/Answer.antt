@@ -28,12 +28,12 @@ state_in h node number = state_of (record { node = node; epoch = epoch_of node.0
 -- what a request that sends this packet asks
 abbrev pub sending : PacketValue → Ask
 sending Empty = ask.Empty
-sending (Full count format version value) = ask.Send
+sending (Full form value) = ask.Send
 
 -- the same where the packet is possibly duplicated
 abbrev pub sending_again : PacketValue → Ask
 sending_again Empty = ask.Empty
-sending_again (Full count format version value) = ask.Possible
+sending_again (Full form value) = ask.Possible
 
 -- what a request that sends a packet is recorded as
 abbrev pub act_of : Ask → NodeId → ℕ → List ℕ → HistoryAct

@@ -52,7 +52,7 @@ is_built_kind kind = (kind.release == 3) && (kind.version == 0) && (kind.format 
 
 abbrev pub is_built_packet : PacketValue → Bool
 is_built_packet Empty = true
-is_built_packet (Full count format version value) = is_built_kind (kind_of format version)
+is_built_packet (Full form value) = is_built_kind (kind_of form.format form.version)
 
 -- the octets of the CDRs of these records, each behind a header of four octets
 abbrev pub cdr_sizes : List (List ℕ) → ℕ

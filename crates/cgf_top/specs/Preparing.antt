@@ -5,7 +5,7 @@ use Rattle.std.specs.List.{list_all}
 use Rattle.ber_frame.specs.Checked.{is_one_value}
 use Rattle.gw_base.specs.declared.cause.TheConstants.{CDR_DECODING_ERROR}
 use Rattle.gtpp_message.specs.Message.{MessageValue, TransferValue, TransferRequest, Send, Possible, Cancel, Release}
-use Rattle.gtpp_message.specs.Packet.{PacketValue, Empty, Full, packet_records}
+use Rattle.gtpp_message.specs.Packet.{PacketValue, Empty, Full}
 use Rattle.gtpp_message.specs.Reading.{ReadingValue}
 use Rattle.gtpp_message.specs.Reading as read
 use Rattle.gtpp_message.specs.Role.{role_reading}
@@ -24,8 +24,7 @@ pub data PreparedValue : Type 0 where
 -- each record of a packet of format 1, which is ASN.1 BER, is one BER value
 abbrev pub has_values : PacketValue → Bool
 has_values Empty = true
-has_values (Full count format version value) =
-    if format == 1 then list_all is_one_value (packet_records (Full count format version value)) else true
+has_values (Full form value) = if form.format == 1 then list_all is_one_value form.records else true
 
 -- so is each record that a request sends in a packet of that format
 abbrev pub sends_values : TransferValue → Bool

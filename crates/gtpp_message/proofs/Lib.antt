@@ -1,4 +1,5 @@
 pub mod PacketLemmas
+pub mod PacketSpelled
 pub mod PacketWritten
 pub mod PartLemmas
 pub mod RecordLemmas

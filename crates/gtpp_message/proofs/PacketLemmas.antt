@@ -1,8 +1,9 @@
 -- The records of a packet, one after the other.
-use Rattle.std.proofs.Common.{◌≡◌, ℕ, zero, suc, ◌-◌, ◌<◌, ◌==◌, Bool, true, false, cond, List, [], ◌∷◌, length, drop, Option, Some, None, is_some, IsSomeAnd, slice_get, option_map, option_and_then, refl, ap, sym, subst, ◌∙◌, arith}
+use Rattle.std.proofs.Common.{◌≡◌, ◌≢◌, ℕ, zero, suc, ◌-◌, ◌<◌, ◌==◌, Bool, true, false, cond, List, [], ◌∷◌, length, drop, Option, Some, None, IfSome, is_some, slice_get, option_map, option_and_then, unwrap_or, refl, ap, sym, subst, ◌∙◌, arith}
+use Rattle.std.proofs.lemmas.Bool.{eqb-false}
 use Rattle.std.proofs.Math.Dec.{eqb-suc-zero}
 use Rattle.gtpp_header.specs.Header.{two_octets}
-use Rattle.gtpp_message.specs.Packet.{IsPacket, PacketForm, packet_of, PacketValue, Empty, Full, full_packet, is_empty_packet, nth_record, packet_in, packet_reading, record_at, records_at}
+use Rattle.gtpp_message.specs.Packet.{IsPacket, PacketForm, packet_of, PacketValue, Empty, Full, full_packet, is_empty_packet, nth_record, packet_in, packet_reading, record_at, records_at, records_in, stated_form}
 
 some_one_more : (r : List ℕ) (more : Option (List (List ℕ))) → is_some more ≡ is_some (option_map (λ records. r ∷ records) more)
 some_one_more r None = refl
@@ -51,65 +52,6 @@ nth_there : (count : ℕ) (octets : List ℕ) (k : ℕ) → is_some (records_at 
 nth_there zero octets k e below = absurd (omega arith)
 nth_there (suc count) octets k e below = nth_behind count (nth_there count) octets k (record_at octets) refl e below
 
--- what was read of a value that isn't of the empty packet
-full_inside : (count format version : ℕ) (value : List ℕ) (found : Option PacketForm) (c : ℕ) (v : List ℕ) →
-    option_map (λ (packet : PacketForm). Full c packet.format packet.version v) found ≡ Some (Full count format version value) → (is_some found ≡ true) × (c ≡ count)
-full_inside count format version value None c v e = cc
-full_inside count format version value (Some packet) c v e = (refl, cc)
-
-packet_inside : (count format version : ℕ) (octets : List ℕ) → is_some (packet_in count format version octets) ≡ true → is_some (records_at count octets) ≡ true
-packet_inside count format version octets e = by_test (count == 0) (records_at count octets) e
-  where
-    by_test : (none : Bool) (records : Option (List (List ℕ))) →
-        is_some (cond none None (option_map (λ (rs : List (List ℕ)). let p : PacketForm = record { format = format; version = version; records = rs } in p) records)) ≡ true → is_some records ≡ true
-    by_test true records e = cc
-    by_test false None e = cc
-    by_test false (Some records) e = refl
-
-full_there : (count format version : ℕ) (value : List ℕ) (k : ℕ) → full_packet value ≡ Some (Full count format version value) → k < count → is_some (nth_record k (drop 4 value)) ≡ true
-full_there count format version [] k e below = cc
-full_there count format version (a ∷ []) k e below = cc
-full_there count format version (a ∷ b ∷ []) k e below = cc
-full_there count format version (a ∷ b ∷ c ∷ []) k e below = cc
-full_there count format version (a ∷ b ∷ c ∷ d ∷ octets) k e below =
-    let inside = full_inside count format version (a ∷ b ∷ c ∷ d ∷ octets) (packet_in a b (two_octets c d) octets) a (a ∷ b ∷ c ∷ d ∷ octets) e in
-    nth_there a octets k (packet_inside a b (two_octets c d) octets inside.0) (omega (arith, inside.1))
-
-by_emptiness : (empty : Bool) (full : Option PacketValue) (count format version : ℕ) (value : List ℕ) →
-    cond empty (Some Empty) full ≡ Some (Full count format version value) → full ≡ Some (Full count format version value)
-by_emptiness true full count format version value e = cc
-by_emptiness false full count format version value e = e
-
-value_inside : (count format version : ℕ) (value v : List ℕ) (found : Option PacketForm) (c : ℕ) →
-    option_map (λ (packet : PacketForm). Full c packet.format packet.version v) found ≡ Some (Full count format version value) → v ≡ value
-value_inside count format version value v None c e = cc
-value_inside count format version value v (Some packet) c e = cc
-
-value_there : (count format version : ℕ) (value spells : List ℕ) → full_packet spells ≡ Some (Full count format version value) → spells ≡ value
-value_there count format version value [] e = cc
-value_there count format version value (a ∷ []) e = cc
-value_there count format version value (a ∷ b ∷ []) e = cc
-value_there count format version value (a ∷ b ∷ c ∷ []) e = cc
-value_there count format version value (a ∷ b ∷ c ∷ d ∷ octets) e =
-    value_inside count format version value (a ∷ b ∷ c ∷ d ∷ octets) (packet_in a b (two_octets c d) octets) a e
-
--- a packet that a value spells says what its value says
-pub is_packet : (packet : PacketValue) (spells : List ℕ) → packet_reading spells ≡ Some packet → IsPacket packet
-is_packet Empty spells e = tt
-is_packet (Full count format version value) spells e =
-    subst (λ (v : List ℕ). packet_reading v ≡ Some (Full count format version value))
-    (value_there count format version value spells (by_emptiness (is_empty_packet spells) (full_packet spells) count format version value e)) e
-
--- each record of a packet that a value spells is there
-pub part_there : (count format version : ℕ) (value : List ℕ) (k : ℕ) → packet_reading value ≡ Some (Full count format version value) → k < count → is_some (nth_record k (drop 4 value)) ≡ true
-part_there count format version value k e below =
-    full_there count format version value k (by_emptiness (is_empty_packet value) (full_packet value) count format version value e) below
-
--- a record that is there is found
-pub no_part : (k : ℕ) (records octets : List ℕ) → is_some (nth_record k records) ≡ true → None ≡ nth_record k octets → octets ≡ records → ⊥
-no_part k records octets there none same =
-    let never : false ≡ true = ap is_some none ∙ ap (λ (o : List ℕ). is_some (nth_record k o)) same ∙ there in cc
-
 -- the k-th record, where the first was read
 abbrev nth_behind_of : ℕ → Option (List ℕ × List ℕ) → Option (List ℕ)
 nth_behind_of zero found = option_map (λ (parts : List ℕ × List ℕ). parts.0) found
@@ -146,30 +88,149 @@ nth_among : (count : ℕ) (octets : List ℕ) (records : List (List ℕ)) (k : �
 nth_among zero octets records k part e below nth = absurd (omega arith)
 nth_among (suc count) octets records k part e below nth = among_behind count (nth_among count) (record_at octets) records k part e below (sym (nth_of_behind k octets) ∙ nth)
 
-packet_part : (count format version : ℕ) (octets : List ℕ) (k : ℕ) (part : List ℕ) → is_some (packet_in count format version octets) ≡ true → k < count → nth_record k octets ≡ Some part →
-    IsSomeAnd (packet_in count format version octets) (λ packet. slice_get packet.records k ≡ Some part)
-packet_part count format version octets k part e below nth = by_test (count == 0) (records_at count octets) refl e
+-- as many records as are asked for
+abbrev IsOfLength : ℕ → Option (List (List ℕ)) → Type 0
+IsOfLength count None = Unit {0}
+IsOfLength count (Some records) = length records ≡ count
+
+one_longer : (count : ℕ) (r : List ℕ) (more : Option (List (List ℕ))) → IsOfLength count more → IsOfLength (suc count) (option_map (λ records. r ∷ records) more)
+one_longer count r None h = tt
+one_longer count r (Some more) h = omega (arith, h)
+
+records_length : (count : ℕ) (octets : List ℕ) → IsOfLength count (records_at count octets)
+records_length zero [] = refl
+records_length zero (x ∷ xs) = tt
+records_length (suc count) octets =
+    elim (record_at octets) as (λ parts. IsOfLength (suc count) (option_and_then (λ p. option_map (λ records. p.0 ∷ records) (records_at count p.1)) parts))
+    [ None ↦ tt | Some p ↦ one_longer count p.0 (records_at count p.1) (records_length count p.1) ]
+
+-- The packet that is stated with a value.
+
+-- so many records stand behind the number, the format and the version
+pub record IsCounted (count : ℕ) (octets : List ℕ) : Type 0 where
+  pub there : is_some (records_at count octets) ≡ true
+  pub read : records_at count octets ≡ Some (records_in count octets)
+  pub so_many : length (records_in count octets) ≡ count
+
+counted_some : (count : ℕ) (octets : List ℕ) (found : Option (List (List ℕ))) → records_at count octets ≡ found → IsOfLength count found → 0 < length (unwrap_or found []) →
+    (is_some found ≡ true) × (found ≡ Some (unwrap_or found [])) × (length (unwrap_or found []) ≡ count)
+counted_some count octets None is length some = absurd (omega arith)
+counted_some count octets (Some records) is length some = (refl, refl, length)
+
+counted_in : (count : ℕ) (octets : List ℕ) → 0 < length (records_in count octets) → IsCounted count octets
+counted_in count octets some =
+    let facts = counted_some count octets (records_at count octets) refl (records_length count octets) some in
+    record { there = facts.0; read = facts.1; so_many = facts.2 }
+
+form_is : (a b : PacketForm) → ◌≡◌ {A = Option PacketForm} (Some a) (Some b) → a ≡ b
+form_is a b e = cc
+
+-- the packet that is read of so many records has one
+form_some : (count format version : ℕ) (octets : List ℕ) (form : PacketForm) → packet_in count format version octets ≡ Some form → 0 < length form.records
+form_some count format version octets form e = by_test (count == 0) refl (records_at count octets) (records_length count octets) e
   where
-    by_test : (none : Bool) (records : Option (List (List ℕ))) → records_at count octets ≡ records →
-        is_some (cond none None (option_map (λ (rs : List (List ℕ)). let p : PacketForm = record { format = format; version = version; records = rs } in p) records)) ≡ true →
-        IsSomeAnd (cond none None (option_map (λ (rs : List (List ℕ)). let p : PacketForm = record { format = format; version = version; records = rs } in p) records)) (λ packet. slice_get packet.records k ≡ Some part)
-    by_test true records is e = cc
-    by_test false None is e = cc
-    by_test false (Some records) is e = nth_among count octets records k part is below nth
+    by_test : (none : Bool) → (count == 0) ≡ none → (records : Option (List (List ℕ))) → IsOfLength count records →
+        cond none None (option_map (λ (rs : List (List ℕ)). let p : PacketForm = record { format = format; version = version; records = rs } in p) records) ≡ Some form → 0 < length form.records
+    by_test true is records of e = cc
+    by_test false is None of e = cc
+    by_test false is (Some records) of e =
+        let stated : PacketForm = record { format = format; version = version; records = records } in
+        let same : stated ≡ form = form_is stated form e in
+        let some : count ≢ 0 = eqb-false count 0 is in
+        omega (arith, of, ap (λ (p : PacketForm). length p.records) same, some)
 
-full_part : (count format version : ℕ) (value : List ℕ) (k : ℕ) (part : List ℕ) → full_packet value ≡ Some (Full count format version value) → k < count → nth_record k (drop 4 value) ≡ Some part →
-    IsSomeAnd (packet_of value) (λ packet. slice_get packet.records k ≡ Some part)
-full_part count format version [] k part e below nth = cc
-full_part count format version (a ∷ []) k part e below nth = cc
-full_part count format version (a ∷ b ∷ []) k part e below nth = cc
-full_part count format version (a ∷ b ∷ c ∷ []) k part e below nth = cc
-full_part count format version (a ∷ b ∷ c ∷ d ∷ octets) k part e below nth =
-    let inside = full_inside count format version (a ∷ b ∷ c ∷ d ∷ octets) (packet_in a b (two_octets c d) octets) a (a ∷ b ∷ c ∷ d ∷ octets) e in
-    packet_part a b (two_octets c d) octets k part inside.0 (omega (arith, inside.1)) nth
+packet_some : (value : List ℕ) (form : PacketForm) → packet_of value ≡ Some form → 0 < length form.records
+packet_some [] form e = cc
+packet_some (a ∷ []) form e = cc
+packet_some (a ∷ b ∷ []) form e = cc
+packet_some (a ∷ b ∷ c ∷ []) form e = cc
+packet_some (a ∷ b ∷ c ∷ d ∷ octets) form e = form_some a b (two_octets c d) octets form e
 
--- what stands at the k-th place is the k-th record of the packet
-pub part_is : (count format version : ℕ) (value octets : List ℕ) (k : ℕ) (part : List ℕ) → packet_reading value ≡ Some (Full count format version value) → k < count →
-    Some part ≡ nth_record k octets → octets ≡ drop 4 value → IsSomeAnd (packet_of value) (λ packet. slice_get packet.records k ≡ Some part)
+-- a packet whose value says what it states has as many records as it says
+pub packet_counted : (count format version : ℕ) (value : List ℕ) → packet_of value ≡ Some (stated_form count format version value) → IsCounted count (drop 4 value)
+packet_counted count format version value e = counted_in count (drop 4 value) (packet_some value (stated_form count format version value) e)
+
+-- each record of a packet is there, and is the k-th
+pub part_there : (count format version : ℕ) (value : List ℕ) (k : ℕ) → packet_of value ≡ Some (stated_form count format version value) →
+    k < length (records_in count (drop 4 value)) → is_some (nth_record k (drop 4 value)) ≡ true
+part_there count format version value k e below =
+    let counted = packet_counted count format version value e in
+    nth_there count (drop 4 value) k counted.there (omega (arith, counted.so_many, below))
+
+pub part_is : (count format version : ℕ) (value octets : List ℕ) (k : ℕ) (part : List ℕ) → packet_of value ≡ Some (stated_form count format version value) →
+    k < length (records_in count (drop 4 value)) → Some part ≡ nth_record k octets → octets ≡ drop 4 value → slice_get (records_in count (drop 4 value)) k ≡ Some part
 part_is count format version value octets k part e below nth same =
-    full_part count format version value k part (by_emptiness (is_empty_packet value) (full_packet value) count format version value e) below
+    let counted = packet_counted count format version value e in
+    nth_among count (drop 4 value) (records_in count (drop 4 value)) k part counted.read (omega (arith, counted.so_many, below))
     (sym (nth ∙ ap (nth_record k) same))
+
+-- a record that is there is found
+pub no_part : (k : ℕ) (records octets : List ℕ) → is_some (nth_record k records) ≡ true → None ≡ nth_record k octets → octets ≡ records → ⊥
+no_part k records octets there none same =
+    let never : false ≡ true = ap is_some none ∙ ap (λ (o : List ℕ). is_some (nth_record k o)) same ∙ there in cc
+
+-- What is read.
+
+-- what the fields of a value state is what it says
+pub full_stated : (count format high low : ℕ) (octets : List ℕ) → (count == 0) ≡ false → is_some (records_at count octets) ≡ true →
+    ◌≡◌ {A = Option PacketValue} (Some (Full (stated_form count format (two_octets high low) (count ∷ format ∷ high ∷ low ∷ octets)) (count ∷ format ∷ high ∷ low ∷ octets)))
+    (full_packet (count ∷ format ∷ high ∷ low ∷ octets))
+full_stated count format high low octets some there = by_test (count == 0) (records_at count octets) some there
+  where
+    by_test : (none : Bool) (records : Option (List (List ℕ))) → none ≡ false → is_some records ≡ true →
+        ◌≡◌ {A = Option PacketValue}
+        (Some (Full (let p : PacketForm = record { format = format; version = two_octets high low; records = unwrap_or records [] } in p) (count ∷ format ∷ high ∷ low ∷ octets)))
+        (option_map (λ (form : PacketForm). Full form (count ∷ format ∷ high ∷ low ∷ octets))
+        (cond none None (option_map (λ (rs : List (List ℕ)). let p : PacketForm = record { format = format; version = two_octets high low; records = rs } in p) records)))
+    by_test true records some there = cc
+    by_test false None some there = cc
+    by_test false (Some records) some there = refl
+
+by_emptiness : (empty : Bool) (full : Option PacketValue) (form : PacketForm) (value : List ℕ) →
+    cond empty (Some Empty) full ≡ Some (Full form value) → full ≡ Some (Full form value)
+by_emptiness true full form value e = cc
+by_emptiness false full form value e = e
+
+full_inside : (found : Option PacketForm) (spells : List ℕ) (form : PacketForm) (value : List ℕ) →
+    option_map (λ (f : PacketForm). Full f spells) found ≡ Some (Full form value) → (found ≡ Some form) × (spells ≡ value)
+full_inside None spells form value e = cc
+full_inside (Some f) spells form value e =
+    let same : f ≡ form = cc in
+    let spelled : spells ≡ value = cc in
+    (ap Some same, spelled)
+
+-- a full packet that a value spells is read of it
+pub full_read : (form : PacketForm) (value spells : List ℕ) → packet_reading spells ≡ Some (Full form value) → (packet_of spells ≡ Some form) × (spells ≡ value)
+full_read form value spells e = full_inside (packet_of spells) spells form value (by_emptiness (is_empty_packet spells) (full_packet spells) form value e)
+
+-- a packet that a value spells says what its value says
+pub is_packet : (packet : PacketValue) (spells : List ℕ) → packet_reading spells ≡ Some packet → IsPacket packet
+is_packet Empty spells e = tt
+is_packet (Full form value) spells e =
+    let read = full_read form value spells e in subst (λ (v : List ℕ). packet_of v ≡ Some form) read.1 read.0
+
+pub is_packet_of : (packet : Option PacketValue) (spells : List ℕ) → packet ≡ packet_reading spells → IfSome packet IsPacket
+is_packet_of None spells e = tt
+is_packet_of (Some packet) spells e = is_packet packet spells (sym e)
+
+-- the value of a full packet isn't of the empty one
+not_in : (count format version : ℕ) (octets : List ℕ) (form : PacketForm) → packet_in count format version octets ≡ Some form → (count == 0) ≡ false
+not_in count format version octets form e = by_test (count == 0) (records_at count octets) e
+  where
+    by_test : (none : Bool) (records : Option (List (List ℕ))) →
+        cond none None (option_map (λ (rs : List (List ℕ)). let p : PacketForm = record { format = format; version = version; records = rs } in p) records) ≡ Some form → none ≡ false
+    by_test true records e = cc
+    by_test false records e = refl
+
+not_empty : (value : List ℕ) (form : PacketForm) → packet_of value ≡ Some form → is_empty_packet value ≡ false
+not_empty [] form e = cc
+not_empty (a ∷ []) form e = cc
+not_empty (a ∷ b ∷ []) form e = cc
+not_empty (a ∷ b ∷ c ∷ []) form e = cc
+not_empty (a ∷ b ∷ c ∷ d ∷ []) form e = not_in a b (two_octets c d) [] form e
+not_empty (a ∷ b ∷ c ∷ d ∷ octet ∷ octets) form e = refl
+
+-- a packet is read of its value
+pub packet_back : (form : PacketForm) (value : List ℕ) → packet_of value ≡ Some form → packet_reading value ≡ Some (Full form value)
+packet_back form value e =
+    ap (λ (b : Bool). cond b (Some Empty) (full_packet value)) (not_empty value form e) ∙ ap (option_map (λ (f : PacketForm). Full f value)) e

@@ -7,7 +7,7 @@ use Rattle.gtpp_header.specs.Header.{two_octets}
 use Rattle.gtpp_message.specs.Packet.{SpellRecords, SpellsRecord, record_at, records_at}
 
 -- which way a choice went
-chosen : {T : Type 0} → (b : Bool) (x y z : T) → cond b x y ≡ z → ((b ≡ true) × (x ≡ z)) ⊎ ((b ≡ false) × (y ≡ z))
+pub chosen : {T : Type 0} → (b : Bool) (x y z : T) → cond b x y ≡ z → ((b ≡ true) × (x ≡ z)) ⊎ ((b ≡ false) × (y ≡ z))
 chosen true x y z e = inl (refl, e)
 chosen false x y z e = inr (refl, e)
 
@@ -49,7 +49,7 @@ records_are : (a b : List (List ℕ)) → ◌≡◌ {A = Option (List (List ℕ)
 records_are a b e = cc
 
 -- so many records, one after the other
-Counted : ℕ → List (List ℕ) → List ℕ → Type 0
+unfoldable pub Counted : ℕ → List (List ℕ) → List ℕ → Type 0
 Counted count records octets = (length records ≡ count) × SpellRecords records octets
 
 counted_more : (more : Option (List (List ℕ))) (count : ℕ) (first rest octets : List ℕ) (records : List (List ℕ)) → SpellsRecord first rest octets →
@@ -68,13 +68,13 @@ counted_behind count octets records None is counted e = cc
 counted_behind count octets records (Some parts) is counted e =
     counted_more (records_at count parts.1) count parts.0 parts.1 octets records (spelled_record octets parts is) (counted parts.1) e
 
-counted : (count : ℕ) (octets : List ℕ) (records : List (List ℕ)) → records_at count octets ≡ Some records → Counted count records octets
+pub counted : (count : ℕ) (octets : List ℕ) (records : List (List ℕ)) → records_at count octets ≡ Some records → Counted count records octets
 unfolding Counted
 counted zero [] records e = subst (λ (rs : List (List ℕ)). (length rs ≡ 0) × SpellRecords rs []) (records_are [] records e) (refl, refl)
 counted zero (octet ∷ octets) records e = cc
 counted (suc count) octets records e = counted_behind count octets records (record_at octets) refl (counted count) e
 
-records_again : (records : List (List ℕ)) (octets : List ℕ) → SpellRecords records octets → records_at (length records) octets ≡ Some records
+pub records_again : (records : List (List ℕ)) (octets : List ℕ) → SpellRecords records octets → records_at (length records) octets ≡ Some records
 records_again [] octets none = ap (records_at 0) none
 records_again (first ∷ records) octets (rest, spells, others) =
     ap (λ (found : Option (List ℕ × List ℕ)). option_and_then (λ (parts : List ℕ × List ℕ). option_map (λ rs. parts.0 ∷ rs) (records_at (length records) parts.1)) found) (record_again first rest octets spells)

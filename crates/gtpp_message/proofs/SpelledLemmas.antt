@@ -20,6 +20,7 @@ use Rattle.gtpp_message.specs.declared.flaw.Flaw.{Flaw}
 use Rattle.gtpp_message.specs.declared.flaw.Flaw.TheVariants.{Incorrect}
 use Rattle.gtpp_message.specs.declared.reading.Why.TheVariants as why
 use Rattle.gtpp_message.proofs.PacketLemmas.{is_packet}
+use Rattle.gtpp_message.proofs.PacketSpelled.{packet_again as read_packet, packet_said as spelled_packet}
 
 -- which way a choice went
 chosen : {T : Type 0} → (b : Bool) (x y z : T) → cond b x y ≡ z → ((b ≡ true) × (x ≡ z)) ⊎ ((b ≡ false) × (y ≡ z))
@@ -83,12 +84,12 @@ transfer_said command elements body e =
       | inl send ↦
           let read = bound (packet_among 252 elements) (λ packet. Ok (Send packet)) body send.1 in
           let said = packet_said elements read.0 read.1 in
-          body_is command elements (Send read.0) body read.2 (same_number command 1 send.0, said.0, said.1, said.2)
+          body_is command elements (Send read.0) body read.2 (same_number command 1 send.0, said.0, said.1, spelled_packet read.0 said.0 said.2)
       | inr n1 ↦ elim (chosen (command == 2) _ _ _ n1.1) [
         | inl possible ↦
             let read = bound (packet_among 252 elements) (λ packet. Ok (Possible packet)) body possible.1 in
             let said = packet_said elements read.0 read.1 in
-            body_is command elements (Possible read.0) body read.2 (same_number command 2 possible.0, said.0, said.1, said.2)
+            body_is command elements (Possible read.0) body read.2 (same_number command 2 possible.0, said.0, said.1, spelled_packet read.0 said.0 said.2)
         | inr n2 ↦ elim (chosen (command == 3) _ _ _ n2.1) [
           | inl cancel ↦
               let read = bound (numbers_among 250 elements) (λ numbers. Ok (Cancel numbers)) body cancel.1 in
@@ -217,8 +218,8 @@ packet_again elements value packet found is =
     ap (λ (o : Option (List ℕ)). present o >>= (λ v. packet_of_value (packet_reading v))) found ∙ ap packet_of_value is
 
 transfer_again : (elements : List Element) (body : TransferValue) (value : List ℕ) → first_value (command_element body) elements ≡ Some value → SpellsTransfer body value → transfer_of (command_of body) elements ≡ Ok body
-transfer_again elements (Send packet) value found says = ap (λ (r : Result PacketValue Flaw). r >>= (λ p. Ok (Send p))) (packet_again elements value packet found says)
-transfer_again elements (Possible packet) value found says = ap (λ (r : Result PacketValue Flaw). r >>= (λ p. Ok (Possible p))) (packet_again elements value packet found says)
+transfer_again elements (Send packet) value found says = ap (λ (r : Result PacketValue Flaw). r >>= (λ p. Ok (Send p))) (packet_again elements value packet found (read_packet packet value says))
+transfer_again elements (Possible packet) value found says = ap (λ (r : Result PacketValue Flaw). r >>= (λ p. Ok (Possible p))) (packet_again elements value packet found (read_packet packet value says))
 transfer_again elements (Cancel numbers) value found says = ap (λ (r : Result (List ℕ) Flaw). r >>= (λ ns. Ok (Cancel ns))) (numbers_again 250 elements value numbers found says)
 transfer_again elements (Release numbers) value found says = ap (λ (r : Result (List ℕ) Flaw). r >>= (λ ns. Ok (Release ns))) (numbers_again 249 elements value numbers found says)
 
@@ -314,8 +315,8 @@ read_spelled heads lists number message octets =
     (λ e. spelled_behind heads lists octets (header_reading octets) number message refl e, λ spells. read_again heads lists octets number message spells)
 
 sendable_transfer : (body : TransferValue) (value : List ℕ) → SpellsTransfer body value → IsSendableTransfer body
-sendable_transfer (Send packet) value spells = is_packet packet value spells
-sendable_transfer (Possible packet) value spells = is_packet packet value spells
+sendable_transfer (Send packet) value spells = is_packet packet value (read_packet packet value spells)
+sendable_transfer (Possible packet) value spells = is_packet packet value (read_packet packet value spells)
 sendable_transfer (Cancel numbers) value spells = tt
 sendable_transfer (Release numbers) value spells = tt
 

@@ -16,6 +16,7 @@ use Rattle.gtpp_message.specs.Reading.{Message, answered, behind, body_of, messa
 use Rattle.gtpp_message.specs.Writing.{IsSendableMessage, body_octets, elements_of, message_type, written}
 use Rattle.gtpp_message.specs.declared.flaw.Flaw.{Flaw}
 use Rattle.gtpp_message.specs.declared.flaw.Flaw.TheVariants.{Incorrect}
+use Rattle.gtpp_message.proofs.PacketLemmas.{packet_back as full_back}
 
 -- the elements of a message are such as may be sent
 sendable_elements : (message : MessageValue) → length (body_octets message) ≤ 65535 → AreSendable (elements_of message)
@@ -48,7 +49,7 @@ numbers_back again twice numbers =
 
 packet_back : (packet : PacketValue) → IsPacket packet → packet_reading (packet_octets packet) ≡ Some packet
 packet_back Empty sendable = refl
-packet_back (Full count format version value) sendable = sendable
+packet_back (Full form value) sendable = full_back form value sendable
 
 -- the elements of a message say it
 said_back : Again → Twice → (message : MessageValue) → IsSendableMessage message → message_of (message_type message) (elements_of message) ≡ Ok message

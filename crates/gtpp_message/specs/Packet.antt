@@ -1,6 +1,5 @@
 -- The value of a Data Record Packet (3GPP TS 32.295, clause 6.2.4.5.3).
-use Rattle.std.specs.Prelude.{◌≡◌, ℕ, zero, suc, ◌==◌, Bool, true, false, nat_lt, if◌then◌else◌, List, [], ◌∷◌, ◌++◌, length, take, drop, Option, Some, None, option_map, option_and_then, unwrap_or}
-use Rattle.std.specs.Option.{option_map_or}
+use Rattle.std.specs.Prelude.{◌≡◌, ℕ, zero, suc, ◌≤◌, ◌==◌, Bool, true, false, nat_lt, if◌then◌else◌, List, [], ◌∷◌, ◌++◌, length, take, drop, Option, Some, None, option_map, option_and_then, unwrap_or}
 use Rattle.std.specs.Borrow.{Bor}
 use Rattle.gtpp_header.specs.Header.{two_octets}
 
@@ -37,10 +36,10 @@ packet_of _ = None
 abbrev pub lent_parts : (Bor (List ℕ) × Bor (List ℕ)) → List ℕ × List ℕ
 lent_parts parts = (parts.0.now, parts.1.now)
 
--- what a packet says: that it has no records, or how many it has, their format and its version, and the whole value
+-- what a packet says: that it has no records, or its format, version and records, and the whole value
 pub data PacketValue : Type 0 where
   Empty : PacketValue
-  Full : (count format version : ℕ) (value : List ℕ) → PacketValue
+  Full : (form : PacketForm) (value : List ℕ) → PacketValue
 
 -- the value is of the empty packet: no octets, or no records with or without a format and its version
 abbrev pub is_empty_packet : List ℕ → Bool
@@ -51,10 +50,7 @@ is_empty_packet _ = false
 
 -- what a value says where it isn't of the empty packet
 abbrev pub full_packet : List ℕ → Option PacketValue
-full_packet (count ∷ format ∷ version_high ∷ version_low ∷ octets) =
-    option_map (λ packet. Full count packet.format packet.version (count ∷ format ∷ version_high ∷ version_low ∷ octets))
-    (packet_in count format (two_octets version_high version_low) octets)
-full_packet _ = None
+full_packet value = option_map (λ form. Full form value) (packet_of value)
 
 -- what a value says
 abbrev pub packet_reading : List ℕ → Option PacketValue
@@ -68,21 +64,25 @@ nth_record (suc k) octets = option_and_then (λ parts. nth_record k parts.1) (re
 -- the value of the packet says what the packet says
 abbrev pub IsPacket : PacketValue → Type 0
 IsPacket Empty = Unit {0}
-IsPacket (Full count format version value) = packet_reading value ≡ Some (Full count format version value)
+IsPacket (Full form value) = packet_of value ≡ Some form
 
 -- how many records the packet has
 abbrev pub count_of : PacketValue → ℕ
 count_of Empty = 0
-count_of (Full count format version value) = count
+count_of (Full form value) = length form.records
+
+-- the records of a packet
+abbrev pub packet_records : PacketValue → List (List ℕ)
+packet_records Empty = []
+packet_records (Full form value) = form.records
 
 -- so many records, none where the octets aren't so many
 abbrev pub records_in : ℕ → List ℕ → List (List ℕ)
 records_in count octets = unwrap_or (records_at count octets) []
 
--- the records of a packet
-abbrev pub packet_records : PacketValue → List (List ℕ)
-packet_records Empty = []
-packet_records (Full count format version value) = option_map_or (λ packet. packet.records) (packet_of value) []
+-- the packet that is stated with a value: so many records behind the number, the format and the version
+abbrev pub stated_form : ℕ → ℕ → ℕ → List ℕ → PacketForm
+stated_form count format version value = record { format = format; version = version; records = records_in count (drop 4 value) }
 
 -- the octets are a record behind its length in two octets, and what follows it
 pub record SpellsRecord (first rest octets : List ℕ) : Type 0 where
@@ -96,7 +96,29 @@ abbrev pub SpellRecords : List (List ℕ) → List ℕ → Type 0
 SpellRecords [] octets = octets ≡ []
 SpellRecords (first ∷ records) octets = (rest : List ℕ) × SpellsRecord first rest octets × SpellRecords records rest
 
+-- the octets are the empty packet: none, the number 0, or it with a format and its version
+abbrev pub SpellsEmpty : List ℕ → Type 0
+SpellsEmpty [] = Unit {0}
+SpellsEmpty (count ∷ []) = count ≡ 0
+SpellsEmpty (count ∷ format ∷ version_high ∷ version_low ∷ []) = count ≡ 0
+SpellsEmpty _ = ⊥
+
+-- the octets are the number of the records, of which there is one, their format and its version, and the records
+pub record SpellsForm (form : PacketForm) (value : List ℕ) : Type 0 where
+  pub version_high : ℕ
+  pub version_low : ℕ
+  pub octets : List ℕ
+  pub some : 1 ≤ length form.records
+  pub version : form.version ≡ two_octets version_high version_low
+  pub whole : value ≡ length form.records ∷ form.format ∷ version_high ∷ version_low ∷ octets
+  pub records : SpellRecords form.records octets
+
+-- the octets are the packet
+abbrev pub SpellsPacket : PacketValue → List ℕ → Type 0
+SpellsPacket Empty value = SpellsEmpty value
+SpellsPacket (Full form octets) value = (octets ≡ value) × SpellsForm form value
+
 -- the value of a packet as it is sent: the empty one has no octets
 abbrev pub packet_octets : PacketValue → List ℕ
 packet_octets Empty = []
-packet_octets (Full count format version value) = value
+packet_octets (Full form value) = value

@@ -7,7 +7,7 @@ use Rattle.gtpp_elements.specs.Elements.{Element, SpellElements, first_value}
 use Rattle.gtpp_elements.specs.Numbers.{numbers_in}
 use Rattle.gtpp_elements.specs.declared.element_types.TheConstants.{CAUSE, COMMAND, NODE_ADDRESS, RECOMMENDED, RECOVERY, RESPONDED}
 use Rattle.gtpp_message.specs.Message.{MessageValue, TransferValue, EchoRequest, EchoResponse, VersionNotSupported, NodeAliveRequest, NodeAliveResponse, RedirectionRequest, RedirectionResponse, TransferRequest, TransferResponse, Send, Possible, Cancel, Release}
-use Rattle.gtpp_message.specs.Packet.{packet_reading}
+use Rattle.gtpp_message.specs.Packet.{SpellsPacket}
 use Rattle.gtpp_message.specs.Reading.{is_address}
 use Rattle.gtpp_message.specs.Writing.{command_element, command_of, message_type}
 
@@ -21,8 +21,8 @@ SpellsNumbers numbers value = (length value % 2 ≡ 0) × (numbers_in value ≡ 
 
 -- the value is what the request asks to send, to cancel or to release
 abbrev pub SpellsTransfer : TransferValue → List ℕ → Type 0
-SpellsTransfer (Send packet) value = packet_reading value ≡ Some packet
-SpellsTransfer (Possible packet) value = packet_reading value ≡ Some packet
+SpellsTransfer (Send packet) value = SpellsPacket packet value
+SpellsTransfer (Possible packet) value = SpellsPacket packet value
 SpellsTransfer (Cancel numbers) value = SpellsNumbers numbers value
 SpellsTransfer (Release numbers) value = SpellsNumbers numbers value
 

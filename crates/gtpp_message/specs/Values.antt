@@ -20,7 +20,7 @@ lent octets = option_map (λ part. part.now) octets
 
 abbrev pub packet_value : Packet → packet.PacketValue
 packet_value packets.Empty = packet.Empty
-packet_value (packets.Full count format version value) = packet.Full count format version value.now
+packet_value (packets.Full count format version value) = packet.Full (packet.stated_form count format version value.now) value.now
 
 abbrev pub transfer_value : Transfer → message.TransferValue
 transfer_value (transfers.Send p) = message.Send (packet_value p)
@@ -44,6 +44,11 @@ reading_value (readings.Message number spoken) = read.Message number (message_va
 reading_value (readings.Refused kind cause number) = read.Refused kind cause number
 reading_value (readings.OtherVersion kind number) = read.OtherVersion kind number
 reading_value (readings.Drop why) = read.Drop why
+
+-- how many records a packet says that it has
+abbrev pub stated_count : Packet → ℕ
+stated_count packets.Empty = 0
+stated_count (packets.Full count format version value) = count
 
 -- what was read, seen by view, or the flaw
 abbrev pub seen : {A B : Type 0} → (A → B) → Result A Flaw → Result B Flaw

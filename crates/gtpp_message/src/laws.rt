@@ -3,7 +3,7 @@
 
 ghost use Rattle.std.specs.Prelude.{◌≡◌, ◌↔◌, ◌≤◌, ◌++◌, ℕ, List, Option, Some, length};
 ghost use Rattle.gtpp_message.specs.Message.{MessageValue};
-ghost use Rattle.gtpp_message.specs.Packet.{PacketForm, SpellRecords, packet_of, records_at};
+ghost use Rattle.gtpp_message.specs.Packet.{PacketForm, PacketValue, SpellRecords, SpellsPacket, packet_of, packet_reading, records_at};
 ghost use Rattle.gtpp_message.specs.PacketWriting.{IsForm, value_of, with_record, with_record_octets};
 ghost use Rattle.gtpp_message.specs.PathMessages.{path_event, path_message, path_number};
 ghost use Rattle.gtpp_message.specs.Reading as of;
@@ -57,6 +57,12 @@ pub fn written_is_read_back()
 pub fn an_event_is_heard_as_told()
     ensures { (event : PathEvent) (sender : Option (List ℕ)) →
         path_event (path_number event) (path_message event sender) ≡ Some event }
+{}
+
+/// A packet is read exactly where its value's octets spell it.
+pub fn packets_are_spelled()
+    ensures { (packet : PacketValue) (value : List ℕ) →
+        (packet_reading value ≡ Some packet) ↔ SpellsPacket packet value }
 {}
 
 /// A packet's value that is written from a packet is read back as that packet.

@@ -4,6 +4,8 @@
 
 pub mod command;
 mod draft;
+#[cfg(test)]
+mod end_tests;
 mod flaw;
 pub mod laws;
 mod message;

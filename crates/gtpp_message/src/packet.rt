@@ -1,6 +1,6 @@
-ghost use Rattle.std.specs.Prelude.{◌≡◌, ◌==◌, ◌<◌, IfSome, IsSomeAnd, Some, option_map, slice_get};
-ghost use Rattle.gtpp_message.specs.Packet.{IsPacket, count_of, full_packet, is_empty_packet, packet_of, packet_octets, packet_reading, packet_records};
-ghost use Rattle.gtpp_message.specs.Values.{packet_value};
+ghost use Rattle.std.specs.Prelude.{◌≡◌, ◌<◌, IfSome, Some, length, option_map, slice_get};
+ghost use Rattle.gtpp_message.specs.Packet.{IsPacket, count_of, full_packet, is_empty_packet, packet_octets, packet_reading, packet_records};
+ghost use Rattle.gtpp_message.specs.Values.{packet_value, stated_count};
 
 use crate::records::{Records, are_records, nth_record};
 use byteorder::{BigEndian, ByteOrder};
@@ -81,7 +81,8 @@ impl<'a> Packet<'a> {
     /// Lends the records, front to back.
     pub fn records(&self) -> Records<'a>
         requires { IsPacket (packet_value self.now) }
-        ensures { result ≡ packet_records (packet_value self.now) }
+        ensures records { result ≡ packet_records (packet_value self.now) }
+        ensures count { length result ≡ stated_count self.now }
     {
         match self {
             Packet::Empty => Records::of(0, &[]),
@@ -96,8 +97,8 @@ impl<'a> Packet<'a> {
     pub fn part(&self, k: u8) -> &'a [u8]
         requires whole { IsPacket (packet_value self.now) }
         requires within { k < count_of (packet_value self.now) }
-        ensures { IsSomeAnd (packet_of (packet_octets (packet_value self.now)))
-            (λ packet. slice_get packet.records k ≡ Some result.now) }
+        ensures part { slice_get (packet_records (packet_value self.now)) k ≡ Some result.now }
+        ensures short { length result.now < 65536 }
     {
         let Packet::Full { value, .. } = self else {
             unreachable!()

@@ -92,7 +92,8 @@ fn first_record(octets: &[u8]) -> Option<(&[u8], &[u8])>
 /// The k-th of the records that stand one after the other, counted from 0.
 #[tactic(auto, using(crate::proofs::PacketLemmas::step_nth, crate::proofs::PacketLemmas::no_nth))]
 pub fn nth_record(k: u8, octets: &[u8]) -> Option<&[u8]>
-    ensures { lent result ≡ nth_record k octets.now }
+    ensures part { lent result ≡ nth_record k octets.now }
+    ensures short { IfSome result (λ part. length part.now < 65536) }
 {
     let mut rest = octets;
     let mut left = k;

@@ -155,7 +155,7 @@ fn append_packet(
 }
 
 /// Appends the records of a packet that was read.
-#[tactic(auto, using(crate::proofs::Records::records_count, crate::proofs::Records::records_filed, crate::proofs::Records::filed_more))]
+#[tactic(auto, using(crate::proofs::Records::records_filed, crate::proofs::Records::filed_more))]
 fn append_records(
     alloc: Global,
     filed: &mut Vec<FiledRecord>,

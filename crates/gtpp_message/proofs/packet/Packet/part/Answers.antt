@@ -5,11 +5,11 @@ pub unreachable-requires-in-None : goal.unreachable-requires-in-None
 unreachable-requires-in-None c =
     let whole = rw c.in-Full.is at c.requires.whole in
     let within = rw c.in-Full.is at c.requires.within in
-    let there = part_there _ _ _ _ _ whole within in
-    no_part _ _ _ there c.in-None.ensures c.split_at.ensures.back
+    let there = part_there c.in-Full.count c.in-Full.format c.in-Full.version c.in-Full.value.now c.args.k whole within in
+    no_part _ _ _ there c.in-None.ensures.part c.split_at.ensures.back
 
-pub returns : goal.returns
-returns c =
+pub returns-clause-part : goal.returns-clause-part
+returns-clause-part c =
     let whole = rw c.in-Full.is at c.requires.whole in
     let within = rw c.in-Full.is at c.requires.within in
-    rw c.in-Full.is (part_is _ _ _ _ _ _ _ whole within c.in-Some.ensures c.split_at.ensures.back)
+    rw c.in-Full.is (part_is c.in-Full.count c.in-Full.format c.in-Full.version c.in-Full.value.now _ _ _ whole within c.in-Some.ensures.part c.split_at.ensures.back)
