@@ -1,5 +1,5 @@
 -- What is armed for the calls to come of an area or a shelf, and what comes of so many of them.
-use Rattle.std.specs.Prelude.{◌≡◌, ℕ, zero, suc, ◌+◌, ◌<◌, min, false, List, []}
+use Rattle.std.specs.Prelude.{◌≡◌, ℕ, zero, suc, ◌+◌, ◌<◌, min, false, []}
 use Rattle.area_disk.specs.Disk.{last_count}
 use Rattle.area_disk.specs.Plan.{Schedule, planned_for}
 use Rattle.area_disk.specs.declared.plan.Fate.{Fate}

@@ -1,9 +1,9 @@
 -- What a plan that arms one call makes of the calls to come.
-use Rattle.std.proofs.Common.{◌≡◌, ◌⊎◌, inl, inr, ⊎_elim, ℕ, zero, suc, ◌+◌, ◌-◌, ◌<◌, ◌≤◌, min, Bool, true, false, ◌||◌, ◌&&◌, ◌==◌, nat_lt, if◌then◌else◌, List, [], ◌∷◌, Option, None, Some, refl, sym, ◌∙◌, ap, subst, arith}
+use Rattle.std.proofs.Common.{◌≡◌, ⊎_elim, ℕ, zero, suc, ◌+◌, ◌<◌, ◌≤◌, min, Bool, true, false, ◌||◌, ◌&&◌, ◌==◌, nat_lt, if◌then◌else◌, List, [], ◌∷◌, Option, None, Some, refl, sym, ◌∙◌, ap, arith}
 use Rattle.std.proofs.lemmas.Bool.{cases_lt}
 use Rattle.std.proofs.lemmas.Bool.Decides.{nat_tests, eqb_tells}
 use Rattle.area_disk.specs.Disk.{last_count, counted}
-use Rattle.area_disk.specs.Plan.{Schedule, planned_for, fate_where, next_fate, next_read_fails, after_call, is_among, stop_at, is_stop, with_reads, armed, schedule_of}
+use Rattle.area_disk.specs.Plan.{Schedule, planned_for, fate_where, next_fate, next_read_fails, after_call, is_among, stop_at, is_stop, with_reads, armed}
 use Rattle.area_disk.specs.Armed.{Armed, Came, planned_in, after_one, one_later, calls_under, later_by, then_calls, Reaches, ReadsRun, IsArmed}
 use Rattle.area_disk.specs.Armed.Armed.{Nothing, Fail, Stop}
 use Rattle.area_disk.specs.Armed.Came.{Ran, FailedAt, StoppedAt}

@@ -1,5 +1,5 @@
 -- The plan of an area's calls, without what a stop leaves.
-use Rattle.std.specs.Prelude.{◌≡◌, ℕ, ◌≤◌, false, List, []}
+use Rattle.std.specs.Prelude.{◌≡◌, ℕ, ◌≤◌}
 use Rattle.area_disk.specs.Armed.{Armed, IsArmed}
 use Rattle.area_disk.specs.Plan.{Schedule, Prospect, next_fate, fate_with, after_call, spare_after_write, spare_after_sync, with_reads}
 use Rattle.area_disk.specs.declared.plan.Fate.{Fate}

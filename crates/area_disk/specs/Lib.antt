@@ -5,6 +5,7 @@ pub mod Disk
 pub mod Moments
 pub mod Past
 pub mod Plan
+pub mod Record
 pub mod Stretch
 -- what the members of the areas in memory are made of
 pub mod Memory
@@ -15,6 +16,7 @@ pub mod ArmedLaws
 pub mod CourseLaws
 pub mod MomentLaws
 -- steps of proofs
+pub mod Hull
 pub mod Octets
 pub mod Outside
 pub mod PastLaws

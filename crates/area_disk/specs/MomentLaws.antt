@@ -3,8 +3,9 @@ use Rattle.std.proofs.Common.{inl, inr, ⊎_elim, ◌≡◌, ℕ, ◌≤◌, Lis
 use Rattle.std.specs.Prelude.{IsTrue}
 use Rattle.area_disk.specs.Course.{ReadOn}
 use Rattle.area_disk.specs.CourseLaws.{read_on_trans}
-use Rattle.area_disk.specs.Disk.{Elapses, Only, Torn, Follows, Within}
-use Rattle.area_disk.specs.Moments.{LeavesOnly, Leaves, Kept}
+use Rattle.area_disk.specs.Disk.{Only, Torn, Follows, Within}
+use Rattle.area_disk.specs.Moments.{Leaves, Kept}
+use Rattle.area_disk.specs.Record.{Step, GoesOn}
 use Rattle.area_disk.specs.declared.area.Area.{Ghosts}
 
 module _ {A : Type 0} (area : Ghosts A) where
@@ -12,9 +13,9 @@ module _ {A : Type 0} (area : Ghosts A) where
   abbrev pub OnlyNow : Type 0
   OnlyNow = (a : A) (c : List ℕ) → area.told_from a ≤ area.moment a → area.left_since a (area.moment a) c → area.may_leave a c
 
-  -- one step of time
-  abbrev pub Goes : A → A → Type 0
-  Goes old new = Elapses area.told_from area.moment area.left_since area.may_leave old new
+  -- one call more
+  abbrev pub Goes : Step → A → A → Type 0
+  Goes made old new = GoesOn area.told_from area.moment area.left_since area.may_leave area.room made old new
 
   -- before the first call
   pub begin : OnlyNow → (old : A) (P : List ℕ → Type 0) → ((c : List ℕ) → area.may_leave old c → P c) → Leaves area old old P
@@ -29,8 +30,8 @@ module _ {A : Type 0} (area : Ghosts A) where
   }
 
   -- one call more, after which a crash leaves what has P
-  pub step : (old mid new : A) (P : List ℕ → Type 0) → Leaves area old mid P → Goes mid new → ((c : List ℕ) → area.may_leave new c → P c) → Leaves area old new P
-  step old mid new P so_far time here = record {
+  pub step : {made : Step} (old mid new : A) (P : List ℕ → Type 0) → Leaves area old mid P → Goes made mid new → ((c : List ℕ) → area.may_leave new c → P c) → Leaves area old new P
+  step old mid new P so_far call here = let time = call.time in record {
     moments = record {
       later = omega (arith, so_far.moments.later, time.later);
       told_later = omega (arith, so_far.moments.told_later, time.told_later);
@@ -111,13 +112,13 @@ module _ {A : Type 0} (area : Ghosts A) where
   }
 
   -- a call that leaves no more than before
-  pub kept_leaves : OnlyNow → (old new : A) → Within (area.may_leave old) (area.may_leave new)
-      → Goes old new → Leaves area old new (area.may_leave old)
+  pub kept_leaves : {made : Step} → OnlyNow → (old new : A) → Within (area.may_leave old) (area.may_leave new)
+      → Goes made old new → Leaves area old new (area.may_leave old)
   kept_leaves only_now old new within time = step old old new (area.may_leave old) (begin only_now old (area.may_leave old) (λ c left. left)) time within
 
   -- a read changes nothing
-  pub kept_read : OnlyNow → (old new : A) → area.size new ≡ area.size old → area.octets new ≡ area.octets old → Within (area.may_leave old) (area.may_leave new)
-      → Goes old new → (IsTrue area.tells_calls → area.calls new ≡ area.calls old) → (IsTrue area.tells_fate → ReadOn (area.fate old) (area.fate new)) → Kept area old new
+  pub kept_read : {made : Step} → OnlyNow → (old new : A) → area.size new ≡ area.size old → area.octets new ≡ area.octets old → Within (area.may_leave old) (area.may_leave new)
+      → Goes made old new → (IsTrue area.tells_calls → area.calls new ≡ area.calls old) → (IsTrue area.tells_fate → ReadOn (area.fate old) (area.fate new)) → Kept area old new
   kept_read only_now old new size octets within time calls planned = record {
     size = size;
     octets = octets;

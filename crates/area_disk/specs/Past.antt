@@ -1,8 +1,9 @@
 -- The moments of an area: the octets at first, and each change since.
-use Rattle.std.specs.Prelude.{◌≡◌, ℕ, ◌+◌, ◌^◌, ◌≤◌, ◌<◌, min, Bool, true, false, ◌&&◌, nat_lt, nat_le, List, [], ◌∷◌, ◌++◌, length, take, drop, get_or}
+use Rattle.std.specs.Prelude.{◌≡◌, ℕ, ◌+◌, ◌-◌, ◌^◌, ◌≤◌, ◌<◌, min, Bool, true, false, ◌&&◌, nat_lt, nat_le, List, [], ◌∷◌, ◌++◌, length, take, drop, get_or}
 use Rattle.area_disk.specs.Disk.{overwritten, last_count}
 use Rattle.area_disk.specs.Plan.{most_unsynced}
-use Rattle.area_disk.specs.Stretch.{SameOutside}
+use Rattle.area_disk.specs.Record.{Room}
+use Rattle.area_disk.specs.Stretch.{SameOutside, hull_of}
 use Rattle.area_disk.specs.declared.stretch.Stretch.{Stretch}
 use Rattle.area_disk.specs.declared.past.Call.{Call}
 
@@ -41,6 +42,14 @@ unsynced_after (c ∷ changes) unsynced = unsynced_after changes (unsynced_with 
 abbrev pub IsOutcome : Past → List ℕ → Type 0
 IsOutcome p octets = SameOutside (unsynced_after p.changes p.unsynced) (image_after p.changes p.image) octets
 
+-- what a stop does at once, which leaves these octets where something was unsynced in these stretches
+abbrev pub stop_change : List Stretch → List ℕ → Change
+stop_change stretches octets = record {
+  at = (hull_of stretches).at;
+  octets = take (hull_of stretches).count (drop (hull_of stretches).at octets);
+  settles = true;
+}
+
 -- the past up to the k-th change
 abbrev pub up_to : ℕ → Past → Past
 up_to k p = record p { changes = take k p.changes }
@@ -72,6 +81,17 @@ most_octets = 8388608
 abbrev pub octets_in : List Change → ℕ
 octets_in [] = 0
 octets_in (c ∷ changes) = length c.octets + octets_in changes
+
+-- how many calls and octets more it takes before it begins anew
+abbrev pub room_for_calls : Past → ℕ
+room_for_calls p = min (most_calls - length p.changes) (last_count - 1 - (p.first + length p.changes))
+
+abbrev pub room_for_octets : Past → ℕ
+room_for_octets p = most_octets - octets_in p.changes
+
+-- the room of a record without calls, where nothing is unsynced
+abbrev pub all_room : Room
+all_room = record { calls = most_calls; octets = most_octets; low = last_count; high = 0 }
 
 -- a past that begins anew at the last moment
 abbrev pub anew : Past → Past

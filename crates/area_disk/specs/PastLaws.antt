@@ -8,7 +8,7 @@ use Rattle.std.proofs.lemmas.Bool.Decides.{nat_tests}
 use Rattle.area_disk.specs.Disk.{overwritten, Elapses, last_count}
 use Rattle.area_disk.specs.Octets.{length-overwritten}
 use Rattle.area_disk.specs.Stretch.{SameOutside}
-use Rattle.area_disk.specs.Past.{Change, Past, IsWithin, image_after, unsynced_with, unsynced_after, IsOutcome, up_to, LeftSince, moment_of, first_told, told_of, anew, pushed, pushed_where, noted_where, noted, most_calls, most_octets, octets_in}
+use Rattle.area_disk.specs.Past.{Change, Past, IsWithin, image_after, unsynced_with, unsynced_after, IsOutcome, up_to, LeftSince, moment_of, first_told, told_of, anew, pushed, pushed_where, noted_where, noted, most_calls, most_octets, octets_in, room_for_calls, room_for_octets}
 use Rattle.area_disk.specs.declared.stretch.Stretch.{Stretch}
 
 pub image_after-push : (changes : List Change) (c : Change) (image : List ℕ) → image_after (changes ++ c ∷ []) image ≡ overwritten (image_after changes image) c.at c.octets
@@ -211,3 +211,59 @@ goes_noted c p = by_size (nat_lt most_octets (length c.octets))
 -- where nothing changes, no time passes
 pub goes_same : (p : Past) → Elapses told_of moment_of LeftSince IsOutcome p p
 goes_same p = record { later = omega arith; told_later = omega arith; nothing_else = λ t octets told le left. inl left; keeps = λ t octets told le left. left }
+
+octets_in-push : (changes : List Change) (c : Change) → octets_in (changes ++ c ∷ []) ≡ octets_in changes + length c.octets
+octets_in-push [] c = omega arith
+octets_in-push (x ∷ changes) c = omega (arith, octets_in-push changes c)
+
+-- what a past holds stays within its room
+pub noted_few : (c : Change) (p : Past) → octets_in p.changes ≤ most_octets → octets_in (noted c p).changes ≤ most_octets
+noted_few c p held = by_size (nat_lt most_octets (length c.octets)) refl
+  where
+    by_octets : (a b : Bool) → nat_lt most_octets (length c.octets) ≡ false → nat_le (octets_in p.changes + length c.octets) most_octets ≡ b → octets_in (pushed_where (a && b) c p).changes ≤ most_octets
+    by_octets true true short fits =
+        let le : octets_in p.changes + length c.octets ≤ most_octets = grind (arith, nat_tests) in
+        omega (arith, octets_in-push p.changes c, le)
+    by_octets true false short fits =
+        let le : length c.octets ≤ most_octets = grind (arith, nat_tests) in
+        omega (arith, le)
+    by_octets false b short fits =
+        let le : length c.octets ≤ most_octets = grind (arith, nat_tests) in
+        omega (arith, le)
+
+    by_size : (b : Bool) → nat_lt most_octets (length c.octets) ≡ b → octets_in (noted_where b c p).changes ≤ most_octets
+    by_size true is = omega arith
+    by_size false is = by_octets (nat_lt (length p.changes) most_calls) (nat_le (octets_in p.changes + length c.octets) most_octets) is refl
+
+-- where a past has room for one change more, what was told stays told
+pub noted_stays : (c : Change) (p : Past) → octets_in p.changes ≤ most_octets → 1 ≤ room_for_calls p → length c.octets ≤ room_for_octets p
+    → (told_of (noted c p) ≡ told_of p) × (room_for_calls p ≤ room_for_calls (noted c p) + 1) × (room_for_octets p ≤ room_for_octets (noted c p) + length c.octets)
+noted_stays c p held calls octets = subst (λ (q : Past). (told_of q ≡ told_of p) × (room_for_calls p ≤ room_for_calls q + 1) × (room_for_octets p ≤ room_for_octets q + length c.octets)) (sym is) here
+  where
+    small : nat_lt most_octets (length c.octets) ≡ false
+    small = grind (arith, nat_tests)
+
+    few : nat_lt (length p.changes) most_calls ≡ true
+    few = grind (arith, nat_tests)
+
+    fits : nat_le (octets_in p.changes + length c.octets) most_octets ≡ true
+    fits = grind (arith, nat_tests)
+
+    is : noted c p ≡ pushed c p
+    is = ap (λ b. noted_where b c p) small ∙ ap (λ b. pushed_where (b && nat_le (octets_in p.changes + length c.octets) most_octets) c p) few ∙ ap (λ b. pushed_where b c p) fits
+
+    more : length (p.changes ++ c ∷ []) ≡ length p.changes + 1
+    more = length_push p.changes c
+
+    before : nat_lt (p.first + length p.changes) last_count ≡ true
+    before = grind (arith, nat_tests)
+
+    after : nat_lt (p.first + length (p.changes ++ c ∷ [])) last_count ≡ true
+    after = ap (λ n. nat_lt (p.first + n) last_count) more ∙ grind (arith, nat_tests)
+
+    here : (told_of (pushed c p) ≡ told_of p) × (room_for_calls p ≤ room_for_calls (pushed c p) + 1) × (room_for_octets p ≤ room_for_octets (pushed c p) + length c.octets)
+    here = (
+      ap (λ b. first_told b p.first) after ∙ sym (ap (λ b. first_told b p.first) before),
+      omega (arith, more),
+      omega (arith, octets_in-push p.changes c),
+    )

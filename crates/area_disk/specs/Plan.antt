@@ -96,6 +96,12 @@ pub record Prospect : Type 0 where
 abbrev pub most_unsynced : ℕ
 most_unsynced = 65536
 
+-- this plan before the first call, over octets that stand
+pub record IsFresh (plan : Plan) (octets : List ℕ) (p : Prospect) : Type 0 where
+  pub schedule : p.schedule ≡ schedule_of plan
+  pub spare : p.spare ≡ most_unsynced
+  pub leaves : (o : Outcome3) → p.leaves o ≡ octets
+
 -- a write without spare room fails
 abbrev pub fate_with : ℕ → Fate → Fate
 fate_with zero fate = Fails

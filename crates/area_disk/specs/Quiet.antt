@@ -1,10 +1,16 @@
--- A quiet area has no plan.
+-- A quiet area has no plan, and keeps no record.
 use Rattle.std.specs.Prelude.{[], false, true, None, ◌≡◌, IsTrue}
+use Rattle.area_disk.specs.Disk.{last_count}
 use Rattle.area_disk.specs.Plan.{Prospect}
+use Rattle.area_disk.specs.Record.{Room}
 
 -- what an area tells that tells of no plan
 abbrev pub no_prospect : Prospect
 no_prospect = record { schedule = record { calls = 0; reads = 0; fail = []; read_fail = []; stop = None; stopped = false }; spare = 0; leaves = λ o. [] }
+
+-- what an area tells that keeps no record of its moments
+abbrev pub no_room : Room
+no_room = record { calls = 0; octets = 0; low = last_count; high = 0 }
 
 -- what isn't told has every property
 pub not_told : {P : Type 0} → IsTrue false → P

@@ -1,14 +1,14 @@
 -- What holds between the octets of an area in memory and its past.
-use Rattle.std.proofs.Common.{◌≡◌, ℕ, ◌+◌, ◌≤◌, ◌<◌, true, false, List, [], ◌∷◌, ◌++◌, length, refl, sym, ◌∙◌, ap, subst, arith}
+use Rattle.std.proofs.Common.{◌≡◌, ℕ, ◌+◌, ◌≤◌, ◌<◌, true, false, List, [], ◌∷◌, ◌++◌, length, take, drop, refl, sym, ◌∙◌, ap, subst, arith}
 use Rattle.std.specs.Prelude.{All}
-use Rattle.std.proofs.lemmas.List.{length_push}
+use Rattle.std.proofs.lemmas.List.{length_push, take-append-drop, append-nil}
 use Rattle.area_disk.specs.Disk.{overwritten}
 use Rattle.area_disk.specs.Octets.{length-overwritten}
 use Rattle.area_disk.specs.Plan.{most_unsynced, rot, written_as}
 use Rattle.area_disk.specs.Stretch.{SameOutside, EachFits, left_as, left_by}
 use Rattle.area_disk.specs.Outside.{same_refl, same_trans, same_more, same_written, same_filled, EachFits-push, filled-push}
-use Rattle.area_disk.specs.Past.{Change, Past, IsWithin, image_after, unsynced_after, noted}
-use Rattle.area_disk.specs.PastLaws.{noted_image, noted_unsynced, noted_size, noted_within}
+use Rattle.area_disk.specs.Past.{Change, Past, IsWithin, image_after, unsynced_after, noted, octets_in, most_octets}
+use Rattle.area_disk.specs.PastLaws.{noted_image, noted_unsynced, noted_size, noted_within, noted_few}
 use Rattle.area_disk.specs.declared.plan.Outcome3.{Outcome3}
 use Rattle.area_disk.specs.declared.plan.Outcome3.TheVariants.{Old, New, Rot}
 use Rattle.area_disk.specs.declared.stretch.Stretch.{Stretch}
@@ -22,6 +22,7 @@ pub record IsSound (present firm : List ℕ) (unsynced : List Stretch) (capacity
   pub image_is : image_after past.changes past.image ≡ present
   pub unsynced_is : unsynced_after past.changes past.unsynced ≡ unsynced
   pub changes_fit : All (IsWithin (length present)) past.changes
+  pub few_octets : octets_in past.changes ≤ most_octets
   pub few : length unsynced ≤ most_unsynced
   pub room : most_unsynced + 1 ≤ capacity
 
@@ -44,6 +45,7 @@ sound_written present firm unsynced capacity later past at from sound fits spare
       image_is = noted_image change past ∙ ap (λ (l : List ℕ). overwritten l at from) sound.image_is;
       unsynced_is = noted_unsynced change past ∙ ap (λ (l : List Stretch). l ++ s ∷ []) sound.unsynced_is;
       changes_fit = subst (λ n. All (IsWithin n) (noted change past).changes) (sym size) (noted_within change past (length present) sound.changes_fit fits);
+      few_octets = noted_few change past sound.few_octets;
       few = omega (arith, length_push unsynced s, spare);
       room = omega (arith, sound.room, grows);
     }
@@ -63,6 +65,7 @@ sound_settled present firm octets unsynced capacity later past at part sound fit
       image_is = noted_image change past ∙ ap (λ (l : List ℕ). overwritten l at part) sound.image_is ∙ is;
       unsynced_is = noted_unsynced change past;
       changes_fit = subst (λ n. All (IsWithin n) (noted change past).changes) (sym size) (noted_within change past (length present) sound.changes_fit fits);
+      few_octets = noted_few change past sound.few_octets;
       few = omega arith;
       room = omega (arith, sound.room, grows);
     }
@@ -87,3 +90,15 @@ pub same_left : (outcome : Outcome3) (present firm : List ℕ) (unsynced : List 
 same_left Old present firm unsynced at from fit fits agrees = same_more unsynced (record { at = at; count = length from }) present firm agrees
 same_left New present firm unsynced at from fit fits agrees = same_written unsynced present at from fits
 same_left Rot present firm unsynced at from fit fits agrees = same_filled rot (unsynced ++ record { at = at; count = length from } ∷ []) present (EachFits-push (length present) unsynced (record { at = at; count = length from }) fit fits)
+
+nothing_written : (octets : List ℕ) (at : ℕ) → overwritten octets at [] ≡ octets
+nothing_written octets at =
+    ap (λ (l : List ℕ). l ++ drop (at + 0) octets) (append-nil (take at octets))
+    ∙ ap (λ n. take at octets ++ drop n octets) (omega arith)
+    ∙ take-append-drop at octets
+
+-- a stop in no write
+pub written_as_none : (o : Outcome3) (octets : List ℕ) (at : ℕ) → written_as o octets at [] ≡ octets
+written_as_none Old octets at = refl
+written_as_none New octets at = nothing_written octets at
+written_as_none Rot octets at = nothing_written octets at

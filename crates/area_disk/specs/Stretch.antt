@@ -1,6 +1,6 @@
 -- Stretches of an area, and octets that are the same outside them.
-use Rattle.std.specs.Prelude.{◌≡◌, ◌⊎◌, ℕ, ◌+◌, ◌<◌, ◌≤◌, List, [], ◌∷◌, length, get_or, replicate}
-use Rattle.area_disk.specs.Disk.{overwritten}
+use Rattle.std.specs.Prelude.{◌≡◌, ◌⊎◌, ℕ, ◌+◌, ◌-◌, ◌<◌, ◌≤◌, min, max, List, [], ◌∷◌, length, get_or, replicate}
+use Rattle.area_disk.specs.Disk.{overwritten, last_count}
 use Rattle.area_disk.specs.Plan.{rot}
 use Rattle.area_disk.specs.declared.plan.Outcome3.{Outcome3}
 use Rattle.area_disk.specs.declared.plan.Outcome3.TheVariants.{Old, New, Rot}
@@ -23,6 +23,26 @@ pub record SameOutside (stretches : List Stretch) (old new : List ℕ) : Type 0 
 -- each of these stretches lies in an area of n octets
 abbrev pub EachFits : ℕ → List Stretch → Type 0
 EachFits n stretches = (k : ℕ) (s : Stretch) → k < length stretches → (get_or stretches k s).at + (get_or stretches k s).count ≤ n
+
+-- the first place of these stretches; the greatest number where there is none
+abbrev pub low_of : List Stretch → ℕ
+low_of [] = last_count
+low_of (s ∷ stretches) = min s.at (low_of stretches)
+
+-- the place after the last of them; 0 where there is none
+abbrev pub high_of : List Stretch → ℕ
+high_of [] = 0
+high_of (s ∷ stretches) = max (s.at + s.count) (high_of stretches)
+
+-- the shortest stretch that holds all of these
+abbrev pub hull_of : List Stretch → Stretch
+hull_of stretches =
+    record { at = min (low_of stretches) (high_of stretches); count = high_of stretches - low_of stretches }
+
+-- the place of the first one listed
+abbrev pub first_place : List Stretch → ℕ
+first_place [] = 0
+first_place (s ∷ stretches) = s.at
 
 -- these octets, with one value throughout the stretches
 abbrev pub filled : ℕ → List Stretch → List ℕ → List ℕ

@@ -1,7 +1,8 @@
 // An area as a journal sees it: a fixed number of octets, with a disk model.
 ghost use Rattle.std.specs.Prelude.{◌≡◌, ◌≤◌, ◌+◌, ℕ, List, length, take, drop, Bool, IsTrue, OnOk, Some, codes};
-ghost use Rattle.area_disk.specs.Disk.{overwritten, Torn, Follows, Within, Only, Elapses, counted, HasCause};
+ghost use Rattle.area_disk.specs.Disk.{overwritten, Torn, Follows, Within, Only, counted, HasCause};
 ghost use Rattle.area_disk.specs.Plan.{Prospect, WriteAsPlanned, SyncAsPlanned, ReadAsPlanned};
+ghost use Rattle.area_disk.specs.Record.{Room, GoesOn, nothing, write_of, sync_of};
 ghost use Rattle.area_disk.specs.declared.plan.Outcome3.{Outcome3};
 ghost use Rattle.area_disk.specs.declared.plan.Outcome3.TheVariants.{New};
 
@@ -75,6 +76,10 @@ pub trait Area: Send + Drop {
     /// What a crash at some moment from that one on might have left, in a call or between two.
     ghost left_since: { Self → ℕ → List ℕ → Type 0 };
 
+    /// How much the record of these moments takes before it begins anew: where it has room for what a call adds, the
+    /// moments that were told stay told.
+    ghost room: { Self → Room };
+
     /// Whether it tells the number of its counted calls.
     ghost tells_calls: { Bool };
 
@@ -105,7 +110,7 @@ pub trait Area: Send + Drop {
         ensures octets { octets self.new ≡ octets self.old }
 
         ensures crash { Within (may_leave self.old) (may_leave self.new) }
-        ensures time { Elapses told_from moment left_since may_leave self.old self.new }
+        ensures time { GoesOn told_from moment left_since may_leave room (nothing (room self.old)) self.old self.new }
 
         ensures calls { IsTrue tells_calls → calls self.new ≡ calls self.old }
         ensures planned { IsTrue tells_fate → ReadAsPlanned (fate self.old) result (fate self.new) }
@@ -121,7 +126,8 @@ pub trait Area: Send + Drop {
             OnOk result (octets self.new ≡ overwritten (octets self.old) at from.now) }
 
         ensures crash { Follows (Torn at (length from.now)) (may_leave self.old) (may_leave self.new) }
-        ensures time { Elapses told_from moment left_since may_leave self.old self.new }
+        ensures time { let step = write_of (room self.old) at (length from.now) result in
+            GoesOn told_from moment left_since may_leave room step self.old self.new }
 
         ensures calls { IsTrue tells_calls → calls self.new ≡ counted 1 (calls self.old) }
         ensures planned { IsTrue tells_fate → WriteAsPlanned (fate self.old) at from.now result (fate self.new) }
@@ -135,7 +141,8 @@ pub trait Area: Send + Drop {
 
         ensures durable { IsTrue tells_crash → OnOk result (Only (octets self.new) (may_leave self.new)) }
         ensures crash { Within (may_leave self.old) (may_leave self.new) }
-        ensures time { Elapses told_from moment left_since may_leave self.old self.new }
+        ensures time { let step = sync_of (room self.old) result in
+            GoesOn told_from moment left_since may_leave room step self.old self.new }
 
         ensures calls { IsTrue tells_calls → calls self.new ≡ counted 1 (calls self.old) }
         ensures planned { IsTrue tells_fate → SyncAsPlanned (fate self.old) result (fate self.new) }
@@ -151,11 +158,12 @@ pub trait Area: Send + Drop {
     ghost same_size: { (a : Self) (c : List ℕ) → IsTrue tells_crash → may_leave a c → length c ≡ size a };
 
     /// So it did at each moment since one that is told.
-    ghost same_size_since: { (a : Self) (t : ℕ) (c : List ℕ) → IsTrue tells_crash → told_from a ≤ t → t ≤ moment a → left_since a t c →
-        length c ≡ size a };
+    ghost same_size_since: { (a : Self) (t : ℕ) (c : List ℕ) →
+        IsTrue tells_crash → told_from a ≤ t → t ≤ moment a → left_since a t c → length c ≡ size a };
 
     /// This moment is one of those since an earlier one.
-    ghost counts_now: { (a : Self) (t : ℕ) (c : List ℕ) → told_from a ≤ t → t ≤ moment a → may_leave a c → left_since a t c };
+    ghost counts_now: { (a : Self) (t : ℕ) (c : List ℕ) →
+        told_from a ≤ t → t ≤ moment a → may_leave a c → left_since a t c };
 
     /// Since this moment there is no other.
     ghost only_now: { (a : Self) (c : List ℕ) → told_from a ≤ moment a → left_since a (moment a) c → may_leave a c };

@@ -2,8 +2,8 @@
 ghost use Rattle.std.specs.Prelude.{◌≡◌, ◌+◌, ◌<◌, ◌≤◌, [], ◌∷◌, ◌++◌, length, IfOk, vec_capacity, true, false};
 ghost use Rattle.area_disk.specs.Disk.{overwritten, zeros};
 ghost use Rattle.area_disk.specs.Plan.{most_unsynced, written_as};
-ghost use Rattle.area_disk.specs.Stretch.{SameOutside, EachFits, left_as, left_by};
-ghost use Rattle.area_disk.specs.Past.{noted};
+ghost use Rattle.area_disk.specs.Stretch.{SameOutside, EachFits, first_place, left_as, left_by};
+ghost use Rattle.area_disk.specs.Past.{noted, stop_change};
 ghost use Rattle.area_disk.specs.Sound.{IsSound};
 
 use crate::past::{History, MOST_UNSYNCED};
@@ -30,7 +30,8 @@ impl Disk {
         ensures present { IfOk result (λ disk. disk.present.items ≡ zeros length) }
         ensures firm { IfOk result (λ disk. disk.firm.items ≡ zeros length) }
         ensures unsynced { IfOk result (λ disk. disk.unsynced.items ≡ []) }
-        ensures past { IfOk result (λ disk. disk.past ≡ record { first = 0; image = zeros length; unsynced = []; changes = [] }) }
+        ensures past { IfOk result (λ disk.
+            disk.past ≡ record { first = 0; image = zeros length; unsynced = []; changes = [] }) }
     {
         let present = zeroed(alloc, length)?;
         let firm = zeroed(alloc, length)?;
@@ -51,7 +52,8 @@ impl Disk {
         requires spare { length self.old.unsynced.items < most_unsynced }
         ensures present { self.new.present.items ≡ overwritten self.old.present.items at from.now }
         ensures firm { self.new.firm.items ≡ self.old.firm.items }
-        ensures unsynced { self.new.unsynced.items ≡ self.old.unsynced.items ++ (record { at = at; count = length from.now }) ∷ [] }
+        ensures unsynced { self.new.unsynced.items ≡
+            self.old.unsynced.items ++ (record { at = at; count = length from.now }) ∷ [] }
         ensures past { self.new.past ≡ noted (record { at = at; octets = from.now; settles = false }) self.old.past }
     {
         self.past.note(at, from, false, &self.unsynced);
@@ -79,10 +81,13 @@ impl Disk {
     pub fn stop(&mut self, at: usize, from: &[u8], outcome: Outcome3)
         requires { at + length from.now ≤ length self.old.present.items }
         ensures size { length self.new.present.items ≡ length self.old.present.items }
-        ensures present { self.new.present.items ≡ written_as outcome (left_as outcome self.old.firm.items self.old.present.items self.old.unsynced.items) at from.now }
+        ensures present { let old = self.old in
+            let left = left_as outcome old.firm.items old.present.items old.unsynced.items in
+            self.new.present.items ≡ written_as outcome left at from.now }
         ensures firm { self.new.firm.items ≡ self.new.present.items }
         ensures unsynced { self.new.unsynced.items ≡ [] }
-        ensures past { (change : _) × (self.new.past ≡ noted change self.old.past) }
+        ensures past { let stretches = self.old.unsynced.items ++ (record { at = at; count = length from.now }) ∷ [] in
+            self.new.past ≡ noted (stop_change stretches self.new.present.items) self.old.past }
     {
         let earlier = self.unsynced.len();
         let written = Stretch {
@@ -99,11 +104,36 @@ impl Disk {
             from,
         );
         copy_stretches(&self.present, &mut self.firm, &self.unsynced);
-        let whole = hull(written, &self.unsynced, self.present.len());
+        let whole = hull(&self.unsynced, self.present.len());
         let octets = &self.present[whole.at..whole.at + whole.count];
         self.past
             .note(whole.at, octets, true, &self.unsynced[..earlier]);
         self.unsynced.clear();
+    }
+
+    /// Stops between two writes, with this outcome. Nothing is unsynced then.
+    pub fn stop_between(&mut self, outcome: Outcome3)
+        ensures size { length self.new.present.items ≡ length self.old.present.items }
+        ensures present { self.new.present.items ≡
+            left_as outcome self.old.firm.items self.old.present.items self.old.unsynced.items }
+        ensures firm { self.new.firm.items ≡ self.new.present.items }
+        ensures unsynced { self.new.unsynced.items ≡ [] }
+        ensures past { self.new.past ≡
+            noted (stop_change self.old.unsynced.items self.new.present.items) self.old.past }
+    {
+        let at = self.first_unsynced();
+        self.stop(at, &[], outcome);
+    }
+
+    // A place in what is unsynced, or 0.
+    fn first_unsynced(&self) -> usize
+        ensures first { result ≡ first_place self.now.unsynced.items }
+        ensures inside { result ≤ length self.now.present.items }
+    {
+        match self.unsynced.first() {
+            Some(stretch) => stretch.at,
+            None => 0,
+        }
     }
 }
 

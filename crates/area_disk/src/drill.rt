@@ -1,6 +1,7 @@
 // Objects in memory whose failures and stops are planned.
 ghost use Rattle.std.specs.Prelude.{◌≡◌, ◌≤◌, ℕ, List, IsTrue, true, false};
-ghost use Rattle.area_disk.specs.Disk.{Within, Elapses};
+ghost use Rattle.area_disk.specs.Disk.{Within};
+ghost use Rattle.area_disk.specs.Record.{GoesOn, nothing, stopped};
 ghost use Rattle.area_disk.specs.Plan.{Schedule, armed, with_stopped, most_unsynced};
 ghost use Rattle.area_disk.specs.declared.plan.Outcome3.{Outcome3};
 
@@ -47,8 +48,9 @@ pub trait Drill {
 
 /// An area that is a `Drill`. It has no calls of its own: its laws say what the calls of `Drill` do to an area.
 pub trait DrillArea: Area + Drill {
-    /// It tells its counted calls and its plan.
-    ghost tells: { IsTrue Self.tells_calls × IsTrue Self.tells_fate };
+    /// It tells what a read gives, what a crash may leave, its counted calls and its plan.
+    ghost tells: { IsTrue Self.tells_octets × IsTrue Self.tells_crash ×
+        IsTrue Self.tells_calls × IsTrue Self.tells_fate };
 
     /// The plan that was armed decides what comes of the area's calls.
     ghost same_schedule: { (a : Self) → (Self.fate a).schedule ≡ Self.schedule a };
@@ -60,9 +62,11 @@ pub trait DrillArea: Area + Drill {
 
     ghost kept_crash: { (old new : Self) → Self.kept old new → Within (Self.may_leave old) (Self.may_leave new) };
 
-    ghost kept_time: { (old new : Self) → Self.kept old new → Elapses Self.told_from Self.moment Self.left_since Self.may_leave old new };
+    ghost kept_time: { (old new : Self) → Self.kept old new →
+        GoesOn Self.told_from Self.moment Self.left_since Self.may_leave Self.room (nothing (Self.room old)) old new };
 
-    ghost kept_leaves: { (old new : Self) (o : Outcome3) → Self.kept old new → (Self.fate new).leaves o ≡ (Self.fate old).leaves o };
+    ghost kept_leaves: { (old new : Self) (o : Outcome3) → Self.kept old new →
+        (Self.fate new).leaves o ≡ (Self.fate old).leaves o };
 
     ghost kept_spare: { (old new : Self) → Self.kept old new → (Self.fate new).spare ≡ (Self.fate old).spare };
 
@@ -71,14 +75,17 @@ pub trait DrillArea: Area + Drill {
     /// What a stop leaves.
     ghost left_size: { (old new : Self) (o : Outcome3) → Self.left old o new → Self.size new ≡ Self.size old };
 
-    ghost left_octets: { (old new : Self) (o : Outcome3) → Self.left old o new → Self.octets new ≡ (Self.fate old).leaves o };
+    ghost left_octets: { (old new : Self) (o : Outcome3) → Self.left old o new →
+        Self.octets new ≡ (Self.fate old).leaves o };
 
-    ghost left_crash: { (old new : Self) (o : Outcome3) → Self.left old o new → Within (Self.may_leave old) (Self.may_leave new) };
+    ghost left_crash: { (old new : Self) (o : Outcome3) → Self.left old o new →
+        Within (Self.may_leave old) (Self.may_leave new) };
 
     ghost left_time: { (old new : Self) (o : Outcome3) → Self.left old o new →
-        Elapses Self.told_from Self.moment Self.left_since Self.may_leave old new };
+        GoesOn Self.told_from Self.moment Self.left_since Self.may_leave Self.room (stopped (Self.room old)) old new };
 
-    ghost left_leaves: { (old new : Self) (o p : Outcome3) → Self.left old o new → (Self.fate new).leaves p ≡ (Self.fate old).leaves o };
+    ghost left_leaves: { (old new : Self) (o p : Outcome3) → Self.left old o new →
+        (Self.fate new).leaves p ≡ (Self.fate old).leaves o };
 
     ghost left_spare: { (old new : Self) (o : Outcome3) → Self.left old o new → (Self.fate new).spare ≡ most_unsynced };
 

@@ -2,10 +2,10 @@
 ghost use Rattle.std.specs.Prelude.{◌≡◌, ◌-◌, ◌+◌, ◌≤◌, ℕ, List, [], length, true, false, IsErr, IfOk};
 ghost use Rattle.std.proofs.Common.{refl};
 ghost use Rattle.area_disk.specs.Disk.{HasCause, Only, zeros};
-ghost use Rattle.area_disk.specs.Plan.{schedule_of, next_fate, fate_with, most_unsynced};
+ghost use Rattle.area_disk.specs.Plan.{IsFresh, next_fate, fate_with, most_unsynced};
 ghost use Rattle.area_disk.specs.Outside.{same_refl};
-ghost use Rattle.area_disk.specs.Past.{moment_of, told_of, LeftSince};
-ghost use Rattle.area_disk.specs.Memory.{prospect_of, leaves_of, DiskMayLeave, disk_counts_now, disk_only_now, disk_same_size, disk_may_stop, IsKept, IsLeft, kept_disk_size, kept_present, kept_within, kept_elapses, kept_leaves_of, kept_disk_spare, left_within, left_elapses, left_leaves_of, left_disk_spare};
+ghost use Rattle.area_disk.specs.Past.{all_room, moment_of, told_of, LeftSince};
+ghost use Rattle.area_disk.specs.Memory.{prospect_of, room_of, leaves_of, DiskMayLeave, disk_counts_now, disk_only_now, disk_same_size, disk_may_stop, IsKept, IsLeft, kept_disk_size, kept_present, kept_within, kept_goes, kept_leaves_of, kept_disk_spare, left_within, left_goes, left_leaves_of, left_disk_spare};
 ghost use Rattle.area_disk.specs.declared.plan.Outcome3.{Outcome3};
 
 use crate::disk::Disk;
@@ -36,10 +36,10 @@ impl MemoryArea {
         ensures size { IfOk result (λ area. ⟦<MemoryArea as Area>⟧.size area ≡ length) }
         ensures octets { IfOk result (λ area. ⟦<MemoryArea as Area>⟧.octets area ≡ zeros length) }
         ensures durable { IfOk result (λ area. Only (zeros length) (⟦<MemoryArea as Area>⟧.may_leave area)) }
-        ensures plan { IfOk result (λ area. (⟦<MemoryArea as Area>⟧.fate area).schedule ≡ schedule_of plan) }
-        ensures leaves { IfOk result (λ area. (o : Outcome3) → (⟦<MemoryArea as Area>⟧.fate area).leaves o ≡ zeros length) }
-        ensures spare { IfOk result (λ area. (⟦<MemoryArea as Area>⟧.fate area).spare ≡ most_unsynced) }
-        ensures told { IfOk result (λ area. ⟦<MemoryArea as Area>⟧.told_from area ≤ ⟦<MemoryArea as Area>⟧.moment area) }
+        ensures plan { IfOk result (λ area. IsFresh plan (zeros length) (⟦<MemoryArea as Area>⟧.fate area)) }
+        ensures told { IfOk result (λ area.
+            ⟦<MemoryArea as Area>⟧.told_from area ≡ ⟦<MemoryArea as Area>⟧.moment area) }
+        ensures room { IfOk result (λ area. ⟦<MemoryArea as Area>⟧.room area ≡ all_room) }
         ensures faults { IfOk result (λ area. ⟦<MemoryArea as Area>⟧.faults area ≡ 0) }
     {
         let disk = Disk::new(alloc, length as usize)?;
@@ -52,7 +52,8 @@ impl MemoryArea {
 
     // What comes of the next write.
     fn write_fate(&self) -> Fate
-        ensures { result ≡ fate_with (most_unsynced - length self.now.disk.unsynced.items) (next_fate self.now.planned) }
+        ensures { result ≡
+            fate_with (most_unsynced - length self.now.disk.unsynced.items) (next_fate self.now.planned) }
     {
         if self.disk.unsynced.len() >= MOST_UNSYNCED {
             return Fate::Fails;
@@ -86,6 +87,8 @@ impl Area for MemoryArea {
     ghost told_from = { λ a. told_of a.disk.past };
 
     ghost left_since = { λ a t octets. LeftSince a.disk.past t octets };
+
+    ghost room = { room_of };
 
     ghost tells_calls = { true };
 
@@ -154,7 +157,7 @@ impl Area for MemoryArea {
             }
             Fate::Fails => fail(&mut self.faults),
             Fate::Stops(outcome) => {
-                self.disk.stop(0, &[], outcome);
+                self.disk.stop_between(outcome);
                 fail(&mut self.faults)
             }
         }
@@ -177,7 +180,7 @@ impl Drill for MemoryArea {
     }
 
     fn stop(&mut self, outcome: Outcome3) {
-        self.disk.stop(0, &[], outcome);
+        self.disk.stop_between(outcome);
         self.planned.set_stopped(true);
     }
 
@@ -191,7 +194,7 @@ impl Drill for MemoryArea {
 }
 
 impl DrillArea for MemoryArea {
-    ghost tells = { (refl, refl) };
+    ghost tells = { (refl, refl, refl, refl) };
 
     ghost same_schedule = { λ a. refl };
 
@@ -201,7 +204,7 @@ impl DrillArea for MemoryArea {
 
     ghost kept_crash = { kept_within };
 
-    ghost kept_time = { kept_elapses };
+    ghost kept_time = { kept_goes };
 
     ghost kept_leaves = { λ old new o kept. kept_leaves_of old new kept o };
 
@@ -215,7 +218,7 @@ impl DrillArea for MemoryArea {
 
     ghost left_crash = { left_within };
 
-    ghost left_time = { left_elapses };
+    ghost left_time = { left_goes };
 
     ghost left_leaves = { λ old new o p left. left_leaves_of old new o left p };
 

@@ -40,9 +40,16 @@ impl Model for History {
 
     ghost Value = { Past };
 
-    ghost view = { λ h. record { first = h.first; image = h.base.items; unsynced = h.base_unsynced.items; changes = changes_of h.calls.items h.octets.items } };
+    ghost view = { λ h. record {
+      first = h.first;
+      image = h.base.items;
+      unsynced = h.base_unsynced.items;
+      changes = changes_of h.calls.items h.octets.items;
+    } };
 
-    ghost invariant = { λ h. IsKept (length h.base.items) h.calls.items h.octets.items (vec_capacity h.calls) (vec_capacity h.octets) (vec_capacity h.base_unsynced) };
+    ghost invariant = { λ h.
+        IsKept (length h.base.items) h.calls.items h.octets.items
+        (vec_capacity h.calls) (vec_capacity h.octets) (vec_capacity h.base_unsynced) };
 }
 
 impl History {
@@ -83,7 +90,8 @@ impl History {
     // Whether one call more with so many octets fits.
     fn has_room(&self, count: usize) -> bool
         requires { count ≤ most_octets }
-        ensures { result ≡ (nat_lt (length self.now.changes) most_calls && nat_le (octets_in self.now.changes + count) most_octets) }
+        ensures { result ≡
+            (nat_lt (length self.now.changes) most_calls && nat_le (octets_in self.now.changes + count) most_octets) }
     {
         self.calls.len() < MOST_CALLS && self.octets.len() + count <= MOST_OCTETS
     }

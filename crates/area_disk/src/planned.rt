@@ -20,7 +20,14 @@ impl Model for PlannedCalls {
 
     ghost Value = { Schedule };
 
-    ghost view = { λ p. record { calls = p.calls; reads = p.reads; fail = p.plan.fail.items; read_fail = p.plan.read_fail.items; stop = p.plan.stop; stopped = p.stopped } };
+    ghost view = { λ p. record {
+      calls = p.calls;
+      reads = p.reads;
+      fail = p.plan.fail.items;
+      read_fail = p.plan.read_fail.items;
+      stop = p.plan.stop;
+      stopped = p.stopped;
+    } };
 }
 
 impl PlannedCalls {

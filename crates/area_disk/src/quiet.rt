@@ -45,7 +45,7 @@ impl QuietArea {
 impl Area for QuietArea {
     ghost use Rattle.std.proofs.Common.{refl, ap, le_trans};
     ghost use Rattle.std.proofs.Math.Bridge.{no_suc-le-zero};
-    ghost use Rattle.area_disk.specs.Quiet.{no_prospect, not_told};
+    ghost use Rattle.area_disk.specs.Quiet.{no_prospect, no_room, not_told};
 
     ghost size = { λ a. length a };
 
@@ -62,6 +62,8 @@ impl Area for QuietArea {
     ghost told_from = { λ a. 1 };
 
     ghost left_since = { λ a t c. Unit {0} };
+
+    ghost room = { λ a. no_room };
 
     ghost tells_calls = { false };
 

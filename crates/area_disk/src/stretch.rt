@@ -1,7 +1,7 @@
 // Stretches of an area, and what is done to the octets in them.
-ghost use Rattle.std.specs.Prelude.{◌≡◌, ◌⊎◌, ◌+◌, ◌<◌, ◌≤◌, ℕ, List, length, IfOk};
+ghost use Rattle.std.specs.Prelude.{◌≡◌, ◌+◌, ◌≤◌, length, IfOk};
 ghost use Rattle.area_disk.specs.Disk.{overwritten, zeros};
-ghost use Rattle.area_disk.specs.Stretch.{IsBeside, IsOutside, SameOutside, EachFits, filled};
+ghost use Rattle.area_disk.specs.Stretch.{SameOutside, EachFits, filled, hull_of};
 
 use std::alloc::{AllocError, Global};
 
@@ -51,21 +51,19 @@ pub fn fill_stretches(octets: &mut [u8], stretches: &[Stretch], value: u8)
 }
 
 // The shortest stretch that holds all of these.
-pub fn hull(first: Stretch, stretches: &[Stretch], length: usize) -> Stretch
-    requires first_fits { first.at + first.count ≤ length }
+pub fn hull(stretches: &[Stretch], length: usize) -> Stretch
     requires fit { EachFits length stretches.now }
+    ensures hull { result ≡ hull_of stretches.now }
     ensures fits { result.at + result.count ≤ length }
-    ensures covers_first { (k : ℕ) → IsBeside result k → IsBeside first k }
-    ensures covers { (k : ℕ) → IsBeside result k → IsOutside stretches.now k }
 {
-    let mut low = first.at;
-    let mut high = first.at + first.count;
+    let mut low = usize::MAX;
+    let mut high: usize = 0;
     'stretches: for stretch in stretches {
         low = low.min(stretch.at);
         high = high.max(stretch.at + stretch.count);
     }
     Stretch {
-        at: low,
-        count: high - low,
+        at: low.min(high),
+        count: high.saturating_sub(low),
     }
 }

@@ -47,6 +47,7 @@ fn walk_through(octets: &[u8]) -> Result<Tag, BerFault>
 pub fn identifier(octets: &[u8]) -> Result<Tag, BerFault>
     ensures accepts { (tag : Tag) → (result ≡ Ok tag) ↔ IsIdentifier octets.now tag }
     ensures fails { (fault : BerFault) → (result ≡ Err fault) ↔ IdentifierRefused octets.now fault }
+    ensures reads { result ≡ whole_identifier octets.now }
 {
     whole_identifier(octets)
 }

@@ -1,7 +1,7 @@
 //! Tables of cases: rows under keys, of which no two are the same.
 #![tactic(auto)]
 
-ghost use Rattle.std.specs.Prelude.{◌≡◌, ◌≢◌, ℕ, ◌↔◌, All, Contains, IfOk, IfSome, IsNone, is_ok};
+ghost use Rattle.std.specs.Prelude.{◌≡◌, ◌≢◌, ℕ, ◌↔◌, true, All, Contains, IfOk, IfSome, IsNone, is_ok};
 ghost use Rattle.std.specs.List.{find};
 ghost use Rattle.case_table.specs.Rows.{IsLeastDoubled, are_distinct, has_key};
 
@@ -60,6 +60,14 @@ impl<const N: usize> Cases<N> {
             Some(key) => Err(Twice { key }),
             None => Ok(Cases { rows }),
         }
+    }
+
+    /// A table of rows of which no two have one key. Where that isn't known, [`Cases::of`] tests it.
+    pub fn of_distinct(rows: [Row; N]) -> Self
+        requires { are_distinct rows ≡ true }
+        ensures { result ≡ rows.entry }
+    {
+        Cases { rows }
     }
 
     /// Looks the key up.

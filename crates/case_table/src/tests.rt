@@ -1,21 +1,8 @@
-ghost use Rattle.std.specs.Prelude.{◌≡◌, Some};
-
 use super::*;
 use crate::cases;
 
 const fn row(key: u32, value: u32, mark: u32) -> Row {
     Row { key, value, mark }
-}
-
-/// A table in a function's body gives what its rows say, and the proof knows it.
-fn value_of_two() -> u32
-    ensures { result ≡ 20 }
-{
-    let table = cases![1 => 10, 0; 2 => 20, 1; 3 => 30, 0];
-    match table.find(2) {
-        Some(row) => row.value,
-        None => unreachable!(),
-    }
 }
 
 #[test]
@@ -38,7 +25,7 @@ fn refuses_the_least_key_that_stands_twice(rt: HostRuntime) {
 
 #[test]
 fn finds_rows_by_their_keys(rt: HostRuntime) {
-    assert_eq!(rt; value_of_two(), 20);
+    assert_eq!(rt; laws::a_written_row_is_found(), Some(row(2, 20, 1)));
     let table = cases![5 => 50, 1; 0 => 7, 2; u32::MAX => 9, 3];
     for (key, found) in [
         (5, Some(row(5, 50, 1))),

@@ -1,47 +1,73 @@
 -- How many octets a file and its parts have, and how a file grows by a record.
-use Rattle.std.proofs.Common.{◌≡◌, ℕ, ◌+◌, List, [], ◌∷◌, ◌++◌, length, length-append, sum_by, refl, arith}
+use Rattle.std.proofs.Common.{◌≡◌, ℕ, ◌+◌, ◌<◌, ◌^◌, ◌∙◌, sym, drop, List, [], ◌∷◌, ◌++◌, length, length-append, refl, ap, append_assoc, arith}
 use Rattle.std.proofs.lemmas.Grind.{flat_map-append}
 use Rattle.std.proofs.lemmas.List.{append-nil}
-use Rattle.std.proofs.lemmas.List.Sums.{sum_by-cons, sum_by_push}
-use Rattle.cdr_file.specs.declared.cdr_header.CdrHeader.{CdrHeader}
+use Rattle.std.proofs.lemmas.List.Sums.{sum_by_push}
+use Rattle.byteorder.specs.Endian.{big_bytes, big_number}
+use Rattle.byteorder.specs.Numbers.{big_number-reads_back}
 use Rattle.cdr_file.specs.declared.closure.ClosureReason.{ClosureReason}
 use Rattle.cdr_file.specs.declared.file_header.FileHeader.{FileHeader}
-use Rattle.cdr_file.specs.CdrHeader.{cdr_header_octets}
-use Rattle.cdr_file.specs.FileHeader.{header_octets, no_filter_no_extension}
+use Rattle.cdr_file.specs.Laws.{length-run_octets}
+use Rattle.cdr_file.specs.FileHeader.{field_octets, header_octets, with_length}
+use Rattle.cdr_file.specs.SharedOctet.{shared_octet}
 use Rattle.cdr_file.specs.CdrFile.{FiledRecord, FileSettings, cdr_length, cdr_octets, file_header, file_length, file_octets, last_moment, node_address, run_octets}
 
--- a CDR's header has four octets
-pub length-cdr_header_octets : (header : CdrHeader) → length (cdr_header_octets header) ≡ 4
-unfolding cdr_header_octets
-length-cdr_header_octets header = refl
+-- the fields have 48
+pub length-field_octets : (header : FileHeader) → length header.address ≡ 20 → length (field_octets header) ≡ 48
+unfolding field_octets
+length-field_octets header h =
+    omega (arith, length-append header.address (header.lost ∷ []))
 
 -- a file's header has 52
 pub length-header_octets : (header : FileHeader) → length header.address ≡ 20 → length (header_octets header) ≡ 52
 unfolding header_octets
 length-header_octets header h =
-    omega (arith, length-append header.address (header.lost ∷ no_filter_no_extension))
+    omega (arith, length-field_octets header h, length-append (field_octets header) (with_length [] ++ with_length []))
+
+-- the fields of a header that has neither filter nor extension, and four zeros
+pub header_octets-is : (header : FileHeader) → header_octets header
+    ≡ big_bytes 4 header.length
+    ++ big_bytes 4 header.header_length
+    ++ shared_octet header.high_release header.high_version ∷ []
+    ++ shared_octet header.low_release header.low_version ∷ []
+    ++ big_bytes 4 header.opened
+    ++ big_bytes 4 header.appended
+    ++ big_bytes 4 header.count
+    ++ big_bytes 4 header.sequence
+    ++ header.reason ∷ []
+    ++ header.address
+    ++ (header.lost ∷ 0 ∷ 0 ∷ 0 ∷ 0 ∷ [])
+unfolding header_octets field_octets
+header_octets-is header =
+    ap (λ (rest : List ℕ). big_bytes 4 header.length
+    ++ big_bytes 4 header.header_length
+    ++ shared_octet header.high_release header.high_version ∷ []
+    ++ shared_octet header.low_release header.low_version ∷ []
+    ++ big_bytes 4 header.opened
+    ++ big_bytes 4 header.appended
+    ++ big_bytes 4 header.count
+    ++ big_bytes 4 header.sequence
+    ++ header.reason ∷ []
+    ++ rest) (append_assoc header.address (header.lost ∷ []) (0 ∷ 0 ∷ 0 ∷ 0 ∷ []))
 
 -- the address of a node has 20
 pub length-node_address : (ip : ℕ) → length (node_address ip) ≡ 20
 unfolding node_address
 length-node_address ip = refl
 
--- a CDR has as many octets as its length says
-pub length-cdr_octets : (filed : FiledRecord) → length (cdr_octets filed) ≡ cdr_length filed
-length-cdr_octets filed =
-    omega (arith, length-append {A = ℕ}, length-cdr_header_octets)
-
--- and so have the CDRs of a run
-pub length-run_octets : (run : List FiledRecord) → length (run_octets run) ≡ sum_by cdr_length run
-length-run_octets [] = refl
-length-run_octets (first ∷ later) =
-    omega (arith, length-append (cdr_octets first) (run_octets later), length-cdr_octets first, length-run_octets later, sum_by-cons cdr_length first later)
-
 -- the length that a file's header says is that of the whole file
 pub length-file_octets : (run : List FiledRecord) (sequence : ℕ) (reason : ClosureReason) (settings : FileSettings) → length (file_octets run sequence reason settings) ≡ file_length run
 length-file_octets run sequence reason settings =
     let header = file_header run sequence reason settings in
     omega (arith, length-append (header_octets header) (run_octets run), length-header_octets header (length-node_address settings.address), length-run_octets run)
+
+-- so the first four octets say it, where they can
+pub first_octets : (run : List FiledRecord) (sequence : ℕ) (reason : ClosureReason) (settings : FileSettings) → length (file_octets run sequence reason settings) < 2 ^ 32
+    → big_number 4 (file_octets run sequence reason settings) ≡ length (file_octets run sequence reason settings)
+unfolding header_octets field_octets
+first_octets run sequence reason settings small =
+    let whole = length-file_octets run sequence reason settings in
+    big_number-reads_back 4 (file_length run) (drop 4 (file_octets run sequence reason settings)) (omega (arith, whole, small)) ∙ sym whole
 
 -- one record more is one CDR more at the end
 pub run_octets-append : (run : List FiledRecord) (last : FiledRecord) → run_octets (run ++ last ∷ []) ≡ run_octets run ++ cdr_octets last

@@ -1,2 +1,12 @@
 pub mod CountedDates
 pub mod FileLemmas
+pub mod NumberLemmas
+pub mod CdrLemmas
+pub mod LoopLemmas
+pub mod HeaderLemmas
+pub mod SpellingLemmas
+pub mod ReadLemmas
+pub mod StampLemmas
+pub mod WrittenLemmas
+pub mod ListingLemmas
+pub mod RunLemmas

@@ -1,12 +1,15 @@
 -- The octets of a whole CDR file (3GPP TS 32.297, clause 6.1), for a run of records of one kind.
-use Rattle.std.specs.Prelude.{ℕ, ◌+◌, List, [], ◌∷◌, ◌++◌, ℤ, length, replicate, sum_by}
+use Rattle.std.specs.Prelude.{ℕ, ◌+◌, List, [], ◌∷◌, ◌++◌, ℤ, length, map, replicate, sum_by}
 use Rattle.std.specs.List.{flat_map}
 use Rattle.byteorder.specs.Endian.{big_bytes}
 use Rattle.gw_base.specs.declared.kind.CdrKind.{CdrKind}
 use Rattle.cdr_file.specs.declared.cdr_header.CdrHeader.{CdrHeader}
+use Rattle.cdr_file.specs.declared.file.Cdr.{Cdr}
+use Rattle.cdr_file.specs.declared.file.CdrFile.{CdrFile}
 use Rattle.cdr_file.specs.declared.closure.ClosureReason.{ClosureReason}
 use Rattle.cdr_file.specs.declared.file_header.FileHeader.{FileHeader}
-use Rattle.cdr_file.specs.CdrHeader.{cdr_header_octets}
+use Rattle.cdr_file.specs.declared.run.RunFacts.{RunFacts}
+use Rattle.cdr_file.specs.CdrHeader.{spelled_cdr}
 use Rattle.cdr_file.specs.ClosureReason.{code_of}
 use Rattle.cdr_file.specs.FileHeader.{header_octets}
 use Rattle.cdr_file.specs.Timestamp.{stamp_of}
@@ -32,9 +35,13 @@ cdr_header filed = record {
   ts = 0;
 }
 
--- a CDR is its header and the record's octets
+-- the CDR that a record becomes
+abbrev pub cdr_of : FiledRecord → Cdr
+cdr_of filed = record { header = cdr_header filed; octets = filed.octets }
+
+-- its octets
 abbrev pub cdr_octets : FiledRecord → List ℕ
-cdr_octets filed = cdr_header_octets (cdr_header filed) ++ filed.octets
+cdr_octets filed = spelled_cdr (cdr_of filed)
 
 -- the CDRs of a run, one after the other
 abbrev pub run_octets : List FiledRecord → List ℕ
@@ -78,25 +85,55 @@ file_length run = header_length (run_kind run) + sum_by cdr_length run
 unfoldable pub node_address : ℕ → List ℕ
 node_address ip = replicate 10 0 ++ 255 ∷ 255 ∷ [] ++ big_bytes 4 ip ++ replicate 4 0
 
--- the header of the file of a run
-abbrev pub file_header : List FiledRecord → ℕ → ClosureReason → FileSettings → FileHeader
-file_header run sequence reason settings = record {
-  length = file_length run;
-  header_length = header_length (run_kind run);
-  high_release = (run_kind run).release;
-  high_version = (run_kind run).version;
-  low_release = (run_kind run).release;
-  low_version = (run_kind run).version;
-  opened = stamp_of (opening_moment run) settings.offset;
-  appended = stamp_of (last_moment run) settings.offset;
+-- what the header of the file of a run says of its records
+abbrev pub facts_of : List FiledRecord → RunFacts
+facts_of run = record {
+  kind = run_kind run;
+  opened = opening_moment run;
+  appended = last_moment run;
   count = length run;
+  octets = sum_by cdr_length run;
+}
+
+-- the same of one record, and of one record more
+abbrev pub facts_of_one : FiledRecord → RunFacts
+facts_of_one filed = record { kind = filed.kind; opened = filed.moment; appended = filed.moment; count = 1; octets = cdr_length filed }
+
+abbrev pub facts_with : RunFacts → FiledRecord → RunFacts
+facts_with run last = record run { appended = last.moment; count = run.count + 1; octets = run.octets + cdr_length last }
+
+-- the header that says this of its records
+abbrev pub header_of : RunFacts → ℕ → ClosureReason → FileSettings → FileHeader
+header_of run sequence reason settings = record {
+  length = header_length run.kind + run.octets;
+  header_length = header_length run.kind;
+  high_release = run.kind.release;
+  high_version = run.kind.version;
+  low_release = run.kind.release;
+  low_version = run.kind.version;
+  opened = stamp_of run.opened settings.offset;
+  appended = stamp_of run.appended settings.offset;
+  count = run.count;
   sequence = sequence;
   reason = code_of reason;
   address = node_address settings.address;
   lost = 0;
 }
 
+-- the header of the file of a run
+abbrev pub file_header : List FiledRecord → ℕ → ClosureReason → FileSettings → FileHeader
+file_header run sequence reason settings = header_of (facts_of run) sequence reason settings
+
 -- the octets of a file: its header, and then the CDRs of the run
 abbrev pub file_octets : List FiledRecord → ℕ → ClosureReason → FileSettings → List ℕ
 file_octets run sequence reason settings =
     header_octets (file_header run sequence reason settings) ++ run_octets run
+
+-- what is read of the file of a run
+abbrev pub read_file : List FiledRecord → ℕ → ClosureReason → FileSettings → CdrFile
+read_file run sequence reason settings = record {
+  header = file_header run sequence reason settings;
+  filter = [];
+  extension = [];
+  cdrs = map cdr_of run;
+}

@@ -6,7 +6,7 @@ use crate::octet::octet_of;
 /// The header of a CDR (3GPP TS 32.297, clause 6.1.2).
 #[derive(Clone, Copy, Debug, PartialEq, Eq)]
 pub struct CdrHeader {
-    /// How many octets the CDR has behind this header.
+    /// How many octets the CDR has after this header.
     pub length: u16,
     /// The release of the specification that the CDR follows, from 0 to 7.
     pub release: u8,

@@ -1,16 +1,17 @@
 ghost use Rattle.std.specs.Prelude.{◌≡◌, ◌<◌, ◌∷◌, [], length, pos, negsuc, IfOk};
-ghost use Rattle.cdr_file.specs.CdrFile.{file_octets, node_address};
+ghost use Rattle.cdr_file.specs.CdrFile.{file_octets};
 ghost use Rattle.cdr_file.specs.Timestamp.{stamp_of};
 
-use crate::{CdrHeader, ClosureReason, FileHeader, Offset16, stamp, write_cdr, write_header};
-use byteorder::{BigEndian, ByteOrder};
+use crate::{
+    CdrHeader, ClosureReason, FileHeader, Offset16, node_address, stamp, write_cdr, write_header,
+};
 use gw_base::{CdrKind, GatewayId, Moment};
 use std::alloc::{AllocError, Global};
 use std::test::Fail;
 
 /// A file of one CDR, which was filed in the first second of 29 February 2024 and is closed by an
 /// operator: the header, the CDR's header, and its octets.
-const ONE_CDR: [u8; 61] = [
+pub(crate) const ONE_CDR: [u8; 61] = [
     0x00, 0x00, 0x00, 0x3D, // file length
     0x00, 0x00, 0x00, 0x34, // header length
     0x60, 0x60, // high and low release 3, version 0
@@ -50,20 +51,9 @@ fn timestamps_by_definition()
     ensures a_minute_ahead { stamp_of 4_102_444_799 (pos 1) ≡ 0x1080_0801 }
 {}
 
-/// The address of a gateway in a file's header.
-fn address_of(gateway: GatewayId) -> [u8; 20]
-    ensures { result ≡ node_address gateway.0 }
-{
-    let mut address = [0; 20];
-    address[10] = 0xFF;
-    address[11] = 0xFF;
-    BigEndian::write_u32(&mut address[12..16], gateway.0);
-    address
-}
-
 /// The octets of a file of one CDR that an operator closed, as plain code: its contract is the
 /// definition.
-fn one_cdr_file(
+pub(crate) fn one_cdr_file(
     alloc: Global,
     kind: CdrKind,
     octets: &[u8],
@@ -92,7 +82,7 @@ fn one_cdr_file(
         count: 1,
         sequence: 1,
         reason: ClosureReason::Manual.code(),
-        address: address_of(gateway),
+        address: node_address(gateway.0),
         lost: 0,
     };
     let cdr = CdrHeader {
@@ -188,33 +178,4 @@ fn timestamps_say_local_time(rt: HostRuntime) -> Result<(), Fail> {
         assert_eq!(rt; stamp(moment, offset), expected, "{seconds} at {minutes}");
     }
     Ok(())
-}
-
-#[test]
-fn offsets_stay_below_sixteen_hours(rt: HostRuntime) {
-    for minutes in [-959, -1, 0, 959] {
-        assert!(rt; Offset16::of(minutes).is_some(), "{minutes}");
-    }
-    for minutes in [i16::MIN, -960, 960, i16::MAX] {
-        assert!(rt; Offset16::of(minutes).is_none(), "{minutes}");
-    }
-}
-
-#[test]
-fn closure_reasons_have_the_codes_of_the_standard(rt: HostRuntime) {
-    let codes = [
-        (ClosureReason::Normal, 0),
-        (ClosureReason::SizeLimit, 1),
-        (ClosureReason::OpenTimeLimit, 2),
-        (ClosureReason::CountLimit, 3),
-        (ClosureReason::Manual, 4),
-        (ClosureReason::KindChange, 5),
-        (ClosureReason::Abnormal, 128),
-        (ClosureReason::FileSystemError, 129),
-        (ClosureReason::StorageExhausted, 130),
-        (ClosureReason::IntegrityError, 131),
-    ];
-    for (reason, code) in codes {
-        assert_eq!(rt; reason.code(), code);
-    }
 }

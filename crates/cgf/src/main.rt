@@ -2,15 +2,22 @@
 //! ended.
 #![tactic(auto)]
 
+ghost use Rattle.std.specs.Prelude.{◌≡◌, ◌≢◌};
+ghost use Rattle.std.specs.Process.{exit_status};
+ghost use Rattle.cgf_top.specs.Run.{status_number};
+
 mod sink;
 mod source;
+#[cfg(test)]
+mod tests;
 
 use crate::sink::WriterSink;
 use crate::source::{FileSource, ReaderSource};
 use cgf_top::{Status, run_cgf};
 use gw_base::Source;
+use std::env;
+use std::io::ErrorKind;
 use std::process::ExitCode;
-use std::{env, io};
 
 /// The word that names the standard input.
 const STANDARD_INPUT: &str = "-";
@@ -20,23 +27,38 @@ fn main(rt: HostRuntime) -> ExitCode {
         Ok(words) => run(&rt, &words),
         Err(status) => status,
     };
+    ended(&rt, status)
+}
+
+/// Says on the standard error how the job ended, where it isn't done, and gives the exit code.
+fn ended(rt: &HostRuntime, status: Status) -> ExitCode
+    ensures { exit_status result ≡ status_number status }
+{
     if status != Status::Done {
         let _ = eprintln!(rt; "{status}");
     }
     ExitCode::from(status.number())
 }
 
-/// The words behind the program's name. Words that aren't text are none of the forms.
+/// The words after the program's name.
 fn words(rt: &HostRuntime) -> Result<Vec<String>, Status> {
-    let all = env::args(rt).map_err(|error| match error.kind() {
-        io::ErrorKind::OutOfMemory => Status::Memory,
-        _ => Status::Words,
-    })?;
+    let all = env::args(rt).map_err(|error| without_words(error.kind()))?;
     let mut words = Vec::new(rt.alloc());
     for word in all.skip(1) {
         words.push(word).map_err(|_| Status::Memory)?;
     }
     Ok(words)
+}
+
+/// How the job ends where the words can't be had. Words that aren't text are none of the forms.
+fn without_words(kind: ErrorKind) -> Status
+    ensures memory { kind ≡ ErrorKind.OutOfMemory → result ≡ Status.Memory }
+    ensures words { kind ≢ ErrorKind.OutOfMemory → result ≡ Status.Words }
+{
+    match kind {
+        ErrorKind::OutOfMemory => Status::Memory,
+        _ => Status::Words,
+    }
 }
 
 /// Runs the job over the file that the second word names, which is opened once it is to be read.

@@ -1,10 +1,10 @@
-ghost use Rattle.std.specs.Prelude.{◌≤◌};
+ghost use Rattle.std.specs.Prelude.{◌≡◌, ◌≤◌};
 ghost use Rattle.gw_base.specs.Faults.{Rose};
 
 use gw_base::{Failed, Sink};
 use std::io::Write;
 
-/// A sink over a writer. It tells nothing of what was written.
+/// A sink over a writer. It tells what was written where the writer does.
 #[derive(Drop)]
 pub struct WriterSink<W: Write + Drop> {
     writer: W,
@@ -20,6 +20,7 @@ impl<W: Write + Drop> WriterSink<W> {
     fn fail(&mut self) -> Failed
         ensures rose { Rose self.old.faults self.new.faults }
         ensures counted { self.old.faults ≤ self.new.faults }
+        ensures writer { self.new.writer ≡ self.old.writer }
     {
         self.faults = self.faults.saturating_add(1);
         Failed
@@ -27,9 +28,7 @@ impl<W: Write + Drop> WriterSink<W> {
 }
 
 impl<W: Write + Drop> Sink for WriterSink<W> {
-    ghost use Rattle.std.specs.Prelude.{None};
-
-    ghost written = { λ _. None };
+    ghost written = { λ s. W.contents s.writer };
 
     ghost faults = { λ s. s.faults };
 

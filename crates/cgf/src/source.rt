@@ -1,11 +1,12 @@
-ghost use Rattle.std.specs.Prelude.{◌≡◌, ◌≤◌, length, IfSome};
+ghost use Rattle.std.specs.Prelude.{◌≡◌, ◌≤◌, length, IfOk, OnOk, IsSome, option_and_then};
+ghost use Rattle.std.specs.Io.KnownBytes.{ReadConsumes};
 
 use gw_base::{Failed, Source};
-use std::fs;
 use std::io::Read;
 use std::rt::Files;
+use std::{fs, io};
 
-/// A source over a reader. It tells nothing of what is left.
+/// A source over a reader. It tells what is left where the reader does.
 #[derive(Drop)]
 pub struct ReaderSource<R: Read + Drop> {
     reader: R,
@@ -20,9 +21,7 @@ impl<R: Read + Drop> ReaderSource<R> {
 }
 
 impl<R: Read + Drop> Source for ReaderSource<R> {
-    ghost use Rattle.std.specs.Prelude.{None};
-
-    ghost left = { λ _. None };
+    ghost left = { λ s. R.remaining s.reader };
 
     ghost faults = { λ s. s.faults };
 
@@ -37,8 +36,8 @@ impl<R: Read + Drop> Source for ReaderSource<R> {
     }
 }
 
-/// The source of a file that is opened at the first call. It tells nothing of what is left. Where
-/// the file can't be opened, the call fails.
+/// The source of a file that is opened at the first call. It tells what is left where the open file
+/// does. Where the file can't be opened, the call fails.
 #[derive(Drop)]
 pub struct FileSource<'a, R: Files> {
     files: &'a R,
@@ -58,32 +57,35 @@ impl<'a, R: Files> FileSource<'a, R> {
         }
     }
 
-    /// Reads on in the file; `None` where it can't be opened or read.
-    fn read(&mut self, into: &mut [u8]) -> Option<usize>
-        ensures within { IfSome result (λ count. count ≤ length into.new) }
+    /// Reads on in the file, which it opens where that wasn't done yet.
+    fn read(&mut self, into: &mut [u8]) -> io::Result<usize>
+        ensures within { IfOk result (λ count. count ≤ length into.new) }
+        ensures read { ReadConsumes (option_and_then R.File.remaining self.old.file)
+            (option_and_then R.File.remaining self.new.file) result into.new }
+        ensures open { OnOk result (IsSome self.new.file) }
         ensures faults { self.new.faults ≡ self.old.faults }
     {
-        if self.file.is_none() {
-            self.file = Some(fs::open(self.files, self.path).ok()?);
+        if let Some(file) = &mut self.file {
+            return file.read(into);
         }
-        match &mut self.file {
-            Some(file) => file.read(into).ok(),
-            None => None,
-        }
+        let mut file = fs::open(self.files, self.path)?;
+        let count = file.read(into)?;
+        self.file = Some(file);
+        Ok(count)
     }
 }
 
 impl<R: Files> Source for FileSource<'_, R> {
-    ghost use Rattle.std.specs.Prelude.{None};
+    ghost use Rattle.std.specs.Prelude.{option_and_then};
 
-    ghost left = { λ _. None };
+    ghost left = { λ s. option_and_then R.File.remaining s.file };
 
     ghost faults = { λ s. s.faults };
 
     fn take(&mut self, into: &mut [u8]) -> Result<usize, Failed> {
         match self.read(into) {
-            Some(count) => Ok(count),
-            None => {
+            Ok(count) => Ok(count),
+            Err(_) => {
                 self.faults = self.faults.saturating_add(1);
                 Err(Failed)
             }

@@ -4,7 +4,7 @@ use Rattle.std.proofs.lemmas.List.{append-nil}
 use Rattle.gw_base.specs.declared.history.HistoryEntry.{HistoryEntry}
 use Rattle.gw_base.specs.HeldKeys.{promised_octets}
 use Rattle.gw_base.specs.View.{HistoryView}
-use Rattle.gw_base.proofs.ViewLemmas.{view_of-append}
+use Rattle.gw_base.specs.ViewLaws.{view_of-append}
 use Rattle.entry_codec.specs.Room.{capacity_of, costs_of, has_room}
 use Rattle.entry_codec.specs.Spelling.{cost_of}
 use Rattle.entry_codec.specs.Laws.{costs_of-append}

@@ -2,7 +2,9 @@
 use Rattle.std.proofs.Common.{◌≡◌, ℕ, ◌<◌, ◌^◌, Bool, true, false, ◌==◌, ◌&&◌, nat_le, nat_lt, if◌then◌else◌, List, [], ◌∷◌, ◌++◌, map, Option, Some, None, IfSome, is_none, refl, ap, sym, ◌∙◌, subst, arith}
 use Rattle.gtpp_message.specs.Message.{TransferValue, Send, Possible, Cancel, Release}
 use Rattle.gtpp_message.specs.Packet.{packet_octets}
-use Rattle.gw_base.specs.History.{raised, top_after, top_from, top_of}
+use Rattle.gw_base.specs.EntryLaws.{top_of-append}
+use Rattle.gw_base.specs.History.{top_after, top_of}
+use Rattle.gw_base.specs.Lists.{raised}
 use Rattle.gw_base.specs.declared.address.NodeId.{NodeId}
 use Rattle.gw_base.specs.declared.history.HistoryAct.{HistoryAct}
 use Rattle.gw_base.specs.declared.history.HistoryAct.TheVariants as act
@@ -11,7 +13,7 @@ use Rattle.std.proofs.lemmas.Bool.{ltb-true}
 use Rattle.gw_base.specs.Nearest.{nearest}
 use Rattle.gw_base.specs.declared.key_state.KeyState.{KeyState}
 use Rattle.transfer_cmd.specs.Lists.{verdict_of}
-use Rattle.transfer_cmd.specs.Table.{cause_of, state_given}
+use Rattle.transfer_cmd.specs.Table.{answer_cause, state_given}
 use Rattle.transfer_cmd.specs.declared.decision.Ask.{Ask}
 use Rattle.transfer_cmd.specs.declared.decision.Ask.TheVariants as ask
 use Rattle.transfer_cmd.specs.declared.verdict.Verdict.{Verdict}
@@ -29,11 +31,6 @@ IsSmall _ = Unit {0}
 
 pub bounded_start : (now : ℕ) → IsBounded (with_act [] now (Some act.Start))
 bounded_start now node = tt
-
--- the greatest number behind one more entry
-top_behind : (node : ℕ) (top : Option ℕ) (h : List HistoryEntry) (e : HistoryEntry) → top_from node top (h ++ e ∷ []) ≡ top_after node (top_from node top h) e.act
-top_behind node top [] e = refl
-top_behind node top (f ∷ h) e = top_behind node (top_after node top f.act) h e
 
 abbrev IsBelow : Option ℕ → Type 0
 IsBelow top = IfSome top (λ t. t < 2 ^ 63)
@@ -64,7 +61,7 @@ IsSmallAct (Some a) = IsSmall a
 bounded_act : (h : List HistoryEntry) (now : ℕ) (a : Option HistoryAct) → IsBounded h → IsSmallAct a → IsBounded (with_act h now a)
 bounded_act h now None bounded small = bounded
 bounded_act h now (Some a) bounded small =
-    λ node. subst IsBelow (sym (top_behind node None h (entry_of h now a))) (small_top node (top_of node h) a (bounded node) small)
+    λ node. subst IsBelow (sym (top_of-append node h (entry_of h now a))) (small_top node (top_of node h) a (bounded node) small)
 
 both_right : (a b : Bool) → (a && b) ≡ true → b ≡ true
 both_right true b e = e
@@ -84,7 +81,7 @@ small_called false cause asked node number packet e = tt
 small_sent : (b : Bool) (asked : Ask) (state : KeyState) (node : NodeId) (number : ℕ) (packet : List ℕ) → is_none (state_given asked state) ≡ b →
     IsSmallAct (sent asked state node number packet).act
 small_sent true asked state node number packet e = rw e tt
-small_sent false asked state node number packet e = rw e (small_called (is_in_range number) (cause_of asked state) asked node number packet refl)
+small_sent false asked state node number packet e = rw e (small_called (is_in_range number) (answer_cause asked state) asked node number packet refl)
 
 small_judged : (v : Verdict) (release : Bool) (node : NodeId) (held : List ℕ) → IsSmallAct (judged v release node held).act
 small_judged verdict.Wrong release node held = tt

@@ -2,9 +2,8 @@
 use Rattle.std.proofs.Common.{◌≡◌, ℕ, ◌%◌, suc, ◌+◌, ◌-◌, ◌<◌, List, [], ◌∷◌, ◌++◌, length, get_or, drop, map, refl, ap, sym, ◌∙◌, arith, pos, append_assoc, codes}
 use Rattle.std.proofs.Math.Seq.{drop-cons}
 use Rattle.std.proofs.lemmas.List.{length-map}
-use Rattle.cdr_file.proofs.FileLemmas.{length-run_octets}
+use Rattle.cdr_file.specs.Laws.{length-run_octets}
 use Rattle.cdr_file.specs.CdrFile as cdr
-use Rattle.std.specs.Int.{byte_at, bytes_high_first}
 use Rattle.cdr_file.specs.ClosureReason.{code_of}
 use Rattle.cdr_file.specs.FileHeader.{header_octets}
 use Rattle.cdr_file.specs.Timestamp.{stamp_of}
@@ -104,36 +103,3 @@ ended h filed printed first second is one two =
     two
     ∙ ap (λ f. f ++ gateway_line h) (one ∙ ap (λ r. printed ++ file_line r) is)
     ∙ append_assoc printed (file_line (filed_records h)) (gateway_line h)
-
--- the low 32 bits of a number have its four low octets
-third_octet : (x : ℕ) → byte_at 3 (x % 4294967296) ≡ byte_at 3 x
-third_octet x = omega arith
-
-second_octet : (x : ℕ) → byte_at 2 (x % 4294967296) ≡ byte_at 2 x
-second_octet x = omega arith
-
-first_octet : (x : ℕ) → byte_at 1 (x % 4294967296) ≡ byte_at 1 x
-first_octet x = omega arith
-
-last_octet : (x : ℕ) → byte_at 0 (x % 4294967296) ≡ byte_at 0 x
-last_octet x = omega arith
-
-low_octets : (x : ℕ) → bytes_high_first 4 (x % 4294967296) ≡ bytes_high_first 4 x
-low_octets x = λ i. third_octet x i ∷ second_octet x i ∷ first_octet x i ∷ last_octet x i ∷ []
-
--- so a header says the low 32 bits of its length and its count
-pub low_header : (first last : cdr.FiledRecord) (count octets : ℕ) →
-    header_octets (record (header_of first last count octets) { length = (52 + octets) % 4294967296; count = count % 4294967296 })
-    ≡ header_octets (header_of first last count octets)
-unfolding header_octets
-low_header first last count octets =
-    rw (
-      third_octet (52 + octets),
-      second_octet (52 + octets),
-      first_octet (52 + octets),
-      last_octet (52 + octets),
-      third_octet count,
-      second_octet count,
-      first_octet count,
-      last_octet count,
-    ) refl

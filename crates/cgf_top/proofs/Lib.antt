@@ -1,5 +1,4 @@
 pub mod Bounds
-pub mod Conditions
 pub mod Cuts
 pub mod Ends
 pub mod Filed
@@ -9,3 +8,4 @@ pub mod Numbers
 pub mod Records
 pub mod Reports
 pub mod Streams
+pub mod Whole

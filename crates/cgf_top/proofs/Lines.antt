@@ -1,6 +1,7 @@
 -- Lemmas on the lines of a script, for the loop that reads one a turn.
 use Rattle.std.proofs.Common.{◌≡◌, ℕ, ◌+◌, true, false, List, [], ◌∷◌, ◌++◌, Result, Ok, Err, refl, ap, sym, ◌∙◌, append_assoc, append-nil}
-use Rattle.cgf_top.specs.FeedScript.{SaysLines, kept, kept_lines, line_step, lines_from, with_line}
+use Rattle.cgf_top.specs.FeedScript.{line_step, lines_from, with_line}
+use Rattle.cgf_top.specs.Steps.{SaysLines, kept, kept_lines}
 use Rattle.cgf_top.specs.ScriptText.{RawLine, line_size}
 use Rattle.cgf_top.specs.declared.world_script.line.Line.{Line}
 use Rattle.cgf_top.specs.declared.world_script.progress.Progress.{Progress}

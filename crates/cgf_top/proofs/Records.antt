@@ -139,14 +139,14 @@ form_of count format version value is =
 
 -- a packet has as many records as it says
 pub records_count : (count format version : ℕ) (value : List ℕ) → packet.IsPacket (packet.Full count format version value) →
-    length (packet.records_of (packet.Full count format version value)) ≡ count
+    length (packet.packet_records (packet.Full count format version value)) ≡ count
 records_count count format version value is =
     let form = form_of count format version value is in
     ap (λ (found : Option packet.PacketForm). length (option_map_or (λ (p : packet.PacketForm). p.records) found [])) form.is ∙ form.so_many
 
 -- the records that a packet's value files are those of the packet
 pub records_filed : (key : PacketKey) (moment count format version : ℕ) (value : List ℕ) → packet.IsPacket (packet.Full count format version value) →
-    records_of key moment value ≡ records_from key moment format version 0 (packet.records_of (packet.Full count format version value))
+    records_of key moment value ≡ records_from key moment format version 0 (packet.packet_records (packet.Full count format version value))
 records_filed key moment count format version value is =
     let form = form_of count format version value is in
     ap (records_in key moment) form.is

@@ -1,7 +1,7 @@
 -- The report of a script is that of the lines that do something.
 use Rattle.std.proofs.Common.{◌≡◌, List, [], ◌∷◌, ◌++◌, Result, refl, ap, sym, ◌∙◌}
 use Rattle.cgf_top.specs.FeedReport.{FeedState, behind, behind_all, closed, end_lines, fresh_feed, report_of, report_of_lines}
-use Rattle.cgf_top.specs.FeedScript.{SaysLines, kept_lines}
+use Rattle.cgf_top.specs.Steps.{SaysLines, kept_lines}
 use Rattle.cgf_top.specs.declared.world_script.line.Line.{Line}
 use Rattle.cgf_top.specs.declared.world_script.line.Line.TheVariants as line
 use Rattle.cgf_top.specs.declared.world_script.refusal.Refusal.{Refusal}

@@ -4,7 +4,8 @@ use Rattle.std.proofs.Math.Seq.{take-add, take-length}
 use Rattle.std.specs.Io.KnownBytes.{Appends, Consumes, Keeps}
 use Rattle.gw_base.specs.Faults.{Rose}
 use Rattle.gw_base.specs.Written.{AppendsFront}
-use Rattle.cgf_top.specs.Run.{TakesPiece, TakesUpTo}
+use Rattle.cgf_top.specs.Run.{TakesUpTo}
+use Rattle.cgf_top.specs.Steps.{TakesPiece}
 
 -- Writing.
 
@@ -49,9 +50,9 @@ consumes_piece a b c before after count h piece = subst (Consumes a c) (sym piec
 
 -- Faults.
 
-pub rose_more : (before middle after : ℕ) → before ≤ middle → Rose middle after → Rose before after
-rose_more before middle after h (inl rose) = inl (omega (arith, h, rose))
-rose_more before middle after h (inr last) = inr last
+-- a count that stood still, and then rose
+pub rose_more : (before middle after : ℕ) → middle ≡ before → Rose middle after → Rose before after
+rose_more before middle after h rose = subst (λ (n : ℕ). Rose n after) h rose
 
 -- a call that failed took nothing
 pub takes_kept : (a b : Option (List ℕ)) (most : ℕ) → Keeps a b → TakesUpTo a b most

@@ -11,7 +11,7 @@ use Rattle.gw_base.specs.declared.history.HistoryAct.TheVariants as act
 use Rattle.gw_base.specs.declared.history.HistoryEntry.{HistoryEntry}
 use Rattle.gw_base.specs.declared.key_state.KeyState.{KeyState}
 use Rattle.transfer_cmd.specs.Lists.{is_held, verdict_of}
-use Rattle.transfer_cmd.specs.Table.{cause_of, state_given}
+use Rattle.transfer_cmd.specs.Table.{answer_cause, state_given}
 use Rattle.transfer_cmd.specs.declared.decision.Ask.{Ask}
 use Rattle.transfer_cmd.specs.declared.decision.Ask.TheVariants as ask
 use Rattle.transfer_cmd.specs.declared.verdict.Verdict.{Verdict}
@@ -51,8 +51,8 @@ answer_with cause act = record { cause = cause; act = act }
 -- the answer by the table; where it calls for an entry whose number is out of range, no resources are available
 abbrev pub sent : Ask → KeyState → NodeId → ℕ → List ℕ → Answer
 sent asked state node number packet =
-    if is_none (state_given asked state) then answer_with (cause_of asked state) None
-    else if is_in_range number then answer_with (cause_of asked state) (Some (act_of asked node number packet))
+    if is_none (state_given asked state) then answer_with (answer_cause asked state) None
+    else if is_in_range number then answer_with (answer_cause asked state) (Some (act_of asked node number packet))
     else answer_with 199 None
 
 -- Requests that name a list of numbers.

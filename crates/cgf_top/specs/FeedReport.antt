@@ -110,7 +110,7 @@ in_file filed = record { kind = kind_of filed.format filed.version; octets = fil
 
 -- the gateway's clock shows UTC, and its address is 10.0.0.1
 abbrev pub feed_settings : FileSettings
-feed_settings = record { offset = pos 0; address = 167772161 }
+feed_settings = record { offset = pos 0; address = 0x0A00_0001 }
 
 abbrev pub file_line : List FiledRecord → List ℕ
 file_line [] = []

@@ -1,9 +1,8 @@
 -- The scripts of `feed`: what their lines say, and the first line that is refused.
 use Rattle.std.specs.Prelude.{ℕ, ◌≡◌, ◌+◌, ◌≤◌, Bool, true, false, ◌&&◌, ◌==◌, nat_le, nat_lt, if◌then◌else◌, List, [], ◌∷◌, length, Option, Some, None, option_map, Result, Ok, Err, codes}
-use Rattle.std.specs.List.{flat_map}
 use Rattle.std.specs.Str.{bytes_eq}
 use Rattle.gtpp_message.specs.Message.{TransferValue, Send, Possible, Cancel, Release}
-use Rattle.gtpp_message.specs.Packet.{PacketValue, Empty, Full, records_of}
+use Rattle.gtpp_message.specs.Packet.{PacketValue, Empty, Full, packet_records}
 use Rattle.gw_base.specs.CdrKind.{kind_of}
 use Rattle.gw_base.specs.declared.kind.CdrKind.{CdrKind}
 use Rattle.gw_base.specs.declared.address.Addr.{Addr}
@@ -15,8 +14,6 @@ use Rattle.cgf_top.specs.declared.world_script.progress.Progress.{Progress}
 use Rattle.cgf_top.specs.declared.world_script.refusal.InputKind.{InputKind}
 use Rattle.cgf_top.specs.declared.world_script.refusal.InputKind.TheVariants.{TooLong, NotBuilt}
 use Rattle.cgf_top.specs.declared.world_script.refusal.Refusal.{Refusal}
-use Rattle.cgf_top.specs.declared.world_script.script.ScriptEnd.{ScriptEnd}
-use Rattle.cgf_top.specs.declared.world_script.script.ScriptEnd.TheVariants as end
 
 -- What a line says.
 
@@ -77,7 +74,7 @@ abbrev pub behind_records : Progress → List (List ℕ) → Option Progress
 behind_records p records = with_records p (p.records + length records) (p.octets + cdr_sizes records)
 
 abbrev pub behind_packet : Progress → PacketValue → Option Progress
-behind_packet p packet = if is_built_packet packet then behind_records p (records_of packet) else None
+behind_packet p packet = if is_built_packet packet then behind_records p (packet_records packet) else None
 
 -- behind a request
 abbrev pub behind_request : Progress → TransferValue → Option Progress
@@ -152,24 +149,3 @@ not_begun = record { begun = false; ended = false; sender = None; datagrams = 0;
 -- the lines of a script, or the first that is refused, by its number from 1
 abbrev pub script_of : List ℕ → Result (List Line) Refusal
 script_of text = lines_from 1 0 not_begun (raw_lines text)
-
--- What the code keeps of the lines: those that do something.
-
-abbrev pub kept : Line → List Line
-kept line.Blank = []
-kept (line.At moment) = line.At moment ∷ []
-kept (line.Datagram sender octets) = line.Datagram sender octets ∷ []
-kept line.End = line.End ∷ []
-
-abbrev pub kept_lines : List Line → List Line
-kept_lines lines = flat_map kept lines
-
--- the script's lines are read, and these are the ones that do something
-abbrev pub SaysLines : Result (List Line) Refusal → List Line → Type 0
-SaysLines script lines = (all : List Line) × (script ≡ Ok all) × (lines ≡ kept_lines all)
-
--- the line with this number was read or refused, unless memory ran out
-abbrev pub StepGives : ℕ → Result (Line × Progress) InputKind → Result (Line × Progress) ScriptEnd → Type 0
-StepGives place step (Ok found) = step ≡ Ok found
-StepGives place step (Err (end.Refused refusal)) = (step ≡ Err refusal.kind) × (refusal.place ≡ place)
-StepGives place step (Err end.NoMemory) = Unit {0}

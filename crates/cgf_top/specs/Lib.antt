@@ -1,10 +1,14 @@
-pub mod Answer
-pub mod FeedReport
-pub mod FeedScript
-pub mod FileWriter
-pub mod FiledRecords
-pub mod Numbers
-pub mod PreparedValues
-pub mod Preparing
+-- what public clauses cite
 pub mod Run
+pub mod StatusText
 pub mod ScriptText
+pub mod FeedScript
+pub mod FeedReport
+pub mod FiledRecords
+pub mod Answer
+pub mod Preparing
+pub mod PreparedValues
+pub mod Numbers
+-- steps of proofs
+pub mod Steps
+pub mod FileWriter

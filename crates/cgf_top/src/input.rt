@@ -1,8 +1,9 @@
 //! Reading an input to its end.
 
-ghost use Rattle.std.specs.Prelude.{◌≡◌, ◌≤◌, ◌<◌, ◌-◌, length, vec_len, Err, IfOk, OnOk};
+ghost use Rattle.std.specs.Prelude.{◌≡◌, ◌≢◌, ◌≤◌, ◌<◌, ◌-◌, length, vec_len, Err, IfOk, OnOk};
 ghost use Rattle.gw_base.specs.Faults.{Rose};
-ghost use Rattle.cgf_top.specs.Run.{IsRead, TakesPiece, TakesUpTo};
+ghost use Rattle.cgf_top.specs.Run.{IsRead, TakesUpTo};
+ghost use Rattle.cgf_top.specs.Steps.{TakesPiece};
 
 use crate::world_script::MOST_TEXT;
 use gw_base::Source;
@@ -29,6 +30,7 @@ pub fn read_text<S: Source>(alloc: Global, source: &mut S) -> Result<Vec<u8>, Re
     ensures read { IfOk result (λ text. IsRead (S.left source.old) (S.left source.new) text.items) }
     ensures taken { TakesUpTo (S.left source.old) (S.left source.new) 16777217 }
     ensures failed { result ≡ Err ReadEnd.Failed → Rose (S.faults source.old) (S.faults source.new) }
+    ensures unfailed { result ≢ Err ReadEnd.Failed → S.faults source.new ≡ S.faults source.old }
 {
     let mut text = Vec::new(alloc);
     let mut piece = [0; PIECE];
@@ -52,7 +54,7 @@ fn read_piece<S: Source>(
     ensures taken { IfOk result (TakesPiece (S.left source.old) (S.left source.new) text.old.items text.new.items) }
     ensures bounded { OnOk result (vec_len text.new ≤ 16777217) }
     ensures within { TakesUpTo (S.left source.old) (S.left source.new) (16777217 - vec_len text.old) }
-    ensures counted { S.faults source.old ≤ S.faults source.new }
+    ensures unfailed { result ≢ Err ReadEnd.Failed → S.faults source.new ≡ S.faults source.old }
     ensures failed { result ≡ Err ReadEnd.Failed → Rose (S.faults source.old) (S.faults source.new) }
 {
     let room = piece.len().min(MOST_READ - text.len());

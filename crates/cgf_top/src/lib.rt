@@ -1,11 +1,11 @@
 //! The job of the program, over any source and any sink.
 #![tactic(auto)]
 
-ghost use Rattle.std.specs.Prelude.{◌≡◌, ◌⊎◌, ◌↔◌, List, true, false, map, string_bytes, Ok, Err, IfOk};
+ghost use Rattle.std.specs.Prelude.{◌≡◌, ◌↔◌, List, true, false, map, string_bytes, Ok, Err, IfOk};
 ghost use Rattle.gw_base.specs.Faults.{Rose};
 ghost use Rattle.cgf_top.specs.FeedReport.{feed_report};
 ghost use Rattle.cgf_top.specs.FeedScript.{script_of};
-ghost use Rattle.cgf_top.specs.Run.{EndsByScript, EndsByWhole, IsRefused, TakesUpTo, WritesFront, WritesReport, is_command};
+ghost use Rattle.cgf_top.specs.Run.{HasCause, IsComplete, IsRefused, TakesUpTo, WritesFront, WritesReport, is_command, may_have_written};
 ghost use Rattle.cgf_top.specs.declared.world_script.line.Line.{Line};
 ghost use Rattle.cgf_top.specs.declared.world_script.refusal.Refusal.{Refusal};
 
@@ -34,42 +34,38 @@ pub use world_script::InputKind;
 /// Does what the words ask: `feed FILE` reads a script from the source, feeds a gateway with its
 /// datagrams, and writes the reply to each or why it is dropped, the file and the gateway's counts to
 /// the sink.
-#[tactic(auto, using(crate::proofs::Ends::whole_text, crate::proofs::Streams::takes_none))]
+#[tactic(auto, using(crate::proofs::Ends::complete, crate::proofs::Streams::takes_none))]
 pub fn run_cgf<S: Source, K: Sink>(
     alloc: Global,
     words: &[String],
     source: &mut S,
     sink: &mut K,
 ) -> Status
-    // The words are none of the forms, and then nothing is read or written.
+    // The words are none of the forms, and then nothing is read; what is written is the report or its front.
     ensures words { (result ≡ Status.Words) ↔ (is_command (map string_bytes words.now) ≡ false) }
-    ensures words_untouched { result ≡ Status.Words → (source.new ≡ source.old) × (sink.new ≡ sink.old) }
+    ensures untouched { (result ≡ Status.Words → source.new ≡ source.old)
+        × (may_have_written result ≡ false → sink.new ≡ sink.old) }
 
-    // A script was read, and all of its report and nothing else was written.
-    ensures done { result ≡ Status.Done → WritesReport (S.left source.old) (S.left source.new) (K.written sink.old) (K.written sink.new) }
+    // A script was read to the end of the input, and all of its report and nothing else was written, or a front of it.
+    ensures done { result ≡ Status.Done →
+        WritesReport (S.left source.old) (S.left source.new) (K.written sink.old) (K.written sink.new) }
+    ensures front { result ≡ Status.Write →
+        WritesFront (S.left source.old) (S.left source.new) (K.written sink.old) (K.written sink.new) }
 
-    // The line is the first that is refused of the script that was read, and nothing was written.
+    // The line is the first that is refused of the script that was read.
     ensures input { (refusal : Refusal) → result ≡ Status.Input refusal.place refusal.kind →
-        IsRefused (S.left source.old) (S.left source.new) refusal × (sink.new ≡ sink.old) }
+        IsRefused (S.left source.old) (S.left source.new) refusal }
 
-    // Each fault was the source's or the sink's own.
-    ensures read { result ≡ Status.Read → Rose (S.faults source.old) (S.faults source.new) × (sink.new ≡ sink.old) }
-    ensures write { result ≡ Status.Write → Rose (K.faults sink.old) (K.faults sink.new)
-        × WritesFront (S.left source.old) (S.left source.new) (K.written sink.old) (K.written sink.new) }
-    ensures memory { result ≡ Status.Memory → sink.new ≡ sink.old }
+    // Each fault was the source's or the sink's own, and where another end is told there was none.
+    ensures cause { HasCause result (S.faults source.old) (S.faults source.new) (K.faults sink.old) (K.faults sink.new) }
 
     // No octet past the first 16,777,217 is taken.
     ensures bound { TakesUpTo (S.left source.old) (S.left source.new) 16777217 }
 
-    // With no fault, the script that was read decides, unless memory runs out.
+    // With no fault, the script decides, unless memory runs out.
     ensures complete { is_command (map string_bytes words.now) ≡ true →
         ¬ (Rose (S.faults source.old) (S.faults source.new)) → ¬ (Rose (K.faults sink.old) (K.faults sink.new)) →
-        (result ≡ Status.Memory) ⊎ EndsByScript (S.left source.old) (S.left source.new) result }
-
-    // A text within the bound that the source tells is read whole, so that it is the one that decides.
-    ensures whole { is_command (map string_bytes words.now) ≡ true →
-        ¬ (Rose (S.faults source.old) (S.faults source.new)) → ¬ (Rose (K.faults sink.old) (K.faults sink.new)) →
-        EndsByWhole (S.left source.old) result }
+        IsComplete (S.left source.old) (S.left source.new) result }
 {
     if !is_command(words) {
         return Status::Words;

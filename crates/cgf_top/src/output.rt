@@ -1,6 +1,6 @@
 //! Writing octets to their end.
 
-ghost use Rattle.std.specs.Prelude.{◌≤◌, OnOk, OnErr};
+ghost use Rattle.std.specs.Prelude.{◌≡◌, OnOk, OnErr};
 ghost use Rattle.std.specs.Io.KnownBytes.{Appends};
 ghost use Rattle.gw_base.specs.Faults.{Rose};
 ghost use Rattle.gw_base.specs.Written.{AppendsFront};
@@ -11,6 +11,7 @@ use gw_base::{Failed, Sink};
 #[tactic(auto, using(crate::proofs::Streams::appends_more, crate::proofs::Streams::appends_none, crate::proofs::Streams::appends_all, crate::proofs::Streams::front_more, crate::proofs::Streams::rose_more))]
 pub fn write_all<K: Sink>(sink: &mut K, octets: &[u8]) -> Result<(), Failed>
     ensures ok { OnOk result (Appends (K.written sink.old) (K.written sink.new) octets.now) }
+    ensures unfailed { OnOk result (K.faults sink.new ≡ K.faults sink.old) }
     ensures err { OnErr result (AppendsFront (K.written sink.old) (K.written sink.new) octets.now) }
     ensures failed { OnErr result (Rose (K.faults sink.old) (K.faults sink.new)) }
 {

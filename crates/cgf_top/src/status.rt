@@ -38,11 +38,16 @@ impl Status {
 }
 
 impl fmt::Display for Status {
+    ghost use Rattle.std.specs.Prelude.{Some};
+    ghost use Rattle.cgf_top.specs.StatusText.{status_text};
+
+    ghost output = { λ status. Some (status_text status) };
+
     fn fmt<W: fmt::Write>(&self, f: &mut fmt::Formatter<W>) -> fmt::Result {
         match self {
             Status::Done => write!(f, "cgf: done"),
             Status::Words => write!(f, "cgf: words"),
-            Status::Input { place, kind } => write!(f, "cgf: input {place}: {kind:?}"),
+            Status::Input { place, kind } => write!(f, "cgf: input {place}: {kind}"),
             Status::Read => write!(f, "cgf: read"),
             Status::Write => write!(f, "cgf: write"),
             Status::Memory => write!(f, "cgf: memory"),

@@ -14,7 +14,7 @@ use Rattle.gw_base.specs.declared.history.HistoryEntry.{HistoryEntry}
 use Rattle.gw_base.specs.HeldKeys.{held_by, held_keys, holds, is_key, promised_octets}
 use Rattle.gw_base.specs.History.{due_after, is_close_due}
 use Rattle.gw_base.specs.View.{stays_held}
-use Rattle.gw_base.proofs.ViewLemmas.{view_of-append}
+use Rattle.gw_base.specs.ViewLaws.{view_of-append}
 use Rattle.entry_codec.specs.LawTypes.{RoomIsOfTheAct}
 use Rattle.entry_codec.specs.Room.{IsWithin, capacity_of, costs_of, has_room}
 use Rattle.entry_codec.specs.Spelling.{body, cost_of}

@@ -40,7 +40,8 @@ impl Cutter {
     /// The next item is a record of that many octets, filed at a moment.
     pub fn put(&mut self, kind: CdrKind, length: u16, moment: Moment) -> Cut
         ensures cut { result ≡ cut_of (record_cuts self.old.limits self.old.file kind length moment) }
-        ensures kept { self.new ≡ record self.old { file = record_file self.old.limits self.old.file kind length moment } }
+        ensures kept { self.new ≡
+            record self.old { file = record_file self.old.limits self.old.file kind length moment } }
         ensures sound { IsSound self.old.limits self.old.file }
     {
         let before = kind_change(&self.file, kind);

@@ -15,7 +15,8 @@ pub fn cutter_divides<P>()
 /// After the records of an open run, a cutter answers to an item where files are closed there, and
 /// keeps what is kept of the run after it.
 pub fn cutter_keeps_the_run<P>()
-    ensures cuts { (limits : Limits) (run : List (Filed P)) (item : Item P) → item_cuts limits (file_of run) item ≡ cuts_at limits run item }
+    ensures cuts { (limits : Limits) (run : List (Filed P)) (item : Item P)
+        → item_cuts limits (file_of run) item ≡ cuts_at limits run item }
     ensures kept { (limits : Limits) (run : List (Filed P)) (item : Item P)
         → item_file limits (file_of run) item ≡ file_of (run_after (cuts_at limits run item) run item) }
 {}
@@ -37,8 +38,8 @@ pub fn division_goes_on<P>()
 /// record once, in order.
 pub fn division_closes_where_files_end<P>()
     ensures ends { (limits : Limits) (items : List (Item P)) → IsDivision limits items (division_of limits items) }
-    ensures only { (limits : Limits) (items : List (Item P)) (division : Division P) → IsDivision limits items division
-        → division ≡ division_of limits items }
-    ensures records { (limits : Limits) (items : List (Item P)) (division : Division P) → IsDivision limits items division
-        → flat_map (λ closed. closed.run) division.closed ++ division.left_open ≡ records_of items }
+    ensures only { (limits : Limits) (items : List (Item P)) (division : Division P)
+        → IsDivision limits items division → division ≡ division_of limits items }
+    ensures records { (limits : Limits) (items : List (Item P)) (division : Division P)
+        → IsDivision limits items division → flat_map (λ closed. closed.run) division.closed ++ division.left_open ≡ records_of items }
 {}

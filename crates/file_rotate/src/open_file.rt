@@ -6,13 +6,8 @@ ghost use Rattle.file_rotate.specs.Items.{AreLimits, same_kind};
 ghost use Rattle.gw_base.specs.TickDue.{is_long_ago};
 
 use crate::limits::Limits;
-use cdr_file::ClosureReason;
+use cdr_file::{ClosureReason, cdr_header_length, header_length};
 use gw_base::{CdrKind, Moment};
-
-/// The octets of the header of a file, and of that of each CDR.
-const FILE_HEADER: u32 = 52;
-
-const CDR_HEADER: u32 = 4;
 
 /// What is kept of an open file.
 #[derive(Clone, Copy, Debug)]
@@ -103,13 +98,13 @@ pub(crate) fn with_record(
     requires below { ForSome file (λ f. IsBelow limits f) }
     ensures { result ≡ with_record file kind length moment }
 {
-    let octets = CDR_HEADER + u32::from(length);
+    let octets = cdr_header_length(kind) + u32::from(length);
     match file {
         None => OpenFile {
             kind,
             opened: moment,
             count: 1,
-            octets: FILE_HEADER + octets,
+            octets: header_length(kind) + octets,
         },
         Some(file) => OpenFile {
             kind: file.kind,

@@ -1,14 +1,12 @@
 -- How the calls of an opening come out as planned.
-use Rattle.std.proofs.Common.{◌≡◌, ℕ, Bool, true, false, [], Result, Ok, Err, refl, sym, ◌∙◌, ap, subst}
-use Rattle.std.specs.Prelude.{IfOk}
+use Rattle.std.proofs.Common.{◌≡◌, ℕ, false, Result, Ok, Err, refl, sym, ◌∙◌, ap}
 use Rattle.area_disk.specs.Plan.{Prospect, Schedule, next_fate, after_call, is_failure, fate_with}
 use Rattle.area_disk.specs.declared.area.Area.{Ghosts}
 use Rattle.area_disk.specs.declared.plan.Fate.{Fate}
 use Rattle.area_disk.specs.declared.plan.Fate.TheVariants.{Runs, Fails, Stops}
 use Rattle.gate_journal.specs.Journal.{area_of}
-use Rattle.gate_journal.specs.OpenPlanned.{IsCalm, MadeBy}
-use Rattle.gate_journal.specs.Opening.{is_device}
-use Rattle.gate_journal.specs.Planned.{Course, Ending, SyncPlanned, after_append, after_put, after_sync, after_write, append_fails, course_after, course_by, course_of, ending_by, ending_of, fate_of_sync, is_ended, with_reads}
+use Rattle.gate_journal.specs.OpenPlanned.{MadeBy}
+use Rattle.gate_journal.specs.Planned.{Course, Ending, SyncPlanned, after_append, after_put, after_sync, append_fails, course_after, course_by, course_of, ending_by, ending_of, fate_of_sync, is_ended, with_reads}
 use Rattle.gate_journal.specs.Planned.Ending.{BothRan, AtWrite, AtSync}
 use Rattle.gate_journal.specs.declared.faults.OpenFault.{OpenFault}
 use Rattle.gate_journal.specs.declared.journal.Journal.{Journal}

@@ -1,14 +1,13 @@
 -- How a call on the area of a journal leaves the journal as it was.
-use Rattle.std.proofs.Common.{◌≡◌, ℕ, List, refl, ap, sym, ◌∙◌}
+use Rattle.std.proofs.Common.{◌≡◌}
 use Rattle.std.specs.Prelude.{IsTrue, ◌&&◌, ◌==◌, take, drop}
 use Rattle.area_disk.specs.declared.area.Area.{Ghosts}
 use Rattle.area_disk.specs.declared.plan.Outcome3.{Outcome3}
 use Rattle.gate_journal.specs.Format.{open_gate, gate_at, header}
-use Rattle.gate_journal.specs.Journal.{area_of, front_of, header_of, end, is_closed, closed_by, batches, torn, torn_stands, stop_stands}
+use Rattle.gate_journal.specs.Journal.{header_of, closed_by, batches, torn, torn_stands, stop_stands}
 use Rattle.gate_journal.specs.Kept.{IsAsBefore, IsKept}
 use Rattle.gate_journal.specs.Moments.{Kept}
 use Rattle.gate_journal.specs.State.{batches_below}
-use Rattle.gate_journal.specs.declared.journal.Front.{Front}
 use Rattle.gate_journal.specs.declared.journal.Journal.{Journal}
 
 -- all of a journal but its area is the same

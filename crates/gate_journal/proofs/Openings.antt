@@ -1,10 +1,10 @@
 -- What the steps of an opening make of its answer.
-use Rattle.std.proofs.Common.{◌≡◌, ◌≢◌, inl, inr, ⊎_elim, ◌⊎◌, ℕ, ◌+◌, ◌<◌, ◌≤◌, Bool, true, false, List, [], length, take, Result, Ok, Err, sym, ◌∙◌, ap, subst, arith}
+use Rattle.std.proofs.Common.{◌≡◌, ◌≢◌, inl, inr, ⊎_elim, ◌⊎◌, ℕ, ◌+◌, ◌<◌, ◌≤◌, Bool, true, false, List, length, take, Result, Ok, Err, sym, ◌∙◌, ap, subst, arith}
 use Rattle.std.specs.Prelude.{IsTrue, IfOk, IfErr}
 use Rattle.area_disk.specs.Disk.{Rose, counted}
 use Rattle.area_disk.specs.declared.area.Area.{Ghosts}
 use Rattle.gate_journal.specs.Format.{open_gate, gate_at, IsBroken, Stands, Starts}
-use Rattle.gate_journal.specs.Journal.{area_of, front_of, header_of, batches, IsSettled}
+use Rattle.gate_journal.specs.Journal.{area_of, header_of, batches}
 use Rattle.gate_journal.specs.Making.{IsAnew, IsReadyWith}
 use Rattle.gate_journal.specs.Moments.{Told, Kept, Leaves, RoseUpTo}
 use Rattle.gate_journal.specs.Opening.{IsDrafted, IsOpened, OnArea, OpenLeaves, RoseByDevice, is_device}

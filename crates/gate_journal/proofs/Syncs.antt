@@ -1,12 +1,12 @@
 -- How a sync and the reads after it come out as planned.
-use Rattle.std.proofs.Common.{◌≡◌, ℕ, Bool, true, false, List, [], Result, refl, sym, ◌∙◌, ap, subst}
+use Rattle.std.proofs.Common.{◌≡◌, ℕ, Bool, true, false, List, [], Result, refl, sym, ◌∙◌, ap}
 use Rattle.std.specs.Prelude.{is_err, ◌||◌}
 use Rattle.area_disk.specs.Plan.{Prospect, Schedule, next_fate, after_call, is_failure, is_stop, sync_fate, spare_after_sync, LeavesAfterSync, SyncAsPlanned}
 use Rattle.area_disk.specs.ArmedLaws.{stopped_fails}
 use Rattle.area_disk.specs.declared.plan.Fate.{Fate}
 use Rattle.area_disk.specs.declared.plan.Fate.TheVariants.{Runs, Fails, Stops}
 use Rattle.area_disk.specs.declared.plan.Outcome3.{Outcome3}
-use Rattle.gate_journal.specs.Planned.{Course, course_of, after_sync, fate_of_sync, outcome_left, with_reads, ReadOn, ReadsRun, SyncPlanned}
+use Rattle.gate_journal.specs.Planned.{Course, course_of, after_sync, outcome_left, with_reads, ReadOn, ReadsRun, SyncPlanned}
 use Rattle.gate_journal.proofs.Turns.{other_bool}
 
 -- a call ran: nothing is stopped

@@ -1,5 +1,5 @@
 -- What an append leaves, by its outcomes.
-use Rattle.std.specs.Prelude.{◌≡◌, ℕ, ◌+◌, ◌≤◌, Bool, true, false, List, [], ◌∷◌, ◌++◌, length, IsTrue, Result, Err, OnOk, is_err}
+use Rattle.std.specs.Prelude.{◌≡◌, ℕ, ◌+◌, ◌≤◌, Bool, true, false, List, [], ◌∷◌, ◌++◌, length, IsTrue, Result, Err, OnOk}
 use Rattle.area_disk.specs.Disk.{Rose, counted}
 use Rattle.area_disk.specs.declared.area.Area.{Ghosts}
 use Rattle.area_disk.specs.declared.plan.Outcome3.{Outcome3}

@@ -1,5 +1,5 @@
 -- What the founding of a draft leaves, by its outcomes.
-use Rattle.std.specs.Prelude.{◌≡◌, Bool, true, false, [], ◌∷◌, Result}
+use Rattle.std.specs.Prelude.{◌≡◌, true, false, [], ◌∷◌, Result}
 use Rattle.area_disk.specs.declared.area.Area.{Ghosts}
 use Rattle.gate_journal.specs.Journal.{area_of, header_of, front_of, batches, end, is_closed, torn, torn_stands, IsSettled}
 use Rattle.gate_journal.specs.Moments.{Told, Leaves}

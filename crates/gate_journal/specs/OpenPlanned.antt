@@ -1,5 +1,5 @@
 -- What comes of an opening and of a draft by the plan of the calls of the area.
-use Rattle.std.specs.Prelude.{◌≡◌, ℕ, Bool, false, List, [], IsTrue, IfOk, Result}
+use Rattle.std.specs.Prelude.{◌≡◌, ℕ, false, List, [], IfOk, Result}
 use Rattle.area_disk.specs.Plan.{Prospect, is_failure}
 use Rattle.area_disk.specs.declared.area.Area.{Ghosts}
 use Rattle.gate_journal.specs.Format.{Starts}

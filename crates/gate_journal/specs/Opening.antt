@@ -1,13 +1,12 @@
 -- What the opening of a journal, its drafting and its making leave.
 use Rattle.std.specs.Prelude.{◌≡◌, ◌≢◌, ◌⊎◌, ℕ, ◌≤◌, Bool, true, false, List, [], take, drop, slice_index, IsTrue, IfOk, IfErr, Result, Ok, Err}
 use Rattle.area_disk.specs.Disk.{Rose, counted}
-use Rattle.area_disk.specs.Plan.{is_failure}
 use Rattle.area_disk.specs.declared.area.Area.{Ghosts}
 use Rattle.area_disk.specs.declared.plan.Fate.TheVariants.{Runs}
 use Rattle.gate_journal.specs.Format.{header, open_gate, gate_at, IsForeign, Stands, Starts}
 use Rattle.gate_journal.specs.Journal.{area_of, batches, front_of, header_of, is_closed, IsSettled}
 use Rattle.gate_journal.specs.Moments.{Told, Leaves, RoseUpTo}
-use Rattle.gate_journal.specs.Planned.{SyncPlanned, Course, after_append, after_put, after_sync, append_fails, course_of, ending_of, fate_of_sync, is_ended, with_reads}
+use Rattle.gate_journal.specs.Planned.{Course, after_sync, course_of}
 use Rattle.gate_journal.specs.declared.journal.Front.TheVariants.{Draft, Founded}
 use Rattle.gate_journal.specs.declared.journal.Journal.{Journal}
 use Rattle.gate_journal.specs.declared.faults.OpenFault.{OpenFault}

@@ -3,7 +3,7 @@ use Rattle.std.specs.Prelude.{◌≡◌, ℕ, Bool, true, false, ◌==◌, List,
 use Rattle.area_disk.specs.Disk.{overwritten}
 pub use Rattle.area_disk.specs.Armed.{ReadsRun}
 pub use Rattle.area_disk.specs.Course.{Course, ReadOn, course_of, fate_of_write, fate_of_sync, after_write, after_sync}
-use Rattle.area_disk.specs.Plan.{Schedule, Prospect, next_fate, fate_with, after_call, spare_after_write, spare_after_sync, written_as, is_failure}
+use Rattle.area_disk.specs.Plan.{Prospect, written_as, is_failure}
 use Rattle.area_disk.specs.declared.plan.Fate.{Fate}
 use Rattle.area_disk.specs.declared.plan.Fate.TheVariants.{Runs, Fails, Stops}
 use Rattle.area_disk.specs.declared.plan.Outcome3.{Outcome3}

@@ -102,7 +102,8 @@ impl<A: Area> Journal<A> {
         requires ready { is_closed self.old ≡ false }
 
         ensures ok { OnOk result (IsAppended self.old self.new batch.now) }
-        ensures full { (free : ℕ) → (result ≡ Err (AppendFault.Full free)) ↔ ((free ≡ free_of self.old) × (free < length batch.now + 5)) }
+        ensures full { (free : ℕ) →
+            (result ≡ Err (AppendFault.Full free)) ↔ ((free ≡ free_of self.old) × (free < length batch.now + 5)) }
         ensures unchanged { (free : ℕ) → result ≡ Err (AppendFault.Full free) → IsUnchanged self.old self.new }
         ensures torn { result ≡ Err AppendFault.Device → IsTorn self.old self.new batch.now }
 
@@ -195,7 +196,8 @@ impl<A: Area> Journal<A> {
 
         ensures content { Told A.Area → OnOk result (IsRead self.old at (length into.old) into.new) }
         ensures kept { IsKept self.old self.new }
-        ensures planned { IsTrue A.tells_fate → ReadAsPlanned (A.fate (area_of self.old)) result (A.fate (area_of self.new)) }
+        ensures planned { IsTrue A.tells_fate →
+            ReadAsPlanned (A.fate (area_of self.old)) result (A.fate (area_of self.new)) }
         ensures cause { HasCause (A.faults (area_of self.old)) (A.faults (area_of self.new)) result }
     {
         match self.area.read_at(at, into) {
@@ -213,7 +215,8 @@ impl<A: Area> Journal<A> {
         requires ready { is_closed self.old ≡ false }
 
         ensures found { Told A.Area → IfOk result (λ found. IsFound self.old gate found) }
-        ensures some { IfOk result (λ found. IfSome found (λ content. IsContent self.old self.new gate content.0 content.1)) }
+        ensures some { IfOk result (λ found.
+            IfSome found (λ content. IsContent self.old self.new gate content.0 content.1)) }
         ensures none { Told A.Area → IfOk result (λ found. IsNone found ↔ (gate ≡ end self.old)) }
         ensures end { gate ≡ end self.old → IfOk result (λ found. IsNone found) }
         ensures kept { IsKept self.old self.new }

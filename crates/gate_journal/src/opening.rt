@@ -70,7 +70,8 @@ fn lay<A: Area>(
 ) -> Result<Journal<A>, (OpenFault, A)>
     requires long { 100 ≤ A.size area }
     requires short { A.size area ≤ 268435456 }
-    requires begun { IsTrue A.tells_octets → IsVerdict (header (A.size area) address generation) (A.octets area) (Begins blank) }
+    requires begun { IsTrue A.tells_octets →
+        IsVerdict (header (A.size area) address generation) (A.octets area) (Begins blank) }
     requires durable { IsTrue A.tells_crash → Only (A.octets area) (A.may_leave area) }
 
     ensures ok { IfOk result (λ journal. IsAnew Draft (header_for A.Area area address generation) journal) }
@@ -78,7 +79,8 @@ fn lay<A: Area>(
     ensures any_moment { Told A.Area →
         OnArea result (λ now. Leaves A.Area area now (Starts (header_for A.Area area address generation))) }
     ensures size { OnArea result (λ now. A.size now ≡ A.size area) }
-    ensures calls { IsTrue A.tells_calls → IfOk result (λ journal. A.calls (area_of journal) ≡ counted 2 (A.calls area)) }
+    ensures calls { IsTrue A.tells_calls →
+        IfOk result (λ journal. A.calls (area_of journal) ≡ counted 2 (A.calls area)) }
     ensures calls_device { IsTrue A.tells_calls →
         IfErr result (λ fault. fault.0 ≡ OpenFault.Device → RoseUpTo 2 (A.calls area) (A.calls fault.1)) }
     ensures planned { IsTrue A.tells_fate → is_ended (ending_of (course_of (A.fate area))) ≡ false →
@@ -111,7 +113,8 @@ fn list<A: Area>(
     ensures ok { IfOk result (λ journal. IsReadyWith Founded (header_for A.Area area address generation) journal) }
     ensures broken { IsTrue A.tells_octets → IfErr result (λ fault. (at : ℕ) → fault.0 ≡ OpenFault.NotOurs at →
         IsBroken (header_for A.Area area address generation) (A.octets area) at) }
-    ensures foreign { IsTrue A.tells_octets → (at : ℕ) → IsBroken (header_for A.Area area address generation) (A.octets area) at →
+    ensures foreign { IsTrue A.tells_octets → (at : ℕ) →
+        IsBroken (header_for A.Area area address generation) (A.octets area) at →
         IsErrAnd result (λ fault. (fault.0 ≡ OpenFault.NotOurs at) ⊎ (fault.0 ≡ OpenFault.Device)) }
     ensures kept { OnArea result (λ now. Kept A.Area area now) }
     ensures runs { IsTrue A.tells_fate → ReadsRun (A.fate area).schedule → is_device result ≡ false }
@@ -139,7 +142,8 @@ fn make_anew<A: Area>(
 ) -> Result<Journal<A>, (OpenFault, A)>
     requires long { 100 ≤ A.size area }
     requires short { A.size area ≤ 268435456 }
-    requires begun { IsTrue A.tells_octets → IsVerdict (header (A.size area) address generation) (A.octets area) (Begins blank) }
+    requires begun { IsTrue A.tells_octets →
+        IsVerdict (header (A.size area) address generation) (A.octets area) (Begins blank) }
     requires durable { IsTrue A.tells_crash → Only (A.octets area) (A.may_leave area) }
 
     ensures ok { IfOk result (λ journal. IsAnew Founded (header_for A.Area area address generation) journal) }
@@ -147,7 +151,8 @@ fn make_anew<A: Area>(
     ensures any_moment { Told A.Area →
         OnArea result (λ now. Leaves A.Area area now (IsMaking (header_for A.Area area address generation))) }
     ensures size { OnArea result (λ now. A.size now ≡ A.size area) }
-    ensures calls { IsTrue A.tells_calls → IfOk result (λ journal. A.calls (area_of journal) ≡ counted 4 (A.calls area)) }
+    ensures calls { IsTrue A.tells_calls →
+        IfOk result (λ journal. A.calls (area_of journal) ≡ counted 4 (A.calls area)) }
     ensures calls_device { IsTrue A.tells_calls →
         IfErr result (λ fault. fault.0 ≡ OpenFault.Device → RoseUpTo 4 (A.calls area) (A.calls fault.1)) }
     ensures planned { IsTrue A.tells_fate →
@@ -178,14 +183,19 @@ impl<A: Area> Journal<A> {
         requires long { 100 ≤ A.size area }
         requires short { A.size area ≤ 268435456 }
 
-        ensures ok { IfOk result (λ journal. IsOpened A.Area area (header_for A.Area area address generation) journal) }
-        ensures err { IfErr result (λ fault. IsRefused A.Area area (header_for A.Area area address generation) fault.0 fault.1) }
-        ensures foreign { Told A.Area → (at : ℕ) → IsForeign (header_for A.Area area address generation) (A.octets area) at →
+        ensures ok { IfOk result (λ journal.
+            IsOpened A.Area area (header_for A.Area area address generation) journal) }
+        ensures err { IfErr result (λ fault.
+            IsRefused A.Area area (header_for A.Area area address generation) fault.0 fault.1) }
+        ensures foreign { Told A.Area → (at : ℕ) →
+            IsForeign (header_for A.Area area address generation) (A.octets area) at →
             IsErrAnd result (λ fault. (fault.0 ≡ OpenFault.NotOurs at) ⊎ (fault.0 ≡ OpenFault.Device)) }
-        ensures any_moment { OnArea result (λ now. OpenLeaves A.Area area (header_for A.Area area address generation) now) }
+        ensures any_moment { OnArea result (λ now.
+            OpenLeaves A.Area area (header_for A.Area area address generation) now) }
         ensures size { OnArea result (λ now. A.size now ≡ A.size area) }
         ensures counted { OpenCounts A.Area area result (header_for A.Area area address generation) }
-        ensures planned { IsTrue A.tells_fate → OpenFollows A.Area area result (header_for A.Area area address generation) }
+        ensures planned { IsTrue A.tells_fate →
+            OpenFollows A.Area area result (header_for A.Area area address generation) }
     {
         let header = header_of(area.length(), address, generation);
         match look(&mut area, &header) {
@@ -211,8 +221,10 @@ impl<A: Area> Journal<A> {
         requires long { 100 ≤ A.size area }
         requires short { A.size area ≤ 268435456 }
 
-        ensures ok { IfOk result (λ journal. IsDrafted A.Area area (header_for A.Area area address generation) journal) }
-        ensures err { IfErr result (λ fault. IsUndrafted A.Area area (header_for A.Area area address generation) fault.0 fault.1) }
+        ensures ok { IfOk result (λ journal.
+            IsDrafted A.Area area (header_for A.Area area address generation) journal) }
+        ensures err { IfErr result (λ fault.
+            IsUndrafted A.Area area (header_for A.Area area address generation) fault.0 fault.1) }
 
         // A crash at any moment leaves what it could before, or an area that starts.
         ensures any_moment { Told A.Area → OnArea result (λ now. Leaves A.Area area now

@@ -43,7 +43,8 @@ pub enum Scanned {
 }
 
 fn first_difference(header: &[u8; 32], read: &[u8; 32]) -> Option<usize>
-    ensures { MatchOption result (header.now ≡ read.now) (λ at. (at < 32) × (take at read.now ≡ take at header.now) × (slice_index read.now at ≢ slice_index header.now at)) }
+    ensures { MatchOption result (header.now ≡ read.now) (λ at. (at < 32) ×
+        (take at read.now ≡ take at header.now) × (slice_index read.now at ≢ slice_index header.now at)) }
 {
     for i in 0..32 {
         if header[i] != read[i] {
@@ -123,7 +124,8 @@ fn length_behind<A: Area>(area: &mut A, at: u64) -> Result<u32, Failed>
     requires inside { at + 5 ≤ A.size area.old }
     requires short { A.size area.old ≤ 268435456 }
 
-    ensures length { IsTrue A.tells_octets → IfOk result (λ length. (length ≡ length_at (A.octets area.old) at) × (take 4 (drop (at + 1) (A.octets area.old)) ≡ big_bytes 4 length)) }
+    ensures length { IsTrue A.tells_octets → IfOk result (λ length. (length ≡ length_at (A.octets area.old) at) ×
+        (take 4 (drop (at + 1) (A.octets area.old)) ≡ big_bytes 4 length)) }
     ensures kept { Kept A.Area area.old area.new }
     ensures runs { IsTrue A.tells_fate → ReadsRun (A.fate area.old).schedule → is_err result ≡ false }
     ensures cause { HasCause (A.faults area.old) (A.faults area.new) result }
@@ -196,7 +198,8 @@ pub fn see<A: Area>(area: &mut A, gate: u64) -> Result<Ends, Failed>
 
     ensures size { A.size area.new ≡ A.size area.old }
     ensures octets { IsTrue A.tells_octets → OnOk result (A.octets area.new ≡ A.octets area.old) }
-    ensures seen { IsTrue A.tells_octets → IfOk result (λ e. (e.first ≡ slice_index (A.octets area.old) 0) × (e.gate ≡ gate_at (A.octets area.old) gate)) }
+    ensures seen { IsTrue A.tells_octets → IfOk result (λ e.
+        (e.first ≡ slice_index (A.octets area.old) 0) × (e.gate ≡ gate_at (A.octets area.old) gate)) }
     ensures durable { IsTrue A.tells_crash → OnOk result (Only (A.octets area.new) (A.may_leave area.new)) }
     ensures any_moment { Leaves A.Area area.old area.new (A.may_leave area.old) }
 

@@ -1,9 +1,13 @@
 -- The information elements of GTP' (3GPP TS 32.295, clause 6.2). One whose type has bit 8 clear is the type and a value of
 -- a fixed number of octets, which the receiver has to know. One whose type has bit 8 set is the type, the length of the
 -- value in two octets, and the value.
-use Rattle.std.specs.Prelude.{◌≡◌, ℕ, ◌/◌, ◌%◌, ◌≤◌, ◌==◌, Bool, false, IsTrue, nat_lt, if◌then◌else◌, MatchBool, ◌⊎◌, List, [], ◌∷◌, ◌++◌, length, option_map, Option}
-use Rattle.std.specs.List.{find, flat_map, list_any}
+use Rattle.std.specs.Prelude.{◌≡◌, ℕ, ◌/◌, ◌%◌, ◌≤◌, ◌==◌, Bool, false, not, IsTrue, nat_lt, if◌then◌else◌, MatchBool, ◌⊎◌, List, [], ◌∷◌, ◌++◌, length, option_map, Option}
+use Rattle.std.specs.List.{find, flat_map}
+use Rattle.std.specs.Option.{option_map_or}
+use Rattle.case_table.specs.Rows.{has_key}
+use Rattle.case_table.specs.declared.Row.{Row}
 use Rattle.gtpp_header.specs.Header.{two_octets}
+use Rattle.gtpp_elements.specs.declared.element_types.TheConstants.{CANCELLED, CAUSE, COMMAND, NODE_ADDRESS, PACKET, PRIVATE, RECOMMENDED, RECOVERY, RELEASED, RESPONDED}
 
 -- an element: its type, and the octets of its value
 pub record Element : Type 0 where
@@ -14,9 +18,23 @@ pub record Element : Type 0 where
 abbrev pub is_fixed : ℕ → Bool
 is_fixed kind = nat_lt kind 128
 
--- the elements of a fixed length that are known, Cause, Recovery and Packet Transfer Command: each has one octet
+-- The rows of the table of elements. One whose value has a fixed number of octets, and one that states its length.
+abbrev pub fixed : ℕ → ℕ → Row
+fixed kind octets = record { key = kind; value = octets; mark = 0 }
+
+abbrev pub stated : ℕ → Row
+stated kind = record { key = kind; value = 0; mark = 0 }
+
+-- the elements that are used here: each that states no length has one octet
+abbrev pub element_rows : List Row
+element_rows =
+    fixed CAUSE 1 ∷ fixed RECOVERY 1 ∷ fixed COMMAND 1
+    ∷ stated RELEASED ∷ stated CANCELLED ∷ stated NODE_ADDRESS ∷ stated PACKET
+    ∷ stated RESPONDED ∷ stated RECOMMENDED ∷ stated PRIVATE ∷ []
+
+-- an element of this type has a value of a known fixed length
 abbrev pub is_known_fixed : ℕ → Bool
-is_known_fixed kind = list_any (λ known. known == kind) (1 ∷ 14 ∷ 126 ∷ [])
+is_known_fixed kind = option_map_or (λ row. not (row.value == 0)) (find (has_key kind) element_rows) false
 
 -- the element has this type
 abbrev pub has_kind : ℕ → Element → Bool

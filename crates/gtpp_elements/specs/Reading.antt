@@ -36,10 +36,11 @@ abbrev pub and_then : Result (Element × List ℕ) ElementFault → (List ℕ �
 and_then (Ok found) following = before found.0 (following found.1)
 and_then (Err fault) following = Err fault
 
--- the elements that are left of a body of so many octets, or the first fault; there are at most as many as octets
+-- The elements that are left of a body of so many octets, or the first fault. There are at most as many as octets: where
+-- more were to come, the rest would overrun.
 unfoldable pub elements_left : ℕ → ℕ → List ℕ → Result (List Element) ElementFault
 elements_left most total [] = Ok []
-elements_left zero total (kind ∷ octets) = Ok []
+elements_left zero total (kind ∷ octets) = Err (Overrun (total - length (kind ∷ octets)))
 elements_left (suc most) total (kind ∷ octets) =
     and_then (element_at (total - length (kind ∷ octets)) (kind ∷ octets)) (λ rest. elements_left most total rest)
 

@@ -22,13 +22,6 @@ pub enum ElementFault {
 #[derive(Clone, Copy, Debug, PartialEq, Eq)]
 pub struct OddLength;
 
-/// There isn't room in a buffer, which stays as it was.
-#[derive(Clone, Copy, Debug, PartialEq, Eq)]
-pub struct Full {
-    /// How many octets there is room for.
-    pub free: usize,
-}
-
 impl fmt::Display for ElementFault {
     fn fmt<W: fmt::Write>(&self, f: &mut fmt::Formatter<W>) -> fmt::Result {
         match self {
@@ -52,11 +45,3 @@ impl fmt::Display for OddLength {
 }
 
 impl Error for OddLength {}
-
-impl fmt::Display for Full {
-    fn fmt<W: fmt::Write>(&self, f: &mut fmt::Formatter<W>) -> fmt::Result {
-        write!(f, "room for {} octets alone", self.free)
-    }
-}
-
-impl Error for Full {}

@@ -3,6 +3,7 @@
 #![tactic(auto)]
 
 mod element;
+pub mod element_types;
 mod elements;
 mod fault;
 pub mod laws;
@@ -13,6 +14,6 @@ mod tests;
 mod write;
 
 pub use elements::{Elements, read};
-pub use fault::{ElementFault, Full, OddLength};
+pub use fault::{ElementFault, OddLength};
 pub use numbers::Numbers;
 pub use write::put;

@@ -1,27 +1,43 @@
 ghost use Rattle.std.specs.Prelude.{◌≡◌};
-ghost use Rattle.gtpp_elements.specs.Elements.{is_known_fixed};
+ghost use Rattle.gtpp_elements.specs.Elements.{element_rows, is_known_fixed};
 
-use case_table::cases;
+use crate::element_types::{
+    CANCELLED, CAUSE, COMMAND, NODE_ADDRESS, PACKET, PRIVATE, RECOMMENDED, RECOVERY, RELEASED,
+    RESPONDED,
+};
+use case_table::{Cases, cases};
 
-/// Whether elements of this type have one octet and no length. The table has the types that are
-/// used here, and for each the octets of a fixed value, 0 where the element states its length.
+/// The mark of a row that a later column may take.
+const NO_MARK: u32 = 0;
+
+/// The value of a row whose elements state their length.
+const STATED: u32 = 0;
+
+/// The types of the elements that are used here, and how many octets the value of each has, where
+/// that is fixed.
+fn elements() -> Cases<10>
+    ensures { result ≡ element_rows }
+{
+    cases![
+        CAUSE => 1, NO_MARK;
+        RECOVERY => 1, NO_MARK;
+        COMMAND => 1, NO_MARK;
+        RELEASED => STATED, NO_MARK;
+        CANCELLED => STATED, NO_MARK;
+        NODE_ADDRESS => STATED, NO_MARK;
+        PACKET => STATED, NO_MARK;
+        RESPONDED => STATED, NO_MARK;
+        RECOMMENDED => STATED, NO_MARK;
+        PRIVATE => STATED, NO_MARK;
+    ]
+}
+
+/// Whether elements of this type have a value of a known fixed length, and state none.
 pub fn is_known_fixed(kind: u8) -> bool
     ensures { result ≡ is_known_fixed kind }
 {
-    let table = cases![
-        1 => 1, 0;   // Cause
-        14 => 1, 0;  // Recovery
-        126 => 1, 0; // Packet Transfer Command
-        249 => 0, 0; // Sequence Numbers of Released Packets
-        250 => 0, 0; // Sequence Numbers of Cancelled Packets
-        251 => 0, 0; // Node Address
-        252 => 0, 0; // Data Record Packet
-        253 => 0, 0; // Requests Responded
-        254 => 0, 0; // Address of Recommended Node
-        255 => 0, 0; // Private Extension
-    ];
-    match table.find(u32::from(kind)) {
-        Some(row) => row.value != 0,
+    match elements().find(u32::from(kind)) {
+        Some(row) => row.value != STATED,
         None => false,
     }
 }

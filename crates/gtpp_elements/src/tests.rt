@@ -1,5 +1,5 @@
 use super::*;
-use gw_base::Buffer;
+use gw_base::{Buffer, Full};
 use std::test::Fail;
 
 #[test]

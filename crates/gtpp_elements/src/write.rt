@@ -2,9 +2,8 @@ ghost use Rattle.std.specs.Prelude.{◌≡◌, ◌<◌, ◌≤◌, ◌+◌, ◌+
 ghost use Rattle.gtpp_elements.specs.Elements.{IsValue, element_octets};
 
 use crate::element::is_fixed;
-use crate::fault::Full;
 use byteorder::{BigEndian, ByteOrder};
-use gw_base::Buffer;
+use gw_base::{Buffer, Full};
 
 /// Appends an element, with the length of the value where bit 8 of the type is set.
 pub fn put(kind: u8, value: &[u8], into: &mut Buffer) -> Result<(), Full>

@@ -1,4 +1,6 @@
 pub mod PacketLemmas
+pub mod PacketWritten
+pub mod PartLemmas
 pub mod RecordLemmas
 pub mod RoleLemmas
 pub mod SpelledLemmas

@@ -6,10 +6,10 @@ use Rattle.gtpp_header.specs.declared.fault.HeadFault.TheVariants as head
 use Rattle.gtpp_elements.specs.Elements.{Element}
 use Rattle.gtpp_elements.specs.Reading.{elements_in}
 use Rattle.gtpp_elements.specs.declared.fault.ElementFault.{ElementFault}
-use Rattle.gtpp_message.specs.Message.{MessageValue, is_known}
+use Rattle.gtpp_message.specs.Message.{MessageValue, is_message_type}
 use Rattle.gtpp_message.specs.Reading.{ReadingValue, Drop, Message, OtherVersion, Refused, answered, behind, body_of, reading}
 use Rattle.gtpp_message.specs.Role.{by_body, for_role, has_refusal, is_stray, read_at, refused, role_reading}
-use Rattle.gtpp_message.specs.Writing.{IsSendableReading, kind_of}
+use Rattle.gtpp_message.specs.Writing.{IsSendableReading, message_type}
 use Rattle.gtpp_message.specs.declared.flaw.Flaw.{Flaw}
 use Rattle.gtpp_message.specs.declared.reading.Why.TheVariants as why
 use Rattle.gtpp_message.specs.declared.role.Role.{Role}
@@ -21,7 +21,7 @@ behind_header : (role : Role) (gtp other cut : Bool) (version kind stated number
     read_at role (if gtp then Err head.NotPrime else if other then Err (head.Version version kind number) else if cut then Err (head.Cut stated)
     else Ok (record { kind = kind; length = stated; number = number })) octets
     ≡ (if gtp then Drop why.NotPrime else if other then (if kind == 3 then Drop why.Stray else OtherVersion kind number) else if cut then Drop why.Cut
-    else if not (is_known kind) then Drop why.UnknownType else if is_stray role kind then Drop why.Stray
+    else if not (is_message_type kind) then Drop why.UnknownType else if is_stray role kind then Drop why.Stray
     else by_body kind number (body_of kind (elements_in (take stated (drop 6 octets)))))
 behind_header role true other cut version kind stated number octets = refl
 behind_header role false true cut version kind stated number octets = refl
@@ -45,7 +45,7 @@ in_order role (flags ∷ kind ∷ length_high ∷ length_low ∷ number_high ∷
 
 -- a message that is read has this type
 HasKind : ℕ → Result MessageValue Flaw → Type 0
-HasKind kind read = (message : MessageValue) → read ≡ Ok message → kind ≡ kind_of message
+HasKind kind read = (message : MessageValue) → read ≡ Ok message → kind ≡ message_type message
 
 by_type : (role : Role) (kind number : ℕ) (read : Result MessageValue Flaw) → HasKind kind read →
     (if is_stray role kind then Drop why.Stray else by_body kind number read) ≡ for_role role (answered kind number read)
@@ -53,12 +53,12 @@ unfolding HasKind
 by_type role kind number (Ok message) same = ap (λ (k : ℕ). if is_stray role k then Drop why.Stray else Message number message) (same message refl)
 by_type role kind number (Err flaw) same = refl
 
-kind_body : (kind : ℕ) (body : Result (List Element) ElementFault) → is_known kind ≡ true → HasKind kind (body_of kind body)
+kind_body : (kind : ℕ) (body : Result (List Element) ElementFault) → is_message_type kind ≡ true → HasKind kind (body_of kind body)
 unfolding HasKind
 kind_body kind (Ok elements) known = λ message e. kind_said kind elements message known e
 kind_body kind (Err fault) known = λ message e. cc
 
-by_known : (b : Bool) (role : Role) (kind number : ℕ) (body : Result (List Element) ElementFault) → is_known kind ≡ b →
+by_known : (b : Bool) (role : Role) (kind number : ℕ) (body : Result (List Element) ElementFault) → is_message_type kind ≡ b →
     (if not b then Drop why.UnknownType else if is_stray role kind then Drop why.Stray else by_body kind number (body_of kind body))
     ≡ for_role role (if b then answered kind number (body_of kind body) else Drop why.UnknownType)
 by_known true role kind number body known = by_type role kind number (body_of kind body) (kind_body kind body known)
@@ -66,14 +66,14 @@ by_known false role kind number body known = refl
 
 by_header : (role : Role) (gtp other cut : Bool) (version kind stated number : ℕ) (octets : List ℕ) →
     (if gtp then Drop why.NotPrime else if other then (if kind == 3 then Drop why.Stray else OtherVersion kind number) else if cut then Drop why.Cut
-    else if not (is_known kind) then Drop why.UnknownType else if is_stray role kind then Drop why.Stray
+    else if not (is_message_type kind) then Drop why.UnknownType else if is_stray role kind then Drop why.Stray
     else by_body kind number (body_of kind (elements_in (take stated (drop 6 octets)))))
     ≡ for_role role (behind (if gtp then Err head.NotPrime else if other then Err (head.Version version kind number) else if cut then Err (head.Cut stated)
     else Ok (record { kind = kind; length = stated; number = number })) octets)
 by_header role true other cut version kind stated number octets = refl
 by_header role false true cut version kind stated number octets = refl
 by_header role false false true version kind stated number octets = refl
-by_header role false false false version kind stated number octets = by_known (is_known kind) role kind number (elements_in (take stated (drop 6 octets))) refl
+by_header role false false false version kind stated number octets = by_known (is_message_type kind) role kind number (elements_in (take stated (drop 6 octets))) refl
 
 -- what an end reads is what is read at neither, but for what is stray there and for what no message answers
 pub role_beside : (role : Role) (octets : List ℕ) → role_reading role octets ≡ for_role role (reading octets)
@@ -99,7 +99,7 @@ sendable_refused true kind cause number = tt
 sendable_refused false kind cause number = tt
 
 sendable_for : (role : Role) (read : ReadingValue) → IsSendableReading read → IsSendableReading (for_role role read)
-sendable_for role (Message number message) sendable = unless_stray (is_stray role (kind_of message)) (Message number message) sendable
+sendable_for role (Message number message) sendable = unless_stray (is_stray role (message_type message)) (Message number message) sendable
 sendable_for role (Refused kind cause number) sendable =
     unless_stray (is_stray role kind) (refused kind cause number) (sendable_refused (has_refusal kind) kind cause number)
 sendable_for role (OtherVersion kind number) sendable = unless_stray (kind == 3) (OtherVersion kind number) tt

@@ -11,11 +11,11 @@ use Rattle.gtpp_elements.specs.Elements.{Element, SpellElements, first_value}
 use Rattle.gtpp_elements.specs.Numbers.{numbers_in}
 use Rattle.gtpp_elements.specs.Reading.{elements_in}
 use Rattle.gtpp_elements.specs.declared.fault.ElementFault.{ElementFault}
-use Rattle.gtpp_message.specs.Message.{MessageValue, TransferValue, EchoRequest, EchoResponse, VersionNotSupported, NodeAliveRequest, NodeAliveResponse, RedirectionRequest, RedirectionResponse, TransferRequest, TransferResponse, Send, Possible, Cancel, Release, is_known}
+use Rattle.gtpp_message.specs.Message.{MessageValue, TransferValue, EchoRequest, EchoResponse, VersionNotSupported, NodeAliveRequest, NodeAliveResponse, RedirectionRequest, RedirectionResponse, TransferRequest, TransferResponse, Send, Possible, Cancel, Release, is_message_type}
 use Rattle.gtpp_message.specs.Packet.{PacketValue, packet_reading}
 use Rattle.gtpp_message.specs.Reading.{Drop, Message, OtherVersion, ReadingValue, Refused, answered, behind, body_of, echo_response_of, is_address, message_of, numbers_among, numbers_of, octet_in, packet_among, packet_of_value, present, reading, redirection_of, redirection_request_of, redirection_response_of, transfer_of, transfer_request_of, transfer_response_of, ◌>>=◌}
 use Rattle.gtpp_message.specs.Spelling.{Say, Spells, SpellsNumbers, SpellsTransfer}
-use Rattle.gtpp_message.specs.Writing.{IsSendableMessage, IsSendableReading, IsSendableTransfer, command_element, command_of, kind_of}
+use Rattle.gtpp_message.specs.Writing.{IsSendableMessage, IsSendableReading, IsSendableTransfer, command_element, command_of, message_type}
 use Rattle.gtpp_message.specs.declared.flaw.Flaw.{Flaw}
 use Rattle.gtpp_message.specs.declared.flaw.Flaw.TheVariants.{Incorrect}
 use Rattle.gtpp_message.specs.declared.reading.Why.TheVariants as why
@@ -58,7 +58,7 @@ numbers_there value numbers e =
     ]
 
 -- the value of an element, and the packet or the numbers that it spells
-packet_said : (elements : List Element) (packet : PacketValue) → packet_among elements ≡ Ok packet → (value : List ℕ) × (first_value 252 elements ≡ Some value) × (packet_reading value ≡ Some packet)
+packet_said : (elements : List Element) (packet : PacketValue) → packet_among 252 elements ≡ Ok packet → (value : List ℕ) × (first_value 252 elements ≡ Some value) × (packet_reading value ≡ Some packet)
 packet_said elements packet e =
     let read = bound (present (first_value 252 elements)) (λ value. packet_of_value (packet_reading value)) packet e in
     (read.0, value_there (first_value 252 elements) read.0 read.1, packet_there (packet_reading read.0) packet read.2)
@@ -81,12 +81,12 @@ unfolding SaysTransfer
 transfer_said command elements body e =
     elim (chosen (command == 1) _ _ _ e) [
       | inl send ↦
-          let read = bound (packet_among elements) (λ packet. Ok (Send packet)) body send.1 in
+          let read = bound (packet_among 252 elements) (λ packet. Ok (Send packet)) body send.1 in
           let said = packet_said elements read.0 read.1 in
           body_is command elements (Send read.0) body read.2 (same_number command 1 send.0, said.0, said.1, said.2)
       | inr n1 ↦ elim (chosen (command == 2) _ _ _ n1.1) [
         | inl possible ↦
-            let read = bound (packet_among elements) (λ packet. Ok (Possible packet)) body possible.1 in
+            let read = bound (packet_among 252 elements) (λ packet. Ok (Possible packet)) body possible.1 in
             let said = packet_said elements read.0 read.1 in
             body_is command elements (Possible read.0) body read.2 (same_number command 2 possible.0, said.0, said.1, said.2)
         | inr n2 ↦ elim (chosen (command == 3) _ _ _ n2.1) [
@@ -107,7 +107,7 @@ transfer_said command elements body e =
 
 -- what a message of a type says
 SaysKind : ℕ → List Element → MessageValue → Type 0
-SaysKind kind elements message = (kind ≡ kind_of message) × Say message elements
+SaysKind kind elements message = (kind ≡ message_type message) × Say message elements
 
 message_is : (kind : ℕ) (elements : List Element) (a b : MessageValue) → ◌≡◌ {A = Result MessageValue Flaw} (Ok a) (Ok b) → SaysKind kind elements a → SaysKind kind elements b
 message_is kind elements a b e says = let same : a ≡ b = cc in subst (λ (m : MessageValue). SaysKind kind elements m) same says
@@ -153,7 +153,7 @@ answer_said kind elements message is e =
     message_is kind elements (TransferResponse cause.0 read.0) message read.2 (is, (octet_there (first_value 1 elements) cause.0 cause.1, said.0, said.1, said.2))
 
 -- a known type that is none of the others is that of the response to a transfer
-last_known : (kind : ℕ) → is_known kind ≡ true → (kind == 1) ≡ false → (kind == 2) ≡ false → (kind == 3) ≡ false → (kind == 4) ≡ false → (kind == 5) ≡ false →
+last_known : (kind : ℕ) → is_message_type kind ≡ true → (kind == 1) ≡ false → (kind == 2) ≡ false → (kind == 3) ≡ false → (kind == 4) ≡ false → (kind == 5) ≡ false →
     (kind == 6) ≡ false → (kind == 7) ≡ false → (kind == 240) ≡ false → kind ≡ 241
 last_known kind known n1 n2 n3 n4 n5 n6 n7 n240 =
     elim (eqb_tells kind 241) [
@@ -170,7 +170,7 @@ last_known kind known n1 n2 n3 n4 n5 n6 n7 n240 =
         let never : false ≡ true = rw (e1, e2, e3, e4, e5, e6, e7, e240, e241) at known in cc
 
 -- what is read of the elements is what they say
-message_said : (kind : ℕ) (elements : List Element) (message : MessageValue) → is_known kind ≡ true → message_of kind elements ≡ Ok message → SaysKind kind elements message
+message_said : (kind : ℕ) (elements : List Element) (message : MessageValue) → is_message_type kind ≡ true → message_of kind elements ≡ Ok message → SaysKind kind elements message
 unfolding SaysKind
 message_said kind elements message known e =
     elim (chosen (kind == 1) _ _ _ e) [
@@ -200,7 +200,7 @@ message_said kind elements message known e =
     ]
 
 -- a message that is read of a known type is of that type
-pub kind_said : (kind : ℕ) (elements : List Element) (message : MessageValue) → is_known kind ≡ true → message_of kind elements ≡ Ok message → kind ≡ kind_of message
+pub kind_said : (kind : ℕ) (elements : List Element) (message : MessageValue) → is_message_type kind ≡ true → message_of kind elements ≡ Ok message → kind ≡ message_type message
 unfolding SaysKind
 kind_said kind elements message known e = (message_said kind elements message known e).0
 
@@ -212,7 +212,7 @@ numbers_again kind elements value numbers found (even, is) =
     ∙ ap (λ (odd : Bool). cond odd (Err Incorrect) (Ok (numbers_in value))) uneven
     ∙ ap Ok is
 
-packet_again : (elements : List Element) (value : List ℕ) (packet : PacketValue) → first_value 252 elements ≡ Some value → packet_reading value ≡ Some packet → packet_among elements ≡ Ok packet
+packet_again : (elements : List Element) (value : List ℕ) (packet : PacketValue) → first_value 252 elements ≡ Some value → packet_reading value ≡ Some packet → packet_among 252 elements ≡ Ok packet
 packet_again elements value packet found is =
     ap (λ (o : Option (List ℕ)). present o >>= (λ v. packet_of_value (packet_reading v))) found ∙ ap packet_of_value is
 
@@ -223,7 +223,7 @@ transfer_again elements (Cancel numbers) value found says = ap (λ (r : Result (
 transfer_again elements (Release numbers) value found says = ap (λ (r : Result (List ℕ) Flaw). r >>= (λ ns. Ok (Release ns))) (numbers_again 249 elements value numbers found says)
 
 -- what elements say is read
-said_again : (message : MessageValue) (elements : List Element) → Say message elements → message_of (kind_of message) elements ≡ Ok message
+said_again : (message : MessageValue) (elements : List Element) → Say message elements → message_of (message_type message) elements ≡ Ok message
 said_again EchoRequest elements says = refl
 said_again (EchoResponse counter) elements (rest, found) = ap (λ (o : Option (List ℕ)). octet_in o >>= (λ c. Ok (EchoResponse c))) found
 said_again VersionNotSupported elements says = refl
@@ -241,7 +241,7 @@ said_again (TransferResponse cause responded) elements ((rest, found), value, gi
     ap (λ (o : Option (List ℕ)). octet_in o >>= (λ c. (numbers_among 253 elements >>= λ ns. Ok (TransferResponse c ns)))) found
     ∙ ap (λ (r : Result (List ℕ) Flaw). r >>= (λ ns. Ok (TransferResponse cause ns))) (numbers_again 253 elements value responded given says)
 
-kind_known : (message : MessageValue) → is_known (kind_of message) ≡ true
+kind_known : (message : MessageValue) → is_message_type (message_type message) ≡ true
 kind_known EchoRequest = refl
 kind_known (EchoResponse counter) = refl
 kind_known VersionNotSupported = refl
@@ -274,7 +274,7 @@ spelled_behind heads lists octets (Err head.NotPrime) number message is e = cc
 spelled_behind heads lists octets (Err (head.Version version kind bears)) number message is e = cc
 spelled_behind heads lists octets (Err (head.Cut stated)) number message is e = cc
 spelled_behind heads lists octets (Ok header) number message is e =
-    elim (chosen (is_known header.kind) _ _ _ e) [
+    elim (chosen (is_message_type header.kind) _ _ _ e) [
       | inl known ↦
           let body = elements_in (take header.length (drop 6 octets)) in
           let answer = answer_there header.kind header.number number (body_of header.kind body) message known.1 in
@@ -296,9 +296,9 @@ read_again : Heads → Lists → (octets : List ℕ) (number : ℕ) (message : M
 unfolding Heads Lists
 read_again heads lists octets number message spells =
     let header = spells.header in
-    let kind = kind_of message in
+    let kind = message_type message in
     let body = take header.length (drop 6 octets) in
-    let known : is_known header.kind ≡ true = ap is_known spells.kind ∙ kind_known message in
+    let known : is_message_type header.kind ≡ true = ap is_message_type spells.kind ∙ kind_known message in
     ap (λ (h : Result Header HeadFault). behind h octets) ((heads header octets).1 spells.heads)
     ∙ ap (λ (b : Bool). cond b (answered header.kind header.number (body_of header.kind (elements_in body))) (Drop why.UnknownType)) known
     ∙ ap (λ (k : ℕ). answered k header.number (body_of k (elements_in body))) spells.kind
@@ -337,7 +337,7 @@ sendable_behind octets (Err head.NotPrime) number message e = cc
 sendable_behind octets (Err (head.Version version kind bears)) number message e = cc
 sendable_behind octets (Err (head.Cut stated)) number message e = cc
 sendable_behind octets (Ok header) number message e =
-    elim (chosen (is_known header.kind) _ _ _ e) [
+    elim (chosen (is_message_type header.kind) _ _ _ e) [
       | inl known ↦
           let body = elements_in (take header.length (drop 6 octets)) in
           let answer = answer_there header.kind header.number number (body_of header.kind body) message known.1 in

@@ -13,7 +13,7 @@ use Rattle.gtpp_elements.specs.declared.fault.ElementFault.{ElementFault}
 use Rattle.gtpp_message.specs.Message.{MessageValue, EchoRequest, EchoResponse, VersionNotSupported, NodeAliveRequest, NodeAliveResponse, RedirectionRequest, RedirectionResponse, TransferRequest, TransferResponse, Send, Possible, Cancel, Release}
 use Rattle.gtpp_message.specs.Packet.{IsPacket, PacketValue, Empty, Full, packet_octets, packet_reading}
 use Rattle.gtpp_message.specs.Reading.{Message, answered, behind, body_of, message_of, numbers_of, reading}
-use Rattle.gtpp_message.specs.Writing.{IsSendableMessage, body_octets, elements_of, kind_of, written}
+use Rattle.gtpp_message.specs.Writing.{IsSendableMessage, body_octets, elements_of, message_type, written}
 use Rattle.gtpp_message.specs.declared.flaw.Flaw.{Flaw}
 use Rattle.gtpp_message.specs.declared.flaw.Flaw.TheVariants.{Incorrect}
 
@@ -51,7 +51,7 @@ packet_back Empty sendable = refl
 packet_back (Full count format version value) sendable = sendable
 
 -- the elements of a message say it
-said_back : Again → Twice → (message : MessageValue) → IsSendableMessage message → message_of (kind_of message) (elements_of message) ≡ Ok message
+said_back : Again → Twice → (message : MessageValue) → IsSendableMessage message → message_of (message_type message) (elements_of message) ≡ Ok message
 said_back again twice EchoRequest sendable = refl
 said_back again twice (EchoResponse counter) sendable = refl
 said_back again twice VersionNotSupported sendable = refl
@@ -70,8 +70,8 @@ said_back again twice (TransferResponse cause responded) sendable = rw (numbers_
 
 -- a message of its type is known
 behind_known : (message : MessageValue) (number stated : ℕ) (octets : List ℕ) →
-    behind (Ok (record { kind = kind_of message; length = stated; number = number })) octets
-    ≡ answered (kind_of message) number (body_of (kind_of message) (elements_in (take stated (drop 6 octets))))
+    behind (Ok (record { kind = message_type message; length = stated; number = number })) octets
+    ≡ answered (message_type message) number (body_of (message_type message) (elements_in (take stated (drop 6 octets))))
 behind_known EchoRequest number stated octets = refl
 behind_known (EchoResponse counter) number stated octets = refl
 behind_known VersionNotSupported number stated octets = refl
@@ -91,7 +91,7 @@ pub read_back : ((header : Header) (payload : List ℕ) → header.length ≤ le
 unfolding Again Twice
 read_back heads puts again twice number message rest sendable short =
     let body = body_octets message in
-    let kind = kind_of message in
+    let kind = message_type message in
     let header : Header = record { kind = kind; length = length body; number = number } in
     let whole : written number message ++ rest ≡ spelled header ++ (body ++ rest) = append_assoc (spelled header) body rest in
     let head : header_reading (spelled header ++ (body ++ rest)) ≡ Ok header = heads header (body ++ rest) (omega (arith, length-append body rest)) in

@@ -4,7 +4,10 @@ use Rattle.std.specs.List.{find}
 use Rattle.std.specs.Option.{option_map_or}
 use Rattle.case_table.specs.Rows.{has_key}
 use Rattle.case_table.specs.declared.Row.{Row}
+use Rattle.gtpp_elements.specs.declared.element_types.TheConstants.{CANCELLED, CAUSE, COMMAND, PACKET, RECOVERY, RELEASED, RESPONDED}
 use Rattle.gtpp_message.specs.Packet.{PacketValue}
+use Rattle.gtpp_message.specs.declared.command.TheConstants.{CANCEL, RELEASE, SEND, SEND_POSSIBLE}
+use Rattle.gtpp_message.specs.declared.message_types.TheConstants.{ECHO_REQUEST, ECHO_RESPONSE, NODE_ALIVE_REQUEST, NODE_ALIVE_RESPONSE, REDIRECTION_REQUEST, REDIRECTION_RESPONSE, TRANSFER_REQUEST, TRANSFER_RESPONSE, VERSION_NOT_SUPPORTED}
 
 -- what a Data Record Transfer Request asks: the Packet Transfer Command, and the packet or the numbers that it names
 pub data TransferValue : Type 0 where
@@ -31,11 +34,18 @@ row kind first second = record { key = kind; value = first; mark = second }
 -- the types of messages, and what each must have; a Data Record Transfer Request must have the element of its command too
 abbrev pub message_rows : List Row
 message_rows =
-    row 1 0 0 ∷ row 2 14 0 ∷ row 3 0 0 ∷ row 4 0 0 ∷ row 5 0 0 ∷ row 6 1 0 ∷ row 7 1 0 ∷ row 240 126 0 ∷ row 241 1 253 ∷ []
+    row ECHO_REQUEST 0 0 ∷ row ECHO_RESPONSE RECOVERY 0 ∷ row VERSION_NOT_SUPPORTED 0 0
+    ∷ row NODE_ALIVE_REQUEST 0 0 ∷ row NODE_ALIVE_RESPONSE 0 0
+    ∷ row REDIRECTION_REQUEST CAUSE 0 ∷ row REDIRECTION_RESPONSE CAUSE 0
+    ∷ row TRANSFER_REQUEST COMMAND 0 ∷ row TRANSFER_RESPONSE CAUSE RESPONDED ∷ []
+
+-- the Packet Transfer Commands, and the element that a request with each must have
+abbrev pub command_rows : List Row
+command_rows = row SEND PACKET 0 ∷ row SEND_POSSIBLE PACKET 0 ∷ row CANCEL CANCELLED 0 ∷ row RELEASE RELEASED 0 ∷ []
 
 -- there are messages of this type
-abbrev pub is_known : ℕ → Bool
-is_known kind = is_some (find (has_key kind) message_rows)
+abbrev pub is_message_type : ℕ → Bool
+is_message_type kind = is_some (find (has_key kind) message_rows)
 
 -- the element that a message of this type must have, and the second one
 abbrev pub first_needed : ℕ → ℕ
@@ -43,3 +53,7 @@ first_needed kind = option_map_or (λ found. found.value) (find (has_key kind) m
 
 abbrev pub second_needed : ℕ → ℕ
 second_needed kind = option_map_or (λ found. found.mark) (find (has_key kind) message_rows) 0
+
+-- the element that a request with this command must have
+abbrev pub command_needs : ℕ → ℕ
+command_needs command = option_map_or (λ found. found.value) (find (has_key command) command_rows) 0

@@ -80,9 +80,9 @@ abbrev pub records_in : ℕ → List ℕ → List (List ℕ)
 records_in count octets = unwrap_or (records_at count octets) []
 
 -- the records of a packet
-abbrev pub records_of : PacketValue → List (List ℕ)
-records_of Empty = []
-records_of (Full count format version value) = option_map_or (λ packet. packet.records) (packet_of value) []
+abbrev pub packet_records : PacketValue → List (List ℕ)
+packet_records Empty = []
+packet_records (Full count format version value) = option_map_or (λ packet. packet.records) (packet_of value) []
 
 -- the octets are a record behind its length in two octets, and what follows it
 pub record SpellsRecord (first rest octets : List ℕ) : Type 0 where

@@ -5,10 +5,11 @@ use Rattle.gtpp_header.specs.Header.{SpellsHeader}
 use Rattle.gtpp_header.specs.declared.Header.{Header}
 use Rattle.gtpp_elements.specs.Elements.{Element, SpellElements, first_value}
 use Rattle.gtpp_elements.specs.Numbers.{numbers_in}
+use Rattle.gtpp_elements.specs.declared.element_types.TheConstants.{CAUSE, COMMAND, NODE_ADDRESS, RECOMMENDED, RECOVERY, RESPONDED}
 use Rattle.gtpp_message.specs.Message.{MessageValue, TransferValue, EchoRequest, EchoResponse, VersionNotSupported, NodeAliveRequest, NodeAliveResponse, RedirectionRequest, RedirectionResponse, TransferRequest, TransferResponse, Send, Possible, Cancel, Release}
 use Rattle.gtpp_message.specs.Packet.{packet_reading}
 use Rattle.gtpp_message.specs.Reading.{is_address}
-use Rattle.gtpp_message.specs.Writing.{command_element, command_of, kind_of}
+use Rattle.gtpp_message.specs.Writing.{command_element, command_of, message_type}
 
 -- the first element of the type has this octet
 abbrev pub HasOctet : ℕ → ℕ → List Element → Type 0
@@ -28,24 +29,24 @@ SpellsTransfer (Release numbers) value = SpellsNumbers numbers value
 -- the elements say the message
 abbrev pub Say : MessageValue → List Element → Type 0
 Say EchoRequest elements = Unit {0}
-Say (EchoResponse counter) elements = HasOctet 14 counter elements
+Say (EchoResponse counter) elements = HasOctet RECOVERY counter elements
 Say VersionNotSupported elements = Unit {0}
-Say (NodeAliveRequest address) elements = first_value 251 elements ≡ address
+Say (NodeAliveRequest address) elements = first_value NODE_ADDRESS elements ≡ address
 Say NodeAliveResponse elements = Unit {0}
-Say (RedirectionRequest cause to) elements = HasOctet 1 cause elements × (first_value 254 elements ≡ to) × IsTrue (is_address to)
-Say (RedirectionResponse cause) elements = HasOctet 1 cause elements
+Say (RedirectionRequest cause to) elements = HasOctet CAUSE cause elements × (first_value RECOMMENDED elements ≡ to) × IsTrue (is_address to)
+Say (RedirectionResponse cause) elements = HasOctet CAUSE cause elements
 Say (TransferRequest body) elements =
-    HasOctet 126 (command_of body) elements
+    HasOctet COMMAND (command_of body) elements
     × (value : List ℕ) × (first_value (command_element body) elements ≡ Some value) × SpellsTransfer body value
 Say (TransferResponse cause responded) elements =
-    HasOctet 1 cause elements × (value : List ℕ) × (first_value 253 elements ≡ Some value) × SpellsNumbers responded value
+    HasOctet CAUSE cause elements × (value : List ℕ) × (first_value RESPONDED elements ≡ Some value) × SpellsNumbers responded value
 
 -- the octets spell the message with this sequence number
 pub record Spells (message : MessageValue) (with : ℕ) (octets : List ℕ) : Type 0 where
   pub header : Header
   pub elements : List Element
   pub heads : SpellsHeader header octets
-  pub kind : header.kind ≡ kind_of message
+  pub kind : header.kind ≡ message_type message
   pub number : header.number ≡ with
   pub fills : SpellElements elements (take header.length (drop 6 octets))
   pub says : Say message elements

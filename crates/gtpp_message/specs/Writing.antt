@@ -3,21 +3,24 @@ use Rattle.std.specs.Prelude.{ℕ, IsTrue, List, [], ◌∷◌, ◌++◌, length
 use Rattle.gtpp_header.specs.Header.{spelled}
 use Rattle.gtpp_elements.specs.Elements.{Element, octets_of}
 use Rattle.gtpp_elements.specs.Numbers.{number_octets}
-use Rattle.gtpp_message.specs.Message.{MessageValue, TransferValue, EchoRequest, EchoResponse, VersionNotSupported, NodeAliveRequest, NodeAliveResponse, RedirectionRequest, RedirectionResponse, TransferRequest, TransferResponse, Send, Possible, Cancel, Release}
+use Rattle.gtpp_elements.specs.declared.element_types.TheConstants.{CAUSE, COMMAND, NODE_ADDRESS, RECOMMENDED, RECOVERY, RESPONDED}
+use Rattle.gtpp_message.specs.Message.{MessageValue, TransferValue, EchoRequest, EchoResponse, VersionNotSupported, NodeAliveRequest, NodeAliveResponse, RedirectionRequest, RedirectionResponse, TransferRequest, TransferResponse, Send, Possible, Cancel, Release, command_needs}
 use Rattle.gtpp_message.specs.Packet.{IsPacket, packet_octets}
 use Rattle.gtpp_message.specs.Reading.{ReadingValue, Drop, Message, OtherVersion, Refused, is_address}
+use Rattle.gtpp_message.specs.declared.command.TheConstants.{CANCEL, RELEASE, SEND, SEND_POSSIBLE}
+use Rattle.gtpp_message.specs.declared.message_types.TheConstants.{ECHO_REQUEST, ECHO_RESPONSE, NODE_ALIVE_REQUEST, NODE_ALIVE_RESPONSE, REDIRECTION_REQUEST, REDIRECTION_RESPONSE, TRANSFER_REQUEST, TRANSFER_RESPONSE, VERSION_NOT_SUPPORTED}
 
 -- the type of a message
-abbrev pub kind_of : MessageValue → ℕ
-kind_of EchoRequest = 1
-kind_of (EchoResponse counter) = 2
-kind_of VersionNotSupported = 3
-kind_of (NodeAliveRequest address) = 4
-kind_of NodeAliveResponse = 5
-kind_of (RedirectionRequest cause to) = 6
-kind_of (RedirectionResponse cause) = 7
-kind_of (TransferRequest body) = 240
-kind_of (TransferResponse cause responded) = 241
+abbrev pub message_type : MessageValue → ℕ
+message_type EchoRequest = ECHO_REQUEST
+message_type (EchoResponse counter) = ECHO_RESPONSE
+message_type VersionNotSupported = VERSION_NOT_SUPPORTED
+message_type (NodeAliveRequest address) = NODE_ALIVE_REQUEST
+message_type NodeAliveResponse = NODE_ALIVE_RESPONSE
+message_type (RedirectionRequest cause to) = REDIRECTION_REQUEST
+message_type (RedirectionResponse cause) = REDIRECTION_RESPONSE
+message_type (TransferRequest body) = TRANSFER_REQUEST
+message_type (TransferResponse cause responded) = TRANSFER_RESPONSE
 
 -- an element
 abbrev pub element : ℕ → List ℕ → Element
@@ -30,16 +33,13 @@ optional_element kind (Some value) = element kind value ∷ []
 
 -- the Packet Transfer Command of a request, and the element that it needs
 abbrev pub command_of : TransferValue → ℕ
-command_of (Send packet) = 1
-command_of (Possible packet) = 2
-command_of (Cancel numbers) = 3
-command_of (Release numbers) = 4
+command_of (Send packet) = SEND
+command_of (Possible packet) = SEND_POSSIBLE
+command_of (Cancel numbers) = CANCEL
+command_of (Release numbers) = RELEASE
 
 abbrev pub command_element : TransferValue → ℕ
-command_element (Send packet) = 252
-command_element (Possible packet) = 252
-command_element (Cancel numbers) = 250
-command_element (Release numbers) = 249
+command_element body = command_needs (command_of body)
 
 -- the value of that element
 abbrev pub transfer_octets : TransferValue → List ℕ
@@ -49,19 +49,19 @@ transfer_octets (Cancel numbers) = number_octets numbers
 transfer_octets (Release numbers) = number_octets numbers
 
 abbrev pub transfer_elements : TransferValue → List Element
-transfer_elements body = element 126 (command_of body ∷ []) ∷ element (command_element body) (transfer_octets body) ∷ []
+transfer_elements body = element COMMAND (command_of body ∷ []) ∷ element (command_element body) (transfer_octets body) ∷ []
 
 -- the elements of a message as it is sent, in their order
 abbrev pub elements_of : MessageValue → List Element
 elements_of EchoRequest = []
-elements_of (EchoResponse counter) = element 14 (counter ∷ []) ∷ []
+elements_of (EchoResponse counter) = element RECOVERY (counter ∷ []) ∷ []
 elements_of VersionNotSupported = []
-elements_of (NodeAliveRequest address) = optional_element 251 address
+elements_of (NodeAliveRequest address) = optional_element NODE_ADDRESS address
 elements_of NodeAliveResponse = []
-elements_of (RedirectionRequest cause to) = element 1 (cause ∷ []) ∷ optional_element 254 to
-elements_of (RedirectionResponse cause) = element 1 (cause ∷ []) ∷ []
+elements_of (RedirectionRequest cause to) = element CAUSE (cause ∷ []) ∷ optional_element RECOMMENDED to
+elements_of (RedirectionResponse cause) = element CAUSE (cause ∷ []) ∷ []
 elements_of (TransferRequest body) = transfer_elements body
-elements_of (TransferResponse cause responded) = element 1 (cause ∷ []) ∷ element 253 (number_octets responded) ∷ []
+elements_of (TransferResponse cause responded) = element CAUSE (cause ∷ []) ∷ element RESPONDED (number_octets responded) ∷ []
 
 -- what follows the header of a message as it is sent
 abbrev pub body_octets : MessageValue → List ℕ
@@ -69,7 +69,7 @@ body_octets message = octets_of (elements_of message)
 
 -- a message as it is sent
 abbrev pub written : ℕ → MessageValue → List ℕ
-written number message = spelled (record { kind = kind_of message; length = length (body_octets message); number = number }) ++ body_octets message
+written number message = spelled (record { kind = message_type message; length = length (body_octets message); number = number }) ++ body_octets message
 
 -- what a request asks may be sent: its packet's value says what the packet says
 abbrev pub IsSendableTransfer : TransferValue → Type 0

@@ -1,7 +1,11 @@
 ghost use Rattle.std.specs.Prelude.{◌≡◌};
-ghost use Rattle.gtpp_message.specs.Reading.{cause_of};
+ghost use Rattle.gtpp_message.specs.Reading.{flaw_cause};
 
 use case_table::cases;
+use gw_base::cause::{ELEMENT_INCORRECT, ELEMENT_MISSING, INVALID_MESSAGE_FORMAT};
+
+/// The mark of each row: a cause has none.
+const NO_MARK: u32 = 0;
 
 /// What is wrong with the body of a message.
 #[derive(Clone, Copy, Debug, PartialEq, Eq)]
@@ -17,10 +21,13 @@ pub enum Flaw {
 impl Flaw {
     /// The cause that answers it (3GPP TS 32.295, clause 6.2.4.6).
     pub fn cause(self) -> u8
-        ensures { result ≡ cause_of self }
+        ensures { result ≡ flaw_cause self }
     {
-        // The flaws are those of `Flaw`, in its order.
-        let causes = cases![0 => 193, 0; 1 => 202, 0; 2 => 201, 0];
+        let causes = cases![
+            Flaw::Elements => INVALID_MESSAGE_FORMAT, NO_MARK;
+            Flaw::Missing => ELEMENT_MISSING, NO_MARK;
+            Flaw::Incorrect => ELEMENT_INCORRECT, NO_MARK;
+        ];
         match causes.find(self as u32) {
             Some(row) => row.value as u8,
             None => unreachable!(),

@@ -2,13 +2,17 @@
 //! (3GPP TS 32.295, clause 6.2). A message lends its octets from the datagram that it is read of.
 #![tactic(auto)]
 
+pub mod command;
+mod draft;
 mod flaw;
-pub mod kind;
 pub mod laws;
 mod message;
+pub mod message_types;
 mod needed;
 mod packet;
 mod parse;
+mod parts;
+mod path;
 mod reading;
 mod records;
 mod role;
@@ -22,4 +26,4 @@ pub use parse::read;
 pub use reading::{Reading, Why};
 pub use records::Records;
 pub use role::{Role, read_as};
-pub use spell::write;
+pub use spell::{reply, write};

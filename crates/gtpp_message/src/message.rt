@@ -1,8 +1,8 @@
 ghost use Rattle.std.specs.Prelude.{◌≡◌};
 ghost use Rattle.gtpp_message.specs.Values.{message_value};
-ghost use Rattle.gtpp_message.specs.Writing.{kind_of};
+ghost use Rattle.gtpp_message.specs.Writing.{message_type};
 
-use crate::kind;
+use crate::message_types;
 use crate::packet::Packet;
 use gtpp_elements::Numbers;
 
@@ -59,18 +59,18 @@ pub enum Transfer<'a> {
 impl Message<'_> {
     /// The type of the message.
     pub fn kind(&self) -> u8
-        ensures { result ≡ kind_of (message_value self.now) }
+        ensures { result ≡ message_type (message_value self.now) }
     {
         match self {
-            Message::EchoRequest => kind::ECHO_REQUEST,
-            Message::EchoResponse { .. } => kind::ECHO_RESPONSE,
-            Message::VersionNotSupported => kind::VERSION_NOT_SUPPORTED,
-            Message::NodeAliveRequest { .. } => kind::NODE_ALIVE_REQUEST,
-            Message::NodeAliveResponse => kind::NODE_ALIVE_RESPONSE,
-            Message::RedirectionRequest { .. } => kind::REDIRECTION_REQUEST,
-            Message::RedirectionResponse { .. } => kind::REDIRECTION_RESPONSE,
-            Message::TransferRequest { .. } => kind::TRANSFER_REQUEST,
-            Message::TransferResponse { .. } => kind::TRANSFER_RESPONSE,
+            Message::EchoRequest => message_types::ECHO_REQUEST,
+            Message::EchoResponse { .. } => message_types::ECHO_RESPONSE,
+            Message::VersionNotSupported => message_types::VERSION_NOT_SUPPORTED,
+            Message::NodeAliveRequest { .. } => message_types::NODE_ALIVE_REQUEST,
+            Message::NodeAliveResponse => message_types::NODE_ALIVE_RESPONSE,
+            Message::RedirectionRequest { .. } => message_types::REDIRECTION_REQUEST,
+            Message::RedirectionResponse { .. } => message_types::REDIRECTION_RESPONSE,
+            Message::TransferRequest { .. } => message_types::TRANSFER_REQUEST,
+            Message::TransferResponse { .. } => message_types::TRANSFER_RESPONSE,
         }
     }
 }

@@ -1,29 +1,52 @@
 ghost use Rattle.std.specs.Prelude.{◌≡◌};
-ghost use Rattle.gtpp_message.specs.Message.{first_needed, is_known, message_rows, second_needed};
+ghost use Rattle.gtpp_message.specs.Message.{command_needs, command_rows, first_needed, is_message_type, message_rows, second_needed};
 
+use crate::command::{CANCEL, RELEASE, SEND, SEND_POSSIBLE};
+use crate::message_types::{
+    ECHO_REQUEST, ECHO_RESPONSE, NODE_ALIVE_REQUEST, NODE_ALIVE_RESPONSE, REDIRECTION_REQUEST,
+    REDIRECTION_RESPONSE, TRANSFER_REQUEST, TRANSFER_RESPONSE, VERSION_NOT_SUPPORTED,
+};
 use case_table::{Cases, cases};
+use gtpp_elements::element_types::{
+    CANCELLED, CAUSE, COMMAND, PACKET, RECOVERY, RELEASED, RESPONDED,
+};
+
+/// What stands in a row for an element that isn't needed.
+const NONE: u32 = 0;
 
 /// The types of messages, and for each the element that a message of it must have and a second
-/// one, 0 for none.
+/// one.
 fn messages() -> Cases<9>
     ensures { result ≡ message_rows }
 {
     cases![
-        1 => 0, 0;     // Echo Request
-        2 => 14, 0;    // Echo Response
-        3 => 0, 0;     // Version Not Supported
-        4 => 0, 0;     // Node Alive Request
-        5 => 0, 0;     // Node Alive Response
-        6 => 1, 0;     // Redirection Request
-        7 => 1, 0;     // Redirection Response
-        240 => 126, 0; // Data Record Transfer Request
-        241 => 1, 253; // Data Record Transfer Response
+        ECHO_REQUEST => NONE, NONE;
+        ECHO_RESPONSE => RECOVERY, NONE;
+        VERSION_NOT_SUPPORTED => NONE, NONE;
+        NODE_ALIVE_REQUEST => NONE, NONE;
+        NODE_ALIVE_RESPONSE => NONE, NONE;
+        REDIRECTION_REQUEST => CAUSE, NONE;
+        REDIRECTION_RESPONSE => CAUSE, NONE;
+        TRANSFER_REQUEST => COMMAND, NONE;
+        TRANSFER_RESPONSE => CAUSE, RESPONDED;
+    ]
+}
+
+/// The Packet Transfer Commands, and for each the element that a request with it must have.
+fn commands() -> Cases<4>
+    ensures { result ≡ command_rows }
+{
+    cases![
+        SEND => PACKET, NONE;
+        SEND_POSSIBLE => PACKET, NONE;
+        CANCEL => CANCELLED, NONE;
+        RELEASE => RELEASED, NONE;
     ]
 }
 
 /// Whether there are messages of this type.
-pub fn is_known(kind: u8) -> bool
-    ensures { result ≡ is_known kind }
+pub fn is_message_type(kind: u8) -> bool
+    ensures { result ≡ is_message_type kind }
 {
     messages().find(u32::from(kind)).is_some()
 }
@@ -44,6 +67,16 @@ pub fn second_needed(kind: u8) -> u8
 {
     match messages().find(u32::from(kind)) {
         Some(row) => row.mark as u8,
+        None => 0,
+    }
+}
+
+/// The element that a request with this Packet Transfer Command must have, 0 for none.
+pub fn command_needs(command: u8) -> u8
+    ensures { result ≡ command_needs command }
+{
+    match commands().find(u32::from(command)) {
+        Some(row) => row.value as u8,
         None => 0,
     }
 }

@@ -1,5 +1,5 @@
 ghost use Rattle.std.specs.Prelude.{◌≡◌, ◌==◌, ◌<◌, IfSome, IsSomeAnd, Some, option_map, slice_get};
-ghost use Rattle.gtpp_message.specs.Packet.{IsPacket, count_of, full_packet, is_empty_packet, packet_of, packet_octets, packet_reading, records_of};
+ghost use Rattle.gtpp_message.specs.Packet.{IsPacket, count_of, full_packet, is_empty_packet, packet_of, packet_octets, packet_reading, packet_records};
 ghost use Rattle.gtpp_message.specs.Values.{packet_value};
 
 use crate::records::{Records, are_records, nth_record};
@@ -81,7 +81,7 @@ impl<'a> Packet<'a> {
     /// Lends the records, front to back.
     pub fn records(&self) -> Records<'a>
         requires { IsPacket (packet_value self.now) }
-        ensures { result ≡ records_of (packet_value self.now) }
+        ensures { result ≡ packet_records (packet_value self.now) }
     {
         match self {
             Packet::Empty => Records::of(0, &[]),

@@ -6,12 +6,12 @@ ghost use Rattle.gtpp_message.specs.Values.{lent, message_value, packet_value, r
 ghost use Rattle.gtpp_message.specs.Writing.{IsSendableReading};
 
 use crate::flaw::Flaw;
-use crate::kind;
 use crate::message::{Message, Transfer};
-use crate::needed::{first_needed, is_known, second_needed};
+use crate::needed::{command_needs, first_needed, is_message_type, second_needed};
 use crate::packet::Packet;
 use crate::reading::{Reading, Why};
-use gtpp_elements::{Elements, Numbers};
+use crate::{command, message_types};
+use gtpp_elements::{Elements, Numbers, element_types};
 use gtpp_header::{HEADER_OCTETS, HeadFault, Header};
 
 /// Reads a datagram.
@@ -43,7 +43,7 @@ fn behind(header: Header, octets: &[u8]) -> Reading<'_>
         length,
         number,
     } = header;
-    if !is_known(kind) {
+    if !is_message_type(kind) {
         return Reading::Drop(Why::UnknownType);
     }
     let (_, payload) = octets.split_at(HEADER_OCTETS);
@@ -73,16 +73,16 @@ fn message<'a>(kind: u8, elements: &Elements<'a>) -> Result<Message<'a>, Flaw>
     ensures { seen message_value result ≡ message_of kind elements.now }
 {
     match kind {
-        kind::ECHO_REQUEST => Ok(Message::EchoRequest),
-        kind::ECHO_RESPONSE => echo_response(elements),
-        kind::VERSION_NOT_SUPPORTED => Ok(Message::VersionNotSupported),
-        kind::NODE_ALIVE_REQUEST => Ok(Message::NodeAliveRequest {
-            address: elements.first(kind::NODE_ADDRESS),
+        message_types::ECHO_REQUEST => Ok(Message::EchoRequest),
+        message_types::ECHO_RESPONSE => echo_response(elements),
+        message_types::VERSION_NOT_SUPPORTED => Ok(Message::VersionNotSupported),
+        message_types::NODE_ALIVE_REQUEST => Ok(Message::NodeAliveRequest {
+            address: elements.first(element_types::NODE_ADDRESS),
         }),
-        kind::NODE_ALIVE_RESPONSE => Ok(Message::NodeAliveResponse),
-        kind::REDIRECTION_REQUEST => redirection_request(elements),
-        kind::REDIRECTION_RESPONSE => redirection_response(elements),
-        kind::TRANSFER_REQUEST => transfer_request(elements),
+        message_types::NODE_ALIVE_RESPONSE => Ok(Message::NodeAliveResponse),
+        message_types::REDIRECTION_REQUEST => redirection_request(elements),
+        message_types::REDIRECTION_RESPONSE => redirection_response(elements),
+        message_types::TRANSFER_REQUEST => transfer_request(elements),
         _ => transfer_response(elements),
     }
 }
@@ -90,7 +90,7 @@ fn message<'a>(kind: u8, elements: &Elements<'a>) -> Result<Message<'a>, Flaw>
 fn echo_response<'a>(elements: &Elements<'a>) -> Result<Message<'a>, Flaw>
     ensures { seen message_value result ≡ echo_response_of elements.now }
 {
-    match octet(elements, first_needed(kind::ECHO_RESPONSE)) {
+    match octet(elements, first_needed(message_types::ECHO_RESPONSE)) {
         Ok(counter) => Ok(Message::EchoResponse { counter }),
         Err(flaw) => Err(flaw),
     }
@@ -99,8 +99,8 @@ fn echo_response<'a>(elements: &Elements<'a>) -> Result<Message<'a>, Flaw>
 fn redirection_request<'a>(elements: &Elements<'a>) -> Result<Message<'a>, Flaw>
     ensures { seen message_value result ≡ redirection_request_of elements.now }
 {
-    match octet(elements, first_needed(kind::REDIRECTION_REQUEST)) {
-        Ok(cause) => redirection(cause, elements.first(kind::RECOMMENDED)),
+    match octet(elements, first_needed(message_types::REDIRECTION_REQUEST)) {
+        Ok(cause) => redirection(cause, elements.first(element_types::RECOMMENDED)),
         Err(flaw) => Err(flaw),
     }
 }
@@ -118,7 +118,7 @@ fn redirection(cause: u8, to: Option<&[u8]>) -> Result<Message<'_>, Flaw>
 fn redirection_response<'a>(elements: &Elements<'a>) -> Result<Message<'a>, Flaw>
     ensures { seen message_value result ≡ redirection_response_of elements.now }
 {
-    match octet(elements, first_needed(kind::REDIRECTION_RESPONSE)) {
+    match octet(elements, first_needed(message_types::REDIRECTION_RESPONSE)) {
         Ok(cause) => Ok(Message::RedirectionResponse { cause }),
         Err(flaw) => Err(flaw),
     }
@@ -127,7 +127,7 @@ fn redirection_response<'a>(elements: &Elements<'a>) -> Result<Message<'a>, Flaw
 fn transfer_request<'a>(elements: &Elements<'a>) -> Result<Message<'a>, Flaw>
     ensures { seen message_value result ≡ transfer_request_of elements.now }
 {
-    match octet(elements, first_needed(kind::TRANSFER_REQUEST)) {
+    match octet(elements, first_needed(message_types::TRANSFER_REQUEST)) {
         Ok(command) => match transfer(command, elements) {
             Ok(body) => Ok(Message::TransferRequest { body }),
             Err(flaw) => Err(flaw),
@@ -139,8 +139,8 @@ fn transfer_request<'a>(elements: &Elements<'a>) -> Result<Message<'a>, Flaw>
 fn transfer_response<'a>(elements: &Elements<'a>) -> Result<Message<'a>, Flaw>
     ensures { seen message_value result ≡ transfer_response_of elements.now }
 {
-    match octet(elements, first_needed(kind::TRANSFER_RESPONSE)) {
-        Ok(cause) => match numbers(elements, second_needed(kind::TRANSFER_RESPONSE)) {
+    match octet(elements, first_needed(message_types::TRANSFER_RESPONSE)) {
+        Ok(cause) => match numbers(elements, second_needed(message_types::TRANSFER_RESPONSE)) {
             Ok(responded) => Ok(Message::TransferResponse { cause, responded }),
             Err(flaw) => Err(flaw),
         },
@@ -153,19 +153,25 @@ fn transfer<'a>(command: u8, elements: &Elements<'a>) -> Result<Transfer<'a>, Fl
     ensures { seen transfer_value result ≡ transfer_of command elements.now }
 {
     match command {
-        1 => packet(elements).map(Transfer::Send),
-        2 => packet(elements).map(Transfer::Possible),
-        3 => numbers(elements, kind::CANCELLED).map(Transfer::Cancel),
-        4 => numbers(elements, kind::RELEASED).map(Transfer::Release),
+        command::SEND => packet(elements, command_needs(command::SEND)).map(Transfer::Send),
+        command::SEND_POSSIBLE => {
+            packet(elements, command_needs(command::SEND_POSSIBLE)).map(Transfer::Possible)
+        }
+        command::CANCEL => {
+            numbers(elements, command_needs(command::CANCEL)).map(Transfer::Cancel)
+        }
+        command::RELEASE => {
+            numbers(elements, command_needs(command::RELEASE)).map(Transfer::Release)
+        }
         _ => Err(Flaw::Incorrect),
     }
 }
 
-/// The packet of a request to send.
-fn packet<'a>(elements: &Elements<'a>) -> Result<Packet<'a>, Flaw>
-    ensures { seen packet_value result ≡ packet_among elements.now }
+/// The packet in the first element of a type.
+fn packet<'a>(elements: &Elements<'a>, kind: u8) -> Result<Packet<'a>, Flaw>
+    ensures { seen packet_value result ≡ packet_among kind elements.now }
 {
-    match elements.first(kind::PACKET) {
+    match elements.first(kind) {
         Some(value) => Packet::of(value).ok_or(Flaw::Incorrect),
         None => Err(Flaw::Missing),
     }

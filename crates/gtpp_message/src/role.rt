@@ -3,8 +3,8 @@ ghost use Rattle.gtpp_message.specs.Role.{has_refusal, is_stray, read_at, refuse
 ghost use Rattle.gtpp_message.specs.Values.{reading_value};
 ghost use Rattle.gtpp_message.specs.Writing.{IsSendableReading};
 
-use crate::kind;
-use crate::needed::is_known;
+use crate::message_types;
+use crate::needed::is_message_type;
 use crate::parse::read_body;
 use crate::reading::{Reading, Why};
 use gtpp_header::{HEADER_OCTETS, HeadFault, Header};
@@ -26,15 +26,17 @@ impl Role {
         match self {
             Role::Gateway => matches!(
                 kind,
-                kind::VERSION_NOT_SUPPORTED
-                    | kind::NODE_ALIVE_RESPONSE
-                    | kind::REDIRECTION_REQUEST
-                    | kind::REDIRECTION_RESPONSE
-                    | kind::TRANSFER_RESPONSE
+                message_types::VERSION_NOT_SUPPORTED
+                    | message_types::NODE_ALIVE_RESPONSE
+                    | message_types::REDIRECTION_REQUEST
+                    | message_types::REDIRECTION_RESPONSE
+                    | message_types::TRANSFER_RESPONSE
             ),
             Role::Node => matches!(
                 kind,
-                kind::VERSION_NOT_SUPPORTED | kind::NODE_ALIVE_REQUEST | kind::TRANSFER_REQUEST
+                message_types::VERSION_NOT_SUPPORTED
+                    | message_types::NODE_ALIVE_REQUEST
+                    | message_types::TRANSFER_REQUEST
             ),
         }
     }
@@ -56,7 +58,7 @@ pub fn read_as(role: Role, octets: &[u8]) -> Reading<'_>
         Err(HeadFault::NotPrime) => Reading::Drop(Why::NotPrime),
         Err(
             HeadFault::Version {
-                kind: kind::VERSION_NOT_SUPPORTED,
+                kind: message_types::VERSION_NOT_SUPPORTED,
                 ..
             },
         ) => Reading::Drop(Why::Stray),
@@ -75,7 +77,7 @@ fn read_at(role: Role, header: Header, octets: &[u8]) -> Reading<'_>
         length,
         number,
     } = header;
-    if !is_known(kind) {
+    if !is_message_type(kind) {
         return Reading::Drop(Why::UnknownType);
     }
     if role.is_stray(kind) {
@@ -108,5 +110,8 @@ fn refused<'a>(kind: u8, cause: u8, number: u16) -> Reading<'a>
 fn has_refusal(kind: u8) -> bool
     ensures { result ≡ has_refusal kind }
 {
-    matches!(kind, kind::REDIRECTION_REQUEST | kind::TRANSFER_REQUEST)
+    matches!(
+        kind,
+        message_types::REDIRECTION_REQUEST | message_types::TRANSFER_REQUEST
+    )
 }

@@ -1,13 +1,14 @@
-ghost use Rattle.std.specs.Prelude.{◌≡◌, ◌<◌, ◌≤◌, ◌+◌, ◌++◌, ◌↔◌, ℕ, List, length, OnOk, OnErr};
-ghost use Rattle.gtpp_elements.specs.Elements.{IsValue, element_octets, octets_of};
-ghost use Rattle.gtpp_message.specs.Values.{lent, message_value, transfer_value};
-ghost use Rattle.gtpp_message.specs.Writing.{body_octets, command_element, command_of, optional_element, transfer_elements, transfer_octets, written};
+ghost use Rattle.std.specs.Prelude.{◌≡◌, ◌<◌, ◌≤◌, ◌+◌, ◌++◌, ◌↔◌, ℕ, length, OnOk, OnErr};
+ghost use Rattle.gtpp_header.specs.Header.{spelled};
+ghost use Rattle.gtpp_message.specs.Parts.{head_octets, octet_octets, tail_octets};
+ghost use Rattle.gtpp_message.specs.Values.{message_value};
+ghost use Rattle.gtpp_message.specs.Writing.{body_octets, written};
 
-use crate::kind;
-use crate::message::{Message, Transfer};
-use gtpp_elements::{Full, put};
+use crate::draft::Draft;
+use crate::message::Message;
+use crate::parts::{Parts, sent_parts};
 use gtpp_header::{HEADER_OCTETS, Header};
-use gw_base::Buffer;
+use gw_base::{Buffer, Full, Short};
 
 /// Appends a message in the one spelling in which it is sent. Where there isn't room for all of
 /// it, the buffer stays as it was.
@@ -23,158 +24,47 @@ pub fn write(number: u16, message: &Message<'_>, into: &mut Buffer) -> Result<()
         ((free + length into.old.octets ≡ into.old.capacity)
         × (free < length (written number (message_value message.now)))) }
 {
-    let length = body_length(message);
+    let parts = sent_parts(message);
+    let length = parts.length();
     let free = into.free();
     if free < HEADER_OCTETS + length {
         return Err(Full { free });
     }
-    into.append(&gtpp_header::write(Header {
+    let header = Header {
         kind: message.kind(),
         length: length as u16,
         number,
-    }));
-    put_body(message, into);
+    };
+    into.append(front(header, &parts).octets());
+    into.append(parts.tail());
     Ok(())
 }
 
-/// How many octets an element of one octet has, and one that states its length beside its value.
-const OCTET_ELEMENT: usize = 2;
-
-const LENGTH_ELEMENT: usize = 3;
-
-/// How many octets follow the header.
-fn body_length(message: &Message<'_>) -> usize
-    requires { length (body_octets (message_value message.now)) ≤ 65535 }
-    ensures { result ≡ length (body_octets (message_value message.now)) }
+/// A message in the one spelling in which it is sent, where that has at most 64 octets, as that of
+/// each response has. It takes no memory.
+pub fn reply(number: u16, message: &Message<'_>) -> Short
+    requires { length (written number (message_value message.now)) ≤ Short.CAPACITY }
+    ensures { result ≡ written number (message_value message.now) }
 {
-    match message {
-        Message::EchoRequest | Message::VersionNotSupported | Message::NodeAliveResponse => 0,
-        Message::EchoResponse { .. } | Message::RedirectionResponse { .. } => OCTET_ELEMENT,
-        Message::NodeAliveRequest { address } => optional_length(*address),
-        Message::RedirectionRequest { to, .. } => OCTET_ELEMENT + optional_length(*to),
-        Message::TransferRequest { body } => {
-            OCTET_ELEMENT + LENGTH_ELEMENT + transfer_octets(body).len()
-        }
-        Message::TransferResponse { responded, .. } => {
-            OCTET_ELEMENT + LENGTH_ELEMENT + responded.octets().len()
-        }
-    }
+    let parts = sent_parts(message);
+    let header = Header {
+        kind: message.kind(),
+        length: parts.length() as u16,
+        number,
+    };
+    let mut reply = front(header, &parts);
+    reply.append(parts.tail());
+    reply.finish()
 }
 
-/// How many octets an element has that may be left out.
-fn optional_length(value: Option<&[u8]>) -> usize
-    requires { length (octets_of (optional_element 255 (lent value))) ≤ 65535 }
-    ensures { result ≡ length (octets_of (optional_element 255 (lent value.entry))) }
+/// What stands before the octets that a message lends.
+fn front(header: Header, parts: &Parts<'_>) -> Draft
+    requires { length (tail_octets parts.now.value) ≤ 65535 }
+    ensures { result ≡ spelled header ++ (octet_octets parts.now.octet ++ head_octets parts.now.value) }
 {
-    match value {
-        Some(octets) => LENGTH_ELEMENT + octets.len(),
-        None => 0,
-    }
-}
-
-/// Appends the elements of a message for which there is room.
-fn put_body(message: &Message<'_>, into: &mut Buffer)
-    requires room { length into.old.octets
-        + length (body_octets (message_value message.now)) ≤ into.old.capacity }
-    requires short { length (body_octets (message_value message.now)) ≤ 65535 }
-    ensures { into.new ≡
-        record {
-          octets = into.old.octets ++ body_octets (message_value message.now);
-          capacity = into.old.capacity;
-        } }
-{
-    match message {
-        Message::EchoRequest | Message::VersionNotSupported | Message::NodeAliveResponse => {}
-        Message::EchoResponse { counter } => put_element(kind::RECOVERY, &[*counter], into),
-        Message::NodeAliveRequest { address } => put_optional(kind::NODE_ADDRESS, *address, into),
-        Message::RedirectionRequest { cause, to } => {
-            put_element(kind::CAUSE, &[*cause], into);
-            put_optional(kind::RECOMMENDED, *to, into);
-        }
-        Message::RedirectionResponse { cause } => put_element(kind::CAUSE, &[*cause], into),
-        Message::TransferRequest { body } => put_transfer(body, into),
-        Message::TransferResponse { cause, responded } => {
-            put_element(kind::CAUSE, &[*cause], into);
-            put_element(kind::RESPONDED, responded.octets(), into);
-        }
-    }
-}
-
-/// Appends the command of a request, and the element that it needs.
-fn put_transfer(body: &Transfer<'_>, into: &mut Buffer)
-    requires room { length into.old.octets
-        + length (octets_of (transfer_elements (transfer_value body.now))) ≤ into.old.capacity }
-    requires short { length (octets_of (transfer_elements (transfer_value body.now))) ≤ 65535 }
-    ensures { into.new ≡
-        record {
-          octets = into.old.octets ++ octets_of (transfer_elements (transfer_value body.now));
-          capacity = into.old.capacity;
-        } }
-{
-    put_element(kind::COMMAND, &[command(body)], into);
-    put_element(command_element(body), transfer_octets(body), into);
-}
-
-/// The Packet Transfer Command of a request.
-fn command(body: &Transfer<'_>) -> u8
-    ensures { result ≡ command_of (transfer_value body.now) }
-{
-    match body {
-        Transfer::Send(_) => 1,
-        Transfer::Possible(_) => 2,
-        Transfer::Cancel(_) => 3,
-        Transfer::Release(_) => 4,
-    }
-}
-
-/// The element that the command of a request needs.
-fn command_element(body: &Transfer<'_>) -> u8
-    ensures element { result ≡ command_element (transfer_value body.now) }
-    ensures sized { 128 ≤ result }
-{
-    match body {
-        Transfer::Send(_) | Transfer::Possible(_) => kind::PACKET,
-        Transfer::Cancel(_) => kind::CANCELLED,
-        Transfer::Release(_) => kind::RELEASED,
-    }
-}
-
-/// The value of the element that the command of a request needs.
-fn transfer_octets<'a>(body: &Transfer<'a>) -> &'a [u8]
-    ensures { result.now ≡ transfer_octets (transfer_value body.now) }
-{
-    match body {
-        Transfer::Send(packet) | Transfer::Possible(packet) => packet.octets(),
-        Transfer::Cancel(numbers) | Transfer::Release(numbers) => numbers.octets(),
-    }
-}
-
-/// Appends an element that may be left out, for which there is room.
-fn put_optional(kind: u8, value: Option<&[u8]>, into: &mut Buffer)
-    requires room { length into.old.octets
-        + length (octets_of (optional_element kind (lent value))) ≤ into.old.capacity }
-    requires short { length (octets_of (optional_element kind (lent value))) ≤ 65535 }
-    requires sized { 128 ≤ kind }
-    ensures { into.new ≡
-        record {
-          octets = into.old.octets ++ octets_of (optional_element kind (lent value.entry));
-          capacity = into.old.capacity;
-        } }
-{
-    if let Some(octets) = value {
-        put_element(kind, octets, into);
-    }
-}
-
-/// Appends an element for which there is room.
-fn put_element(kind: u8, value: &[u8], into: &mut Buffer)
-    requires room { length into.old.octets + length (element_octets kind value.now) ≤ into.old.capacity }
-    requires value { IsValue kind value.now }
-    ensures { into.new ≡
-        record { octets = into.old.octets ++ element_octets kind value.now; capacity = into.old.capacity } }
-{
-    match put(kind, value, into) {
-        Ok(()) => {}
-        Err(_) => unreachable!(),
-    }
+    let mut front = Draft::new();
+    front.append(&gtpp_header::write(header));
+    front.append_octet(parts.octet);
+    front.append_head(parts.value);
+    front
 }

@@ -3,8 +3,8 @@ ghost use Rattle.gtpp_message.specs.Values.{message_value};
 ghost use Rattle.gtpp_message.specs.Writing.{body_octets};
 
 use super::*;
-use gtpp_elements::{Full, Numbers};
-use gw_base::Buffer;
+use gtpp_elements::Numbers;
+use gw_base::{Buffer, Full};
 
 #[test]
 fn drops_by_the_first_condition_that_holds(rt: HostRuntime) {

@@ -1,3 +1,3 @@
 pub mod HeldLemmas
+pub mod Scans
 pub mod StartLemmas
-pub mod ViewLemmas

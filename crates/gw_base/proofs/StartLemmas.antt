@@ -1,31 +1,46 @@
--- The start of the present epoch is the last of the list of starts.
-use Rattle.std.proofs.Common.{◌≡◌, ℕ, suc, zero-add, ◌+◌, ◌==◌, Bool, true, false, if◌then◌else◌, List, [], ◌∷◌, ◌++◌, Option, Some, refl, unwrap_or, slice_get, arith}
+-- The last start is that of the present epoch.
+use Rattle.std.proofs.Common.{◌≡◌, ℕ, ◌+◌, ◌==◌, Bool, true, false, if◌then◌else◌, List, [], ◌∷◌, ◌++◌, length, length-append, map, Option, Some, None, refl, ap, ◌∙◌, arith}
+use Rattle.std.specs.List.{cons_option, enumerate_from, last_or}
+use Rattle.std.proofs.lemmas.List.Elements.{filter_map-append}
 use Rattle.gw_base.specs.declared.history.HistoryAct.{HistoryAct}
 use Rattle.gw_base.specs.declared.history.HistoryAct.TheVariants.{Start, Path, File, Hold, Seal, Release, Cancel, Tick, Close}
 use Rattle.gw_base.specs.declared.history.HistoryEntry.{HistoryEntry}
+use Rattle.gw_base.specs.declared.history.Opening.{Opening}
+use Rattle.gw_base.specs.EntryLaws.{epoch_of-append}
 use Rattle.gw_base.specs.History.{begins_epoch, epoch_of}
-use Rattle.gw_base.specs.Starts.{counter_in, counters_of, opening_after, opening_from}
+use Rattle.gw_base.specs.ListLaws.{by_last}
+use Rattle.gw_base.specs.Starts.{opening_by, openings_of, start_by, start_of, starts_of}
 
--- from any opening on, the present start is the last start
-abbrev IsLastStart : ℕ → Option ℕ → List HistoryEntry → Type 0
-IsLastStart node opening h = slice_get (unwrap_or opening 0 ∷ counters_of node h) (epoch_of node h) ≡ Some (unwrap_or (opening_from node opening h) 0)
-
-last_start_after : (node : ℕ) (opening : Option ℕ) (act : HistoryAct) (h : List HistoryEntry) → ((o : Option ℕ) → IsLastStart node o h)
-    → slice_get (unwrap_or opening 0 ∷ (counter_in node act ++ counters_of node h)) ((if begins_epoch node act then 1 else 0) + epoch_of node h) ≡ Some (unwrap_or (opening_from node (opening_after node opening act) h) 0)
-last_start_after node opening (Path n port counter) h ih = by_test (n.0 == node)
+-- there is an opening for each epoch after the first
+one_opening : (node : ℕ) (act : HistoryAct) → (if begins_epoch node act then 1 else 0) ≡ length {A = Opening} (cons_option (opening_by node act) [])
+one_opening node (Path n port counter) = by_test (n.0 == node)
   where
-    by_test : (b : Bool) → slice_get (unwrap_or opening 0 ∷ ((if b then counter ∷ [] else []) ++ counters_of node h)) ((if b then 1 else 0) + epoch_of node h) ≡ Some (unwrap_or (opening_from node (if b then Some counter else opening) h) 0)
-    by_test true = let e : 1 + epoch_of node h ≡ suc (epoch_of node h) = omega arith in rw e (ih (Some counter))
-    by_test false = rw zero-add (ih opening)
-last_start_after node opening Start h ih = rw zero-add (ih opening)
-last_start_after node opening (File n x packet) h ih = rw zero-add (ih opening)
-last_start_after node opening (Hold n x packet) h ih = rw zero-add (ih opening)
-last_start_after node opening (Seal n x) h ih = rw zero-add (ih opening)
-last_start_after node opening (Release n xs) h ih = rw zero-add (ih opening)
-last_start_after node opening (Cancel n xs) h ih = rw zero-add (ih opening)
-last_start_after node opening Tick h ih = rw zero-add (ih opening)
-last_start_after node opening Close h ih = rw zero-add (ih opening)
+    by_test : (b : Bool) → (if b then 1 else 0) ≡ length {A = Opening} (cons_option (if b then Some (record { port = port; counter = counter }) else None) [])
+    by_test true = refl
+    by_test false = refl
+one_opening node Start = refl
+one_opening node (File n x packet) = refl
+one_opening node (Hold n x packet) = refl
+one_opening node (Seal n x) = refl
+one_opening node (Release n xs) = refl
+one_opening node (Cancel n xs) = refl
+one_opening node Tick = refl
+one_opening node Close = refl
 
-pub last_start : (node : ℕ) (opening : Option ℕ) (h : List HistoryEntry) → IsLastStart node opening h
-last_start node opening [] = refl
-last_start node opening (e ∷ h) = last_start_after node opening e.act h (λ o. last_start node o h)
+as_many_openings : (node : ℕ) (h : List HistoryEntry) → epoch_of node h ≡ length (openings_of node h)
+as_many_openings node h = by_last (λ (k : List HistoryEntry). epoch_of node k ≡ length (openings_of node k)) refl more h
+  where
+    more : (k : List HistoryEntry) (e : HistoryEntry) → epoch_of node k ≡ length (openings_of node k) → epoch_of node (k ++ e ∷ []) ≡ length (openings_of node (k ++ e ∷ []))
+    more k e rest =
+        let longer : length (openings_of node (k ++ e ∷ [])) ≡ length (openings_of node k) + length (cons_option (opening_by node e.act) []) =
+        ap (λ (os : List Opening). length os) (filter_map-append (λ (d : HistoryEntry). opening_by node d.act) k (e ∷ []))
+        ∙ length-append (openings_of node k) (cons_option (opening_by node e.act) []) in
+        omega (arith, epoch_of-append node k e, longer, one_opening node e.act, rest)
+
+-- the last of numbered openings
+last_numbered : (k : ℕ) (o : Option Opening) (os : List Opening) → last_or (Some (k, start_by o)) (enumerate_from (k + 1) (map (λ (p : Opening). p.counter) os)) ≡ Some (k + length os, start_by (last_or o os))
+last_numbered k o [] = let e : k ≡ k + 0 = omega arith in λ i. Some (e i, start_by o)
+last_numbered k o (p ∷ os) = let e : (k + 1) + length os ≡ k + length (p ∷ os) = omega arith in last_numbered (k + 1) (Some p) os ∙ (λ i. Some (e i, start_by (last_or (Some p) os)))
+
+pub last_start : (node : ℕ) (h : List HistoryEntry) → last_or None (starts_of node h) ≡ Some (epoch_of node h, start_of node h)
+last_start node h = last_numbered 0 None (openings_of node h) ∙ (let e : 0 + length (openings_of node h) ≡ epoch_of node h = omega (arith, as_many_openings node h) in λ i. Some (e i, start_of node h))

@@ -1,7 +1,8 @@
--- What a gateway's history says, each by a scan of its entries from the first to the last.
-use Rattle.std.specs.Prelude.{ℕ, ◌+◌, max, ◌==◌, ◌&&◌, Bool, true, false, if◌then◌else◌, List, [], ◌∷◌, Option, Some, None, length, slice_get, ◌-◌}
-use Rattle.std.specs.List.{list_any}
+-- What a gateway's history says of epochs, of request numbers, of moments and of what is to be closed.
+use Rattle.std.specs.Prelude.{ℕ, ◌+◌, ◌-◌, max, ◌==◌, ◌&&◌, Bool, true, false, if◌then◌else◌, List, [], ◌∷◌, Option, Some, None, count_by, filter, length, slice_get, unwrap_or}
+use Rattle.std.specs.List.{after_last, filter_map, last_or, list_any, slice_split}
 use Rattle.std.specs.Option.{option_map_or}
+use Rattle.gw_base.specs.Lists.{greatest, raised}
 use Rattle.gw_base.specs.declared.history.HistoryAct.{HistoryAct}
 use Rattle.gw_base.specs.declared.history.HistoryAct.TheVariants.{Path, File, Hold, Seal, Release, Cancel, Close}
 use Rattle.gw_base.specs.declared.history.HistoryEntry.{HistoryEntry}
@@ -10,7 +11,6 @@ use Rattle.gw_base.specs.declared.key_state.KeyState.{KeyState}
 use Rattle.gw_base.specs.declared.key_state.KeyState.TheVariants.{Fresh, Filed, Sealed, Held, Released, Cancelled}
 use Rattle.gw_base.specs.declared.scan.Copies.{Copies}
 use Rattle.gw_base.specs.declared.scan.HoldFate.{HoldFate}
-use Rattle.gw_base.specs.declared.scan.KeyScan.{KeyScan}
 use Rattle.gw_base.specs.declared.scan.HoldFate.TheVariants as fate
 
 -- Epochs.
@@ -22,8 +22,15 @@ begins_epoch node _ = false
 
 -- the number of a node's present epoch: how many Path entries of the node there are
 abbrev pub epoch_of : ℕ → List HistoryEntry → ℕ
-epoch_of node [] = 0
-epoch_of node (e ∷ h) = (if begins_epoch node e.act then 1 else 0) + epoch_of node h
+epoch_of node h = count_by (λ e. begins_epoch node e.act) h
+
+-- the entries of a node's epoch: the Path entries of the node part the history, and epoch 0 is before the first
+abbrev pub epoch_entries : ℕ → ℕ → List HistoryEntry → List HistoryEntry
+epoch_entries node epoch h = unwrap_or (slice_get (slice_split (λ e. begins_epoch node e.act) h) epoch) []
+
+-- those of a node's present epoch: what stands after the last Path entry of the node
+abbrev pub present_entries : ℕ → List HistoryEntry → List HistoryEntry
+present_entries node h = after_last (λ e. begins_epoch node e.act) h
 
 -- Key states.
 
@@ -45,42 +52,42 @@ given_state (Release n xs) = Released
 given_state (Cancel n xs) = Cancelled
 given_state _ = Fresh
 
--- the scan after one more entry
-abbrev pub scan_after : PacketKey → KeyScan → HistoryAct → KeyScan
-scan_after key s act = record {
-  epoch = (if begins_epoch key.node.0 act then 1 else 0) + s.epoch;
-  state = if (s.epoch == key.epoch) && names key.node.0 key.number act then given_state act else s.state;
-}
+-- the last of these entries that names a node's number, where one does
+abbrev pub last_naming : ℕ → ℕ → List HistoryEntry → Option HistoryEntry
+last_naming node number entries = last_or None (filter (λ e. names node number e.act) entries)
 
-abbrev pub scan_from : PacketKey → KeyScan → List HistoryEntry → KeyScan
-scan_from key s [] = s
-scan_from key s (e ∷ h) = scan_from key (scan_after key s e.act) h
+-- the state that an entry gives, and Fresh where there is none
+abbrev pub state_by : Option HistoryEntry → KeyState
+state_by entry = option_map_or (λ e. given_state e.act) entry Fresh
 
 -- a key's state: what the last entry of its epoch that names it gives, and Fresh where none does
 abbrev pub state_of : PacketKey → List HistoryEntry → KeyState
-state_of key h = (scan_from key (record { epoch = 0; state = Fresh }) h).state
+state_of key h = state_by (last_naming key.node.0 key.number (epoch_entries key.node.0 key.epoch h))
+
+-- the state of a number in its node's present epoch
+abbrev pub present_state : ℕ → ℕ → List HistoryEntry → KeyState
+present_state node number h = state_by (last_naming node number (present_entries node h))
 
 -- The greatest number.
 
--- the greatest number so far, with one more
-abbrev pub raised : Option ℕ → ℕ → Option ℕ
-raised top x = Some (option_map_or (λ t. max t x) top x)
+-- the number that a File, Hold or Seal entry of a node names
+abbrev pub number_of : ℕ → HistoryAct → Option ℕ
+number_of node (File n x packet) = if n.0 == node then Some x else None
+number_of node (Hold n x packet) = if n.0 == node then Some x else None
+number_of node (Seal n x) = if n.0 == node then Some x else None
+number_of node _ = None
 
--- the greatest number that the entries of a node's present epoch name, after one more entry
+-- the greatest number that File, Hold and Seal entries of the node's present epoch name, where one does
+abbrev pub top_of : ℕ → List HistoryEntry → Option ℕ
+top_of node h = greatest (filter_map (λ e. number_of node e.act) (present_entries node h))
+
+-- the greatest number of a node's present epoch after one more entry
 abbrev pub top_after : ℕ → Option ℕ → HistoryAct → Option ℕ
 top_after node top (Path n port counter) = if n.0 == node then None else top
 top_after node top (File n x packet) = if n.0 == node then raised top x else top
 top_after node top (Hold n x packet) = if n.0 == node then raised top x else top
 top_after node top (Seal n x) = if n.0 == node then raised top x else top
 top_after node top _ = top
-
-abbrev pub top_from : ℕ → Option ℕ → List HistoryEntry → Option ℕ
-top_from node top [] = top
-top_from node top (e ∷ h) = top_from node (top_after node top e.act) h
-
--- the greatest number that File, Hold and Seal entries of the node's present epoch name, where one does
-abbrev pub top_of : ℕ → List HistoryEntry → Option ℕ
-top_of node h = top_from node None h
 
 -- Moments.
 
@@ -94,20 +101,26 @@ moment_after h now = max now (last_moment h)
 
 -- Closing.
 
--- whether a Close is due after an entry, by whether it was due before
+-- whether an entry files records
+abbrev pub files : HistoryAct → Bool
+files (File n x packet) = true
+files (Release n xs) = true
+files _ = false
+
+abbrev pub closes : HistoryAct → Bool
+closes Close = true
+closes _ = false
+
+-- a Close is due where a File or a Release stands after the last Close
+abbrev pub is_close_due : List HistoryEntry → Bool
+is_close_due h = list_any (λ e. files e.act) (after_last (λ e. closes e.act) h)
+
+-- whether a Close is due after one more entry, by whether it was due before
 abbrev pub due_after : Bool → HistoryAct → Bool
 due_after due (File n x packet) = true
 due_after due (Release n xs) = true
 due_after due Close = false
 due_after due _ = due
-
-abbrev pub due_from : Bool → List HistoryEntry → Bool
-due_from due [] = due
-due_from due (e ∷ h) = due_from (due_after due e.act) h
-
--- a Close is due where a File or a Release stands after the last Close
-abbrev pub is_close_due : List HistoryEntry → Bool
-is_close_due h = due_from false h
 
 -- Held copies.
 

@@ -1,14 +1,18 @@
 -- What a gateway keeps of its history, and how one more entry changes it.
-use Rattle.std.specs.Prelude.{ℕ, ◌+◌, ◌&&◌, not, Bool, if◌then◌else◌, List, [], ◌++◌, Option, filter, count_by}
+use Rattle.std.specs.Prelude.{ℕ, ◌+◌, ◌==◌, ◌&&◌, not, Bool, if◌then◌else◌, List, [], ◌++◌, Option, filter, count_by}
 use Rattle.gw_base.specs.declared.address.NodeId.{NodeId}
 use Rattle.gw_base.specs.declared.held.HeldKey.{HeldKey}
 use Rattle.gw_base.specs.declared.history.HistoryAct.{HistoryAct}
 use Rattle.gw_base.specs.declared.history.HistoryEntry.{HistoryEntry}
+use Rattle.gw_base.specs.declared.history.PacketKey.{PacketKey}
+use Rattle.gw_base.specs.declared.key_state.KeyState.{KeyState}
+use Rattle.gw_base.specs.declared.key_state.KeyState.TheVariants.{Fresh}
 use Rattle.gw_base.specs.HeldKeys.{held_by, held_keys}
-use Rattle.gw_base.specs.History.{begins_epoch, copies_of, due_after, epoch_of, is_close_due, last_moment, names, top_after, top_of}
+use Rattle.gw_base.specs.History.{begins_epoch, copies_of, due_after, epoch_of, given_state, is_close_due, last_moment, names, top_after, top_of}
 use Rattle.gw_base.specs.Known.{known_nodes, named_node, with_node}
 use Rattle.gw_base.specs.Starts.{is_start, opening_after, opening_of, start_count}
 use Rattle.gw_base.specs.TickDue.{last_tick, tick_after}
+use Rattle.gw_base.specs.declared.history.Opening.{Opening}
 
 -- what a history says of all nodes together
 pub record HistoryView : Type 0 where
@@ -31,11 +35,11 @@ view_of h = record {
   last_tick = last_tick h;
 }
 
--- whether a held key stays held after an entry: the entry neither begins an epoch of its node nor names it
+-- whether a held key stays held: the entry neither begins an epoch of its node nor names it
 abbrev pub stays_held : HistoryAct → HeldKey → Bool
 stays_held act key = not (begins_epoch key.node.0 act) && not (names key.node.0 key.number act)
 
--- whether an entry strands a held key
+-- whether the entry strands a held key
 abbrev pub strands : HistoryAct → HeldKey → Bool
 strands act key = begins_epoch key.node.0 act
 
@@ -54,7 +58,7 @@ view_after v e = record {
 -- what a history says of one node
 pub record NodeView : Type 0 where
   pub epoch : ℕ
-  pub opening : Option ℕ
+  pub opening : Option Opening
   pub top : Option ℕ
 
 abbrev pub node_view_of : ℕ → List HistoryEntry → NodeView
@@ -67,3 +71,12 @@ node_view_after node v act = record {
   opening = opening_after node v.opening act;
   top = top_after node v.top act;
 }
+
+-- a key's state after one more entry, by the number of the node's epoch that it stands in
+abbrev pub state_after : PacketKey → ℕ → KeyState → HistoryAct → KeyState
+state_after key epoch state act = if (epoch == key.epoch) && names key.node.0 key.number act then given_state act else state
+
+-- a number's state in its node's present epoch after one more entry: a Path of the node begins with fresh numbers
+abbrev pub present_after : ℕ → ℕ → KeyState → HistoryAct → KeyState
+present_after node number state act =
+    if begins_epoch node act then Fresh else (if names node number act then given_state act else state)

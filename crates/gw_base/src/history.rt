@@ -118,3 +118,11 @@ pub struct PacketKey {
     pub epoch: u64,
     pub number: Absolute,
 }
+
+/// What the Path entry that began a node's epoch says of the node: the port that it sent from, and
+/// its restart counter.
+#[derive(Clone, Copy, Debug, PartialEq, Eq)]
+pub struct Opening {
+    pub port: u16,
+    pub counter: u8,
+}

@@ -28,6 +28,7 @@ fn is_known(known: &[NodeId], node: NodeId) -> bool
 }
 
 /// The known nodes, in the order in which Path, File, Hold and Seal entries first named them.
+#[tactic(auto, using(crate::proofs::Scans::known_is))]
 pub fn known_nodes(alloc: Global, history: &[HistoryEntry]) -> Result<Vec<NodeId>, NoMemory>
     ensures { IfOk result (λ nodes. nodes.items ≡ known_nodes history.now) }
 {

@@ -40,7 +40,7 @@ pub use clock::Clock;
 pub use counted::Counted;
 pub use entry::{Act, Entry};
 pub use fault::{Failed, Full, NoMemory};
-pub use history::{Absolutes, Caller, HistoryAct, HistoryEntry, PacketKey};
+pub use history::{Absolutes, Caller, HistoryAct, HistoryEntry, Opening, PacketKey};
 pub use item::Item;
 pub use key_state::KeyState;
 pub use kind::{CdrKind, cdr_kind};

@@ -1,5 +1,6 @@
 ghost use Rattle.std.specs.Prelude.{◌≡◌, ◌≤◌, ◌<◌, ◌-◌, ◌^◌, length};
-ghost use Rattle.gw_base.specs.History.{copies_of, epoch_of, fate_of, is_close_due, moment_after, scan_after, state_of, top_after, top_of};
+ghost use Rattle.gw_base.specs.History.{copies_of, epoch_of, fate_of, is_close_due, moment_after, state_of, top_after, top_of};
+ghost use Rattle.gw_base.specs.Steps.{scan_after};
 
 use crate::address::{Absolute, NodeId};
 pub use crate::held::{
@@ -11,8 +12,11 @@ use crate::key_state::KeyState;
 pub use crate::known::known_nodes;
 use crate::moment::Moment;
 pub use crate::starts::{opening, start, start_count, start_is_that_of_the_present_epoch};
-pub use crate::tick::{is_tick_due, last_tick};
-pub use crate::view::{key_scan_goes_on, node_view_goes_on, view_goes_on};
+pub use crate::tick::{is_long_ago, is_tick_due, last_tick};
+pub use crate::view::{
+    epochs_are_within_the_length, key_state_goes_on, node_view_goes_on, present_state_goes_on,
+    present_state_is_that_of_the_epoch, view_goes_on,
+};
 
 impl HistoryAct {
     /// The greatest number that a node's present epoch names, after this entry.
@@ -45,13 +49,10 @@ pub fn epoch(history: &[HistoryEntry], node: NodeId) -> u64
     ensures value { result ≡ epoch_of node.0 history.now }
     ensures within { result ≤ length history.now }
 {
-    let mut epoch: u64 = 0;
-    for entry in history {
-        if entry.act.begins_epoch(node) {
-            epoch += 1;
-        }
-    }
-    epoch
+    history
+        .iter()
+        .filter(|entry| entry.act.begins_epoch(node))
+        .count() as u64
 }
 
 /// How far a scan for one key has come: the epoch of the key's node, and the key's state.
@@ -77,6 +78,7 @@ impl KeyScan {
 }
 
 /// A key's state: what the last entry of its epoch that names it gives.
+#[tactic(auto, using(crate::proofs::Scans::scan_is))]
 pub fn state(history: &[HistoryEntry], key: PacketKey) -> KeyState
     ensures { result ≡ state_of key history.now }
 {
@@ -91,6 +93,7 @@ pub fn state(history: &[HistoryEntry], key: PacketKey) -> KeyState
 }
 
 /// The greatest number that the File, Hold and Seal entries of a node's present epoch name.
+#[tactic(auto, using(crate::proofs::Scans::top_is))]
 pub fn top(history: &[HistoryEntry], node: NodeId) -> Option<Absolute>
     ensures { result ≡ top_of node.0 history.now }
 {
@@ -112,6 +115,7 @@ pub fn moment_after(history: &[HistoryEntry], now: Moment) -> Moment
 }
 
 /// Whether a File or a Release stands after the last Close.
+#[tactic(auto, using(crate::proofs::Scans::due_is))]
 pub fn is_close_due(history: &[HistoryEntry]) -> bool
     ensures { result ≡ is_close_due history.now }
 {

@@ -1,10 +1,11 @@
-ghost use Rattle.std.specs.Prelude.{◌≡◌, ◌≤◌, Some, slice_get, length, List, ℕ};
+ghost use Rattle.std.specs.Prelude.{◌≡◌, ◌≤◌, Some, None, length, List, ℕ};
+ghost use Rattle.std.specs.List.{last_or};
 ghost use Rattle.gw_base.specs.declared.history.HistoryEntry.{HistoryEntry};
 ghost use Rattle.gw_base.specs.History.{epoch_of};
 ghost use Rattle.gw_base.specs.Starts.{is_start, opening_after, opening_of, start_count, start_of, starts_of};
 
 use crate::address::NodeId;
-use crate::history::{HistoryAct, HistoryEntry};
+use crate::history::{HistoryAct, HistoryEntry, Opening};
 
 impl HistoryAct {
     /// Whether the entry says that the gateway began to run.
@@ -14,16 +15,19 @@ impl HistoryAct {
         matches!(self, HistoryAct::Start)
     }
 
-    /// The counter of the Path that began a node's epoch, after this entry.
-    fn opening_after(&self, node: NodeId, opening: Option<u8>) -> Option<u8>
+    /// The opening of a node's epoch, after this entry.
+    fn opening_after(&self, node: NodeId, opening: Option<Opening>) -> Option<Opening>
         ensures { result ≡ opening_after node.0 opening self.now }
     {
         match self {
             HistoryAct::Path {
                 node: named,
+                port,
                 counter,
-                ..
-            } if *named == node => Some(*counter),
+            } if *named == node => Some(Opening {
+                port: *port,
+                counter: *counter,
+            }),
             _ => opening,
         }
     }
@@ -37,8 +41,9 @@ pub fn start_count(history: &[HistoryEntry]) -> usize
     history.iter().filter(|entry| entry.act.is_start()).count()
 }
 
-/// The counter of the Path that began a node's present epoch, where one did.
-pub fn opening(history: &[HistoryEntry], node: NodeId) -> Option<u8>
+/// What the Path that began a node's present epoch says, where one did.
+#[tactic(auto, using(crate::proofs::Scans::opening_is))]
+pub fn opening(history: &[HistoryEntry], node: NodeId) -> Option<Opening>
     ensures { result ≡ opening_of node.0 history.now }
 {
     let mut opening = None;
@@ -53,10 +58,13 @@ pub fn opening(history: &[HistoryEntry], node: NodeId) -> Option<u8>
 pub fn start(history: &[HistoryEntry], node: NodeId) -> u8
     ensures { result ≡ start_of node.0 history.now }
 {
-    opening(history, node).unwrap_or(0)
+    match opening(history, node) {
+        Some(opening) => opening.counter,
+        None => 0,
+    }
 }
 
-/// The start of the present epoch is the one that the list of a node's starts has for it.
+/// The last of a node's epochs with its start is the present one.
 pub fn start_is_that_of_the_present_epoch()
-    ensures { (node : ℕ) (h : List HistoryEntry) → slice_get (starts_of node h) (epoch_of node h) ≡ Some (start_of node h) }
+    ensures { (node : ℕ) (h : List HistoryEntry) → last_or None (starts_of node h) ≡ Some (epoch_of node h, start_of node h) }
 {}

@@ -340,7 +340,8 @@ fn starts_and_known_nodes(rt: HostRuntime) -> Result<(), Fail> {
         (14, OTHER, None, 0),
     ] {
         let front = &history[..length];
-        assert_eq!(rt; opening(front, node), counter, "of {length} {node:?}");
+        let seen = opening(front, node).map(|o| o.counter);
+        assert_eq!(rt; seen, counter, "of {length} {node:?}");
         assert_eq!(rt; start(front, node), first, "of {length} {node:?}");
     }
     assert_eq!(rt; start_count(&history), 1);
@@ -413,6 +414,12 @@ fn ticks_are_due_once_in_the_open_time(rt: HostRuntime) -> Result<(), Fail> {
         );
     }
     assert_eq!(rt; last_tick(&history).map(Moment::seconds), Some(20));
+    let mut back = Vec::new(rt.alloc());
+    add(&mut back, 50, file(rt.alloc(), 65_536)?)?;
+    add(&mut back, 100, HistoryAct::Tick)?;
+    add(&mut back, 200, file(rt.alloc(), 65_537)?)?;
+    let now = Moment::of(150).ok_or("a moment")?;
+    assert!(rt; is_tick_due(&back, 60, now), "the new Tick would bear 200");
     Ok(())
 }
 

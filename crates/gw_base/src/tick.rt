@@ -3,7 +3,7 @@ ghost use Rattle.gw_base.specs.TickDue.{is_long_ago, is_tick_due, last_tick, tic
 
 use crate::history::{HistoryAct, HistoryEntry};
 use crate::moment::Moment;
-use crate::scan::is_close_due;
+use crate::scan::{is_close_due, moment_after};
 
 impl HistoryEntry {
     /// The moment of the last Tick after the last Close, after this entry.
@@ -19,6 +19,7 @@ impl HistoryEntry {
 }
 
 /// The moment of the last Tick after the last Close, where there is one.
+#[tactic(auto, using(crate::proofs::Scans::tick_is))]
 pub fn last_tick(history: &[HistoryEntry]) -> Option<Moment>
     ensures { result ≡ last_tick history.now }
 {
@@ -30,7 +31,7 @@ pub fn last_tick(history: &[HistoryEntry]) -> Option<Moment>
 }
 
 /// Whether a moment lies at least the open time, in seconds, back.
-fn is_long_ago(open_time: u64, now: Moment, moment: Moment) -> bool
+pub fn is_long_ago(open_time: u64, now: Moment, moment: Moment) -> bool
     ensures { result ≡ is_long_ago open_time now moment }
 {
     match now.seconds().checked_sub(moment.seconds()) {
@@ -39,8 +40,9 @@ fn is_long_ago(open_time: u64, now: Moment, moment: Moment) -> bool
     }
 }
 
-/// Whether a Tick is due at a moment: a Close is due, and no Tick stands after the last Close or
-/// the last one lies at least the open time, in seconds, back.
+/// Whether a Tick is due: a Close is due, and no Tick stands after the last Close, or the last one
+/// lies at least the open time, in seconds, before the moment that the new Tick would bear. That is
+/// the present moment, and where the clock ran back that of the last entry.
 pub fn is_tick_due(history: &[HistoryEntry], open_time: u64, now: Moment) -> bool
     ensures { result ≡ is_tick_due open_time now history.now }
 {
@@ -48,7 +50,7 @@ pub fn is_tick_due(history: &[HistoryEntry], open_time: u64, now: Moment) -> boo
         return false;
     }
     match last_tick(history) {
-        Some(moment) => is_long_ago(open_time, now, moment),
+        Some(moment) => is_long_ago(open_time, moment_after(history, now), moment),
         None => true,
     }
 }

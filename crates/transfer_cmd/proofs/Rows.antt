@@ -1,5 +1,5 @@
--- The rows of the table of answers, one for each ask at each state, and how each is found.
-use Rattle.std.proofs.Common.{◌≡◌, ℕ, List, [], ◌∷◌, Option, Some, None, refl, ap, ◌∙◌}
+-- How the row for an ask at a state is found.
+use Rattle.std.proofs.Common.{◌≡◌, ℕ, List, Option, Some, None, refl, ap, ◌∙◌}
 use Rattle.std.specs.List.{find}
 use Rattle.case_table.specs.Rows.{has_key}
 use Rattle.case_table.specs.declared.Row.{Row}
@@ -7,56 +7,32 @@ use Rattle.gw_base.specs.declared.key_state.KeyState.{KeyState}
 use Rattle.gw_base.specs.declared.key_state.KeyState.TheVariants.{Fresh, Filed, Sealed, Held, Released, Cancelled}
 use Rattle.transfer_cmd.specs.declared.decision.Ask.{Ask}
 use Rattle.transfer_cmd.specs.declared.decision.Ask.TheVariants.{Send, Possible, Empty}
-use Rattle.transfer_cmd.specs.Keys.{key_of, place_of_state, state_marked}
-use Rattle.transfer_cmd.specs.Table.{cause_of, state_given}
-
--- the mark of a row that gives a state, or none
-abbrev pub mark_of : Option KeyState → ℕ
-mark_of None = 0
-mark_of (Some state) = place_of_state state
-
--- the row for an ask at a state
-abbrev pub row_of : Ask → KeyState → Row
-row_of ask state = record { key = key_of ask state; value = cause_of ask state; mark = mark_of (state_given ask state) }
-
--- the rows for an ask
-abbrev pub rows_of : Ask → List Row → List Row
-rows_of ask rest =
-    row_of ask Fresh ∷ row_of ask Filed ∷ row_of ask Sealed ∷ row_of ask Held ∷ row_of ask Released ∷ row_of ask Cancelled ∷ rest
-
--- all rows
-abbrev pub rows : List Row
-rows = rows_of Send (rows_of Possible (rows_of Empty []))
+use Rattle.transfer_cmd.specs.Rows.{mark_of, place_of_state, row_for, rows_for, state_marked}
+use Rattle.transfer_cmd.specs.Table.{answer_cause, state_given}
 
 -- each row is found by its key
-row_by_key : (ask : Ask) (state : KeyState) → find (has_key (key_of ask state)) rows ≡ Some (row_of ask state)
-row_by_key Send Fresh = refl
-row_by_key Send Filed = refl
-row_by_key Send Sealed = refl
-row_by_key Send Held = refl
-row_by_key Send Released = refl
-row_by_key Send Cancelled = refl
-row_by_key Possible Fresh = refl
-row_by_key Possible Filed = refl
-row_by_key Possible Sealed = refl
-row_by_key Possible Held = refl
-row_by_key Possible Released = refl
-row_by_key Possible Cancelled = refl
-row_by_key Empty Fresh = refl
-row_by_key Empty Filed = refl
-row_by_key Empty Sealed = refl
-row_by_key Empty Held = refl
-row_by_key Empty Released = refl
-row_by_key Empty Cancelled = refl
+row_by_key : (ask : Ask) (state : KeyState) → find (has_key (place_of_state state)) (rows_for ask) ≡ Some (row_for ask state)
+row_by_key ask Fresh = refl
+row_by_key ask Filed = refl
+row_by_key ask Sealed = refl
+row_by_key ask Held = refl
+row_by_key ask Released = refl
+row_by_key ask Cancelled = refl
 
-some_is : {a b : Row} → Some a ≡ Some b → a ≡ b
-some_is e = cc
+-- what is found among the rows for an ask by a key that is equal to a state's place is the row for the state
+found_is : (ask : Ask) (state : KeyState) (key : ℕ) (table : List Row) (found : Option Row) →
+    table ≡ rows_for ask → found ≡ find (has_key key) table → key ≡ place_of_state state → found ≡ Some (row_for ask state)
+found_is ask state key table found table_is is key_is =
+    is ∙ ap (find (has_key key)) table_is ∙ ap (λ (k : ℕ). find (has_key k) (rows_for ask)) key_is ∙ row_by_key ask state
 
--- what is found in the table by a key that is equal to an ask's and a state's is their row
 pub row_found : (ask : Ask) (state : KeyState) (key : ℕ) (table : List Row) (row : Row) →
-    table ≡ rows → Some row ≡ find (has_key key) table → key ≡ key_of ask state → row ≡ row_of ask state
-row_found ask state key table row table_is found key_is =
-    some_is (found ∙ ap (find (has_key key)) table_is ∙ ap (λ (k : ℕ). find (has_key k) rows) key_is ∙ row_by_key ask state)
+    table ≡ rows_for ask → Some row ≡ find (has_key key) table → key ≡ place_of_state state → row ≡ row_for ask state
+row_found ask state key table row table_is is key_is = let same = found_is ask state key table (Some row) table_is is key_is in cc
+
+-- there is such a row
+pub row_there : (ask : Ask) (state : KeyState) (key : ℕ) (table : List Row) →
+    table ≡ rows_for ask → None ≡ find (has_key key) table → key ≡ place_of_state state → ⊥
+row_there ask state key table table_is is key_is = let never = found_is ask state key table None table_is is key_is in cc
 
 -- a row's mark stands for the state that is given
 pub marked : (ask : Ask) (state : KeyState) → state_marked (mark_of (state_given ask state)) ≡ state_given ask state

@@ -1,3 +1,4 @@
-pub mod Keys
 pub mod Lists
 pub mod Table
+-- Steps of the proof.
+pub mod Rows

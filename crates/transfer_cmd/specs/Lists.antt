@@ -1,6 +1,7 @@
 -- The rule for the commands that name a list of numbers, to release or to cancel the packets under them.
-use Rattle.std.specs.Prelude.{Bool, true, false, if◌then◌else◌, List, [], ◌∷◌}
+use Rattle.std.specs.Prelude.{ℕ, Bool, true, false, if◌then◌else◌, List, [], ◌∷◌}
 use Rattle.std.specs.List.{list_any}
+use Rattle.gw_base.specs.declared.cause.TheConstants.{ACCEPTED, DUPLICATE_ALREADY_FULFILLED, NUMBERS_INCORRECT}
 use Rattle.gw_base.specs.declared.key_state.KeyState.{KeyState}
 use Rattle.gw_base.specs.declared.key_state.KeyState.TheVariants.{Held, Released, Cancelled}
 use Rattle.transfer_cmd.specs.declared.verdict.Verdict.{Verdict}
@@ -33,3 +34,9 @@ abbrev pub verdict_of : Bool → List KeyState → Verdict
 verdict_of release [] = Wrong
 verdict_of release (s ∷ states) =
     if list_any (is_wrong release) (s ∷ states) then Wrong else (if list_any is_held (s ∷ states) then Change else Before)
+
+-- the cause that answers a list by its verdict
+abbrev pub verdict_cause : Verdict → ℕ
+verdict_cause Wrong = NUMBERS_INCORRECT
+verdict_cause Before = DUPLICATE_ALREADY_FULFILLED
+verdict_cause Change = ACCEPTED

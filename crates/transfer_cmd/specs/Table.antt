@@ -1,32 +1,32 @@
 -- The table of answers to the commands that send a packet (3GPP TS 32.295, clause 6.2.4.5.2), by the state of the
 -- request's number. Which cause is answered in which state is this project's profile.
 use Rattle.std.specs.Prelude.{ℕ, Option, Some, None}
+use Rattle.gw_base.specs.declared.cause.TheConstants.{ACCEPTED, ALREADY_FULFILLED, DUPLICATE_ALREADY_FULFILLED, NOT_FULFILLED}
 use Rattle.gw_base.specs.declared.key_state.KeyState.{KeyState}
 use Rattle.gw_base.specs.declared.key_state.KeyState.TheVariants.{Fresh, Filed, Sealed, Held, Released, Cancelled}
 use Rattle.transfer_cmd.specs.declared.decision.Ask.{Ask}
 use Rattle.transfer_cmd.specs.declared.decision.Ask.TheVariants.{Send, Possible, Empty}
 
--- the cause that is answered: 128 accepted, 252 duplicated packets already fulfilled, 253 already fulfilled, 255 not
--- fulfilled
-abbrev pub cause_of : Ask → KeyState → ℕ
-cause_of Send Fresh = 128
-cause_of Send Filed = 253
-cause_of Send Sealed = 255
-cause_of Send Held = 252
-cause_of Send Released = 252
-cause_of Send Cancelled = 252
-cause_of Possible Fresh = 128
-cause_of Possible Filed = 253
-cause_of Possible Sealed = 255
-cause_of Possible Held = 252
-cause_of Possible Released = 252
-cause_of Possible Cancelled = 252
-cause_of Empty Fresh = 128
-cause_of Empty Filed = 253
-cause_of Empty Sealed = 128
-cause_of Empty Held = 252
-cause_of Empty Released = 252
-cause_of Empty Cancelled = 252
+-- the cause that is answered
+abbrev pub answer_cause : Ask → KeyState → ℕ
+answer_cause Send Fresh = ACCEPTED
+answer_cause Send Filed = ALREADY_FULFILLED
+answer_cause Send Sealed = NOT_FULFILLED
+answer_cause Send Held = DUPLICATE_ALREADY_FULFILLED
+answer_cause Send Released = DUPLICATE_ALREADY_FULFILLED
+answer_cause Send Cancelled = DUPLICATE_ALREADY_FULFILLED
+answer_cause Possible Fresh = ACCEPTED
+answer_cause Possible Filed = ALREADY_FULFILLED
+answer_cause Possible Sealed = NOT_FULFILLED
+answer_cause Possible Held = DUPLICATE_ALREADY_FULFILLED
+answer_cause Possible Released = DUPLICATE_ALREADY_FULFILLED
+answer_cause Possible Cancelled = DUPLICATE_ALREADY_FULFILLED
+answer_cause Empty Fresh = ACCEPTED
+answer_cause Empty Filed = ALREADY_FULFILLED
+answer_cause Empty Sealed = ACCEPTED
+answer_cause Empty Held = DUPLICATE_ALREADY_FULFILLED
+answer_cause Empty Released = DUPLICATE_ALREADY_FULFILLED
+answer_cause Empty Cancelled = DUPLICATE_ALREADY_FULFILLED
 
 -- the state that the number gets, where the request calls for an entry
 abbrev pub state_given : Ask → KeyState → Option KeyState

@@ -1,9 +1,11 @@
-ghost use Rattle.std.specs.Prelude.{◌≡◌, ◌≤◌};
-ghost use Rattle.transfer_cmd.specs.Keys.{key_of, state_marked};
-ghost use Rattle.transfer_cmd.specs.Table.{cause_of, state_given};
+ghost use Rattle.std.specs.Prelude.{◌≡◌, ◌<◌, All};
+ghost use Rattle.transfer_cmd.specs.Rows.{place_of_state, rows_for, state_marked};
+ghost use Rattle.transfer_cmd.specs.Table.{answer_cause, state_given};
 
-use case_table::cases;
+use case_table::{Cases, cases};
 use gw_base::KeyState;
+use gw_base::KeyState::{Cancelled, Filed, Fresh, Held, Released, Sealed};
+use gw_base::cause::{ACCEPTED, ALREADY_FULFILLED, DUPLICATE_ALREADY_FULFILLED, NOT_FULFILLED};
 
 /// What a request asks of the number that it bears.
 #[derive(Clone, Copy, Debug, PartialEq, Eq)]
@@ -16,63 +18,73 @@ pub enum Ask {
     Empty,
 }
 
-/// The mark of a row that calls for no entry, and those of the states that an entry gives.
-const NO_ENTRY: u32 = 0;
+/// The mark of a row that calls for no entry: no entry makes a number fresh.
+const NO_ENTRY: u32 = Fresh as u32;
 
-const FILED: u32 = 1;
-
-const SEALED: u32 = 2;
-
-const HELD: u32 = 3;
-
-/// The key of the row for an ask at a state: 6 times the ask plus the state.
-fn key(ask: Ask, state: KeyState) -> u32
-    ensures { result ≡ key_of ask state }
+/// The rows for an ask: by the state of the number, the cause, and the state that an entry gives.
+fn answers(ask: Ask) -> Cases<6>
+    ensures rows { result ≡ rows_for ask }
+    ensures octets { All (λ row. row.value < 256) result }
 {
-    6 * ask as u32 + state as u32
+    match ask {
+        Ask::Send => cases![
+            Fresh => ACCEPTED, Filed;
+            Filed => ALREADY_FULFILLED, NO_ENTRY;
+            Sealed => NOT_FULFILLED, NO_ENTRY;
+            Held => DUPLICATE_ALREADY_FULFILLED, NO_ENTRY;
+            Released => DUPLICATE_ALREADY_FULFILLED, NO_ENTRY;
+            Cancelled => DUPLICATE_ALREADY_FULFILLED, NO_ENTRY;
+        ],
+        Ask::Possible => cases![
+            Fresh => ACCEPTED, Held;
+            Filed => ALREADY_FULFILLED, NO_ENTRY;
+            Sealed => NOT_FULFILLED, NO_ENTRY;
+            Held => DUPLICATE_ALREADY_FULFILLED, NO_ENTRY;
+            Released => DUPLICATE_ALREADY_FULFILLED, NO_ENTRY;
+            Cancelled => DUPLICATE_ALREADY_FULFILLED, NO_ENTRY;
+        ],
+        Ask::Empty => cases![
+            Fresh => ACCEPTED, Sealed;
+            Filed => ALREADY_FULFILLED, NO_ENTRY;
+            Sealed => ACCEPTED, NO_ENTRY;
+            Held => DUPLICATE_ALREADY_FULFILLED, NO_ENTRY;
+            Released => DUPLICATE_ALREADY_FULFILLED, NO_ENTRY;
+            Cancelled => DUPLICATE_ALREADY_FULFILLED, NO_ENTRY;
+        ],
+    }
 }
+
+const FILED: u32 = Filed as u32;
+
+const SEALED: u32 = Sealed as u32;
+
+const HELD: u32 = Held as u32;
 
 /// The state that a row's mark stands for.
 fn state_given(mark: u32) -> Option<KeyState>
     ensures { result ≡ state_marked mark }
 {
     match mark {
-        FILED => Some(KeyState::Filed),
-        SEALED => Some(KeyState::Sealed),
-        HELD => Some(KeyState::Held),
+        FILED => Some(Filed),
+        SEALED => Some(Sealed),
+        HELD => Some(Held),
         _ => None,
     }
 }
 
+/// The place of a state among the states.
+fn place(state: KeyState) -> u32
+    ensures { result ≡ place_of_state state }
+{
+    state as u32
+}
+
 /// The cause of the answer, and the state that the number gets where an entry is called for.
 pub fn decide(state: KeyState, ask: Ask) -> (u8, Option<KeyState>)
-    ensures cause { result.0 ≡ cause_of ask state }
+    ensures cause { result.0 ≡ answer_cause ask state }
     ensures state { result.1 ≡ state_given ask state }
 {
-    // The states are those of `KeyState`, in its order, and the asks those of `Ask`.
-    let table = cases![
-        0 => 128, FILED;
-        1 => 253, NO_ENTRY;
-        2 => 255, NO_ENTRY;
-        3 => 252, NO_ENTRY;
-        4 => 252, NO_ENTRY;
-        5 => 252, NO_ENTRY;
-
-        6 => 128, HELD;
-        7 => 253, NO_ENTRY;
-        8 => 255, NO_ENTRY;
-        9 => 252, NO_ENTRY;
-        10 => 252, NO_ENTRY;
-        11 => 252, NO_ENTRY;
-
-        12 => 128, SEALED;
-        13 => 253, NO_ENTRY;
-        14 => 128, NO_ENTRY;
-        15 => 252, NO_ENTRY;
-        16 => 252, NO_ENTRY;
-        17 => 252, NO_ENTRY;
-    ];
-    match table.find(key(ask, state)) {
+    match answers(ask).find(place(state)) {
         Some(row) => (row.value as u8, state_given(row.mark)),
         None => unreachable!(),
     }

@@ -2,8 +2,8 @@
 //! the state of the number that it names.
 #![tactic(auto)]
 
-pub mod cause;
 mod decision;
+pub mod laws;
 #[cfg(test)]
 mod tests;
 mod verdict;

@@ -1,8 +1,9 @@
 ghost use Rattle.std.specs.Prelude.{◌≡◌};
 ghost use Rattle.std.specs.List.{list_any};
-ghost use Rattle.transfer_cmd.specs.Lists.{is_held, is_wrong, verdict_of};
+ghost use Rattle.transfer_cmd.specs.Lists.{is_held, is_wrong, verdict_cause, verdict_of};
 
 use gw_base::KeyState;
+use gw_base::cause::{ACCEPTED, DUPLICATE_ALREADY_FULFILLED, NUMBERS_INCORRECT};
 
 /// What a request to release or to cancel the packets of a list of numbers comes to.
 #[derive(Clone, Copy, Debug, PartialEq, Eq)]
@@ -13,6 +14,19 @@ pub enum Verdict {
     Before,
     /// The held numbers are to be released (cancelled).
     Change,
+}
+
+impl Verdict {
+    /// The cause that answers it (3GPP TS 32.295, clause 6.2.4.6).
+    pub fn cause(self) -> u8
+        ensures { result ≡ verdict_cause self }
+    {
+        match self {
+            Verdict::Wrong => NUMBERS_INCORRECT,
+            Verdict::Before => DUPLICATE_ALREADY_FULFILLED,
+            Verdict::Change => ACCEPTED,
+        }
+    }
 }
 
 /// The verdict on a list, by the states of the numbers that it names.

@@ -9,10 +9,10 @@ use gtpp_elements::Numbers;
 use gtpp_message::{Packet, Transfer};
 use gw_base::{
     Absolute, Absolutes, HistoryAct, HistoryEntry, KeyState, NoMemory, NodeId, Octets, PacketKey,
-    nearest_number, scan,
+    cause, nearest_number, scan,
 };
 use std::alloc::Global;
-use transfer_cmd::{Ask, Verdict, cause, decide, judge};
+use transfer_cmd::{Ask, Verdict, decide, judge};
 
 /// What a gateway answers to a request.
 #[derive(Debug, Drop)]

@@ -1,15 +1,14 @@
-ghost use Rattle.std.specs.Prelude.{◌≡◌, ◌==◌, if◌then◌else◌};
+ghost use Rattle.std.specs.Prelude.{◌≡◌};
 ghost use Rattle.std.specs.List.{list_all};
 ghost use Rattle.ber_frame.specs.Checked.{is_one_value};
 ghost use Rattle.gtpp_message.specs.Packet.{IsPacket};
 ghost use Rattle.gtpp_message.specs.Values.{message_value, packet_value, transfer_value};
-ghost use Rattle.gtpp_message.specs.Writing.{IsSendableMessage, IsSendableTransfer, kind_of};
+ghost use Rattle.gtpp_message.specs.Writing.{IsSendableMessage, IsSendableTransfer};
 ghost use Rattle.cgf_top.specs.PreparedValues.{prepared_value};
-ghost use Rattle.cgf_top.specs.Preparing.{IsWhole, has_values, is_stray, prepared_of, received, refused, requested, sends_values};
-ghost use Rattle.cgf_top.specs.Preparing as value;
+ghost use Rattle.cgf_top.specs.Preparing.{IsWhole, has_values, prepared_of, received, requested, sends_values};
 
-use gtpp_message::{Message, Packet, Reading, Records, Transfer, Why, kind, read};
-use transfer_cmd::cause;
+use gtpp_message::{Message, Packet, Reading, Records, Role, Transfer, Why, read_as};
+use gw_base::cause::CDR_DECODING_ERROR;
 
 /// What a gateway makes of a datagram before it looks at its history.
 #[derive(Debug, Drop)]
@@ -44,84 +43,29 @@ const BER_FORMAT: u8 = 1;
 
 /// Reads a datagram as a gateway does.
 ///
-/// The first condition that holds decides, in this order: those of the header, of which another
-/// version is answered unless the type is that of the answer; the type is unknown; no such message
-/// is sent to a gateway; the body isn't one of the type; a record isn't what its format says. It
-/// takes no memory.
+/// The first condition that holds decides: those of reading as a gateway, in their order, and then
+/// that a record isn't what its format says. It takes no memory.
 pub fn prepare(octets: &[u8]) -> Prepared<'_>
     ensures prepared { prepared_value result ≡ prepared_of octets.now }
     ensures whole { IsWhole (prepared_value result) }
 {
-    match read(octets) {
+    match read_as(Role::Gateway, octets) {
         Reading::Drop(why) => Prepared::Drop(why),
-        Reading::OtherVersion { kind, number } => other_version(kind, number),
-        Reading::Refused {
-            kind,
-            cause,
-            number,
-        } => refused(kind, cause, number),
+        Reading::OtherVersion { number, .. } => Prepared::OtherVersion { number },
+        Reading::Refused { cause, number, .. } => Prepared::Refused { cause, number },
         Reading::Message { number, message } => received(number, message),
     }
-}
-
-/// A message of this type and of another version.
-fn other_version<'a>(kind: u8, number: u16) -> Prepared<'a>
-    ensures prepared { prepared_value result ≡ (if kind == 3 then value.Drop Why.Stray else value.OtherVersion number) }
-    ensures whole { IsWhole (prepared_value result) }
-{
-    if kind == kind::VERSION_NOT_SUPPORTED {
-        Prepared::Drop(Why::Stray)
-    } else {
-        Prepared::OtherVersion { number }
-    }
-}
-
-/// A message of this type with a body that isn't one of the type, for which this cause stands.
-fn refused<'a>(kind: u8, cause: u8, number: u16) -> Prepared<'a>
-    ensures prepared { prepared_value result ≡ (if is_stray kind then value.Drop Why.Stray else refused kind cause number) }
-    ensures whole { IsWhole (prepared_value result) }
-{
-    if is_stray(kind) {
-        Prepared::Drop(Why::Stray)
-    } else if kind == kind::TRANSFER_REQUEST {
-        Prepared::Refused { cause, number }
-    } else {
-        Prepared::Drop(Why::Malformed { cause })
-    }
-}
-
-/// Whether no message of this type is sent to a gateway.
-fn is_stray(kind: u8) -> bool
-    ensures { result ≡ is_stray kind }
-{
-    matches!(
-        kind,
-        kind::VERSION_NOT_SUPPORTED
-            | kind::NODE_ALIVE_RESPONSE
-            | kind::REDIRECTION_REQUEST
-            | kind::REDIRECTION_RESPONSE
-            | kind::TRANSFER_RESPONSE
-    )
 }
 
 /// A message that was read.
 fn received(number: u16, message: Message<'_>) -> Prepared<'_>
     requires { IsSendableMessage (message_value message) }
-    ensures prepared { prepared_value result ≡
-        (if is_stray (kind_of (message_value message.entry)) then value.Drop Why.Stray
-        else received number (message_value message.entry)) }
+    ensures prepared { prepared_value result ≡ received number (message_value message.entry) }
     ensures whole { IsWhole (prepared_value result) }
 {
     match message {
-        Message::EchoRequest | Message::EchoResponse { .. } | Message::NodeAliveRequest { .. } => {
-            Prepared::Path { number, message }
-        }
         Message::TransferRequest { body } => requested(number, body),
-        Message::VersionNotSupported
-        | Message::NodeAliveResponse
-        | Message::RedirectionRequest { .. }
-        | Message::RedirectionResponse { .. }
-        | Message::TransferResponse { .. } => Prepared::Drop(Why::Stray),
+        message => Prepared::Path { number, message },
     }
 }
 
@@ -135,7 +79,7 @@ fn requested(number: u16, body: Transfer<'_>) -> Prepared<'_>
         Prepared::Request { number, body }
     } else {
         Prepared::Refused {
-            cause: cause::CDR_DECODING_ERROR,
+            cause: CDR_DECODING_ERROR,
             number,
         }
     }

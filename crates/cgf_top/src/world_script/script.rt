@@ -1,5 +1,6 @@
 ghost use Rattle.std.specs.Prelude.{◌≡◌, ◌+◌, ◌≤◌, ◌<◌, ◌^◌, ◌++◌, IfOk, OnOk, OnErr, Ok, Err};
-ghost use Rattle.cgf_top.specs.FeedScript.{IsWithinBounds, SaysLines, StepGives, kept, line_step, script_of};
+ghost use Rattle.cgf_top.specs.FeedScript.{IsWithinBounds, line_step, script_of};
+ghost use Rattle.cgf_top.specs.Steps.{SaysLines, StepGives, kept};
 ghost use Rattle.cgf_top.specs.ScriptText.{lent_line, line_size};
 ghost use Rattle.cgf_top.specs.declared.world_script.refusal.Refusal.{Refusal};
 

@@ -1,29 +1,29 @@
-use Rattle.std.proofs.Common.{◌≡◌, ◌⊎◌, inl, inr, ◌+◌, ◌-◌, ◌<◌, ◌≤◌, ℕ, get_or, min, max, arith}
+use Rattle.std.proofs.Common.{◌≡◌, ◌+◌, ◌≤◌, get_or, drop, min, max, ap, arith}
+use Rattle.std.proofs.lemmas.List.{drop_more}
+use Rattle.area_disk.specs.Hull.{low_of_least}
+use Rattle.area_disk.specs.Stretch.{low_of, high_of}
 use Rattle.area_disk.specs.declared.stretch.Stretch.{Stretch}
-use Rattle.area_disk.proofs.Stretches.{outside_at, beside_before, beside_taken}
 use Rattle.area_disk.proofs.stretch.hull.Goals as goal
+
+pub stretches-init : goal.stretches-init
+stretches-init c = record { low = omega (arith, low_of_least c.args.stretches.now); high = omega arith; fits = omega arith }
 
 pub stretches-preserved : goal.stretches-preserved
 stretches-preserved c =
     let none : Stretch = record { at = 0; count = 0 } in
-    let s : Stretch = get_or c.args.stretches.now c.stretches.stretch-index none in
+    let i = c.stretches.stretch-index in
+    let rest = c.args.stretches.now in
+    let s : Stretch = get_or rest i none in
+    let low_more : low_of (drop i rest) ≡ min s.at (low_of (drop (i + 1) rest)) = ap low_of (drop_more rest i none c.stretches-test.true) in
+    let high_more : high_of (drop i rest) ≡ max (s.at + s.count) (high_of (drop (i + 1) rest)) = ap high_of (drop_more rest i none c.stretches-test.true) in
     let low_is : c.min-low.result ≡ min c.stretches.low s.at = c.min-low.ensures in
     let high_is : c.max-high.result ≡ max c.stretches.high (s.at + s.count) = c.max-high.ensures in
-    let fits : s.at + s.count ≤ c.args.length = c.requires.fit c.stretches.stretch-index none c.stretches-test.true in
+    let fits : s.at + s.count ≤ c.args.length = c.requires.fit i none c.stretches-test.true in
     let so_far = c.stretches.invariant in
+    let low_before : min c.stretches.low (low_of (drop i rest)) ≡ low_of rest = so_far.low in
+    let high_before : max c.stretches.high (high_of (drop i rest)) ≡ high_of rest = so_far.high in
     record {
-      ordered = omega (arith, low_is, high_is, so_far.ordered);
+      low = omega (arith, low_more, low_is, low_before);
+      high = omega (arith, high_more, high_is, high_before);
       fits = omega (arith, high_is, fits, so_far.fits);
-      covers_first = λ k out. so_far.covers_first k (beside_before c.stretches.low c.stretches.high s.at (s.at + s.count) c.min-low.result c.max-high.result k low_is high_is out);
-      covers = λ k out rest.
-          so_far.covers k (beside_before c.stretches.low c.stretches.high s.at (s.at + s.count) c.min-low.result c.max-high.result k low_is high_is out)
-          (outside_at c.args.stretches.now c.stretches.stretch-index none k c.stretches-test.true (beside_taken c.stretches.low c.stretches.high s.at (s.at + s.count) c.min-low.result c.max-high.result k low_is high_is out) rest);
     }
-
-beside : (low high at count k : ℕ) → low ≤ high → ((k < low) ⊎ (high ≤ k) → (k < at) ⊎ (at + count ≤ k)) → (k < low) ⊎ (low + (high - low) ≤ k) → (k < at) ⊎ (at + count ≤ k)
-beside low high at count k le each (inl b) = each (inl b)
-beside low high at count k le each (inr a) = each (inr (omega (arith, le, a)))
-
-pub returns-clause-covers_first : goal.returns-clause-covers_first
-returns-clause-covers_first c = λ k out.
-    beside c.stretches.low c.stretches.high c.args.first.at c.args.first.count k c.stretches.invariant.ordered (c.stretches.invariant.covers_first k) out

@@ -18,6 +18,17 @@ pub returns-clause-planned : goal.returns-clause-planned
 returns-clause-planned g c = λ told.
     put_synced (g.A.Area.fate c.args.area.now) c.args.at c.args.from.now c.write_at.result c.sync.result (g.A.Area.fate c.write_at.new.self) (g.A.Area.fate c.sync.new.self) (c.write_at.ensures.planned told) (ap is_err c.in_ok-write_at.was) (c.sync.ensures.planned told)
 
+pub returns-in_err-write_at-clause-any_moment : goal.returns-in_err-write_at-clause-any_moment
+returns-in_err-write_at-clause-any_moment g c = λ only.
+    let area = g.A.Area in
+    let laws = g.met.A.Area g.world.𝓛 g.world.𝓜 g.world.𝓡 ((λ s x. x), (λ x. x), (λ x. x), λ x. x) in
+    let old = c.args.area.now in
+    let mid = c.write_at.new.self in
+    let n = length c.args.from.now in
+    let IsTorn : List ℕ → Type 0 = Torn c.args.at n (area.octets old) in
+    let before = begin area laws.only_now old IsTorn (λ o left. subst (λ (d : List ℕ). IsTorn d) (sym (only o left)) (torn_same c.args.at n (area.octets old))) in
+    step area old old mid IsTorn before c.write_at.ensures.time (torn_write area old mid c.args.at n only c.write_at.ensures.crash)
+
 pub returns-clause-any_moment : goal.returns-clause-any_moment
 returns-clause-any_moment g c = λ only.
     let area = g.A.Area in

@@ -1,4 +1,4 @@
-use Rattle.std.proofs.Common.{◌≡◌, false, true, List, ℕ, sym, ◌∙◌, ap, subst}
+use Rattle.std.proofs.Common.{List, ℕ, sym, ◌∙◌, ap, subst}
 use Rattle.gate_journal.specs.Agreeing.{same_not_starts}
 use Rattle.gate_journal.specs.Format.{header}
 use Rattle.gate_journal.specs.Spelling.{length-header, first-header}

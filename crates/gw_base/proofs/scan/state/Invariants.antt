@@ -1,5 +1,6 @@
 use Rattle.std.proofs.Common.{◌≡◌, ◌≤◌, drop}
-use Rattle.gw_base.specs.History.{scan_from, state_of}
+use Rattle.gw_base.specs.History.{state_of}
+use Rattle.gw_base.proofs.Scans.{scan_from}
 use Rattle.gw_base.proofs.scan.state.Given as goal
 
 -- the scan that goes on from here ends in the key's state

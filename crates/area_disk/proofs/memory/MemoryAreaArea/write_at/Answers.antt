@@ -1,19 +1,16 @@
-use Rattle.std.proofs.Common.{◌≡◌, ◌∙◌, ◌-◌, length, false, ap, subst, arith}
+use Rattle.std.proofs.Common.{◌≡◌, ◌∙◌, ◌-◌, length, ap, subst, arith}
 use Rattle.std.proofs.lemmas.List.{length_push}
 use Rattle.area_disk.specs.Plan.{write_fate, is_failure, after_call, spare_after_write, LeavesAfterWrite, most_unsynced}
-use Rattle.area_disk.specs.Memory.{prospect_of, leaves_of, disk_follows_write, disk_follows_stop, disk_leaves_written, elapses_noted}
+use Rattle.area_disk.specs.Memory.{prospect_of, leaves_of, disk_follows_write, disk_follows_stop, disk_leaves_written, goes_written, goes_stopped_write}
 use Rattle.area_disk.specs.declared.plan.Fate.{Fate}
 use Rattle.area_disk.specs.declared.plan.Fate.TheVariants.{Runs}
-use Rattle.area_disk.specs.Past.{Change}
 use Rattle.area_disk.proofs.memory.MemoryAreaArea.write_at.Goals as goal
 
 pub returns-in-Runs-clause-crash : goal.returns-in-Runs-clause-crash
 returns-in-Runs-clause-crash c = disk_follows_write c.args.self.now.disk c.write.new.self c.args.at c.args.from.now c.requires c.write.ensures.present c.write.ensures.unsynced
 
 pub returns-in-Runs-clause-time : goal.returns-in-Runs-clause-time
-returns-in-Runs-clause-time c =
-    let change : Change = record { at = c.args.at; octets = c.args.from.now; settles = false } in
-    elapses_noted c.args.self.now _ change c.write.ensures.past
+returns-in-Runs-clause-time c = goes_written c.args.self.now _ c.args.at c.args.from.now c.write.ensures.past c.write.ensures.unsynced
 
 pub returns-in-Runs-clause-planned : goal.returns-in-Runs-clause-planned
 returns-in-Runs-clause-planned c = λ told.
@@ -33,4 +30,4 @@ pub returns-in-Stops-clause-crash : goal.returns-in-Stops-clause-crash
 returns-in-Stops-clause-crash c = disk_follows_stop c.args.self.now.disk c.stop.new.self c.in-Stops.outcome c.args.at c.args.from.now c.requires c.stop.ensures.present c.stop.ensures.unsynced
 
 pub returns-in-Stops-clause-time : goal.returns-in-Stops-clause-time
-returns-in-Stops-clause-time c = elapses_noted c.args.self.now _ c.stop.ensures.past.0 c.stop.ensures.past.1
+returns-in-Stops-clause-time c = goes_stopped_write c.args.self.now _ c.args.at c.args.from.now c.fail-in-Stops.result c.stop.ensures.past c.stop.ensures.unsynced (omega arith) c.fail-in-Stops.ensures.fails

@@ -1,4 +1,4 @@
-use Rattle.std.proofs.Common.{inl, inr, ℕ, List, sym, ◌∙◌, ap, subst, arith}
+use Rattle.std.proofs.Common.{inl, inr, ℕ, List, ◌∙◌, ap, subst, arith}
 use Rattle.gate_journal.specs.Agreeing.{same_not_starts}
 use Rattle.gate_journal.specs.Format.{header}
 use Rattle.gate_journal.specs.Moments.{Told}

@@ -1,7 +1,7 @@
 use Rattle.std.proofs.Common.{inl, ⊎_elim, ℕ, List, sym, ◌∙◌, ap, subst, arith}
 use Rattle.gate_journal.specs.Agreeing.{same_not_starts, same_not_differs, one_difference}
 use Rattle.gate_journal.specs.Beginnings.{foreign_not_starts, stands_not_starts}
-use Rattle.gate_journal.specs.Format.{header, Differs, IsBroken}
+use Rattle.gate_journal.specs.Format.{header, IsBroken}
 use Rattle.gate_journal.specs.Moments.{Told}
 use Rattle.gate_journal.specs.Spelling.{length-header, first-header}
 use Rattle.gate_journal.specs.Verdicts.{IsVerdict}

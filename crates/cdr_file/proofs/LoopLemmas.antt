@@ -1,0 +1,79 @@
+-- Reading CDRs one after the other.
+use Rattle.std.proofs.Common.{◌≡◌, ℕ, zero, suc, ◌+◌, ◌-◌, ◌<◌, ◌≤◌, true, false, List, [], ◌∷◌, ◌++◌, length, drop, Option, Some, None, Result, Ok, Err, refl, ap, sym, ◌∙◌, arith, append_assoc}
+use Rattle.std.specs.Prelude.{◌==◌}
+use Rattle.std.proofs.lemmas.Bool.{eqb-true}
+use Rattle.std.proofs.lemmas.List.{append-nil, length-drop}
+use Rattle.cdr_file.specs.Reading.{cdr_end, cdr_fault, cdr_in, cdrs_from, cdrs_up_to, in_front, unless}
+use Rattle.cdr_file.specs.declared.fault.FileFault.{FileFault}
+use Rattle.cdr_file.specs.declared.file.Cdr.{Cdr}
+use Rattle.cdr_file.proofs.CdrLemmas.{none_is, step_is}
+
+-- CDRs in front of others, where these can be read
+abbrev pub all_in_front : List Cdr → Result (List Cdr) FileFault → Result (List Cdr) FileFault
+all_in_front cdrs (Ok others) = Ok (cdrs ++ others)
+all_in_front cdrs (Err fault) = Err fault
+
+pub none_in_front : (read : Result (List Cdr) FileFault) → all_in_front [] read ≡ read
+none_in_front (Ok others) = refl
+none_in_front (Err fault) = refl
+
+one_more : (cdrs : List Cdr) (cdr : Cdr) (read : Result (List Cdr) FileFault) → all_in_front (cdrs ++ cdr ∷ []) read ≡ all_in_front cdrs (in_front cdr read)
+one_more cdrs cdr (Ok others) = ap (λ (all : List Cdr). Ok all) (append_assoc cdrs (cdr ∷ []) others)
+one_more cdrs cdr (Err fault) = refl
+
+-- more CDRs than as many as octets need not be looked for
+enough : (m n place : ℕ) (octets : List ℕ) → length octets ≤ m → length octets ≤ n → cdrs_up_to m place octets ≡ cdrs_up_to n place octets
+enough m n place [] in_m in_n = none_is m place ∙ sym (none_is n place)
+enough zero n place (octet ∷ octets) in_m in_n = absurd (omega arith)
+enough (suc m) zero place (octet ∷ octets) in_m in_n = absurd (omega arith)
+enough (suc m) (suc n) place (octet ∷ octets) in_m in_n =
+    let all : List ℕ = octet ∷ octets in
+    let less : length (drop (cdr_end all) all) ≤ length octets = omega (arith, length-drop (cdr_end all) all) in
+    step_is m place all (omega arith)
+    ∙ ap (λ (read : Result (List Cdr) FileFault). unless (cdr_fault place all) (in_front (cdr_in all) read))
+    (enough m n (place + cdr_end all) (drop (cdr_end all) all) (omega arith) (omega arith))
+    ∙ sym (step_is n place all (omega arith))
+
+from_step : (place : ℕ) (octets : List ℕ) → 0 < length octets →
+    cdrs_from place octets ≡ unless (cdr_fault place octets) (in_front (cdr_in octets) (cdrs_from (place + cdr_end octets) (drop (cdr_end octets) octets)))
+from_step place [] some = absurd (omega arith)
+from_step place (octet ∷ octets) some =
+    let all : List ℕ = octet ∷ octets in
+    let less : length (drop (cdr_end all) all) ≤ length octets = omega (arith, length-drop (cdr_end all) all) in
+    step_is (length octets) place all (omega arith)
+    ∙ ap (λ (read : Result (List Cdr) FileFault). unless (cdr_fault place all) (in_front (cdr_in all) read))
+    (enough (length octets) (length (drop (cdr_end all) all)) (place + cdr_end all) (drop (cdr_end all) all) less (omega arith))
+
+-- whether octets are left
+pub some_left : (octets : List ℕ) → (length octets == 0) ≡ false → 0 < length octets
+some_left [] e = absurd cc
+some_left (octet ∷ octets) e = omega arith
+
+pub none_left : (octets : List ℕ) → (length octets == 0) ≡ true → length octets ≡ 0
+none_left octets e = eqb-true (length octets) 0 e
+
+-- where no octets are left, the CDRs so far are all
+pub all_read : (place : ℕ) (cdrs : List Cdr) (octets : List ℕ) → length octets ≡ 0 → all_in_front cdrs (cdrs_from place octets) ≡ Ok cdrs
+all_read place cdrs [] none = ap (all_in_front cdrs) (none_is 0 place) ∙ ap (λ (all : List Cdr). Ok all) (append-nil cdrs)
+all_read place cdrs (octet ∷ octets) none = absurd (omega arith)
+
+-- a fault is that of the whole
+pub fault_read : (place : ℕ) (cdrs : List Cdr) (octets : List ℕ) (fault : FileFault) → 0 < length octets → cdr_fault place octets ≡ Some fault →
+    all_in_front cdrs (cdrs_from place octets) ≡ Err fault
+fault_read place cdrs octets fault some is =
+    ap (all_in_front cdrs) (from_step place octets some
+    ∙ ap (λ (f : Option FileFault). unless f (in_front (cdr_in octets) (cdrs_from (place + cdr_end octets) (drop (cdr_end octets) octets)))) is)
+
+-- one more CDR was read
+pub cdr_read : (whole place next : ℕ) (octets after : List ℕ) (cdrs : List Cdr) (cdr : Cdr) → 0 < length octets → length octets ≤ whole →
+    place ≡ whole - length octets → cdr_fault place octets ≡ None → cdr_end octets ≤ length octets → cdr ≡ cdr_in octets → after ≡ drop (cdr_end octets) octets →
+    next ≡ whole - length after →
+    all_in_front (cdrs ++ cdr ∷ []) (cdrs_from next after) ≡ all_in_front cdrs (cdrs_from place octets)
+cdr_read whole place next octets after cdrs cdr some within at no_fault end is rest then =
+    let reached : next ≡ place + cdr_end octets = omega (arith, ap length rest, length-drop (cdr_end octets) octets) in
+    one_more cdrs cdr (cdrs_from next after)
+    ∙ ap (λ (n : ℕ). all_in_front cdrs (in_front cdr (cdrs_from n after))) reached
+    ∙ ap (λ (o : List ℕ). all_in_front cdrs (in_front cdr (cdrs_from (place + cdr_end octets) o))) rest
+    ∙ ap (λ (c : Cdr). all_in_front cdrs (in_front c (cdrs_from (place + cdr_end octets) (drop (cdr_end octets) octets)))) is
+    ∙ ap (all_in_front cdrs) (sym (from_step place octets some
+    ∙ ap (λ (f : Option FileFault). unless f (in_front (cdr_in octets) (cdrs_from (place + cdr_end octets) (drop (cdr_end octets) octets)))) no_fault))

@@ -1,0 +1,19 @@
+-- What is said of how the job ended.
+use Rattle.std.specs.Prelude.{ℕ, List, ◌++◌, codes}
+use Rattle.std.specs.Fmt.{decimal}
+use Rattle.cgf_top.specs.declared.status.Status.{Status}
+use Rattle.cgf_top.specs.declared.status.Status.TheVariants as status
+use Rattle.cgf_top.specs.declared.world_script.refusal.InputKind.{InputKind}
+use Rattle.cgf_top.specs.declared.world_script.refusal.InputKind.TheVariants.{TooLong, NotBuilt}
+
+abbrev pub kind_name : InputKind → List ℕ
+kind_name TooLong = codes "TooLong"
+kind_name NotBuilt = codes "NotBuilt"
+
+abbrev pub status_text : Status → List ℕ
+status_text status.Done = codes "cgf: done"
+status_text status.Words = codes "cgf: words"
+status_text (status.Input place kind) = codes "cgf: input " ++ decimal place ++ codes ": " ++ kind_name kind
+status_text status.Read = codes "cgf: read"
+status_text status.Write = codes "cgf: write"
+status_text status.Memory = codes "cgf: memory"

@@ -1,0 +1,146 @@
+-- Lemmas on texts that are cut at a separator, and on words of octets.
+use Rattle.std.proofs.Common.{◌≡◌, ℕ, suc, ◌+◌, ◌<◌, Bool, true, false, ◌==◌, if◌then◌else◌, not, filter, List, [], ◌∷◌, ◌++◌, length, take, drop, get_or, map, Option, Some, None, option_map, option_and_then, refl, ap, sym, ◌∙◌, arith, append_assoc, append-nil, subst, is_some, unwrap_or}
+use Rattle.std.proofs.Math.Seq.{drop-cons, take-suc}
+use Rattle.std.specs.List.{onto_first, slice_split}
+use Rattle.std.specs.Borrow.{Bor}
+use Rattle.route_filter.specs.Words.{cut_at, is_empty, octets_in, octets_of, with_word, words_of}
+
+-- octets in front of what stands before the separator
+abbrev pub in_front : List ℕ → Option (List ℕ × List ℕ) → Option (List ℕ × List ℕ)
+in_front front parts = option_map (λ p. (front ++ p.0, p.1)) parts
+
+one_in_front : (front : List ℕ) (x : ℕ) (parts : Option (List ℕ × List ℕ)) →
+    in_front front (option_map (λ p. (x ∷ p.0, p.1)) parts) ≡ in_front (front ++ x ∷ []) parts
+one_in_front front x None = refl
+one_in_front front x (Some p) = ap (λ xs. Some (xs, p.1)) (sym (append_assoc front (x ∷ []) p.0))
+
+not_here : (separator x : ℕ) (front rest : List ℕ) → (x == separator) ≡ false →
+    in_front front (cut_at separator (x ∷ rest)) ≡ in_front (front ++ x ∷ []) (cut_at separator rest)
+not_here separator x front rest e = rw e (one_in_front front x (cut_at separator rest))
+
+-- the octet at this place is none, so the search goes on after it
+pub step_cut : (separator : ℕ) (xs : List ℕ) (i : ℕ) → i < length xs → (get_or xs i 0 == separator) ≡ false →
+    cut_at separator xs ≡ in_front (take i xs) (cut_at separator (drop i xs)) →
+    cut_at separator xs ≡ in_front (take (i + 1) xs) (cut_at separator (drop (i + 1) xs))
+step_cut separator xs i h ne e =
+    let next : i + 1 ≡ suc i = omega arith in
+    rw next (e ∙ ap (λ r. in_front (take i xs) (cut_at separator r)) (drop-cons xs i 0 h)
+    ∙ not_here separator (get_or xs i 0) (take i xs) (drop (suc i) xs) ne
+    ∙ ap (λ f. in_front f (cut_at separator (drop (suc i) xs))) (sym (take-suc xs i 0 h)))
+
+here : (separator x : ℕ) (front rest : List ℕ) → (x == separator) ≡ true → in_front front (cut_at separator (x ∷ rest)) ≡ Some (front ++ [], rest)
+here separator x front rest e = rw e refl
+
+-- the octet at this place is the separator
+pub found_cut : (separator : ℕ) (xs : List ℕ) (i : ℕ) → i < length xs → (get_or xs i 0 == separator) ≡ true →
+    cut_at separator xs ≡ in_front (take i xs) (cut_at separator (drop i xs)) →
+    cut_at separator xs ≡ Some (take i xs ++ [], drop (i + 1) xs)
+found_cut separator xs i h is e =
+    let next : i + 1 ≡ suc i = omega arith in
+    rw next (e ∙ ap (λ r. in_front (take i xs) (cut_at separator r)) (drop-cons xs i 0 h)
+    ∙ here separator (get_or xs i 0) (take i xs) (drop (suc i) xs) is)
+
+pub found_parts : (separator : ℕ) (xs : List ℕ) (i : ℕ) (before later : List ℕ) → i < length xs → (get_or xs i 0 == separator) ≡ true →
+    cut_at separator xs ≡ in_front (take i xs) (cut_at separator (drop i xs)) →
+    before ≡ take i xs → later ≡ drop (i + 1) xs → Some (before, later) ≡ cut_at separator xs
+found_parts separator xs i before later h is e first second =
+    rw first (rw second (sym (found_cut separator xs i h is e ∙ ap (λ f. Some (f, drop (i + 1) xs)) (append-nil (take i xs)))))
+
+-- Words.
+
+abbrev pub spaces : List ℕ → List (List ℕ)
+spaces xs = slice_split (λ x. x == 32) xs
+
+abbrev pub SplitIs : List ℕ → Option (List ℕ × List ℕ) → Type 0
+SplitIs xs None = spaces xs ≡ xs ∷ []
+SplitIs xs (Some p) = spaces xs ≡ p.0 ∷ spaces p.1
+
+split_after : (x : ℕ) (xs : List ℕ) (b : Bool) → (x == 32) ≡ b → (parts : Option (List ℕ × List ℕ)) → SplitIs xs parts →
+    SplitIs (x ∷ xs) (if b then Some ([], xs) else option_map (λ p. (x ∷ p.0, p.1)) parts)
+split_after x xs true e parts h = rw e refl
+split_after x xs false e None h = rw e (ap (onto_first x) h)
+split_after x xs false e (Some p) h = rw e (ap (onto_first x) h)
+
+split_at : (xs : List ℕ) → SplitIs xs (cut_at 32 xs)
+split_at [] = refl
+split_at (x ∷ xs) = split_after x xs (x == 32) refl (cut_at 32 xs) (split_at xs)
+
+pub with_word-append : (word : List ℕ) (words : List (List ℕ)) → with_word word [] ++ words ≡ with_word word words
+with_word-append [] words = refl
+with_word-append (x ∷ xs) words = refl
+
+filtered : (word : List ℕ) (words : List (List ℕ)) →
+    filter (λ w. not (is_empty w)) (word ∷ words) ≡ with_word word (filter (λ w. not (is_empty w)) words)
+filtered [] words = refl
+filtered (x ∷ xs) words = refl
+
+-- a space stands in the line
+pub words_some : (xs before later : List ℕ) → Some (before, later) ≡ cut_at 32 xs → words_of xs ≡ with_word before (words_of later)
+words_some xs before later e =
+    let h : spaces xs ≡ before ∷ spaces later = subst (SplitIs xs) (sym e) (split_at xs) in
+    ap (filter (λ w. not (is_empty w))) h ∙ filtered before (spaces later)
+
+pub step_words : (front new : List (List ℕ)) (xs before later : List ℕ) (all : List (List ℕ)) → Some (before, later) ≡ cut_at 32 xs →
+    new ≡ front ++ with_word before [] → front ++ words_of xs ≡ all → new ++ words_of later ≡ all
+step_words front new xs before later all e grown so_far =
+    ap (λ n. n ++ words_of later) grown
+    ∙ append_assoc front (with_word before []) (words_of later)
+    ∙ ap (λ w. front ++ w) (with_word-append before (words_of later) ∙ sym (words_some xs before later e))
+    ∙ so_far
+
+-- none does
+pub words_none : (xs : List ℕ) → None ≡ cut_at 32 xs → words_of xs ≡ with_word xs []
+words_none xs e =
+    let h : spaces xs ≡ xs ∷ [] = subst (SplitIs xs) (sym e) (split_at xs) in
+    ap (filter (λ w. not (is_empty w))) h ∙ filtered xs []
+
+-- Octets in hexadecimal.
+
+-- octets in front of those of the words that are left
+abbrev pub after_octets : List ℕ → Option (List ℕ) → Option (List ℕ)
+after_octets front more = option_map (λ octets. front ++ octets) more
+
+one_word : (front octets : List ℕ) (more : Option (List ℕ)) →
+    after_octets front (option_and_then (λ rest. Some (octets ++ rest)) more) ≡ after_octets (front ++ octets) more
+one_word front octets None = refl
+one_word front octets (Some rest) = ap Some (sym (append_assoc front octets rest))
+
+first_octets : (front : List ℕ) (octets : Option (List ℕ)) (more : Option (List ℕ)) → is_some octets ≡ true →
+    after_octets front (option_and_then (λ found. option_and_then (λ rest. Some (found ++ rest)) more) octets) ≡ after_octets (front ++ unwrap_or octets []) more
+first_octets front None more e = cc
+first_octets front (Some octets) more e = one_word front octets more
+
+-- the first word is octets
+pub step_octets : (front new word : List ℕ) (words : List (List ℕ)) → is_some (octets_in word) ≡ true → new ≡ front ++ unwrap_or (octets_in word) [] →
+    after_octets new (octets_of words) ≡ after_octets front (octets_of (word ∷ words))
+step_octets front new word words e grown = rw grown (sym (first_octets front (octets_in word) (octets_of words) e))
+
+no_first : (octets : Option (List ℕ)) (more : Option (List ℕ)) → is_some octets ≡ false →
+    option_and_then (λ found. option_and_then (λ rest. Some (found ++ rest)) more) octets ≡ None
+no_first None more e = refl
+no_first (Some octets) more e = cc
+
+-- the first word is no octets
+pub no_octets : (word : List ℕ) (words : List (List ℕ)) → is_some (octets_in word) ≡ false → octets_of (word ∷ words) ≡ None
+no_octets word words e = no_first (octets_in word) (octets_of words) e
+
+-- the words from a place on begin with the one at that place
+words_from : (words : List (Bor (List ℕ))) (i : ℕ) (d : Bor (List ℕ)) → i < length words →
+    map (λ word. word.now) (drop i words) ≡ (get_or words i d).now ∷ map (λ word. word.now) (drop (i + 1) words)
+words_from words i d h =
+    let next : i + 1 ≡ suc i = omega arith in rw next (ap (map (λ word. word.now)) (drop-cons words i d h))
+
+pub octets_step : (words : List (Bor (List ℕ))) (i : ℕ) (word : Bor (List ℕ)) (front new : List ℕ) → i < length words → word ≡ get_or words i word →
+    is_some (octets_in word.now) ≡ true → new ≡ front ++ unwrap_or (octets_in word.now) [] →
+    after_octets new (octets_of (map (λ w. w.now) (drop (i + 1) words))) ≡ after_octets front (octets_of (map (λ w. w.now) (drop i words)))
+octets_step words i word front new h here e grown =
+    let first : map (λ w. w.now) (drop i words) ≡ word.now ∷ map (λ w. w.now) (drop (i + 1) words) =
+    words_from words i word h ∙ ap (λ (w : Bor (List ℕ)). w.now ∷ map (λ w. w.now) (drop (i + 1) words)) (sym here) in
+    step_octets front new word.now (map (λ w. w.now) (drop (i + 1) words)) e grown ∙ ap (λ ws. after_octets front (octets_of ws)) (sym first)
+
+pub octets_none : (words : List (Bor (List ℕ))) (i : ℕ) (word : Bor (List ℕ)) (front : List ℕ) → i < length words → word ≡ get_or words i word →
+    is_some (octets_in word.now) ≡ false → after_octets front (octets_of (map (λ w. w.now) (drop i words))) ≡ None
+octets_none words i word front h here e =
+    let first : map (λ w. w.now) (drop i words) ≡ word.now ∷ map (λ w. w.now) (drop (i + 1) words) =
+    words_from words i word h ∙ ap (λ (w : Bor (List ℕ)). w.now ∷ map (λ w. w.now) (drop (i + 1) words)) (sym here) in
+    ap (λ ws. after_octets front (octets_of ws)) first ∙ ap (after_octets front) (no_octets word.now (map (λ w. w.now) (drop (i + 1) words)) e)

@@ -1,0 +1,102 @@
+ghost use Rattle.std.specs.Prelude.{◌≡◌, [], length, find, None, OnOk, OnErr, IsSome};
+ghost use Rattle.route_filter.specs.Rules.{AddsRule, matches, rule_of, stream_of};
+
+use crate::rule::Rule;
+use gw_base::{NoMemory, Tag};
+use std::alloc::Global;
+use std::marker::Model;
+
+/// Why a rule isn't added. The rules are as before.
+#[derive(Clone, Copy, Debug, PartialEq, Eq)]
+pub enum RuleFault {
+    /// The line isn't of the form `rule TAG FORMAT STREAM`.
+    Form,
+    /// There are 256 rules already.
+    TooMany,
+    /// There was no memory for the rule.
+    NoMemory,
+}
+
+impl From<NoMemory> for RuleFault {
+    ghost use Rattle.std.specs.Prelude.{◌≡◌};
+    ghost use Rattle.route_filter.specs.declared.rules.RuleFault.TheVariants as fault;
+
+    ghost from_gives = { λ _ e. e ≡ fault.NoMemory };
+
+    fn from(_: NoMemory) -> Self {
+        RuleFault::NoMemory
+    }
+}
+
+/// At most 256 rules, in order.
+#[derive(Drop)]
+pub struct Rules {
+    rules: Vec<Rule>,
+    alloc: Global,
+}
+
+impl Model for Rules {
+    ghost use Rattle.std.specs.Prelude.{List, All, length, ◌≤◌};
+    ghost use Rattle.route_filter.specs.Rules.{last_stream};
+    ghost use Rattle.route_filter.specs.declared.rule.Rule.{Rule};
+
+    ghost Value = { List Rule };
+
+    ghost view = { λ r. r.rules.items };
+
+    ghost invariant = { λ r. length r.rules.items ≤ 256 };
+}
+
+impl Rules {
+    /// The most rules that there may be.
+    pub const MOST: usize = 256;
+
+    /// No rule, so that each record belongs to stream 0.
+    pub fn none(alloc: Global) -> Rules
+        ensures { result ≡ [] }
+    {
+        Rules {
+            rules: Vec::new(alloc),
+            alloc,
+        }
+    }
+
+    /// Adds the rule that a line says, `rule TAG FORMAT STREAM`, after the others. Words are separated by spaces. TAG is
+    /// `*` or the octets of an identifier in hexadecimal, FORMAT is `*` or 0 to 255, of which all from 7 on are one, and
+    /// STREAM is 0 to 15.
+    pub fn add(&mut self, line: &str) -> Result<(), RuleFault>
+        ensures added { OnOk result (AddsRule line.now self.old self.new) }
+        ensures err { OnErr result (self.new ≡ self.old) }
+        ensures form { result ≡ Err RuleFault.Form → rule_of line.now ≡ None }
+        ensures too_many { result ≡ Err RuleFault.TooMany → IsSome (rule_of line.now) × (length self.old ≡ Rules.MOST) }
+    {
+        let Some(rule) = Rule::read(self.alloc, line.as_bytes())? else {
+            return Err(RuleFault::Form);
+        };
+        if self.rules.len() == Rules::MOST {
+            return Err(RuleFault::TooMany);
+        }
+        match self.rules.push(rule) {
+            Ok(()) => Ok(()),
+            Err(_) => Err(RuleFault::NoMemory),
+        }
+    }
+
+    /// The stream of a record with this outer tag of a packet of this format: that of the first rule that matches it,
+    /// and 0 where none does. It takes no memory.
+    pub fn stream(&self, tag: Option<Tag>, format: u8) -> u8
+        ensures { result ≡ stream_of self.now tag format }
+    {
+        match first_match(&self.rules, tag, format) {
+            Some(rule) => rule.stream,
+            None => 0,
+        }
+    }
+}
+
+/// The first rule that matches a record with this tag of a packet of this format.
+fn first_match(rules: &[Rule], tag: Option<Tag>, format: u8) -> Option<Rule>
+    ensures { result ≡ find (λ rule. matches rule tag format) rules.now }
+{
+    rules.iter().copied().find(|rule| rule.matches(tag, format))
+}

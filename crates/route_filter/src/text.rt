@@ -1,0 +1,137 @@
+ghost use Rattle.std.specs.Prelude.{◌≡◌, ◌+◌, ◌++◌, ◌<◌, ◌^◌, [], ◌∷◌, length, map, option_map, IfOk, IfSome, OnOk, true, is_some, unwrap_or};
+ghost use Rattle.std.specs.Char.{is_ascii_digit};
+ghost use Rattle.std.specs.List.{list_all};
+ghost use Rattle.std.specs.Option.{SomeIff};
+ghost use Rattle.std.specs.Str.Parse.{digits_value};
+ghost use Rattle.route_filter.specs.Words.{cut_at, cut_parts, has_decimal_form, is_decimal, number_up_to, octets_in, octets_of, with_word, words_of};
+
+use gw_base::NoMemory;
+use std::alloc::Global;
+
+/// What stands before the first octet that is the separator, and what follows it.
+#[tactic(auto, using(crate::proofs::Cuts::step_cut, crate::proofs::Cuts::found_parts))]
+pub fn cut(octets: &[u8], separator: u8) -> Option<(&[u8], &[u8])>
+    ensures parts { option_map cut_parts result ≡ cut_at separator octets.now }
+    ensures whole { IfSome result (λ parts. length parts.0.now + 1 + length parts.1.now ≡ length octets.now) }
+{
+    for (place, octet) in octets.iter().enumerate() {
+        if *octet == separator {
+            let (before, _) = octets.split_at(place);
+            let (_, after) = octets.split_at(place + 1);
+            return Some((before, after));
+        }
+    }
+    None
+}
+
+/// The words of a line, which spaces separate.
+#[tactic(auto, using(crate::proofs::Cuts::step_words, crate::proofs::Cuts::words_none))]
+pub fn words(alloc: Global, line: &[u8]) -> Result<Vec<&[u8]>, NoMemory>
+    ensures { IfOk result (λ words. map (λ word. word.now) words.items ≡ words_of line.now) }
+{
+    let mut words = Vec::new(alloc);
+    let mut rest = line;
+    while let Some((word, later)) = cut(rest, b' ') {
+        push_word(&mut words, word)?;
+        rest = later;
+    }
+    push_word(&mut words, rest)?;
+    Ok(words)
+}
+
+/// Appends a word, if it isn't empty.
+fn push_word<'a>(words: &mut Vec<&'a [u8]>, word: &'a [u8]) -> Result<(), NoMemory>
+    ensures { OnOk result (map (λ w. w.now) words.new.items
+        ≡ map (λ w. w.now) words.old.items ++ with_word word.now []) }
+{
+    if !word.is_empty() {
+        words.push(word)?;
+    }
+    Ok(())
+}
+
+/// The number that a word says in decimal, where it is at most `most`: digits alone, and no zero before another digit.
+pub fn number(word: &[u8], most: u64) -> Option<u64>
+    ensures { result ≡ number_up_to most word.now }
+{
+    if !is_decimal(word) {
+        return None;
+    }
+    let number = value(word)?;
+    if number <= most { Some(number) } else { None }
+}
+
+fn is_decimal(word: &[u8]) -> bool
+    ensures { result ≡ is_decimal word.now }
+{
+    has_decimal_form(word) && are_digits(word)
+}
+
+fn are_digits(word: &[u8]) -> bool
+    ensures { result ≡ list_all is_ascii_digit word.now }
+{
+    word.iter().all(|digit| digit.is_ascii_digit())
+}
+
+/// Whether there is a digit, and no zero before another one.
+fn has_decimal_form(word: &[u8]) -> bool
+    ensures { result ≡ has_decimal_form word.now }
+{
+    match word {
+        [] => false,
+        [_] => true,
+        [first, ..] => *first != b'0',
+    }
+}
+
+/// The number that digits write, where 64 bits hold it.
+#[tactic(auto, using(crate::proofs::Digits::parsed, crate::proofs::Digits::is_text))]
+fn value(word: &[u8]) -> Option<u64>
+    requires { is_decimal word.now ≡ true }
+    ensures { SomeIff result (digits_value 10 word.now < 2 ^ 64) (digits_value 10 word.now) }
+{
+    let Ok(text) = str::from_utf8(word) else {
+        return None;
+    };
+    text.parse::<u64>().ok()
+}
+
+/// The octets that words spell in hexadecimal, joined; `None` where a word isn't whole octets.
+#[tactic(auto, using(crate::proofs::Cuts::octets_step, crate::proofs::Cuts::octets_none))]
+pub fn octets(alloc: Global, words: &[&[u8]]) -> Result<Option<Vec<u8>>, NoMemory>
+    ensures { IfOk result (λ octets.
+        option_map (λ found. found.items) octets ≡ octets_of (map (λ word. word.now) words.now)) }
+{
+    let mut octets = Vec::new(alloc);
+    for word in words {
+        if !append_decoded(alloc, &mut octets, word)? {
+            return Ok(None);
+        }
+    }
+    Ok(Some(octets))
+}
+
+/// Appends the octets that a word spells in hexadecimal, and says whether it spells any.
+fn append_decoded(alloc: Global, octets: &mut Vec<u8>, word: &[u8]) -> Result<bool, NoMemory>
+    ensures whole { IfOk result (λ whole. whole ≡ is_some (octets_in word.now)) }
+    ensures appended { OnOk result (octets.new.items ≡ octets.old.items ++ unwrap_or (octets_in word.now) []) }
+{
+    match decoded(alloc, word)? {
+        Some(more) => {
+            octets.extend_from_slice(&more)?;
+            Ok(true)
+        }
+        None => Ok(false),
+    }
+}
+
+/// The octets that a word spells in hexadecimal; `None` where it isn't whole octets.
+pub fn decoded(alloc: Global, word: &[u8]) -> Result<Option<Vec<u8>>, NoMemory>
+    ensures { IfOk result (λ octets. option_map (λ found. found.items) octets ≡ octets_in word.now) }
+{
+    match hex::decode(alloc, word) {
+        Ok(octets) => Ok(Some(octets)),
+        Err(hex::FromHexError::OutOfMemory) => Err(NoMemory),
+        Err(_) => Ok(None),
+    }
+}

@@ -1,0 +1,3 @@
+pub mod ArityLemmas
+pub mod ScriptLemmas
+pub mod TextLemmas

@@ -1,0 +1,7 @@
+-- What public clauses cite.
+pub mod Text
+pub mod Address
+pub mod Saying
+pub mod Script
+-- Steps of proofs.
+pub mod Outcome

@@ -1,0 +1,76 @@
+ghost use Rattle.std.specs.Prelude.{◌≡◌, ◌<◌, ◌≤◌, IfSome};
+ghost use Rattle.world_script.specs.Address.{address_of, ip_of, number_between, offset_of, signed, two_digits};
+
+use gw_base::Addr;
+use route_filter::{cut, number};
+
+/// The number that a word says in decimal, where it is from `least` to `most`.
+pub fn number_between(least: u64, most: u64, word: &[u8]) -> Option<u64>
+    ensures { result ≡ number_between least most word.now }
+{
+    let number = number(word, most)?;
+    if least <= number { Some(number) } else { None }
+}
+
+/// The IPv4 address and port that a word says.
+pub fn address(word: &[u8]) -> Option<Addr>
+    ensures { result ≡ address_of word.now }
+{
+    let (ip, port) = cut(word, b':')?;
+    let ip = ipv4(ip)?;
+    let port = number(port, 65_535)? as u16;
+    Some(Addr { ip, port })
+}
+
+fn ipv4(text: &[u8]) -> Option<u32>
+    ensures { result ≡ ip_of text.now }
+{
+    let (first, rest) = cut(text, b'.')?;
+    let (second, rest) = cut(rest, b'.')?;
+    let (third, fourth) = cut(rest, b'.')?;
+    let a = number(first, 255)?;
+    let b = number(second, 255)?;
+    let c = number(third, 255)?;
+    let d = number(fourth, 255)?;
+    Some((16_777_216 * a + 65_536 * b + 256 * c + d) as u32)
+}
+
+/// The offset from UTC in minutes that a word says: `+HH:MM` or `-HH:MM`, at most 15:59.
+pub fn offset(word: &[u8]) -> Option<i16>
+    ensures { result ≡ offset_of word.now }
+{
+    let &[sign, a, b, colon, c, d] = word else {
+        return None;
+    };
+    if colon != b':' {
+        return None;
+    }
+    let hours = two_digits(15, a, b)?;
+    let minutes = two_digits(59, c, d)?;
+    signed(sign, hours * 60 + minutes)
+}
+
+/// The number that two digits say, where it is at most `most`.
+fn two_digits(most: u16, tens: u8, ones: u8) -> Option<u16>
+    ensures value { result ≡ two_digits most tens ones }
+    ensures within { IfSome result (λ number. number ≤ most) }
+{
+    if !tens.is_ascii_digit() || !ones.is_ascii_digit() {
+        return None;
+    }
+    let number = u16::from(tens - b'0') * 10 + u16::from(ones - b'0');
+    if number <= most { Some(number) } else { None }
+}
+
+/// A number after a plus or a minus.
+fn signed(sign: u8, number: u16) -> Option<i16>
+    requires { number < 1000 }
+    ensures { result ≡ signed sign number }
+{
+    let number = number as i16;
+    match sign {
+        b'+' => Some(number),
+        b'-' => Some(-number),
+        _ => None,
+    }
+}
