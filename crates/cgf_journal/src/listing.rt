@@ -107,7 +107,7 @@ impl Listing {
         ensures next { IfOk result (λ next. next ≡ gate + 5 + length content.now) }
         ensures taken { (some : List (List ℕ)) → AreTakenIn size gate some self.old.places.items self.old.tally → IsJudged J.Judge size judge.old (entries_in some) →
             OnOk result (AreTakenIn size (gate + 5 + length content.now) (some ++ content.now ∷ []) self.new.places.items self.new.tally
-                × IsJudged J.Judge size judge.new (entries_in (some ++ content.now ∷ []))) }
+            × IsJudged J.Judge size judge.new (entries_in (some ++ content.now ∷ []))) }
         ensures unfit { (some : List (List ℕ)) → AreTakenIn size gate some self.old.places.items self.old.tally → IsJudged J.Judge size judge.old (entries_in some) →
             (at : ℕ) → result ≡ Err (OpenFault.NotOurs at) → (at ≡ gate) × (AreFit J.fits size (some ++ content.now ∷ []) → ⊥) }
         ensures device { result ≢ Err OpenFault.Device }

@@ -10,8 +10,7 @@ use Rattle.cgf_journal.proofs.listing.Listing.take_fit.Goals as goal
 
 pub returns-in-Ok-true-clause-taken : goal.returns-in-Ok-true-clause-taken
 returns-in-Ok-true-clause-taken g c = λ some taken_in judged.
-    let ok : c.judge_all.result ≡ Ok true = c.in-Ok-true.is ∙ ap Ok c.in-Ok-true.field-0-test in
-    (
+    let ok : c.judge_all.result ≡ Ok true = c.in-Ok-true.is ∙ ap Ok c.in-Ok-true.field-0-test in (
       c.in_ok-next.ensures.taken some taken_in,
       subst (λ (h : List HistoryEntry). IsJudged g.J.Judge c.args.size c.judge_all.new.judge h) (sym (entries_in-push some c.args.content.now)) (c.judge_all.ensures.fit (entries_in some) ok judged),
     )
@@ -19,11 +18,10 @@ returns-in-Ok-true-clause-taken g c = λ some taken_in judged.
 pub returns-in-Ok-false-clause-unfit : goal.returns-in-Ok-false-clause-unfit
 returns-in-Ok-false-clause-unfit g c = λ some taken_in judged at is.
     let refused : c.judge_all.result ≡ Ok false = c.in-Ok-false.is ∙ ap Ok c.in-Ok-false.field-0-test in
-    let same : at ≡ c.args.gate = cc in
-    (
+    let same : at ≡ c.args.gate = cc in (
       same,
       λ (are : AreFit g.J.Judge.fits c.args.size _).
-      c.judge_all.ensures.unfit (entries_in some) refused judged (subst (λ (h : List HistoryEntry). AllFit (g.J.Judge.fits c.args.size) [] h) (entries_in-push some c.args.content.now) are.fit),
+          c.judge_all.ensures.unfit (entries_in some) refused judged (subst (λ (h : List HistoryEntry). AllFit (g.J.Judge.fits c.args.size) [] h) (entries_in-push some c.args.content.now) are.fit),
     )
 
 pub returns-in_err-next-clause-unfit : goal.returns-in_err-next-clause-unfit
