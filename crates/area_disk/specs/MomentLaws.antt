@@ -1,6 +1,8 @@
 -- How what a crash leaves goes on over the calls of an area.
 use Rattle.std.proofs.Common.{inl, inr, ⊎_elim, ◌≡◌, ℕ, ◌≤◌, List, refl, subst, ◌∙◌, arith}
 use Rattle.std.specs.Prelude.{IsTrue}
+use Rattle.area_disk.specs.Course.{ReadOn}
+use Rattle.area_disk.specs.CourseLaws.{read_on_trans}
 use Rattle.area_disk.specs.Disk.{Only, Torn, Follows, Within}
 use Rattle.area_disk.specs.Moments.{Leaves, Kept}
 use Rattle.area_disk.specs.Record.{Step, GoesOn}
@@ -92,7 +94,13 @@ module _ {A : Type 0} (area : Ghosts A) where
   follow old mid new P one two = join old mid new P one (widen mid new (area.may_leave mid) P one.now two)
 
   pub kept_refl : OnlyNow → (a : A) → Kept area a a
-  kept_refl only_now a = record { size = refl; octets = refl; leaves = begin only_now a (area.may_leave a) (λ c left. left); calls = λ told. refl }
+  kept_refl only_now a = record {
+    size = refl;
+    octets = refl;
+    leaves = begin only_now a (area.may_leave a) (λ c left. left);
+    calls = λ told. refl;
+    planned = λ told. record { schedule = refl; spare = refl; leaves = λ outcome. refl };
+  }
 
   pub kept_trans : (a b c : A) → Kept area a b → Kept area b c → Kept area a c
   kept_trans a b c one two = record {
@@ -100,6 +108,7 @@ module _ {A : Type 0} (area : Ghosts A) where
     octets = two.octets ∙ one.octets;
     leaves = follow a b c (area.may_leave a) one.leaves two.leaves;
     calls = λ told. two.calls told ∙ one.calls told;
+    planned = λ told. read_on_trans (area.fate a) (area.fate b) (area.fate c) (one.planned told) (two.planned told);
   }
 
   -- a call that leaves no more than before
@@ -109,10 +118,11 @@ module _ {A : Type 0} (area : Ghosts A) where
 
   -- a read changes nothing
   pub kept_read : {made : Step} → OnlyNow → (old new : A) → area.size new ≡ area.size old → area.octets new ≡ area.octets old → Within (area.may_leave old) (area.may_leave new)
-      → Goes made old new → (IsTrue area.tells_calls → area.calls new ≡ area.calls old) → Kept area old new
-  kept_read only_now old new size octets within time calls = record {
+      → Goes made old new → (IsTrue area.tells_calls → area.calls new ≡ area.calls old) → (IsTrue area.tells_fate → ReadOn (area.fate old) (area.fate new)) → Kept area old new
+  kept_read only_now old new size octets within time calls planned = record {
     size = size;
     octets = octets;
     leaves = kept_leaves only_now old new within time;
     calls = calls;
+    planned = planned;
   }

@@ -1,5 +1,6 @@
 -- What a crash leaves at any moment of a run of calls on an area.
 use Rattle.std.specs.Prelude.{◌≡◌, ◌⊎◌, ℕ, ◌≤◌, List, IsTrue, Result, OnOk, OnErr}
+use Rattle.area_disk.specs.Course.{ReadOn}
 use Rattle.area_disk.specs.Disk.{counted}
 use Rattle.area_disk.specs.declared.area.Area.{Ghosts}
 
@@ -31,9 +32,10 @@ pub record Calls {T E : Type 0} (n before now : ℕ) (result : Result T E) : Typ
   pub ok : OnOk result (now ≡ counted n before)
   pub failed : OnErr result (RoseUpTo n before now)
 
--- a call changed nothing that a read gives or that a crash may leave, and made no counted call
+-- A call changed nothing that a read gives or that a crash may leave, and made no counted call: at most it read.
 pub record Kept {A : Type 0} (area : Ghosts A) (old new : A) : Type 0 where
   pub size : area.size new ≡ area.size old
   pub octets : area.octets new ≡ area.octets old
   pub leaves : Leaves area old new (area.may_leave old)
   pub calls : IsTrue area.tells_calls → area.calls new ≡ area.calls old
+  pub planned : IsTrue area.tells_fate → ReadOn (area.fate old) (area.fate new)

@@ -19,7 +19,8 @@ use Rattle.cgf_journal.specs.Opening.{AreListed, IsTakenUpTo}
 use Rattle.cgf_journal.specs.Sound.{EndsBy, IsSound, is_founded, places_behind, places_from}
 use Rattle.cgf_journal.specs.Tally.{Tallies, TallyValue, tally_behind_all, tally_of}
 use Rattle.cgf_journal.proofs.Tallies.{tally_of-costs}
-use Rattle.cgf_journal.proofs.Placing.{places_from-ends}
+use Rattle.cgf_journal.proofs.Entries.{costs_at_least}
+use Rattle.cgf_journal.proofs.Placing.{length-places_behind, places_from-ends}
 use Rattle.cgf_journal.proofs.Sounds.{none_of}
 use Rattle.cgf_journal.proofs.Listings.{no_more}
 
@@ -51,7 +52,7 @@ places_end gate (batch ∷ some) end contents le =
     (places_end (gate + 5 + length batch) some end (All-tail IsContent batch some contents) (omega (arith, le)))
 
 module _ {A : Type 0} {tells : Ghosts A} (journal : Journal A tells) (size : ℕ) (places : List Place) (tally : Tallies) (sized : size ≡ tells.size (area_of journal))
-    (ends : Told tells → end journal ≡ end_of (batches journal)) (taken_in : IsTakenUpTo (AreListed tells (batches journal)) size (end journal) places tally) where
+    (ends : Told tells → end journal ≡ end_of (batches journal)) {Judged : List HistoryEntry → Type 0} (taken_in : IsTakenUpTo (AreListed tells (batches journal)) Judged size (end journal) places tally) where
   some : List (List ℕ)
   some = taken_in.some
 
@@ -62,6 +63,9 @@ module _ {A : Type 0} {tells : Ghosts A} (journal : Journal A tells) (size : ℕ
 
   pub all_batches : Told tells → AreBatches size (batches journal)
   all_batches told = subst (λ (l : List (List ℕ)). AreBatches size l) (sym (all_taken told)) taken_in.taken_in.are_batches
+
+  pub all_judged : Told tells → Judged (entries_in (batches journal))
+  all_judged told = subst (λ (l : List (List ℕ)). Judged (entries_in l)) (sym (all_taken told)) taken_in.judged
 
   costs_are : tally.live.costs ≡ costs_of (entries_in taken_in.some)
   costs_are = ap (λ (t : TallyValue). t.costs) taken_in.taken_in.live ∙ tally_of-costs (entries_in taken_in.some)
@@ -85,6 +89,7 @@ module _ {A : Type 0} {tells : Ghosts A} (journal : Journal A tells) (size : ℕ
             subst (All (EndsBy (end journal))) (sym (all ∙ taken_in.taken_in.placed))
             (places_end header_length taken_in.some (end journal) taken_in.taken_in.are_batches.contents (omega (arith, taken_in.taken_in.gate_is)));
         taken = omega (arith, taken_in.taken_in.gate_is, costs_are, taken_costs taken_in.some taken_in.taken_in.are_batches.contents);
+        dear = omega (arith, costs_are, ap (λ (l : List Place). length l) taken_in.taken_in.placed, length-places_behind header_length taken_in.some, costs_at_least (entries_in taken_in.some));
         within = omega (arith, sized, costs_are, taken_in.taken_in.are_batches.costs);
         are_batches = λ told. subst (λ n. AreBatches n (batches journal)) sized (all_batches told);
         firm_tally = λ told. taken_in.taken_in.live ∙ ap (λ (l : List (List ℕ)). tally_of (entries_in l)) (sym (all_taken told));

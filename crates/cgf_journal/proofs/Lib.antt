@@ -1,7 +1,10 @@
 pub mod Changes
+pub mod Coming
 pub mod Entries
+pub mod Fitting
 pub mod Founding
 pub mod KeysLemmas
+pub mod Verdicts
 pub mod KeptSums
 pub mod Listings
 pub mod Meanings

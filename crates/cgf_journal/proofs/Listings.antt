@@ -6,7 +6,7 @@ use Rattle.std.proofs.lemmas.List.Elements.{All-drop, All-head}
 use Rattle.gw_base.specs.declared.history.HistoryEntry.{HistoryEntry}
 use Rattle.gw_base.specs.declared.place.Place.{Place}
 use Rattle.gate_journal.specs.Format.{end_of, header_length, taken}
-use Rattle.gate_journal.proofs.Spelling.{taken-append}
+use Rattle.gate_journal.specs.Spelling.{taken-append}
 use Rattle.entry_codec.specs.Content.{IsContent, entries_of}
 use Rattle.entry_codec.specs.Room.{capacity_of, costs_of}
 use Rattle.cgf_journal.specs.Format.{AreBatches, entries_in}
@@ -72,27 +72,29 @@ no_more some [] all gate is at last = is ∙ append-nil some
 no_more some (batch ∷ rest) all gate is at last = absurd (omega (arith, at, last, ap taken is, taken-append some (batch ∷ rest)))
 
 -- one more of a list is taken in
-pub up_to_next : (Listed : List (List ℕ) → Type 0) (size gate next : ℕ) (some : List (List ℕ)) (batch : List ℕ) (places : List Place) (tally : Tallies)
-    → AreTakenIn size next (some ++ batch ∷ []) places tally → ((all : List (List ℕ)) → Listed all → (rest : List (List ℕ)) × (all ≡ some ++ batch ∷ rest))
-    → IsTakenUpTo Listed size next places tally
-up_to_next Listed size gate next some batch places tally taken_in begins = record {
+pub up_to_next : (Listed : List (List ℕ) → Type 0) (Judged : List HistoryEntry → Type 0) (size gate next : ℕ) (some : List (List ℕ)) (batch : List ℕ) (places : List Place) (tally : Tallies)
+    → AreTakenIn size next (some ++ batch ∷ []) places tally → Judged (entries_in (some ++ batch ∷ [])) → ((all : List (List ℕ)) → Listed all → (rest : List (List ℕ)) × (all ≡ some ++ batch ∷ rest))
+    → IsTakenUpTo Listed Judged size next places tally
+up_to_next Listed Judged size gate next some batch places tally taken_in judged begins = record {
   some = some ++ batch ∷ [];
   taken_in = taken_in;
+  judged = judged;
   begins = λ all listed. let found = begins all listed in (found.0, found.1 ∙ sym (append_assoc some (batch ∷ []) found.0));
 }
 
 -- at first none is
-pub up_to_first : (Listed : List (List ℕ) → Type 0) (size : ℕ) (places : List Place) (tally : Tallies) → AreTakenIn size header_length [] places tally → IsTakenUpTo Listed size header_length places tally
-up_to_first Listed size places tally taken_in = record { some = []; taken_in = taken_in; begins = λ all listed. (all, refl) }
+pub up_to_first : (Listed : List (List ℕ) → Type 0) (Judged : List HistoryEntry → Type 0) (size : ℕ) (places : List Place) (tally : Tallies) → AreTakenIn size header_length [] places tally → Judged []
+    → IsTakenUpTo Listed Judged size header_length places tally
+up_to_first Listed Judged size places tally taken_in judged = record { some = []; taken_in = taken_in; judged = judged; begins = λ all listed. (all, refl) }
 
 -- where a batch was taken in and what is listed goes on with it, the listing has come to the next gate
-pub taken_next : {E : Type 0} (Listed : List (List ℕ) → Type 0) (size gate : ℕ) (some : List (List ℕ)) (batch : List ℕ) (result : Result ℕ E) (places : List Place) (tally : Tallies)
-    → IfOk result (λ next. next ≡ gate + 5 + length batch) → OnOk result (AreTakenIn size (gate + 5 + length batch) (some ++ batch ∷ []) places tally)
+pub taken_next : {E : Type 0} (Listed : List (List ℕ) → Type 0) (Judged : List HistoryEntry → Type 0) (size gate : ℕ) (some : List (List ℕ)) (batch : List ℕ) (result : Result ℕ E) (places : List Place) (tally : Tallies)
+    → IfOk result (λ next. next ≡ gate + 5 + length batch) → OnOk result (AreTakenIn size (gate + 5 + length batch) (some ++ batch ∷ []) places tally × Judged (entries_in (some ++ batch ∷ [])))
     → ((all : List (List ℕ)) → Listed all → (rest : List (List ℕ)) × (all ≡ some ++ batch ∷ rest))
-    → IfOk result (λ next. IsTakenUpTo Listed size next places tally)
-taken_next Listed size gate some batch (Ok next) places tally is taken_in begins =
-    up_to_next Listed size gate next some batch places tally (subst (λ n. AreTakenIn size n (some ++ batch ∷ []) places tally) (sym is) taken_in) begins
-taken_next Listed size gate some batch (Err e) places tally is taken_in begins = tt
+    → IfOk result (λ next. IsTakenUpTo Listed Judged size next places tally)
+taken_next Listed Judged size gate some batch (Ok next) places tally is taken begins =
+    up_to_next Listed Judged size gate next some batch places tally (subst (λ n. AreTakenIn size n (some ++ batch ∷ []) places tally) (sym is) taken.0) taken.1 begins
+taken_next Listed Judged size gate some batch (Err e) places tally is taken_in begins = tt
 
 -- a batch that was read whole
 pub whole_read : (batch into : List ℕ) (n start : ℕ) → n ≡ length batch → start ≡ 0 → into ≡ take n (drop start batch) → into ≡ batch
@@ -115,10 +117,10 @@ read_next all some more gate end is at last before found place n into answer fin
     same_pair a b c d e = let both : ◌≡◌ {A = ℕ × ℕ} (a, b) (c, d) = ap (λ (o : Option (ℕ × ℕ)). unwrap_or o (a, b)) e in (ap (λ (p : ℕ × ℕ). p.0) both, ap (λ (p : ℕ × ℕ). p.1) both)
 
 -- a list that stops there breaks at this gate
-pub breaks_here : (size gate at : ℕ) (all some : List (List ℕ)) (batch : List ℕ) (rest : List (List ℕ)) → gate ≡ end_of some → AreBatches size some → all ≡ some ++ batch ∷ rest
-    → (at ≡ gate) × (AreBatches size (some ++ batch ∷ []) → ⊥) → BreaksAt size all at
-breaks_here size gate at all some batch rest gate_is are is found =
-    record { some = some; batch = batch; more = rest; listed = is; place = found.0 ∙ gate_is; are_batches = are; unfit = found.1 }
+pub breaks_here : (Are : List (List ℕ) → Type 0) (gate at : ℕ) (all some : List (List ℕ)) (batch : List ℕ) (rest : List (List ℕ)) → gate ≡ end_of some → Are some → all ≡ some ++ batch ∷ rest
+    → (at ≡ gate) × (Are (some ++ batch ∷ []) → ⊥) → BreaksAt Are all at
+breaks_here Are gate at all some batch rest gate_is are is found =
+    record { some = some; batch = batch; more = rest; listed = is; place = found.0 ∙ gate_is; are = are; unfit = found.1 }
 
 -- what was taken in costs at most the capacity
 pub costs_within : (size gate : ℕ) (some : List (List ℕ)) (places : List Place) (tally : Tallies) → AreTakenIn size gate some places tally → tally.live.costs ≤ capacity_of size

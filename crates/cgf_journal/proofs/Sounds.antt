@@ -14,12 +14,13 @@ use Rattle.gate_journal.specs.declared.journal.Journal.{Journal}
 use Rattle.entry_codec.specs.Content.{AreEntries, entries_of, spelled}
 use Rattle.entry_codec.specs.Room.{capacity_of, costs_of}
 use Rattle.entry_codec.specs.Spelling.{HasSpelling, cost_of, entry_length, spelling}
-use Rattle.entry_codec.proofs.Contents.{costs_of-spelled, entries_of_entries, more_entries, no_entries, one_entry}
+use Rattle.entry_codec.specs.Laws.{costs_of-spelled, more_entries, no_entries, one_entry}
+use Rattle.entry_codec.proofs.Contents.{entries_of_entries}
 use Rattle.entry_codec.specs.Laws.{length_of_spelling}
-use Rattle.cgf_journal.specs.Format.{AreBatches, entries_in}
+use Rattle.cgf_journal.specs.Format.{AreBatches, cheapest_entry, entries_in}
 use Rattle.cgf_journal.specs.Sound.{EndsBy, IsSound, is_founded, places_behind, places_from}
 use Rattle.cgf_journal.specs.Tally.{Tallies, TallyValue, tally_behind, tally_behind_all, tally_of}
-use Rattle.cgf_journal.proofs.Entries.{are_batches-push, entries_in-push}
+use Rattle.cgf_journal.proofs.Entries.{are_batches-push, costs_at_least, entries_in-push}
 use Rattle.cgf_journal.proofs.Placing.{length-places_from, places_behind-push, places_from-ends, places_from-push}
 use Rattle.cgf_journal.proofs.Tallies.{tally_all, tally_all-append, tally_all-costs, tally_of-costs}
 
@@ -44,6 +45,10 @@ module _ {A : Type 0} {tells : Ghosts A} (journal : Journal A tells) (size : ℕ
 
   pub waiting_count : length places ≡ firm + length pending
   waiting_count = omega (arith, sound.firm_places, length-drop firm places, ap length sound.waiting_placed, length-places_from (end journal + 5) pending)
+
+  -- and no entry costs less than 30
+  pub dear_places : cheapest_entry * length places ≤ tally.live.costs
+  dear_places = omega (arith, sound.dear, waiting_count, ap (λ (t : TallyValue). t.costs) sound.live_tally, tally_all-costs tally.firm pending, costs_at_least pending)
 
   pub none_waits : waiting.octets ≡ [] → length places ≡ firm
   none_waits none = omega (arith, waiting_count, ap (λ (l : List ℕ). length (entries_of l)) none, ap length none_of)
@@ -92,6 +97,7 @@ module _ {A : Type 0} {tells : Ghosts A} (journal : Journal A tells) (size : ℕ
       firm_places = sound.firm_places;
       firm_ends = subst (λ n. All (EndsBy n) (take firm places)) (sym same_end) sound.firm_ends;
       taken = omega (arith, sound.taken, same_end);
+      dear = sound.dear;
       within = omega (arith, sound.within, same_size);
       are_batches = λ told. subst (λ n. AreBatches n (batches new)) (sym same_size) (subst (λ (bs : List (List ℕ)). AreBatches (tells.size (area_of journal)) bs) (sym (same_list told)) (sound.are_batches told));
       firm_tally = λ told. sound.firm_tally told ∙ ap (λ (bs : List (List ℕ)). tally_of (entries_in bs)) (sym (same_list told));
@@ -116,6 +122,7 @@ module _ {A : Type 0} {tells : Ghosts A} (journal : Journal A tells) (size : ℕ
           firm_places = omega (arith, length-firm);
           firm_ends = subst (All (EndsBy (end new))) (sym again) (subst (λ n. All (EndsBy n) (take firm places)) (sym same_end) sound.firm_ends);
           taken = omega (arith, sound.taken, same_end);
+          dear = sound.dear;
           within = omega (arith, sound.within, live_costs, same_size);
           are_batches = λ told. subst (λ n. AreBatches n (batches new)) (sym same_size) (subst (λ (bs : List (List ℕ)). AreBatches (tells.size (area_of journal)) bs) (sym (same_list told)) (sound.are_batches told));
           firm_tally = λ told. sound.firm_tally told ∙ ap (λ (bs : List (List ℕ)). tally_of (entries_in bs)) (sym (same_list told));
@@ -159,6 +166,7 @@ module _ {A : Type 0} {tells : Ghosts A} (journal : Journal A tells) (size : ℕ
           firm_places = omega arith;
           firm_ends = subst (All (EndsBy (end new))) (sym all) (all_end (end new) (omega (arith, end_is)));
           taken = omega (arith, sound.taken, end_is, live_costs, some_wait some);
+          dear = dear_places;
           within = omega (arith, sound.within, same_size);
           are_batches = λ told. subst (λ n. AreBatches n (batches new)) (sym same_size) (subst (λ (bs : List (List ℕ)). AreBatches (tells.size (area_of journal)) bs) (sym (list told)) (one_more_batch told some));
           firm_tally = λ told. live_is told ∙ ap (λ (h : List HistoryEntry). tally_of h) (sym (firm_grows told));
@@ -205,6 +213,7 @@ module _ {A : Type 0} {tells : Ghosts A} (journal : Journal A tells) (size : ℕ
             firm_places = omega (arith, sound.firm_places, length-append places (place ∷ []));
             firm_ends = subst (All (EndsBy (end journal))) (sym front) sound.firm_ends;
             taken = sound.taken;
+            dear = sound.dear;
             within = omega (arith, costs);
             are_batches = sound.are_batches;
             firm_tally = sound.firm_tally;

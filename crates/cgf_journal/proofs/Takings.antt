@@ -9,7 +9,8 @@ use Rattle.entry_codec.specs.Content.{AreEntries, IsContent, entries_of, spelled
 use Rattle.entry_codec.specs.Fault.{BeginsWith}
 use Rattle.entry_codec.specs.Room.{costs_of}
 use Rattle.entry_codec.specs.Spelling.{HasSpelling, entry_length, spelling}
-use Rattle.entry_codec.proofs.Contents.{costs_of-spelled, divided_entries, entries_of_entries, more_entries, no_entries, one_entry}
+use Rattle.entry_codec.specs.Laws.{costs_of-spelled, more_entries, no_entries, one_entry}
+use Rattle.entry_codec.proofs.Contents.{divided_entries, entries_of_entries}
 use Rattle.entry_codec.specs.Laws.{length_of_spelling}
 use Rattle.cgf_journal.specs.Contents.{IsTakenIn}
 use Rattle.cgf_journal.specs.Sound.{places_from}

@@ -1,6 +1,7 @@
 -- What a trail tells of its entries.
-use Rattle.std.proofs.Common.{◌≡◌, ◌≢◌, ℕ, ◌+◌, ◌<◌, ◌≤◌, Bool, true, false, List, [], ◌∷◌, ◌++◌, length, take, drop, refl, sym, ◌∙◌, ap, subst, arith, length-append}
+use Rattle.std.proofs.Common.{◌≡◌, ◌≢◌, ◌⊎◌, inl, inr, ℕ, ◌+◌, ◌-◌, ◌*◌, ◌<◌, ◌≤◌, Bool, true, false, List, [], ◌∷◌, ◌++◌, length, take, drop, refl, sym, ◌∙◌, ap, subst, arith, length-append}
 use Rattle.std.specs.Prelude.{Err, IsTrue, Ok, OnErr, Result, Some, if◌then◌else◌, nat_le, slice_get}
+use Rattle.std.proofs.lemmas.Bool.{cases_lt}
 use Rattle.std.proofs.lemmas.Bool.Decides.{nat_tests}
 use Rattle.std.proofs.lemmas.List.{append-nil, length-take-le, take-append-drop}
 use Rattle.std.proofs.lemmas.Option.{get_or_from_slice_get, slice_get_within}
@@ -13,17 +14,20 @@ use Rattle.gate_journal.specs.Format.{header_length}
 use Rattle.gate_journal.specs.Journal as journal
 use Rattle.gate_journal.specs.Moments.{Leaves, Told}
 use Rattle.gate_journal.specs.State.{Keeps}
-use Rattle.gate_journal.proofs.Runs.{both, widen}
+use Rattle.area_disk.specs.MomentLaws.{OnlyNow, begin, both, widen}
 use Rattle.entry_codec.specs.Content.{entries_of, spelled}
-use Rattle.entry_codec.specs.Room.{capacity_of}
-use Rattle.entry_codec.specs.Spelling.{cost_of}
-use Rattle.cgf_journal.specs.Format.{StandsFor, entries_in}
+use Rattle.entry_codec.specs.Room.{capacity_of, costs_of}
+use Rattle.entry_codec.specs.Spelling.{HasSpelling, cost_of, entry_length}
+use Rattle.entry_codec.specs.Laws.{costs_of-spelled}
+use Rattle.cgf_journal.specs.Format.{StandsFor, cheapest_entry, entries_in}
 use Rattle.cgf_journal.specs.Sound.{EndsBy}
-use Rattle.cgf_journal.specs.Tally.{TallyValue, has_room_behind, promised_by, tally_behind, tally_of}
-use Rattle.cgf_journal.specs.Trail.{IsKept, IsPlaceOf, IsSettled, StandsForOr, area_of, entries, firm_entries, header_of, is_closed, left_by_stop, length_of, stop_stands, tally, waiting, waiting_octets}
+use Rattle.cgf_journal.specs.Outcomes.{IsKept}
+use Rattle.cgf_journal.specs.Tally.{TallyValue, free_beside, has_room_behind, promised_by, tally_behind, tally_of}
+use Rattle.cgf_journal.specs.Trail.{IsAtRest, IsFirmPlaceOf, IsPlaceOf, IsSettled, StandsForOr, area_of, entries, firm_entries, free_of, has_room_of, header_of, is_closed, left_by_stop, length_of, stop_stands, tally, waiting, waiting_octets}
 use Rattle.cgf_journal.specs.declared.trail.Trail.{Trail}
-use Rattle.cgf_journal.proofs.Placing.{IsAmong, IsFound, behind_is, get_left, length-places_behind}
-use Rattle.cgf_journal.proofs.Sounds.{live_is, none_of, one_more_batch, waiting_count}
+use Rattle.cgf_journal.proofs.Entries.{each_spelled}
+use Rattle.cgf_journal.proofs.Placing.{IsAmong, IsFound, behind_is, from_is, get_left, get_right, length-places_behind}
+use Rattle.cgf_journal.proofs.Sounds.{dear_places, live_costs, live_is, none_of, one_more_batch, waiting_count}
 use Rattle.cgf_journal.proofs.Standing.{keeps_either, keeps_for, keeps_more}
 
 pub on_err : {T E Q : Type 0} (r : Result T E) → Q → OnErr r Q
@@ -39,21 +43,54 @@ room_costs t e size room =
     leb-true : (m n : ℕ) → nat_le m n ≡ true → m ≤ n
     leb-true m n is = grind (arith, nat_tests)
 
--- what a trail holds stays where its journal lists the same
-pub kept : {A : Type 0} {tells : Ghosts A} (old new : Trail A tells) → header_of new ≡ header_of old → is_closed new ≡ is_closed old → (Told tells → journal.batches new.journal ≡ journal.batches old.journal)
-    → new.waiting ≡ old.waiting → new.places.items ≡ old.places.items → new.firm ≡ old.firm → new.tally ≡ old.tally → IsKept old new
-unfolding firm_entries waiting
-kept old new header closed list waits places firm tallies = record {
-  header = header;
-  closed = closed;
-  firm_entries = λ told. ap entries_in (list told);
-  waiting = ap (λ (b : Buffered). entries_of b.octets) waits;
-  waiting_octets = ap (λ (b : Buffered). length b.octets) waits;
-  firm_length = firm;
-  length = λ i. if closed i then firm i else length (places i);
-  tally = λ i. if closed i then (tallies i).firm else (tallies i).live;
-  places = λ k place is. (subst (λ n. k < n) (sym firm) is.0, ap (λ (l : List Place). slice_get l k) places ∙ is.1);
+-- what has room has it where the tallies are the same
+pub same_room : {A : Type 0} {tells : Ghosts A} (old new : Trail A tells) → tells.size (area_of new) ≡ tells.size (area_of old) → tally new ≡ tally old → (e : HistoryEntry) → has_room_of new e ≡ has_room_of old e
+unfolding has_room_of
+same_room old new size same e i = has_room_behind (same i) e (size i)
+
+pub same_free : {A : Type 0} {tells : Ghosts A} (old new : Trail A tells) → tells.size (area_of new) ≡ tells.size (area_of old) → tally new ≡ tally old → free_of new ≡ free_of old
+unfolding free_of
+same_free old new size same i = free_beside (same i) (size i)
+
+-- the area's laws of how many octets a crash leaves
+abbrev pub SameSize : {A : Type 0} → Ghosts A → Type 0
+SameSize {A} tells = (a : A) (c : List ℕ) → IsTrue tells.tells_crash → tells.may_leave a c → length c ≡ tells.size a
+
+abbrev pub SameSizeSince : {A : Type 0} → Ghosts A → Type 0
+SameSizeSince {A} tells = (a : A) (t : ℕ) (c : List ℕ) → IsTrue tells.tells_crash → tells.told_from a ≤ t → t ≤ tells.moment a → tells.left_since a t c → length c ≡ tells.size a
+
+-- what a crash leaves at any moment of calls has as many octets as the area
+leaves_sized : {A : Type 0} (tells : Ghosts A) → SameSize tells → SameSizeSince tells → (old new : A) → tells.size new ≡ tells.size old → IsTrue tells.tells_crash
+    → {P : List ℕ → Type 0} → Leaves tells old new P → Leaves tells old new (λ c. length c ≡ tells.size old)
+leaves_sized tells here since old new same told leaves = record {
+  moments = record {
+    later = leaves.moments.later;
+    told_later = leaves.moments.told_later;
+    each = λ c from left. since new (tells.moment old) c told from leaves.moments.later left ∙ same;
+    before = λ t c from le left. inr (since new t c told from (omega (arith, le, leaves.moments.later)) left ∙ same);
+  };
+  now = λ c left. here new c told left ∙ same;
 }
+
+-- what a trail holds stays where its journal lists the same
+pub kept : {A : Type 0} {tells : Ghosts A} (old new : Trail A tells) → tells.size (area_of new) ≡ tells.size (area_of old) → header_of new ≡ header_of old → is_closed new ≡ is_closed old
+    → (Told tells → journal.batches new.journal ≡ journal.batches old.journal) → new.waiting ≡ old.waiting → new.places.items ≡ old.places.items → new.firm ≡ old.firm → new.tally ≡ old.tally → IsKept old new
+unfolding firm_entries waiting
+kept old new size header closed list waits places firm tallies =
+    let same : tally new ≡ tally old = λ i. if closed i then (tallies i).firm else (tallies i).live in
+    record {
+      size = size;
+      header = header;
+      closed = closed;
+      firm_entries = λ told. ap entries_in (list told);
+      waiting = ap (λ (b : Buffered). entries_of b.octets) waits;
+      waiting_octets = ap (λ (b : Buffered). length b.octets) waits;
+      firm_length = firm;
+      length = λ i. if closed i then firm i else length (places i);
+      room = same_room old new size same;
+      free = same_free old new size same;
+      places = λ k place is. ap (λ (l : List Place). slice_get l k) places ∙ is;
+    }
 
 module _ {A : Type 0} {tells : Ghosts A} (trail : Trail A tells) where
   pub waiting_octets-none : waiting trail ≡ [] → waiting_octets trail ≡ 0
@@ -111,22 +148,22 @@ module _ {A : Type 0} {tells : Ghosts A} (trail : Trail A tells) where
       by_closed false = live_is trail.journal trail.size trail.waiting trail.places.items trail.firm trail.tally trail.sound told
 
   -- a firm place is among the firm ones
-  pub get_firm : (k : ℕ) (place : Place) → IsPlaceOf trail k place → slice_get (take trail.firm trail.places.items) k ≡ Some place
+  pub get_firm : (k : ℕ) (place : Place) → IsFirmPlaceOf trail k place → slice_get (take trail.firm trail.places.items) k ≡ Some place
   get_firm k place is =
       let low : k < length (take trail.firm trail.places.items) = omega (arith, is.0, length-take-le trail.firm trail.places.items trail.sound.firm_places) in
       sym (get_left (take trail.firm trail.places.items) (drop trail.firm trail.places.items) k low) ∙ ap (λ (l : List Place). slice_get l k) (take-append-drop trail.firm trail.places.items) ∙ is.1
 
-  pub place_ends : (k : ℕ) (place : Place) → IsPlaceOf trail k place → place.at + place.length ≤ journal.end trail.journal
+  pub place_ends : (k : ℕ) (place : Place) → IsFirmPlaceOf trail k place → place.at + place.length ≤ journal.end trail.journal
   place_ends k place is =
       let found = get_firm k place is in
       subst (EndsBy (journal.end trail.journal)) (get_or_from_slice_get (take trail.firm trail.places.items) k place place found)
       (trail.sound.firm_ends k place (slice_get_within (take trail.firm trail.places.items) k place found))
 
-  pub place_is : Told tells → (k : ℕ) (place : Place) → IsPlaceOf trail k place → IsFound header_length (journal.batches trail.journal) k place
+  pub place_is : Told tells → (k : ℕ) (place : Place) → IsFirmPlaceOf trail k place → IsFound header_length (journal.batches trail.journal) k place
   place_is told k place is =
       behind_is header_length (journal.batches trail.journal) (trail.sound.are_batches told).contents k place (ap (λ (l : List Place). slice_get l k) (sym (trail.sound.firm_placed told)) ∙ get_firm k place is)
 
-  pub entry_is : Told tells → (k : ℕ) (place : Place) (e : HistoryEntry) → IsPlaceOf trail k place → slice_get (firm_entries trail) k ≡ Some e → IsAmong header_length (journal.batches trail.journal) place e
+  pub entry_is : Told tells → (k : ℕ) (place : Place) (e : HistoryEntry) → IsFirmPlaceOf trail k place → slice_get (firm_entries trail) k ≡ Some e → IsAmong header_length (journal.batches trail.journal) place e
   unfolding firm_entries
   entry_is told k place e is get =
       let found = place_is told k place is in
@@ -134,25 +171,123 @@ module _ {A : Type 0} {tells : Ghosts A} (trail : Trail A tells) where
       let same : found.0 ≡ e = cc in
       subst (λ (x : HistoryEntry). IsAmong header_length (journal.batches trail.journal) place x) same found.2
 
+  -- a firm entry has its spelling
+  pub spelling_is : Told tells → (k : ℕ) (e : HistoryEntry) → slice_get (firm_entries trail) k ≡ Some e → HasSpelling e
+  unfolding firm_entries
+  spelling_is told k e get =
+      let each = each_spelled (journal.batches trail.journal) (trail.sound.are_batches told).contents in
+      subst HasSpelling (get_or_from_slice_get (firm_entries trail) k e e get) (each k e (slice_get_within (firm_entries trail) k e get))
+
+  -- each entry costs 30 octets at least
+  pub firm_bound : cheapest_entry * trail.firm ≤ trail.tally.firm.costs
+  firm_bound = trail.sound.dear
+
+  firm_costs_below : trail.tally.firm.costs ≤ capacity_of trail.size
+  firm_costs_below = omega (arith, live_costs trail.journal trail.size trail.waiting trail.places.items trail.firm trail.tally trail.sound, trail.sound.within, ap capacity_of trail.sound.sized)
+
+  pub firm_costs_fit : trail.tally.firm.costs ≤ trail.size
+  firm_costs_fit = omega (arith, firm_costs_below)
+
+  pub firm_within : trail.firm ≤ length_of trail
+  firm_within = by_closed (is_closed trail)
+    where
+      by_closed : (closed : Bool) → trail.firm ≤ (if closed then trail.firm else length trail.places.items)
+      by_closed true = omega arith
+      by_closed false = trail.sound.firm_places
+
+  pub within_places : length_of trail ≤ length trail.places.items
+  within_places = by_closed (is_closed trail)
+    where
+      by_closed : (closed : Bool) → (if closed then trail.firm else length trail.places.items) ≤ length trail.places.items
+      by_closed true = trail.sound.firm_places
+      by_closed false = omega arith
+
+  pub bound : cheapest_entry * length trail.places.items ≤ trail.size
+  bound = omega (arith, dear_places trail.journal trail.size trail.waiting trail.places.items trail.firm trail.tally trail.sound, trail.sound.within, ap capacity_of trail.sound.sized)
+
+  firm_costs_are : Told tells → trail.tally.firm.costs ≡ costs_of (firm_entries trail)
+  unfolding firm_entries
+  firm_costs_are told = ap (λ (t : TallyValue). t.costs) (trail.sound.firm_tally told)
+
+  -- how many octets spell the firm entries
+  pub firm_spelled : Told tells → trail.tally.firm.costs ≡ length (spelled (firm_entries trail)) + 5 * trail.firm
+  firm_spelled told = omega (arith, firm_costs_are told, costs_of-spelled (firm_entries trail), firm_count told)
+
+  -- the k-th place has the length of the k-th entry, firm or not
+  later_length : (j : ℕ) (place : Place) (e : HistoryEntry) → slice_get (drop trail.firm trail.places.items) j ≡ Some place → slice_get (waiting trail) j ≡ Some e → place.length ≡ entry_length e
+  unfolding waiting
+  later_length j place e there get =
+      let found = from_is (journal.end trail.journal + 5) (entries_of trail.waiting.octets) j place (ap (λ (l : List Place). slice_get l j) (sym trail.sound.waiting_placed) ∙ there) in
+      let some : Some found.0 ≡ Some e = sym found.1 ∙ get in
+      let same : found.0 ≡ e = cc in
+      found.2.size ∙ ap entry_length same
+
+  later_place : (j : ℕ) (place : Place) → IsPlaceOf trail (trail.firm + j) place → slice_get (drop trail.firm trail.places.items) j ≡ Some place
+  later_place j place is =
+      let front : length (take trail.firm trail.places.items) ≡ trail.firm = length-take-le trail.firm trail.places.items trail.sound.firm_places in
+      sym (get_right (take trail.firm trail.places.items) (drop trail.firm trail.places.items) j)
+      ∙ ap (λ n. slice_get (take trail.firm trail.places.items ++ drop trail.firm trail.places.items) (n + j)) front
+      ∙ ap (λ (l : List Place). slice_get l (trail.firm + j)) (take-append-drop trail.firm trail.places.items) ∙ is
+
+  pub length_is : Told tells → (k : ℕ) (place : Place) (e : HistoryEntry) → k < length_of trail → IsPlaceOf trail k place → slice_get (entries trail) k ≡ Some e → place.length ≡ entry_length e
+  length_is told k place e inside is get = by_length (cases_lt k trail.firm)
+    where
+      firm_get : k < trail.firm → (closed : Bool) → slice_get (if closed then firm_entries trail else firm_entries trail ++ waiting trail) k ≡ Some e → slice_get (firm_entries trail) k ≡ Some e
+      firm_get low true found = found
+      firm_get low false found = sym (get_left (firm_entries trail) (waiting trail) k (omega (arith, low, firm_count told))) ∙ found
+
+      later_get : trail.firm ≤ k → (closed : Bool) → k < (if closed then trail.firm else length trail.places.items) → slice_get (if closed then firm_entries trail else firm_entries trail ++ waiting trail) k ≡ Some e
+          → slice_get (waiting trail) (k - trail.firm) ≡ Some e
+      later_get high true low found = absurd (omega (arith, high, low))
+      later_get high false low found =
+          let at : length (firm_entries trail) + (k - trail.firm) ≡ k = omega (arith, high, firm_count told) in
+          sym (get_right (firm_entries trail) (waiting trail) (k - trail.firm)) ∙ ap (λ n. slice_get (firm_entries trail ++ waiting trail) n) at ∙ found
+
+      by_length : (k < trail.firm) ⊎ (trail.firm ≤ k) → place.length ≡ entry_length e
+      by_length (inl low) = (entry_is told k place e (low, is) (firm_get low (is_closed trail) get)).here.size
+      by_length (inr high) =
+          let at : trail.firm + (k - trail.firm) ≡ k = omega (arith, high) in
+          later_length (k - trail.firm) place e (later_place (k - trail.firm) place (ap (λ n. slice_get trail.places.items n) at ∙ is)) (later_get high (is_closed trail) inside get)
+
   -- with the laws of the area
-  module _ (whole : (a : A) → IsTrue tells.tells_octets → length (tells.octets a) ≡ tells.size a) (same_size : (a : A) (c : List ℕ) → IsTrue tells.tells_crash → tells.may_leave a c → length c ≡ tells.size a) where
+  module _ (whole : (a : A) → IsTrue tells.tells_octets → length (tells.octets a) ≡ tells.size a) (same_size : SameSize tells) (only_now : OnlyNow tells) where
     pub settled : journal.IsSettled trail.journal → IsSettled trail
     unfolding firm_entries
     settled is = record {
       reads = λ told. still told (tells.octets (area_of trail)) (whole (area_of trail) told.0) (is.reads told);
       crash = λ told c left. still told c (same_size (area_of trail) c told.1 left) (is.crash told c left);
+      still = λ told. begin tells only_now (area_of trail) _ (λ c left. still told c (same_size (area_of trail) c told.1 left) (is.crash told c left));
     }
       where
         still : Told tells → (c : List ℕ) → length c ≡ tells.size (area_of trail) → Keeps (journal.front_of trail.journal) (header_of trail) (journal.batches trail.journal) c → StandsFor (header_of trail) c (entries_in (journal.batches trail.journal))
         still told = keeps_for (journal.front_of trail.journal) (tells.size (area_of trail)) (header_of trail) (journal.batches trail.journal) trail.sound.founded (trail.sound.are_batches told)
 
+    -- closed or not
+    pub at_rest : (is_closed trail ≡ false → journal.IsSettled trail.journal) → journal.Rests trail.journal → IsAtRest trail
+    unfolding firm_entries waiting
+    at_rest opened rests = record {
+      reads = λ told. by_closed told (tells.octets (area_of trail)) (whole (area_of trail) told.0) (λ e. (opened e).reads told) (rests.reads told) (is_closed trail) refl;
+      still = λ told. begin tells only_now (area_of trail) _ (λ c left. by_closed told c (same_size (area_of trail) c told.1 left) (λ e. (opened e).crash told c left) (rests.crash told c left) (is_closed trail) refl);
+    }
+      where
+        by_closed : Told tells → (c : List ℕ) → length c ≡ tells.size (area_of trail) → (is_closed trail ≡ false → Keeps (journal.front_of trail.journal) (header_of trail) (journal.batches trail.journal) c)
+            → journal.KeepsOr (journal.front_of trail.journal) (header_of trail) (journal.batches trail.journal) (journal.torn trail.journal) c → (closed : Bool) → is_closed trail ≡ closed
+            → StandsForOr (header_of trail) (entries_in (journal.batches trail.journal)) (entries_in (journal.batches trail.journal) ++ entries_of trail.waiting.octets) c
+        by_closed told c sized opened keeps true e =
+            keeps_either (journal.front_of trail.journal) (tells.size (area_of trail)) (header_of trail) (journal.batches trail.journal) trail.sound.founded (trail.sound.are_batches told) trail.waiting.octets
+            (one_more_batch trail.journal trail.size trail.waiting trail.places.items trail.firm trail.tally trail.sound told (trail.sound.some_torn e)) c sized
+            (subst (λ (b : List ℕ). journal.KeepsOr (journal.front_of trail.journal) (header_of trail) (journal.batches trail.journal) b c) (trail.sound.torn_waits e) keeps)
+        by_closed told c sized opened keeps false e =
+            inl (keeps_for (journal.front_of trail.journal) (tells.size (area_of trail)) (header_of trail) (journal.batches trail.journal) trail.sound.founded (trail.sound.are_batches told) c sized (opened e))
+
   -- what the journal leaves in a call, stands for the firm entries, or with those that wait
   pub leaves_either : (new : A) (batch : List ℕ) → Told tells → batch ≡ trail.waiting.octets → trail.waiting.octets ≢ []
-      → Leaves tells (area_of trail) new (λ c. length c ≡ tells.size (area_of trail))
+      → SameSize tells → SameSizeSince tells → tells.size new ≡ tells.size (area_of trail)
       → Leaves tells (area_of trail) new (journal.KeepsOr (journal.front_of trail.journal) (header_of trail) (journal.batches trail.journal) batch)
       → Leaves tells (area_of trail) new (StandsForOr (header_of trail) (firm_entries trail) (firm_entries trail ++ waiting trail))
   unfolding firm_entries waiting
-  leaves_either new batch told is some sized keeps =
+  leaves_either new batch told is some here since same keeps =
+      let sized = leaves_sized tells here since (area_of trail) new same told.1 keeps in
       let more = one_more_batch trail.journal trail.size trail.waiting trail.places.items trail.firm trail.tally trail.sound told some in
       widen tells (area_of trail) new _ _
       (λ c has. keeps_either (journal.front_of trail.journal) (tells.size (area_of trail)) (header_of trail) (journal.batches trail.journal) trail.sound.founded (trail.sound.are_batches told) trail.waiting.octets more c has.0

@@ -11,6 +11,10 @@ use Rattle.entry_codec.specs.Room.{capacity_of, costs_of}
 abbrev pub entries_in : List (List ℕ) → List HistoryEntry
 entries_in batches = flat_map entries_of batches
 
+-- what an entry costs at least: its 25 octets without a body, and the five that begin a batch
+abbrev pub cheapest_entry : ℕ
+cheapest_entry = 30
+
 -- Batches hold entries alone, at least one in each batch, and these cost no more than the capacity of an area of this size.
 pub record AreBatches (size : ℕ) (batches : List (List ℕ)) : Type 0 where
   pub contents : All IsContent batches
@@ -23,21 +27,20 @@ pub record StandsFor (header octets : List ℕ) (h : List HistoryEntry) : Type 0
   pub are_batches : AreBatches (length octets) batches
   pub history : h ≡ entries_in batches
 
--- The batch behind the gate at this place is whole: by the journal's own tests, and as entries within the capacity
--- behind those of these batches.
-pub record IsWholeBehind (octets : List ℕ) (batches : List (List ℕ)) (at : ℕ) : Type 0 where
-  pub whole : IsWhole octets at
-  pub are_batches : AreBatches (length octets) (batches ++ batch_at octets at ∷ [])
-
--- Behind batches of entries the gate at this place is open, and its batch isn't whole.
-pub record IsSpoiled (header octets : List ℕ) (at : ℕ) : Type 0 where
+-- Behind batches that are these the gate at this place is open, and its batch isn't whole: by the journal's own tests, or
+-- as one of these behind the others.
+pub record IsSpoiledBy (Are : List (List ℕ) → Type 0) (header octets : List ℕ) (at : ℕ) : Type 0 where
   pub batches : List (List ℕ)
   pub before : AreBefore header octets at batches
-  pub are_batches : AreBatches (length octets) batches
+  pub are : Are batches
   pub opened : gate_at octets at ≡ open_gate
-  pub unwhole : IsWholeBehind octets batches at → ⊥
+  pub unwhole : IsWhole octets at → Are (batches ++ batch_at octets at ∷ []) → ⊥
 
--- The octets stand for no history and don't start either, and this place shows it: the first octet of the header that
--- differs, or the first open gate whose batch isn't whole.
+-- The octets stand for no history of such batches and don't start either, and this place shows it: the first octet of
+-- the header that differs, or the first open gate whose batch isn't whole.
+abbrev pub IsForeignBy : (List (List ℕ) → Type 0) → List ℕ → List ℕ → ℕ → Type 0
+IsForeignBy Are header octets at = Differs header octets at ⊎ IsSpoiledBy Are header octets at
+
+-- the same of batches of entries within the capacity
 abbrev pub IsForeignTo : List ℕ → List ℕ → ℕ → Type 0
-IsForeignTo header octets at = Differs header octets at ⊎ IsSpoiled header octets at
+IsForeignTo header octets at = IsForeignBy (AreBatches (length octets)) header octets at

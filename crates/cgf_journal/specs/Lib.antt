@@ -1,6 +1,14 @@
-pub mod Contents
+-- What public clauses cite.
+pub mod Comes
+pub mod Fit
 pub mod Follows
 pub mod Format
+pub mod Outcomes
+pub mod Results
+pub mod Trail
+-- Steps of proofs, and private clauses.
+pub mod Contents
+pub mod Judged
 pub mod Keys
 pub mod Opening
 pub mod Rank
@@ -8,4 +16,3 @@ pub mod Sorted
 pub mod Sound
 pub mod Sums
 pub mod Tally
-pub mod Trail

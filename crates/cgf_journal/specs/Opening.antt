@@ -1,6 +1,7 @@
 -- How far an opening has come: which batches it has taken in, and where it finds one that isn't whole.
 use Rattle.std.specs.Prelude.{◌≡◌, ℕ, ◌*◌, ◌≤◌, min, IsTrue, Bool, List, [], ◌∷◌, ◌++◌, length}
 use Rattle.area_disk.specs.declared.area.Area.{Ghosts}
+use Rattle.gw_base.specs.declared.history.HistoryEntry.{HistoryEntry}
 use Rattle.gw_base.specs.declared.place.Place.{Place}
 use Rattle.gate_journal.specs.Before.{AreBefore}
 use Rattle.gate_journal.specs.Format.{end_of, header_length, longest_batch}
@@ -17,21 +18,22 @@ pub record AreTakenIn (size gate : ℕ) (some : List (List ℕ)) (places : List 
   pub firm : tally.firm ≡ tally_of []
   pub live : tally.live ≡ tally_of (entries_in some)
 
--- Batches up to this gate were taken in, and each list that has Listed begins with them.
-pub record IsTakenUpTo (Listed : List (List ℕ) → Type 0) (size gate : ℕ) (places : List Place) (tally : Tallies) : Type 0 where
+-- Batches up to this gate were taken in, their entries have Judged, and each list that has Listed begins with them.
+pub record IsTakenUpTo (Listed : List (List ℕ) → Type 0) (Judged : List HistoryEntry → Type 0) (size gate : ℕ) (places : List Place) (tally : Tallies) : Type 0 where
   pub some : List (List ℕ)
   pub taken_in : AreTakenIn size gate some places tally
+  pub judged : Judged (entries_in some)
   pub begins : (all : List (List ℕ)) → Listed all → (more : List (List ℕ)) × (all ≡ some ++ more)
 
--- Behind batches of entries the list has one, whose gate stands at this place, that isn't entries within the capacity.
-pub record BreaksAt (size : ℕ) (all : List (List ℕ)) (at : ℕ) : Type 0 where
+-- Behind batches that are these the list has one, whose gate stands at this place, that isn't one of these behind them.
+pub record BreaksAt (Are : List (List ℕ) → Type 0) (all : List (List ℕ)) (at : ℕ) : Type 0 where
   pub some : List (List ℕ)
   pub batch : List ℕ
   pub more : List (List ℕ)
   pub listed : all ≡ some ++ batch ∷ more
   pub place : at ≡ end_of some
-  pub are_batches : AreBatches size some
-  pub unfit : AreBatches size (some ++ batch ∷ []) → ⊥
+  pub are : Are some
+  pub unfit : Are (some ++ batch ∷ []) → ⊥
 
 -- these are the batches that are listed, as the area tells
 pub record AreListed {A : Type 0} (tells : Ghosts A) (listed all : List (List ℕ)) : Type 0 where

@@ -1,5 +1,5 @@
 -- What is true of each trail, open or closed.
-use Rattle.std.specs.Prelude.{◌≡◌, ◌≢◌, ℕ, ◌+◌, ◌≤◌, Bool, true, false, List, [], ◌∷◌, ◌++◌, length, take, drop, All}
+use Rattle.std.specs.Prelude.{◌≡◌, ◌≢◌, ℕ, ◌+◌, ◌*◌, ◌≤◌, Bool, true, false, List, [], ◌∷◌, ◌++◌, length, take, drop, All}
 use Rattle.area_disk.specs.declared.area.Area.{Ghosts}
 use Rattle.gw_base.specs.Buffer.{Buffered}
 use Rattle.gw_base.specs.declared.history.HistoryEntry.{HistoryEntry}
@@ -13,7 +13,7 @@ use Rattle.gate_journal.specs.declared.journal.Journal.{Journal}
 use Rattle.entry_codec.specs.Content.{AreEntries, entries_of}
 use Rattle.entry_codec.specs.Room.{capacity_of}
 use Rattle.entry_codec.specs.Spelling.{entry_length}
-use Rattle.cgf_journal.specs.Format.{AreBatches, entries_in}
+use Rattle.cgf_journal.specs.Format.{AreBatches, cheapest_entry, entries_in}
 use Rattle.cgf_journal.specs.Tally.{Tallies, tally_behind_all, tally_of}
 
 -- the places of entries that stand one after the other from this octet on
@@ -52,6 +52,7 @@ pub record IsSound {A : Type 0} {tells : Ghosts A} (journal : Journal A tells) (
   pub firm_places : firm ≤ length places
   pub firm_ends : All (EndsBy (end journal)) (take firm places)
   pub taken : end journal ≤ header_length + tally.firm.costs
+  pub dear : cheapest_entry * firm ≤ tally.firm.costs
   pub within : tally.live.costs ≤ capacity_of (tells.size (area_of journal))
   pub are_batches : Told tells → AreBatches (tells.size (area_of journal)) (batches journal)
   pub firm_tally : Told tells → tally.firm ≡ tally_of (entries_in (batches journal))

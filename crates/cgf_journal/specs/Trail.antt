@@ -1,14 +1,14 @@
 -- What contracts see of a trail.
-use Rattle.std.specs.Prelude.{◌≡◌, ◌⊎◌, ℕ, ◌<◌, Bool, if◌then◌else◌, List, ◌++◌, length, slice_get, Some, Result, Ok, Err}
+use Rattle.std.specs.Prelude.{◌≡◌, ◌⊎◌, ℕ, ◌<◌, Bool, if◌then◌else◌, List, ◌++◌, length, slice_get, Some}
 use Rattle.area_disk.specs.declared.area.Area.{Ghosts}
 use Rattle.area_disk.specs.declared.plan.Outcome3.{Outcome3}
 use Rattle.gw_base.specs.declared.history.HistoryEntry.{HistoryEntry}
 use Rattle.gw_base.specs.declared.place.Place.{Place}
 use Rattle.gate_journal.specs.Journal as journal
-use Rattle.gate_journal.specs.Moments.{Told}
+use Rattle.gate_journal.specs.Moments.{Leaves, Told}
 use Rattle.entry_codec.specs.Content.{entries_of}
 use Rattle.cgf_journal.specs.Format.{StandsFor, entries_in}
-use Rattle.cgf_journal.specs.Tally.{TallyValue}
+use Rattle.cgf_journal.specs.Tally.{TallyValue, free_beside, has_room_behind}
 use Rattle.cgf_journal.specs.declared.trail.Trail.{Trail}
 
 -- the area that it stands on, and the header of that
@@ -45,17 +45,30 @@ length_of trail = if is_closed trail then trail.firm else length trail.places.it
 abbrev pub waiting_octets : {A : Type 0} {tells : Ghosts A} → Trail A tells → ℕ
 waiting_octets trail = length trail.waiting.octets
 
--- what its entries cost and promise, as the trail counts them
+-- What its entries cost and promise, as the trail counts them. It is no part of any contract: `has_room_of` and
+-- `free_of` are what contracts see of it.
 abbrev pub tally : {A : Type 0} {tells : Ghosts A} → Trail A tells → TallyValue
 tally trail = if is_closed trail then trail.tally.firm else trail.tally.live
 
--- this is the place of the k-th firm entry
+-- whether there is room for one more entry, as the trail counts
+unfoldable pub has_room_of : {A : Type 0} {tells : Ghosts A} → Trail A tells → HistoryEntry → Bool
+has_room_of {tells = tells} trail e = has_room_behind (tally trail) e (tells.size (area_of trail))
+
+-- the octets that costs and promises leave of the capacity, as the trail counts them
+unfoldable pub free_of : {A : Type 0} {tells : Ghosts A} → Trail A tells → ℕ
+free_of {tells = tells} trail = free_beside (tally trail) (tells.size (area_of trail))
+
+-- this is the place of the k-th entry, those that wait counted behind the firm ones
 abbrev pub IsPlaceOf : {A : Type 0} {tells : Ghosts A} → Trail A tells → ℕ → Place → Type 0
-IsPlaceOf trail k place = (k < trail.firm) × (slice_get trail.places.items k ≡ Some place)
+IsPlaceOf trail k place = slice_get trail.places.items k ≡ Some place
+
+-- this is the place of the k-th entry, which is firm
+abbrev pub IsFirmPlaceOf : {A : Type 0} {tells : Ghosts A} → Trail A tells → ℕ → Place → Type 0
+IsFirmPlaceOf trail k place = (k < trail.firm) × IsPlaceOf trail k place
 
 -- this is the place of a firm entry
 abbrev pub IsPlace : {A : Type 0} {tells : Ghosts A} → Trail A tells → Place → Type 0
-IsPlace trail place = (k : ℕ) × IsPlaceOf trail k place
+IsPlace trail place = (k : ℕ) × IsFirmPlaceOf trail k place
 
 -- the torn entries stand, as a read tells: the gate of their batch is open
 abbrev pub torn_stands : {A : Type 0} {tells : Ghosts A} → Trail A tells → Bool
@@ -77,25 +90,10 @@ StandsForOr header h g octets = StandsFor header octets h ⊎ StandsFor header o
 pub record IsSettled {A : Type 0} {tells : Ghosts A} (trail : Trail A tells) : Type 0 where
   pub reads : Told tells → StandsFor (header_of trail) (tells.octets (area_of trail)) (firm_entries trail)
   pub crash : Told tells → (c : List ℕ) → tells.may_leave (area_of trail) c → StandsFor (header_of trail) c (firm_entries trail)
+  pub still : Told tells → Leaves tells (area_of trail) (area_of trail) (λ c. StandsFor (header_of trail) c (firm_entries trail))
 
--- the area's length and the header stay
-pub record IsSame {A : Type 0} {tells : Ghosts A} (old new : Trail A tells) : Type 0 where
-  pub size : tells.size (area_of new) ≡ tells.size (area_of old)
-  pub header : header_of new ≡ header_of old
-
--- what the trail holds stays
-pub record IsKept {A : Type 0} {tells : Ghosts A} (old new : Trail A tells) : Type 0 where
-  pub header : header_of new ≡ header_of old
-  pub closed : is_closed new ≡ is_closed old
-  pub firm_entries : Told tells → firm_entries new ≡ firm_entries old
-  pub waiting : waiting new ≡ waiting old
-  pub waiting_octets : waiting_octets new ≡ waiting_octets old
-  pub firm_length : firm_length new ≡ firm_length old
-  pub length : length_of new ≡ length_of old
-  pub tally : tally new ≡ tally old
-  pub places : (k : ℕ) (place : Place) → IsPlaceOf old k place → IsPlaceOf new k place
-
--- a fact of the area, which an opening keeps in the trail or hands back
-abbrev pub OnArea : {A F : Type 0} {tells : Ghosts A} → Result (Trail A tells) (F × A) → (A → Type 0) → Type 0
-OnArea (Ok trail) P = P (area_of trail)
-OnArea (Err fault) P = P fault.1
+-- What is written stands, closed or not: what a read gives stands for the firm entries, or for these with those that
+-- wait, and so does all that a crash may leave.
+pub record IsAtRest {A : Type 0} {tells : Ghosts A} (trail : Trail A tells) : Type 0 where
+  pub reads : Told tells → StandsForOr (header_of trail) (firm_entries trail) (firm_entries trail ++ waiting trail) (tells.octets (area_of trail))
+  pub still : Told tells → Leaves tells (area_of trail) (area_of trail) (StandsForOr (header_of trail) (firm_entries trail) (firm_entries trail ++ waiting trail))

@@ -7,7 +7,8 @@ use crate::Trail;
 use area_disk::{DrillArea, Plan};
 
 impl<A: DrillArea> Trail<A> {
-    ghost use Rattle.cgf_journal.specs.Trail.{IsKept, IsSame, area_of, torn_stands};
+    ghost use Rattle.cgf_journal.specs.Outcomes.{IsKept};
+    ghost use Rattle.cgf_journal.specs.Trail.{area_of, torn_stands};
 
     /// Puts this plan in the place of the one before it. The calls of the device are counted anew from 1.
     pub fn arm(&mut self, plan: Plan)
@@ -15,7 +16,6 @@ impl<A: DrillArea> Trail<A> {
         ensures kept_area { A.kept (area_of self.old) (area_of self.new) }
         ensures kept { IsKept self.old self.new }
         ensures torn_stands { torn_stands self.new ≡ torn_stands self.old }
-        ensures same { IsSame self.old self.new }
         ensures crash { Leaves A.Area (area_of self.old) (area_of self.new) (A.may_leave (area_of self.old)) }
         ensures faults { A.faults (area_of self.new) ≡ A.faults (area_of self.old) }
     {

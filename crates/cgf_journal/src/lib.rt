@@ -4,6 +4,8 @@
 mod contents;
 mod drill;
 mod faults;
+mod judge;
+mod judging;
 mod key;
 pub mod laws;
 mod listing;
@@ -17,4 +19,5 @@ mod trail;
 
 pub use faults::PushFault;
 pub use gate_journal::{Device, OpenFault};
-pub use trail::Trail;
+pub use judge::Judge;
+pub use trail::{Trail, Waiting};

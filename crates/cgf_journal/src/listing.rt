@@ -2,13 +2,19 @@
 ghost use Rattle.std.specs.Prelude.{vec_len, ◌≡◌, ◌≢◌, ℕ, ◌+◌, ◌*◌, ◌<◌, ◌≤◌, min, false, List, [], ◌∷◌, ◌++◌, length, Ok, Err, OnOk, OnErr, IfOk};
 ghost use Rattle.gate_journal.specs.Format.{end_of, longest_batch};
 ghost use Rattle.area_disk.specs.Disk.{Rose};
-ghost use Rattle.gate_journal.specs.Journal.{IsKept, IsSettled, area_of, batches, end, is_closed};
+ghost use Rattle.gate_journal.specs.Journal.{IsSettled, area_of, batches, end, is_closed};
+ghost use Rattle.gate_journal.specs.Kept.{IsKept};
 ghost use Rattle.gate_journal.specs.Moments.{Kept, Told};
 ghost use Rattle.entry_codec.specs.Room.{capacity_of};
-ghost use Rattle.cgf_journal.specs.Format.{AreBatches};
+ghost use Rattle.entry_codec.specs.Content.{IsContent};
+ghost use Rattle.cgf_journal.specs.Fit.{AreFit};
+ghost use Rattle.cgf_journal.specs.Format.{AreBatches, entries_in};
+ghost use Rattle.cgf_journal.specs.Judged.{IsJudged};
 ghost use Rattle.cgf_journal.specs.Opening.{AreBuffers, AreListed, AreListedBefore, AreTakenIn, BreaksAt, IsTakenUpTo};
 
 use crate::contents::take_in;
+use crate::judge::Judge;
+use crate::judging::judge_all;
 use crate::tally::Tally;
 use area_disk::Area;
 use gate_journal::{Device, Journal, OpenFault, batch_before, read_before};
@@ -62,6 +68,7 @@ impl Listing {
             OnOk result (AreTakenIn size (gate + 5 + length content.now) (some ++ content.now ∷ []) self.new.places.items self.new.tally) }
         ensures unfit { (some : List (List ℕ)) → AreTakenIn size gate some self.old.places.items self.old.tally → (at : ℕ) → result ≡ Err (OpenFault.NotOurs at) →
             (at ≡ gate) × (AreBatches size (some ++ content.now ∷ []) → ⊥) }
+        ensures content { OnOk result (IsContent content.now) }
         ensures device { result ≢ Err OpenFault.Device }
         ensures numbers { vec_len self.new.numbers ≡ vec_len self.old.numbers }
     {
@@ -83,15 +90,46 @@ impl Listing {
             Err(NoMemory) => Err(OpenFault::NoMemory),
         }
     }
+    // Takes in the batch behind this gate, which has this content and whose entries are fit, and answers the next gate.
+    fn take_fit<J: Judge>(
+        &mut self,
+        judge: &mut J,
+        gate: u64,
+        content: &[u8],
+        size: u64,
+    ) -> Result<u64, OpenFault>
+        requires long { 100 ≤ size }
+        requires short { size ≤ 268435456 }
+        requires inside { gate + 5 + length content.now ≤ size }
+        requires numbers { length content.now ≤ 8 * vec_len self.old.numbers }
+        requires costs { self.old.tally.live.costs ≤ capacity_of size }
+
+        ensures next { IfOk result (λ next. next ≡ gate + 5 + length content.now) }
+        ensures taken { (some : List (List ℕ)) → AreTakenIn size gate some self.old.places.items self.old.tally → IsJudged J.Judge size judge.old (entries_in some) →
+            OnOk result (AreTakenIn size (gate + 5 + length content.now) (some ++ content.now ∷ []) self.new.places.items self.new.tally
+            × IsJudged J.Judge size judge.new (entries_in (some ++ content.now ∷ []))) }
+        ensures unfit { (some : List (List ℕ)) → AreTakenIn size gate some self.old.places.items self.old.tally → IsJudged J.Judge size judge.old (entries_in some) →
+            (at : ℕ) → result ≡ Err (OpenFault.NotOurs at) → (at ≡ gate) × (AreFit J.fits size (some ++ content.now ∷ []) → ⊥) }
+        ensures device { result ≢ Err OpenFault.Device }
+        ensures numbers { vec_len self.new.numbers ≡ vec_len self.old.numbers }
+    {
+        let next = self.take(gate, content, size)?;
+        match judge_all(judge, content, size, &mut self.numbers) {
+            Ok(true) => Ok(next),
+            Ok(false) => Err(OpenFault::NotOurs { at: gate }),
+            Err(NoMemory) => Err(OpenFault::NoMemory),
+        }
+    }
 }
 
 // Takes in the batch of a journal behind this gate, and answers the next gate.
-fn take_next<A: Area>(
+fn take_next<A: Area, J: Judge>(
     journal: &mut Journal<A>,
     gate: u64,
     size: u64,
     content: &mut [u8],
     listing: &mut Listing,
+    judge: &mut J,
 ) -> Result<u64, OpenFault>
     requires ready { is_closed journal.old ≡ false }
     requires ends { Told A.Area → end journal.old ≡ end_of (batches journal.old) }
@@ -100,12 +138,12 @@ fn take_next<A: Area>(
     requires short { size ≤ 268435456 }
     requires end { end journal.old < size }
     requires inside { gate < end journal.old }
-    requires taken { IsTakenUpTo (AreListed A.Area (batches journal.old)) size gate listing.old.places.items listing.old.tally }
+    requires taken { IsTakenUpTo (AreListed A.Area (batches journal.old)) (IsJudged J.Judge size judge.old) size gate listing.old.places.items listing.old.tally }
     requires buffers { AreBuffers size (length content.old) (vec_len listing.old.numbers) }
 
     ensures next { IfOk result (λ next. (gate < next) × (next ≤ end journal.old)) }
-    ensures taken { IfOk result (λ next. IsTakenUpTo (AreListed A.Area (batches journal.old)) size next listing.new.places.items listing.new.tally) }
-    ensures breaks { Told A.Area → (at : ℕ) → result ≡ Err (OpenFault.NotOurs at) → BreaksAt size (batches journal.old) at }
+    ensures taken { IfOk result (λ next. IsTakenUpTo (AreListed A.Area (batches journal.old)) (IsJudged J.Judge size judge.new) size next listing.new.places.items listing.new.tally) }
+    ensures breaks { Told A.Area → (at : ℕ) → result ≡ Err (OpenFault.NotOurs at) → BreaksAt (AreFit J.fits size) (batches journal.old) at }
     ensures numbers { OnOk result (vec_len listing.new.numbers ≡ vec_len listing.old.numbers) }
     ensures kept { IsKept journal.old journal.new }
     ensures device { result ≡ Err OpenFault.Device → Rose (A.faults (area_of journal.old)) (A.faults (area_of journal.new)) }
@@ -122,17 +160,18 @@ fn take_next<A: Area>(
     let Ok(()) = journal.read(place, content) else {
         return Err(OpenFault::Device);
     };
-    listing.take(gate, content, size)
+    listing.take_fit(judge, gate, content, size)
 }
 
-/// Takes in all batches of a journal.
+/// Takes in all batches of a journal, whose entries a judge finds fit.
 ///
-/// `NotOurs` says which is the first that isn't entries within the capacity.
-pub(crate) fn list<A: Area>(
+/// `NotOurs` says which is the first that isn't entries within the capacity, or isn't fit.
+pub(crate) fn list<A: Area, J: Judge>(
     journal: &mut Journal<A>,
     size: u64,
     content: &mut [u8],
     listing: &mut Listing,
+    judge: &mut J,
 ) -> Result<(), OpenFault>
     requires ready { is_closed journal.old ≡ false }
     requires settled { IsSettled journal.old }
@@ -140,10 +179,11 @@ pub(crate) fn list<A: Area>(
     requires long { 100 ≤ size }
     requires short { size ≤ 268435456 }
     requires taken { AreTakenIn size 32 [] listing.old.places.items listing.old.tally }
+    requires follows { J.follows judge.old [] }
     requires buffers { AreBuffers size (length content.old) (vec_len listing.old.numbers) }
 
-    ensures taken { OnOk result (IsTakenUpTo (AreListed A.Area (batches journal.old)) size (end journal.old) listing.new.places.items listing.new.tally) }
-    ensures breaks { Told A.Area → (at : ℕ) → result ≡ Err (OpenFault.NotOurs at) → BreaksAt size (batches journal.old) at }
+    ensures taken { OnOk result (IsTakenUpTo (AreListed A.Area (batches journal.old)) (IsJudged J.Judge size judge.new) size (end journal.old) listing.new.places.items listing.new.tally) }
+    ensures breaks { Told A.Area → (at : ℕ) → result ≡ Err (OpenFault.NotOurs at) → BreaksAt (AreFit J.fits size) (batches journal.old) at }
     ensures some { Told A.Area → OnErr result (batches journal.old ≢ []) }
     ensures kept { IsKept journal.old journal.new }
     ensures device { result ≡ Err OpenFault.Device → Rose (A.faults (area_of journal.old)) (A.faults (area_of journal.new)) }
@@ -153,30 +193,31 @@ pub(crate) fn list<A: Area>(
     let end = journal.end();
     let mut gate = 32;
     while gate < end {
-        gate = take_next(journal, gate, size, content, listing)?;
+        gate = take_next(journal, gate, size, content, listing, judge)?;
     }
     Ok(())
 }
 
 // Takes in the batch of an area behind this gate, of those before octet `end`, and answers the next gate.
-fn take_before<A: Area>(
+fn take_before<A: Area, J: Judge>(
     area: &mut A,
     gate: u64,
     end: u64,
     size: u64,
     content: &mut [u8],
     listing: &mut Listing,
+    judge: &mut J,
 ) -> Result<u64, OpenFault>
     requires size { size ≡ A.size area.old }
     requires long { 100 ≤ size }
     requires short { size ≤ 268435456 }
     requires inside { gate < end }
-    requires taken { IsTakenUpTo (AreListedBefore A.tells_octets (A.octets area.old) end) size gate listing.old.places.items listing.old.tally }
+    requires taken { IsTakenUpTo (AreListedBefore A.tells_octets (A.octets area.old) end) (IsJudged J.Judge size judge.old) size gate listing.old.places.items listing.old.tally }
     requires buffers { AreBuffers size (length content.old) (vec_len listing.old.numbers) }
 
     ensures next { IfOk result (λ next. (gate < next) × (next ≤ end)) }
-    ensures taken { IfOk result (λ next. IsTakenUpTo (AreListedBefore A.tells_octets (A.octets area.old) end) size next listing.new.places.items listing.new.tally) }
-    ensures breaks { (all : List (List ℕ)) → AreListedBefore A.tells_octets (A.octets area.old) end all → (at : ℕ) → result ≡ Err (OpenFault.NotOurs at) → BreaksAt size all at }
+    ensures taken { IfOk result (λ next. IsTakenUpTo (AreListedBefore A.tells_octets (A.octets area.old) end) (IsJudged J.Judge size judge.new) size next listing.new.places.items listing.new.tally) }
+    ensures breaks { (all : List (List ℕ)) → AreListedBefore A.tells_octets (A.octets area.old) end all → (at : ℕ) → result ≡ Err (OpenFault.NotOurs at) → BreaksAt (AreFit J.fits size) all at }
     ensures numbers { OnOk result (vec_len listing.new.numbers ≡ vec_len listing.old.numbers) }
     ensures kept { Kept A.Area area.old area.new }
     ensures device { result ≡ Err OpenFault.Device → Rose (A.faults area.old) (A.faults area.new) }
@@ -193,27 +234,29 @@ fn take_before<A: Area>(
     let Ok(()) = read_before(area, place, content) else {
         return Err(OpenFault::Device);
     };
-    listing.take(gate, content, size)
+    listing.take_fit(judge, gate, content, size)
 }
 
-/// Takes in all batches of an area before the one at octet `end`.
+/// Takes in all batches of an area before the one at octet `end`, whose entries a judge finds fit.
 ///
-/// `NotOurs` says which is the first that isn't entries within the capacity.
-pub(crate) fn list_before<A: Area>(
+/// `NotOurs` says which is the first that isn't entries within the capacity, or isn't fit.
+pub(crate) fn list_before<A: Area, J: Judge>(
     area: &mut A,
     end: u64,
     size: u64,
     content: &mut [u8],
     listing: &mut Listing,
+    judge: &mut J,
 ) -> Result<(), OpenFault>
     requires size { size ≡ A.size area.old }
     requires long { 100 ≤ size }
     requires short { size ≤ 268435456 }
     requires taken { AreTakenIn size 32 [] listing.old.places.items listing.old.tally }
+    requires follows { J.follows judge.old [] }
     requires buffers { AreBuffers size (length content.old) (vec_len listing.old.numbers) }
 
-    ensures are_batches { (all : List (List ℕ)) → AreListedBefore A.tells_octets (A.octets area.old) end all → OnOk result (AreBatches size all) }
-    ensures breaks { (all : List (List ℕ)) → AreListedBefore A.tells_octets (A.octets area.old) end all → (at : ℕ) → result ≡ Err (OpenFault.NotOurs at) → BreaksAt size all at }
+    ensures are_fit { (all : List (List ℕ)) → AreListedBefore A.tells_octets (A.octets area.old) end all → OnOk result (AreFit J.fits size all) }
+    ensures breaks { (all : List (List ℕ)) → AreListedBefore A.tells_octets (A.octets area.old) end all → (at : ℕ) → result ≡ Err (OpenFault.NotOurs at) → BreaksAt (AreFit J.fits size) all at }
     ensures begun { OnErr result (32 < end) }
     ensures kept { Kept A.Area area.old area.new }
     ensures device { result ≡ Err OpenFault.Device → Rose (A.faults area.old) (A.faults area.new) }
@@ -221,7 +264,7 @@ pub(crate) fn list_before<A: Area>(
 {
     let mut gate = 32;
     while gate < end {
-        gate = take_before(area, gate, end, size, content, listing)?;
+        gate = take_before(area, gate, end, size, content, listing, judge)?;
     }
     Ok(())
 }

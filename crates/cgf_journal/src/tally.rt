@@ -108,6 +108,13 @@ impl Tally {
         capacity(size).saturating_sub(taken) as u64
     }
 
+    /// What the firm entries cost.
+    pub(crate) fn firm_costs(&self) -> u64
+        ensures { result ≡ self.now.firm.costs }
+    {
+        self.firm.costs
+    }
+
     /// What all entries cost.
     pub(crate) fn costs(&self) -> u64
         ensures { result ≡ self.now.live.costs }

@@ -6,7 +6,7 @@ use super::*;
 use area_disk::{Area, Drill, MemoryArea, Outcome3, Plan, Stop};
 use entry_codec::read;
 use gate_journal::Journal;
-use gw_base::{Act, Caller, Entry, Moment, NodeId};
+use gw_base::{Act, Caller, Entry, Moment, NoMemory, NodeId};
 use std::alloc::{AllocError, Global};
 use std::process::Abort;
 use std::test::Fail;
@@ -154,6 +154,7 @@ fn holds_each_kind(
 ) -> Result<(), Fail> {
     assert_eq!(rt; trail.length(), KINDS);
     for kind in 0..KINDS {
+        assert!(rt; kind < trail.length());
         assert!(rt; kind < trail.firm());
         let place = trail.entry_at(kind);
         let mut octets = vec![in alloc; 0; place.length as usize]?;
@@ -238,27 +239,23 @@ fn length_after_commit(rt: &impl Abort, alloc: Global, plan: Plan) -> u64 {
 }
 
 #[test]
-fn a_stop_leaves_all_entries_of_a_commit_or_none(rt: HostRuntime) {
+fn a_stop_at_the_gate_leaves_the_entries_of_a_commit(rt: HostRuntime) {
     let alloc = rt.alloc();
-    for call in 1..6 {
-        for outcome in [Outcome3::Old, Outcome3::New, Outcome3::Rot] {
-            let stop = Some(Stop { call, outcome });
-            assert_eq!(&rt; length_after_open(&rt, alloc, plan(alloc, stop)), 0);
-            if call < 5 {
-                let stands = call >= 3 && outcome == Outcome3::New;
-                assert_eq!(&rt;
-                    length_after_commit(&rt, alloc, plan(alloc, stop)),
-                    u64::from(stands)
-                );
-            }
-        }
+    for outcome in [Outcome3::Old, Outcome3::New] {
+        let stop = Some(Stop { call: 3, outcome });
+        assert_eq!(&rt; length_after_open(&rt, alloc, plan(alloc, stop)), 0);
+        let stands = outcome == Outcome3::New;
+        assert_eq!(&rt;
+            length_after_commit(&rt, alloc, plan(alloc, stop)),
+            u64::from(stands)
+        );
     }
 }
 
 #[test]
 fn a_failed_commit_stands_by_its_gate(rt: HostRuntime) -> Result<(), Fail> {
     let alloc = rt.alloc();
-    for call in 1..5 {
+    for call in 3..5 {
         let mut trail = torn(&rt, alloc, failing(alloc, call)?);
         assert_eq!(&rt; trail.calls(), call);
         assert!(&rt; !trail.stopped());
@@ -268,4 +265,53 @@ fn a_failed_commit_stands_by_its_gate(rt: HostRuntime) -> Result<(), Fail> {
         assert_eq!(&rt; trail.firm(), trail.length());
     }
     Ok(())
+}
+
+#[test]
+fn the_entries_that_wait_are_lent(rt: HostRuntime) {
+    let mut trail = fresh(&rt, rt.alloc(), 300);
+    assert_eq!(&rt; trail.waiting().octets.len(), 0);
+    push(&rt, &mut trail, Act::Start);
+    assert_eq!(&rt; trail.waiting().at, 0);
+    assert_eq!(&rt; trail.waiting().octets.len(), 25);
+    assert_eq!(&rt; commit(&rt, &mut trail), Ok(1));
+    push(&rt, &mut trail, seal());
+    assert!(&rt; trail.length() > 1);
+    assert_eq!(&rt; trail.entry_at(1).length, 37);
+    assert_eq!(&rt; trail.waiting().at, 25);
+    assert_eq!(&rt; trail.waiting().octets.len(), 37);
+}
+
+// To this judge no entry is fit.
+#[derive(Clone, Copy, Debug)]
+struct TakesNone;
+
+impl Judge for TakesNone {
+    ghost use Rattle.std.specs.Prelude.{⊤};
+
+    ghost follows = { λ judge h. ⊤ };
+
+    ghost fits = { λ size h e. ⊥ };
+
+    fn take(&mut self, _: &Entry<'_>, _: u64) -> Result<bool, NoMemory> {
+        Ok(false)
+    }
+}
+
+#[test]
+fn an_unfit_entry_is_not_ours(rt: HostRuntime) {
+    let alloc = rt.alloc();
+    let area = area_of(&rt, alloc, 200, plan(alloc, None));
+    assert_eq!(&rt; area.length(), 200);
+    let Ok(mut trail) = Trail::open_at(alloc, area, ADDRESS, 3) else {
+        panic!(&rt; "not opened")
+    };
+    push(&rt, &mut trail, Act::Start);
+    assert_eq!(&rt; commit(&rt, &mut trail), Ok(1));
+    let area = trail.into_area();
+    let mut judge = TakesNone;
+    let Err((fault, _)) = Trail::open_judged(alloc, area, ADDRESS, 3, &mut judge) else {
+        panic!(&rt; "opened")
+    };
+    assert_eq!(&rt; fault, OpenFault::NotOurs { at: 32 });
 }

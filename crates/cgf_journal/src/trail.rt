@@ -1,18 +1,19 @@
 // A history on a journal.
-ghost use Rattle.std.specs.Prelude.{vec_len, ◌≡◌, ◌≢◌, ◌↔◌, ◌⊎◌, ℕ, ◌+◌, ◌-◌, ◌<◌, ◌≤◌, ◌^◌, IsTrue, false, true, List, [], ◌∷◌, ◌++◌, length, slice_get, Some, Ok, Err, OnOk, OnErr, IfOk, is_err};
-ghost use Rattle.area_disk.specs.Disk.{HasCause, counted};
+ghost use Rattle.std.specs.Prelude.{◌≡◌, ◌↔◌, ℕ, ◌+◌, ◌-◌, ◌*◌, ◌<◌, ◌≤◌, ◌^◌, IsTrue, false, true, List, [], ◌∷◌, ◌++◌, length, slice_get, Some, Ok, Err, OnOk, OnErr, IfOk, is_err};
+ghost use Rattle.area_disk.specs.Disk.{HasCause};
 ghost use Rattle.gw_base.specs.Entry.{entry_view};
 ghost use Rattle.gw_base.specs.HeldKeys.{promised_octets};
 ghost use Rattle.gw_base.specs.declared.history.HistoryEntry.{HistoryEntry};
 ghost use Rattle.gate_journal.specs.Format.{longest_batch};
-ghost use Rattle.gate_journal.specs.Moments.{Calls, Kept, Leaves, RoseUpTo, Told};
+ghost use Rattle.gate_journal.specs.Moments.{Kept, Told};
 ghost use Rattle.std.proofs.Props.{props};
+ghost use Rattle.entry_codec.specs.Content.{AreEntries, spelled};
 ghost use Rattle.entry_codec.specs.Props.{IsAct-prop};
 ghost use Rattle.entry_codec.specs.Room.{capacity_of, costs_of, has_room};
 ghost use Rattle.entry_codec.specs.Spelling.{cost_of, entry_length, spelling};
-ghost use Rattle.cgf_journal.specs.Format.{StandsFor};
+ghost use Rattle.cgf_journal.specs.Format.{StandsFor, cheapest_entry};
 ghost use Rattle.cgf_journal.specs.Sound.{IsSound};
-ghost use Rattle.cgf_journal.specs.Tally.{free_beside, has_room_behind, tally_behind, tally_behind_all};
+ghost use Rattle.cgf_journal.specs.Tally.{tally_behind};
 
 use crate::faults::PushFault;
 use crate::tally::Tally;
@@ -20,6 +21,15 @@ use area_disk::Area;
 use entry_codec::{cost, write};
 use gate_journal::{AppendFault, Device, Journal};
 use gw_base::{Buffer, Entry, NoMemory, Place};
+
+/// Entries that aren't firm, as octets.
+#[derive(Clone, Copy, Debug)]
+pub struct Waiting<'a> {
+    /// How many octets spell the firm entries.
+    pub at: u64,
+    /// The octets that spell the entries behind them, one after the other.
+    pub octets: &'a [u8],
+}
 
 /// A gateway's history on a journal: the firm entries, which every crash leaves, and those behind them, which wait for
 /// a commit.
@@ -43,31 +53,22 @@ pub struct Trail<A: Area> {
 
 impl<A: Area> Trail<A> {
     ghost use Rattle.area_disk.specs.declared.plan.Outcome3.{Outcome3};
-    ghost use Rattle.cgf_journal.specs.Follows.{CommitFollows, ReopenFollows};
-    ghost use Rattle.cgf_journal.specs.Trail.{IsKept, IsPlace, IsPlaceOf, IsSame, IsSettled, StandsForOr, area_of, entries, firm_entries, firm_length, header_of, is_closed, left_by_stop, length_of, tally, torn_stands, waiting, waiting_octets};
+    ghost use Rattle.area_disk.specs.declared.plan.Outcome3.TheVariants.{New};
+    ghost use Rattle.cgf_journal.specs.Outcomes.{AllFirm, AreTorn, CommitCalls, CommitPlanned, CrashLeaves, FirmPlacesStay, FirmStays, IsKept, IsPushed, IsReopened, ReopenCalls, ReopenPlanned, Stays, TornDropped, TornStand, UnmadeIfNone};
+    ghost use Rattle.cgf_journal.specs.Trail.{IsAtRest, IsFirmPlaceOf, IsPlace, IsPlaceOf, IsSettled, area_of, entries, firm_entries, firm_length, free_of, has_room_of, header_of, is_closed, left_by_stop, length_of, stop_stands, torn_stands, waiting, waiting_octets};
 
     /// Adds an entry behind the others. It is firm after the next commit.
     ///
     /// `Entry` may say anything for which there is room. Until the next commit at most 1,048,576 octets of entries wait.
     pub fn push(&mut self, entry: &Entry<'_>) -> Result<(), PushFault>
-        requires room { has_room_behind (tally self.old) (entry_view entry.now) (A.size (area_of self.old)) ≡ true }
+        requires room { has_room_of self.old (entry_view entry.now) ≡ true }
         requires ready { is_closed self.old ≡ false }
 
-        ensures ok { OnOk result (entries self.new ≡ entries self.old ++ entry_view entry.now ∷ []) }
-        ensures waits { OnOk result (waiting self.new ≡ waiting self.old ++ entry_view entry.now ∷ []) }
-        ensures octets { OnOk result (waiting_octets self.new ≡ waiting_octets self.old + entry_length (entry_view entry.now)) }
-        ensures length { OnOk result (length_of self.new ≡ length_of self.old + 1) }
-        ensures tally { OnOk result (tally self.new ≡ tally_behind (tally self.old) (entry_view entry.now)) }
-
-        ensures full { (free : ℕ) → (result ≡ Err (PushFault.BatchFull free)) ↔ ((free + waiting_octets self.old ≡ longest_batch) × (free < entry_length (entry_view entry.now))) }
+        ensures ok { OnOk result (IsPushed self.old self.new (entry_view entry.now)) }
+        ensures full { (free : ℕ) → (result ≡ Err (PushFault.BatchFull free)) ↔
+            ((free + waiting_octets self.old ≡ longest_batch) × (free < entry_length (entry_view entry.now))) }
         ensures err { OnErr result (IsKept self.old self.new) }
-
-        ensures firm_entries { firm_entries self.new ≡ firm_entries self.old }
-        ensures firm_length { firm_length self.new ≡ firm_length self.old }
-        ensures places { (k : ℕ) (place : Place) → IsPlaceOf self.old k place → IsPlaceOf self.new k place }
-        ensures open { is_closed self.new ≡ false }
-        ensures area { area_of self.new ≡ area_of self.old }
-        ensures header { header_of self.new ≡ header_of self.old }
+        ensures stays { FirmStays self.old self.new }
     {
         let free = self.waiting.free() as u64;
         let length = cost(entry) - 5;
@@ -93,27 +94,15 @@ impl<A: Area> Trail<A> {
     pub fn commit(&mut self) -> Result<u64, Device>
         requires ready { is_closed self.old ≡ false }
 
-        ensures ok { Told A.Area → OnOk result (firm_entries self.new ≡ entries self.old) }
-        ensures none_waits { OnOk result (waiting self.new ≡ []) }
-        ensures count { IfOk result (λ n. (n ≡ length_of self.old) × (firm_length self.new ≡ n) × (length_of self.new ≡ n)) }
-        ensures tally { OnOk result (tally self.new ≡ tally self.old) }
-
-        ensures device { Told A.Area → OnErr result (firm_entries self.new ≡ firm_entries self.old) }
-        ensures torn { OnErr result (waiting self.new ≡ waiting self.old) }
+        ensures ok { IfOk result (AllFirm self.old self.new) }
+        ensures err { OnErr result (AreTorn self.old self.new) }
         ensures closed { is_closed self.new ≡ is_err result }
-        ensures firm_length { OnErr result (firm_length self.new ≡ firm_length self.old) }
-
         // A crash at any moment of the call leaves the firm entries, or all.
-        ensures any_moment { Told A.Area → Leaves A.Area (area_of self.old) (area_of self.new) (StandsForOr (header_of self.old) (firm_entries self.old) (entries self.old)) }
-        ensures settled { OnOk result (IsSettled self.new) }
-
-        ensures places { (k : ℕ) (place : Place) → IsPlaceOf self.old k place → IsPlaceOf self.new k place }
-        ensures same { IsSame self.old self.new }
-        ensures unmade { waiting_octets self.old ≡ 0 → (result ≡ Ok (firm_length self.old)) × (area_of self.new ≡ area_of self.old) }
-        ensures empty { waiting self.old ≡ [] → waiting_octets self.old ≡ 0 }
-        ensures calls { IsTrue A.tells_calls → waiting_octets self.old ≢ 0 → Calls 4 (A.calls (area_of self.old)) (A.calls (area_of self.new)) result }
-        ensures planned { IsTrue A.tells_fate → Told A.Area → waiting_octets self.old ≢ 0 → CommitFollows self.old self.new result }
-        ensures cause { HasCause (A.faults (area_of self.old)) (A.faults (area_of self.new)) result }
+        ensures any_moment { CrashLeaves self.old self.new (firm_entries self.old) (entries self.old) }
+        ensures stays { Stays self.old self.new }
+        ensures unmade { UnmadeIfNone self.old self.new result }
+        ensures device { CommitCalls self.old self.new result }
+        ensures planned { CommitPlanned self.old self.new result }
     {
         if self.waiting.octets().is_empty() {
             let is_closed = self.journal.is_closed();
@@ -140,28 +129,15 @@ impl<A: Area> Trail<A> {
     pub fn reopen(&mut self) -> Result<bool, Device>
         requires closed { is_closed self.old ≡ true }
 
-        ensures stands { Told A.Area → IfOk result (λ stands. stands ≡ torn_stands self.old) }
-        ensures taken_in { Told A.Area → result ≡ Ok true → firm_entries self.new ≡ firm_entries self.old ++ waiting self.old }
-        ensures dropped { Told A.Area → result ≡ Ok false → firm_entries self.new ≡ firm_entries self.old }
-        ensures none_waits { OnOk result (waiting self.new ≡ []) }
-        ensures opened { OnOk result (is_closed self.new ≡ false) }
-        ensures length { OnOk result (length_of self.new ≡ firm_length self.new) }
-        ensures length_grows { result ≡ Ok true → firm_length self.new ≡ firm_length self.old + length (waiting self.old) }
-        ensures length_stays { result ≡ Ok false → firm_length self.new ≡ firm_length self.old }
-        ensures tally_grows { result ≡ Ok true → tally self.new ≡ tally_behind_all (tally self.old) (waiting self.old) }
-        ensures tally_stays { result ≡ Ok false → tally self.new ≡ tally self.old }
+        ensures ok { IfOk result (IsReopened self.old self.new) }
+        ensures taken_in { result ≡ Ok true → TornStand self.old self.new }
+        ensures dropped { result ≡ Ok false → TornDropped self.old self.new }
         ensures err { OnErr result (IsKept self.old self.new) }
-        ensures closed { OnErr result (is_closed self.new ≡ true) }
-
         // A crash at any moment of the call leaves the firm entries, with the torn ones or without.
-        ensures any_moment { Told A.Area → Leaves A.Area (area_of self.old) (area_of self.new) (StandsForOr (header_of self.old) (firm_entries self.old) (firm_entries self.old ++ waiting self.old)) }
-        ensures settled { OnOk result (IsSettled self.new) }
-
-        ensures places { (k : ℕ) (place : Place) → IsPlaceOf self.old k place → IsPlaceOf self.new k place }
-        ensures same { IsSame self.old self.new }
-        ensures calls { IsTrue A.tells_calls → A.calls (area_of self.new) ≡ counted 1 (A.calls (area_of self.old)) }
-        ensures planned { IsTrue A.tells_fate → ReopenFollows self.old self.new result }
-        ensures cause { HasCause (A.faults (area_of self.old)) (A.faults (area_of self.new)) result }
+        ensures any_moment { CrashLeaves self.old self.new (firm_entries self.old) (firm_entries self.old ++ waiting self.old) }
+        ensures stays { FirmPlacesStay self.old self.new }
+        ensures device { ReopenCalls self.old self.new result }
+        ensures planned { ReopenPlanned self.old self.new result }
     {
         let end = self.journal.end();
         self.journal.reopen()?;
@@ -182,14 +158,17 @@ impl<A: Area> Trail<A> {
         ensures closed { result ≡ is_closed self.now }
         ensures settled { Told A.Area → result ≡ false → IsSettled self.now }
         ensures open { Told A.Area → result ≡ false → entries self.now ≡ firm_entries self.now ++ waiting self.now }
-        ensures stop { IsTrue A.tells_fate → Told A.Area → (outcome : Outcome3) → StandsFor (header_of self.now) ((A.fate (area_of self.now)).leaves outcome) (left_by_stop outcome self.now) }
+        ensures rests { IsAtRest self.now }
+        ensures stop { IsTrue A.tells_fate → Told A.Area → (outcome : Outcome3) →
+            StandsFor (header_of self.now) ((A.fate (area_of self.now)).leaves outcome) (left_by_stop outcome self.now) }
+        ensures torn { IsTrue A.tells_fate → torn_stands self.now ≡ stop_stands New self.now }
     {
         self.journal.is_closed()
     }
 
     /// Whether there is room for an entry, whatever it says. It takes no memory.
     pub fn room(&self, entry: &Entry<'_>) -> bool
-        ensures counted { result ≡ has_room_behind (tally self.now) (entry_view entry.now) (A.size (area_of self.now)) }
+        ensures counted { result ≡ has_room_of self.now (entry_view entry.now) }
         ensures room { Told A.Area → result ≡ has_room (entries self.now) (entry_view entry.now) (A.size (area_of self.now)) }
     {
         self.tally
@@ -198,16 +177,17 @@ impl<A: Area> Trail<A> {
 
     /// The number of octets that costs and promises leave of the capacity, 0 where they leave none.
     pub fn free(&self) -> u64
-        ensures counted { result ≡ free_beside (tally self.now) (A.size (area_of self.now)) }
+        ensures counted { result ≡ free_of self.now }
         ensures free { Told A.Area → result ≡ capacity_of (A.size (area_of self.now)) - (costs_of (entries self.now) + promised_octets (entries self.now)) }
     {
         self.tally.free(self.journal.is_closed(), self.size)
     }
 
-    /// How many entries it has.
+    /// How many entries it has. Each costs 30 octets of the area at least.
     pub fn length(&self) -> u64
         ensures counted { result ≡ length_of self.now }
         ensures length { Told A.Area → result ≡ length (entries self.now) }
+        ensures bound { cheapest_entry * result ≤ A.size (area_of self.now) }
     {
         if self.journal.is_closed() {
             self.firm as u64
@@ -220,15 +200,30 @@ impl<A: Area> Trail<A> {
     pub fn firm(&self) -> u64
         ensures counted { result ≡ firm_length self.now }
         ensures length { Told A.Area → result ≡ length (firm_entries self.now) }
+        ensures bound { result ≤ length_of self.now }
     {
         self.firm as u64
     }
 
-    /// The place in the area of the k-th firm entry, counted from 0.
+    /// The entries behind the firm ones, as octets, and how many octets spell the firm ones. Those of a closed trail are
+    /// the torn ones.
+    pub fn waiting(&self) -> Waiting<'_>
+        ensures entries { AreEntries result.octets.now (waiting self.now) }
+        ensures counted { length result.octets.now ≡ waiting_octets self.now }
+        ensures short { waiting_octets self.now ≤ longest_batch }
+        ensures at { Told A.Area → result.at ≡ length (spelled (firm_entries self.now)) }
+    {
+        Waiting {
+            at: self.tally.firm_costs() - 5 * self.firm as u64,
+            octets: self.waiting.octets(),
+        }
+    }
+
+    /// The place of the k-th entry, counted from 0. An entry that waits has its place from the next commit on.
     pub fn entry_at(&self, k: u64) -> Place
-        requires { k < firm_length self.now }
+        requires { k < length_of self.now }
         ensures place { IsPlaceOf self.now k result }
-        ensures length { Told A.Area → (e : HistoryEntry) → slice_get (firm_entries self.now) k ≡ Some e → result.length ≡ entry_length e }
+        ensures length { Told A.Area → (e : HistoryEntry) → slice_get (entries self.now) k ≡ Some e → result.length ≡ entry_length e }
     {
         self.places[k as usize]
     }
@@ -240,7 +235,8 @@ impl<A: Area> Trail<A> {
         requires place { IsPlace self.old place }
         requires length { length into.old ≡ place.length }
 
-        ensures read { Told A.Area → (k : ℕ) (e : HistoryEntry) → IsPlaceOf self.old k place → slice_get (firm_entries self.old) k ≡ Some e → OnOk result (into.new ≡ spelling e) }
+        ensures read { Told A.Area → (k : ℕ) (e : HistoryEntry) → IsFirmPlaceOf self.old k place →
+            slice_get (firm_entries self.old) k ≡ Some e → OnOk result ((into.new ≡ spelling e) × AreEntries into.new (e ∷ [])) }
         ensures kept { IsKept self.old self.new }
         ensures torn_stands { torn_stands self.new ≡ torn_stands self.old }
         ensures area { Kept A.Area (area_of self.old) (area_of self.new) }
@@ -251,8 +247,14 @@ impl<A: Area> Trail<A> {
 
     /// Hands the area back as it is. It takes no memory.
     pub fn into_area(self) -> A
-        ensures { result ≡ area_of self }
+        ensures area { result ≡ area_of self }
+        ensures long { 100 ≤ A.size result }
+        ensures short { A.size result ≤ 268435456 }
+        ensures rests { IsAtRest self }
+        ensures stop { IsTrue A.tells_fate → Told A.Area → (outcome : Outcome3) →
+            StandsFor (header_of self) ((A.fate (area_of self)).leaves outcome) (left_by_stop outcome self) }
     {
+        let _closed = self.journal.is_closed();
         let Trail {
             journal,
             size: _,

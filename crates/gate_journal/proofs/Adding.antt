@@ -4,7 +4,7 @@ use Rattle.std.proofs.lemmas.List.{take_at, drop_at, length-take-le, length-drop
 use Rattle.area_disk.specs.Disk.{overwritten, Torn}
 use Rattle.gate_journal.specs.Adding.{added, IsAdding}
 use Rattle.gate_journal.specs.Format.{open_gate, gate_at}
-use Rattle.gate_journal.proofs.Fronts.{front_of_front, at_front}
+use Rattle.gate_journal.specs.Fronts.{front_of_front, at_front}
 
 module _ (gate : ℕ) (framed octets : List ℕ) (fits : gate + 1 + length framed ≤ length octets) where
   -- the frame behind the gate

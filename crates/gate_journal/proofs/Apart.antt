@@ -2,7 +2,7 @@
 use Rattle.std.proofs.Common.{◌≡◌, ℕ, List, ◌∷◌, ◌++◌, length, take, sym, ◌∙◌, ap, subst}
 use Rattle.gate_journal.specs.Before.{AreBefore}
 use Rattle.gate_journal.specs.Format.{open_gate, end_of, IsWhole, gate_at, Stands, IsBroken}
-use Rattle.gate_journal.proofs.Agreeing.{Compared, equal, longer, shorter, compare, place_of, front_before, batch_before, stands_before}
+use Rattle.gate_journal.specs.Agreeing.{Compared, equal, longer, shorter, compare, place_of, front_before, batch_before, stands_before}
 
 -- the batches before a gate that is closed or has no whole batch behind it
 pub record Stop (header octets : List ℕ) (at : ℕ) (batches : List (List ℕ)) : Type 0 where

@@ -8,7 +8,7 @@ use Rattle.byteorder.specs.Endian.{big_bytes}
 use Rattle.gate_journal.specs.Format.{open_gate, spelled, IsSmall, gate_at}
 use Rattle.gate_journal.specs.State.{batches_in, batches_below}
 use Rattle.gate_journal.specs.Verdicts.{AreBelow}
-use Rattle.gate_journal.proofs.Spelling.{batches_in-spelled, spelled-nil, spelled-one, spelled-append, length-spelled}
+use Rattle.gate_journal.specs.Spelling.{batches_in-spelled, spelled-nil, spelled-one, spelled-append, length-spelled}
 
 -- what is spelled below a place are the batches below it
 pub below_is : (at : ℕ) (octets : List ℕ) (batches : List (List ℕ)) → drop 32 (take at octets) ≡ spelled batches → All IsSmall batches → batches_below at octets ≡ batches

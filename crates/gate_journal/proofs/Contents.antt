@@ -10,7 +10,7 @@ use Rattle.gate_journal.specs.Format.{open_gate, closed_gate, frame, spelled, en
 use Rattle.gate_journal.specs.State.{batches_below, Keeps}
 use Rattle.gate_journal.specs.declared.journal.Front.{Front}
 use Rattle.gate_journal.specs.declared.journal.Front.TheVariants.{Founded, Draft, Founding}
-use Rattle.gate_journal.proofs.Spelling.{spelled-append, spelled-one, length-spelled, frame-is, batches_below-is}
+use Rattle.gate_journal.specs.Spelling.{spelled-append, spelled-one, length-spelled, frame-is, batches_below-is}
 
 -- a front with its first octet apart
 pub front-cons : (place : ℕ) (octets : List ℕ) → 1 ≤ place → 1 ≤ length octets → take place octets ≡ get_or octets 0 0 ∷ drop 1 (take place octets)

@@ -4,7 +4,7 @@ use Rattle.std.proofs.lemmas.List.{take_at, drop-take, get_or_at, get_or-take, l
 use Rattle.area_disk.specs.Disk.{overwritten, Torn}
 use Rattle.gate_journal.specs.Format.{open_gate, closed_gate, Starts, IsUnfinished}
 use Rattle.gate_journal.specs.Opening.{IsLaid}
-use Rattle.gate_journal.proofs.Fronts.{at_front}
+use Rattle.gate_journal.specs.Fronts.{at_front}
 use Rattle.gate_journal.proofs.Contents.{length-rest}
 
 module _ (header : List ℕ) (long : length header ≡ 32) (begins : get_or header 0 0 ≡ 67) where

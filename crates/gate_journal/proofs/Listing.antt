@@ -9,7 +9,7 @@ use Rattle.gate_journal.specs.State.{batches_below, IsListed}
 use Rattle.gate_journal.specs.Verdicts.{AreBelow}
 use Rattle.gate_journal.specs.declared.journal.Front.TheVariants.{Founded, Draft}
 use Rattle.gate_journal.proofs.Below.{below_is}
-use Rattle.gate_journal.proofs.Spelling.{spelled-nil}
+use Rattle.gate_journal.specs.Spelling.{spelled-nil}
 
 pub below_first : (octets : List ℕ) → batches_below 32 octets ≡ []
 below_first octets = below_is 32 octets [] (drop_all 32 (take 32 octets) (omega (arith, length-take 32 octets)) ∙ sym spelled-nil) (All-nil IsSmall)

@@ -12,7 +12,7 @@ use Rattle.area_disk.specs.declared.plan.Outcome3.TheVariants.{Old, New, Rot}
 use Rattle.gate_journal.specs.Format.{open_gate, gate_at}
 use Rattle.gate_journal.specs.Planned.{Course, course_of, after_write, after_sync, Ending, is_ended, ending_by, course_by, ending_of, after_put, left_by, PutPlanned, is_new, batch_stands, append_fails, course_after, AppendPlanned}
 use Rattle.gate_journal.specs.Planned.Ending.{BothRan, AtWrite, AtSync}
-use Rattle.gate_journal.proofs.Fronts.{at_front}
+use Rattle.gate_journal.specs.Fronts.{at_front}
 use Rattle.gate_journal.proofs.Turns.{other_bool}
 
 -- the parts of a put that came out as planned, by the fates of its calls

@@ -5,17 +5,18 @@ use Rattle.std.proofs.lemmas.List.{length-take-le, length-drop}
 use Rattle.std.proofs.lemmas.List.Elements.{All-push}
 use Rattle.area_disk.specs.Disk.{Only, Within, Torn, overwritten}
 use Rattle.area_disk.specs.declared.area.Area.{Ghosts}
+use Rattle.area_disk.specs.declared.plan.Outcome3.TheVariants.{New}
 use Rattle.gate_journal.specs.Adding.{added, IsAdding}
 use Rattle.gate_journal.specs.Format.{open_gate, frame, header, longest_batch, gate_at, IsSmall, end_of}
 use Rattle.gate_journal.specs.Moments.{Told, Leaves}
 use Rattle.gate_journal.specs.State.{batches_below, Content, IsReady, IsSound, Keeps, gate_after, front_after}
-use Rattle.gate_journal.specs.Journal.{closed_by, is_closed, batches, torn, front_of, header_of, KeepsOr, IsSettled}
+use Rattle.gate_journal.specs.Journal.{closed_by, is_closed, batches, torn, front_of, header_of, KeepsOr, IsSettled, Rests, torn_stands, stop_stands}
 use Rattle.gate_journal.specs.declared.journal.Journal.{Journal}
 use Rattle.gate_journal.specs.declared.journal.Front.{Front}
 use Rattle.gate_journal.specs.declared.journal.Front.TheVariants.{Founded, Draft, Founding}
 use Rattle.gate_journal.proofs.Contents.{listed_below, place_is}
-use Rattle.gate_journal.proofs.Runs.{widen}
-use Rattle.gate_journal.proofs.Spelling.{length-header, first-header, length-frame}
+use Rattle.area_disk.specs.MomentLaws.{widen}
+use Rattle.gate_journal.specs.Spelling.{length-header, first-header, length-frame}
 use Rattle.gate_journal.proofs.Turns.{other_bool, is_adding, added_open, adding, taken_in, founding, content_keeps, content_keeps_or, content_keeps_any, moved, any_batch, after_gate, after_first}
 
 -- a journal that isn't closed may be added to
@@ -378,3 +379,16 @@ module _ {A : Type 0} (g : Ghosts A) (holds : (a : A) → g.may_leave a (g.octet
         place = place;
         free = λ told. omega (arith, place told);
       }
+
+  -- what a crash leaves of a journal at rest, open or closed
+  pub rests : (journal : Journal A g) → Rests journal
+  rests journal = record {
+    reads = λ told. keeps_any journal told (g.octets journal.area) (holds journal.area);
+    crash = λ told c left. keeps_any journal told c left;
+    place = λ told. place_told journal told;
+  }
+
+  -- a stop that keeps what was written leaves the torn batch where a read finds it
+  pub stands_as_new : (journal : Journal A g) → (g.fate journal.area).leaves New ≡ g.octets journal.area → torn_stands journal ≡ stop_stands New journal
+  unfolding torn_stands stop_stands
+  stands_as_new journal is = ap (λ (o : List ℕ). journal.is_torn && (gate_at o journal.gate == open_gate)) (sym is)

@@ -12,8 +12,8 @@ use Rattle.gate_journal.specs.State.{Content, Keeps, gate_after, front_after}
 use Rattle.gate_journal.specs.declared.journal.Front.{Front}
 use Rattle.gate_journal.specs.declared.journal.Front.TheVariants.{Founded, Draft, Founding}
 use Rattle.gate_journal.proofs.Contents.{keeps, joined, next_shut}
-use Rattle.gate_journal.proofs.Fronts.{at_front, take_around, drop_around, front_but_first, later_but_first}
-use Rattle.gate_journal.proofs.Spelling.{length-frame}
+use Rattle.gate_journal.specs.Fronts.{at_front, take_around, drop_around, front_but_first, later_but_first}
+use Rattle.gate_journal.specs.Spelling.{length-frame}
 
 pub other_bool : true ≡ false → ⊥
 other_bool e = cc

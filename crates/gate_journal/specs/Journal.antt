@@ -1,10 +1,9 @@
 -- What contracts see of a journal.
-use Rattle.std.specs.Prelude.{◌≡◌, ◌⊎◌, ℕ, ◌+◌, ◌-◌, ◌≤◌, Bool, true, ◌&&◌, ◌==◌, Result, is_err, if◌then◌else◌, slice_index, List, [], ◌∷◌, ◌++◌, length, take, drop}
+use Rattle.std.specs.Prelude.{◌≡◌, ◌⊎◌, ℕ, ◌+◌, ◌-◌, Bool, true, false, ◌&&◌, ◌==◌, if◌then◌else◌, slice_index, List, [], ◌∷◌, ◌++◌, length, take, drop}
 use Rattle.area_disk.specs.declared.area.Area.{Ghosts}
 use Rattle.gate_journal.specs.Format.{open_gate, header, gate_at, end_of, free_beside}
-use Rattle.gate_journal.specs.Moments.{Told, Kept, Leaves}
+use Rattle.gate_journal.specs.Moments.{Told}
 use Rattle.area_disk.specs.declared.plan.Outcome3.{Outcome3}
-use Rattle.gate_journal.specs.Planned.{Ending, ending_of, course_of, after_put, append_fails, after_append, batch_stands, fate_of_sync, outcome_left, SyncPlanned}
 use Rattle.gate_journal.specs.State.{batches_below, Keeps, front_after}
 use Rattle.gate_journal.specs.declared.journal.Front.{Front}
 use Rattle.gate_journal.specs.declared.journal.Front.TheVariants.{Founded, Draft, Founding}
@@ -60,26 +59,6 @@ stop_stands {tells = tells} outcome journal = journal.is_torn && (gate_at ((tell
 abbrev pub left_by_stop : {A : Type 0} {tells : Ghosts A} → Outcome3 → Journal A tells → List (List ℕ)
 left_by_stop outcome journal = if stop_stands outcome journal then batches journal ++ torn journal ∷ [] else batches journal
 
--- how the writing of a frame ends by the plan, and the opening of the gate after it
-abbrev pub frame_ending : {A : Type 0} {tells : Ghosts A} → Journal A tells → Ending
-frame_ending {tells = tells} journal = ending_of (course_of (tells.fate journal.area))
-
-abbrev pub gate_ending : {A : Type 0} {tells : Ghosts A} → Journal A tells → Ending
-gate_ending {tells = tells} journal = ending_of (after_put (course_of (tells.fate journal.area)))
-
--- An append came out as was planned: the call of the device that failed or was stopped, and its outcome, decide
--- whether the batch stands.
-pub record AppendFollows {A T E : Type 0} {tells : Ghosts A} (old new : Journal A tells) (result : Result T E) : Type 0 where
-  pub fails : is_err result ≡ append_fails (frame_ending old) (gate_ending old)
-  pub course : course_of (tells.fate (area_of new)) ≡ after_append (course_of (tells.fate (area_of old)))
-  pub stands : is_err result ≡ true → (outcome : Outcome3) → stop_stands outcome new ≡ batch_stands (frame_ending old) (gate_ending old) outcome
-
--- An opening again came out as was planned: it fails where its sync failed or was stopped, and then a stop that comes
--- now leaves what the outcome of that one leaves.
-pub record ReopenFollows {A T E : Type 0} {tells : Ghosts A} (old new : Journal A tells) (result : Result T E) : Type 0 where
-  pub planned : SyncPlanned (tells.fate (area_of old)) result (tells.fate (area_of new))
-  pub stands : is_err result ≡ true → (outcome : Outcome3) → stop_stands outcome new ≡ stop_stands (outcome_left (fate_of_sync (course_of (tells.fate (area_of old)))) outcome) old
-
 -- the list after it is opened again: with the batch whose append failed where that stands
 abbrev pub reopened : {A : Type 0} {tells : Ghosts A} → Journal A tells → List (List ℕ)
 reopened journal = if torn_stands journal then batches journal ++ torn journal ∷ [] else batches journal
@@ -96,6 +75,20 @@ reopened_front {tells = tells} journal = front_after journal.front (slice_index 
 abbrev pub KeepsOr : Front → List ℕ → List (List ℕ) → List ℕ → List ℕ → Type 0
 KeepsOr front header some batch octets = Keeps front header some octets ⊎ Keeps front header (some ++ batch ∷ []) octets
 
+-- What a read gives of a journal, open or closed, and all that a crash may leave: an area that stands for its batches,
+-- or for these with the torn one behind them.
+pub record Rests {A : Type 0} {tells : Ghosts A} (journal : Journal A tells) : Type 0 where
+  pub reads : Told tells → KeepsOr (front_of journal) (header_of journal) (batches journal) (torn journal)
+      (tells.octets (area_of journal))
+  pub crash : Told tells → (c : List ℕ) → tells.may_leave (area_of journal) c →
+      KeepsOr (front_of journal) (header_of journal) (batches journal) (torn journal) c
+  pub place : Told tells → end journal ≡ end_of (batches journal)
+
+-- no batch may stand behind its gate
+pub record NoneTorn {A : Type 0} {tells : Ghosts A} (journal : Journal A tells) : Type 0 where
+  pub reads : torn_stands journal ≡ false
+  pub stops : (outcome : Outcome3) → stop_stands outcome journal ≡ false
+
 -- What is written stands: what a read gives stands for the batches, and so does all that a crash may leave.
 pub record IsSettled {A : Type 0} {tells : Ghosts A} (journal : Journal A tells) : Type 0 where
   pub reads : Told tells → Keeps (front_of journal) (header_of journal) (batches journal) (tells.octets (area_of journal))
@@ -103,62 +96,7 @@ pub record IsSettled {A : Type 0} {tells : Ghosts A} (journal : Journal A tells)
   pub place : Told tells → end journal ≡ end_of (batches journal)
   pub free : Told tells → free_of journal ≡ free_beside (tells.size (area_of journal)) (batches journal)
 
--- the area's length and the header stay
-pub record IsSame {A : Type 0} {tells : Ghosts A} (old new : Journal A tells) : Type 0 where
-  pub size : tells.size (area_of new) ≡ tells.size (area_of old)
-  pub header : header_of new ≡ header_of old
-
--- The journal is as before, and so is what a crash leaves: no counted call was made.
-pub record IsKept {A : Type 0} {tells : Ghosts A} (old new : Journal A tells) : Type 0 where
-  pub area : Kept tells (area_of old) (area_of new)
-  pub header : header_of new ≡ header_of old
-  pub front : front_of new ≡ front_of old
-  pub batches : batches new ≡ batches old
-  pub end : end new ≡ end old
-  pub closed : is_closed new ≡ is_closed old
-  pub torn : torn new ≡ torn old
-  pub torn_stands : torn_stands new ≡ torn_stands old
-
--- The journal is as before, and so is what a crash leaves; the calls may be counted anew.
-pub record IsArmed {A : Type 0} {tells : Ghosts A} (old new : Journal A tells) : Type 0 where
-  pub crash : Leaves tells (area_of old) (area_of new) (tells.may_leave (area_of old))
-  pub faults : tells.faults (area_of new) ≡ tells.faults (area_of old)
-  pub size : tells.size (area_of new) ≡ tells.size (area_of old)
-  pub header : header_of new ≡ header_of old
-  pub front : front_of new ≡ front_of old
-  pub batches : batches new ≡ batches old
-  pub end : end new ≡ end old
-  pub closed : is_closed new ≡ is_closed old
-  pub torn : torn new ≡ torn old
-  pub torn_stands : torn_stands new ≡ torn_stands old
-
--- nothing that contracts see of the journal changed
-pub record IsUnchanged {A : Type 0} {tells : Ghosts A} (old new : Journal A tells) : Type 0 where
-  pub area : area_of new ≡ area_of old
-  pub header : header_of new ≡ header_of old
-  pub front : front_of new ≡ front_of old
-  pub batches : batches new ≡ batches old
-  pub end : end new ≡ end old
-  pub closed : is_closed new ≡ is_closed old
-  pub torn : torn new ≡ torn old
-
--- This place is a gate: that behind some of the first batches, and in the area in any case.
-pub record IsGate {A : Type 0} {tells : Ghosts A} (journal : Journal A tells) (gate : ℕ) : Type 0 where
-  pub low : 32 ≤ gate
-  pub high : gate ≤ end journal
-  pub behind : Told tells → (some : List (List ℕ)) × (more : List (List ℕ)) × (batches journal ≡ some ++ more) × (gate ≡ end_of some)
-
--- a batch of the journal: behind this gate its content begins at this place and has so many octets
-pub record IsBatch {A : Type 0} {tells : Ghosts A} (journal : Journal A tells) (gate at n : ℕ) : Type 0 where
-  pub before : List (List ℕ)
-  pub content : List ℕ
-  pub behind : List (List ℕ)
-  pub listed : batches journal ≡ before ++ content ∷ behind
-  pub gate_is : gate ≡ end_of before
-  pub place : at ≡ gate + 5
-  pub size : n ≡ length content
-
--- These octets lie in the content of one batch, and in the area in any case.
-pub record IsInside {A : Type 0} {tells : Ghosts A} (journal : Journal A tells) (at n : ℕ) : Type 0 where
-  pub high : at + n ≤ end journal
-  pub content : Told tells → (some : List (List ℕ)) × (batch : List ℕ) × (more : List (List ℕ)) × (batches journal ≡ some ++ batch ∷ more) × (end_of some + 5 ≤ at) × (at + n ≤ end_of some + 5 + length batch)
+-- a stop that comes now leaves the batches, with the torn one where that stands after its outcome
+abbrev pub StopLeaves : {A : Type 0} {tells : Ghosts A} → Journal A tells → Type 0
+StopLeaves {tells = tells} journal = (outcome : Outcome3) →
+    Keeps (front_of journal) (header_of journal) (left_by_stop outcome journal) ((tells.fate (area_of journal)).leaves outcome)

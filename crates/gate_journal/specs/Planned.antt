@@ -1,8 +1,9 @@
 -- What comes by the plan of the calls of an append, and what a stop leaves of its batch.
-use Rattle.std.specs.Prelude.{◌≡◌, ℕ, Bool, true, false, ◌==◌, List, Result, is_err}
+use Rattle.std.specs.Prelude.{◌≡◌, ℕ, Bool, true, false, ◌==◌, List, [], Result, is_err}
 use Rattle.area_disk.specs.Disk.{overwritten}
-pub use Rattle.area_disk.specs.Course.{Course, course_of, fate_of_write, fate_of_sync, after_write, after_sync}
-use Rattle.area_disk.specs.Plan.{Schedule, Prospect, next_fate, fate_with, after_call, spare_after_write, spare_after_sync, written_as, is_failure}
+pub use Rattle.area_disk.specs.Armed.{ReadsRun}
+pub use Rattle.area_disk.specs.Course.{Course, ReadOn, course_of, fate_of_write, fate_of_sync, after_write, after_sync}
+use Rattle.area_disk.specs.Plan.{Prospect, written_as, is_failure}
 use Rattle.area_disk.specs.declared.plan.Fate.{Fate}
 use Rattle.area_disk.specs.declared.plan.Fate.TheVariants.{Runs, Fails, Stops}
 use Rattle.area_disk.specs.declared.plan.Outcome3.{Outcome3}
@@ -106,8 +107,9 @@ outcome_left (Stops stop) outcome = stop
 abbrev pub with_reads : ℕ → Course → Course
 with_reads reads course = record { schedule = record course.schedule { reads = reads }; spare = course.spare }
 
--- A sync and the reads behind it came out as was planned.
-pub record SyncPlanned {T E : Type 0} (old : Prospect) (result : Result T E) (new : Prospect) : Type 0 where
-  pub failed : is_failure (fate_of_sync (course_of old)) ≡ true → is_err result ≡ true
+-- A sync and the reads after it came out as was planned: they fail where the sync does, and else where a read does.
+pub record SyncPlanned (old : Prospect) (failed : Bool) (new : Prospect) : Type 0 where
+  pub fails : is_failure (fate_of_sync (course_of old)) ≡ true → failed ≡ true
+  pub runs : old.schedule.read_fail ≡ [] → failed ≡ is_failure (fate_of_sync (course_of old))
   pub course : course_of new ≡ with_reads new.schedule.reads (after_sync (fate_of_sync (course_of old)) (course_of old))
   pub leaves : (outcome : Outcome3) → new.leaves outcome ≡ old.leaves (outcome_left (fate_of_sync (course_of old)) outcome)

@@ -1,9 +1,10 @@
 // Batches before a place of an area, whatever stands at that place: those of an area that is no journal.
-ghost use Rattle.std.specs.Prelude.{◌≡◌, ◌+◌, ◌<◌, ◌≤◌, ℕ, IsTrue, IfOk, IfSome, OnOk, List, ◌∷◌, ◌++◌, length, Some};
+ghost use Rattle.std.specs.Prelude.{◌≡◌, ◌+◌, ◌<◌, ◌≤◌, IsTrue, IfOk, IfSome, OnOk, false, is_err, length};
 ghost use Rattle.area_disk.specs.Disk.{HasCause};
-ghost use Rattle.gate_journal.specs.Before.{AreBefore};
-ghost use Rattle.gate_journal.specs.Format.{end_of, header_length, longest_batch};
+ghost use Rattle.gate_journal.specs.Before.{IsFoundBefore, IsReadBefore};
+ghost use Rattle.gate_journal.specs.Format.{longest_batch};
 ghost use Rattle.gate_journal.specs.Moments.{Kept};
+ghost use Rattle.gate_journal.specs.Planned.{ReadsRun};
 
 use crate::Device;
 use crate::journal::content_behind;
@@ -22,12 +23,13 @@ pub fn batch_before<A: Area>(
     requires inside { gate < end }
     requires short { A.size area.old ≤ 268435456 }
 
-    ensures found { IsTrue A.tells_octets → (header : List ℕ) (some : List (List ℕ)) (batch : List ℕ) (more : List (List ℕ)) → length header ≡ header_length → AreBefore header (A.octets area.old) end (some ++ batch ∷ more) → gate ≡ end_of some →
-        IfOk result (λ found. found ≡ Some (gate + 5, length batch)) }
-    ensures inside { IfOk result (λ found. IfSome found (λ content. (content.0 ≡ gate + 5) × (content.0 + content.1 ≤ end))) }
+    ensures found { IsTrue A.tells_octets → IfOk result (λ found. IsFoundBefore (A.octets area.old) end gate found) }
+    ensures inside { IfOk result (λ found.
+        IfSome found (λ content. (content.0 ≡ gate + 5) × (content.0 + content.1 ≤ end))) }
     ensures within { IfOk result (λ found. IfSome found (λ content. content.0 + content.1 < A.size area.old)) }
     ensures short { IfOk result (λ found. IfSome found (λ content. content.1 ≤ longest_batch)) }
     ensures kept { Kept A.Area area.old area.new }
+    ensures runs { IsTrue A.tells_fate → ReadsRun (A.fate area.old).schedule → is_err result ≡ false }
     ensures cause { HasCause (A.faults area.old) (A.faults area.new) result }
 {
     let end = end.min(area.length());
@@ -47,9 +49,10 @@ pub fn batch_before<A: Area>(
 pub fn read_before<A: Area>(area: &mut A, at: u64, into: &mut [u8]) -> Result<(), Device>
     requires inside { at + length into.old ≤ A.size area.old }
 
-    ensures content { IsTrue A.tells_octets → (header : List ℕ) (end : ℕ) (some : List (List ℕ)) (batch : List ℕ) (more : List (List ℕ)) → length header ≡ header_length → AreBefore header (A.octets area.old) end (some ++ batch ∷ more) →
-        at ≡ end_of some + 5 → length into.old ≡ length batch → OnOk result (into.new ≡ batch) }
+    ensures content { IsTrue A.tells_octets →
+        OnOk result (IsReadBefore (A.octets area.old) at (length into.old) into.new) }
     ensures kept { Kept A.Area area.old area.new }
+    ensures runs { IsTrue A.tells_fate → ReadsRun (A.fate area.old).schedule → is_err result ≡ false }
     ensures cause { HasCause (A.faults area.old) (A.faults area.new) result }
 {
     match area.read_at(at, into) {

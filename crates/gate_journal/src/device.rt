@@ -14,9 +14,11 @@ pub fn put<A: Area>(area: &mut A, at: u64, from: &[u8]) -> Result<(), Failed>
     requires { at + length from.now ≤ A.size area.old }
 
     ensures size { A.size area.new ≡ A.size area.old }
-    ensures written { IsTrue A.tells_octets → OnOk result (A.octets area.new ≡ overwritten (A.octets area.old) at from.now) }
+    ensures written { IsTrue A.tells_octets →
+        OnOk result (A.octets area.new ≡ overwritten (A.octets area.old) at from.now) }
     ensures durable { IsTrue A.tells_crash → OnOk result (Only (A.octets area.new) (A.may_leave area.new)) }
-    ensures any_moment { Only (A.octets area.old) (A.may_leave area.old) → Leaves A.Area area.old area.new (Torn at (length from.now) (A.octets area.old)) }
+    ensures any_moment { Only (A.octets area.old) (A.may_leave area.old) →
+        Leaves A.Area area.old area.new (Torn at (length from.now) (A.octets area.old)) }
 
     ensures calls { IsTrue A.tells_calls → Calls 2 (A.calls area.old) (A.calls area.new) result }
     ensures planned { IsTrue A.tells_fate → PutPlanned (A.fate area.old) at from.now result (A.fate area.new) }
@@ -34,11 +36,13 @@ pub fn add<A: Area>(area: &mut A, gate: u64, frame: &[u8]) -> Result<(), Failed>
     ensures size { A.size area.new ≡ A.size area.old }
     ensures added { IsTrue A.tells_octets → OnOk result (A.octets area.new ≡ added gate frame.now (A.octets area.old)) }
     ensures durable { IsTrue A.tells_crash → OnOk result (Only (A.octets area.new) (A.may_leave area.new)) }
-    ensures any_moment { Told A.Area → gate_at (A.octets area.old) gate ≢ open_gate → Only (A.octets area.old) (A.may_leave area.old) →
+    ensures any_moment { Told A.Area →
+        gate_at (A.octets area.old) gate ≢ open_gate → Only (A.octets area.old) (A.may_leave area.old) →
         Leaves A.Area area.old area.new (IsAdding gate frame.now (A.octets area.old)) }
 
     ensures calls { IsTrue A.tells_calls → Calls 4 (A.calls area.old) (A.calls area.new) result }
-    ensures planned { IsTrue A.tells_fate → Told A.Area → gate_at (A.octets area.old) gate ≢ open_gate → Only (A.octets area.old) (A.may_leave area.old) →
+    ensures planned { IsTrue A.tells_fate → Told A.Area →
+        gate_at (A.octets area.old) gate ≢ open_gate → Only (A.octets area.old) (A.may_leave area.old) →
         AppendPlanned (A.fate area.old) gate result (A.fate area.new) }
     ensures cause { HasCause (A.faults area.old) (A.faults area.new) result }
 {

@@ -6,7 +6,8 @@ use crate::Journal;
 use area_disk::{DrillArea, Plan};
 
 impl<A: DrillArea> Journal<A> {
-    ghost use Rattle.gate_journal.specs.Journal.{area_of, IsArmed};
+    ghost use Rattle.gate_journal.specs.Journal.{area_of};
+    ghost use Rattle.gate_journal.specs.Kept.{IsArmed};
 
     /// Puts this plan in the place of the one before it. The calls of the device are counted anew from 1.
     pub fn arm(&mut self, plan: Plan)

@@ -1,10 +1,12 @@
 // A journal of batches on an area.
-ghost use Rattle.std.specs.Prelude.{vec_len, min, ◌≡◌, ◌↔◌, ◌⊎◌, ◌≢◌, ℕ, ◌+◌, ◌-◌, ◌<◌, ◌≤◌, IsTrue, IsNone, IfSome, false, true, List, [], ◌∷◌, ◌++◌, length, take, drop, Some, is_err, OnOk, OnErr, IfOk, IfErr};
-ghost use Rattle.area_disk.specs.Disk.{Only, HasCause, Rose, counted};
-ghost use Rattle.gate_journal.specs.Format.{longest_batch, end_of, header, Stands, Starts, IsForeign};
-ghost use Rattle.gate_journal.specs.Moments.{Told, Leaves, RoseUpTo, Calls};
+ghost use Rattle.std.specs.Prelude.{vec_len, min, ◌≡◌, ◌↔◌, ◌≢◌, ℕ, ◌+◌, ◌<◌, ◌≤◌, IsTrue, IsNone, IfSome, false, true, length, is_err, OnOk, OnErr, IfOk};
+ghost use Rattle.area_disk.specs.Disk.{HasCause, Only};
+ghost use Rattle.area_disk.specs.Plan.{ReadAsPlanned};
+ghost use Rattle.gate_journal.specs.Format.{end_of, header, longest_batch};
+ghost use Rattle.gate_journal.specs.Moments.{Counts, CountsOne, Told};
+ghost use Rattle.gate_journal.specs.Planned.{ReadsRun};
+ghost use Rattle.gate_journal.specs.State.{IsListed, IsSound, batches_below, front_after, gate_after};
 ghost use Rattle.gate_journal.specs.Verdicts.{content_at};
-ghost use Rattle.gate_journal.specs.State.{IsSound, IsListed, Keeps, batches_below, gate_after, front_after};
 
 use crate::device::{add, put};
 use crate::format::{FIRST, OPEN, fill};
@@ -45,9 +47,14 @@ pub struct Journal<A: Area> {
 }
 
 impl<A: Area> Journal<A> {
-    ghost use Rattle.gate_journal.specs.Journal.{area_of, header_of, front_of, batches, end, free_of, is_closed, torn, torn_stands, stop_stands, left_by_stop, AppendFollows, ReopenFollows, reopened, reopened_end, reopened_front, KeepsOr, IsSettled, IsSame, IsUnchanged, IsKept, IsGate, IsBatch, IsInside};
-    ghost use Rattle.area_disk.specs.declared.plan.Outcome3.{Outcome3};
-    ghost use Rattle.gate_journal.specs.declared.journal.Front.TheVariants.{Founded, Draft, Founding};
+    ghost use Rattle.area_disk.specs.declared.plan.Outcome3.TheVariants.{New};
+    ghost use Rattle.gate_journal.specs.Appending.{AppendCounts, AppendLeaves, AppendsAsPlanned, IsAppended, IsTorn};
+    ghost use Rattle.gate_journal.specs.Founding.{FoundFollows, FoundLeaves, FoundStays, IsFounded, IsFounding};
+    ghost use Rattle.gate_journal.specs.Journal.{IsSettled, NoneTorn, Rests, StopLeaves, area_of, batches, end, free_of, front_of, header_of, is_closed, stop_stands, torn_stands};
+    ghost use Rattle.gate_journal.specs.Kept.{IsKept, IsUnchanged, Stays};
+    ghost use Rattle.gate_journal.specs.Reading.{IsContent, IsFound, IsGate, IsInside, IsRead};
+    ghost use Rattle.gate_journal.specs.Reopening.{IsReopened, IsStill, ReopenFollows, ReopenLeaves, ReopenStays};
+    ghost use Rattle.gate_journal.specs.declared.journal.Front.TheVariants.{Draft, Founding};
 
     // A journal over an area whose octets are those of one.
     pub(crate) fn over(
@@ -94,35 +101,17 @@ impl<A: Area> Journal<A> {
         requires short { length batch.now ≤ longest_batch }
         requires ready { is_closed self.old ≡ false }
 
-        ensures ok { Told A.Area → OnOk result (batches self.new ≡ batches self.old ++ batch.now ∷ []) }
-        ensures err { Told A.Area → OnErr result (batches self.new ≡ batches self.old) }
-
-        // A crash at any moment of the call leaves the batches from before it, with the new one or without, on as many
-        // octets as the area has.
-        ensures any_moment { Told A.Area → Leaves A.Area (area_of self.old) (area_of self.new) (KeepsOr (front_of self.old) (header_of self.old) (batches self.old) batch.now) }
-        ensures sized { Told A.Area → Leaves A.Area (area_of self.old) (area_of self.new) (λ c. length c ≡ A.size (area_of self.old)) }
-        ensures settled { OnOk result (IsSettled self.new) }
-
-        ensures full { (free : ℕ) → (result ≡ Err (AppendFault.Full free)) ↔ ((free ≡ free_of self.old) × (free < length batch.now + 5)) }
+        ensures ok { OnOk result (IsAppended self.old self.new batch.now) }
+        ensures full { (free : ℕ) →
+            (result ≡ Err (AppendFault.Full free)) ↔ ((free ≡ free_of self.old) × (free < length batch.now + 5)) }
         ensures unchanged { (free : ℕ) → result ≡ Err (AppendFault.Full free) → IsUnchanged self.old self.new }
-        ensures device { result ≡ Err AppendFault.Device → Rose (A.faults (area_of self.old)) (A.faults (area_of self.new)) }
-        ensures no_fault { OnOk result (A.faults (area_of self.new) ≡ A.faults (area_of self.old)) }
-        ensures faults { A.faults (area_of self.old) ≤ A.faults (area_of self.new) }
+        ensures torn { result ≡ Err AppendFault.Device → IsTorn self.old self.new batch.now }
 
-        // After a fault of the device it is closed, and keeps the batch that may stand.
-        ensures closed { IsTrue (is_closed self.new) ↔ (result ≡ Err AppendFault.Device) }
-        ensures torn { result ≡ Err AppendFault.Device → torn self.new ≡ batch.now }
-
-        ensures same { IsSame self.old self.new }
-        ensures front { front_of self.new ≡ front_of self.old }
-        ensures end { OnOk result (end self.new ≡ end self.old + 5 + length batch.now) }
-        ensures end_err { OnErr result (end self.new ≡ end self.old) }
-
-        ensures calls { IsTrue A.tells_calls → OnOk result (A.calls (area_of self.new) ≡ counted 4 (A.calls (area_of self.old))) }
-        // Which call of the device failed or was stopped, and with which outcome, decides whether the batch stands.
-        ensures planned { IsTrue A.tells_fate → Told A.Area → length batch.now + 5 ≤ free_of self.old → AppendFollows self.old self.new result }
-
-        ensures calls_device { IsTrue A.tells_calls → result ≡ Err AppendFault.Device → RoseUpTo 4 (A.calls (area_of self.old)) (A.calls (area_of self.new)) }
+        // A crash at any moment of the call leaves the batches from before it, with the new one or without.
+        ensures any_moment { Told A.Area → AppendLeaves self.old self.new batch.now }
+        ensures stays { Stays self.old self.new }
+        ensures counted { AppendCounts self.old self.new result }
+        ensures planned { AppendsAsPlanned self.old self.new (length batch.now) (is_err result) }
     {
         let free = self.area.length() - 1 - self.gate;
         let length = batch.len() as u64;
@@ -149,34 +138,14 @@ impl<A: Area> Journal<A> {
     ///
     /// It takes no memory.
     pub fn reopen(&mut self) -> Result<(), Device>
-        ensures ok { Told A.Area → OnOk result (batches self.new ≡ reopened self.old) }
-        ensures err { Told A.Area → OnErr result (batches self.new ≡ batches self.old) }
+        ensures ok { OnOk result (IsReopened self.old self.new) }
+        ensures err { OnErr result (IsStill self.old self.new) }
 
-        // A crash at any moment of the call leaves the batches, with one whose append failed or without, on as many
-        // octets as the area has.
-        ensures any_moment { Told A.Area → Leaves A.Area (area_of self.old) (area_of self.new) (KeepsOr (front_of self.old) (header_of self.old) (batches self.old) (torn self.old)) }
-        ensures any_moment_ready { Told A.Area → is_closed self.old ≡ false → Leaves A.Area (area_of self.old) (area_of self.new) (Keeps (front_of self.old) (header_of self.old) (batches self.old)) }
-        ensures sized { Told A.Area → Leaves A.Area (area_of self.old) (area_of self.new) (λ c. length c ≡ A.size (area_of self.old)) }
-        ensures settled { OnOk result (IsSettled self.new) }
-
-        ensures opened { OnOk result (is_closed self.new ≡ false) }
-        ensures closed { OnErr result (is_closed self.new ≡ is_closed self.old) }
-        ensures torn { OnErr result (torn self.new ≡ torn self.old) }
-        ensures front { Told A.Area → OnOk result (front_of self.new ≡ reopened_front self.old) }
-        ensures front_err { OnErr result (front_of self.new ≡ front_of self.old) }
-        ensures founded { front_of self.old ≡ Founded → front_of self.new ≡ Founded }
-
-        // The list ends where it did, or behind the batch whose append failed: just where that stands, if the area tells.
-        ensures end { OnOk result ((end self.new ≡ end self.old) ⊎ (end self.new ≡ end self.old + 5 + length (torn self.old))) }
-        ensures end_told { Told A.Area → OnOk result (end self.new ≡ reopened_end self.old) }
-        ensures end_ready { is_closed self.old ≡ false → end self.new ≡ end self.old }
-        ensures end_err { OnErr result (end self.new ≡ end self.old) }
-
-        ensures planned { IsTrue A.tells_fate → ReopenFollows self.old self.new result }
-
-        ensures same { IsSame self.old self.new }
-        ensures calls { IsTrue A.tells_calls → A.calls (area_of self.new) ≡ counted 1 (A.calls (area_of self.old)) }
-        ensures cause { HasCause (A.faults (area_of self.old)) (A.faults (area_of self.new)) result }
+        // A crash at any moment of the call leaves the batches, with one whose append failed or without.
+        ensures any_moment { ReopenLeaves self.old self.new }
+        ensures stays { ReopenStays self.old self.new }
+        ensures counted { CountsOne A.Area (area_of self.old) (area_of self.new) result }
+        ensures planned { IsTrue A.tells_fate → ReopenFollows self.old self.new (is_err result) }
     {
         match see(&mut self.area, self.gate) {
             Ok(ends) => {
@@ -197,21 +166,14 @@ impl<A: Area> Journal<A> {
         requires draft { front_of self.old ≡ Draft }
         requires ready { is_closed self.old ≡ false }
 
-        ensures batches { Told A.Area → batches self.new ≡ batches self.old }
+        ensures ok { OnOk result (IsFounded self.new) }
+        ensures err { OnErr result (IsFounding self.new) }
 
         // A crash at any moment of the call leaves an area that starts, or one with the batches.
-        ensures any_moment { Told A.Area → Leaves A.Area (area_of self.old) (area_of self.new) (Keeps Founding (header_of self.old) (batches self.old)) }
-        ensures settled { OnOk result (IsSettled self.new) }
-
-        ensures founded { OnOk result (front_of self.new ≡ Founded) }
-        ensures founding { OnErr result (front_of self.new ≡ Founding) }
-        ensures closed { is_closed self.new ≡ is_err result }
-
-        ensures same { IsSame self.old self.new }
-        ensures end { end self.new ≡ end self.old }
-        ensures torn_stands { torn_stands self.new ≡ false }
-        ensures calls { IsTrue A.tells_calls → Calls 2 (A.calls (area_of self.old)) (A.calls (area_of self.new)) result }
-        ensures cause { HasCause (A.faults (area_of self.old)) (A.faults (area_of self.new)) result }
+        ensures any_moment { FoundLeaves self.old self.new }
+        ensures stays { FoundStays self.old self.new }
+        ensures counted { Counts 2 A.Area (area_of self.old) (area_of self.new) result }
+        ensures planned { IsTrue A.tells_fate → FoundFollows self.old self.new result }
     {
         match put(&mut self.area, 0, &[FIRST]) {
             Ok(()) => {
@@ -232,9 +194,10 @@ impl<A: Area> Journal<A> {
     pub fn read(&mut self, at: u64, into: &mut [u8]) -> Result<(), Device>
         requires inside { IsInside self.old at (length into.old) }
 
-        ensures content { Told A.Area → (some : List (List ℕ)) (batch : List ℕ) (more : List (List ℕ)) → batches self.old ≡ some ++ batch ∷ more → end_of some + 5 ≤ at → at + length into.old ≤ end_of some + 5 + length batch →
-            OnOk result (into.new ≡ take (length into.old) (drop (at - (end_of some + 5)) batch)) }
+        ensures content { Told A.Area → OnOk result (IsRead self.old at (length into.old) into.new) }
         ensures kept { IsKept self.old self.new }
+        ensures planned { IsTrue A.tells_fate →
+            ReadAsPlanned (A.fate (area_of self.old)) result (A.fate (area_of self.new)) }
         ensures cause { HasCause (A.faults (area_of self.old)) (A.faults (area_of self.new)) result }
     {
         match self.area.read_at(at, into) {
@@ -251,15 +214,13 @@ impl<A: Area> Journal<A> {
         requires gate { IsGate self.old gate }
         requires ready { is_closed self.old ≡ false }
 
-        ensures found { Told A.Area → (some : List (List ℕ)) (batch : List ℕ) (more : List (List ℕ)) → batches self.old ≡ some ++ batch ∷ more → gate ≡ end_of some →
-            IfOk result (λ found. found ≡ Some (gate + 5, length batch)) }
-        ensures some { Told A.Area → IfOk result (λ found. IfSome found (λ content. IsBatch self.old gate content.0 content.1)) }
-        ensures next { IfOk result (λ found. IfSome found (λ content. IsGate self.new (content.0 + content.1))) }
+        ensures found { Told A.Area → IfOk result (λ found. IsFound self.old gate found) }
+        ensures some { IfOk result (λ found.
+            IfSome found (λ content. IsContent self.old self.new gate content.0 content.1)) }
         ensures none { Told A.Area → IfOk result (λ found. IsNone found ↔ (gate ≡ end self.old)) }
         ensures end { gate ≡ end self.old → IfOk result (λ found. IsNone found) }
-        ensures inside { IfOk result (λ found. IfSome found (λ content. (content.0 ≡ gate + 5) × (content.0 + content.1 ≤ end self.old))) }
-        ensures short { IfOk result (λ found. IfSome found (λ content. content.1 ≤ longest_batch)) }
         ensures kept { IsKept self.old self.new }
+        ensures runs { IsTrue A.tells_fate → ReadsRun (A.fate (area_of self.old)).schedule → is_err result ≡ false }
         ensures cause { HasCause (A.faults (area_of self.old)) (A.faults (area_of self.new)) result }
     {
         if gate >= self.gate {
@@ -285,8 +246,12 @@ impl<A: Area> Journal<A> {
     pub fn is_closed(&self) -> bool
         ensures closed { result ≡ is_closed self.now }
         ensures settled { result ≡ false → IsSettled self.now }
-        ensures none_torn { result ≡ false → (outcome : Outcome3) → stop_stands outcome self.now ≡ false }
-        ensures stop { IsTrue A.tells_fate → Told A.Area → (outcome : Outcome3) → Keeps (front_of self.now) (header_of self.now) (left_by_stop outcome self.now) ((A.fate (area_of self.now)).leaves outcome) }
+        ensures none_torn { result ≡ false → NoneTorn self.now }
+
+        // A crash leaves the batches, with one whose append failed or without.
+        ensures rests { Rests self.now }
+        ensures torn { IsTrue A.tells_fate → torn_stands self.now ≡ stop_stands New self.now }
+        ensures stop { IsTrue A.tells_fate → Told A.Area → StopLeaves self.now }
     {
         match self.front {
             Front::Founded | Front::Draft => self.is_torn,
@@ -296,7 +261,11 @@ impl<A: Area> Journal<A> {
 
     /// Hands the area back as it is.
     pub fn into_area(self) -> A
-        ensures { result ≡ area_of self }
+        ensures area { result ≡ area_of self }
+        ensures long { 100 ≤ A.size result }
+        ensures short { A.size result ≤ 268435456 }
+        ensures rests { Rests self }
+        ensures stop { IsTrue A.tells_fate → Told A.Area → StopLeaves self }
     {
         let Journal {
             area,

@@ -9,10 +9,12 @@ mod format;
 mod journal;
 mod opening;
 mod reading;
+mod starting;
 
 pub use before::{batch_before, read_before};
 pub use faults::{AppendFault, Device, OpenFault};
 pub use journal::{Front, Journal};
+pub use starting::starts;
 
 #[cfg(test)]
 mod tests;

@@ -1,12 +1,15 @@
 // How a journal is opened, drafted and made anew.
-ghost use Rattle.std.specs.Prelude.{vec_len, ◌≡◌, ◌≢◌, ◌⊎◌, ◌+◌, ◌<◌, ◌≤◌, ℕ, IsTrue, min, false, [], ◌∷◌, ◌++◌, List, length, take, drop, slice_index, OnOk, IfOk, IfErr, IsErrAnd};
-ghost use Rattle.area_disk.specs.Disk.{Only, HasCause, Rose, counted};
-ghost use Rattle.gate_journal.specs.Format.{header, Stands, Starts, IsForeign, IsBroken};
-ghost use Rattle.gate_journal.specs.Moments.{Told, Leaves, Kept, Calls, RoseUpTo};
-ghost use Rattle.gate_journal.specs.Opening.{OnArea, IsLaid, IsMaking};
+ghost use Rattle.std.specs.Prelude.{vec_len, ◌≡◌, ◌⊎◌, ◌+◌, ◌≤◌, ℕ, IsTrue, min, false, [], ◌∷◌, ◌++◌, length, take, drop, slice_index, is_err, OnOk, IfOk, IfErr, IsErrAnd};
+ghost use Rattle.area_disk.specs.Disk.{HasCause, Only, counted};
+ghost use Rattle.gate_journal.specs.Format.{IsBroken, IsForeign, Starts, header};
+ghost use Rattle.gate_journal.specs.Journal.{area_of};
+ghost use Rattle.gate_journal.specs.Making.{IsAnew, IsDeviceOr, IsReadyWith};
+ghost use Rattle.gate_journal.specs.Moments.{Calls, Kept, Leaves, RoseUpTo, Told};
+ghost use Rattle.gate_journal.specs.OpenPlanned.{DraftFollows, MadeBy, OpenFollows};
+ghost use Rattle.gate_journal.specs.Opening.{DraftCounts, IsDrafted, IsLaid, IsMaking, IsOpened, IsRefused, IsUndrafted, OnArea, OpenCounts, OpenLeaves, RoseByDevice, header_for, is_device};
+ghost use Rattle.gate_journal.specs.Planned.{ReadsRun, after_append, after_put, append_fails, course_of, ending_of, is_ended};
 ghost use Rattle.gate_journal.specs.Verdicts.{IsVerdict};
-ghost use Rattle.gate_journal.specs.Journal.{area_of, header_of, front_of, batches, end, is_closed, IsSettled};
-ghost use Rattle.gate_journal.specs.declared.journal.Front.TheVariants.{Founded, Draft};
+ghost use Rattle.gate_journal.specs.declared.journal.Front.TheVariants.{Draft, Founded};
 ghost use Rattle.gate_journal.specs.declared.reading.Verdict.TheVariants.{Starts as Begins};
 
 use crate::device::put;
@@ -34,8 +37,11 @@ fn lay_front<A: Area>(area: &mut A, header: &[u8; 32], blank: bool) -> Result<()
     ensures size { A.size area.new ≡ A.size area.old }
     ensures laid { IsTrue A.tells_octets → OnOk result (IsLaid header.now (A.octets area.new)) }
     ensures durable { IsTrue A.tells_crash → OnOk result (Only (A.octets area.new) (A.may_leave area.new)) }
-    ensures any_moment { IsTrue A.tells_octets → Only (A.octets area.old) (A.may_leave area.old) → Leaves A.Area area.old area.new (Starts header.now) }
+    ensures any_moment { IsTrue A.tells_octets → Only (A.octets area.old) (A.may_leave area.old) →
+        Leaves A.Area area.old area.new (Starts header.now) }
     ensures calls { IsTrue A.tells_calls → Calls 2 (A.calls area.old) (A.calls area.new) result }
+    ensures fails { IsTrue A.tells_fate → is_err result ≡ is_ended (ending_of (course_of (A.fate area.old))) }
+    ensures course { IsTrue A.tells_fate → course_of (A.fate area.new) ≡ after_put (course_of (A.fate area.old)) }
     ensures cause { HasCause (A.faults area.old) (A.faults area.new) result }
 {
     if blank {
@@ -64,24 +70,22 @@ fn lay<A: Area>(
 ) -> Result<Journal<A>, (OpenFault, A)>
     requires long { 100 ≤ A.size area }
     requires short { A.size area ≤ 268435456 }
-    requires begun { IsTrue A.tells_octets → IsVerdict (header (A.size area) address generation) (A.octets area) (Begins blank) }
+    requires begun { IsTrue A.tells_octets →
+        IsVerdict (header (A.size area) address generation) (A.octets area) (Begins blank) }
     requires durable { IsTrue A.tells_crash → Only (A.octets area) (A.may_leave area) }
 
-    ensures settled { IfOk result (λ journal. IsSettled journal) }
-    ensures draft { IfOk result (λ journal. front_of journal ≡ Draft) }
-    ensures open { IfOk result (λ journal. is_closed journal ≡ false) }
-    ensures batches { Told A.Area → IfOk result (λ journal. batches journal ≡ []) }
-    ensures header { IfOk result (λ journal. header_of journal ≡ header (A.size area) address generation) }
-
-    ensures fault { IfErr result (λ fault. (fault.0 ≡ OpenFault.Device) ⊎ ((fault.0 ≡ OpenFault.NoMemory) × (fault.1 ≡ area))) }
-    ensures any_moment { Told A.Area → OnArea result (λ now. Leaves A.Area area now (Starts (header (A.size area) address generation))) }
-
+    ensures ok { IfOk result (λ journal. IsAnew Draft (header_for A.Area area address generation) journal) }
+    ensures fault { IfErr result (λ fault. IsDeviceOr area fault) }
+    ensures any_moment { Told A.Area →
+        OnArea result (λ now. Leaves A.Area area now (Starts (header_for A.Area area address generation))) }
     ensures size { OnArea result (λ now. A.size now ≡ A.size area) }
-    ensures calls { IsTrue A.tells_calls → IfOk result (λ journal. A.calls (area_of journal) ≡ counted 2 (A.calls area)) }
-    ensures calls_device { IsTrue A.tells_calls → IfErr result (λ fault. fault.0 ≡ OpenFault.Device → RoseUpTo 2 (A.calls area) (A.calls fault.1)) }
-    ensures faults { IfOk result (λ journal. A.faults (area_of journal) ≡ A.faults area) }
-    ensures faults_err { IfErr result (λ fault. A.faults area ≤ A.faults fault.1) }
-    ensures device { IfErr result (λ fault. fault.0 ≡ OpenFault.Device → Rose (A.faults area) (A.faults fault.1)) }
+    ensures calls { IsTrue A.tells_calls →
+        IfOk result (λ journal. A.calls (area_of journal) ≡ counted 2 (A.calls area)) }
+    ensures calls_device { IsTrue A.tells_calls →
+        IfErr result (λ fault. fault.0 ≡ OpenFault.Device → RoseUpTo 2 (A.calls area) (A.calls fault.1)) }
+    ensures planned { IsTrue A.tells_fate → is_ended (ending_of (course_of (A.fate area))) ≡ false →
+        MadeBy A.Area result (after_put (course_of (A.fate area))) }
+    ensures cause { RoseByDevice A.Area area result }
 {
     let length = area.length();
     let Ok(buffer) = buffer_for(alloc, length) else {
@@ -106,17 +110,15 @@ fn list<A: Area>(
     requires same { IsTrue A.tells_octets → take 32 (A.octets area) ≡ header (A.size area) address generation }
     requires durable { IsTrue A.tells_crash → Only (A.octets area) (A.may_leave area) }
 
-    ensures settled { IfOk result (λ journal. IsSettled journal) }
-    ensures founded { IfOk result (λ journal. front_of journal ≡ Founded) }
-    ensures open { IfOk result (λ journal. is_closed journal ≡ false) }
-    ensures header { IfOk result (λ journal. header_of journal ≡ header (A.size area) address generation) }
-
-    ensures broken { IsTrue A.tells_octets → IfErr result (λ fault. (at : ℕ) → fault.0 ≡ OpenFault.NotOurs at → IsBroken (header (A.size area) address generation) (A.octets area) at) }
-    ensures foreign { IsTrue A.tells_octets → (at : ℕ) → IsBroken (header (A.size area) address generation) (A.octets area) at → IsErrAnd result (λ fault. (fault.0 ≡ OpenFault.NotOurs at) ⊎ (fault.0 ≡ OpenFault.Device)) }
+    ensures ok { IfOk result (λ journal. IsReadyWith Founded (header_for A.Area area address generation) journal) }
+    ensures broken { IsTrue A.tells_octets → IfErr result (λ fault. (at : ℕ) → fault.0 ≡ OpenFault.NotOurs at →
+        IsBroken (header_for A.Area area address generation) (A.octets area) at) }
+    ensures foreign { IsTrue A.tells_octets → (at : ℕ) →
+        IsBroken (header_for A.Area area address generation) (A.octets area) at →
+        IsErrAnd result (λ fault. (fault.0 ≡ OpenFault.NotOurs at) ⊎ (fault.0 ≡ OpenFault.Device)) }
     ensures kept { OnArea result (λ now. Kept A.Area area now) }
-    ensures faults { IfOk result (λ journal. A.faults (area_of journal) ≡ A.faults area) }
-    ensures faults_err { IfErr result (λ fault. A.faults area ≤ A.faults fault.1) }
-    ensures device { IfErr result (λ fault. fault.0 ≡ OpenFault.Device → Rose (A.faults area) (A.faults fault.1)) }
+    ensures runs { IsTrue A.tells_fate → ReadsRun (A.fate area).schedule → is_device result ≡ false }
+    ensures cause { RoseByDevice A.Area area result }
 {
     match scan(&mut area) {
         Ok(Scanned::End { gate }) => {
@@ -140,24 +142,23 @@ fn make_anew<A: Area>(
 ) -> Result<Journal<A>, (OpenFault, A)>
     requires long { 100 ≤ A.size area }
     requires short { A.size area ≤ 268435456 }
-    requires begun { IsTrue A.tells_octets → IsVerdict (header (A.size area) address generation) (A.octets area) (Begins blank) }
+    requires begun { IsTrue A.tells_octets →
+        IsVerdict (header (A.size area) address generation) (A.octets area) (Begins blank) }
     requires durable { IsTrue A.tells_crash → Only (A.octets area) (A.may_leave area) }
 
-    ensures settled { IfOk result (λ journal. IsSettled journal) }
-    ensures founded { IfOk result (λ journal. front_of journal ≡ Founded) }
-    ensures open { IfOk result (λ journal. is_closed journal ≡ false) }
-    ensures batches { Told A.Area → IfOk result (λ journal. batches journal ≡ []) }
-    ensures header { IfOk result (λ journal. header_of journal ≡ header (A.size area) address generation) }
-
-    ensures fault { IfErr result (λ fault. (fault.0 ≡ OpenFault.Device) ⊎ ((fault.0 ≡ OpenFault.NoMemory) × (fault.1 ≡ area))) }
-    ensures any_moment { Told A.Area → OnArea result (λ now. Leaves A.Area area now (IsMaking (header (A.size area) address generation))) }
-
+    ensures ok { IfOk result (λ journal. IsAnew Founded (header_for A.Area area address generation) journal) }
+    ensures fault { IfErr result (λ fault. IsDeviceOr area fault) }
+    ensures any_moment { Told A.Area →
+        OnArea result (λ now. Leaves A.Area area now (IsMaking (header_for A.Area area address generation))) }
     ensures size { OnArea result (λ now. A.size now ≡ A.size area) }
-    ensures calls { IsTrue A.tells_calls → IfOk result (λ journal. A.calls (area_of journal) ≡ counted 4 (A.calls area)) }
-    ensures calls_device { IsTrue A.tells_calls → IfErr result (λ fault. fault.0 ≡ OpenFault.Device → RoseUpTo 4 (A.calls area) (A.calls fault.1)) }
-    ensures faults { IfOk result (λ journal. A.faults (area_of journal) ≡ A.faults area) }
-    ensures faults_err { IfErr result (λ fault. A.faults area ≤ A.faults fault.1) }
-    ensures device { IfErr result (λ fault. fault.0 ≡ OpenFault.Device → Rose (A.faults area) (A.faults fault.1)) }
+    ensures calls { IsTrue A.tells_calls →
+        IfOk result (λ journal. A.calls (area_of journal) ≡ counted 4 (A.calls area)) }
+    ensures calls_device { IsTrue A.tells_calls →
+        IfErr result (λ fault. fault.0 ≡ OpenFault.Device → RoseUpTo 4 (A.calls area) (A.calls fault.1)) }
+    ensures planned { IsTrue A.tells_fate →
+        append_fails (ending_of (course_of (A.fate area))) (ending_of (after_put (course_of (A.fate area)))) ≡ false →
+        MadeBy A.Area result (after_append (course_of (A.fate area))) }
+    ensures cause { RoseByDevice A.Area area result }
 {
     match lay(alloc, area, blank, address, generation) {
         Err(fault) => Err(fault),
@@ -182,33 +183,19 @@ impl<A: Area> Journal<A> {
         requires long { 100 ≤ A.size area }
         requires short { A.size area ≤ 268435456 }
 
-        // The journal found is the one that the area stands for.
-        ensures reads { Told A.Area → (bs : List (List ℕ)) → Stands (header (A.size area) address generation) (A.octets area) bs → IfOk result (λ journal. batches journal ≡ bs) }
-        ensures anew { Told A.Area → Starts (header (A.size area) address generation) (A.octets area) → IfOk result (λ journal. batches journal ≡ []) }
-        ensures found { Told A.Area → IfOk result (λ journal. Starts (header (A.size area) address generation) (A.octets area) ⊎ (A.octets (area_of journal) ≡ A.octets area)) }
-        ensures settled { IfOk result (λ journal. IsSettled journal) }
-        ensures founded { IfOk result (λ journal. front_of journal ≡ Founded) }
-        ensures open { IfOk result (λ journal. is_closed journal ≡ false) }
-        ensures header { IfOk result (λ journal. header_of journal ≡ header (A.size area) address generation) }
+        ensures ok { IfOk result (λ journal.
+            IsOpened A.Area area (header_for A.Area area address generation) journal) }
+        ensures err { IfErr result (λ fault.
+            IsRefused A.Area area (header_for A.Area area address generation) fault.0 fault.1) }
+        ensures foreign { Told A.Area → (at : ℕ) →
+            IsForeign (header_for A.Area area address generation) (A.octets area) at →
+            IsErrAnd result (λ fault. (fault.0 ≡ OpenFault.NotOurs at) ⊎ (fault.0 ≡ OpenFault.Device)) }
+        ensures any_moment { OnArea result (λ now.
+            OpenLeaves A.Area area (header_for A.Area area address generation) now) }
         ensures size { OnArea result (λ now. A.size now ≡ A.size area) }
-
-        // A crash at any moment leaves what it could before, unless the area is made anew.
-        ensures moments { Told A.Area → (bs : List (List ℕ)) → Stands (header (A.size area) address generation) (A.octets area) bs → OnArea result (λ now. Leaves A.Area area now (A.may_leave area)) }
-        ensures moments_foreign { Told A.Area → (at : ℕ) → IsForeign (header (A.size area) address generation) (A.octets area) at → OnArea result (λ now. Leaves A.Area area now (A.may_leave area)) }
-        ensures moments_else { Told A.Area → (Starts (header (A.size area) address generation) (A.octets area) → ⊥) → OnArea result (λ now. Leaves A.Area area now (A.may_leave area)) }
-        ensures moments_anew { Told A.Area → Starts (header (A.size area) address generation) (A.octets area) → OnArea result (λ now. Leaves A.Area area now (λ c. A.may_leave area c ⊎ IsMaking (header (A.size area) address generation) c)) }
-
-        // Each error.
-        ensures not_ours { Told A.Area → IfErr result (λ fault. (at : ℕ) → fault.0 ≡ OpenFault.NotOurs at → IsForeign (header (A.size area) address generation) (A.octets area) at) }
-        ensures foreign { Told A.Area → (at : ℕ) → IsForeign (header (A.size area) address generation) (A.octets area) at → IsErrAnd result (λ fault. (fault.0 ≡ OpenFault.NotOurs at) ⊎ (fault.0 ≡ OpenFault.Device)) }
-        ensures device { IfErr result (λ fault. fault.0 ≡ OpenFault.Device → Rose (A.faults area) (A.faults fault.1)) }
-        ensures faults { IfOk result (λ journal. A.faults (area_of journal) ≡ A.faults area) }
-        ensures faults_err { IfErr result (λ fault. A.faults area ≤ A.faults fault.1) }
-        ensures unwritten { Told A.Area → IfErr result (λ fault. (fault.0 ≡ OpenFault.Device) ⊎ (A.octets fault.1 ≡ A.octets area)) }
-
-        ensures calls { IsTrue A.tells_calls → Told A.Area → (bs : List (List ℕ)) → Stands (header (A.size area) address generation) (A.octets area) bs → OnArea result (λ now. A.calls now ≡ counted 1 (A.calls area)) }
-        ensures calls_anew { IsTrue A.tells_calls → Told A.Area → Starts (header (A.size area) address generation) (A.octets area) → IfOk result (λ journal. A.calls (area_of journal) ≡ counted 5 (A.calls area)) }
-        ensures calls_any { IsTrue A.tells_calls → OnArea result (λ now. RoseUpTo 5 (A.calls area) (A.calls now)) }
+        ensures counted { OpenCounts A.Area area result (header_for A.Area area address generation) }
+        ensures planned { IsTrue A.tells_fate →
+            OpenFollows A.Area area result (header_for A.Area area address generation) }
     {
         let header = header_of(area.length(), address, generation);
         match look(&mut area, &header) {
@@ -234,26 +221,17 @@ impl<A: Area> Journal<A> {
         requires long { 100 ≤ A.size area }
         requires short { A.size area ≤ 268435456 }
 
-        ensures batches { Told A.Area → IfOk result (λ journal. batches journal ≡ []) }
-        ensures settled { IfOk result (λ journal. IsSettled journal) }
-        ensures draft { IfOk result (λ journal. front_of journal ≡ Draft) }
-        ensures open { IfOk result (λ journal. is_closed journal ≡ false) }
-        ensures header { IfOk result (λ journal. header_of journal ≡ header (A.size area) address generation) }
-        ensures size { OnArea result (λ now. A.size now ≡ A.size area) }
+        ensures ok { IfOk result (λ journal.
+            IsDrafted A.Area area (header_for A.Area area address generation) journal) }
+        ensures err { IfErr result (λ fault.
+            IsUndrafted A.Area area (header_for A.Area area address generation) fault.0 fault.1) }
 
         // A crash at any moment leaves what it could before, or an area that starts.
-        ensures moments { Told A.Area → OnArea result (λ now. Leaves A.Area area now (λ c. A.may_leave area c ⊎ Starts (header (A.size area) address generation) c)) }
-
-        // Each error.
-        ensures started { Told A.Area → IfOk result (λ journal. Starts (header (A.size area) address generation) (A.octets area)) }
-        ensures not_ours { Told A.Area → IfErr result (λ fault. (at : ℕ) → fault.0 ≡ OpenFault.NotOurs at → (at ≡ 0) × (Starts (header (A.size area) address generation) (A.octets area) → ⊥)) }
-        ensures device { IfErr result (λ fault. fault.0 ≡ OpenFault.Device → Rose (A.faults area) (A.faults fault.1)) }
-        ensures faults { IfOk result (λ journal. A.faults (area_of journal) ≡ A.faults area) }
-        ensures faults_err { IfErr result (λ fault. A.faults area ≤ A.faults fault.1) }
-        ensures unwritten { Told A.Area → IfErr result (λ fault. (fault.0 ≡ OpenFault.Device) ⊎ (A.octets fault.1 ≡ A.octets area)) }
-
-        ensures calls { IsTrue A.tells_calls → IfOk result (λ journal. A.calls (area_of journal) ≡ counted 3 (A.calls area)) }
-        ensures calls_any { IsTrue A.tells_calls → OnArea result (λ now. RoseUpTo 3 (A.calls area) (A.calls now)) }
+        ensures any_moment { Told A.Area → OnArea result (λ now. Leaves A.Area area now
+            (λ c. A.may_leave area c ⊎ Starts (header_for A.Area area address generation) c)) }
+        ensures size { OnArea result (λ now. A.size now ≡ A.size area) }
+        ensures counted { DraftCounts A.Area area result }
+        ensures planned { IsTrue A.tells_fate → DraftFollows A.Area area result }
     {
         let header = header_of(area.length(), address, generation);
         match look(&mut area, &header) {

@@ -1,10 +1,9 @@
 // What an opening reads: the header, and the batches up to the first closed gate.
-ghost use Rattle.std.specs.Prelude.{◌≡◌, ◌≢◌, ◌+◌, ◌<◌, ◌≤◌, ℕ, IsTrue, IfOk, OnOk, MatchOption, false, length, take, drop, slice_index};
+ghost use Rattle.std.specs.Prelude.{◌≡◌, ◌≢◌, ◌+◌, ◌<◌, ◌≤◌, ℕ, IsTrue, IfOk, OnOk, MatchOption, false, is_err, length, take, drop, slice_index};
 ghost use Rattle.area_disk.specs.Disk.{Only, HasCause, counted};
 ghost use Rattle.byteorder.specs.Endian.{big_number, big_bytes};
-ghost use Rattle.area_disk.specs.Plan.{ReadAsPlanned};
 ghost use Rattle.gate_journal.specs.Format.{gate_at, length_at};
-ghost use Rattle.gate_journal.specs.Planned.{SyncPlanned};
+ghost use Rattle.gate_journal.specs.Planned.{ReadsRun, SyncPlanned};
 ghost use Rattle.gate_journal.specs.Moments.{Leaves, Kept};
 ghost use Rattle.gate_journal.specs.Verdicts.{IsVerdict, IsBehind, Fits, IsScanned, LiesIn};
 
@@ -44,7 +43,8 @@ pub enum Scanned {
 }
 
 fn first_difference(header: &[u8; 32], read: &[u8; 32]) -> Option<usize>
-    ensures { MatchOption result (header.now ≡ read.now) (λ at. (at < 32) × (take at read.now ≡ take at header.now) × (slice_index read.now at ≢ slice_index header.now at)) }
+    ensures { MatchOption result (header.now ≡ read.now) (λ at. (at < 32) ×
+        (take at read.now ≡ take at header.now) × (slice_index read.now at ≢ slice_index header.now at)) }
 {
     for i in 0..32 {
         if header[i] != read[i] {
@@ -89,6 +89,7 @@ pub fn look<A: Area>(area: &mut A, header: &[u8; 32]) -> Result<Verdict, Failed>
     ensures any_moment { Leaves A.Area area.old area.new (A.may_leave area.old) }
 
     ensures calls { IsTrue A.tells_calls → A.calls area.new ≡ counted 1 (A.calls area.old) }
+    ensures planned { IsTrue A.tells_fate → SyncPlanned (A.fate area.old) (is_err result) (A.fate area.new) }
     ensures cause { HasCause (A.faults area.old) (A.faults area.new) result }
 {
     area.sync()?;
@@ -110,7 +111,7 @@ fn octet_at<A: Area>(area: &mut A, at: u64) -> Result<u8, Failed>
 
     ensures octet { IsTrue A.tells_octets → IfOk result (λ octet. octet ≡ gate_at (A.octets area.old) at) }
     ensures kept { Kept A.Area area.old area.new }
-    ensures planned { IsTrue A.tells_fate → ReadAsPlanned (A.fate area.old) result (A.fate area.new) }
+    ensures runs { IsTrue A.tells_fate → ReadsRun (A.fate area.old).schedule → is_err result ≡ false }
     ensures cause { HasCause (A.faults area.old) (A.faults area.new) result }
 {
     let mut octet = [0; 1];
@@ -123,8 +124,10 @@ fn length_behind<A: Area>(area: &mut A, at: u64) -> Result<u32, Failed>
     requires inside { at + 5 ≤ A.size area.old }
     requires short { A.size area.old ≤ 268435456 }
 
-    ensures length { IsTrue A.tells_octets → IfOk result (λ length. (length ≡ length_at (A.octets area.old) at) × (take 4 (drop (at + 1) (A.octets area.old)) ≡ big_bytes 4 length)) }
+    ensures length { IsTrue A.tells_octets → IfOk result (λ length. (length ≡ length_at (A.octets area.old) at) ×
+        (take 4 (drop (at + 1) (A.octets area.old)) ≡ big_bytes 4 length)) }
     ensures kept { Kept A.Area area.old area.new }
+    ensures runs { IsTrue A.tells_fate → ReadsRun (A.fate area.old).schedule → is_err result ≡ false }
     ensures cause { HasCause (A.faults area.old) (A.faults area.new) result }
 {
     let mut field = [0; 4];
@@ -140,6 +143,7 @@ pub fn read_gate<A: Area>(area: &mut A, at: u64) -> Result<Behind, Failed>
     ensures reads { IsTrue A.tells_octets → IfOk result (λ b. IsBehind (A.octets area.old) at b) }
     ensures fits { IfOk result (λ b. Fits (A.size area.old) at b) }
     ensures kept { Kept A.Area area.old area.new }
+    ensures runs { IsTrue A.tells_fate → ReadsRun (A.fate area.old).schedule → is_err result ≡ false }
     ensures cause { HasCause (A.faults area.old) (A.faults area.new) result }
 {
     let gate = octet_at(area, at)?;
@@ -168,6 +172,7 @@ pub fn scan<A: Area>(area: &mut A) -> Result<Scanned, Failed>
     ensures reads { IsTrue A.tells_octets → IfOk result (λ s. IsScanned (A.octets area.old) s) }
     ensures inside { IfOk result (λ s. LiesIn (A.size area.old) s) }
     ensures kept { Kept A.Area area.old area.new }
+    ensures runs { IsTrue A.tells_fate → ReadsRun (A.fate area.old).schedule → is_err result ≡ false }
     ensures cause { HasCause (A.faults area.old) (A.faults area.new) result }
 {
     let mut at = 32;
@@ -193,12 +198,13 @@ pub fn see<A: Area>(area: &mut A, gate: u64) -> Result<Ends, Failed>
 
     ensures size { A.size area.new ≡ A.size area.old }
     ensures octets { IsTrue A.tells_octets → OnOk result (A.octets area.new ≡ A.octets area.old) }
-    ensures seen { IsTrue A.tells_octets → IfOk result (λ e. (e.first ≡ slice_index (A.octets area.old) 0) × (e.gate ≡ gate_at (A.octets area.old) gate)) }
+    ensures seen { IsTrue A.tells_octets → IfOk result (λ e.
+        (e.first ≡ slice_index (A.octets area.old) 0) × (e.gate ≡ gate_at (A.octets area.old) gate)) }
     ensures durable { IsTrue A.tells_crash → OnOk result (Only (A.octets area.new) (A.may_leave area.new)) }
     ensures any_moment { Leaves A.Area area.old area.new (A.may_leave area.old) }
 
     ensures calls { IsTrue A.tells_calls → A.calls area.new ≡ counted 1 (A.calls area.old) }
-    ensures planned { IsTrue A.tells_fate → SyncPlanned (A.fate area.old) result (A.fate area.new) }
+    ensures planned { IsTrue A.tells_fate → SyncPlanned (A.fate area.old) (is_err result) (A.fate area.new) }
     ensures cause { HasCause (A.faults area.old) (A.faults area.new) result }
 {
     area.sync()?;

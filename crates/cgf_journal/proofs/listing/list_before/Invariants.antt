@@ -1,13 +1,14 @@
 use Rattle.std.proofs.Common.{◌≡◌, ◌⊎◌, ◌-◌, ◌≤◌, length}
 use Rattle.std.specs.Prelude.{vec_len}
 use Rattle.gate_journal.specs.Moments.{Kept}
+use Rattle.cgf_journal.specs.Judged.{IsJudged}
 use Rattle.cgf_journal.specs.Opening.{AreListedBefore, IsTakenUpTo}
 use Rattle.cgf_journal.proofs.listing.list_before.Given as goal
 
 abbrev pub invariant-loop-gate : goal.invariant-loop-gate
 invariant-loop-gate g l = record {
   low : 32 ≤ l.gate;
-  taken : IsTakenUpTo (AreListedBefore g.A.Area.tells_octets (g.A.Area.octets l.fn.area) l.fn.end) l.size l.gate l.listing.places.items l.listing.tally;
+  taken : IsTakenUpTo (AreListedBefore g.A.Area.tells_octets (g.A.Area.octets l.fn.area) l.fn.end) (IsJudged g.J.Judge l.size l.judge) l.size l.gate l.listing.places.items l.listing.tally;
   high : (l.gate ≡ 32) ⊎ (l.gate ≤ l.end);
   kept : Kept g.A.Area l.fn.area l.area;
   faults : g.A.Area.faults l.area ≡ g.A.Area.faults l.fn.area;

@@ -3,7 +3,9 @@ use Rattle.std.specs.Prelude.{IfSome}
 use Rattle.std.proofs.lemmas.List.{length-take-le}
 use Rattle.gate_journal.specs.Before.{AreBefore}
 use Rattle.gate_journal.specs.Format.{longest_batch}
-use Rattle.gate_journal.proofs.Agreeing.{place_of}
+use Rattle.gate_journal.specs.Agreeing.{place_of}
+use Rattle.cgf_journal.specs.Fit.{AreFit}
+use Rattle.cgf_journal.specs.Judged.{IsJudged}
 use Rattle.cgf_journal.specs.Opening.{AreListedBefore}
 use Rattle.cgf_journal.proofs.Listings.{breaks_here, costs_within, goes_on, read_next, taken_next}
 use Rattle.cgf_journal.proofs.listing.take_before.Goals as goal
@@ -24,7 +26,7 @@ returns-clause-taken g c =
     c.in-Ok-read_before.ensures.content listed.told listed.header c.args.end some batch rest listed.long
     (subst (λ (l : List ℕ). AreBefore listed.header l c.args.end (some ++ batch ∷ rest)) (sym c.batch_before.ensures.kept.octets) (subst (λ (l : List (List ℕ)). AreBefore listed.header o c.args.end l) is listed.before))
     (place ∙ ap (λ n. n + 5) at) (room ∙ size)) in
-    taken_next (AreListedBefore g.A.Area.tells_octets o c.args.end) c.args.size c.args.gate some c.read_before.new.into c.take.result c.take.new.self.places.items c.take.new.self.tally c.take.ensures.next (c.take.ensures.taken some c.requires.taken.taken_in) next
+    taken_next (AreListedBefore g.A.Area.tells_octets o c.args.end) (IsJudged g.J.Judge c.args.size c.take_fit.new.judge) c.args.size c.args.gate some c.read_before.new.into c.take_fit.result c.take_fit.new.self.places.items c.take_fit.new.self.tally c.take_fit.ensures.next (c.take_fit.ensures.taken some c.requires.taken.taken_in c.requires.taken.judged) next
 
 pub returns-clause-breaks : goal.returns-clause-breaks
 returns-clause-breaks g c = λ all listed stop stops.
@@ -43,7 +45,7 @@ returns-clause-breaks g c = λ all listed stop stops.
     (subst (λ (l : List ℕ). AreBefore listed.header l c.args.end (some ++ batch ∷ rest)) (sym c.batch_before.ensures.kept.octets) (subst (λ (l : List (List ℕ)). AreBefore listed.header o c.args.end l) is listed.before))
     (place ∙ ap (λ n. n + 5) at) (room ∙ size)) in
     let found = next all listed in
-    breaks_here c.args.size c.args.gate stop all some c.read_before.new.into found.0 at c.requires.taken.taken_in.are_batches found.1 (c.take.ensures.unfit some c.requires.taken.taken_in stop stops)
+    breaks_here (AreFit g.J.Judge.fits c.args.size) c.args.gate stop all some c.read_before.new.into found.0 at (record { are_batches = c.requires.taken.taken_in.are_batches; fit = c.requires.taken.judged.fit }) found.1 (c.take_fit.ensures.unfit some c.requires.taken.taken_in c.requires.taken.judged stop stops)
 
 pub returns-in_default-found-clause-breaks : goal.returns-in_default-found-clause-breaks
 returns-in_default-found-clause-breaks g c = λ all listed stop stops.

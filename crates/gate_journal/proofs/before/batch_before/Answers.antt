@@ -1,8 +1,8 @@
 use Rattle.std.proofs.Common.{◌≡◌, ◌+◌, length, Some, sym, ◌∙◌, subst, arith}
 use Rattle.gate_journal.specs.Format.{end_of}
 use Rattle.gate_journal.specs.Verdicts.{IsBehind, content_at}
-use Rattle.gate_journal.proofs.Agreeing.{listed_before, small_before}
-use Rattle.gate_journal.proofs.Places.{content_found}
+use Rattle.gate_journal.specs.Agreeing.{listed_before, small_before}
+use Rattle.gate_journal.proofs.Finding.{content_found}
 use Rattle.gate_journal.proofs.before.batch_before.Goals as goal
 
 pub returns-in-Ok-clause-found : goal.returns-in-Ok-clause-found

@@ -1,6 +1,8 @@
-use Rattle.std.proofs.Common.{◌≡◌, ◌+◌, length, take, drop, sym, ◌∙◌, ap}
+use Rattle.std.proofs.Common.{take, drop, sym, ◌∙◌, ap}
 use Rattle.gate_journal.specs.Format.{end_of, length_at}
-use Rattle.gate_journal.proofs.Agreeing.{batch_before}
+use Rattle.gate_journal.specs.Agreeing.{batch_before}
+use Rattle.area_disk.specs.CourseLaws.{read_runs}
+use Rattle.gate_journal.proofs.Turns.{other_bool}
 use Rattle.gate_journal.proofs.before.read_before.Goals as goal
 
 pub returns-in-Ok-clause-content : goal.returns-in-Ok-clause-content
@@ -11,3 +13,6 @@ returns-in-Ok-clause-content g c = λ tells header end some batch more long befo
     ∙ ap (λ n. take n (drop c.args.at o)) (size ∙ sym there.number)
     ∙ ap (λ n. take (length_at o (end_of some)) (drop n o)) at
     ∙ there.content
+
+pub returns-in-Err-clause-runs : goal.returns-in-Err-clause-runs
+returns-in-Err-clause-runs g c = λ told runs. absurd (other_bool (read_runs _ _ _ (c.in-Err.ensures.planned told) runs))

@@ -6,7 +6,7 @@ use Rattle.std.specs.Prelude.{is_err}
 use Rattle.area_disk.specs.declared.plan.Outcome3.{Outcome3}
 use Rattle.gate_journal.proofs.Plans.{append_stopped, append_ended}
 use Rattle.gate_journal.proofs.Counts.{more_calls}
-use Rattle.gate_journal.proofs.Runs.{widen, join}
+use Rattle.area_disk.specs.MomentLaws.{widen, join}
 use Rattle.gate_journal.proofs.device.add.Goals as goal
 
 pub returns-in_err-put-clause-any_moment : goal.returns-in_err-put-clause-any_moment

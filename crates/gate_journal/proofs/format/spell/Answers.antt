@@ -2,7 +2,7 @@ use Rattle.std.proofs.Common.{◌≡◌, ℕ, List, ◌+◌, ◌-◌, ◌≤◌,
 use borrow.Rule.Slice.PartMut.{put_mid}
 use Rattle.byteorder.specs.Endian.{big_bytes}
 use Rattle.gate_journal.specs.Format.{frame}
-use Rattle.gate_journal.proofs.Spelling.{frame-is}
+use Rattle.gate_journal.specs.Spelling.{frame-is}
 use Rattle.gate_journal.proofs.Framing.{framed_is, held_is}
 use Rattle.gate_journal.proofs.format.spell.Goals as goal
 

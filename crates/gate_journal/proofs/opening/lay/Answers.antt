@@ -2,7 +2,7 @@ use Rattle.std.proofs.Common.{ℕ, List, get_or, ◌∙◌, sym, ap, subst}
 use Rattle.gate_journal.specs.Format.{header}
 use Rattle.gate_journal.specs.Opening.{IsLaid}
 use Rattle.gate_journal.proofs.Listing.{below_first, laid_listed}
-use Rattle.gate_journal.proofs.Spelling.{first-header}
+use Rattle.gate_journal.specs.Spelling.{first-header}
 use Rattle.gate_journal.proofs.opening.lay.Goals as goal
 
 pub lay_front-requires-clause-first : goal.lay_front-requires-clause-first
@@ -13,5 +13,13 @@ over-requires-clause-listed g c = λ κ le told.
     laid_listed (header (g.A.Area.size c.lay_front.new.area) c.args.address c.args.generation) (g.A.Area.octets c.lay_front.new.area)
     (subst (λ (h : List ℕ). IsLaid h (g.A.Area.octets c.lay_front.new.area)) (c.header_of-header.ensures ∙ ap (λ n. header n c.args.address c.args.generation) (c.length-length.ensures ∙ sym c.lay_front.ensures.size)) (c.in-Ok-lay_front.ensures.laid told.0))
 
-pub returns-in-Ok-lay_front-clause-batches : goal.returns-in-Ok-lay_front-clause-batches
-returns-in-Ok-lay_front-clause-batches g c = λ told. c.over.ensures.batches ∙ below_first (g.A.Area.octets c.lay_front.new.area)
+pub returns-in-Ok-lay_front-clause-ok : goal.returns-in-Ok-lay_front-clause-ok
+returns-in-Ok-lay_front-clause-ok g c = record {
+  is = record {
+    ready = c.over.ensures.closed;
+    front = c.over.ensures.front;
+    header = c.over.ensures.header ∙ ap (λ n. header n c.args.address c.args.generation) c.lay_front.ensures.size;
+    settled = c.over.ensures.settled;
+  };
+  batches = λ told. c.over.ensures.batches ∙ below_first (g.A.Area.octets c.lay_front.new.area);
+}

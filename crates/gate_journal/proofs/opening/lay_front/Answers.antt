@@ -5,7 +5,7 @@ use Rattle.gate_journal.specs.Verdicts.{IsVerdict}
 use Rattle.gate_journal.specs.declared.reading.Verdict.TheVariants.{Starts as Begins}
 use Rattle.gate_journal.proofs.Contents.{length-rest}
 use Rattle.gate_journal.proofs.Laying.{laid_blank, laid_gate, torn_blank, torn_gate, on_ok}
-use Rattle.gate_journal.proofs.Runs.{widen}
+use Rattle.area_disk.specs.MomentLaws.{widen}
 use Rattle.std.proofs.lemmas.List.{length-append}
 use Rattle.gate_journal.proofs.opening.lay_front.Goals as goal
 

@@ -5,7 +5,7 @@ use Rattle.gate_journal.specs.Verdicts.{IsScanned, LiesIn}
 use Rattle.gate_journal.specs.declared.journal.Front.TheVariants.{Founded}
 use Rattle.gate_journal.specs.declared.faults.OpenFault.TheVariants.{NotOurs}
 use Rattle.gate_journal.proofs.Listing.{scanned_listed, scanned_broken}
-use Rattle.gate_journal.proofs.Spelling.{length-header}
+use Rattle.gate_journal.specs.Spelling.{length-header}
 use Rattle.gate_journal.proofs.Apart.{one_broken}
 use Rattle.gate_journal.proofs.Openings.{shut_or_broken}
 use Rattle.gate_journal.proofs.opening.list.Goals as goal

@@ -4,7 +4,9 @@ use Rattle.byteorder.specs.Endian.{big_bytes}
 use Rattle.gate_journal.specs.Verdicts.{IsBehind, Fits}
 use Rattle.gate_journal.specs.declared.reading.Behind.TheVariants.{Whole}
 use Rattle.gate_journal.proofs.Below.{none_below, one_more}
-use Rattle.gate_journal.proofs.Runs.{kept_refl, kept_trans}
+use Rattle.area_disk.specs.MomentLaws.{kept_refl, kept_trans}
+use Rattle.area_disk.specs.CourseLaws.{runs_on}
+use Rattle.gate_journal.proofs.Turns.{other_bool}
 use Rattle.gate_journal.proofs.reading.scan.Goals as goal
 
 pub batches-init : goal.batches-init
@@ -35,3 +37,6 @@ batches-preserved g c =
       kept = kept_trans g.A.Area _ c.batches.area _ i.kept read.kept;
       faults = read.cause.ok ∙ i.faults;
     }
+
+pub returns-in_err-read_gate-clause-runs : goal.returns-in_err-read_gate-clause-runs
+returns-in_err-read_gate-clause-runs g c = λ told runs. absurd (other_bool (c.in_err-read_gate.ensures.runs told (runs_on _ _ (c.batches.invariant.kept.planned told) runs)))

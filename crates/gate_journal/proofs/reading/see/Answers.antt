@@ -1,4 +1,8 @@
-use Rattle.gate_journal.proofs.Runs.{kept_leaves, follow}
+use Rattle.std.proofs.Common.{refl}
+use Rattle.area_disk.specs.CourseLaws.{read_on_trans, runs_on}
+use Rattle.area_disk.specs.MomentLaws.{follow, kept_leaves}
+use Rattle.gate_journal.proofs.Syncs.{sync_ran}
+use Rattle.gate_journal.proofs.Turns.{other_bool}
 use Rattle.gate_journal.proofs.reading.see.Goals as goal
 
 pub returns-in_err-first-clause-any_moment : goal.returns-in_err-first-clause-any_moment
@@ -15,3 +19,14 @@ pub returns-clause-any_moment : goal.returns-clause-any_moment
 returns-clause-any_moment g c =
     let laws = g.met.A.Area g.world.𝓛 g.world.𝓜 g.world.𝓡 ((λ s x. x), (λ x. x), (λ x. x), λ x. x) in
     follow g.A.Area _ c.octet_at.new.area _ _ (follow g.A.Area _ c.sync.new.self _ _ (kept_leaves g.A.Area laws.only_now _ _ c.sync.ensures.crash c.sync.ensures.time) c.octet_at.ensures.kept.leaves) (c.octet_at-2.ensures.kept.leaves)
+
+pub returns-in_err-first-clause-planned : goal.returns-in_err-first-clause-planned
+returns-in_err-first-clause-planned g c = λ told.
+    let read = c.in_err-first.ensures in
+    sync_ran _ _ _ _ _ (c.in_ok-sync.ensures.planned told) refl (read.kept.planned told) (λ runs. absurd (other_bool (read.runs told runs)))
+
+pub returns-in_err-gate-clause-planned : goal.returns-in_err-gate-clause-planned
+returns-in_err-gate-clause-planned g c = λ told.
+    let one = c.in_ok-first.ensures.kept.planned told in
+    let two = c.in_err-gate.ensures in
+    sync_ran _ _ _ _ _ (c.in_ok-sync.ensures.planned told) refl (read_on_trans _ _ _ one (two.kept.planned told)) (λ runs. absurd (other_bool (two.runs told (runs_on _ _ one runs))))

@@ -5,4 +5,4 @@ use Rattle.cgf_journal.proofs.trail.Trail.arm.Goals as goal
 pub returns-clause-kept : goal.returns-clause-kept
 returns-clause-kept g c =
     let same = c.arm.ensures.same in
-    kept _ _ same.header same.closed (λ told. same.batches) refl refl refl refl
+    kept _ _ same.size same.same.header same.same.closed (λ told. same.same.batches) refl refl refl refl

@@ -1,9 +1,13 @@
 use Rattle.std.proofs.Common.{◌≡◌, ◌∙◌, ap, rules}
 use Rattle.cgf_journal.specs.Tally.{TallyValue, free_beside}
-use Rattle.cgf_journal.specs.Trail.{area_of, entries, tally}
+use Rattle.cgf_journal.specs.Trail.{area_of, entries, free_of, tally}
 use Rattle.cgf_journal.proofs.Tallies.{free_is}
 use Rattle.cgf_journal.proofs.Trails.{tally_is}
 use Rattle.cgf_journal.proofs.trail.Trail.free.Goals as goal
+
+pub returns-clause-counted : goal.returns-clause-counted
+unfolding free_of
+returns-clause-counted g c = search rules
 
 pub returns-clause-free : goal.returns-clause-free
 returns-clause-free g c = λ told.

@@ -1,6 +1,6 @@
-use Rattle.std.proofs.Common.{◌≡◌, true, false, length, if◌then◌else◌, sym, ◌∙◌, ap, rules}
+use Rattle.std.proofs.Common.{◌≡◌, ◌≤◌, arith, true, false, length, if◌then◌else◌, sym, ◌∙◌, ap, rules}
 use Rattle.cgf_journal.specs.Trail.{entries, is_closed}
-use Rattle.cgf_journal.proofs.Trails.{count}
+use Rattle.cgf_journal.proofs.Trails.{bound, count, firm_bound, firm_costs_fit}
 use Rattle.cgf_journal.proofs.trail.Trail.length.Goals as goal
 
 pub returns-then-is_closed-clause-length : goal.returns-then-is_closed-clause-length
@@ -15,3 +15,9 @@ returns-else-is_closed-clause-length g c = λ told.
     let opened : is_closed t ≡ false = sym c.is_closed.ensures.closed ∙ c.if-is_closed.false in
     let all : length t.places.items ≡ length (entries t) = ap (λ b. if b then t.firm else length t.places.items) (sym opened) ∙ count t told in
     search rules
+
+pub returns-then-is_closed-clause-bound : goal.returns-then-is_closed-clause-bound
+returns-then-is_closed-clause-bound g c = let t = c.args.self.now in omega (arith, firm_bound t, firm_costs_fit t, t.sound.sized)
+
+pub returns-else-is_closed-clause-bound : goal.returns-else-is_closed-clause-bound
+returns-else-is_closed-clause-bound g c = let t = c.args.self.now in omega (arith, bound t, t.sound.sized, c.len.ensures)

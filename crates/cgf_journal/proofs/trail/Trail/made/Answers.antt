@@ -1,10 +1,12 @@
-use Rattle.std.proofs.Common.{◌≡◌, [], length, refl, sym, ap, subst, arith}
+use Rattle.std.proofs.Common.{◌≡◌, if◌then◌else◌, [], length, refl, sym, ◌∙◌, ap, subst, arith}
 use Rattle.gw_base.specs.Buffer.{Buffered}
 use Rattle.gate_journal.specs.Format.{longest_batch}
+use Rattle.entry_codec.specs.Content.{entries_of}
 use Rattle.cgf_journal.specs.Sound.{IsSound}
 use Rattle.cgf_journal.specs.Tally.{Tallies}
-use Rattle.cgf_journal.specs.Trail.{firm_entries}
-use Rattle.cgf_journal.proofs.Founding.{made}
+use Rattle.cgf_journal.specs.Trail.{firm_entries, waiting}
+use Rattle.cgf_journal.proofs.Founding.{all_batches, all_judged, made}
+use Rattle.cgf_journal.proofs.Sounds.{none_of}
 use Rattle.cgf_journal.proofs.Trails.{entries_firm, settled}
 use Rattle.cgf_journal.proofs.trail.Trail.made.Goals as goal
 
@@ -25,10 +27,28 @@ pub returns-clause-entries : goal.returns-clause-entries
 unfolding firm_entries
 returns-clause-entries g c = λ told. refl
 
-pub returns-clause-all : goal.returns-clause-all
-returns-clause-all g c = entries_firm _ (ap (λ (w : Buffered). length w.octets) c.requires.waiting)
-
-pub returns-clause-settled : goal.returns-clause-settled
-returns-clause-settled g c =
+pub returns-clause-fresh : goal.returns-clause-fresh
+unfolding waiting
+returns-clause-fresh g c =
     let laws = g.met.A.Area g.world.𝓛 g.world.𝓜 g.world.𝓡 ((λ s x. x), (λ x. x), (λ x. x), λ x. x) in
-    settled _ laws.whole laws.same_size c.requires.settled
+    let counted : length c.args.listing.places.items ≡ c.len.result = omega (arith, c.len.ensures) in
+    let emptied : length c.args.waiting.octets ≡ 0 = ap (λ (w : Buffered). length w.octets) c.requires.waiting in
+    record {
+      named = refl;
+      opened = c.requires.ready;
+      all = entries_firm _ emptied;
+      none_waits = ap (λ (w : Buffered). entries_of w.octets) c.requires.waiting ∙ none_of;
+      emptied = emptied;
+      length = ap (λ b. if b then c.len.result else length c.args.listing.places.items) c.requires.ready ∙ counted;
+      settled = settled _ laws.whole laws.same_size laws.only_now c.requires.settled;
+    }
+
+pub returns-clause-are_fit : goal.returns-clause-are_fit
+returns-clause-are_fit g c = λ told. record {
+  are_batches = all_batches c.args.journal c.args.size c.args.listing.places.items c.args.listing.tally c.requires.size c.requires.settled.place c.requires.taken told;
+  fit = (all_judged c.args.journal c.args.size c.args.listing.places.items c.args.listing.tally c.requires.size c.requires.settled.place c.requires.taken told).fit;
+}
+
+pub returns-clause-follows : goal.returns-clause-follows
+unfolding firm_entries
+returns-clause-follows g c = λ told. (all_judged c.args.journal c.args.size c.args.listing.places.items c.args.listing.tally c.requires.size c.requires.settled.place c.requires.taken told).follows

@@ -1,5 +1,6 @@
-use Rattle.std.proofs.Common.{◌≡◌, ℕ, ◌+◌, ◌-◌, ◌<◌, ◌≤◌, if◌then◌else◌, List, [], ◌∷◌, ◌++◌, length, refl, sym, ◌∙◌, ap, subst, append_assoc, arith, slice_get}
+use Rattle.std.proofs.Common.{◌≡◌, ℕ, ◌+◌, ◌-◌, ◌<◌, ◌≤◌, if◌then◌else◌, List, [], ◌∷◌, ◌++◌, length, refl, sym, ◌∙◌, ap, subst, append_assoc, arith, length-append, slice_get}
 use Rattle.std.specs.Prelude.{Err, Ok, OnOk, Result}
+use Rattle.std.proofs.lemmas.Option.{slice_get_within}
 use Rattle.gw_base.specs.Buffer.{Buffered}
 use Rattle.gw_base.specs.Entry.{entry_view}
 use Rattle.gw_base.specs.declared.history.HistoryEntry.{HistoryEntry}
@@ -8,9 +9,10 @@ use Rattle.gate_journal.specs.Format.{longest_batch}
 use Rattle.entry_codec.specs.Content.{entries_of}
 use Rattle.entry_codec.specs.Spelling.{entry_length, spelling}
 use Rattle.gw_base.specs.declared.fault.Full.{Full}
+use Rattle.entry_codec.specs.Laws.{length_of_spelling}
 use Rattle.cgf_journal.specs.Sound.{IsSound}
 use Rattle.cgf_journal.specs.Tally.{Tallies, TallyValue, has_room_behind}
-use Rattle.cgf_journal.specs.Trail.{area_of, firm_entries, waiting}
+use Rattle.cgf_journal.specs.Trail.{area_of, firm_entries, has_room_of, waiting}
 use Rattle.cgf_journal.proofs.Placing.{get_left}
 use Rattle.cgf_journal.proofs.Sounds.{pending-push, pushed}
 use Rattle.cgf_journal.proofs.Trails.{entries_open, kept, on_err, room_costs}
@@ -21,13 +23,21 @@ ok_only (Ok x) none is = is
 ok_only (Err fault) none is = absurd (none fault.free refl)
 
 pub returns-in_err-note-clause-err : goal.returns-in_err-note-clause-err
-returns-in_err-note-clause-err g c = on_err c.from_residual.result (kept _ _ refl refl (λ told. refl) refl c.in_err-note.ensures.no_place refl c.in_err-note.ensures.no_tally)
+returns-in_err-note-clause-err g c = on_err c.from_residual.result (kept _ _ refl refl refl (λ told. refl) refl c.in_err-note.ensures.no_place refl c.in_err-note.ensures.no_tally)
 
-pub returns-in_err-note-clause-firm_entries : goal.returns-in_err-note-clause-firm_entries
+pub returns-in_err-note-clause-stays : goal.returns-in_err-note-clause-stays
 unfolding firm_entries
-returns-in_err-note-clause-firm_entries g c = refl
+returns-in_err-note-clause-stays g c = record {
+  listed = refl;
+  count = refl;
+  places = λ k place is. ap (λ (ps : List Place). slice_get ps k) c.in_err-note.ensures.no_place ∙ is;
+  opened = refl;
+  area = refl;
+  header = refl;
+}
 
 pub invariant_of-self-2 : goal.invariant_of-self-2
+unfolding has_room_of
 invariant_of-self-2 g c =
     let t = c.args.self.now in
     let e = entry_view c.args.entry.now in
@@ -53,24 +63,31 @@ unfolding firm_entries waiting
 returns-clause-ok g c =
     let t = c.args.self.now in
     let e = entry_view c.args.entry.now in
-    ap (λ b. if b then firm_entries t else firm_entries t ++ entries_of c.write.new.into.octets) c.requires.ready
-    ∙ ap (λ (b : Buffered). firm_entries t ++ entries_of b.octets) c.in-Ok.ensures.written
-    ∙ ap (λ (h : List HistoryEntry). firm_entries t ++ h) (pending-push t.journal t.size t.waiting t.places.items t.firm t.tally t.sound e c.write.ensures.fits)
-    ∙ sym (append_assoc (firm_entries t) (waiting t) (e ∷ []))
-    ∙ ap (λ (h : List HistoryEntry). h ++ e ∷ []) (sym (entries_open t c.requires.ready))
+    let octets : length c.write.new.into.octets ≡ length (t.waiting.octets ++ spelling e) = ap (λ (b : Buffered). length b.octets) c.in-Ok.ensures.written in
+    let waits = ap (λ (b : Buffered). entries_of b.octets) c.in-Ok.ensures.written ∙ pending-push t.journal t.size t.waiting t.places.items t.firm t.tally t.sound e c.write.ensures.fits in
+    let more : length c.note.new.places.items ≡ length t.places.items + 1 = ap (λ (ps : List Place). length ps) c.in_ok-note.ensures.place ∙ length-append t.places.items _ in
+    record {
+      listed =
+          ap (λ b. if b then firm_entries t else firm_entries t ++ entries_of c.write.new.into.octets) c.requires.ready
+          ∙ ap (λ (h : List HistoryEntry). firm_entries t ++ h) waits
+          ∙ sym (append_assoc (firm_entries t) (waiting t) (e ∷ []))
+          ∙ ap (λ (h : List HistoryEntry). h ++ e ∷ []) (sym (entries_open t c.requires.ready));
+      waits = waits;
+      octets = omega (arith, octets, length-append t.waiting.octets (spelling e), length_of_spelling e);
+      count =
+          ap (λ b. if b then t.firm else length c.note.new.places.items) c.requires.ready ∙ more
+          ∙ ap (λ b. (if b then t.firm else length t.places.items) + 1) (sym c.requires.ready);
+    }
 
-pub returns-clause-waits : goal.returns-clause-waits
-unfolding waiting
-returns-clause-waits g c =
-    let t = c.args.self.now in
-    ap (λ (b : Buffered). entries_of b.octets) c.in-Ok.ensures.written ∙ pending-push t.journal t.size t.waiting t.places.items t.firm t.tally t.sound (entry_view c.args.entry.now) c.write.ensures.fits
-
-pub returns-clause-firm_entries : goal.returns-clause-firm_entries
+pub returns-clause-stays : goal.returns-clause-stays
 unfolding firm_entries
-returns-clause-firm_entries g c = refl
-
-pub returns-clause-places : goal.returns-clause-places
-returns-clause-places g c = λ k place is.
+returns-clause-stays g c =
     let t = c.args.self.now in
-    let inside : k < length t.places.items = omega (arith, is.0, t.sound.firm_places) in
-    (is.0, ap (λ (ps : List Place). slice_get ps k) c.in_ok-note.ensures.place ∙ get_left t.places.items _ k inside ∙ is.1)
+    record {
+      listed = refl;
+      count = refl;
+      places = λ k place is. ap (λ (ps : List Place). slice_get ps k) c.in_ok-note.ensures.place ∙ get_left t.places.items _ k (slice_get_within t.places.items k place is) ∙ is;
+      opened = refl;
+      area = refl;
+      header = refl;
+    }

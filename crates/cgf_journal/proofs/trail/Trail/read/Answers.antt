@@ -1,7 +1,10 @@
-use Rattle.std.proofs.Common.{◌≡◌, ◌+◌, ◌-◌, length, take, drop, refl, ◌∙◌, ap, arith}
+use Rattle.std.proofs.Common.{◌≡◌, ℕ, ◌+◌, ◌-◌, List, [], ◌∷◌, length, take, drop, refl, sym, subst, ◌∙◌, ap, arith}
 use Rattle.std.proofs.lemmas.Result.{on_ok_weaker}
 use Rattle.gate_journal.specs.Format.{end_of}
-use Rattle.cgf_journal.proofs.Trails.{entry_is, kept, place_ends, place_is}
+use Rattle.gate_journal.specs.Reading.{IsRead}
+use Rattle.entry_codec.specs.Content.{AreEntries}
+use Rattle.entry_codec.specs.Laws.{one_entry}
+use Rattle.cgf_journal.proofs.Trails.{entry_is, kept, place_ends, place_is, spelling_is}
 use Rattle.cgf_journal.proofs.trail.Trail.read.Goals as goal
 
 pub read-requires-clause-inside : goal.read-requires-clause-inside
@@ -24,10 +27,12 @@ returns-clause-read g c = λ told k e is get.
     let among = entry_is t told k place e is get in
     let start = end_of among.some + 5 in
     on_ok_weaker c.read.result
-    (λ (reads : c.read.new.into ≡ take (length c.args.into.now) (drop (place.at - start) among.batch)). reads ∙ ap (λ n. take n (drop (place.at - start) among.batch)) c.requires.length ∙ among.here.reads)
-    (c.read.ensures.content told among.some among.batch among.more among.parts (omega (arith, among.here.low)) (omega (arith, among.here.high, c.requires.length)))
+    (λ (reads : IsRead t.journal place.at (length c.args.into.now) c.read.new.into).
+    let spelled = reads among.some among.batch among.more among.parts (omega (arith, among.here.low)) (omega (arith, among.here.high, c.requires.length)) ∙ ap (λ n. take n (drop (place.at - start) among.batch)) c.requires.length ∙ among.here.reads in
+    (spelled, subst (λ (o : List ℕ). AreEntries o (e ∷ [])) (sym spelled) (one_entry e (spelling_is t told k e get))))
+    (c.read.ensures.content told)
 
 pub returns-clause-kept : goal.returns-clause-kept
 returns-clause-kept g c =
     let same = c.read.ensures.kept in
-    kept _ _ same.header same.closed (λ told. same.batches) refl refl refl refl
+    kept _ _ same.area.size same.same.header same.same.closed (λ told. same.same.batches) refl refl refl refl

@@ -1,10 +1,14 @@
 use Rattle.std.proofs.Common.{◌≡◌, ◌∙◌, ap, rules}
 use Rattle.gw_base.specs.Entry.{entry_view}
 use Rattle.cgf_journal.specs.Tally.{TallyValue, has_room_behind}
-use Rattle.cgf_journal.specs.Trail.{area_of, entries, tally}
+use Rattle.cgf_journal.specs.Trail.{area_of, entries, has_room_of, tally}
 use Rattle.cgf_journal.proofs.Tallies.{room_is}
 use Rattle.cgf_journal.proofs.Trails.{tally_is}
 use Rattle.cgf_journal.proofs.trail.Trail.room.Goals as goal
+
+pub returns-clause-counted : goal.returns-clause-counted
+unfolding has_room_of
+returns-clause-counted g c = search rules
 
 pub returns-clause-room : goal.returns-clause-room
 returns-clause-room g c = λ told.

@@ -1,11 +1,14 @@
 use Rattle.std.proofs.Common.{◌≡◌, ◌≤◌, ◌+◌, ℕ, List, [], ◌∷◌, ◌++◌, length, drop, refl, sym, ◌∙◌, ap, subst, arith}
-use Rattle.std.specs.Prelude.{◌&&◌, ◌==◌, Option, Some, IfSome, is_some, unwrap_or}
-use Rattle.gate_journal.specs.Format.{open_gate, gate_at, header, spelled, end_of}
-use Rattle.gate_journal.specs.Journal.{batches, torn, torn_stands, IsBatch}
+use Rattle.std.specs.Prelude.{Option, Some, IfSome, is_some, unwrap_or}
+use Rattle.gate_journal.specs.Format.{end_of, header, longest_batch, spelled}
+use Rattle.gate_journal.specs.Journal.{batches}
+use Rattle.gate_journal.specs.Reading.{IsBatch}
 use Rattle.gate_journal.specs.State.{batches_below}
 use Rattle.gate_journal.specs.Verdicts.{IsBehind, content_at}
-use Rattle.gate_journal.proofs.Places.{small_among, content_found, content_inside, behind_some, before_end, next_gate, if_some}
-use Rattle.gate_journal.proofs.Spelling.{length-header}
+use Rattle.gate_journal.proofs.Kept.{kept_journal}
+use Rattle.gate_journal.proofs.Finding.{content_found, content_inside, if_some}
+use Rattle.gate_journal.specs.Places.{small_among, behind_some, before_end, next_gate}
+use Rattle.gate_journal.specs.Spelling.{length-header}
 use Rattle.gate_journal.proofs.States.{settled}
 use Rattle.gate_journal.proofs.Turns.{other_bool}
 use Rattle.gate_journal.proofs.journal.Journal.batch.Goals as goal
@@ -34,22 +37,51 @@ returns-in-Ok-clause-found g c = λ told.
 
 pub returns-in-Ok-clause-some : goal.returns-in-Ok-clause-some
 unfolding batches
-returns-in-Ok-clause-some g c = λ told.
-    let laws = g.met.A.Area g.world.𝓛 g.world.𝓜 g.world.𝓡 ((λ s x. x), (λ x. x), (λ x. x), λ x. x) in
-    let j = c.args.self.now in
-    let found = λ (some : List (List ℕ)) (batch : List ℕ) (more : List (List ℕ)) (is : batches_below j.gate (g.A.Area.octets j.area) ≡ some ++ batch ∷ more) (at : c.args.gate ≡ end_of some).
-    c.content_behind.ensures
-    ∙ subst (λ n. content_at c.in-Ok.behind n j.gate ≡ Some (n + 5, length batch)) (sym at)
-    (content_found (header (g.A.Area.size j.area) j.address j.generation) (length-header (g.A.Area.size j.area) j.address j.generation) j.gate (g.A.Area.octets j.area) some batch more (omega (arith, laws.whole j.area told.0, j.sound.high))
-    ((j.sound.content told (g.A.Area.octets j.area) (laws.holds j.area)).listed ∙ ap (λ (bs : List (List ℕ)). drop 1 (header (g.A.Area.size j.area) j.address j.generation) ++ spelled bs) is)
-    (small_among (batches_below j.gate (g.A.Area.octets j.area)) some batch more is (j.sound.small told)) c.in-Ok.behind
-    (subst (λ n. IsBehind (g.A.Area.octets j.area) n c.in-Ok.behind) at (c.in-Ok.ensures.reads told.0))) in
-    let place = (settled g.A.Area laws.holds laws.whole laws.same_size j c.requires.ready).place told in
-    let behind = c.requires.gate.behind told in
-    let next = behind_some (batches_below j.gate (g.A.Area.octets j.area)) behind.0 behind.1 behind.2 (omega (arith, place, behind.3)) in
-    let is = found behind.0 next.0 next.1 next.2 behind.3 in
-    subst (λ r. IfSome r (λ content. IsBatch j c.args.gate content.0 content.1)) (sym is)
-    (record { before = behind.0; content = next.0; behind = next.1; listed = next.2; gate_is = behind.3; place = refl; size = refl })
+returns-in-Ok-clause-some g c =
+    let inside = subst (λ r. IfSome r (λ content. (content.0 ≡ c.args.gate + 5) × (content.0 + content.1 ≤ c.args.self.now.gate) × (content.1 ≤ longest_batch))) (sym c.content_behind.ensures)
+    (content_inside (g.A.Area.size c.args.self.now.area) c.in-Ok.behind c.args.gate c.args.self.now.gate c.in-Ok.ensures.fits) in
+    if_some c.content_behind.result (λ content. (content.0 ≡ c.args.gate + 5) × (content.0 + content.1 ≤ c.args.self.now.gate) × (content.1 ≤ longest_batch)) _ inside (λ x answer p. record {
+      batch = λ told.
+          let laws = g.met.A.Area g.world.𝓛 g.world.𝓜 g.world.𝓡 ((λ s x. x), (λ x. x), (λ x. x), λ x. x) in
+          let j = c.args.self.now in
+          let found = λ (some : List (List ℕ)) (batch : List ℕ) (more : List (List ℕ)) (is : batches_below j.gate (g.A.Area.octets j.area) ≡ some ++ batch ∷ more) (at : c.args.gate ≡ end_of some).
+          c.content_behind.ensures
+          ∙ subst (λ n. content_at c.in-Ok.behind n j.gate ≡ Some (n + 5, length batch)) (sym at)
+          (content_found (header (g.A.Area.size j.area) j.address j.generation) (length-header (g.A.Area.size j.area) j.address j.generation) j.gate (g.A.Area.octets j.area) some batch more (omega (arith, laws.whole j.area told.0, j.sound.high))
+          ((j.sound.content told (g.A.Area.octets j.area) (laws.holds j.area)).listed ∙ ap (λ (bs : List (List ℕ)). drop 1 (header (g.A.Area.size j.area) j.address j.generation) ++ spelled bs) is)
+          (small_among (batches_below j.gate (g.A.Area.octets j.area)) some batch more is (j.sound.small told)) c.in-Ok.behind
+          (subst (λ n. IsBehind (g.A.Area.octets j.area) n c.in-Ok.behind) at (c.in-Ok.ensures.reads told.0))) in
+          let place = (settled g.A.Area laws.holds laws.whole laws.same_size j c.requires.ready).place told in
+          let behind = c.requires.gate.behind told in
+          let next = behind_some (batches_below j.gate (g.A.Area.octets j.area)) behind.0 behind.1 behind.2 (omega (arith, place, behind.3)) in
+          let is = found behind.0 next.0 next.1 next.2 behind.3 in
+          subst (λ r. IfSome r (λ content. IsBatch j c.args.gate content.0 content.1)) (sym is ∙ answer)
+          (record { before = behind.0; content = next.0; behind = next.1; listed = next.2; gate_is = behind.3; place = refl; size = refl });
+      place = p.0;
+      inside = p.1;
+      short = p.2;
+      next = record {
+        low = omega (arith, p.0, c.requires.gate.low);
+        high = p.1;
+        behind = λ told.
+            let laws = g.met.A.Area g.world.𝓛 g.world.𝓜 g.world.𝓡 ((λ s x. x), (λ x. x), (λ x. x), λ x. x) in
+            let j = c.args.self.now in
+            let found = λ (some : List (List ℕ)) (batch : List ℕ) (more : List (List ℕ)) (is : batches_below j.gate (g.A.Area.octets j.area) ≡ some ++ batch ∷ more) (at : c.args.gate ≡ end_of some).
+            c.content_behind.ensures
+            ∙ subst (λ n. content_at c.in-Ok.behind n j.gate ≡ Some (n + 5, length batch)) (sym at)
+            (content_found (header (g.A.Area.size j.area) j.address j.generation) (length-header (g.A.Area.size j.area) j.address j.generation) j.gate (g.A.Area.octets j.area) some batch more (omega (arith, laws.whole j.area told.0, j.sound.high))
+            ((j.sound.content told (g.A.Area.octets j.area) (laws.holds j.area)).listed ∙ ap (λ (bs : List (List ℕ)). drop 1 (header (g.A.Area.size j.area) j.address j.generation) ++ spelled bs) is)
+            (small_among (batches_below j.gate (g.A.Area.octets j.area)) some batch more is (j.sound.small told)) c.in-Ok.behind
+            (subst (λ n. IsBehind (g.A.Area.octets j.area) n c.in-Ok.behind) at (c.in-Ok.ensures.reads told.0))) in
+            let place = (settled g.A.Area laws.holds laws.whole laws.same_size j c.requires.ready).place told in
+            let behind = c.requires.gate.behind told in
+            let next = behind_some (batches_below j.gate (g.A.Area.octets j.area)) behind.0 behind.1 behind.2 (omega (arith, place, behind.3)) in
+            let is = found behind.0 next.0 next.1 next.2 behind.3 in
+            let same : x ≡ (c.args.gate + 5, length next.0) = ap (λ (o : Option (ℕ × ℕ)). unwrap_or o x) (sym answer ∙ is) in
+            let goes = next_gate (batches_below j.gate (g.A.Area.octets j.area)) behind.0 next.0 next.1 c.args.gate next.2 behind.3 in
+            (behind.0 ++ next.0 ∷ [], next.1, ap (λ (o : List ℕ). batches_below j.gate o) c.read_gate.ensures.kept.octets ∙ goes.0, ap (λ (q : ℕ × ℕ). q.0 + q.1) same ∙ goes.1);
+      };
+    })
 
 pub returns-in-Ok-clause-none : goal.returns-in-Ok-clause-none
 unfolding batches
@@ -69,65 +101,8 @@ returns-in-Ok-clause-none g c = λ told.
     let is = found behind.0 next.0 next.1 next.2 behind.3 in
     ((λ none. absurd (other_bool (sym (ap is_some is) ∙ none))), λ at. absurd (omega arith))
 
-pub returns-in-Ok-clause-inside : goal.returns-in-Ok-clause-inside
-returns-in-Ok-clause-inside g c =
-    subst (λ r. IfSome r (λ content. (content.0 ≡ c.args.gate + 5) × (content.0 + content.1 ≤ c.args.self.now.gate))) (sym c.content_behind.ensures) (content_inside c.in-Ok.behind c.args.gate c.args.self.now.gate)
-
 pub returns-in-Ok-clause-kept : goal.returns-in-Ok-clause-kept
-unfolding batches torn torn_stands
-returns-in-Ok-clause-kept g c =
-    let laws = g.met.A.Area g.world.𝓛 g.world.𝓜 g.world.𝓡 ((λ s x. x), (λ x. x), (λ x. x), λ x. x) in
-    let j = c.args.self.now in
-    let kept = c.read_gate.ensures.kept in
-    record {
-      area = kept;
-      header = ap (λ n. header n j.address j.generation) kept.size;
-      front = refl;
-      batches = ap (λ (o : List ℕ). batches_below j.gate o) kept.octets;
-      end = refl;
-      closed = refl;
-      torn = refl;
-      torn_stands = ap (λ (o : List ℕ). j.is_torn && (gate_at o j.gate == open_gate)) kept.octets;
-    }
+returns-in-Ok-clause-kept g c = kept_journal _ _ (record { buffer = refl; gate = refl; torn_length = refl; is_torn = refl; front = refl; address = refl; generation = refl }) c.read_gate.ensures.kept
 
 pub returns-in-Err-clause-kept : goal.returns-in-Err-clause-kept
-unfolding batches torn torn_stands
-returns-in-Err-clause-kept g c =
-    let laws = g.met.A.Area g.world.𝓛 g.world.𝓜 g.world.𝓡 ((λ s x. x), (λ x. x), (λ x. x), λ x. x) in
-    let j = c.args.self.now in
-    let kept = c.read_gate.ensures.kept in
-    record {
-      area = kept;
-      header = ap (λ n. header n j.address j.generation) kept.size;
-      front = refl;
-      batches = ap (λ (o : List ℕ). batches_below j.gate o) kept.octets;
-      end = refl;
-      closed = refl;
-      torn = refl;
-      torn_stands = ap (λ (o : List ℕ). j.is_torn && (gate_at o j.gate == open_gate)) kept.octets;
-    }
-
-pub returns-in-Ok-clause-next : goal.returns-in-Ok-clause-next
-unfolding batches
-returns-in-Ok-clause-next g c =
-    if_some c.content_behind.result (λ content. (content.0 ≡ c.args.gate + 5) × (content.0 + content.1 ≤ c.args.self.now.gate)) _ (returns-in-Ok-clause-inside g c) (λ x answer p. record {
-      low = omega (arith, p.0, c.requires.gate.low);
-      high = p.1;
-      behind = λ told.
-          let laws = g.met.A.Area g.world.𝓛 g.world.𝓜 g.world.𝓡 ((λ s x. x), (λ x. x), (λ x. x), λ x. x) in
-          let j = c.args.self.now in
-          let found = λ (some : List (List ℕ)) (batch : List ℕ) (more : List (List ℕ)) (is : batches_below j.gate (g.A.Area.octets j.area) ≡ some ++ batch ∷ more) (at : c.args.gate ≡ end_of some).
-          c.content_behind.ensures
-          ∙ subst (λ n. content_at c.in-Ok.behind n j.gate ≡ Some (n + 5, length batch)) (sym at)
-          (content_found (header (g.A.Area.size j.area) j.address j.generation) (length-header (g.A.Area.size j.area) j.address j.generation) j.gate (g.A.Area.octets j.area) some batch more (omega (arith, laws.whole j.area told.0, j.sound.high))
-          ((j.sound.content told (g.A.Area.octets j.area) (laws.holds j.area)).listed ∙ ap (λ (bs : List (List ℕ)). drop 1 (header (g.A.Area.size j.area) j.address j.generation) ++ spelled bs) is)
-          (small_among (batches_below j.gate (g.A.Area.octets j.area)) some batch more is (j.sound.small told)) c.in-Ok.behind
-          (subst (λ n. IsBehind (g.A.Area.octets j.area) n c.in-Ok.behind) at (c.in-Ok.ensures.reads told.0))) in
-          let place = (settled g.A.Area laws.holds laws.whole laws.same_size j c.requires.ready).place told in
-          let behind = c.requires.gate.behind told in
-          let next = behind_some (batches_below j.gate (g.A.Area.octets j.area)) behind.0 behind.1 behind.2 (omega (arith, place, behind.3)) in
-          let is = found behind.0 next.0 next.1 next.2 behind.3 in
-          let same : x ≡ (c.args.gate + 5, length next.0) = ap (λ (o : Option (ℕ × ℕ)). unwrap_or o x) (sym answer ∙ is) in
-          let goes = next_gate (batches_below j.gate (g.A.Area.octets j.area)) behind.0 next.0 next.1 c.args.gate next.2 behind.3 in
-          (behind.0 ++ next.0 ∷ [], next.1, ap (λ (o : List ℕ). batches_below j.gate o) c.read_gate.ensures.kept.octets ∙ goes.0, ap (λ (q : ℕ × ℕ). q.0 + q.1) same ∙ goes.1);
-    })
+returns-in-Err-clause-kept g c = kept_journal _ _ (record { buffer = refl; gate = refl; torn_length = refl; is_torn = refl; front = refl; address = refl; generation = refl }) c.read_gate.ensures.kept

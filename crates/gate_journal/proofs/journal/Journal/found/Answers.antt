@@ -1,8 +1,8 @@
-use Rattle.std.proofs.Common.{ap}
+use Rattle.std.proofs.Common.{refl, ap}
 use Rattle.std.specs.Prelude.{◌&&◌, ◌==◌}
-use Rattle.gate_journal.specs.Format.{open_gate, gate_at}
-use Rattle.gate_journal.specs.Journal.{batches, torn_stands}
-use Rattle.gate_journal.proofs.Runs.{widen}
+use Rattle.gate_journal.specs.Format.{open_gate, gate_at, header}
+use Rattle.gate_journal.specs.Journal.{batches, torn, torn_stands}
+use Rattle.area_disk.specs.MomentLaws.{widen}
 use Rattle.gate_journal.proofs.States.{settled, ready_of, founding_keeps, founding_batches, founding_sound, founded_sound}
 use Rattle.gate_journal.proofs.journal.Journal.found.Goals as goal
 
@@ -20,22 +20,6 @@ invariant_of-self-in-Err g c =
     let ready = ready_of j.front j.is_torn c.requires.ready in
     record { sound = founding_sound g.A.Area laws.holds laws.whole laws.same_size j.area c.put.new.area j.buffer.items j.gate j.torn_length j.is_torn j.front j.address j.generation j.sound ready c.put.ensures.size (λ told. (c.put.ensures.any_moment (j.sound.durable told ready)).now) }
 
-pub returns-in-Ok-clause-batches : goal.returns-in-Ok-clause-batches
-unfolding batches
-returns-in-Ok-clause-batches g c = λ told.
-    let laws = g.met.A.Area g.world.𝓛 g.world.𝓜 g.world.𝓡 ((λ s x. x), (λ x. x), (λ x. x), λ x. x) in
-    let j = c.args.self.now in
-    let ready = ready_of j.front j.is_torn c.requires.ready in
-    founding_batches g.A.Area laws.holds laws.whole laws.same_size j.area c.put.new.area j.buffer.items j.gate j.torn_length j.is_torn j.front j.address j.generation j.sound ready c.put.ensures.size (λ told. (c.put.ensures.any_moment (j.sound.durable told ready)).now) told
-
-pub returns-in-Err-clause-batches : goal.returns-in-Err-clause-batches
-unfolding batches
-returns-in-Err-clause-batches g c = λ told.
-    let laws = g.met.A.Area g.world.𝓛 g.world.𝓜 g.world.𝓡 ((λ s x. x), (λ x. x), (λ x. x), λ x. x) in
-    let j = c.args.self.now in
-    let ready = ready_of j.front j.is_torn c.requires.ready in
-    founding_batches g.A.Area laws.holds laws.whole laws.same_size j.area c.put.new.area j.buffer.items j.gate j.torn_length j.is_torn j.front j.address j.generation j.sound ready c.put.ensures.size (λ told. (c.put.ensures.any_moment (j.sound.durable told ready)).now) told
-
 pub returns-in-Ok-clause-any_moment : goal.returns-in-Ok-clause-any_moment
 unfolding batches
 returns-in-Ok-clause-any_moment g c = λ told.
@@ -43,6 +27,21 @@ returns-in-Ok-clause-any_moment g c = λ told.
     let j = c.args.self.now in
     let ready = ready_of j.front j.is_torn c.requires.ready in
     widen g.A.Area _ _ _ _ (founding_keeps g.A.Area laws.holds laws.whole laws.same_size j.area c.put.new.area j.buffer.items j.gate j.torn_length j.is_torn j.front j.address j.generation j.sound ready c.put.ensures.size told) (c.put.ensures.any_moment (j.sound.durable told ready))
+
+pub returns-in-Ok-clause-stays : goal.returns-in-Ok-clause-stays
+unfolding batches torn torn_stands
+returns-in-Ok-clause-stays g c =
+    let laws = g.met.A.Area g.world.𝓛 g.world.𝓜 g.world.𝓡 ((λ s x. x), (λ x. x), (λ x. x), λ x. x) in
+    let j = c.args.self.now in
+    let ready = ready_of j.front j.is_torn c.requires.ready in
+    record {
+      size = c.put.ensures.size;
+      header = ap (λ n. header n j.address j.generation) c.put.ensures.size;
+      batches = λ told. founding_batches g.A.Area laws.holds laws.whole laws.same_size j.area c.put.new.area j.buffer.items j.gate j.torn_length j.is_torn j.front j.address j.generation j.sound ready c.put.ensures.size (λ told. (c.put.ensures.any_moment (j.sound.durable told ready)).now) told;
+      end = refl;
+      torn = refl;
+      torn_stands = ap (λ t. t && (gate_at (g.A.Area.octets c.put.new.area) j.gate == open_gate)) ready.whole;
+    }
 
 pub returns-in-Err-clause-any_moment : goal.returns-in-Err-clause-any_moment
 unfolding batches
@@ -52,21 +51,24 @@ returns-in-Err-clause-any_moment g c = λ told.
     let ready = ready_of j.front j.is_torn c.requires.ready in
     widen g.A.Area _ _ _ _ (founding_keeps g.A.Area laws.holds laws.whole laws.same_size j.area c.put.new.area j.buffer.items j.gate j.torn_length j.is_torn j.front j.address j.generation j.sound ready c.put.ensures.size told) (c.put.ensures.any_moment (j.sound.durable told ready))
 
-pub returns-in-Ok-clause-settled : goal.returns-in-Ok-clause-settled
-returns-in-Ok-clause-settled g c =
+pub returns-in-Err-clause-stays : goal.returns-in-Err-clause-stays
+unfolding batches torn torn_stands
+returns-in-Err-clause-stays g c =
     let laws = g.met.A.Area g.world.𝓛 g.world.𝓜 g.world.𝓡 ((λ s x. x), (λ x. x), (λ x. x), λ x. x) in
     let j = c.args.self.now in
     let ready = ready_of j.front j.is_torn c.requires.ready in
-    settled g.A.Area laws.holds laws.whole laws.same_size _ ready.whole
+    record {
+      size = c.put.ensures.size;
+      header = ap (λ n. header n j.address j.generation) c.put.ensures.size;
+      batches = λ told. founding_batches g.A.Area laws.holds laws.whole laws.same_size j.area c.put.new.area j.buffer.items j.gate j.torn_length j.is_torn j.front j.address j.generation j.sound ready c.put.ensures.size (λ told. (c.put.ensures.any_moment (j.sound.durable told ready)).now) told;
+      end = refl;
+      torn = refl;
+      torn_stands = ap (λ t. t && (gate_at (g.A.Area.octets c.put.new.area) j.gate == open_gate)) ready.whole;
+    }
 
-pub returns-in-Ok-clause-torn_stands : goal.returns-in-Ok-clause-torn_stands
-unfolding torn_stands
-returns-in-Ok-clause-torn_stands g c =
+pub returns-in-Ok-clause-ok : goal.returns-in-Ok-clause-ok
+returns-in-Ok-clause-ok g c =
+    let laws = g.met.A.Area g.world.𝓛 g.world.𝓜 g.world.𝓡 ((λ s x. x), (λ x. x), (λ x. x), λ x. x) in
     let j = c.args.self.now in
-    ap (λ t. t && (gate_at (g.A.Area.octets c.put.new.area) j.gate == open_gate)) (ready_of j.front j.is_torn c.requires.ready).whole
-
-pub returns-in-Err-clause-torn_stands : goal.returns-in-Err-clause-torn_stands
-unfolding torn_stands
-returns-in-Err-clause-torn_stands g c =
-    let j = c.args.self.now in
-    ap (λ t. t && (gate_at (g.A.Area.octets c.put.new.area) j.gate == open_gate)) (ready_of j.front j.is_torn c.requires.ready).whole
+    let ready = ready_of j.front j.is_torn c.requires.ready in
+    record { front = refl; ready = ready.whole; settled = settled g.A.Area laws.holds laws.whole laws.same_size _ ready.whole }

@@ -1,11 +1,12 @@
 use Rattle.std.proofs.Common.{ℕ, List, ◌++◌, length, drop, refl, ◌∙◌, ap, arith}
-use Rattle.std.specs.Prelude.{◌&&◌, ◌==◌}
-use Rattle.gate_journal.specs.Format.{open_gate, gate_at, header, spelled}
-use Rattle.gate_journal.specs.Journal.{batches, torn, torn_stands}
+use Rattle.gate_journal.specs.Format.{header, spelled}
+use Rattle.gate_journal.specs.Journal.{batches}
 use Rattle.gate_journal.specs.State.{batches_below}
-use Rattle.gate_journal.proofs.Places.{part_is, small_among}
-use Rattle.gate_journal.proofs.Runs.{kept_read}
-use Rattle.gate_journal.proofs.Spelling.{length-header}
+use Rattle.gate_journal.specs.Places.{part_is, small_among}
+use Rattle.gate_journal.proofs.Kept.{kept_journal}
+use Rattle.area_disk.specs.CourseLaws.{read_on}
+use Rattle.area_disk.specs.MomentLaws.{kept_read}
+use Rattle.gate_journal.specs.Spelling.{length-header}
 use Rattle.gate_journal.proofs.journal.Journal.read.Goals as goal
 
 pub returns-in-Ok-clause-content : goal.returns-in-Ok-clause-content
@@ -20,37 +21,15 @@ returns-in-Ok-clause-content g c = λ told some batch more is low fits.
     (listed ∙ ap (λ (bs : List (List ℕ)). drop 1 (header (g.A.Area.size j.area) j.address j.generation) ++ spelled bs) is) small c.args.at (length c.args.into.now) low fits
 
 pub returns-in-Ok-clause-kept : goal.returns-in-Ok-clause-kept
-unfolding batches torn torn_stands
 returns-in-Ok-clause-kept g c =
     let laws = g.met.A.Area g.world.𝓛 g.world.𝓜 g.world.𝓡 ((λ s x. x), (λ x. x), (λ x. x), λ x. x) in
-    let j = c.args.self.now in
     let read = c.read_at.ensures in
-    let kept = kept_read g.A.Area laws.only_now j.area c.read_at.new.self read.size read.octets read.crash read.time read.calls in
-    record {
-      area = kept;
-      header = ap (λ n. header n j.address j.generation) kept.size;
-      front = refl;
-      batches = ap (λ (o : List ℕ). batches_below j.gate o) kept.octets;
-      end = refl;
-      closed = refl;
-      torn = refl;
-      torn_stands = ap (λ (o : List ℕ). j.is_torn && (gate_at o j.gate == open_gate)) kept.octets;
-    }
+    kept_journal _ _ (record { buffer = refl; gate = refl; torn_length = refl; is_torn = refl; front = refl; address = refl; generation = refl })
+    (kept_read g.A.Area laws.only_now c.args.self.now.area c.read_at.new.self read.size read.octets read.crash read.time read.calls (λ told. read_on _ _ _ (read.planned told)))
 
 pub returns-in-Err-clause-kept : goal.returns-in-Err-clause-kept
-unfolding batches torn torn_stands
 returns-in-Err-clause-kept g c =
     let laws = g.met.A.Area g.world.𝓛 g.world.𝓜 g.world.𝓡 ((λ s x. x), (λ x. x), (λ x. x), λ x. x) in
-    let j = c.args.self.now in
     let read = c.read_at.ensures in
-    let kept = kept_read g.A.Area laws.only_now j.area c.read_at.new.self read.size read.octets read.crash read.time read.calls in
-    record {
-      area = kept;
-      header = ap (λ n. header n j.address j.generation) kept.size;
-      front = refl;
-      batches = ap (λ (o : List ℕ). batches_below j.gate o) kept.octets;
-      end = refl;
-      closed = refl;
-      torn = refl;
-      torn_stands = ap (λ (o : List ℕ). j.is_torn && (gate_at o j.gate == open_gate)) kept.octets;
-    }
+    kept_journal _ _ (record { buffer = refl; gate = refl; torn_length = refl; is_torn = refl; front = refl; address = refl; generation = refl })
+    (kept_read g.A.Area laws.only_now c.args.self.now.area c.read_at.new.self read.size read.octets read.crash read.time read.calls (λ told. read_on _ _ _ (read.planned told)))

@@ -1,10 +1,10 @@
 use Rattle.std.proofs.Common.{◌≡◌, ◌⊎◌, ◌+◌, ℕ, false, List, [], ◌∷◌, ◌++◌, length, take, drop, refl, sym, ◌∙◌, ap, subst}
 use Rattle.std.specs.Prelude.{◌&&◌, ◌==◌, if◌then◌else◌}
-use Rattle.gate_journal.specs.Format.{open_gate, gate_at}
-use Rattle.gate_journal.specs.State.{IsSound, batches_below, gate_after}
+use Rattle.gate_journal.specs.Format.{open_gate, gate_at, header}
+use Rattle.gate_journal.specs.State.{IsSound, batches_below, front_after, gate_after}
 use Rattle.gate_journal.specs.Journal.{batches, torn, torn_stands, stop_stands, closed_by}
 use Rattle.gate_journal.proofs.Turns.{other_bool}
-use Rattle.gate_journal.proofs.Runs.{widen}
+use Rattle.area_disk.specs.MomentLaws.{widen}
 use Rattle.gate_journal.proofs.States.{settled, ready_of, open_after, length-torn, gate_moves, moves_or_stays, keeps_any, kept_batches, kept_sound, reopened_sound, reopened_batches}
 use Rattle.gate_journal.proofs.journal.Journal.reopen.Goals as goal
 
@@ -26,93 +26,82 @@ invariant_of-self-in-Err g c =
 
 pub returns-in-Ok-clause-ok : goal.returns-in-Ok-clause-ok
 unfolding batches torn torn_stands
-returns-in-Ok-clause-ok g c = λ told.
+returns-in-Ok-clause-ok g c =
     let laws = g.met.A.Area g.world.𝓛 g.world.𝓜 g.world.𝓡 ((λ s x. x), (λ x. x), (λ x. x), λ x. x) in
     let j = c.args.self.now in
-    ap (λ n. batches_below n (g.A.Area.octets c.see.new.area)) c.next_gate-self.ensures
-    ∙ reopened_batches g.A.Area laws.holds laws.whole laws.same_size j.area c.see.new.area j.buffer.items j.gate j.torn_length j.is_torn j.front j.address j.generation j.sound c.see.ensures.size (λ told. c.in-Ok.ensures.octets told) (λ told. c.in-Ok.ensures.durable told) c.in-Ok.ends.first c.in-Ok.ends.gate (λ told. (c.in-Ok.ensures.seen told).0) (λ told. (c.in-Ok.ensures.seen told).1) told
-    ∙ ap (λ o. if j.is_torn && (o == open_gate) then batches_below j.gate (g.A.Area.octets j.area) ++ take j.torn_length (drop 4 j.buffer.items) ∷ [] else batches_below j.gate (g.A.Area.octets j.area)) (c.in-Ok.ensures.seen told.0).1
+    let ready = ap (λ f. closed_by f false) c.next_front-self.ensures ∙ open_after j.front c.in-Ok.ends.first in
+    record {
+      ready = ready;
+      settled = settled g.A.Area laws.holds laws.whole laws.same_size _ ready;
+      front = λ told. c.next_front-self.ensures ∙ ap (λ n. front_after j.front n) (c.in-Ok.ensures.seen told.0).0;
+      batches = λ told.
+          ap (λ n. batches_below n (g.A.Area.octets c.see.new.area)) c.next_gate-self.ensures
+          ∙ reopened_batches g.A.Area laws.holds laws.whole laws.same_size j.area c.see.new.area j.buffer.items j.gate j.torn_length j.is_torn j.front j.address j.generation j.sound c.see.ensures.size (λ told. c.in-Ok.ensures.octets told) (λ told. c.in-Ok.ensures.durable told) c.in-Ok.ends.first c.in-Ok.ends.gate (λ told. (c.in-Ok.ensures.seen told).0) (λ told. (c.in-Ok.ensures.seen told).1) told
+          ∙ ap (λ o. if j.is_torn && (o == open_gate) then batches_below j.gate (g.A.Area.octets j.area) ++ take j.torn_length (drop 4 j.buffer.items) ∷ [] else batches_below j.gate (g.A.Area.octets j.area)) (c.in-Ok.ensures.seen told.0).1;
+      place = λ told.
+          c.next_gate-self.ensures
+          ∙ gate_moves j.is_torn j.gate j.torn_length c.in-Ok.ends.gate
+          ∙ ap (λ o. if j.is_torn && (o == open_gate) then j.gate + 5 + j.torn_length else j.gate) (c.in-Ok.ensures.seen told.0).1
+          ∙ ap (λ n. if j.is_torn && (gate_at (g.A.Area.octets j.area) j.gate == open_gate) then j.gate + 5 + n else j.gate) (sym (length-torn j.buffer.items j.torn_length j.sound.torn_held));
+      end =
+          let moves = j.is_torn && (c.in-Ok.ends.gate == open_gate) in
+          subst (λ n. (n ≡ j.gate) ⊎ (n ≡ j.gate + 5 + length (take j.torn_length (drop 4 j.buffer.items)))) (sym (c.next_gate-self.ensures ∙ gate_moves j.is_torn j.gate j.torn_length c.in-Ok.ends.gate))
+          (subst (λ n. ((if moves then j.gate + 5 + j.torn_length else j.gate) ≡ j.gate) ⊎ ((if moves then j.gate + 5 + j.torn_length else j.gate) ≡ j.gate + 5 + n)) (sym (length-torn j.buffer.items j.torn_length j.sound.torn_held))
+          (moves_or_stays moves j.gate j.torn_length));
+    }
 
 pub returns-in-Ok-clause-any_moment : goal.returns-in-Ok-clause-any_moment
-returns-in-Ok-clause-any_moment g c = λ told.
+returns-in-Ok-clause-any_moment g c =
     let laws = g.met.A.Area g.world.𝓛 g.world.𝓜 g.world.𝓡 ((λ s x. x), (λ x. x), (λ x. x), λ x. x) in
     let j = c.args.self.now in
-    widen g.A.Area _ _ _ _ (keeps_any g.A.Area laws.holds laws.whole laws.same_size j told) c.see.ensures.any_moment
-
-pub returns-in-Ok-clause-any_moment_ready : goal.returns-in-Ok-clause-any_moment_ready
-returns-in-Ok-clause-any_moment_ready g c = λ told ready.
-    let laws = g.met.A.Area g.world.𝓛 g.world.𝓜 g.world.𝓡 ((λ s x. x), (λ x. x), (λ x. x), λ x. x) in
-    let j = c.args.self.now in
-    widen g.A.Area _ _ _ _ (λ d. (settled g.A.Area laws.holds laws.whole laws.same_size j ready).crash told d) c.see.ensures.any_moment
-
-pub returns-in-Ok-clause-sized : goal.returns-in-Ok-clause-sized
-returns-in-Ok-clause-sized g c = λ told.
-    let laws = g.met.A.Area g.world.𝓛 g.world.𝓜 g.world.𝓡 ((λ s x. x), (λ x. x), (λ x. x), λ x. x) in
-    widen g.A.Area _ _ _ _ (λ d left. laws.same_size c.args.self.now.area d told.1 left) c.see.ensures.any_moment
-
-pub returns-in-Ok-clause-settled : goal.returns-in-Ok-clause-settled
-returns-in-Ok-clause-settled g c =
-    let laws = g.met.A.Area g.world.𝓛 g.world.𝓜 g.world.𝓡 ((λ s x. x), (λ x. x), (λ x. x), λ x. x) in
-    settled g.A.Area laws.holds laws.whole laws.same_size _ (ap (λ f. closed_by f false) c.next_front-self.ensures ∙ open_after c.args.self.now.front c.in-Ok.ends.first)
-
-pub returns-in-Err-clause-err : goal.returns-in-Err-clause-err
-unfolding batches
-returns-in-Err-clause-err g c = λ told.
-    let laws = g.met.A.Area g.world.𝓛 g.world.𝓜 g.world.𝓡 ((λ s x. x), (λ x. x), (λ x. x), λ x. x) in
-    let j = c.args.self.now in
-    kept_batches g.A.Area laws.holds laws.whole laws.same_size j.area c.see.new.area j.buffer.items j.gate j.torn_length j.is_torn j.front j.address j.generation j.sound c.see.ensures.size c.see.ensures.any_moment.now told
+    record {
+      any = λ told. widen g.A.Area _ _ _ _ (keeps_any g.A.Area laws.holds laws.whole laws.same_size j told) c.see.ensures.any_moment;
+      ready = λ told open'. widen g.A.Area _ _ _ _ (λ d. (settled g.A.Area laws.holds laws.whole laws.same_size j open').crash told d) c.see.ensures.any_moment;
+    }
 
 pub returns-in-Err-clause-any_moment : goal.returns-in-Err-clause-any_moment
-returns-in-Err-clause-any_moment g c = λ told.
+returns-in-Err-clause-any_moment g c =
     let laws = g.met.A.Area g.world.𝓛 g.world.𝓜 g.world.𝓡 ((λ s x. x), (λ x. x), (λ x. x), λ x. x) in
     let j = c.args.self.now in
-    widen g.A.Area _ _ _ _ (keeps_any g.A.Area laws.holds laws.whole laws.same_size j told) c.see.ensures.any_moment
+    record {
+      any = λ told. widen g.A.Area _ _ _ _ (keeps_any g.A.Area laws.holds laws.whole laws.same_size j told) c.see.ensures.any_moment;
+      ready = λ told open'. widen g.A.Area _ _ _ _ (λ d. (settled g.A.Area laws.holds laws.whole laws.same_size j open').crash told d) c.see.ensures.any_moment;
+    }
 
-pub returns-in-Err-clause-any_moment_ready : goal.returns-in-Err-clause-any_moment_ready
-returns-in-Err-clause-any_moment_ready g c = λ told ready.
+pub returns-in-Ok-clause-stays : goal.returns-in-Ok-clause-stays
+returns-in-Ok-clause-stays g c =
+    let j = c.args.self.now in
+    record {
+      size = c.see.ensures.size;
+      header = ap (λ n. header n j.address j.generation) c.see.ensures.size;
+      founded = λ is. c.next_front-self.ensures ∙ ap (λ f. front_after f c.in-Ok.ends.first) is;
+      end = λ ready.
+          c.next_gate-self.ensures ∙ ap (λ t. gate_after t j.gate j.torn_length c.in-Ok.ends.gate) (ready_of j.front j.is_torn ready).whole;
+    }
+
+pub returns-in-Err-clause-err : goal.returns-in-Err-clause-err
+unfolding batches torn
+returns-in-Err-clause-err g c =
     let laws = g.met.A.Area g.world.𝓛 g.world.𝓜 g.world.𝓡 ((λ s x. x), (λ x. x), (λ x. x), λ x. x) in
     let j = c.args.self.now in
-    widen g.A.Area _ _ _ _ (λ d. (settled g.A.Area laws.holds laws.whole laws.same_size j ready).crash told d) c.see.ensures.any_moment
-
-pub returns-in-Err-clause-sized : goal.returns-in-Err-clause-sized
-returns-in-Err-clause-sized g c = λ told.
-    let laws = g.met.A.Area g.world.𝓛 g.world.𝓜 g.world.𝓡 ((λ s x. x), (λ x. x), (λ x. x), λ x. x) in
-    widen g.A.Area _ _ _ _ (λ d left. laws.same_size c.args.self.now.area d told.1 left) c.see.ensures.any_moment
-
-pub returns-in-Err-clause-torn : goal.returns-in-Err-clause-torn
-unfolding torn
-returns-in-Err-clause-torn g c = refl
+    record {
+      front = refl;
+      batches = λ told.
+          kept_batches g.A.Area laws.holds laws.whole laws.same_size j.area c.see.new.area j.buffer.items j.gate j.torn_length j.is_torn j.front j.address j.generation j.sound c.see.ensures.size c.see.ensures.any_moment.now told;
+      end = refl;
+      closed = refl;
+      torn = refl;
+    }
 
 pub returns-in-Ok-clause-planned : goal.returns-in-Ok-clause-planned
-unfolding stop_stands
-returns-in-Ok-clause-planned g c = λ told. let planned = c.in-Ok.ensures.planned told in record { planned = record { failed = planned.failed; course = planned.course; leaves = planned.leaves }; stands = λ err. absurd (other_bool (sym err)) }
+returns-in-Ok-clause-planned g c = λ told. record { planned = c.in-Ok.ensures.planned told; stands = λ err. absurd (other_bool (sym err)) }
 
 pub returns-in-Err-clause-planned : goal.returns-in-Err-clause-planned
 unfolding stop_stands
 returns-in-Err-clause-planned g c = λ told.
     let j = c.args.self.now in
     let planned = c.in-Err.ensures.planned told in
-    record { planned = record { failed = planned.failed; course = planned.course; leaves = planned.leaves }; stands = λ err outcome. ap (λ (l : List ℕ). j.is_torn && (gate_at l j.gate == open_gate)) (planned.leaves outcome) }
-
-pub returns-in-Ok-clause-end : goal.returns-in-Ok-clause-end
-unfolding torn
-returns-in-Ok-clause-end g c =
-    let j = c.args.self.now in
-    let moves = j.is_torn && (c.in-Ok.ends.gate == open_gate) in
-    subst (λ n. (n ≡ j.gate) ⊎ (n ≡ j.gate + 5 + length (take j.torn_length (drop 4 j.buffer.items)))) (sym (c.next_gate-self.ensures ∙ gate_moves j.is_torn j.gate j.torn_length c.in-Ok.ends.gate))
-    (subst (λ n. ((if moves then j.gate + 5 + j.torn_length else j.gate) ≡ j.gate) ⊎ ((if moves then j.gate + 5 + j.torn_length else j.gate) ≡ j.gate + 5 + n)) (sym (length-torn j.buffer.items j.torn_length j.sound.torn_held))
-    (moves_or_stays moves j.gate j.torn_length))
-
-pub returns-in-Ok-clause-end_told : goal.returns-in-Ok-clause-end_told
-unfolding torn torn_stands
-returns-in-Ok-clause-end_told g c = λ told.
-    let j = c.args.self.now in
-    c.next_gate-self.ensures
-    ∙ gate_moves j.is_torn j.gate j.torn_length c.in-Ok.ends.gate
-    ∙ ap (λ o. if j.is_torn && (o == open_gate) then j.gate + 5 + j.torn_length else j.gate) (c.in-Ok.ensures.seen told.0).1
-    ∙ ap (λ n. if j.is_torn && (gate_at (g.A.Area.octets j.area) j.gate == open_gate) then j.gate + 5 + n else j.gate) (sym (length-torn j.buffer.items j.torn_length j.sound.torn_held))
-
-pub returns-in-Ok-clause-end_ready : goal.returns-in-Ok-clause-end_ready
-returns-in-Ok-clause-end_ready g c = λ ready.
-    let j = c.args.self.now in
-    c.next_gate-self.ensures ∙ ap (λ t. gate_after t j.gate j.torn_length c.in-Ok.ends.gate) (ready_of j.front j.is_torn ready).whole
+    record {
+      planned = planned;
+      stands = λ err outcome. ap (λ (l : List ℕ). j.is_torn && (gate_at l j.gate == open_gate)) (planned.leaves outcome);
+    }

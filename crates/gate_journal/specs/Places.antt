@@ -1,17 +1,12 @@
--- Where a batch of a journal stands in its area.
-use Rattle.std.proofs.Common.{◌≡◌, ℕ, ◌+◌, ◌-◌, ◌<◌, ◌≤◌, List, [], ◌∷◌, ◌++◌, length, get_or, take, drop, ⊎_elim, ◌⊎◌, inl, inr, suc, Bool, true, false, refl, sym, ◌∙◌, ap, subst, arith, length-append, append_assoc}
-use Rattle.std.specs.Prelude.{All, Option, Some, None, IfSome, nat_lt, if◌then◌else◌}
-use Rattle.std.proofs.lemmas.Bool.Decides.{leb_tells}
+-- Batches before a place of an area: the gate of each, and the content behind it.
+use Rattle.std.proofs.Common.{◌≡◌, ℕ, ◌+◌, ◌-◌, ◌<◌, ◌≤◌, List, [], ◌∷◌, ◌++◌, length, get_or, take, drop, refl, sym, ◌∙◌, ap, subst, arith, length-append, append_assoc}
+use Rattle.std.specs.Prelude.{All}
 use Rattle.std.proofs.lemmas.List.{take_at, drop_at, append-nil, drop-drop, drop-take, take-take, get_or-take, get_or-drop, length-take-le, length-drop}
 use Rattle.std.proofs.lemmas.List.Elements.{All-drop, All-head}
 use Rattle.byteorder.specs.Endian.{big_bytes, big_number}
 use Rattle.byteorder.specs.Numbers.{big_from-take, length-bytes_high_first}
 use Rattle.gate_journal.specs.Format.{open_gate, spelled, taken, end_of, IsSmall, IsWhole, gate_at, length_at}
-use Rattle.gate_journal.specs.Verdicts.{IsBehind, content_at}
-use Rattle.gate_journal.specs.declared.reading.Behind.{Behind}
-use Rattle.gate_journal.specs.declared.reading.Behind.TheVariants.{Shut, Whole, Cut}
-use Rattle.gate_journal.proofs.Contents.{length-rest}
-use Rattle.gate_journal.proofs.Spelling.{spelled-append, taken-append, spelled-cons, length-spelled, read_length, drop_length}
+use Rattle.gate_journal.specs.Spelling.{spelled-append, taken-append, spelled-cons, length-spelled, read_length, drop_length}
 
 module _ (header : List ℕ) (long : length header ≡ 32) (place : ℕ) (octets : List ℕ) (some : List (List ℕ)) (batch : List ℕ) (more : List (List ℕ)) (high : place ≤ length octets)
     (listed : drop 1 (take place octets) ≡ drop 1 header ++ spelled (some ++ batch ∷ more)) where
@@ -19,7 +14,7 @@ module _ (header : List ℕ) (long : length header ≡ 32) (place : ℕ) (octets
   from_gate : drop (end_of some) (take place octets) ≡ open_gate ∷ (big_bytes 4 (length batch) ++ batch ++ spelled more)
   from_gate =
       let at : 1 + (31 + taken some) ≡ end_of some = omega arith in
-      let front : length (drop 1 header ++ spelled some) ≡ 31 + taken some = omega (arith, length-rest header long, length-spelled some, length-append (drop 1 header) (spelled some)) in
+      let front : length (drop 1 header ++ spelled some) ≡ 31 + taken some = omega (arith, long, length-drop 1 header, length-spelled some, length-append (drop 1 header) (spelled some)) in
       ap (λ n. drop n (take place octets)) (sym at)
       ∙ sym (drop-drop (31 + taken some) 1 (take place octets))
       ∙ ap (λ (l : List ℕ). drop (31 + taken some) l)
@@ -99,31 +94,6 @@ module _ (header : List ℕ) (long : length header ≡ 32) (place : ℕ) (octets
         (sym (take-take (at - (end_of some + 5) + n) (length batch) (drop (end_of some + 5) octets) (omega arith)) ∙ ap (λ (l : List ℕ). take (at - (end_of some + 5) + n) l) content_is)
         ∙ drop-take (at - (end_of some + 5)) n batch
 
-ltb_tells : (a b : ℕ) → ((nat_lt a b ≡ true) × (a < b)) ⊎ ((nat_lt a b ≡ false) × (b ≤ a))
-ltb_tells a b = ⊎_elim (λ yes. inl (yes.0, omega (arith, yes.1))) (λ no. inr (no.0, omega (arith, no.1))) (leb_tells (suc a) b)
-
-abbrev answer : Bool → ℕ → ℕ → Option (ℕ × ℕ)
-answer outside at n = if outside then None else Some (at, n)
-
--- what a gate that was read says of the content behind it
-module _ (header : List ℕ) (long : length header ≡ 32) (place : ℕ) (octets : List ℕ) (some : List (List ℕ)) (batch : List ℕ) (more : List (List ℕ)) (inside : place < length octets)
-    (listed : drop 1 (take place octets) ≡ drop 1 header ++ spelled (some ++ batch ∷ more)) (small : IsSmall batch) where
-  pub content_found : (behind : Behind) → IsBehind octets (end_of some) behind → content_at behind (end_of some) place ≡ Some (end_of some + 5, length batch)
-  content_found Shut shut = absurd (shut (gate_is_open header long place octets some batch more (omega arith) listed))
-  content_found Cut cut = absurd (cut.1 (whole_there header long place octets some batch more (omega arith) listed small inside))
-  content_found (Whole n) whole =
-      let is : n ≡ length batch = whole.1 ∙ length_is header long place octets some batch more (omega arith) listed small in
-      let fits : end_of some + 5 + n ≤ place = omega (arith, gate_before header long place octets some batch more (omega arith) listed) in
-      let P : Bool → Type 0 = λ b. answer b (end_of some + 5) n ≡ answer false (end_of some + 5) (length batch) in
-      subst P (sym (⊎_elim (λ yes. absurd (omega (arith, yes.1, fits))) (λ no. no.0) (ltb_tells place (end_of some + 5 + n)))) (ap (λ m. answer false (end_of some + 5) m) is)
-
-pub content_inside : (behind : Behind) (gate end : ℕ) → IfSome (content_at behind gate end) (λ content. (content.0 ≡ gate + 5) × (content.0 + content.1 ≤ end))
-content_inside Shut gate end = tt
-content_inside Cut gate end = tt
-content_inside (Whole n) gate end =
-    let P : Bool → Type 0 = λ b. IfSome (answer b (gate + 5) n) (λ content. (content.0 ≡ gate + 5) × (content.0 + content.1 ≤ end)) in
-    ⊎_elim (λ yes. subst P (sym yes.0) tt) (λ no. subst P (sym no.0) (refl, no.1)) (ltb_tells end (gate + 5 + n))
-
 -- a gate before the place has a batch behind it
 pub behind_some : (batches some more : List (List ℕ)) → batches ≡ some ++ more → end_of some < end_of batches → (batch : List ℕ) × (rest : List (List ℕ)) × (batches ≡ some ++ batch ∷ rest)
 behind_some batches some [] is lt = absurd (omega (arith, ap taken (is ∙ append-nil some)))
@@ -144,8 +114,3 @@ before_end batches some batch more is = omega (arith, ap taken is, taken-append 
 pub next_gate : (batches before : List (List ℕ)) (content : List ℕ) (behind : List (List ℕ)) (gate : ℕ) → batches ≡ before ++ content ∷ behind → gate ≡ end_of before
     → (batches ≡ before ++ content ∷ [] ++ behind) × (gate + 5 + length content ≡ end_of (before ++ content ∷ []))
 next_gate batches before content behind gate is at = (is ∙ sym (append_assoc before (content ∷ []) behind), omega (arith, at, taken-append before (content ∷ [])))
-
--- a fact of what there is
-pub if_some : {X : Type 0} (found : Option X) (P Q : X → Type 0) → IfSome found P → ((x : X) → found ≡ Some x → P x → Q x) → IfSome found Q
-if_some None P Q p f = tt
-if_some (Some x) P Q p f = f x refl p

@@ -8,9 +8,9 @@ use Rattle.std.proofs.lemmas.List.Elements.{All-head, All-tail, All-take}
 use Rattle.byteorder.specs.Endian.{big_bytes, big_number}
 use Rattle.gate_journal.specs.Before.{AreBefore, batch_at}
 use Rattle.gate_journal.specs.Format.{open_gate, spelled, end_of, IsSmall, IsWhole, gate_at, length_at, Stands, Starts, IsUnfinished, Differs}
-use Rattle.gate_journal.proofs.Fronts.{at_front}
-use Rattle.gate_journal.proofs.Places.{gate_is_open, length_is, content_is, whole_there, small_among}
-use Rattle.gate_journal.proofs.Spelling.{spelled-cons, spelled-append, taken-append, length-spelled, read_length, take_content, drop_content}
+use Rattle.gate_journal.specs.Fronts.{at_front}
+use Rattle.gate_journal.specs.Places.{gate_is_open, length_is, content_is, whole_there, small_among}
+use Rattle.gate_journal.specs.Spelling.{spelled-cons, spelled-append, taken-append, length-spelled, read_length, take_content, drop_content}
 
 -- two lists whose spellings begin the same: they are one, or one goes on where the other ends
 pub data Compared (some other : List (List ℕ)) : Type 0 where

@@ -1,0 +1,277 @@
+use Rattle.std.proofs.Common.{◌≡◌, ◌⊎◌, inl, inr, ℕ, ◌≤◌, List, [], ⊎_elim, refl, sym, ◌∙◌, ap, subst, arith}
+use Rattle.std.specs.Prelude.{min}
+use Rattle.area_disk.specs.Disk.{Rose}
+use Rattle.gate_journal.specs.Format.{header}
+use Rattle.gate_journal.specs.Journal as gates
+use Rattle.gate_journal.specs.declared.faults.OpenFault.{OpenFault}
+use Rattle.gate_journal.specs.declared.faults.OpenFault.TheVariants.{Device, NotOurs}
+use Rattle.area_disk.specs.MomentLaws.{follow}
+use Rattle.gate_journal.specs.Spelling.{first-header, length-header}
+use Rattle.cgf_journal.specs.Fit.{AreFit, IsUnfitTo, StandsFit}
+use Rattle.cgf_journal.specs.Format.{entries_in}
+use Rattle.cgf_journal.specs.Opening.{AreListedBefore, BreaksAt}
+use Rattle.cgf_journal.proofs.Opened.{calls_on, err_is, fault_is, found_is, leaves_on, listed_is, ok_is, other_fault, place_is, places_are, refused, stands_not_starts, stands_or_anew, unfit_not_starts, unwritten_is, widen_making}
+use Rattle.cgf_journal.proofs.trail.Trail.open_judged.Goals as goal
+
+rises : (before mid now : ℕ) → before ≤ mid → Rose mid now → Rose before now
+rises before mid now le rose = omega (arith, le, rose)
+
+le_trans : {a b c : ℕ} → a ≤ b → b ≤ c → a ≤ c
+le_trans ab bc = omega (arith, ab, bc)
+
+-- what an opened journal gives
+
+pub returns-in-Ok-open-clause-ok : goal.returns-in-Ok-open-clause-ok
+returns-in-Ok-open-clause-ok g c =
+    let laws = g.met.A.Area g.world.𝓛 g.world.𝓜 g.world.𝓡 ((λ s x. x), (λ x. x), (λ x. x), λ x. x) in
+    let a = c.args.area in
+    let o = g.A.Area.octets c.args.area in
+    let h = header (g.A.Area.size c.args.area) c.args.address c.args.generation in
+    let long = length-header (g.A.Area.size c.args.area) c.args.address c.args.generation in
+    let begins = first-header (g.A.Area.size c.args.area) c.args.address c.args.generation in
+    let fits = g.J.Judge.fits in
+    let j = c.in-Ok-open.journal in
+    let opened = c.in-Ok-open.ensures.ok in
+    let counted = c.in-Ok-open.ensures.counted in
+    let leaves = c.in-Ok-open.ensures.any_moment in
+    ok_is a (gates.area_of j) counted.cause.faults h (gates.header_of j) opened.header (StandsFit fits h) c.over.result
+    (λ told.
+    found_is fits h long begins o j c.length-size.result (laws.whole c.args.area told.0 ∙ sym c.length-size.ensures) (stands_or_anew fits h long begins o j told (opened.found told) opened.front opened.settled opened.header)
+    (opened.anew told) c.over.result (c.over.ensures.are_fit told) (c.over.ensures.entries told))
+    c.over.ensures.fresh c.over.ensures.faults
+
+pub returns-in-Ok-open-clause-err : goal.returns-in-Ok-open-clause-err
+returns-in-Ok-open-clause-err g c =
+    let laws = g.met.A.Area g.world.𝓛 g.world.𝓜 g.world.𝓡 ((λ s x. x), (λ x. x), (λ x. x), λ x. x) in
+    let a = c.args.area in
+    let o = g.A.Area.octets c.args.area in
+    let h = header (g.A.Area.size c.args.area) c.args.address c.args.generation in
+    let long = length-header (g.A.Area.size c.args.area) c.args.address c.args.generation in
+    let begins = first-header (g.A.Area.size c.args.area) c.args.address c.args.generation in
+    let fits = g.J.Judge.fits in
+    let j = c.in-Ok-open.journal in
+    let opened = c.in-Ok-open.ensures.ok in
+    let counted = c.in-Ok-open.ensures.counted in
+    let leaves = c.in-Ok-open.ensures.any_moment in
+    err_is a (gates.area_of j) counted.cause.faults (IsUnfitTo fits h) c.over.result
+    (λ told.
+    places_are fits h long begins o j c.length-size.result (laws.whole c.args.area told.0 ∙ sym c.length-size.ensures) (stands_or_anew fits h long begins o j told (opened.found told) opened.front opened.settled opened.header)
+    (opened.anew told) c.over.result (c.over.ensures.breaks told) (c.over.ensures.some told))
+    c.over.ensures.device c.over.ensures.faults_err
+    (λ told. unwritten_is o h j c.over.result (opened.found told) (opened.anew told) (c.over.ensures.some told) c.over.ensures.kept)
+
+pub returns-in-Ok-open-clause-reads : goal.returns-in-Ok-open-clause-reads
+returns-in-Ok-open-clause-reads g c = λ told history stands.
+    let laws = g.met.A.Area g.world.𝓛 g.world.𝓜 g.world.𝓡 ((λ s x. x), (λ x. x), (λ x. x), λ x. x) in
+    let a = c.args.area in
+    let o = g.A.Area.octets c.args.area in
+    let h = header (g.A.Area.size c.args.area) c.args.address c.args.generation in
+    let long = length-header (g.A.Area.size c.args.area) c.args.address c.args.generation in
+    let begins = first-header (g.A.Area.size c.args.area) c.args.address c.args.generation in
+    let fits = g.J.Judge.fits in
+    let j = c.in-Ok-open.journal in
+    let opened = c.in-Ok-open.ensures.ok in
+    let counted = c.in-Ok-open.ensures.counted in
+    let leaves = c.in-Ok-open.ensures.any_moment in
+    record {
+      listed = listed_is c.over.result (entries_in (gates.batches j)) history (c.over.ensures.entries told) (ap entries_in (opened.reads told stands.stands.batches stands.stands.stands) ∙ sym stands.stands.history);
+      moments = leaves_on a (gates.area_of j) c.over.result (g.A.Area.may_leave c.args.area) (leaves.unmade told (stands_not_starts fits h long begins o history stands)) c.over.ensures.kept;
+      calls = λ tells. calls_on a (gates.area_of j) tells c.over.result _ (counted.calls tells told (stands_not_starts fits h long begins o history stands)) c.over.ensures.kept;
+    }
+
+pub returns-in-Ok-open-clause-anew : goal.returns-in-Ok-open-clause-anew
+returns-in-Ok-open-clause-anew g c = λ told starts.
+    let laws = g.met.A.Area g.world.𝓛 g.world.𝓜 g.world.𝓡 ((λ s x. x), (λ x. x), (λ x. x), λ x. x) in
+    let a = c.args.area in
+    let o = g.A.Area.octets c.args.area in
+    let h = header (g.A.Area.size c.args.area) c.args.address c.args.generation in
+    let long = length-header (g.A.Area.size c.args.area) c.args.address c.args.generation in
+    let begins = first-header (g.A.Area.size c.args.area) c.args.address c.args.generation in
+    let fits = g.J.Judge.fits in
+    let j = c.in-Ok-open.journal in
+    let opened = c.in-Ok-open.ensures.ok in
+    let counted = c.in-Ok-open.ensures.counted in
+    let leaves = c.in-Ok-open.ensures.any_moment in
+    record {
+      listed = listed_is c.over.result (entries_in (gates.batches j)) [] (c.over.ensures.entries told) (ap entries_in (opened.anew told starts));
+      moments = leaves_on a (gates.area_of j) c.over.result _ (widen_making a (gates.area_of j) h (leaves.anew told starts)) c.over.ensures.kept;
+      calls = λ tells. calls_on a (gates.area_of j) tells c.over.result _ (counted.calls_anew tells told starts) c.over.ensures.kept;
+    }
+
+pub returns-in-Ok-open-clause-foreign : goal.returns-in-Ok-open-clause-foreign
+returns-in-Ok-open-clause-foreign g c = λ told at foreign.
+    let laws = g.met.A.Area g.world.𝓛 g.world.𝓜 g.world.𝓡 ((λ s x. x), (λ x. x), (λ x. x), λ x. x) in
+    let a = c.args.area in
+    let o = g.A.Area.octets c.args.area in
+    let h = header (g.A.Area.size c.args.area) c.args.address c.args.generation in
+    let long = length-header (g.A.Area.size c.args.area) c.args.address c.args.generation in
+    let begins = first-header (g.A.Area.size c.args.area) c.args.address c.args.generation in
+    let fits = g.J.Judge.fits in
+    let j = c.in-Ok-open.journal in
+    let opened = c.in-Ok-open.ensures.ok in
+    let counted = c.in-Ok-open.ensures.counted in
+    let leaves = c.in-Ok-open.ensures.any_moment in
+    let is = stands_or_anew fits h long begins o j told (opened.found told) opened.front opened.settled opened.header in
+    let sized = laws.whole c.args.area told.0 ∙ sym c.length-size.ensures in
+    record {
+      place =
+          refused fits h long begins o j c.over.result (found_is fits h long begins o j c.length-size.result sized is (opened.anew told) c.over.result (c.over.ensures.are_fit told) (c.over.ensures.entries told))
+          (places_are fits h long begins o j c.length-size.result sized is (opened.anew told) c.over.result (c.over.ensures.breaks told) (c.over.ensures.some told)) at foreign;
+      moments = leaves_on a (gates.area_of j) c.over.result (g.A.Area.may_leave c.args.area) (leaves.unmade told (unfit_not_starts fits h long begins o at foreign)) c.over.ensures.kept;
+    }
+
+-- what one that was refused gives
+
+pub fault_before-fault-requires-clause-taken : goal.fault_before-fault-requires-clause-taken
+fault_before-fault-requires-clause-taken g c = λ κs within. c.in-Ok-new.ensures.taken c.length-size.result
+
+pub returns-in-Err-NotOurs-default-clause-err : goal.returns-in-Err-NotOurs-default-clause-err
+returns-in-Err-NotOurs-default-clause-err g c =
+    let laws = g.met.A.Area g.world.𝓛 g.world.𝓜 g.world.𝓡 ((λ s x. x), (λ x. x), (λ x. x), λ x. x) in
+    let a = c.args.area in
+    let o = g.A.Area.octets c.args.area in
+    let h = header (g.A.Area.size c.args.area) c.args.address c.args.generation in
+    let long = length-header (g.A.Area.size c.args.area) c.args.address c.args.generation in
+    let begins = first-header (g.A.Area.size c.args.area) c.args.address c.args.generation in
+    let fits = g.J.Judge.fits in
+    let mid = c.in-Err-NotOurs-default.area in
+    let opened = c.in-Err-NotOurs-default.ensures in
+    let leaves = opened.any_moment in
+    let kept = c.fault_before-fault.ensures.kept in
+    let at0 = c.in-Err-NotOurs-default.at in
+    let here = subst (λ n. n ≤ 32 → c.fault_before-fault.result ≡ NotOurs n) c.in-Err-NotOurs-default.at-is c.fault_before-fault.ensures.here in
+    let first = subst
+    (λ n.
+    (all : List (List ℕ)) → AreListedBefore g.A.Area.tells_octets (g.A.Area.octets c.in-Err-NotOurs-default.area) n all → (k : ℕ) → c.fault_before-fault.result ≡ NotOurs k
+    → BreaksAt (AreFit g.J.Judge.fits c.length-size.result) all k ⊎ (AreFit g.J.Judge.fits c.length-size.result all × (k ≡ n))) c.in-Err-NotOurs-default.at-is c.fault_before-fault.ensures.first in
+    let same = λ (unwritten : (c.in-Err-NotOurs-default.field-0-0 ≡ Device) ⊎ (g.A.Area.octets mid ≡ o)). ⊎_elim (λ (e : ◌≡◌ {A = OpenFault} c.in-Err-NotOurs-default.field-0-0 Device). absurd (other_fault (sym c.in-Err-NotOurs-default.field-0-0-is ∙ e))) (λ (e : g.A.Area.octets mid ≡ o). e) unwritten in
+    record {
+      place = λ told at is.
+          place_is fits h long begins o g.A.Area.tells_octets told.0 c.length-size.result (laws.whole c.args.area told.0 ∙ sym c.length-size.ensures) at0 at c.fault_before-fault.result
+          (opened.err.not_ours told at0 c.in-Err-NotOurs-default.field-0-0-is) here
+          (λ all listed. first all (subst (λ (l : List ℕ). AreListedBefore g.A.Area.tells_octets l c.in-Err-NotOurs-default.at all) (sym (same (opened.err.unwritten told))) listed)) is;
+      cause = λ e. rises (g.A.Area.faults a) (g.A.Area.faults mid) _ opened.counted.cause.faults_err (c.fault_before-fault.ensures.device e);
+      faults = le_trans opened.counted.cause.faults_err c.fault_before-fault.ensures.faults;
+      unwritten = λ told. inr (kept.octets ∙ same (opened.err.unwritten told));
+    }
+
+pub returns-in-Err-NotOurs-default-clause-anew : goal.returns-in-Err-NotOurs-default-clause-anew
+returns-in-Err-NotOurs-default-clause-anew g c = λ told starts.
+    let laws = g.met.A.Area g.world.𝓛 g.world.𝓜 g.world.𝓡 ((λ s x. x), (λ x. x), (λ x. x), λ x. x) in
+    let a = c.args.area in
+    let o = g.A.Area.octets c.args.area in
+    let h = header (g.A.Area.size c.args.area) c.args.address c.args.generation in
+    let long = length-header (g.A.Area.size c.args.area) c.args.address c.args.generation in
+    let begins = first-header (g.A.Area.size c.args.area) c.args.address c.args.generation in
+    let fits = g.J.Judge.fits in
+    let mid = c.in-Err-NotOurs-default.area in
+    let opened = c.in-Err-NotOurs-default.ensures in
+    let leaves = opened.any_moment in
+    record {
+      listed = tt;
+      moments = follow g.A.Area a mid c.fault_before-fault.new.area _ (widen_making a mid h (leaves.anew told starts)) c.fault_before-fault.ensures.kept.leaves;
+      calls = λ tells. tt;
+    }
+
+pub returns-in-Err-NotOurs-default-clause-foreign : goal.returns-in-Err-NotOurs-default-clause-foreign
+returns-in-Err-NotOurs-default-clause-foreign g c = λ told at foreign.
+    let laws = g.met.A.Area g.world.𝓛 g.world.𝓜 g.world.𝓡 ((λ s x. x), (λ x. x), (λ x. x), λ x. x) in
+    let a = c.args.area in
+    let o = g.A.Area.octets c.args.area in
+    let h = header (g.A.Area.size c.args.area) c.args.address c.args.generation in
+    let long = length-header (g.A.Area.size c.args.area) c.args.address c.args.generation in
+    let begins = first-header (g.A.Area.size c.args.area) c.args.address c.args.generation in
+    let fits = g.J.Judge.fits in
+    let mid = c.in-Err-NotOurs-default.area in
+    let opened = c.in-Err-NotOurs-default.ensures in
+    let leaves = opened.any_moment in
+    record {
+      place = fault_is fits h long begins o c.fault_before-fault.result ((returns-in-Err-NotOurs-default-clause-err g c).place told) at foreign;
+      moments =
+          follow g.A.Area a mid c.fault_before-fault.new.area (g.A.Area.may_leave c.args.area) (leaves.unmade told (unfit_not_starts fits h long begins o at foreign)) c.fault_before-fault.ensures.kept.leaves;
+    }
+
+-- and one that the device or want of memory ended
+
+pub returns-in-Err-Device-default-clause-anew : goal.returns-in-Err-Device-default-clause-anew
+returns-in-Err-Device-default-clause-anew g c = λ told starts.
+    let laws = g.met.A.Area g.world.𝓛 g.world.𝓜 g.world.𝓡 ((λ s x. x), (λ x. x), (λ x. x), λ x. x) in
+    let a = c.args.area in
+    let o = g.A.Area.octets c.args.area in
+    let h = header (g.A.Area.size c.args.area) c.args.address c.args.generation in
+    let long = length-header (g.A.Area.size c.args.area) c.args.address c.args.generation in
+    let begins = first-header (g.A.Area.size c.args.area) c.args.address c.args.generation in
+    let fits = g.J.Judge.fits in
+    record { listed = tt; moments = widen_making a c.in-Err-Device-default.area h (c.in-Err-Device-default.ensures.any_moment.anew told starts); calls = λ tells. tt }
+
+pub returns-in-Err-Device-default-clause-foreign : goal.returns-in-Err-Device-default-clause-foreign
+returns-in-Err-Device-default-clause-foreign g c = λ told at foreign.
+    let laws = g.met.A.Area g.world.𝓛 g.world.𝓜 g.world.𝓡 ((λ s x. x), (λ x. x), (λ x. x), λ x. x) in
+    let a = c.args.area in
+    let o = g.A.Area.octets c.args.area in
+    let h = header (g.A.Area.size c.args.area) c.args.address c.args.generation in
+    let long = length-header (g.A.Area.size c.args.area) c.args.address c.args.generation in
+    let begins = first-header (g.A.Area.size c.args.area) c.args.address c.args.generation in
+    let fits = g.J.Judge.fits in
+    record { place = inr (inl refl); moments = c.in-Err-Device-default.ensures.any_moment.unmade told (unfit_not_starts fits h long begins o at foreign) }
+
+pub returns-clause-anew : goal.returns-clause-anew
+returns-clause-anew g c = λ told starts.
+    let laws = g.met.A.Area g.world.𝓛 g.world.𝓜 g.world.𝓡 ((λ s x. x), (λ x. x), (λ x. x), λ x. x) in
+    let a = c.args.area in
+    let o = g.A.Area.octets c.args.area in
+    let h = header (g.A.Area.size c.args.area) c.args.address c.args.generation in
+    let long = length-header (g.A.Area.size c.args.area) c.args.address c.args.generation in
+    let begins = first-header (g.A.Area.size c.args.area) c.args.address c.args.generation in
+    let fits = g.J.Judge.fits in
+    record { listed = tt; moments = widen_making a c.in-Err-NoMemory-default.area h (c.in-Err-NoMemory-default.ensures.any_moment.anew told starts); calls = λ tells. tt }
+
+pub returns-clause-foreign : goal.returns-clause-foreign
+returns-clause-foreign g c = λ told at foreign.
+    let laws = g.met.A.Area g.world.𝓛 g.world.𝓜 g.world.𝓡 ((λ s x. x), (λ x. x), (λ x. x), λ x. x) in
+    let a = c.args.area in
+    let o = g.A.Area.octets c.args.area in
+    let h = header (g.A.Area.size c.args.area) c.args.address c.args.generation in
+    let long = length-header (g.A.Area.size c.args.area) c.args.address c.args.generation in
+    let begins = first-header (g.A.Area.size c.args.area) c.args.address c.args.generation in
+    let fits = g.J.Judge.fits in
+    record { place = inr (inr refl); moments = c.in-Err-NoMemory-default.ensures.any_moment.unmade told (unfit_not_starts fits h long begins o at foreign) }
+
+pub returns-in-Err-Device-default-clause-reads : goal.returns-in-Err-Device-default-clause-reads
+returns-in-Err-Device-default-clause-reads g c = λ told history stands.
+    let laws = g.met.A.Area g.world.𝓛 g.world.𝓜 g.world.𝓡 ((λ s x. x), (λ x. x), (λ x. x), λ x. x) in
+    let a = c.args.area in
+    let o = g.A.Area.octets c.args.area in
+    let h = header (g.A.Area.size c.args.area) c.args.address c.args.generation in
+    let long = length-header (g.A.Area.size c.args.area) c.args.address c.args.generation in
+    let begins = first-header (g.A.Area.size c.args.area) c.args.address c.args.generation in
+    let fits = g.J.Judge.fits in
+    record { listed = tt; moments = c.in-Err-Device-default.ensures.any_moment.unmade told (stands_not_starts fits h long begins o history stands); calls = λ tells. tt }
+
+pub returns-clause-reads : goal.returns-clause-reads
+returns-clause-reads g c = λ told history stands.
+    let laws = g.met.A.Area g.world.𝓛 g.world.𝓜 g.world.𝓡 ((λ s x. x), (λ x. x), (λ x. x), λ x. x) in
+    let a = c.args.area in
+    let o = g.A.Area.octets c.args.area in
+    let h = header (g.A.Area.size c.args.area) c.args.address c.args.generation in
+    let long = length-header (g.A.Area.size c.args.area) c.args.address c.args.generation in
+    let begins = first-header (g.A.Area.size c.args.area) c.args.address c.args.generation in
+    let fits = g.J.Judge.fits in
+    record { listed = tt; moments = c.in-Err-NoMemory-default.ensures.any_moment.unmade told (stands_not_starts fits h long begins o history stands); calls = λ tells. tt }
+
+pub returns-in-Err-NotOurs-default-clause-reads : goal.returns-in-Err-NotOurs-default-clause-reads
+returns-in-Err-NotOurs-default-clause-reads g c = λ told history stands.
+    let laws = g.met.A.Area g.world.𝓛 g.world.𝓜 g.world.𝓡 ((λ s x. x), (λ x. x), (λ x. x), λ x. x) in
+    let a = c.args.area in
+    let o = g.A.Area.octets c.args.area in
+    let h = header (g.A.Area.size c.args.area) c.args.address c.args.generation in
+    let long = length-header (g.A.Area.size c.args.area) c.args.address c.args.generation in
+    let begins = first-header (g.A.Area.size c.args.area) c.args.address c.args.generation in
+    let fits = g.J.Judge.fits in
+    record {
+      listed = tt;
+      moments =
+          follow g.A.Area a c.in-Err-NotOurs-default.area c.fault_before-fault.new.area (g.A.Area.may_leave c.args.area)
+          (c.in-Err-NotOurs-default.ensures.any_moment.unmade told (stands_not_starts fits h long begins o history stands)) c.fault_before-fault.ensures.kept.leaves;
+      calls = λ tells. tt;
+    }

@@ -1,0 +1,14 @@
+use Rattle.std.proofs.Common.{◌≡◌, ◌≤◌, ◌*◌, length, sym, ◌∙◌, ap, subst, arith, List, ℕ}
+use Rattle.entry_codec.specs.Content.{AreEntries, entries_of}
+use Rattle.cgf_journal.specs.Trail.{waiting}
+use Rattle.cgf_journal.proofs.Trails.{firm_bound, firm_costs_fit, firm_spelled}
+use Rattle.cgf_journal.proofs.trail.Trail.waiting.Goals as goal
+
+pub returns-clause-entries : goal.returns-clause-entries
+unfolding waiting
+returns-clause-entries g c =
+    let t = c.args.self.now in
+    subst (λ (o : List ℕ). AreEntries o (entries_of t.waiting.octets)) (sym c.octets.ensures) t.sound.are_entries
+
+pub returns-clause-at : goal.returns-clause-at
+returns-clause-at g c = λ told. let t = c.args.self.now in omega (arith, c.firm_costs.ensures, firm_spelled t told)

@@ -1,0 +1,39 @@
+-- What a gate that was read says of the content behind it.
+use Rattle.std.proofs.Common.{◌≡◌, ℕ, ◌+◌, ◌<◌, ◌≤◌, List, ◌∷◌, ◌++◌, length, take, drop, ⊎_elim, ◌⊎◌, inl, inr, suc, Bool, true, false, refl, sym, ◌∙◌, ap, subst, arith}
+use Rattle.std.specs.Prelude.{Option, Some, None, IfSome, nat_lt, if◌then◌else◌}
+use Rattle.std.proofs.lemmas.Bool.Decides.{leb_tells}
+use Rattle.gate_journal.specs.Format.{spelled, end_of, longest_batch, IsSmall}
+use Rattle.gate_journal.specs.Places.{gate_before, gate_is_open, length_is, whole_there}
+use Rattle.gate_journal.specs.Verdicts.{Fits, IsBehind, content_at}
+use Rattle.gate_journal.specs.declared.reading.Behind.{Behind}
+use Rattle.gate_journal.specs.declared.reading.Behind.TheVariants.{Shut, Whole, Cut}
+
+ltb_tells : (a b : ℕ) → ((nat_lt a b ≡ true) × (a < b)) ⊎ ((nat_lt a b ≡ false) × (b ≤ a))
+ltb_tells a b = ⊎_elim (λ yes. inl (yes.0, omega (arith, yes.1))) (λ no. inr (no.0, omega (arith, no.1))) (leb_tells (suc a) b)
+
+abbrev answer : Bool → ℕ → ℕ → Option (ℕ × ℕ)
+answer outside at n = if outside then None else Some (at, n)
+
+-- what a gate that was read says of the content behind it
+module _ (header : List ℕ) (long : length header ≡ 32) (place : ℕ) (octets : List ℕ) (some : List (List ℕ)) (batch : List ℕ) (more : List (List ℕ)) (inside : place < length octets)
+    (listed : drop 1 (take place octets) ≡ drop 1 header ++ spelled (some ++ batch ∷ more)) (small : IsSmall batch) where
+  pub content_found : (behind : Behind) → IsBehind octets (end_of some) behind → content_at behind (end_of some) place ≡ Some (end_of some + 5, length batch)
+  content_found Shut shut = absurd (shut (gate_is_open header long place octets some batch more (omega arith) listed))
+  content_found Cut cut = absurd (cut.1 (whole_there header long place octets some batch more (omega arith) listed small inside))
+  content_found (Whole n) whole =
+      let is : n ≡ length batch = whole.1 ∙ length_is header long place octets some batch more (omega arith) listed small in
+      let fits : end_of some + 5 + n ≤ place = omega (arith, gate_before header long place octets some batch more (omega arith) listed) in
+      let P : Bool → Type 0 = λ b. answer b (end_of some + 5) n ≡ answer false (end_of some + 5) (length batch) in
+      subst P (sym (⊎_elim (λ yes. absurd (omega (arith, yes.1, fits))) (λ no. no.0) (ltb_tells place (end_of some + 5 + n)))) (ap (λ m. answer false (end_of some + 5) m) is)
+
+pub content_inside : (size : ℕ) (behind : Behind) (gate end : ℕ) → Fits size gate behind → IfSome (content_at behind gate end) (λ content. (content.0 ≡ gate + 5) × (content.0 + content.1 ≤ end) × (content.1 ≤ longest_batch))
+content_inside size Shut gate end fits = tt
+content_inside size Cut gate end fits = tt
+content_inside size (Whole n) gate end fits =
+    let P : Bool → Type 0 = λ b. IfSome (answer b (gate + 5) n) (λ content. (content.0 ≡ gate + 5) × (content.0 + content.1 ≤ end) × (content.1 ≤ longest_batch)) in
+    ⊎_elim (λ yes. subst P (sym yes.0) tt) (λ no. subst P (sym no.0) (refl, no.1, fits.0)) (ltb_tells end (gate + 5 + n))
+
+-- a fact of what there is
+pub if_some : {X : Type 0} (found : Option X) (P Q : X → Type 0) → IfSome found P → ((x : X) → found ≡ Some x → P x → Q x) → IfSome found Q
+if_some None P Q p f = tt
+if_some (Some x) P Q p f = f x refl p
