@@ -144,13 +144,16 @@ pub begins : (n : NodeId) (s : SortedKeys) (first end : ℕ) → IsFirstOf s.key
 begins n s first end starts ends = record {
   firm = refl;
   live = refl;
-  inside = (elim (cases_lt end first) [
+  inside = (
+    elim (cases_lt end first) [
       | inl lt ↦
           let d = new_key n 0 0 in
           let k = slice_index_or s.keys.items end d in
           absurd (before_node k.node.0 n.0 k.number (starts.before end d lt) (ends.later end d (omega arith) (omega (arith, lt, starts.inside))))
       | inr le ↦ le
-    ], ends.inside);
+    ],
+    ends.inside,
+  );
   gone = λ j d lt held. other_passes n (key_of (slice_index_or s.keys.items j d)) (not_of_node (slice_index_or s.keys.items j d).node.0 n.0 (slice_index_or s.keys.items j d).number (starts.before j d lt));
   own = λ j d le lt. of_node (slice_index_or s.keys.items j d).node.0 n.0 (slice_index_or s.keys.items j d).number (s.up_to j d (omega (arith, lt, ends.inside))).1 (starts.later j d le (omega (arith, lt, ends.inside))) (ends.before j d lt);
   past = λ j d le lt. past_node (slice_index_or s.keys.items j d).node.0 n.0 (slice_index_or s.keys.items j d).number (s.up_to j d lt).1 (ends.later j d le lt);

@@ -13,7 +13,7 @@ use Rattle.gate_journal.specs.declared.journal.Front.TheVariants.{Founded}
 use Rattle.gate_journal.specs.declared.journal.Journal.{Journal}
 use Rattle.entry_codec.specs.Content.{AreEntries, IsContent, entries_of, spelled}
 use Rattle.entry_codec.specs.Room.{costs_of}
-use Rattle.entry_codec.specs.Laws.{costs_of-append, costs_of-spelled, no_entries}
+use Rattle.entry_codec.specs.Laws.{costs_of-append, costs_of-spelled, entries_of-nil, no_entries}
 use Rattle.cgf_journal.specs.Format.{AreBatches, entries_in}
 use Rattle.cgf_journal.specs.Opening.{AreListed, IsTakenUpTo}
 use Rattle.cgf_journal.specs.Sound.{EndsBy, IsSound, is_founded, places_behind, places_from}
@@ -21,7 +21,6 @@ use Rattle.cgf_journal.specs.Tally.{Tallies, TallyValue, tally_behind_all, tally
 use Rattle.cgf_journal.proofs.Tallies.{tally_of-costs}
 use Rattle.cgf_journal.proofs.Entries.{costs_at_least}
 use Rattle.cgf_journal.proofs.Placing.{length-places_behind, places_from-ends}
-use Rattle.cgf_journal.proofs.Sounds.{none_of}
 use Rattle.cgf_journal.proofs.Listings.{no_more}
 
 -- a batch costs its octets and its gate and length at least
@@ -79,9 +78,9 @@ module _ {A : Type 0} {tells : Ghosts A} (journal : Journal A tells) (size : ℕ
         sized = sized;
         room = refl;
         short = omega arith;
-        are_entries = subst (λ (h : List HistoryEntry). AreEntries [] h) (sym none_of) no_entries;
-        live_tally = ap (λ (h : List HistoryEntry). tally_behind_all tally.live h) (sym none_of);
-        waiting_placed = drop_all (length places) places (omega arith) ∙ ap (λ (h : List HistoryEntry). places_from (end journal + 5) h) (sym none_of);
+        are_entries = subst (λ (h : List HistoryEntry). AreEntries [] h) (sym entries_of-nil) no_entries;
+        live_tally = ap (λ (h : List HistoryEntry). tally_behind_all tally.live h) (sym entries_of-nil);
+        waiting_placed = drop_all (length places) places (omega arith) ∙ ap (λ (h : List HistoryEntry). places_from (end journal + 5) h) (sym entries_of-nil);
         torn_waits = λ closed. absurd (not_both closed);
         some_torn = λ closed. absurd (not_both closed);
         firm_places = omega arith;

@@ -46,10 +46,10 @@ ascending-insert keys at now inside before later up i j d lt within =
       | inl here ↦ omega (arith, before i d (omega (arith, lt, here)), rank_below i (omega (arith, lt, here)), rank_here j here)
       | inr (inl below) ↦ omega (arith, rank_below i (omega (arith, lt, below)), rank_below j below, up i j d lt (omega (arith, below, inside)))
       | inr (inr above) ↦ elim (cases_order i at) [
-          | inl here ↦ omega (arith, rank_here i here, rank_above j above, later (j - 1) d (omega (arith, above)) (omega (arith, above, within, long)))
-          | inr (inl below) ↦ omega (arith, rank_below i below, rank_above j above, up i (j - 1) d (omega (arith, below, above)) (omega (arith, above, within, long)))
-          | inr (inr past) ↦ omega (arith, rank_above i past, rank_above j above, up (i - 1) (j - 1) d (omega (arith, lt, past)) (omega (arith, above, within, long)))
-        ]
+        | inl here ↦ omega (arith, rank_here i here, rank_above j above, later (j - 1) d (omega (arith, above)) (omega (arith, above, within, long)))
+        | inr (inl below) ↦ omega (arith, rank_below i below, rank_above j above, up i (j - 1) d (omega (arith, below, above)) (omega (arith, above, within, long)))
+        | inr (inr past) ↦ omega (arith, rank_above i past, rank_above j above, up (i - 1) (j - 1) d (omega (arith, lt, past)) (omega (arith, above, within, long)))
+      ]
     ]
   where
     rank_below : (k : ℕ) → k < at → rank (slice_index_or (more keys at now) k d) ≡ rank (slice_index_or keys k d)
@@ -98,10 +98,13 @@ up_to-settled q firm r keys up j d within =
 pub ordered : (keys : List KeptKey) → AreAscending keys → IsNonDecreasingBy (λ (kept : KeptKey). rank kept) keys
 ordered keys up i j d le within = elim (cases_eq i j) [
   | inl e ↦ omega (arith, ap (λ (k : ℕ). rank (slice_index_or keys k d)) e)
-  | inr ne ↦ omega (arith, up i j d (elim (cases_lt i j) [
+  | inr ne ↦ omega (
+    arith,
+    up i j d (elim (cases_lt i j) [
       | inl lt ↦ lt
       | inr ge ↦ absurd (ne (omega (arith, le, ge)))
-    ]) within)
+    ]) within,
+  )
 ]
 
 -- what a search by rank tells of the keys from a place on
@@ -140,10 +143,15 @@ absent_at keys at n x e up inside before from apart =
       before = before;
       later = λ j d le within. elim (cases_eq at j) [
         | inl same ↦ omega (arith, here, ap (λ (k : ℕ). rank (slice_index_or keys k d)) same, ap (λ (k : KeptKey). rank k) (get_or_default keys at d e inside))
-        | inr other ↦ omega (arith, here, ap (λ (k : KeptKey). rank k) (get_or_default keys at d e inside), up at j d (elim (cases_lt at j) [
+        | inr other ↦ omega (
+          arith,
+          here,
+          ap (λ (k : KeptKey). rank k) (get_or_default keys at d e inside),
+          up at j d (elim (cases_lt at j) [
             | inl lt ↦ lt
             | inr ge ↦ absurd (other (omega (arith, le, ge)))
-          ]) within)
+          ]) within,
+        )
       ];
     }
 

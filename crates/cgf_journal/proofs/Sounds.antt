@@ -14,19 +14,14 @@ use Rattle.gate_journal.specs.declared.journal.Journal.{Journal}
 use Rattle.entry_codec.specs.Content.{AreEntries, entries_of, spelled}
 use Rattle.entry_codec.specs.Room.{capacity_of, costs_of}
 use Rattle.entry_codec.specs.Spelling.{HasSpelling, cost_of, entry_length, spelling}
-use Rattle.entry_codec.specs.Laws.{costs_of-spelled, more_entries, no_entries, one_entry}
-use Rattle.entry_codec.proofs.Contents.{entries_of_entries}
-use Rattle.entry_codec.specs.Laws.{length_of_spelling}
+use Rattle.entry_codec.specs.LawTypes.{EntriesAreReadBack}
+use Rattle.entry_codec.specs.Laws.{costs_of-spelled, entries_of-nil, length_of_spelling, more_entries, no_entries, one_entry}
 use Rattle.cgf_journal.specs.Format.{AreBatches, cheapest_entry, entries_in}
 use Rattle.cgf_journal.specs.Sound.{EndsBy, IsSound, is_founded, places_behind, places_from}
 use Rattle.cgf_journal.specs.Tally.{Tallies, TallyValue, tally_behind, tally_behind_all, tally_of}
 use Rattle.cgf_journal.proofs.Entries.{are_batches-push, costs_at_least, entries_in-push}
 use Rattle.cgf_journal.proofs.Placing.{length-places_from, places_behind-push, places_from-ends, places_from-push}
 use Rattle.cgf_journal.proofs.Tallies.{tally_all, tally_all-append, tally_all-costs, tally_of-costs}
-
--- where nothing was pushed, no entry waits
-pub none_of : entries_of [] ≡ []
-none_of = entries_of_entries [] [] no_entries
 
 taken-push : (batches : List (List ℕ)) (batch : List ℕ) → taken (batches ++ batch ∷ []) ≡ taken batches + length batch + 5
 taken-push [] batch = omega arith
@@ -51,7 +46,7 @@ module _ {A : Type 0} {tells : Ghosts A} (journal : Journal A tells) (size : ℕ
   dear_places = omega (arith, sound.dear, waiting_count, ap (λ (t : TallyValue). t.costs) sound.live_tally, tally_all-costs tally.firm pending, costs_at_least pending)
 
   pub none_waits : waiting.octets ≡ [] → length places ≡ firm
-  none_waits none = omega (arith, waiting_count, ap (λ (l : List ℕ). length (entries_of l)) none, ap length none_of)
+  none_waits none = omega (arith, waiting_count, ap (λ (l : List ℕ). length (entries_of l)) none, ap length entries_of-nil)
 
   pub some_wait : waiting.octets ≢ [] → 1 ≤ length pending
   some_wait some = by_list pending refl
@@ -114,9 +109,9 @@ module _ {A : Type 0} {tells : Ghosts A} (journal : Journal A tells) (size : ℕ
           sized = sound.sized ∙ sym same_size;
           room = sound.room;
           short = omega arith;
-          are_entries = subst (λ (h : List HistoryEntry). AreEntries [] h) (sym none_of) no_entries;
-          live_tally = ap (λ (h : List HistoryEntry). tally_behind_all tally.firm h) (sym none_of);
-          waiting_placed = drop_all firm (take firm places) (omega (arith, length-firm)) ∙ ap (λ (h : List HistoryEntry). places_from (end new + 5) h) (sym none_of);
+          are_entries = subst (λ (h : List HistoryEntry). AreEntries [] h) (sym entries_of-nil) no_entries;
+          live_tally = ap (λ (h : List HistoryEntry). tally_behind_all tally.firm h) (sym entries_of-nil);
+          waiting_placed = drop_all firm (take firm places) (omega (arith, length-firm)) ∙ ap (λ (h : List HistoryEntry). places_from (end new + 5) h) (sym entries_of-nil);
           torn_waits = λ closed. absurd (not_both opened closed);
           some_torn = λ closed. absurd (not_both opened closed);
           firm_places = omega (arith, length-firm);
@@ -158,9 +153,9 @@ module _ {A : Type 0} {tells : Ghosts A} (journal : Journal A tells) (size : ℕ
           sized = sound.sized ∙ sym same_size;
           room = sound.room;
           short = omega arith;
-          are_entries = subst (λ (h : List HistoryEntry). AreEntries [] h) (sym none_of) no_entries;
-          live_tally = ap (λ (h : List HistoryEntry). tally_behind_all tally.live h) (sym none_of);
-          waiting_placed = drop_all (length places) places (omega arith) ∙ ap (λ (h : List HistoryEntry). places_from (end new + 5) h) (sym none_of);
+          are_entries = subst (λ (h : List HistoryEntry). AreEntries [] h) (sym entries_of-nil) no_entries;
+          live_tally = ap (λ (h : List HistoryEntry). tally_behind_all tally.live h) (sym entries_of-nil);
+          waiting_placed = drop_all (length places) places (omega arith) ∙ ap (λ (h : List HistoryEntry). places_from (end new + 5) h) (sym entries_of-nil);
           torn_waits = λ closed. absurd (not_both opened closed);
           some_torn = λ closed. absurd (not_both opened closed);
           firm_places = omega arith;
@@ -177,9 +172,9 @@ module _ {A : Type 0} {tells : Ghosts A} (journal : Journal A tells) (size : ℕ
         not_both opened closed = cc
 
   -- one more entry waits
-  module _ (e : HistoryEntry) (has : HasSpelling e) where
+  module _ (back : EntriesAreReadBack) (e : HistoryEntry) (has : HasSpelling e) where
     pub pending-push : entries_of (waiting.octets ++ spelling e) ≡ pending ++ e ∷ []
-    pending-push = entries_of_entries (waiting.octets ++ spelling e) (pending ++ e ∷ []) (more_entries waiting.octets (spelling e) pending (e ∷ []) sound.are_entries (one_entry e has))
+    pending-push = back (waiting.octets ++ spelling e) (pending ++ e ∷ []) (more_entries waiting.octets (spelling e) pending (e ∷ []) sound.are_entries (one_entry e has))
 
     grown_entries : AreEntries (waiting.octets ++ spelling e) (entries_of (waiting.octets ++ spelling e))
     grown_entries =

@@ -9,9 +9,8 @@ use Rattle.entry_codec.specs.Content.{AreEntries, IsContent, entries_of, spelled
 use Rattle.entry_codec.specs.Fault.{BeginsWith}
 use Rattle.entry_codec.specs.Room.{costs_of}
 use Rattle.entry_codec.specs.Spelling.{HasSpelling, entry_length, spelling}
-use Rattle.entry_codec.specs.Laws.{costs_of-spelled, more_entries, no_entries, one_entry}
-use Rattle.entry_codec.proofs.Contents.{divided_entries, entries_of_entries}
-use Rattle.entry_codec.specs.Laws.{length_of_spelling}
+use Rattle.entry_codec.specs.LawTypes.{EntriesAreReadBack, EntriesDivide}
+use Rattle.entry_codec.specs.Laws.{costs_of-spelled, length_of_spelling, more_entries, no_entries, one_entry}
 use Rattle.cgf_journal.specs.Contents.{IsTakenIn}
 use Rattle.cgf_journal.specs.Sound.{places_from}
 use Rattle.cgf_journal.specs.Tally.{Tallies, tally_behind_all}
@@ -105,12 +104,12 @@ pub record IsAllTaken (content : List ℕ) (start : ℕ) (before places : List P
   pub costs : tally.live.costs ≡ old.live.costs + length content + 5 * length (entries_of content)
   pub count : length places ≡ length before + length (entries_of content)
 
-pub all_taken : (content rest : List ℕ) (start at : ℕ) (before places : List Place) (old tally : Tallies) → AreTaken content rest start at before places old tally
+pub all_taken : EntriesAreReadBack → (content rest : List ℕ) (start at : ℕ) (before places : List Place) (old tally : Tallies) → AreTaken content rest start at before places old tally
     → rest ≡ [] → IsAllTaken content start before places old tally
-all_taken content rest start at before places old tally so_far end =
+all_taken back content rest start at before places old tally so_far end =
     let whole : content ≡ so_far.front = so_far.parts ∙ ap (λ (o : List ℕ). so_far.front ++ o) end ∙ append-nil so_far.front in
     let are : AreEntries content so_far.entries = subst (λ (o : List ℕ). AreEntries o so_far.entries) (sym whole) so_far.are_entries in
-    let those : so_far.entries ≡ entries_of content = sym (entries_of_entries content so_far.entries are) in
+    let those : so_far.entries ≡ entries_of content = sym (back content so_far.entries are) in
     let many : length so_far.entries ≡ length (entries_of content) = ap (λ (h : List HistoryEntry). length h) those in
     record {
       are_entries = subst (λ (h : List HistoryEntry). AreEntries content h) those are;
@@ -121,11 +120,11 @@ all_taken content rest start at before places old tally so_far end =
     }
 
 -- a rest that begins with no entry refuses the content
-pub rest_refuses : (content rest : List ℕ) (start at : ℕ) (before places : List Place) (old tally : Tallies) → AreTaken content rest start at before places old tally
+pub rest_refuses : EntriesDivide → (content rest : List ℕ) (start at : ℕ) (before places : List Place) (old tally : Tallies) → AreTaken content rest start at before places old tally
     → rest ≢ [] → ((e : HistoryEntry) → BeginsWith rest e → ⊥) → IsContent content → ⊥
-rest_refuses content rest start at before places old tally so_far some none is =
+rest_refuses divide content rest start at before places old tally so_far some none is =
     let whole : AreEntries (so_far.front ++ rest) (entries_of content) = subst (λ (o : List ℕ). AreEntries o (entries_of content)) so_far.parts is.are_entries in
-    let others = divided_entries so_far.front rest so_far.entries (entries_of content) so_far.are_entries whole in
+    let others = divide so_far.front rest so_far.entries (entries_of content) so_far.are_entries whole in
     begins others.0 others.2
   where
     begins : (g : List HistoryEntry) → AreEntries rest g → ⊥

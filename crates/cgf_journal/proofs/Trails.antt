@@ -18,7 +18,7 @@ use Rattle.area_disk.specs.MomentLaws.{OnlyNow, begin, both, widen}
 use Rattle.entry_codec.specs.Content.{entries_of, spelled}
 use Rattle.entry_codec.specs.Room.{capacity_of, costs_of}
 use Rattle.entry_codec.specs.Spelling.{HasSpelling, cost_of, entry_length}
-use Rattle.entry_codec.specs.Laws.{costs_of-spelled}
+use Rattle.entry_codec.specs.Laws.{costs_of-spelled, entries_of-nil}
 use Rattle.cgf_journal.specs.Format.{StandsFor, cheapest_entry, entries_in}
 use Rattle.cgf_journal.specs.Sound.{EndsBy}
 use Rattle.cgf_journal.specs.Outcomes.{IsKept}
@@ -27,7 +27,8 @@ use Rattle.cgf_journal.specs.Trail.{IsAtRest, IsFirmPlaceOf, IsPlaceOf, IsSettle
 use Rattle.cgf_journal.specs.declared.trail.Trail.{Trail}
 use Rattle.cgf_journal.proofs.Entries.{each_spelled}
 use Rattle.cgf_journal.proofs.Placing.{IsAmong, IsFound, behind_is, from_is, get_left, get_right, length-places_behind}
-use Rattle.cgf_journal.proofs.Sounds.{dear_places, live_costs, live_is, none_of, one_more_batch, waiting_count}
+use Rattle.cgf_journal.proofs.Sounds.{dear_places, live_costs, live_is, one_more_batch, waiting_count}
+use Rattle.cgf_journal.proofs.Tallies.{tally_of-costs}
 use Rattle.cgf_journal.proofs.Standing.{keeps_either, keeps_for, keeps_more}
 
 pub on_err : {T E Q : Type 0} (r : Result T E) → Q → OnErr r Q
@@ -102,7 +103,7 @@ module _ {A : Type 0} {tells : Ghosts A} (trail : Trail A tells) where
   waiting-none none = by_list trail.waiting.octets refl none
     where
       by_list : (l : List ℕ) → trail.waiting.octets ≡ l → length l ≡ 0 → entries_of trail.waiting.octets ≡ []
-      by_list [] is none = ap entries_of is ∙ none_of
+      by_list [] is none = ap entries_of is ∙ entries_of-nil
       by_list (x ∷ l) is none = absurd (omega (arith, none))
 
   pub entries_open : is_closed trail ≡ false → entries trail ≡ firm_entries trail ++ waiting trail
@@ -207,7 +208,7 @@ module _ {A : Type 0} {tells : Ghosts A} (trail : Trail A tells) where
 
   firm_costs_are : Told tells → trail.tally.firm.costs ≡ costs_of (firm_entries trail)
   unfolding firm_entries
-  firm_costs_are told = ap (λ (t : TallyValue). t.costs) (trail.sound.firm_tally told)
+  firm_costs_are told = ap (λ (t : TallyValue). t.costs) (trail.sound.firm_tally told) ∙ tally_of-costs (firm_entries trail)
 
   -- how many octets spell the firm entries
   pub firm_spelled : Told tells → trail.tally.firm.costs ≡ length (spelled (firm_entries trail)) + 5 * trail.firm

@@ -6,8 +6,8 @@ use Rattle.gw_base.specs.declared.history.HistoryEntry.{HistoryEntry}
 use Rattle.entry_codec.specs.Content.{AreEntries, IsContent, entries_of, spelled}
 use Rattle.entry_codec.specs.Fault.{BeginsWith}
 use Rattle.entry_codec.specs.Spelling.{HasSpelling, spelling}
+use Rattle.entry_codec.specs.LawTypes.{EntriesAreReadBack, EntriesDivide}
 use Rattle.entry_codec.specs.Laws.{more_entries, no_entries, one_entry}
-use Rattle.entry_codec.proofs.Contents.{divided_entries, entries_of_entries}
 use Rattle.cgf_journal.specs.Fit.{AllFit}
 use Rattle.cgf_journal.specs.Judged.{IsJudged, IsJudgedEntry, IsJudgedMore, IsJudgedUpTo, IsUnfitIn}
 use Rattle.cgf_journal.specs.declared.judge.Judge.{Ghosts}
@@ -42,21 +42,21 @@ module _ {J : Type 0} (asks : Ghosts J) (size : ℕ) where
       }
 
   -- at the end all were judged
-  pub all_judged : (old new : J) (content rest : List ℕ) → IsJudgedUpTo asks size old new content rest → rest ≡ [] → (h : List HistoryEntry) → IsJudged asks size old h → IsJudged asks size new (h ++ entries_of content)
-  all_judged old new content rest so_far end h before =
+  pub all_judged : EntriesAreReadBack → (old new : J) (content rest : List ℕ) → IsJudgedUpTo asks size old new content rest → rest ≡ [] → (h : List HistoryEntry) → IsJudged asks size old h → IsJudged asks size new (h ++ entries_of content)
+  all_judged back old new content rest so_far end h before =
       let whole : content ≡ so_far.front = so_far.parts ∙ ap (λ (o : List ℕ). so_far.front ++ o) end ∙ append-nil so_far.front in
       let are : AreEntries content so_far.entries = subst (λ (o : List ℕ). AreEntries o so_far.entries) (sym whole) so_far.are_entries in
-      let those : so_far.entries ≡ entries_of content = sym (entries_of_entries content so_far.entries are) in
+      let those : so_far.entries ≡ entries_of content = sym (back content so_far.entries are) in
       subst (λ (g : List HistoryEntry). IsJudged asks size new (h ++ g)) those
       (record { fit = fit-append (asks.fits size) [] h so_far.entries before.fit (so_far.judged.fit h before.follows); follows = so_far.judged.follows h before.follows })
 
   -- an entry that isn't fit is one of the content
-  pub one_unfit : (old mid : J) (content rest : List ℕ) → IsJudgedUpTo asks size old mid content rest → rest ≢ []
+  pub one_unfit : EntriesDivide → (old mid : J) (content rest : List ℕ) → IsJudgedUpTo asks size old mid content rest → rest ≢ []
       → ((e : HistoryEntry) → BeginsWith rest e → (h : List HistoryEntry) → asks.follows mid h → asks.fits size h e → ⊥)
       → IsContent content → (h : List HistoryEntry) → IsJudged asks size old h → IsUnfitIn (asks.fits size) (h ++ entries_of content)
-  one_unfit old mid content rest so_far some none is h before all =
+  one_unfit divide old mid content rest so_far some none is h before all =
       let whole : AreEntries (so_far.front ++ rest) (entries_of content) = subst (λ (o : List ℕ). AreEntries o (entries_of content)) so_far.parts is.are_entries in
-      let others = divided_entries so_far.front rest so_far.entries (entries_of content) so_far.are_entries whole in
+      let others = divide so_far.front rest so_far.entries (entries_of content) so_far.are_entries whole in
       let behind : AllFit (asks.fits size) (h ++ so_far.entries) others.0 =
       fit-rest (asks.fits size) h so_far.entries others.0 (subst (λ (g : List HistoryEntry). AllFit (asks.fits size) h g) others.1 (fit-rest (asks.fits size) [] h (entries_of content) all)) in
       refuses others.0 others.2 behind

@@ -8,6 +8,7 @@ ghost use Rattle.cgf_journal.specs.Sound.{places_from};
 ghost use Rattle.cgf_journal.specs.Tally.{tally_behind_all};
 
 use crate::tally::Tally;
+use entry_codec::laws::{entries_are_read_back, entries_divide};
 use entry_codec::read;
 use gw_base::{NoMemory, Place};
 
@@ -28,13 +29,19 @@ pub(crate) fn take_in(
     requires inside { at + length content.now < 2 ^ 64 }
     requires short { length content.now < 2 ^ 32 }
     ensures taken { result ≡ Ok true → IsContent content.now }
-    ensures places { result ≡ Ok true → places.new.items ≡ places.old.items ++ places_from at (entries_of content.now) }
-    ensures tally { result ≡ Ok true → tally.new ≡ record { firm = tally.old.firm; live = tally_behind_all tally.old.live (entries_of content.now) } }
-    ensures costs { result ≡ Ok true → tally.new.live.costs ≡ tally.old.live.costs + length content.now + 5 * length (entries_of content.now) }
-    ensures count { result ≡ Ok true → length places.new.items ≡ length places.old.items + length (entries_of content.now) }
+    ensures places { result ≡ Ok true →
+        places.new.items ≡ places.old.items ++ places_from at (entries_of content.now) }
+    ensures tally { result ≡ Ok true →
+        tally.new ≡ record { firm = tally.old.firm; live = tally_behind_all tally.old.live (entries_of content.now) } }
+    ensures costs { result ≡ Ok true →
+        tally.new.live.costs ≡ tally.old.live.costs + length content.now + 5 * length (entries_of content.now) }
+    ensures count { result ≡ Ok true →
+        length places.new.items ≡ length places.old.items + length (entries_of content.now) }
     ensures refused { result ≡ Ok false → ¬ (IsContent content.now) }
     ensures numbers { length numbers.new ≡ length numbers.old }
 {
+    entries_are_read_back();
+    entries_divide();
     let mut rest = content;
     let mut from = at;
     while !rest.is_empty() {
@@ -59,7 +66,8 @@ fn take_entry(
     requires numbers { length octets.now ≤ 8 * length numbers.old }
     requires costs { tally.old.live.costs + 2 * length octets.now < 2 ^ 64 }
     requires short { length octets.now < 2 ^ 32 }
-    ensures some { IfOk result (λ found. IfSome found (λ count. IsTakenIn octets.now at count places.old.items places.new.items tally.old tally.new)) }
+    ensures some { IfOk result (λ found. IfSome found (λ count.
+        IsTakenIn octets.now at count places.old.items places.new.items tally.old tally.new)) }
     ensures within { IfOk result (λ found. IfSome found (λ count. (25 ≤ count) × (count ≤ length octets.now))) }
     ensures none { result ≡ Ok None → (e : HistoryEntry) → ¬ (BeginsWith octets.now e) }
     ensures numbers { length numbers.new ≡ length numbers.old }

@@ -17,7 +17,8 @@ pub trait Judge {
     fn take(&mut self, entry: &Entry<'_>, size: u64) -> Result<bool, NoMemory>
         ensures fit { (h : List HistoryEntry) → follows self.old h → result ≡ Ok true →
             (fits size h (entry_view entry.now) × follows self.new (h ++ entry_view entry.now ∷ [])) }
-        ensures unfit { (h : List HistoryEntry) → follows self.old h → result ≡ Ok false → ¬ (fits size h (entry_view entry.now)) };
+        ensures unfit { (h : List HistoryEntry) → follows self.old h → result ≡ Ok false →
+            ¬ (fits size h (entry_view entry.now)) };
 }
 
 /// The judge to whom each entry is fit.

@@ -6,6 +6,7 @@ ghost use Rattle.entry_codec.specs.Fault.{BeginsWith};
 ghost use Rattle.cgf_journal.specs.Judged.{IsJudged, IsJudgedEntry, IsUnfitIn};
 
 use crate::judge::Judge;
+use entry_codec::laws::{entries_are_read_back, entries_divide};
 use entry_codec::read;
 use gw_base::NoMemory;
 
@@ -20,7 +21,8 @@ fn judge_entry<J: Judge>(
     numbers: &mut [u64],
 ) -> Result<Option<usize>, NoMemory>
     requires numbers { length octets.now ≤ 8 * length numbers.old }
-    ensures some { IfOk result (λ found. IfSome found (λ count. IsJudgedEntry J.Judge size judge.old judge.new octets.now count)) }
+    ensures some { IfOk result (λ found. IfSome found (λ count.
+        IsJudgedEntry J.Judge size judge.old judge.new octets.now count)) }
     ensures within { IfOk result (λ found. IfSome found (λ count. (1 ≤ count) × (count ≤ length octets.now))) }
     ensures none { result ≡ Ok None → (e : HistoryEntry) → BeginsWith octets.now e → (h : List HistoryEntry) →
         J.follows judge.old h → ¬ (J.fits size h e) }
@@ -53,6 +55,8 @@ pub(crate) fn judge_all<J: Judge>(
         IsUnfitIn (J.fits size) (h ++ entries_of content.now) }
     ensures numbers { length numbers.new ≡ length numbers.old }
 {
+    entries_are_read_back();
+    entries_divide();
     let mut rest = content;
     while !rest.is_empty() {
         let Some(count) = judge_entry(judge, rest, size, numbers)? else {

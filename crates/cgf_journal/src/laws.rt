@@ -7,17 +7,25 @@ ghost use Rattle.cgf_journal.specs.Format.{IsForeignTo, StandsFor};
 
 /// Octets stand for one history at most.
 pub fn octets_stand_for_one_history()
-    ensures { (size address generation : ℕ) (octets : List ℕ) (h g : List HistoryEntry) → StandsFor (header size address generation) octets h → StandsFor (header size address generation) octets g → h ≡ g }
+    ensures { (size address generation : ℕ) (octets : List ℕ) (h g : List HistoryEntry) →
+        StandsFor (header size address generation) octets h →
+        StandsFor (header size address generation) octets g → h ≡ g }
 {}
 
 /// Octets that stand for a history neither start nor are foreign.
 pub fn what_stands_is_ours()
-    ensures starts { (size address generation : ℕ) (octets : List ℕ) (h : List HistoryEntry) → StandsFor (header size address generation) octets h → ¬ (Starts (header size address generation) octets) }
-    ensures foreign { (size address generation : ℕ) (octets : List ℕ) (h : List HistoryEntry) (at : ℕ) → StandsFor (header size address generation) octets h → ¬ (IsForeignTo (header size address generation) octets at) }
+    ensures starts { (size address generation : ℕ) (octets : List ℕ) (h : List HistoryEntry) →
+        StandsFor (header size address generation) octets h → ¬ (Starts (header size address generation) octets) }
+    ensures foreign { (size address generation : ℕ) (octets : List ℕ) (h : List HistoryEntry) (at : ℕ) →
+        StandsFor (header size address generation) octets h →
+        ¬ (IsForeignTo (header size address generation) octets at) }
 {}
 
 /// Octets that are foreign don't start, and one place shows it.
 pub fn what_is_foreign_is_so_at_one_place()
-    ensures starts { (size address generation : ℕ) (octets : List ℕ) (at : ℕ) → IsForeignTo (header size address generation) octets at → ¬ (Starts (header size address generation) octets) }
-    ensures place { (size address generation : ℕ) (octets : List ℕ) (at far : ℕ) → IsForeignTo (header size address generation) octets at → IsForeignTo (header size address generation) octets far → at ≡ far }
+    ensures starts { (size address generation : ℕ) (octets : List ℕ) (at : ℕ) →
+        IsForeignTo (header size address generation) octets at → ¬ (Starts (header size address generation) octets) }
+    ensures place { (size address generation : ℕ) (octets : List ℕ) (at far : ℕ) →
+        IsForeignTo (header size address generation) octets at →
+        IsForeignTo (header size address generation) octets far → at ≡ far }
 {}

@@ -18,6 +18,7 @@ ghost use Rattle.cgf_journal.specs.Tally.{tally_behind};
 use crate::faults::PushFault;
 use crate::tally::Tally;
 use area_disk::Area;
+use entry_codec::laws::entries_are_read_back;
 use entry_codec::{cost, write};
 use gate_journal::{AppendFault, Device, Journal};
 use gw_base::{Buffer, Entry, NoMemory, Place};
@@ -70,6 +71,7 @@ impl<A: Area> Trail<A> {
         ensures err { OnErr result (IsKept self.old self.new) }
         ensures stays { FirmStays self.old self.new }
     {
+        entries_are_read_back();
         let free = self.waiting.free() as u64;
         let length = cost(entry) - 5;
         if free < length {

@@ -15,7 +15,7 @@ take_entry-requires-clause-costs c =
 pub returns-in_default-clause-refused : goal.returns-in_default-clause-refused
 returns-in_default-clause-refused c =
     let none = c.take_entry.ensures.none (c.in_ok-count.was ∙ ap (λ x. Ok x) c.in_default.is) in
-    λ same is. rest_refuses c.args.content.now c.loop-rest.rest.now c.args.at c.loop-rest.from c.args.places.now.items c.loop-rest.places.items c.args.tally.now c.loop-rest.tally c.loop-rest.invariant
+    λ same is. rest_refuses c.entries_divide.ensures c.args.content.now c.loop-rest.rest.now c.args.at c.loop-rest.from c.args.places.now.items c.loop-rest.places.items c.args.tally.now c.loop-rest.tally c.loop-rest.invariant
     (not_end c.loop-rest.rest.now (sym c.is_empty.ensures ∙ c.loop-rest-test.true)) none is
 
 pub loop-rest-preserved : goal.loop-rest-preserved
@@ -28,7 +28,7 @@ loop-rest-preserved c =
 -- at the end all was taken in
 all : (c : goal.After-is_empty-2) → IsAllTaken c.args.content.now c.args.at c.args.places.now.items c.loop-rest.places.items c.args.tally.now c.loop-rest.tally
 all c =
-    all_taken c.args.content.now c.loop-rest.rest.now c.args.at c.loop-rest.from c.args.places.now.items c.loop-rest.places.items c.args.tally.now c.loop-rest.tally c.loop-rest.invariant
+    all_taken c.entries_are_read_back.ensures c.args.content.now c.loop-rest.rest.now c.args.at c.loop-rest.from c.args.places.now.items c.loop-rest.places.items c.args.tally.now c.loop-rest.tally c.loop-rest.invariant
     (is_end c.loop-rest.rest.now (sym c.is_empty.ensures ∙ c.loop-rest-test.false))
 
 pub returns-clause-taken : goal.returns-clause-taken

@@ -16,9 +16,9 @@ loop-rest-preserved g c =
 
 pub returns-in_default-clause-unfit : goal.returns-in_default-clause-unfit
 returns-in_default-clause-unfit g c = λ h same before.
-    one_unfit g.J.Judge c.args.size c.args.judge.now c.loop-rest.judge c.args.content.now c.loop-rest.rest.now c.loop-rest.invariant
+    one_unfit g.J.Judge c.args.size c.entries_divide.ensures c.args.judge.now c.loop-rest.judge c.args.content.now c.loop-rest.rest.now c.loop-rest.invariant
     (not_end c.loop-rest.rest.now (sym c.is_empty.ensures ∙ c.loop-rest-test.true)) (c.judge_entry.ensures.none (c.in_ok-count.was ∙ ap (λ x. Ok x) c.in_default.is)) c.requires.content h before
 
 pub returns-clause-fit : goal.returns-clause-fit
 returns-clause-fit g c = λ h same before.
-    all_judged g.J.Judge c.args.size c.args.judge.now c.loop-rest.judge c.args.content.now c.loop-rest.rest.now c.loop-rest.invariant (is_end c.loop-rest.rest.now (sym c.is_empty.ensures ∙ c.loop-rest-test.false)) h before
+    all_judged g.J.Judge c.args.size c.entries_are_read_back.ensures c.args.judge.now c.loop-rest.judge c.args.content.now c.loop-rest.rest.now c.loop-rest.invariant (is_end c.loop-rest.rest.now (sym c.is_empty.ensures ∙ c.loop-rest-test.false)) h before

@@ -57,6 +57,6 @@ returns-in_default-found-clause-breaks g c = λ all listed stop stops.
     let found = c.in-Ok.ensures.found listed.told listed.header some next.0 next.1 listed.long (subst (λ (l : List (List ℕ)). AreBefore listed.header o c.args.end l) next.2 listed.before) at in
     absurd (c.in_default-found.not-Some (c.args.gate + 5, length next.0) found)
 
-pub take-requires-clause-costs : goal.take-requires-clause-costs
-take-requires-clause-costs g c =
+pub take_fit-requires-clause-costs : goal.take_fit-requires-clause-costs
+take_fit-requires-clause-costs g c =
     costs_within c.args.size c.args.gate c.requires.taken.some c.args.listing.now.places.items c.args.listing.now.tally c.requires.taken.taken_in

@@ -54,6 +54,6 @@ returns-clause-breaks g c = λ told stop stops.
     let found = next (batches c.args.journal.now) (record { told = told; same = refl }) in
     breaks_here (AreFit g.J.Judge.fits c.args.size) c.args.gate stop (batches c.args.journal.now) some c.read.new.into found.0 at (record { are_batches = c.requires.taken.taken_in.are_batches; fit = c.requires.taken.judged.fit }) found.1 (c.take_fit.ensures.unfit some c.requires.taken.taken_in c.requires.taken.judged stop stops)
 
-pub take-requires-clause-costs : goal.take-requires-clause-costs
-take-requires-clause-costs g c =
+pub take_fit-requires-clause-costs : goal.take_fit-requires-clause-costs
+take_fit-requires-clause-costs g c =
     costs_within c.args.size c.args.gate c.requires.taken.some c.args.listing.now.places.items c.args.listing.now.tally c.requires.taken.taken_in

@@ -15,10 +15,10 @@ pub loop-number-preserved : goal.loop-number-preserved
 loop-number-preserved c =
     let x = slice_index_or c.args.numbers.now c.loop-number.number-index 0 in
     record {
-  firm = c.free.ensures.firm ∙ c.loop-number.invariant.firm;
-  live =
-      c.free.ensures.live
-      ∙ ap (λ (l : List HeldKey). filter (λ (key : HeldKey). stays_held (Seal c.args.node x) key) l) c.loop-number.invariant.live
-      ∙ next_named c.args.node x (take c.loop-number.number-index c.args.numbers.now) (live_keys c.args.self.now)
-      ∙ ap (λ (xs : List ℕ). filter (λ (key : HeldKey). stays_held (Release c.args.node xs) key) (live_keys c.args.self.now)) (sym (take_more c.args.numbers.now c.loop-number.number-index 0 c.loop-number-test.true));
-}
+      firm = c.free.ensures.firm ∙ c.loop-number.invariant.firm;
+      live =
+          c.free.ensures.live
+          ∙ ap (λ (l : List HeldKey). filter (λ (key : HeldKey). stays_held (Seal c.args.node x) key) l) c.loop-number.invariant.live
+          ∙ next_named c.args.node x (take c.loop-number.number-index c.args.numbers.now) (live_keys c.args.self.now)
+          ∙ ap (λ (xs : List ℕ). filter (λ (key : HeldKey). stays_held (Release c.args.node xs) key) (live_keys c.args.self.now)) (sym (take_more c.args.numbers.now c.loop-number.number-index 0 c.loop-number-test.true));
+    }

@@ -7,6 +7,7 @@ use Rattle.gate_journal.specs.Journal as journal
 use Rattle.gate_journal.specs.Moments.{Leaves}
 use Rattle.area_disk.specs.MomentLaws.{begin}
 use Rattle.entry_codec.specs.Content.{entries_of}
+use Rattle.entry_codec.specs.Laws.{entries_of-nil}
 use Rattle.cgf_journal.specs.Format.{entries_in}
 use Rattle.cgf_journal.specs.Sound.{IsSound}
 use Rattle.cgf_journal.specs.Tally.{Tallies, TallyValue}
@@ -14,7 +15,7 @@ use Rattle.cgf_journal.specs.Trail.{StandsForOr, area_of, firm_entries, header_o
 use Rattle.cgf_journal.proofs.Coming.{commit_planned}
 use Rattle.cgf_journal.proofs.Entries.{entries_in-push}
 use Rattle.cgf_journal.proofs.Reopening.{either_way}
-use Rattle.cgf_journal.proofs.Sounds.{fits, none_of as none_wait, settled as settled_sound}
+use Rattle.cgf_journal.proofs.Sounds.{fits, settled as settled_sound}
 use Rattle.cgf_journal.proofs.Standing.{founded_still}
 use Rattle.cgf_journal.proofs.Trails.{entries_firm, entries_open, leaves_either, length_firm, same_free, same_room, settled, waiting-none, waiting_octets-none}
 use Rattle.cgf_journal.proofs.trail.Trail.commit.Goals as goal
@@ -93,7 +94,7 @@ returns-in-Ok-clause-ok g c =
       listed = λ told.
           ap entries_in (c.in-Ok.ensures.ok.batches told ∙ ap (λ (l : List ℕ). journal.batches t.journal ++ l ∷ []) c.octets-2.ensures) ∙ entries_in-push (journal.batches t.journal) t.waiting.octets
           ∙ sym (entries_open t c.requires.ready);
-      none_waits = ap (λ (w : Buffered). entries_of w.octets) c.clear.ensures ∙ none_wait;
+      none_waits = ap (λ (w : Buffered). entries_of w.octets) c.clear.ensures ∙ entries_of-nil;
       emptied = emptied;
       count = sym counted ∙ sym before;
       firm_count = refl;

@@ -2,11 +2,11 @@ use Rattle.std.proofs.Common.{◌≡◌, if◌then◌else◌, [], length, refl, 
 use Rattle.gw_base.specs.Buffer.{Buffered}
 use Rattle.gate_journal.specs.Format.{longest_batch}
 use Rattle.entry_codec.specs.Content.{entries_of}
+use Rattle.entry_codec.specs.Laws.{entries_of-nil}
 use Rattle.cgf_journal.specs.Sound.{IsSound}
 use Rattle.cgf_journal.specs.Tally.{Tallies}
 use Rattle.cgf_journal.specs.Trail.{firm_entries, waiting}
 use Rattle.cgf_journal.proofs.Founding.{all_batches, all_judged, made}
-use Rattle.cgf_journal.proofs.Sounds.{none_of}
 use Rattle.cgf_journal.proofs.Trails.{entries_firm, settled}
 use Rattle.cgf_journal.proofs.trail.Trail.made.Goals as goal
 
@@ -37,7 +37,7 @@ returns-clause-fresh g c =
       named = refl;
       opened = c.requires.ready;
       all = entries_firm _ emptied;
-      none_waits = ap (λ (w : Buffered). entries_of w.octets) c.requires.waiting ∙ none_of;
+      none_waits = ap (λ (w : Buffered). entries_of w.octets) c.requires.waiting ∙ entries_of-nil;
       emptied = emptied;
       length = ap (λ b. if b then c.len.result else length c.args.listing.places.items) c.requires.ready ∙ counted;
       settled = settled _ laws.whole laws.same_size laws.only_now c.requires.settled;

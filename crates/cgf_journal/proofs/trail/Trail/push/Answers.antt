@@ -55,7 +55,7 @@ invariant_of-self-2 g c =
           subst (λ (w : Buffered). IsSound t.journal t.size w c.note.new.places.items t.firm c.note.new.tally) (sym written)
           (subst (λ (ps : List Place). IsSound t.journal t.size (record { octets = t.waiting.octets ++ spelling e; capacity = t.waiting.capacity }) ps t.firm c.note.new.tally) (sym c.in_ok-note.ensures.place)
           (subst (λ (v : Tallies). IsSound t.journal t.size (record { octets = t.waiting.octets ++ spelling e; capacity = t.waiting.capacity }) (t.places.items ++ place ∷ []) t.firm v) (sym c.in_ok-note.ensures.tally)
-          (pushed t.journal t.size t.waiting t.places.items t.firm t.tally t.sound e c.write.ensures.fits place (at_is ∙ ap (λ n. n + 5 + length t.waiting.octets) c.end.ensures.place) length_is c.requires.ready short costs)));
+          (pushed t.journal t.size t.waiting t.places.items t.firm t.tally t.sound c.entries_are_read_back.ensures e c.write.ensures.fits place (at_is ∙ ap (λ n. n + 5 + length t.waiting.octets) c.end.ensures.place) length_is c.requires.ready short costs)));
     }
 
 pub returns-clause-ok : goal.returns-clause-ok
@@ -64,7 +64,7 @@ returns-clause-ok g c =
     let t = c.args.self.now in
     let e = entry_view c.args.entry.now in
     let octets : length c.write.new.into.octets ≡ length (t.waiting.octets ++ spelling e) = ap (λ (b : Buffered). length b.octets) c.in-Ok.ensures.written in
-    let waits = ap (λ (b : Buffered). entries_of b.octets) c.in-Ok.ensures.written ∙ pending-push t.journal t.size t.waiting t.places.items t.firm t.tally t.sound e c.write.ensures.fits in
+    let waits = ap (λ (b : Buffered). entries_of b.octets) c.in-Ok.ensures.written ∙ pending-push t.journal t.size t.waiting t.places.items t.firm t.tally t.sound c.entries_are_read_back.ensures e c.write.ensures.fits in
     let more : length c.note.new.places.items ≡ length t.places.items + 1 = ap (λ (ps : List Place). length ps) c.in_ok-note.ensures.place ∙ length-append t.places.items _ in
     record {
       listed =

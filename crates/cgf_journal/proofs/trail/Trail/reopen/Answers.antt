@@ -5,6 +5,7 @@ use Rattle.gw_base.specs.Buffer.{Buffered}
 use Rattle.gw_base.specs.declared.place.Place.{Place}
 use Rattle.gate_journal.specs.Journal as journal
 use Rattle.entry_codec.specs.Content.{entries_of}
+use Rattle.entry_codec.specs.Laws.{entries_of-nil}
 use Rattle.cgf_journal.specs.Format.{entries_in}
 use Rattle.cgf_journal.specs.Sound.{IsSound, is_founded}
 use Rattle.cgf_journal.specs.Tally.{Tallies, TallyValue}
@@ -12,7 +13,7 @@ use Rattle.cgf_journal.specs.Trail.{firm_entries, waiting}
 use Rattle.cgf_journal.proofs.Coming.{reopen_failed, reopen_planned}
 use Rattle.cgf_journal.proofs.Entries.{entries_in-push}
 use Rattle.cgf_journal.proofs.Reopening.{either_way, end_goes, goes, list_goes, list_stays, stays, tally_closed}
-use Rattle.cgf_journal.proofs.Sounds.{dropped, none_of, settled as settled_sound}
+use Rattle.cgf_journal.proofs.Sounds.{dropped, settled as settled_sound}
 use Rattle.cgf_journal.proofs.Standing.{founded_is}
 use Rattle.cgf_journal.proofs.Trails.{get_firm, kept, leaves_either, on_err, places_count, same_free, same_room, settled}
 use Rattle.cgf_journal.proofs.trail.Trail.reopen.Goals as goal
@@ -53,7 +54,7 @@ returns-then-end-clause-ok g c =
     let left : length c.truncate.new.self.items ≡ t.firm = ap (λ (ps : List Place). length ps) c.truncate.ensures.items ∙ length-take-le t.firm t.places.items t.sound.firm_places in
     record {
       gate = λ told. sym (stays t j (c.in_ok-reopen.ensures.ok.place told) same_end);
-      none_waits = ap (λ (w : Buffered). entries_of w.octets) c.clear.ensures ∙ none_of;
+      none_waits = ap (λ (w : Buffered). entries_of w.octets) c.clear.ensures ∙ entries_of-nil;
       emptied = ap (λ (w : Buffered). length w.octets) c.clear.ensures;
       opened = c.in_ok-reopen.ensures.ok.ready;
       length = ap (λ b. if b then t.firm else length c.truncate.new.self.items) c.in_ok-reopen.ensures.ok.ready ∙ left;
@@ -117,7 +118,7 @@ returns-clause-ok g c =
     let counted : length t.places.items ≡ c.len-self.result = sym (search rules) in
     record {
       gate = λ told. sym (goes t j (c.in_ok-reopen.ensures.ok.place told) other);
-      none_waits = ap (λ (w : Buffered). entries_of w.octets) c.clear-2.ensures ∙ none_of;
+      none_waits = ap (λ (w : Buffered). entries_of w.octets) c.clear-2.ensures ∙ entries_of-nil;
       emptied = ap (λ (w : Buffered). length w.octets) c.clear-2.ensures;
       opened = c.in_ok-reopen.ensures.ok.ready;
       length = ap (λ b. if b then c.len-self.result else length t.places.items) c.in_ok-reopen.ensures.ok.ready ∙ counted;
