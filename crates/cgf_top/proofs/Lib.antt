@@ -1,5 +1,4 @@
 pub mod Bounds
-pub mod Cuts
 pub mod Ends
 pub mod Filed
 pub mod Files

@@ -2,12 +2,12 @@
 use Rattle.std.proofs.Common.{◌≡◌, ℕ, ◌+◌, true, false, List, [], ◌∷◌, ◌++◌, Result, Ok, Err, refl, ap, sym, ◌∙◌, append_assoc, append-nil}
 use Rattle.cgf_top.specs.FeedScript.{line_step, lines_from, with_line}
 use Rattle.cgf_top.specs.Steps.{SaysLines, kept, kept_lines}
-use Rattle.cgf_top.specs.ScriptText.{RawLine, line_size}
-use Rattle.cgf_top.specs.declared.world_script.line.Line.{Line}
-use Rattle.cgf_top.specs.declared.world_script.progress.Progress.{Progress}
-use Rattle.cgf_top.specs.declared.world_script.refusal.InputKind.{InputKind}
-use Rattle.cgf_top.specs.declared.world_script.refusal.InputKind.TheVariants.{NotBuilt}
-use Rattle.cgf_top.specs.declared.world_script.refusal.Refusal.{Refusal}
+use Rattle.world_script.specs.Text.{RawLine, line_size}
+use Rattle.cgf_top.specs.declared.feed_script.line.Line.{Line}
+use Rattle.cgf_top.specs.declared.feed_script.progress.Progress.{Progress}
+use Rattle.cgf_top.specs.declared.feed_script.refusal.InputKind.{InputKind}
+use Rattle.cgf_top.specs.declared.feed_script.refusal.InputKind.TheVariants.{NotBuilt}
+use Rattle.cgf_top.specs.declared.feed_script.refusal.Refusal.{Refusal}
 
 -- kept lines in front of those of the rest of a script
 abbrev pub behind_kept : List Line → Result (List Line) Refusal → Result (List Line) Refusal

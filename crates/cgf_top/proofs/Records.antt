@@ -8,7 +8,7 @@ use Rattle.gw_base.specs.declared.history.PacketKey.{PacketKey}
 use Rattle.cgf_top.specs.FeedScript.{IsWithinBounds, behind_records, cdr_sizes, with_records}
 use Rattle.cgf_top.specs.FiledRecords.{records_from, records_in, records_of}
 use Rattle.cgf_top.specs.declared.gateway_book.filed.FiledRecord.{FiledRecord}
-use Rattle.cgf_top.specs.declared.world_script.progress.Progress.{Progress}
+use Rattle.cgf_top.specs.declared.feed_script.progress.Progress.{Progress}
 
 -- All of some records.
 

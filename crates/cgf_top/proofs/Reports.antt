@@ -2,9 +2,9 @@
 use Rattle.std.proofs.Common.{◌≡◌, List, [], ◌∷◌, ◌++◌, Result, refl, ap, sym, ◌∙◌}
 use Rattle.cgf_top.specs.FeedReport.{FeedState, behind, behind_all, closed, end_lines, fresh_feed, report_of, report_of_lines}
 use Rattle.cgf_top.specs.Steps.{SaysLines, kept_lines}
-use Rattle.cgf_top.specs.declared.world_script.line.Line.{Line}
-use Rattle.cgf_top.specs.declared.world_script.line.Line.TheVariants as line
-use Rattle.cgf_top.specs.declared.world_script.refusal.Refusal.{Refusal}
+use Rattle.cgf_top.specs.declared.feed_script.line.Line.{Line}
+use Rattle.cgf_top.specs.declared.feed_script.line.Line.TheVariants as line
+use Rattle.cgf_top.specs.declared.feed_script.refusal.Refusal.{Refusal}
 
 kept_behind : (s : FeedState) (lines : List Line) → behind_all s (kept_lines lines) ≡ behind_all s lines
 kept_behind s [] = refl

@@ -7,12 +7,12 @@ use Rattle.gw_base.specs.Written.{AppendsFront}
 use Rattle.cgf_top.specs.FeedReport.{feed_report}
 use Rattle.cgf_top.specs.FeedScript.{behind_step, line_step, lines_from, not_begun, script_of, with_line}
 use Rattle.cgf_top.specs.Run.{IsRead, IsReported, WritesFront, WritesReport}
-use Rattle.cgf_top.specs.ScriptText.{RawLine, line_size, onto_line, raw_lines}
-use Rattle.cgf_top.specs.declared.world_script.line.Line.{Line}
-use Rattle.cgf_top.specs.declared.world_script.progress.Progress.{Progress}
-use Rattle.cgf_top.specs.declared.world_script.refusal.InputKind.{InputKind}
-use Rattle.cgf_top.specs.declared.world_script.refusal.InputKind.TheVariants.{TooLong}
-use Rattle.cgf_top.specs.declared.world_script.refusal.Refusal.{Refusal}
+use Rattle.world_script.specs.Text.{RawLine, line_size, onto_line, raw_lines}
+use Rattle.cgf_top.specs.declared.feed_script.line.Line.{Line}
+use Rattle.cgf_top.specs.declared.feed_script.progress.Progress.{Progress}
+use Rattle.cgf_top.specs.declared.feed_script.refusal.InputKind.{InputKind}
+use Rattle.cgf_top.specs.declared.feed_script.refusal.InputKind.TheVariants.{TooLong}
+use Rattle.cgf_top.specs.declared.feed_script.refusal.Refusal.{Refusal}
 
 -- ---- the lines of a text have its octets
 

@@ -21,9 +21,9 @@ use Rattle.cgf_top.specs.FiledRecords.{filed_records}
 use Rattle.cgf_top.specs.Preparing.{PreparedValue, Drop, OtherVersion, Refused, Path, Request, prepared_of}
 use Rattle.cgf_top.specs.declared.gateway_book.answer.Answer.{Answer}
 use Rattle.cgf_top.specs.declared.gateway_book.filed.FiledRecord.{FiledRecord}
-use Rattle.cgf_top.specs.declared.world_script.line.Line.{Line}
-use Rattle.cgf_top.specs.declared.world_script.line.Line.TheVariants as line
-use Rattle.cgf_top.specs.declared.world_script.refusal.Refusal.{Refusal}
+use Rattle.cgf_top.specs.declared.feed_script.line.Line.{Line}
+use Rattle.cgf_top.specs.declared.feed_script.line.Line.TheVariants as line
+use Rattle.cgf_top.specs.declared.feed_script.refusal.Refusal.{Refusal}
 
 -- The history.
 

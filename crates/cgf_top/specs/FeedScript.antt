@@ -7,13 +7,15 @@ use Rattle.gw_base.specs.CdrKind.{kind_of}
 use Rattle.gw_base.specs.declared.kind.CdrKind.{CdrKind}
 use Rattle.gw_base.specs.declared.address.Addr.{Addr}
 use Rattle.cgf_top.specs.Preparing.{PreparedValue, Drop, OtherVersion, Refused, Path, Request, prepared_of}
-use Rattle.cgf_top.specs.ScriptText.{RawLine, address_of, is_blank, line_content, line_size, number_up_to, octets_of, raw_lines, words_of, ◌>>=◌}
-use Rattle.cgf_top.specs.declared.world_script.line.Line.{Line}
-use Rattle.cgf_top.specs.declared.world_script.line.Line.TheVariants as line
-use Rattle.cgf_top.specs.declared.world_script.progress.Progress.{Progress}
-use Rattle.cgf_top.specs.declared.world_script.refusal.InputKind.{InputKind}
-use Rattle.cgf_top.specs.declared.world_script.refusal.InputKind.TheVariants.{TooLong, NotBuilt}
-use Rattle.cgf_top.specs.declared.world_script.refusal.Refusal.{Refusal}
+use Rattle.route_filter.specs.Words.{number_up_to, octets_of, words_of, ◌>>=◌}
+use Rattle.world_script.specs.Text.{RawLine, is_blank, line_content, line_size, raw_lines}
+use Rattle.world_script.specs.Values.{address_of}
+use Rattle.cgf_top.specs.declared.feed_script.line.Line.{Line}
+use Rattle.cgf_top.specs.declared.feed_script.line.Line.TheVariants as line
+use Rattle.cgf_top.specs.declared.feed_script.progress.Progress.{Progress}
+use Rattle.cgf_top.specs.declared.feed_script.refusal.InputKind.{InputKind}
+use Rattle.cgf_top.specs.declared.feed_script.refusal.InputKind.TheVariants.{TooLong, NotBuilt}
+use Rattle.cgf_top.specs.declared.feed_script.refusal.Refusal.{Refusal}
 
 -- What a line says.
 
@@ -21,11 +23,14 @@ abbrev pub at_line : List (List ℕ) → Option Line
 at_line (seconds ∷ []) = option_map line.At (number_up_to 4102444799 seconds)
 at_line _ = None
 
-abbrev pub in_line : List (List ℕ) → Option Line
-in_line (from ∷ word ∷ words) = do
+abbrev pub datagram_line : List ℕ → List (List ℕ) → Option Line
+datagram_line from words = do
   sender ← address_of from
-  octets ← octets_of (word ∷ words)
+  octets ← octets_of words
   Some (line.Datagram sender octets)
+
+abbrev pub in_line : List (List ℕ) → Option Line
+in_line (from ∷ word ∷ words) = datagram_line from (word ∷ words)
 in_line _ = None
 
 abbrev pub end_line : List (List ℕ) → Option Line

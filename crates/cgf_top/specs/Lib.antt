@@ -1,7 +1,6 @@
 -- what public clauses cite
 pub mod Run
 pub mod StatusText
-pub mod ScriptText
 pub mod FeedScript
 pub mod FeedReport
 pub mod FiledRecords

@@ -8,8 +8,8 @@ use Rattle.cgf_top.specs.FeedReport.{feed_report}
 use Rattle.cgf_top.specs.FeedScript.{script_of}
 use Rattle.cgf_top.specs.declared.status.Status.{Status}
 use Rattle.cgf_top.specs.declared.status.Status.TheVariants as status
-use Rattle.cgf_top.specs.declared.world_script.line.Line.{Line}
-use Rattle.cgf_top.specs.declared.world_script.refusal.Refusal.{Refusal}
+use Rattle.cgf_top.specs.declared.feed_script.line.Line.{Line}
+use Rattle.cgf_top.specs.declared.feed_script.refusal.Refusal.{Refusal}
 
 -- whether a word may name a file: it doesn't begin with a minus sign, or is that sign alone, which names the standard
 -- input

@@ -3,8 +3,8 @@ use Rattle.std.specs.Prelude.{ℕ, List, ◌++◌, codes}
 use Rattle.std.specs.Fmt.{decimal}
 use Rattle.cgf_top.specs.declared.status.Status.{Status}
 use Rattle.cgf_top.specs.declared.status.Status.TheVariants as status
-use Rattle.cgf_top.specs.declared.world_script.refusal.InputKind.{InputKind}
-use Rattle.cgf_top.specs.declared.world_script.refusal.InputKind.TheVariants.{TooLong, NotBuilt}
+use Rattle.cgf_top.specs.declared.feed_script.refusal.InputKind.{InputKind}
+use Rattle.cgf_top.specs.declared.feed_script.refusal.InputKind.TheVariants.{TooLong, NotBuilt}
 
 abbrev pub kind_name : InputKind → List ℕ
 kind_name TooLong = codes "TooLong"

@@ -3,13 +3,13 @@
 use Rattle.std.specs.Prelude.{ℕ, ◌≡◌, List, [], ◌∷◌, ◌++◌, length, Option, Result, Ok, Err}
 use Rattle.std.specs.List.{flat_map}
 use Rattle.std.specs.Io.KnownBytes.{Consumes, IsAtEnd}
-use Rattle.cgf_top.specs.declared.world_script.line.Line.{Line}
-use Rattle.cgf_top.specs.declared.world_script.line.Line.TheVariants as line
-use Rattle.cgf_top.specs.declared.world_script.progress.Progress.{Progress}
-use Rattle.cgf_top.specs.declared.world_script.refusal.InputKind.{InputKind}
-use Rattle.cgf_top.specs.declared.world_script.refusal.Refusal.{Refusal}
-use Rattle.cgf_top.specs.declared.world_script.script.ScriptEnd.{ScriptEnd}
-use Rattle.cgf_top.specs.declared.world_script.script.ScriptEnd.TheVariants as end
+use Rattle.cgf_top.specs.declared.feed_script.line.Line.{Line}
+use Rattle.cgf_top.specs.declared.feed_script.line.Line.TheVariants as line
+use Rattle.cgf_top.specs.declared.feed_script.progress.Progress.{Progress}
+use Rattle.cgf_top.specs.declared.feed_script.refusal.InputKind.{InputKind}
+use Rattle.cgf_top.specs.declared.feed_script.refusal.Refusal.{Refusal}
+use Rattle.cgf_top.specs.declared.feed_script.script.ScriptEnd.{ScriptEnd}
+use Rattle.cgf_top.specs.declared.feed_script.script.ScriptEnd.TheVariants as end
 
 -- a piece was taken of an input and appended to a text, and is empty only at the input's end
 abbrev pub TakesPiece : Option (List ℕ) → Option (List ℕ) → List ℕ → List ℕ → ℕ → Type 0

@@ -13,7 +13,7 @@ ghost use Rattle.cgf_top.specs.PreparedValues.{prepared_value};
 
 use crate::file_writer::file;
 use crate::gateway_book::{FiledRecord, Prepared, answer_to, filed_records, prepare};
-use crate::world_script::Line;
+use crate::feed_script::Line;
 use gtpp_elements::Numbers;
 use gtpp_message::{Message, Transfer, Why};
 use gw_base::{Addr, Buffer, Caller, HistoryAct, HistoryEntry, Moment, NoMemory, NodeId, scan};

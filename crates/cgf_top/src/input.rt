@@ -5,7 +5,7 @@ ghost use Rattle.gw_base.specs.Faults.{Rose};
 ghost use Rattle.cgf_top.specs.Run.{IsRead, TakesUpTo};
 ghost use Rattle.cgf_top.specs.Steps.{TakesPiece};
 
-use crate::world_script::MOST_TEXT;
+use crate::feed_script::MOST_TEXT;
 use gw_base::Source;
 use std::alloc::Global;
 

@@ -6,8 +6,8 @@ ghost use Rattle.gw_base.specs.Faults.{Rose};
 ghost use Rattle.cgf_top.specs.FeedReport.{feed_report};
 ghost use Rattle.cgf_top.specs.FeedScript.{script_of};
 ghost use Rattle.cgf_top.specs.Run.{HasCause, IsComplete, IsRefused, TakesUpTo, WritesFront, WritesReport, is_command, may_have_written};
-ghost use Rattle.cgf_top.specs.declared.world_script.line.Line.{Line};
-ghost use Rattle.cgf_top.specs.declared.world_script.refusal.Refusal.{Refusal};
+ghost use Rattle.cgf_top.specs.declared.feed_script.line.Line.{Line};
+ghost use Rattle.cgf_top.specs.declared.feed_script.refusal.Refusal.{Refusal};
 
 #[cfg(test)]
 mod datagram_tests;
@@ -20,16 +20,16 @@ mod status;
 #[cfg(test)]
 mod tests;
 mod words;
-mod world_script;
+mod feed_script;
 
 use crate::input::{ReadEnd, read_text};
 use crate::output::write_all;
 use crate::words::is_command;
-use crate::world_script::{Refusal, ScriptEnd, read_script};
+use crate::feed_script::{Refusal, ScriptEnd, read_script};
 use gw_base::{Sink, Source};
 pub use status::Status;
 use std::alloc::Global;
-pub use world_script::InputKind;
+pub use feed_script::InputKind;
 
 /// Does what the words ask: `feed FILE` reads a script from the source, feeds a gateway with its
 /// datagrams, and writes the reply to each or why it is dropped, the file and the gateway's counts to

@@ -2,7 +2,7 @@
 use Rattle.std.proofs.Common.{◌≡◌, ◌≢◌, ◌==◌, false, ℕ, ◌<◌, List, [], ◌∷◌, length, map, Result, Ok, Err, refl, sym, ap, ◌∙◌, get_or, subst, arith}
 use Rattle.std.specs.Borrow.{Bor}
 use Rattle.route_filter.specs.Words.{octets_of}
-use Rattle.world_script.specs.Address.{address_of}
+use Rattle.world_script.specs.Values.{address_of}
 use Rattle.world_script.specs.Outcome.{Says}
 use Rattle.world_script.specs.Saying.{datagram_said, in_said, limit_on, limit_said, rule_said, ruled}
 use Rattle.world_script.specs.declared.fault.LineFault.{LineFault}

@@ -1,6 +1,6 @@
 -- What public clauses cite.
 pub mod Text
-pub mod Address
+pub mod Values
 pub mod Saying
 pub mod Script
 -- Steps of proofs.

@@ -4,7 +4,7 @@ use Rattle.std.specs.Str.{bytes_eq}
 use Rattle.gw_base.specs.declared.address.Addr.{Addr}
 use Rattle.route_filter.specs.Rules.{most_rules, rule_of}
 use Rattle.route_filter.specs.Words.{number_up_to, octets_of}
-use Rattle.world_script.specs.Address.{address_of, number_between, offset_of}
+use Rattle.world_script.specs.Values.{address_of, number_between, offset_of}
 use Rattle.world_script.specs.declared.keyword.Keyword.{Keyword}
 use Rattle.world_script.specs.declared.keyword.Keyword.TheVariants as keyword
 use Rattle.world_script.specs.declared.line.Line.{Line}

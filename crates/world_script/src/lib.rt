@@ -1,7 +1,6 @@
 //! Scripts: texts whose lines say what befalls a gateway, read whole or refused at the first faulty line.
 #![tactic(auto)]
 
-mod address;
 mod fault;
 mod keyword;
 mod line;
@@ -9,10 +8,13 @@ mod progress;
 mod saying;
 mod script;
 mod text;
+mod values;
 
 pub use fault::{InputFault, InputKind};
 pub use line::Line;
 pub use script::Script;
+pub use text::{TextLine, first_line, is_blank};
+pub use values::address;
 
 #[cfg(test)]
 mod tests;

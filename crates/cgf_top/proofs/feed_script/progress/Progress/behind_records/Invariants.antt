@@ -1,6 +1,6 @@
 use Rattle.std.proofs.Common.{◌≡◌, length}
 use Rattle.cgf_top.specs.FeedScript.{IsWithinBounds, behind_records}
-use Rattle.cgf_top.proofs.world_script.progress.Progress.behind_records.Given as goal
+use Rattle.cgf_top.proofs.feed_script.progress.Progress.behind_records.Given as goal
 
 -- the records that are left go on behind those so far
 abbrev pub invariant-loop-octets : goal.invariant-loop-octets

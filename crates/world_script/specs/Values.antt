@@ -1,4 +1,4 @@
--- The addresses, offsets and bounded numbers that words say.
+-- The values that words say: bounded numbers, addresses and offsets.
 use Rattle.std.specs.Prelude.{ℕ, ◌+◌, ◌-◌, ◌*◌, Bool, ◌==◌, ◌&&◌, nat_le, if◌then◌else◌, List, [], ◌∷◌, Option, Some, None, option_map, option_and_then, ℤ, pos, neg_ℤ}
 use Rattle.std.specs.Char.{is_ascii_digit}
 use Rattle.gw_base.specs.declared.address.Addr.{Addr}

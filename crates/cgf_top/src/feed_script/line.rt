@@ -1,9 +1,10 @@
 ghost use Rattle.std.specs.Prelude.{◌≡◌, [], map, IfOk, option_map};
-ghost use Rattle.cgf_top.specs.FeedScript.{at_line, end_line, in_line, line_of, worded_line};
+ghost use Rattle.cgf_top.specs.FeedScript.{at_line, datagram_line, end_line, in_line, line_of, worded_line};
 
-use crate::world_script::text;
 use gw_base::{Addr, Moment, NoMemory, Octets};
+use route_filter::{number, octets, words};
 use std::alloc::Global;
+use world_script::{address, is_blank};
 
 /// A line of a script.
 #[derive(Debug, Drop)]
@@ -22,10 +23,10 @@ pub enum Line {
 pub fn read_line(alloc: Global, content: &[u8]) -> Result<Option<Line>, NoMemory>
     ensures { IfOk result (λ line. line ≡ line_of content.now) }
 {
-    if text::is_blank(content) {
+    if is_blank(content) {
         return Ok(Some(Line::Blank));
     }
-    let words = text::words(alloc, content)?;
+    let words = words(alloc, content)?;
     worded(alloc, &words)
 }
 
@@ -55,7 +56,7 @@ fn at(words: &[&[u8]]) -> Option<Line>
     let &[seconds] = words else {
         return None;
     };
-    let seconds = text::number(seconds, Moment::LAST_SECOND)?;
+    let seconds = number(seconds, Moment::LAST_SECOND)?;
     let moment = Moment::of(seconds)?;
     Some(Line::At { moment })
 }
@@ -70,10 +71,17 @@ fn datagram(alloc: Global, words: &[&[u8]]) -> Result<Option<Line>, NoMemory>
     if words.is_empty() {
         return Ok(None);
     }
-    let Some(from) = text::address(from) else {
+    datagram_from(alloc, from, words)
+}
+
+/// A datagram that comes from this address and has these octets.
+fn datagram_from(alloc: Global, from: &[u8], words: &[&[u8]]) -> Result<Option<Line>, NoMemory>
+    ensures { IfOk result (λ line. line ≡ datagram_line from.now (map (λ word. word.now) words.now)) }
+{
+    let Some(from) = address(from) else {
         return Ok(None);
     };
-    let Some(octets) = text::octets(alloc, words)? else {
+    let Some(octets) = octets(alloc, words)? else {
         return Ok(None);
     };
     Ok(Some(Line::Datagram {

@@ -1,8 +1,8 @@
 use Rattle.std.proofs.Common.{◌≡◌, ◌+◌, ◌≤◌, [], length}
 use Rattle.cgf_top.specs.FeedScript.{IsWithinBounds, lines_from, script_of}
-use Rattle.cgf_top.specs.ScriptText.{raw_lines}
+use Rattle.world_script.specs.Text.{raw_lines}
 use Rattle.cgf_top.proofs.Lines.{behind_kept}
-use Rattle.cgf_top.proofs.world_script.script.read_script.Given as goal
+use Rattle.cgf_top.proofs.feed_script.script.read_script.Given as goal
 
 -- the lines so far, and those of the rest, are what is kept of the whole script
 abbrev pub invariant-loop-line : goal.invariant-loop-line

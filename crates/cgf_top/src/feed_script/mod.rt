@@ -4,7 +4,6 @@ mod line;
 mod progress;
 mod refusal;
 mod script;
-mod text;
 
 pub use line::Line;
 pub use refusal::{InputKind, Refusal};

@@ -1,15 +1,15 @@
 ghost use Rattle.std.specs.Prelude.{◌≡◌, ◌+◌, ◌≤◌, ◌<◌, ◌^◌, ◌++◌, IfOk, OnOk, OnErr, Ok, Err};
 ghost use Rattle.cgf_top.specs.FeedScript.{IsWithinBounds, line_step, script_of};
 ghost use Rattle.cgf_top.specs.Steps.{SaysLines, StepGives, kept};
-ghost use Rattle.cgf_top.specs.ScriptText.{lent_line, line_size};
-ghost use Rattle.cgf_top.specs.declared.world_script.refusal.Refusal.{Refusal};
+ghost use Rattle.world_script.specs.Text.{lent_line, line_size};
+ghost use Rattle.cgf_top.specs.declared.feed_script.refusal.Refusal.{Refusal};
 
-use crate::world_script::line::{Line, read_line};
-use crate::world_script::progress::Progress;
-use crate::world_script::refusal::{InputKind, Refusal};
-use crate::world_script::text::{TextLine, first_line};
+use crate::feed_script::line::{Line, read_line};
+use crate::feed_script::progress::Progress;
+use crate::feed_script::refusal::{InputKind, Refusal};
 use gw_base::NoMemory;
 use std::alloc::Global;
+use world_script::{TextLine, first_line};
 
 /// The most octets that the text of a script may have.
 pub const MOST_TEXT: usize = 16_777_216;
@@ -25,7 +25,7 @@ pub enum ScriptEnd {
 
 impl From<NoMemory> for ScriptEnd {
     ghost use Rattle.std.specs.Prelude.{◌≡◌};
-    ghost use Rattle.cgf_top.specs.declared.world_script.script.ScriptEnd.TheVariants as end;
+    ghost use Rattle.cgf_top.specs.declared.feed_script.script.ScriptEnd.TheVariants as end;
 
     ghost from_gives = { λ _ e. e ≡ end.NoMemory };
 

@@ -1,5 +1,5 @@
 ghost use Rattle.std.specs.Prelude.{◌≡◌, ◌<◌, ◌≤◌, IfSome};
-ghost use Rattle.world_script.specs.Address.{address_of, ip_of, number_between, offset_of, signed, two_digits};
+ghost use Rattle.world_script.specs.Values.{address_of, ip_of, number_between, offset_of, signed, two_digits};
 
 use gw_base::Addr;
 use route_filter::{cut, number};
