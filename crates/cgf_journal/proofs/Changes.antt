@@ -1,5 +1,5 @@
 -- What a change of sorted keys makes of those that are held.
-use Rattle.std.proofs.Common.{inl, inr, ◌⊎◌, ◌≡◌, ℕ, ◌+◌, ◌<◌, ◌≤◌, ◌^◌, ◌==◌, ◌&&◌, ◌||◌, not, cond, Bool, true, false, List, [], ◌∷◌, ◌++◌, length, take, drop, map, filter, refl, sym, ap, ◌∙◌, subst, arith}
+use Rattle.std.proofs.Common.{inl, inr, ◌⊎◌, ◌≡◌, ℕ, ◌+◌, ◌<◌, ◌≤◌, ◌==◌, ◌&&◌, ◌||◌, not, cond, Bool, true, false, List, [], ◌∷◌, ◌++◌, length, take, drop, filter, refl, sym, ap, ◌∙◌, arith}
 use Rattle.std.specs.Prelude.{slice_index_or, slice_set}
 use Rattle.std.specs.List.{list_any}
 use Rattle.std.proofs.lemmas.Bool.{and_parts, cases_eq, cases_lt, eq-eqb, eqb-true, ne_eqb, true≢false}
@@ -13,12 +13,12 @@ use Rattle.gw_base.specs.declared.history.HistoryAct.{HistoryAct}
 use Rattle.gw_base.specs.declared.held.HeldKey.{HeldKey}
 use Rattle.gw_base.specs.declared.history.HistoryAct.TheVariants.{Close, Path, Release, Seal, Start, Tick}
 use Rattle.gw_base.specs.View.{stays_held}
-use Rattle.cgf_journal.specs.Keys.{AreAscending, AreUpTo, IsAbsent, IsFirstOf, IsFound, changed_key, counted_keys, counts, is_named, key_of, rank, rank_of}
+use Rattle.cgf_journal.specs.Keys.{IsAbsent, IsFirstOf, IsFound, changed_key, counted_keys, counts, is_named, key_of, rank, rank_of}
 use Rattle.cgf_journal.specs.Sorted.{IsChanged, firm_keys, live_keys}
 use Rattle.cgf_journal.specs.Tally.{held_after, held_with, key_in_order}
 use Rattle.cgf_journal.specs.declared.key.KeptKey.{KeptKey}
 use Rattle.cgf_journal.specs.declared.sorted.SortedKeys.{SortedKeys}
-use Rattle.cgf_journal.proofs.KeysLemmas.{Before, Later, count-changed, firm-changed, firm-inserted, held_kept, length-key_in_order, let_go, live-changed, live-inserted, others_stay, with_change}
+use Rattle.cgf_journal.proofs.KeysLemmas.{count-changed, firm-changed, firm-inserted, held_kept, length-key_in_order, let_go, live-changed, live-inserted, others_stay, with_change}
 use Rattle.cgf_journal.proofs.Ranks.{before_node, not_of_node, of_node, past_node}
 
 abbrev pub new_key : NodeId → ℕ → ℕ → KeptKey

@@ -1,23 +1,23 @@
 -- What a plan that arms one call of the device makes of the calls of a commit and of an opening again.
-use Rattle.std.proofs.Common.{◌≡◌, ◌≢◌, ℕ, zero, suc, ◌&&◌, ◌||◌, ◌==◌, Bool, true, false, nat_le, List, [], refl, sym, ◌∙◌, ap, subst}
+use Rattle.std.proofs.Common.{◌≡◌, ◌≢◌, ℕ, zero, suc, ◌||◌, Bool, true, false, [], refl, sym, ◌∙◌, ap, subst}
 use Rattle.std.specs.Prelude.{IsTrue, Result, is_err}
 use Rattle.area_disk.specs.Armed.{Armed, IsArmed, after_one, calls_under, planned_in}
 use Rattle.area_disk.specs.Armed.Armed.{Nothing, Fail, Stop}
 use Rattle.area_disk.specs.ArmedLaws.{armed_failed, armed_ran, armed_reads}
-use Rattle.area_disk.specs.Course.{Course, IsTied, after_sync, after_write, course_of, fate_of_sync, fate_of_write}
+use Rattle.area_disk.specs.Course.{Course, IsTied, after_sync, after_write, fate_of_sync, fate_of_write}
 use Rattle.area_disk.specs.CourseLaws.{tied_put, tied_sync, tied_synced, tied_write}
-use Rattle.area_disk.specs.Plan.{Prospect, Schedule, is_failure}
+use Rattle.area_disk.specs.Plan.{is_failure}
 use Rattle.area_disk.specs.declared.area.Area.{Ghosts}
 use Rattle.area_disk.specs.declared.plan.Fate.{Fate}
 use Rattle.area_disk.specs.declared.plan.Fate.TheVariants.{Runs, Fails, Stops}
 use Rattle.area_disk.specs.declared.plan.Outcome3.{Outcome3}
 use Rattle.gate_journal.specs.Moments.{Told}
-use Rattle.gate_journal.specs.Planned.{Ending, after_append, after_put, append_fails, batch_stands, course_after, course_by, ending_by, ending_of, is_ended, is_new, outcome_left, with_reads}
+use Rattle.gate_journal.specs.Planned.{Ending, after_put, append_fails, batch_stands, course_after, course_by, ending_by, ending_of, is_ended, outcome_left, with_reads}
 use Rattle.gate_journal.specs.Planned.Ending.{BothRan, AtWrite, AtSync}
-use Rattle.cgf_journal.specs.Comes.{CommitComes, GoesOn, HasFailed, HasStopped, ReopenComes, plan_of}
+use Rattle.cgf_journal.specs.Comes.{CommitComes, GoesOn, ReopenComes, plan_of}
 use Rattle.cgf_journal.specs.Follows.{CommitFollows, ReopenFollows}
 use Rattle.cgf_journal.specs.Outcomes.{CommitPlanned, ReopenPlanned}
-use Rattle.cgf_journal.specs.Trail.{stop_stands, waiting, waiting_octets}
+use Rattle.cgf_journal.specs.Trail.{stop_stands, waiting_octets}
 use Rattle.cgf_journal.specs.declared.trail.Trail.{Trail}
 use Rattle.cgf_journal.proofs.Trails.{waiting-none}
 

@@ -1,7 +1,7 @@
 -- Keys in order: one of them changed, one more in its place, and all of them settled.
-use Rattle.std.proofs.Common.{◌≡◌, ℕ, zero, suc, ◌+◌, ◌-◌, ◌<◌, ◌≤◌, ◌==◌, ◌&&◌, not, Bool, true, false, cond, if◌then◌else◌, nat_lt, List, [], ◌∷◌, ◌++◌, length, take, drop, map, filter, All, refl, sym, ap, ◌∙◌, arith}
+use Rattle.std.proofs.Common.{◌≡◌, ℕ, zero, suc, ◌+◌, ◌-◌, ◌<◌, ◌≤◌, ◌==◌, ◌&&◌, not, Bool, true, false, cond, if◌then◌else◌, nat_lt, List, [], ◌∷◌, ◌++◌, length, take, drop, map, filter, refl, sym, ap, ◌∙◌, arith}
 use Rattle.std.specs.Prelude.{slice_index_or, slice_set}
-use Rattle.std.proofs.lemmas.Bool.{eq-eqb, le-ltb, lt-ltb, ne_eqb, cases_lt}
+use Rattle.std.proofs.lemmas.Bool.{eq-eqb, le-ltb, lt-ltb, ne_eqb}
 use Rattle.std.proofs.lemmas.List.{length-map, length-set}
 use Rattle.std.proofs.lemmas.List.Sums.{count_by-le-length, length-filter}
 use Rattle.gw_base.specs.declared.address.NodeId.{NodeId}
@@ -12,7 +12,7 @@ use Rattle.cgf_journal.specs.Keys.{AreUpTo, changed_key, counted_keys, counts, i
 use Rattle.cgf_journal.specs.Rank.{rank_of}
 use Rattle.cgf_journal.specs.Tally.{held_with, key_in_order}
 use Rattle.cgf_journal.specs.declared.key.KeptKey.{KeptKey}
-use Rattle.cgf_journal.proofs.Ranks.{named_rank, not_named}
+use Rattle.cgf_journal.proofs.Ranks.{not_named}
 
 abbrev kept_by : Bool → ℕ → List KeptKey → List KeptKey
 kept_by s r keys = filter (λ (kept : KeptKey). counts s r kept) keys

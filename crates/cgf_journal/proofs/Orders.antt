@@ -5,7 +5,7 @@ use Rattle.std.proofs.lemmas.Bool.{cases_eq, cases_lt, cases_order, ltb-false, l
 use Rattle.std.specs.List.Sorted.{IsNonDecreasingBy, IsPartitionPoint}
 use Rattle.std.proofs.lemmas.List.{get_or_default, get_or-set_other, get_or-set_same, length-map, length-set, take_at}
 use Rattle.std.proofs.lemmas.List.Edits.{get_or-insert_above, get_or-insert_at, get_or-insert_below, length-insert}
-use Rattle.cgf_journal.specs.Keys.{AreAscending, AreUpTo, IsAbsent, IsFirstOf, IsFound, is_named, key_of, rank, rank_of, settled_key}
+use Rattle.cgf_journal.specs.Keys.{AreAscending, AreUpTo, IsAbsent, IsFound, is_named, key_of, rank, rank_of, settled_key}
 use Rattle.cgf_journal.specs.declared.key.KeptKey.{KeptKey}
 use Rattle.cgf_journal.proofs.KeysLemmas.{Before, Later}
 use Rattle.cgf_journal.proofs.Ranks.{named_rank}

@@ -1,7 +1,6 @@
 -- The order of keys.
-use Rattle.std.proofs.Common.{inl, inr, ◌≡◌, ◌≢◌, ℕ, ◌+◌, ◌*◌, ◌^◌, ◌<◌, ◌≤◌, ◌==◌, Bool, true, false, nat_le, nat_lt, sym, ◌∙◌, arith}
+use Rattle.std.proofs.Common.{inl, inr, ◌≡◌, ℕ, ◌+◌, ◌*◌, ◌^◌, ◌<◌, ◌≤◌, ◌==◌, true, false, nat_le, nat_lt, sym, ◌∙◌, arith}
 use Rattle.std.proofs.lemmas.Bool.{and_parts, cases_lt, eqb-true, false_from_ne_true, le-leb, le-ltb, lt-leb, lt-ltb}
-use Rattle.gw_base.specs.declared.held.HeldKey.{HeldKey}
 use Rattle.cgf_journal.specs.Keys.{is_named, key_of, rank}
 use Rattle.cgf_journal.specs.Rank.{rank_of}
 use Rattle.cgf_journal.specs.declared.key.KeptKey.{KeptKey}

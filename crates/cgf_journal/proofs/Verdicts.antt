@@ -1,5 +1,5 @@
 -- A content whose entries are judged one after the other.
-use Rattle.std.proofs.Common.{◌≡◌, ◌≢◌, ℕ, List, [], ◌∷◌, ◌++◌, drop, take, refl, sym, ap, subst, ◌∙◌, append_assoc}
+use Rattle.std.proofs.Common.{◌≡◌, ◌≢◌, ℕ, List, [], ◌∷◌, ◌++◌, drop, refl, sym, ap, subst, ◌∙◌, append_assoc}
 use Rattle.std.proofs.lemmas.List.{append-nil, take-append-drop}
 use Rattle.std.proofs.lemmas.List.Elements.{All-head}
 use Rattle.gw_base.specs.declared.history.HistoryEntry.{HistoryEntry}
@@ -9,7 +9,7 @@ use Rattle.entry_codec.specs.Spelling.{HasSpelling, spelling}
 use Rattle.entry_codec.specs.LawTypes.{EntriesAreReadBack, EntriesDivide}
 use Rattle.entry_codec.specs.Laws.{more_entries, no_entries, one_entry}
 use Rattle.cgf_journal.specs.Fit.{AllFit}
-use Rattle.cgf_journal.specs.Judged.{IsJudged, IsJudgedEntry, IsJudgedMore, IsJudgedUpTo, IsUnfitIn}
+use Rattle.cgf_journal.specs.Judged.{IsJudged, IsJudgedEntry, IsJudgedUpTo, IsUnfitIn}
 use Rattle.cgf_journal.specs.declared.judge.Judge.{Ghosts}
 use Rattle.cgf_journal.proofs.Fitting.{fit-append, fit-rest}
 

@@ -1,5 +1,5 @@
 -- What a plan that arms one call of the device makes of a commit and of an opening again.
-use Rattle.std.specs.Prelude.{◌≡◌, ℕ, ◌&&◌, ◌==◌, Bool, true, false, nat_le}
+use Rattle.std.specs.Prelude.{◌≡◌, ◌&&◌, ◌==◌, Bool, true, false, nat_le}
 use Rattle.area_disk.specs.Armed.{Armed, Came, IsArmed}
 use Rattle.area_disk.specs.Armed.Armed.{Nothing}
 use Rattle.area_disk.specs.Armed.Came.{Ran, FailedAt, StoppedAt}

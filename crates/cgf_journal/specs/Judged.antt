@@ -1,5 +1,5 @@
 -- Entries that a judge finds fit, each behind those before it.
-use Rattle.std.specs.Prelude.{◌≡◌, ℕ, List, [], ◌∷◌, ◌++◌, take, drop, ⊤}
+use Rattle.std.specs.Prelude.{◌≡◌, ℕ, List, [], ◌∷◌, ◌++◌, take}
 use Rattle.gw_base.specs.declared.history.HistoryEntry.{HistoryEntry}
 use Rattle.entry_codec.specs.Content.{AreEntries}
 use Rattle.entry_codec.specs.Spelling.{HasSpelling, entry_length, spelling}

@@ -1,5 +1,5 @@
 -- The keys that a tally keeps, as lists.
-use Rattle.std.specs.Prelude.{◌≡◌, ◌^◌, ◌<◌, ◌≤◌, ◌==◌, ◌&&◌, ℕ, Bool, true, if◌then◌else◌, List, [], ◌∷◌, filter, length, map, slice_index_or, All}
+use Rattle.std.specs.Prelude.{◌≡◌, ◌^◌, ◌<◌, ◌≤◌, ◌==◌, ◌&&◌, ℕ, Bool, true, if◌then◌else◌, List, filter, length, map, slice_index_or, All}
 use Rattle.gw_base.specs.declared.held.HeldKey.{HeldKey}
 pub use Rattle.cgf_journal.specs.Rank.{rank_of}
 use Rattle.cgf_journal.specs.declared.key.KeptKey.{KeptKey}

@@ -1,5 +1,5 @@
 -- What each outcome of a call leaves of a trail, from the trail before it to the one after it.
-use Rattle.std.specs.Prelude.{◌≡◌, ◌≢◌, ℕ, ◌+◌, ◌<◌, IsTrue, Bool, false, List, [], ◌∷◌, ◌++◌, length, Result, Ok, is_err}
+use Rattle.std.specs.Prelude.{◌≡◌, ◌≢◌, ℕ, ◌+◌, IsTrue, Bool, false, List, [], ◌∷◌, ◌++◌, length, Result, Ok, is_err}
 use Rattle.area_disk.specs.Armed.{Armed, IsArmed, calls_under}
 use Rattle.area_disk.specs.Course.{IsTied}
 use Rattle.area_disk.specs.Disk.{HasCause, counted}

@@ -1,4 +1,4 @@
-use Rattle.std.proofs.Common.{◌≡◌, nat_lt, arith, rules, true, false}
+use Rattle.std.proofs.Common.{◌≡◌, nat_lt, rules, true, false}
 use Rattle.std.specs.List.Sorted.{IsPartitionPoint}
 use Rattle.std.proofs.lemmas.List.Sorted.{IsPartitionPoint-from_clause, IsPartitionedBy-ltb}
 use Rattle.cgf_journal.specs.Keys.{rank, rank_of}

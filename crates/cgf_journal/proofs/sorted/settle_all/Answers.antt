@@ -1,4 +1,3 @@
-use Rattle.std.proofs.Common.{List, map}
 use Rattle.cgf_journal.specs.Keys.{settled_key}
 use Rattle.cgf_journal.specs.declared.key.KeptKey.{KeptKey}
 use Rattle.cgf_journal.proofs.Orders.{written}

@@ -1,4 +1,4 @@
-use Rattle.std.proofs.Common.{arith, rules}
+use Rattle.std.proofs.Common.{rules}
 use Rattle.cgf_journal.proofs.Ranks.{node_apart, number_apart}
 use Rattle.cgf_journal.proofs.key.KeptKey.is_at.Goals as goal
 

@@ -1,5 +1,4 @@
-use Rattle.std.proofs.Common.{arith, rules}
-use Rattle.std.proofs.lemmas.Bool.{eqb-false, eqb-true}
+use Rattle.std.proofs.Common.{rules}
 use Rattle.cgf_journal.proofs.Ranks.{by_node, by_number}
 use Rattle.cgf_journal.proofs.key.KeptKey.is_before.Goals as goal
 

@@ -1,7 +1,7 @@
-use Rattle.std.proofs.Common.{◌≡◌, Bool, List, length, true, refl, if◌then◌else◌, sym, ap, ◌∙◌, arith, rules}
-use Rattle.std.specs.Prelude.{slice_index_or, slice_set}
+use Rattle.std.proofs.Common.{◌≡◌, List, length, true, refl, sym, ap, ◌∙◌, arith}
+use Rattle.std.specs.Prelude.{slice_index_or}
 use Rattle.gw_base.specs.declared.held.HeldKey.{HeldKey}
-use Rattle.cgf_journal.specs.Keys.{counted_keys, counts, key_of, rank}
+use Rattle.cgf_journal.specs.Keys.{counts, key_of, rank}
 use Rattle.cgf_journal.specs.declared.key.KeptKey.{KeptKey}
 use Rattle.cgf_journal.proofs.KeysLemmas.{change_counts, count-changed, firm-changed, one}
 use Rattle.cgf_journal.proofs.Orders.{ascending-set, up_to-set}

@@ -1,4 +1,4 @@
-use Rattle.std.proofs.Common.{◌≡◌, List, false, subst, sym}
+use Rattle.std.proofs.Common.{List, false, subst, sym}
 use Rattle.cgf_journal.specs.Keys.{IsAbsent, IsFound}
 use Rattle.cgf_journal.specs.declared.key.KeptKey.{KeptKey}
 use Rattle.cgf_journal.proofs.Changes.{absent_stay, firm_after, live_after}

@@ -1,4 +1,4 @@
-use Rattle.std.proofs.Common.{◌≡◌, ◌++◌, ◌∷◌, [], ℕ, List, filter, take, refl, sym, ap, ◌∙◌}
+use Rattle.std.proofs.Common.{ℕ, List, filter, take, refl, sym, ap, ◌∙◌}
 use Rattle.std.specs.Prelude.{slice_index_or}
 use Rattle.std.proofs.lemmas.List.{take_more}
 use Rattle.gw_base.specs.declared.held.HeldKey.{HeldKey}

@@ -1,4 +1,4 @@
-use Rattle.std.proofs.Common.{◌≡◌, List, filter, take}
+use Rattle.std.proofs.Common.{◌≡◌, filter, take}
 use Rattle.gw_base.specs.declared.held.HeldKey.{HeldKey}
 use Rattle.gw_base.specs.declared.history.HistoryAct.TheVariants.{Release}
 use Rattle.gw_base.specs.View.{stays_held}

@@ -1,4 +1,4 @@
-use Rattle.std.proofs.Common.{◌≡◌, List, length, true, false, refl, subst, sym, ap, ◌∙◌, arith}
+use Rattle.std.proofs.Common.{List, length, true, false, subst, sym, ap, ◌∙◌, arith}
 use Rattle.gw_base.specs.declared.held.HeldKey.{HeldKey}
 use Rattle.cgf_journal.specs.Keys.{AreAscending, AreUpTo, IsAbsent, IsFound}
 use Rattle.cgf_journal.specs.declared.key.KeptKey.{KeptKey}

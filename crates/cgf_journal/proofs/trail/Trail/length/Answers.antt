@@ -1,4 +1,4 @@
-use Rattle.std.proofs.Common.{◌≡◌, ◌≤◌, arith, true, false, length, if◌then◌else◌, sym, ◌∙◌, ap, rules}
+use Rattle.std.proofs.Common.{◌≡◌, arith, true, false, length, if◌then◌else◌, sym, ◌∙◌, ap, rules}
 use Rattle.cgf_journal.specs.Trail.{entries, is_closed}
 use Rattle.cgf_journal.proofs.Trails.{bound, count, firm_bound, firm_costs_fit}
 use Rattle.cgf_journal.proofs.trail.Trail.length.Goals as goal

@@ -1,4 +1,3 @@
-use Rattle.std.proofs.Common.{ℕ}
 use Rattle.gate_journal.specs.Format.{header}
 use Rattle.cgf_journal.proofs.Fitting.{always_fit, foreign_unfit}
 use Rattle.cgf_journal.proofs.Opened.{err_always, ok_always}

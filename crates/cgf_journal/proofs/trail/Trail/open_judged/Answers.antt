@@ -1,5 +1,4 @@
 use Rattle.std.proofs.Common.{◌≡◌, ◌⊎◌, inl, inr, ℕ, ◌≤◌, List, [], ⊎_elim, refl, sym, ◌∙◌, ap, subst, arith}
-use Rattle.std.specs.Prelude.{min}
 use Rattle.area_disk.specs.Disk.{Rose}
 use Rattle.gate_journal.specs.Format.{header}
 use Rattle.gate_journal.specs.Journal as gates

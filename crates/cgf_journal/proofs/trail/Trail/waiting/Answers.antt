@@ -1,7 +1,7 @@
-use Rattle.std.proofs.Common.{◌≡◌, ◌≤◌, ◌*◌, length, sym, ◌∙◌, ap, subst, arith, List, ℕ}
+use Rattle.std.proofs.Common.{sym, subst, arith, List, ℕ}
 use Rattle.entry_codec.specs.Content.{AreEntries, entries_of}
 use Rattle.cgf_journal.specs.Trail.{waiting}
-use Rattle.cgf_journal.proofs.Trails.{firm_bound, firm_costs_fit, firm_spelled}
+use Rattle.cgf_journal.proofs.Trails.{firm_spelled}
 use Rattle.cgf_journal.proofs.trail.Trail.waiting.Goals as goal
 
 pub returns-clause-entries : goal.returns-clause-entries
