@@ -11,9 +11,9 @@ ghost use Rattle.cgf_top.specs.Answer.{answer_of};
 ghost use Rattle.cgf_top.specs.FeedReport.{IsBounded, behind, behind_all, behind_answer, behind_datagram, closed, drop_line, end_lines, file_line, fresh_feed, gateway_line, octets_line, report_of_lines, response, started, with_act};
 ghost use Rattle.cgf_top.specs.PreparedValues.{prepared_value};
 
+use crate::feed_script::Line;
 use crate::file_writer::file;
 use crate::gateway_book::{FiledRecord, Prepared, answer_to, filed_records, prepare};
-use crate::feed_script::Line;
 use gtpp_elements::Numbers;
 use gtpp_message::{Message, Transfer, Why};
 use gw_base::{Addr, Buffer, Caller, HistoryAct, HistoryEntry, Moment, NoMemory, NodeId, scan};

@@ -12,6 +12,7 @@ ghost use Rattle.cgf_top.specs.declared.feed_script.refusal.Refusal.{Refusal};
 #[cfg(test)]
 mod datagram_tests;
 mod feed;
+mod feed_script;
 mod file_writer;
 mod gateway_book;
 mod input;
@@ -20,16 +21,15 @@ mod status;
 #[cfg(test)]
 mod tests;
 mod words;
-mod feed_script;
 
+use crate::feed_script::{Refusal, ScriptEnd, read_script};
 use crate::input::{ReadEnd, read_text};
 use crate::output::write_all;
 use crate::words::is_command;
-use crate::feed_script::{Refusal, ScriptEnd, read_script};
+pub use feed_script::InputKind;
 use gw_base::{Sink, Source};
 pub use status::Status;
 use std::alloc::Global;
-pub use feed_script::InputKind;
 
 /// Does what the words ask: `feed FILE` reads a script from the source, feeds a gateway with its
 /// datagrams, and writes the reply to each or why it is dropped, the file and the gateway's counts to

@@ -4,10 +4,10 @@ ghost use Rattle.route_filter.specs.Words.{octets_of};
 ghost use Rattle.world_script.specs.Values.{address_of};
 ghost use Rattle.world_script.specs.Saying.{at_said, datagram_said, in_said, limit_on, limit_said, offset_said, reserve_said, rule_said, ruled, said_by, word_said};
 
-use crate::values::{address, number_between, offset};
 use crate::fault::{InputKind, LineFault};
 use crate::keyword::Keyword;
 use crate::line::Line;
+use crate::values::{address, number_between, offset};
 use gw_base::{Moment, Octets};
 use route_filter::{Rule, Rules, number, octets};
 use std::alloc::Global;

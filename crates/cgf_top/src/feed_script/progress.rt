@@ -4,8 +4,8 @@ ghost use Rattle.gtpp_message.specs.Values.{packet_value, transfer_value};
 ghost use Rattle.gtpp_message.specs.Writing.{IsSendableTransfer};
 ghost use Rattle.cgf_top.specs.FeedScript.{IsWithinBounds, behind_datagram, behind_line, behind_packet, behind_records, behind_request, behind_sender, is_built_kind, is_built_packet, is_from, with_records};
 
-use crate::gateway_book::{Prepared, prepare};
 use crate::feed_script::line::Line;
+use crate::gateway_book::{Prepared, prepare};
 use gtpp_message::{Packet, Records, Transfer};
 use gw_base::{Addr, CdrKind, cdr_kind};
 
