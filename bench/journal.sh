@@ -1,5 +1,5 @@
 #!/bin/bash
-# How long a trail takes for 65,536 and for 131,072 held packets: see journal/main.rt. It builds that program beside a copy
+# How long a trail takes for 65,536 and for 131,072 held packets: see journal/main.rt.txt. It builds that program beside a copy
 # of the crates that it stands on, without proving anything anew.
 cd "$(dirname "$0")/.." || exit 1
 work=$(mktemp -d)
@@ -10,5 +10,5 @@ for crate in gw_base area_disk gate_journal entry_codec cgf_journal; do
     cp -a "crates/$crate" "$work/crates/"
 done >"$work/crates.txt"
 echo 'journal_bench: gw_base area_disk cgf_journal' >>"$work/crates.txt"
-cp bench/journal/main.rt "$work/crates/journal_bench/src/"
+cp bench/journal/main.rt.txt "$work/crates/journal_bench/src/main.rt"
 cd "$work/crates/journal_bench" && rt try
