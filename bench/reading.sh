@@ -1,0 +1,73 @@
+#!/bin/bash
+# How long scripts of 16 MiB and CDR files of 64 MiB take to be read: scripts of comments, of the shortest lines, of rules
+# and of datagrams; files of CDRs of 65,535 octets and of 60. It builds a small program beside a copy of the crates that it
+# stands on, which proves what isn't proved yet. Run it at the top of the repository. Each line is the milliseconds of
+# taking the octets in, and then those of reading them.
+cd "$(dirname "$0")/.." || exit 1
+work=$(mktemp -d)
+trap 'rm -rf "$work"' EXIT
+MOST=16777216
+
+# lines like these, as often as a text of the most octets has room for, and an `end`
+script() {
+    yes "$1" | head -c $((MOST - ${#1} - 5)) | sed '$d'
+    echo end
+}
+
+# a file of so many CDRs of so many octets
+file() {
+    python3 - "$1" "$2" <<'END'
+import struct, sys
+count, length = int(sys.argv[1]), int(sys.argv[2])
+body = (struct.pack('>HBB', length, 0x60, 0x20) + bytes(length)) * count
+head = struct.pack('>IIBBIIII', 52 + len(body), 52, 0x60, 0x60, 0x2E800800, 0x2E800800, count, 1)
+sys.stdout.buffer.write(head + bytes(26) + body)
+END
+}
+
+mkdir -p "$work/crates/reading_bench/src"
+for crate in gw_base ber_frame route_filter world_script cdr_file; do
+    grep "^$crate:" crates.txt
+    cp -a "crates/$crate" "$work/crates/"
+done >"$work/crates.txt"
+echo 'reading_bench: world_script cdr_file' >>"$work/crates.txt"
+cat >"$work/crates/reading_bench/src/main.rt" <<'END'
+//! Reads the standard input as a script, or as a CDR file where a word is given.
+#![tactic(auto)]
+
+use cdr_file::read;
+use std::io::Read;
+use std::time::Instant;
+use std::{env, io};
+use world_script::Script;
+
+fn main(rt: HostRuntime) -> io::Result<()> {
+    let is_file = env::args(&rt)?.count() > 1;
+    let begun = Instant::now(&rt)?;
+    let mut octets = Vec::new(rt.alloc());
+    rt.stdin().read_to_end(&mut octets)?;
+    print!(rt; "{:6} ms ", begun.elapsed(&rt)?.as_millis())?;
+    let begun = Instant::now(&rt)?;
+    let is_read = if is_file {
+        read(rt.alloc(), &octets).is_ok()
+    } else {
+        Script::read(rt.alloc(), &octets).is_ok()
+    };
+    let word = if is_read { "read" } else { "refused" };
+    println!(rt; "{:6} ms {word}", begun.elapsed(&rt)?.as_millis())?;
+    Ok(())
+}
+END
+(cd "$work/crates/reading_bench" && echo end | rt run) >"$work/log" 2>&1 || { cat "$work/log"; exit 1; }
+program=$work/crates/reading_bench/out/reading_bench
+timed() {
+    printf '%-36s' "$1"
+    "$program" "${@:2}"
+}
+script '#' | timed 'a script of comments'
+script mark | timed 'a script of marks'
+script 'in 1.1.1.1:1 00' | timed 'a script of short datagrams'
+(yes 'rule A0 1 15' | head -n 256; script "in 10.0.1.1:40001 $(head -c 4000 /dev/zero | tr '\0' 0)") | head -c $((MOST - 5)) |
+    sed '$d' | (cat; echo end) | timed 'a script of rules and long datagrams'
+file 1024 65535 | timed 'a file of CDRs of 65,535 octets' file
+file 1048575 60 | timed 'a file of CDRs of 60 octets' file
