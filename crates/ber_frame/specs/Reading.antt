@@ -1,5 +1,5 @@
 -- Reading identifier and length from left to right: what stands in front, and the octets after it.
--- A step of proofs: of it public contracts see no more than the head that `checked` reads.
+-- A step of proofs: of it public contracts see no more than the head that `checked` reads, and `whole_identifier`.
 use Rattle.std.specs.Prelude.{◌≡◌, ℕ, ◌+◌, ◌*◌, ◌-◌, ◌%◌, ◌^◌, Bool, true, false, List, [], ◌∷◌, length, take, drop, fold, min, Option, Some, None, Result, Ok, Err, nat_lt, ◌==◌, if◌then◌else◌}
 use Rattle.gw_base.specs.declared.tag.Tag.{Tag}
 use Rattle.ber_frame.specs.declared.fault.BerKind.{BerKind}

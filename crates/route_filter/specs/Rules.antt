@@ -18,11 +18,13 @@ abbrev pub accepted : Result Tag BerFault → Option Tag
 accepted (Ok tag) = Some tag
 accepted (Err fault) = None
 
--- the tag that a word spells: the octets of one identifier in hexadecimal (ITU-T X.690, clause 8.1.2)
+-- the tag that a word spells: the octets of one identifier in hexadecimal (ITU-T X.690, clause 8.1.2), read with the
+-- leniency and the limits of `ber_frame`
 abbrev pub tag_in : List ℕ → Option Tag
 tag_in word = option_and_then (λ octets. accepted (whole_identifier octets)) (octets_in word)
 
--- a data record format as the header of a CDR says it: what three bits can't say is 7 (3GPP TS 32.297, clause 6.1.2)
+-- a data record format as the header of a CDR says it in three bits (3GPP TS 32.297, clause 6.1.2); that what they can't
+-- say is 7 is this project's own
 abbrev pub capped : ℕ → ℕ
 capped format = min format 7
 

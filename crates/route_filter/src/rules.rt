@@ -1,5 +1,5 @@
 ghost use Rattle.std.specs.Prelude.{◌≡◌, [], length, find, None, OnOk, OnErr, IsSome};
-ghost use Rattle.route_filter.specs.Rules.{AddsRule, matches, rule_of, stream_of};
+ghost use Rattle.route_filter.specs.Rules.{AddsRule, matches, most_rules, rule_of, stream_of};
 
 use crate::rule::Rule;
 use gw_base::{NoMemory, Tag};
@@ -36,15 +36,15 @@ pub struct Rules {
 }
 
 impl Model for Rules {
-    ghost use Rattle.std.specs.Prelude.{List, All, length, ◌≤◌};
-    ghost use Rattle.route_filter.specs.Rules.{last_stream};
+    ghost use Rattle.std.specs.Prelude.{List, length, ◌≤◌};
+    ghost use Rattle.route_filter.specs.Rules.{most_rules};
     ghost use Rattle.route_filter.specs.declared.rule.Rule.{Rule};
 
     ghost Value = { List Rule };
 
     ghost view = { λ r. r.rules.items };
 
-    ghost invariant = { λ r. length r.rules.items ≤ 256 };
+    ghost invariant = { λ r. length r.rules.items ≤ most_rules };
 }
 
 impl Rules {
@@ -68,7 +68,7 @@ impl Rules {
         ensures added { OnOk result (AddsRule line.now self.old self.new) }
         ensures err { OnErr result (self.new ≡ self.old) }
         ensures form { result ≡ Err RuleFault.Form → rule_of line.now ≡ None }
-        ensures too_many { result ≡ Err RuleFault.TooMany → IsSome (rule_of line.now) × (length self.old ≡ Rules.MOST) }
+        ensures too_many { result ≡ Err RuleFault.TooMany → IsSome (rule_of line.now) × (length self.old ≡ most_rules) }
     {
         let Some(rule) = Rule::read(self.alloc, line.as_bytes())? else {
             return Err(RuleFault::Form);
