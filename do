@@ -1,0 +1,67 @@
+#!/bin/bash
+# Small tools for whoever works on this repository. Plain shell: bash, awk, grep, find, sort and comm.
+#
+#   ./do check CRATE    proves a crate, with its tests; what stands in its out/ is kept
+#   ./do gate           the gate: everything from nothing, and how long it took
+#   ./do where NAME     where a name is defined, where its body stands, which clauses, tests and edits speak of it, which
+#                       pages name it; NAME may have a crate and a type in front: gw_base::Moment::of
+#   ./do proved [CRATE] the public calls with their clauses, made from the sources
+#   ./do docs           what the documents say that the sources don't; silent where there is nothing
+top=$(dirname "$(readlink -f "$0")")
+cd "$top" || exit 1
+
+usage() {
+    sed -n 's/^#   //p' "$0" >&2
+    exit 64
+}
+
+# The source files of all crates, or of the one that is given.
+sources() {
+    find "crates/${1:-}" -path '*/out' -prune -o -path '*/src/*' -name '*.rt' -print | sort
+}
+
+specs() {
+    find "crates/${1:-}" -path '*/out' -prune -o -path '*/specs/*' -name '*.antt' -print | sort
+}
+
+items() {
+    xargs awk -f tools/items.awk
+}
+
+definitions() {
+    xargs awk -f tools/definitions.awk
+}
+
+. tools/where.sh
+. tools/proved.sh
+. tools/docs.sh
+
+case ${1:-} in
+check)
+    [ $# = 2 ] && [ -d "crates/$2" ] || usage
+    cd "crates/$2" && rt check && rt check --test
+    ;;
+gate)
+    started=$(date +%s)
+    .ci/run
+    status=$?
+    echo "the gate took $((($(date +%s) - started) / 60)) minutes" >&2
+    exit $status
+    ;;
+where)
+    [ $# = 2 ] || usage
+    where "$2"
+    ;;
+proved)
+    for crate in ${2:-$(ls crates)}; do
+        [ -d "crates/$crate" ] || usage
+        proved "$crate"
+        echo
+    done
+    ;;
+docs)
+    found=$(docs)
+    [ -z "$found" ] || { printf '%s\n' "$found"; exit 1; }
+    ;;
+*) usage ;;
+esac

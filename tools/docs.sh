@@ -1,0 +1,116 @@
+# What ./do docs tests.
+
+# Every clause of every call as CRATE CALL LABEL, with the type and without it.
+clauses_of_all() {
+    sources | items | awk -F'\t' '
+        $1 == "item" { split($2, path, "/"); crate = path[2]; call = $7; print crate "\t" call "\t-"; next }
+        { print crate "\t" call "\t" $5 }'
+}
+
+docs() {
+    local work faults=0
+    work=$(mktemp -d)
+    trap 'rm -rf "$work"' EXIT
+    local pages=(README.md CONTRIBUTING.md CHANGELOG.md docs/*.md docs/*/*.md) page
+    # the map has each definition file, and no other
+    specs | grep -v '/Lib\.antt$' | sed 's,^crates/,,; s,/specs/,\t,' | sort >"$work/there"
+    awk '/^#+ / { crate = ""; if (match($0, /`[a-z_0-9]+`/)) crate = substr($0, RSTART + 1, RLENGTH - 2) }
+        crate != "" { line = $0; while (match(line, /`[A-Za-z0-9]+\.antt`/)) {
+            print crate "\t" substr(line, RSTART + 1, RLENGTH - 2); line = substr(line, RSTART + RLENGTH) } }' \
+        docs/ARCHITECTURE.md | sort -u >"$work/mapped"
+    comm -23 "$work/there" "$work/mapped" | awk -F'\t' '{ print "docs/ARCHITECTURE.md: the map lacks " $1 "/specs/" $2 }'
+    comm -13 "$work/there" "$work/mapped" | awk -F'\t' '{ print "docs/ARCHITECTURE.md: no such file " $1 "/specs/" $2 }'
+    ls crates | while read -r page; do
+        grep -qE "^#+ .*\`$page\`" docs/ARCHITECTURE.md || echo "docs/ARCHITECTURE.md: no heading for the crate $page"
+        grep -qE "^#+ .*\`$page\`" docs/PROVED.md || echo "docs/PROVED.md: no heading for the crate $page"
+    done
+    # what the sources name, without comments
+    { sources | xargs sed 's,//.*,,'; specs | xargs sed 's,--.*,,'; cat crates.txt; sources; specs; cat do cgf; ls -R bench examples docs; } |
+        grep -oE '[A-Za-z_][A-Za-z0-9_]*' | sort -u >"$work/words"
+    clauses_of_all | sort -u >"$work/clauses"
+    for page in "${pages[@]}"; do
+        [ -e "$page" ] || continue
+        check_paths "$page"
+        check_names "$page" "$work"
+        awk -v page="$page" 'length($0) > 120 && !/^\|/ && !/^    / { print page ":" FNR ": " length($0) " columns" }' "$page"
+    done
+}
+
+# The spans between backquotes outside of blocks of code, as LINE SPAN.
+spans() {
+    awk '/^```/ { block = !block; next } !block && !/^    [^ -]/ {
+        line = $0
+        while (match(line, /`[^`]+`/)) { print FNR "\t" substr(line, RSTART + 1, RLENGTH - 2); line = substr(line, RSTART + RLENGTH) }
+    }' "$1"
+}
+
+# Paths that a page names and links that it has: they are there.
+check_paths() {
+    local page=$1 line target anchor file
+    awk '{ line = $0; while (match(line, /\]\([^)]+\)/)) {
+        print FNR "\t" substr(line, RSTART + 2, RLENGTH - 3); line = substr(line, RSTART + RLENGTH) } }' "$page" |
+        while IFS=$'\t' read -r line target; do
+            case $target in http*) continue ;; esac
+            anchor=
+            [[ $target == *#* ]] && anchor=${target#*#}
+            file=${target%%#*}
+            if [ -z "$file" ]; then file=$page; else file=$(dirname "$page")/$file; fi
+            if [ ! -e "$file" ]; then
+                echo "$page:$line: no such path $target"
+            elif [ -n "$anchor" ] && ! headings "$file" | grep -qxF -- "$anchor"; then
+                echo "$page:$line: no such heading $target"
+            fi
+        done
+    spans "$page" | grep -E $'\t''[^ ]*(/[^ ]*|\.(antt|rt|md|sh|feed|edit|txt))$' | while IFS=$'\t' read -r line target; do
+        case $target in *'*'* | *'..'* | /* | [0-9]*) continue ;; esac
+        [[ $target =~ ^[A-Za-z]+\.antt$ ]] && [ "$page" = docs/ARCHITECTURE.md ] && continue
+        target=${target%%:*}
+        for file in "$target" "crates/$target" "docs/$target" "$(dirname "$page")/$target"; do
+            [ -e "$file" ] && continue 2
+        done
+        echo "$page:$line: no such path $target"
+    done
+}
+
+# The headings of a page as links name them.
+headings() {
+    sed -n 's/^##* //p' "$1" | tr 'A-Z' 'a-z' | sed 's/[^a-z0-9 _-]//g; s/ /-/g'
+}
+
+# Names in backquotes: `call: clause, clause` has these clauses, `crate::name` is in the crate, a word is somewhere.
+check_names() {
+    local page=$1 work=$2 line span call labels label crate last
+    spans "$page" | sort -u -k 2 | while IFS=$'\t' read -r line span; do
+        if [[ $span =~ ^([a-z_0-9]+::)*([A-Z][A-Za-z0-9]*::)?[a-z_0-9]+:\ [a-z_,\ 0-9]+$ ]]; then
+            call=${span%%: *}
+            for label in $(tr ',' ' ' <<<"${span#*: }"); do
+                has_clause "$call" "$label" "$work" || echo "$page:$line: $call has no clause $label"
+            done
+        elif [[ $span =~ ^[A-Za-z_][A-Za-z0-9_]*(::[A-Za-z_][A-Za-z0-9_]*)+$ ]]; then
+            has_name "$span" "$work" || echo "$page:$line: no such name $span"
+        elif [[ $span =~ ^[A-Za-z_][A-Za-z0-9_]*$ ]]; then
+            grep -qxF -- "$span" "$work/words" || echo "$page:$line: no such name $span"
+        fi
+    done
+}
+
+# Whether a call, perhaps with crate, module and type in front, has a clause of this name.
+has_clause() {
+    awk -F'\t' -v wanted="$1" -v label="$2" '
+        BEGIN { n = split(wanted, parts, "::"); tail = parts[n]; if (n > 1 && parts[n - 1] ~ /^[A-Z]/) tail = parts[n - 1] "::" tail }
+        $3 == label {
+            call = $2; short = call; sub(/^.*::/, "", short)
+            if ((call == tail || short == tail) && (n == 1 || parts[1] ~ /^[A-Z]/ || parts[1] == $1)) hit = 1
+        }
+        END { exit !hit }' "$3/clauses"
+}
+
+# Whether a name with `::` is one of the sources: a crate in front has the last word as an item, or a type has it.
+has_name() {
+    local first=${1%%::*} last=${1##*::}
+    if [ -d "crates/$first" ]; then
+        { sources "$first"; specs "$first"; } | xargs sed 's,//.*,,; s,--.*,,' | grep -qwF -- "$last"
+    else
+        grep -qxF -- "$last" "$2/words" && grep -qxF -- "$first" "$2/words"
+    fi
+}
