@@ -31,6 +31,7 @@ docs() {
     for page in "${pages[@]}"; do
         [ -e "$page" ] || continue
         check_paths "$page"
+        check_labels "$page"
         check_names "$page" "$work"
         awk -v page="$page" 'length($0) > 120 && !/^\|/ && !/^    / { print page ":" FNR ": " length($0) " columns" }' "$page"
     done
@@ -47,8 +48,9 @@ spans() {
 # Paths that a page names and links that it has: they are there.
 check_paths() {
     local page=$1 line target anchor file
-    awk '{ line = $0; while (match(line, /\]\([^)]+\)/)) {
-        print FNR "\t" substr(line, RSTART + 2, RLENGTH - 3); line = substr(line, RSTART + RLENGTH) } }' "$page" |
+    awk '/^\[[^]]+\]: / { print FNR "\t" $NF; next }
+        { line = $0; while (match(line, /\]\([^)]+\)/)) {
+            print FNR "\t" substr(line, RSTART + 2, RLENGTH - 3); line = substr(line, RSTART + RLENGTH) } }' "$page" |
         while IFS=$'\t' read -r line target; do
             case $target in http*) continue ;; esac
             anchor=
@@ -62,13 +64,19 @@ check_paths() {
             fi
         done
     spans "$page" | grep -E $'\t''[^ ]*(/[^ ]*|\.(antt|rt|md|sh|feed|edit|txt))$' | while IFS=$'\t' read -r line target; do
-        case $target in *'*'* | *'..'* | /* | [0-9]*) continue ;; esac
+        [[ $target =~ ^[A-Za-z0-9_./-]+$ && $target != /* ]] || continue
         [[ $target =~ ^[A-Za-z]+\.antt$ ]] && [ "$page" = docs/ARCHITECTURE.md ] && continue
-        target=${target%%:*}
-        for file in "$target" "crates/$target" "docs/$target" "$(dirname "$page")/$target"; do
+        for file in "$target" "crates/$target" "docs/$target" "$(dirname "$page")/$target" crates/*/"$target"; do
             [ -e "$file" ] && continue 2
         done
         echo "$page:$line: no such path $target"
+    done
+}
+
+# Labels of links that a page uses and doesn't give a target.
+check_labels() {
+    grep -oE '\]\[[^]]+\]' "$1" | sed 's/^..//; s/.$//' | sort -u | while read -r label; do
+        grep -qF -- "[$label]: " "$1" || echo "$1: no target for [$label]"
     done
 }
 
@@ -83,12 +91,13 @@ check_names() {
     spans "$page" | sort -u -k 2 | while IFS=$'\t' read -r line span; do
         if [[ $span =~ ^([a-z_0-9]+::)*([A-Z][A-Za-z0-9]*::)?[a-z_0-9]+:\ [a-z_,\ 0-9]+$ ]]; then
             call=${span%%: *}
+            [ ! -d "crates/$call" ] || continue
             for label in $(tr ',' ' ' <<<"${span#*: }"); do
                 has_clause "$call" "$label" "$work" || echo "$page:$line: $call has no clause $label"
             done
         elif [[ $span =~ ^[A-Za-z_][A-Za-z0-9_]*(::[A-Za-z_][A-Za-z0-9_]*)+$ ]]; then
             has_name "$span" "$work" || echo "$page:$line: no such name $span"
-        elif [[ $span =~ ^[A-Za-z_][A-Za-z0-9_]*$ ]]; then
+        elif [[ $span =~ ^[A-Za-z_][A-Za-z0-9_]*$ && ! $span =~ ^[A-Z]+$ && ! $span =~ ^[0-9A-F]+$ ]]; then
             grep -qxF -- "$span" "$work/words" || echo "$page:$line: no such name $span"
         fi
     done
@@ -109,7 +118,7 @@ has_clause() {
 has_name() {
     local first=${1%%::*} last=${1##*::}
     if [ -d "crates/$first" ]; then
-        { sources "$first"; specs "$first"; } | xargs sed 's,//.*,,; s,--.*,,' | grep -qwF -- "$last"
+        { sources "$first"; specs "$first"; } | xargs sed 's,//.*,,; s,--.*,,' | grep -wF -- "$last" >/dev/null
     else
         grep -qxF -- "$last" "$2/words" && grep -qxF -- "$first" "$2/words"
     fi
