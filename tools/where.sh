@@ -52,7 +52,8 @@ where() {
     if [ -n "$defined" ]; then
         found=1
         show definition "$defined"
-        show "clauses that cite it" "$(citing "$word")"
+        show "definitions that use it" "$(using "$word")"
+        show "clauses that cite it" "$(citing "$word" | cut -f 1)"
     fi
     if [ -n "$bodies" ]; then
         found=1
@@ -60,6 +61,10 @@ where() {
         cited "$all" "$bodies" "$word"
         show "used in" "$(used "$all" "$word" "$text")"
     fi
+    # a definition without a body of its name is tried by what tries the calls whose clauses cite it
+    [ -n "$bodies" ] || [ -z "$defined" ] ||
+        bodies=$(citing "$word" | cut -f 2 | awk -F'\t' 'NR == FNR { wanted[$0] = 1; next }
+            $1 == "item" && (($2 ":" $3) in wanted)' - <(printf '%s\n' "$all"))
     [ $found = 0 ] || tried "$all" "$bodies" "$word" "$text"
     local pages
     pages=$(grep -nFw -- "${type:+$type::}$word" README.md CONTRIBUTING.md docs/*.md docs/*/*.md 2>/dev/null | cut -c 1-110)
@@ -82,7 +87,7 @@ show() {
     [ $more -le 0 ] || echo "    .. and $more more"
 }
 
-# The calls whose clauses have this word, public ones first.
+# The calls whose clauses have this word, public ones first, and FILE:LINE of each behind a tab.
 citing() {
     sources | items | awk -F'\t' -v word="$1" '
         function has(text,  at, before, after) {
@@ -94,8 +99,26 @@ citing() {
             return 0
         }
         $1 == "item" { file = $2; line = $3; seen = $6; call = $7; told = 0; next }
-        !told && has($6) { told = 1; print (seen == "pub" ? 0 : 1) "\t" file ":" line ": " call ", clause " $5 }
-    ' | sort -s -k 1,1 | cut -f 2 | sed 's/, clause -$//'
+        !told && has($6) {
+            told = 1
+            print (seen == "pub" ? 0 : 1) "\t" file ":" line ": " call ($5 == "-" ? "" : ", clause " $5) "\t" file ":" line
+        }
+    ' | sort -s -k 1,1 | cut -f 2,3
+}
+
+# The definitions in whose text a word stands, but for its own.
+using() {
+    specs | WORD=$1 xargs awk '
+        function bare(line) { sub(/--.*/, "", line); return line }
+        /^(use|pub mod|infix|open)/ { next }
+        /^[^ -]/ || /^ +(abbrev |unfoldable |pub )/ {
+            name = $0
+            sub(/^ *(abbrev |unfoldable )?(pub )?(record |data )?/, "", name); sub(/[ :].*/, "", name)
+        }
+        name != ENVIRON["WORD"] && match(" " bare($0) " ", "[^A-Za-z0-9_]" ENVIRON["WORD"] "[^A-Za-z0-9_]") {
+            if (!((FILENAME, name) in told)) print FILENAME ":" FNR ": " name
+            told[FILENAME, name] = 1
+        }'
 }
 
 # The clauses of the calls among these bodies, and the definitions that they cite, by the imports of their files.
