@@ -3,8 +3,8 @@
 #
 #   ./do check CRATE    proves a crate, with its tests; what stands in its out/ is kept
 #   ./do gate           the gate: everything from nothing, and how long it took
-#   ./do where NAME     where a name is defined, where its body stands, which clauses, tests and edits speak of it, which
-#                       pages name it; NAME may have a crate and a type in front: gw_base::Moment::of
+#   ./do where NAME     where a name is defined and where its body stands, and the clauses, tests, edits and pages that
+#                       speak of it; NAME may have a crate and a type in front: gw_base::Moment::of
 #   ./do proved [CRATE] the public calls with their clauses, made from the sources
 #   ./do docs           what the documents say that the sources don't; silent where there is nothing
 top=$(dirname "$(readlink -f "$0")")
@@ -38,7 +38,8 @@ definitions() {
 
 case ${1:-} in
 check)
-    [ $# = 2 ] && [ -d "crates/$2" ] || usage
+    [ $# = 2 ] || usage
+    [ -d "crates/$2" ] || { echo "no crate has the name $2" >&2; exit 1; }
     cd "crates/$2" && rt check && rt check --test
     ;;
 gate)

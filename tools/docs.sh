@@ -8,40 +8,79 @@ clauses_of_all() {
 }
 
 docs() {
-    local work faults=0
+    local work page
     work=$(mktemp -d)
     trap 'rm -rf "$work"' EXIT
-    local pages=(README.md CONTRIBUTING.md CHANGELOG.md docs/*.md docs/*/*.md) page
-    # the map has each definition file, and no other
+    check_map "$work"
+    check_uses "$work"
+    # what the sources name, without comments
+    {
+        sources | xargs sed 's,//.*,,'
+        specs | xargs sed 's,--.*,,'
+        cat crates.txt do cgf
+        sources
+        specs
+        ls -R bench examples docs
+    } | grep -oE '[A-Za-z_][A-Za-z0-9_]*' | sort -u >"$work/words"
+    clauses_of_all | sort -u >"$work/clauses"
+    for page in README.md CONTRIBUTING.md CHANGELOG.md docs/*.md docs/*/*.md; do
+        [ -e "$page" ] || continue
+        check_paths "$page"
+        check_labels "$page"
+        check_names "$page" "$work"
+        awk -v page="$page" 'length($0) > 120 && !/^\|/ && !/^    / { print page ":" FNR ": " length($0) " columns" }' \
+            "$page"
+    done
+}
+
+# The map has each crate and each definition file, and no other.
+check_map() {
+    local work=$1 page crate
     specs | grep -v '/Lib\.antt$' | sed 's,^crates/,,; s,/specs/,\t,' | sort >"$work/there"
     awk '/^#+ / { crate = ""; if (match($0, /`[a-z_0-9]+`/)) crate = substr($0, RSTART + 1, RLENGTH - 2) }
         crate != "" { line = $0; while (match(line, /`[A-Za-z0-9]+\.antt`/)) {
             print crate "\t" substr(line, RSTART + 1, RLENGTH - 2); line = substr(line, RSTART + RLENGTH) } }' \
         docs/ARCHITECTURE.md | sort -u >"$work/mapped"
-    comm -23 "$work/there" "$work/mapped" | awk -F'\t' '{ print "docs/ARCHITECTURE.md: the map lacks " $1 "/specs/" $2 }'
-    comm -13 "$work/there" "$work/mapped" | awk -F'\t' '{ print "docs/ARCHITECTURE.md: no such file " $1 "/specs/" $2 }'
-    ls crates | while read -r page; do
-        grep -qE "^#+ .*\`$page\`" docs/ARCHITECTURE.md || echo "docs/ARCHITECTURE.md: no heading for the crate $page"
-        grep -qE "^#+ .*\`$page\`" docs/PROVED.md || echo "docs/PROVED.md: no heading for the crate $page"
+    comm -23 "$work/there" "$work/mapped" | sed 's,\t,/specs/,; s,^,docs/ARCHITECTURE.md: the map lacks ,'
+    comm -13 "$work/there" "$work/mapped" | sed 's,\t,/specs/,; s,^,docs/ARCHITECTURE.md: no such file ,'
+    for page in docs/ARCHITECTURE.md docs/PROVED.md; do
+        for crate in $(ls crates); do
+            grep -qE "^#+ .*\`$crate\`" "$page" || echo "$page: no heading for the crate $crate"
+        done
     done
-    # what the sources name, without comments
-    { sources | xargs sed 's,//.*,,'; specs | xargs sed 's,--.*,,'; cat crates.txt; sources; specs; cat do cgf; ls -R bench examples docs; } |
-        grep -oE '[A-Za-z_][A-Za-z0-9_]*' | sort -u >"$work/words"
-    clauses_of_all | sort -u >"$work/clauses"
-    for page in "${pages[@]}"; do
-        [ -e "$page" ] || continue
-        check_paths "$page"
-        check_labels "$page"
-        check_names "$page" "$work"
-        awk -v page="$page" 'length($0) > 120 && !/^\|/ && !/^    / { print page ":" FNR ": " length($0) " columns" }' "$page"
-    done
+}
+
+# The map says of each crate that it stands on what crates.txt says.
+check_uses() {
+    local work=$1 crate uses
+    sed 's/#.*//; s/ staticlib:/:/; /:/!d; s/://' crates.txt | sorted_words >"$work/uses"
+    awk '/^#+ / {
+            print ""; crate = ""
+            if (match($0, /`[a-z_0-9]+`/)) { crate = substr($0, RSTART + 1, RLENGTH - 2); printf "%s ", crate }
+            next
+        }
+        crate != "" { printf "%s ", $0 }' docs/ARCHITECTURE.md | grep -oE '^[a-z_0-9]+ .*Stands on [^.]*' |
+        sed -E 's/^([a-z_0-9]+) .*Stands on (.*)/\1 \2/; s/,//g; s/ nothing$//' | sorted_words >"$work/told"
+    comm -3 "$work/uses" "$work/told" | tr -d '\t' | cut -d ' ' -f 1 | sort -u |
+        sed 's,.*,docs/ARCHITECTURE.md: crates.txt says otherwise of what & stands on,'
+}
+
+# Lines of a crate and what it stands on, each in one order.
+sorted_words() {
+    local crate uses
+    while read -r crate uses; do
+        echo "$crate" $(tr ' ' '\n' <<<"$uses" | sort)
+    done | sort
 }
 
 # The spans between backquotes outside of blocks of code, as LINE SPAN.
 spans() {
     awk '/^```/ { block = !block; next } !block && !/^    [^ -]/ {
         line = $0
-        while (match(line, /`[^`]+`/)) { print FNR "\t" substr(line, RSTART + 1, RLENGTH - 2); line = substr(line, RSTART + RLENGTH) }
+        while (match(line, /`[^`]+`/)) {
+            print FNR "\t" substr(line, RSTART + 1, RLENGTH - 2)
+            line = substr(line, RSTART + RLENGTH)
+        }
     }' "$1"
 }
 
@@ -63,14 +102,15 @@ check_paths() {
                 echo "$page:$line: no such heading $target"
             fi
         done
-    spans "$page" | grep -E $'\t''[^ ]*(/[^ ]*|\.(antt|rt|md|sh|feed|edit|txt))$' | while IFS=$'\t' read -r line target; do
-        [[ $target =~ ^[A-Za-z0-9_./-]+$ && $target != /* ]] || continue
-        [[ $target =~ ^[A-Za-z]+\.antt$ ]] && [ "$page" = docs/ARCHITECTURE.md ] && continue
-        for file in "$target" "crates/$target" "docs/$target" "$(dirname "$page")/$target" crates/*/"$target"; do
-            [ -e "$file" ] && continue 2
+    spans "$page" | grep -E $'\t''[^ ]*(/[^ ]*|\.(antt|rt|md|sh|feed|edit|txt))$' |
+        while IFS=$'\t' read -r line target; do
+            [[ $target =~ ^[A-Za-z0-9_./-]+$ && $target != /* ]] || continue
+            [[ $target =~ ^[A-Za-z]+\.antt$ ]] && [ "$page" = docs/ARCHITECTURE.md ] && continue
+            for file in "$target" "crates/$target" "docs/$target" "$(dirname "$page")/$target" crates/*/"$target"; do
+                [ -e "$file" ] && continue 2
+            done
+            echo "$page:$line: no such path $target"
         done
-        echo "$page:$line: no such path $target"
-    done
 }
 
 # Labels of links that a page uses and doesn't give a target.
@@ -106,7 +146,10 @@ check_names() {
 # Whether a call, perhaps with crate, module and type in front, has a clause of this name.
 has_clause() {
     awk -F'\t' -v wanted="$1" -v label="$2" '
-        BEGIN { n = split(wanted, parts, "::"); tail = parts[n]; if (n > 1 && parts[n - 1] ~ /^[A-Z]/) tail = parts[n - 1] "::" tail }
+        BEGIN {
+            n = split(wanted, parts, "::"); tail = parts[n]
+            if (n > 1 && parts[n - 1] ~ /^[A-Z]/) tail = parts[n - 1] "::" tail
+        }
         $3 == label {
             call = $2; short = call; sub(/^.*::/, "", short)
             if ((call == tail || short == tail) && (n == 1 || parts[1] ~ /^[A-Z]/ || parts[1] == $1)) hit = 1

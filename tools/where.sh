@@ -67,7 +67,7 @@ where() {
             $1 == "item" && (($2 ":" $3) in wanted)' - <(printf '%s\n' "$all"))
     [ $found = 0 ] || tried "$all" "$bodies" "$word" "$text"
     local pages
-    pages=$(grep -nFw -- "${type:+$type::}$word" README.md CONTRIBUTING.md docs/*.md docs/*/*.md 2>/dev/null | cut -c 1-110)
+    pages=$(grep -nFw -- "${type:+$type::}$word" README.md CONTRIBUTING.md docs/*.md docs/*/*.md | cut -c 1-110)
     if [ -n "$pages" ]; then
         show documents "$pages"
         found=1
@@ -101,7 +101,8 @@ citing() {
         $1 == "item" { file = $2; line = $3; seen = $6; call = $7; told = 0; next }
         !told && has($6) {
             told = 1
-            print (seen == "pub" ? 0 : 1) "\t" file ":" line ": " call ($5 == "-" ? "" : ", clause " $5) "\t" file ":" line
+            clause = $5 == "-" ? "" : ", clause " $5
+            print (seen == "pub" ? 0 : 1) "\t" file ":" line ": " call clause "\t" file ":" line
         }
     ' | sort -s -k 1,1 | cut -f 2,3
 }
