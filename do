@@ -1,7 +1,7 @@
 #!/bin/bash
 # Small tools for whoever works on this repository. Plain shell: bash, awk, grep, find, sort and comm.
 #
-#   ./do check CRATE    proves a crate, with its tests; what stands in its out/ is kept
+#   ./do check CRATE    proves a crate, with its tests; what was proved before is kept
 #   ./do gate           the gate: everything from nothing, and how long it took
 #   ./do where NAME     where a name is defined and where its body stands, and the clauses, tests, edits and pages that
 #                       speak of it; NAME may have a crate and a type in front: gw_base::Moment::of
