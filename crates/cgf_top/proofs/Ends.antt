@@ -1,24 +1,42 @@
--- A text within the bound is read whole.
-use Rattle.std.proofs.Common.{◌≡◌, ℕ, ◌≤◌, ◌⊎◌, inl, inr, List, ◌++◌, length, Option, Some, None, ap, sym, ◌∙◌, subst, arith, length-append, append-nil}
-use Rattle.cgf_top.specs.FeedScript.{script_of}
-use Rattle.cgf_top.specs.Run.{EndsByScript, EndsByWhole, IsComplete, IsRead, end_of}
+-- What was read decides how the job ends, and an input that is shorter than the bound is read whole.
+use Rattle.std.proofs.Common.{◌≡◌, ℕ, ◌≤◌, ◌<◌, ◌⊎◌, inl, inr, List, ◌++◌, length, Option, Some, None, ap, sym, ◌∙◌, subst, arith, length-append, append-nil}
+use Rattle.std.proofs.lemmas.Option.{same_Some}
+use Rattle.cgf_top.specs.Command.{command_of, most_read}
+use Rattle.cgf_top.specs.Run.{EndsByInput, EndsByWhole, IsBounded, IsComplete, IsRead, TakesUpTo, end_of}
+use Rattle.cgf_top.specs.declared.command.Command.{Command}
 use Rattle.cgf_top.specs.declared.status.Status.{Status}
 use Rattle.cgf_top.specs.declared.status.Status.TheVariants as status
 
-read_whole : (text read : List ℕ) (rest_left : Option (List ℕ)) → length text ≤ 16777216 → IsRead (Some text) rest_left read → read ≡ text
-read_whole text read None h r = absurd r.consumed
-read_whole text read (Some rest) h r =
+read_whole : (most : ℕ) (octets read : List ℕ) (rest_left : Option (List ℕ)) → length octets < most → IsRead most (Some octets) rest_left read → read ≡ octets
+read_whole most octets read None h r = absurd r.consumed
+read_whole most octets read (Some rest) h r =
     elim r.whole [
       | inl long ↦ (let no : ⊥ = omega (arith, h, long, ap length r.consumed, length-append read rest) in absurd no)
       | inr none ↦ sym (r.consumed ∙ ap (λ x. read ++ x) none ∙ append-nil read)
     ]
 
--- with no fault, the text that is left decides, as the one that was read does
-whole_text : (left rest_left : Option (List ℕ)) (ended : Status) → (ended ≡ status.Memory) ⊎ EndsByScript left rest_left ended → EndsByWhole left ended
-whole_text left rest_left ended (inl memory) text is h = inl memory
-whole_text left rest_left ended (inr found) text is h =
-    let same : found.0 ≡ text = read_whole text found.0 rest_left h (subst (λ l. IsRead l rest_left found.0) is found.1) in
-    inr (found.2 ∙ ap (λ t. end_of (script_of t)) same)
+-- two commands of the same words are one
+same_command : (words : List (List ℕ)) (a b : Command) → command_of words ≡ Some a → command_of words ≡ Some b → a ≡ b
+same_command words a b h k = same_Some a b (sym h ∙ k)
 
-pub complete : (left rest_left : Option (List ℕ)) (ended : Status) → (ended ≡ status.Memory) ⊎ EndsByScript left rest_left ended → IsComplete left rest_left ended
-complete left rest_left ended found = record { read = found; whole = whole_text left rest_left ended found }
+-- with no fault, the octets that are left decide, as those that were read do
+whole : (words : List (List ℕ)) (left rest_left : Option (List ℕ)) (ended : Status)
+    → (ended ≡ status.Memory) ⊎ EndsByInput words left rest_left ended → EndsByWhole words left ended
+whole words left rest_left ended (inl memory) command octets asked is h = inl memory
+whole words left rest_left ended (inr found) command octets asked is h =
+    let command_is : found.command ≡ command = same_command words found.command command found.asked asked in
+    let read : IsRead (most_read command) (Some octets) rest_left found.octets =
+    subst (λ c. IsRead (most_read c) (Some octets) rest_left found.octets) command_is
+    (subst (λ l. IsRead (most_read found.command) l rest_left found.octets) is found.read) in
+    let same : found.octets ≡ octets = read_whole (most_read command) octets found.octets rest_left h read in
+    inr (found.decided ∙ ap (λ (c : Command). end_of c found.octets) command_is ∙ ap (λ o. end_of command o) same)
+
+pub complete : (words : List (List ℕ)) (left rest_left : Option (List ℕ)) (ended : Status)
+    → (ended ≡ status.Memory) ⊎ EndsByInput words left rest_left ended → IsComplete words left rest_left ended
+complete words left rest_left ended found = record { read = found; whole = whole words left rest_left ended found }
+
+-- what the command of these words takes is bounded
+pub bounded_by : (words : List (List ℕ)) (command : Command) (left rest : Option (List ℕ)) → command_of words ≡ Some command
+    → TakesUpTo (most_read command) left rest → IsBounded words left rest
+bounded_by words command left rest asked takes other asked' =
+    subst (λ c. TakesUpTo (most_read c) left rest) (same_command words command other asked asked') takes

@@ -5,8 +5,8 @@ use Rattle.cgf_top.specs.Steps.{SaysLines, kept, kept_lines}
 use Rattle.world_script.specs.Text.{RawLine, line_size}
 use Rattle.cgf_top.specs.declared.feed_script.line.Line.{Line}
 use Rattle.cgf_top.specs.declared.feed_script.progress.Progress.{Progress}
-use Rattle.cgf_top.specs.declared.feed_script.refusal.InputKind.{InputKind}
-use Rattle.cgf_top.specs.declared.feed_script.refusal.InputKind.TheVariants.{NotBuilt}
+use Rattle.cgf_top.specs.declared.input_kind.InputKind.{InputKind}
+use Rattle.cgf_top.specs.declared.input_kind.InputKind.TheVariants.{NotBuilt}
 use Rattle.cgf_top.specs.declared.feed_script.refusal.Refusal.{Refusal}
 
 -- kept lines in front of those of the rest of a script

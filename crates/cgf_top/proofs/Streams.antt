@@ -55,22 +55,22 @@ pub rose_more : (before middle after : ℕ) → middle ≡ before → Rose middl
 rose_more before middle after h rose = subst (λ (n : ℕ). Rose n after) h rose
 
 -- a call that failed took nothing
-pub takes_kept : (a b : Option (List ℕ)) (most : ℕ) → Keeps a b → TakesUpTo a b most
+pub takes_kept : (a b : Option (List ℕ)) (most : ℕ) → Keeps a b → TakesUpTo most a b
 takes_kept None b most h = ([], omega arith, tt)
 takes_kept (Some xs) None most h = absurd h
 takes_kept (Some xs) (Some ys) most h = ([], omega arith, sym h)
 
-pub takes_piece : (a b : Option (List ℕ)) (most : ℕ) (piece : List ℕ) → length piece ≤ most → Consumes a b piece → TakesUpTo a b most
+pub takes_piece : (a b : Option (List ℕ)) (most : ℕ) (piece : List ℕ) → length piece ≤ most → Consumes a b piece → TakesUpTo most a b
 takes_piece a b most piece h k = (piece, h, k)
 
--- the text so far was taken, and then no more than was left to take
-pub takes_more : (a b c : Option (List ℕ)) (text : List ℕ) (most : ℕ) → length text ≤ most → Consumes a b text → TakesUpTo b c (most - length text) → TakesUpTo a c most
-takes_more a b c text most h k more =
-    (text ++ more.0, omega (arith, h, more.1, length-append text more.0), consumes_more a b c text more.0 k more.2)
+-- the text so far was taken, and then no more than that
+pub takes_more : (a b c : Option (List ℕ)) (text : List ℕ) (more most : ℕ) → length text + more ≤ most → Consumes a b text → TakesUpTo more b c → TakesUpTo most a c
+takes_more a b c text more most h k rest =
+    (text ++ rest.0, omega (arith, h, rest.1, length-append text rest.0), consumes_more a b c text rest.0 k rest.2)
 
-pub takes_read : (a b : Option (List ℕ)) (text : List ℕ) (most : ℕ) → length text ≤ most → Consumes a b text → TakesUpTo a b most
+pub takes_read : (a b : Option (List ℕ)) (text : List ℕ) (most : ℕ) → length text ≤ most → Consumes a b text → TakesUpTo most a b
 takes_read a b text most h k = (text, h, k)
 
-pub takes_none : (a : Option (List ℕ)) (most : ℕ) → TakesUpTo a a most
+pub takes_none : (a : Option (List ℕ)) (most : ℕ) → TakesUpTo most a a
 takes_none None most = ([], omega arith, tt)
 takes_none (Some xs) most = ([], omega arith, refl)

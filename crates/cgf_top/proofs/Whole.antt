@@ -1,17 +1,22 @@
--- A text whose lines are all read has no octet past the bound, so that its input was read to its end.
-use Rattle.std.proofs.Common.{◌≡◌, ℕ, ◌+◌, ◌≤◌, ◌⊎◌, inl, inr, Bool, true, false, ◌==◌, nat_lt, List, [], ◌∷◌, length, sum_by, Option, Result, Ok, Err, refl, ap, sym, ◌∙◌, subst, arith}
+-- An input on which a job is done has fewer octets than are read at most, so that it was read to its end.
+use Rattle.std.proofs.Common.{◌≡◌, ℕ, ◌+◌, ◌≤◌, ◌<◌, ◌⊎◌, inl, inr, Bool, true, false, ◌==◌, nat_lt, List, [], ◌∷◌, length, sum_by, Option, Some, Result, Ok, Err, refl, ap, sym, ◌∙◌, subst, arith}
 use Rattle.std.proofs.lemmas.Bool.{ltb-false}
 use Rattle.std.proofs.lemmas.List.Sums.{sum_by-cons}
 use Rattle.std.specs.Io.KnownBytes.{Appends, IsAtEnd}
 use Rattle.gw_base.specs.Written.{AppendsFront}
-use Rattle.cgf_top.specs.FeedReport.{feed_report}
+use Rattle.cdr_file.specs.Spelling.{Spells}
+use Rattle.cdr_file.specs.declared.file.CdrFile.{CdrFile}
+use Rattle.cgf_top.specs.Command.{command_of, most_read}
 use Rattle.cgf_top.specs.FeedScript.{behind_step, line_step, lines_from, not_begun, script_of, with_line}
-use Rattle.cgf_top.specs.Run.{IsRead, IsReported, WritesFront, WritesReport}
+use Rattle.cgf_top.specs.Run.{IsRead, IsReported, WritesFront, WritesReport, end_of, report_of}
+use Rattle.cgf_top.specs.declared.command.Command.{Command}
+use Rattle.cgf_top.specs.declared.status.Status.{Status}
+use Rattle.cgf_top.specs.declared.status.Status.TheVariants as status
 use Rattle.world_script.specs.Text.{RawLine, line_size, onto_line, raw_lines}
 use Rattle.cgf_top.specs.declared.feed_script.line.Line.{Line}
 use Rattle.cgf_top.specs.declared.feed_script.progress.Progress.{Progress}
-use Rattle.cgf_top.specs.declared.feed_script.refusal.InputKind.{InputKind}
-use Rattle.cgf_top.specs.declared.feed_script.refusal.InputKind.TheVariants.{TooLong}
+use Rattle.cgf_top.specs.declared.input_kind.InputKind.{InputKind}
+use Rattle.cgf_top.specs.declared.input_kind.InputKind.TheVariants.{TooLong}
 use Rattle.cgf_top.specs.declared.feed_script.refusal.Refusal.{Refusal}
 
 -- ---- the lines of a text have its octets
@@ -60,25 +65,39 @@ lines_within place at p (raw ∷ raws) lines h e =
 script_within : (text : List ℕ) (lines : List Line) → script_of text ≡ Ok lines → length text ≤ 16777216
 script_within text lines e = omega (arith, lines_within 1 0 not_begun (raw_lines text) lines (omega arith) e, sum_by-raw_lines text)
 
--- a script that was read was read to the end of the input
-reported : (left rest : Option (List ℕ)) (text : List ℕ) (lines : List Line) (report : List ℕ) → IsRead left rest text → script_of text ≡ Ok lines
-    → report ≡ feed_report text → IsReported left rest report
-reported left rest text lines report read script is = record {
-  text = text;
-  lines = lines;
+-- ---- octets on which a job is done are fewer than the most that are read
+
+pub fed_within : (text : List ℕ) → (lines : List Line) × (script_of text ≡ Ok lines) → length text < 16777217
+fed_within text lines = omega (arith, script_within text lines.0 lines.1)
+
+pub shown_within : (file : CdrFile) (octets : List ℕ) → Spells file octets → length octets < 4294967296
+shown_within file octets spells = omega (arith, ap length spells.spelled, spells.is_file.file_length, spells.is_file.header.file_length)
+
+-- an input on which the job is done was read to its end
+reported : (words : List (List ℕ)) (command : Command) (left rest : Option (List ℕ)) (octets report : List ℕ) → command_of words ≡ Some command
+    → IsRead (most_read command) left rest octets → length octets < most_read command → end_of command octets ≡ status.Done → report ≡ report_of command octets
+    → IsReported words left rest report
+reported words command left rest octets report asked read within done is = record {
+  command = command;
+  asked = asked;
+  octets = octets;
   consumed = read.consumed;
   ended = elim read.whole [
-    | inl long ↦ (let no : ⊥ = omega (arith, long, script_within text lines script) in absurd no)
+    | inl long ↦ (let no : ⊥ = omega (arith, long, within) in absurd no)
     | inr end ↦ end
   ];
-  script = script;
+  done = done;
   report_is = is;
 }
 
-pub writes_report : (left rest before after : Option (List ℕ)) (text report : List ℕ) → IsRead left rest text
-    → (lines : List Line) × (script_of text ≡ Ok lines) × (report ≡ feed_report text) → Appends before after report → WritesReport left rest before after
-writes_report left rest before after text report read said written = (report, reported left rest text said.0 report read said.1 said.2, written)
+pub writes_report : (words : List (List ℕ)) (command : Command) (left rest before after : Option (List ℕ)) (octets report : List ℕ)
+    → command_of words ≡ Some command → IsRead (most_read command) left rest octets → length octets < most_read command → end_of command octets ≡ status.Done
+    → report ≡ report_of command octets → Appends before after report → WritesReport words left rest before after
+writes_report words command left rest before after octets report asked read within done is written =
+    (report, reported words command left rest octets report asked read within done is, written)
 
-pub writes_front : (left rest before after : Option (List ℕ)) (text report : List ℕ) → IsRead left rest text
-    → (lines : List Line) × (script_of text ≡ Ok lines) × (report ≡ feed_report text) → AppendsFront before after report → WritesFront left rest before after
-writes_front left rest before after text report read said written = (report, reported left rest text said.0 report read said.1 said.2, written)
+pub writes_front : (words : List (List ℕ)) (command : Command) (left rest before after : Option (List ℕ)) (octets report : List ℕ)
+    → command_of words ≡ Some command → IsRead (most_read command) left rest octets → length octets < most_read command → end_of command octets ≡ status.Done
+    → report ≡ report_of command octets → AppendsFront before after report → WritesFront words left rest before after
+writes_front words command left rest before after octets report asked read within done is written =
+    (report, reported words command left rest octets report asked read within done is, written)

@@ -135,10 +135,10 @@ report_of_lines lines =
     let s = behind_all fresh_feed lines in
     s.printed ++ end_lines (closed s.history s.now)
 
-abbrev pub report_of : Result (List Line) Refusal → List ℕ
-report_of (Ok lines) = report_of_lines lines
-report_of (Err refusal) = []
+abbrev pub report_of_script : Result (List Line) Refusal → List ℕ
+report_of_script (Ok lines) = report_of_lines lines
+report_of_script (Err refusal) = []
 
 -- all that is printed for a script; nothing where a line is refused
 abbrev pub feed_report : List ℕ → List ℕ
-feed_report text = report_of (script_of text)
+feed_report text = report_of_script (script_of text)

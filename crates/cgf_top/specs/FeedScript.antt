@@ -13,8 +13,8 @@ use Rattle.world_script.specs.Values.{address_of}
 use Rattle.cgf_top.specs.declared.feed_script.line.Line.{Line}
 use Rattle.cgf_top.specs.declared.feed_script.line.Line.TheVariants as line
 use Rattle.cgf_top.specs.declared.feed_script.progress.Progress.{Progress}
-use Rattle.cgf_top.specs.declared.feed_script.refusal.InputKind.{InputKind}
-use Rattle.cgf_top.specs.declared.feed_script.refusal.InputKind.TheVariants.{TooLong, NotBuilt}
+use Rattle.cgf_top.specs.declared.input_kind.InputKind.{InputKind}
+use Rattle.cgf_top.specs.declared.input_kind.InputKind.TheVariants.{TooLong, NotBuilt}
 use Rattle.cgf_top.specs.declared.feed_script.refusal.Refusal.{Refusal}
 
 -- What a line says.

@@ -1,58 +1,86 @@
--- The job as a whole: which words it is asked by, what it reads of its input, and how it ends.
-use Rattle.std.specs.Prelude.{ℕ, ◌≡◌, ◌≤◌, ◌⊎◌, Bool, true, false, not, ◌&&◌, ◌==◌, List, [], ◌∷◌, ◌++◌, length, Option, Some, Result, Ok, Err, codes}
+-- The job as a whole: what it reads of its input and writes, and how it ends.
+use Rattle.std.specs.Prelude.{ℕ, ◌≡◌, ◌≤◌, ◌<◌, ◌⊎◌, Bool, true, false, List, length, Option, Some, Result, Ok, Err}
 use Rattle.std.specs.Io.KnownBytes.{Appends, Consumes, IsAtEnd}
-use Rattle.std.specs.Str.{bytes_eq}
+use Rattle.cdr_file.specs.Reading.{file_in}
+use Rattle.cdr_file.specs.declared.fault.FileFault.{FileFault}
+use Rattle.cdr_file.specs.declared.fault.FileFault.TheVariants as fault
+use Rattle.cdr_file.specs.declared.file.CdrFile.{CdrFile}
 use Rattle.gw_base.specs.Faults.{Rose}
 use Rattle.gw_base.specs.Written.{AppendsFront}
+use Rattle.cgf_top.specs.Command.{command_of, most_read}
 use Rattle.cgf_top.specs.FeedReport.{feed_report}
 use Rattle.cgf_top.specs.FeedScript.{script_of}
+use Rattle.cgf_top.specs.ShowReport.{file_kind, show_report}
+use Rattle.cgf_top.specs.declared.command.Command.{Command}
+use Rattle.cgf_top.specs.declared.command.Command.TheVariants.{Feed, Show}
 use Rattle.cgf_top.specs.declared.status.Status.{Status}
 use Rattle.cgf_top.specs.declared.status.Status.TheVariants as status
 use Rattle.cgf_top.specs.declared.feed_script.line.Line.{Line}
 use Rattle.cgf_top.specs.declared.feed_script.refusal.Refusal.{Refusal}
+use Rattle.cgf_top.specs.declared.input_kind.InputKind.{InputKind}
 
--- whether a word may name a file: it doesn't begin with a minus sign, or is that sign alone, which names the standard
--- input
-abbrev pub is_file : List ℕ → Bool
-is_file [] = true
-is_file (x ∷ []) = true
-is_file (x ∷ y ∷ xs) = not (x == 45)
+-- How a job ends by what was read, where nothing fails, and what it prints.
 
--- whether the words are those of a job: `feed` and a file
-abbrev pub is_command : List (List ℕ) → Bool
-is_command (word ∷ file ∷ []) = bytes_eq word (codes "feed") && is_file file
-is_command _ = false
+-- a script is fed, or its first faulty line is named
+abbrev pub fed_end : Result (List Line) Refusal → Status
+fed_end (Ok lines) = status.Done
+fed_end (Err refusal) = status.Input refusal.place refusal.kind
 
--- the text was read of an input that had `left` and has `rest` left: all of it, or its first 16,777,217 octets
-pub record IsRead (left rest : Option (List ℕ)) (text : List ℕ) : Type 0 where
-  pub consumed : Consumes left rest text
-  pub bounded : length text ≤ 16777217
-  pub whole : (length text ≡ 16777217) ⊎ IsAtEnd rest
+-- a file is listed, or its first fault is named, with its octet; the reading of octets itself never lacks memory
+abbrev pub shown_end : Result CdrFile FileFault → Status
+shown_end (Ok file) = status.Done
+shown_end (Err (fault.Bad place kind)) = status.Input place (file_kind kind)
+shown_end (Err fault.NoMemory) = status.Memory
+
+abbrev pub end_of : Command → List ℕ → Status
+end_of Feed text = fed_end (script_of text)
+end_of Show octets = shown_end (file_in octets)
+
+abbrev pub report_of : Command → List ℕ → List ℕ
+report_of Feed text = feed_report text
+report_of Show octets = show_report octets
+
+-- What is read.
+
+-- these octets were read of an input that had `left` and has `rest` left: all of it, or as many as a command reads at most
+pub record IsRead (most : ℕ) (left rest : Option (List ℕ)) (octets : List ℕ) : Type 0 where
+  pub consumed : Consumes left rest octets
+  pub bounded : length octets ≤ most
+  pub whole : (length octets ≡ most) ⊎ IsAtEnd rest
 
 -- no more octets than that were taken of an input
-abbrev pub TakesUpTo : Option (List ℕ) → Option (List ℕ) → ℕ → Type 0
-TakesUpTo left rest most = (taken : List ℕ) × (length taken ≤ most) × Consumes left rest taken
+abbrev pub TakesUpTo : ℕ → Option (List ℕ) → Option (List ℕ) → Type 0
+TakesUpTo most left rest = (taken : List ℕ) × (length taken ≤ most) × Consumes left rest taken
 
--- the input was read to its end, and its text is a script with this report
-pub record IsReported (left rest : Option (List ℕ)) (report : List ℕ) : Type 0 where
-  pub text : List ℕ
-  pub lines : List Line
-  pub consumed : Consumes left rest text
+-- by these words the input was read as far as their command reads it, and what was read decides that the job ends so
+pub record EndsByInput (words : List (List ℕ)) (left rest : Option (List ℕ)) (ended : Status) : Type 0 where
+  pub command : Command
+  pub asked : command_of words ≡ Some command
+  pub octets : List ℕ
+  pub read : IsRead (most_read command) left rest octets
+  pub decided : ended ≡ end_of command octets
+
+-- by these words the input was read to its end, the job was done on it, and this is what it prints
+pub record IsReported (words : List (List ℕ)) (left rest : Option (List ℕ)) (report : List ℕ) : Type 0 where
+  pub command : Command
+  pub asked : command_of words ≡ Some command
+  pub octets : List ℕ
+  pub consumed : Consumes left rest octets
   pub ended : IsAtEnd rest
-  pub script : script_of text ≡ Ok lines
-  pub report_is : report ≡ feed_report text
+  pub done : end_of command octets ≡ status.Done
+  pub report_is : report ≡ report_of command octets
 
--- a script was read to the end of the input, and all of its report and nothing else was written
-abbrev pub WritesReport : Option (List ℕ) → Option (List ℕ) → Option (List ℕ) → Option (List ℕ) → Type 0
-WritesReport left rest before after = (report : List ℕ) × IsReported left rest report × Appends before after report
+-- all of that and nothing else was written
+abbrev pub WritesReport : List (List ℕ) → Option (List ℕ) → Option (List ℕ) → Option (List ℕ) → Option (List ℕ) → Type 0
+WritesReport words left rest before after = (report : List ℕ) × IsReported words left rest report × Appends before after report
 
--- a script was read to the end of the input, and a front of its report was written
-abbrev pub WritesFront : Option (List ℕ) → Option (List ℕ) → Option (List ℕ) → Option (List ℕ) → Type 0
-WritesFront left rest before after = (report : List ℕ) × IsReported left rest report × AppendsFront before after report
+-- a front of it was written
+abbrev pub WritesFront : List (List ℕ) → Option (List ℕ) → Option (List ℕ) → Option (List ℕ) → Option (List ℕ) → Type 0
+WritesFront words left rest before after = (report : List ℕ) × IsReported words left rest report × AppendsFront before after report
 
--- a text was read of which this line is the first that is refused
-abbrev pub IsRefused : Option (List ℕ) → Option (List ℕ) → Refusal → Type 0
-IsRefused left rest refusal = (text : List ℕ) × IsRead left rest text × (script_of text ≡ Err refusal)
+-- no octet past the most that the command of these words reads is taken
+abbrev pub IsBounded : List (List ℕ) → Option (List ℕ) → Option (List ℕ) → Type 0
+IsBounded words left rest = (command : Command) → command_of words ≡ Some command → TakesUpTo (most_read command) left rest
 
 -- How the job ends.
 
@@ -75,24 +103,16 @@ HasCause status.Words source source' sink sink' = (source' ≡ source) × (sink'
 HasCause (status.Input place kind) source source' sink sink' = (source' ≡ source) × (sink' ≡ sink)
 HasCause status.Memory source source' sink sink' = (source' ≡ source) × (sink' ≡ sink)
 
--- how the job ends by the script, with no fault of its input or its output, and memory enough
-abbrev pub end_of : Result (List Line) Refusal → Status
-end_of (Ok lines) = status.Done
-end_of (Err refusal) = status.Input refusal.place refusal.kind
+-- what is left decides how the job ends, unless memory runs out
+abbrev pub EndsByWhole : List (List ℕ) → Option (List ℕ) → Status → Type 0
+EndsByWhole words left ended = (command : Command) (octets : List ℕ) → command_of words ≡ Some command → left ≡ Some octets →
+    length octets < most_read command → (ended ≡ status.Memory) ⊎ (ended ≡ end_of command octets)
 
--- the script that was read decides how the job ends
-abbrev pub EndsByScript : Option (List ℕ) → Option (List ℕ) → Status → Type 0
-EndsByScript left rest ended = (text : List ℕ) × IsRead left rest text × (ended ≡ end_of (script_of text))
-
--- the script that is left decides how the job ends, unless memory runs out
-abbrev pub EndsByWhole : Option (List ℕ) → Status → Type 0
-EndsByWhole left ended = (text : List ℕ) → left ≡ Some text → length text ≤ 16777216 → (ended ≡ status.Memory) ⊎ (ended ≡ end_of (script_of text))
-
--- how the job ends where nothing failed, unless memory runs out: by the script that was read, which is all that the
--- source tells where that is within the bound
-pub record IsComplete (left rest : Option (List ℕ)) (ended : Status) : Type 0 where
-  pub read : (ended ≡ status.Memory) ⊎ EndsByScript left rest ended
-  pub whole : EndsByWhole left ended
+-- Where nothing failed, what was read decides how the job ends, unless memory runs out; and where the source tells what it
+-- had, and that is fewer octets than the command reads at most, that is what was read.
+pub record IsComplete (words : List (List ℕ)) (left rest : Option (List ℕ)) (ended : Status) : Type 0 where
+  pub read : (ended ≡ status.Memory) ⊎ EndsByInput words left rest ended
+  pub whole : EndsByWhole words left ended
 
 -- the number that the program ends with
 abbrev pub status_number : Status → ℕ

@@ -3,12 +3,20 @@ use Rattle.std.specs.Prelude.{ℕ, List, ◌++◌, codes}
 use Rattle.std.specs.Fmt.{decimal}
 use Rattle.cgf_top.specs.declared.status.Status.{Status}
 use Rattle.cgf_top.specs.declared.status.Status.TheVariants as status
-use Rattle.cgf_top.specs.declared.feed_script.refusal.InputKind.{InputKind}
-use Rattle.cgf_top.specs.declared.feed_script.refusal.InputKind.TheVariants.{TooLong, NotBuilt}
+use Rattle.cgf_top.specs.declared.input_kind.InputKind.{InputKind}
+use Rattle.cgf_top.specs.declared.input_kind.InputKind.TheVariants as input
 
 abbrev pub kind_name : InputKind → List ℕ
-kind_name TooLong = codes "TooLong"
-kind_name NotBuilt = codes "NotBuilt"
+kind_name input.TooLong = codes "TooLong"
+kind_name input.NotBuilt = codes "NotBuilt"
+kind_name input.Short = codes "Short"
+kind_name input.FileLength = codes "FileLength"
+kind_name input.HeaderLength = codes "HeaderLength"
+kind_name input.Filter = codes "Filter"
+kind_name input.Extension = codes "Extension"
+kind_name input.CdrHeader = codes "CdrHeader"
+kind_name input.CdrCut = codes "CdrCut"
+kind_name input.Count = codes "Count"
 
 abbrev pub status_text : Status → List ℕ
 status_text status.Done = codes "cgf: done"

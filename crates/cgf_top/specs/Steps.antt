@@ -6,7 +6,7 @@ use Rattle.std.specs.Io.KnownBytes.{Consumes, IsAtEnd}
 use Rattle.cgf_top.specs.declared.feed_script.line.Line.{Line}
 use Rattle.cgf_top.specs.declared.feed_script.line.Line.TheVariants as line
 use Rattle.cgf_top.specs.declared.feed_script.progress.Progress.{Progress}
-use Rattle.cgf_top.specs.declared.feed_script.refusal.InputKind.{InputKind}
+use Rattle.cgf_top.specs.declared.input_kind.InputKind.{InputKind}
 use Rattle.cgf_top.specs.declared.feed_script.refusal.Refusal.{Refusal}
 use Rattle.cgf_top.specs.declared.feed_script.script.ScriptEnd.{ScriptEnd}
 use Rattle.cgf_top.specs.declared.feed_script.script.ScriptEnd.TheVariants as end

@@ -1,7 +1,7 @@
 ghost use Rattle.std.specs.Prelude.{◌≡◌};
 ghost use Rattle.cgf_top.specs.Run.{status_number};
 
-use crate::feed_script::InputKind;
+use crate::input_kind::InputKind;
 use std::fmt;
 
 /// How the job ended.

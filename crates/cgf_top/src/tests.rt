@@ -19,10 +19,10 @@ const SINK_OCTETS: usize = 4096;
 
 /// How a job over these words ends, and what it writes, where the source gives pieces of this size
 /// and source and sink fail at these calls.
-fn job(
+pub fn job(
     rt: &HostRuntime,
     words: &[&str],
-    script: &str,
+    input: &[u8],
     piece: usize,
     fail_source: &[u64],
     fail_sink: &[u64],
@@ -34,8 +34,8 @@ fn job(
     for word in words {
         given.push(String::from_str(alloc, word)?)?;
     }
-    let script = Octets::of(alloc, script.as_bytes())?;
-    let mut source = MemorySource::new(script, piece, fail_source.to_vec(alloc)?);
+    let input = Octets::of(alloc, input)?;
+    let mut source = MemorySource::new(input, piece, fail_source.to_vec(alloc)?);
     let mut sink = MemorySink::new(alloc, SINK_OCTETS, fail_sink.to_vec(alloc)?)?;
     let status = run_cgf(alloc, &given, &mut source, &mut sink);
     Ok((status, sink.octets().to_vec(alloc)?))
@@ -43,13 +43,13 @@ fn job(
 
 /// The same of a feed with no fault.
 fn feed(rt: &HostRuntime, script: &str) -> Result<(Status, Vec<u8>), Fail> {
-    job(rt, &["feed", "-"], script, 4096, &[], &[])
+    job(rt, &["feed", "-"], script.as_bytes(), 4096, &[], &[])
 }
 
 #[test]
 fn one_send_is_answered_and_filed(rt: HostRuntime) -> Result<(), Fail> {
     for piece in [4096, 1] {
-        let (status, printed) = job(&rt, &["feed", "-"], FIRST, piece, &[], &[])?;
+        let (status, printed) = job(&rt, &["feed", "-"], FIRST.as_bytes(), piece, &[], &[])?;
         assert_eq!(rt; status, Status::Done);
         assert_eq!(rt; printed.as_slice(), FIRST_REPORT.as_bytes());
     }
@@ -59,16 +59,19 @@ fn one_send_is_answered_and_filed(rt: HostRuntime) -> Result<(), Fail> {
 #[test]
 fn words_decide_before_anything_is_read(rt: HostRuntime) -> Result<(), Fail> {
     let none: [&str; 0] = [];
-    let lists: [&[&str]; 6] = [
+    let lists: [&[&str]; 9] = [
         &none,
         &["feed"],
+        &["show"],
+        &["show", "-x"],
+        &["list", "-"],
         &["feed", "-x"],
         &["feed", "--help"],
         &["feed", "a", "b"],
         &["drill", "07", "1", "1", "1"],
     ];
     for words in lists {
-        let (status, printed) = job(&rt, words, FIRST, 4096, &[1], &[1])?;
+        let (status, printed) = job(&rt, words, FIRST.as_bytes(), 4096, &[1], &[1])?;
         assert_eq!(rt; status, Status::Words);
         assert_eq!(rt; printed.len(), 0);
     }
@@ -77,15 +80,15 @@ fn words_decide_before_anything_is_read(rt: HostRuntime) -> Result<(), Fail> {
 
 #[test]
 fn a_fault_of_the_input_or_the_output_is_told(rt: HostRuntime) -> Result<(), Fail> {
-    let (status, printed) = job(&rt, &["feed", "-"], FIRST, 4096, &[1], &[])?;
+    let (status, printed) = job(&rt, &["feed", "-"], FIRST.as_bytes(), 4096, &[1], &[])?;
     assert_eq!(rt; status, Status::Read);
     assert_eq!(rt; printed.len(), 0);
 
-    let (status, printed) = job(&rt, &["feed", "-"], FIRST, 50, &[2], &[])?;
+    let (status, printed) = job(&rt, &["feed", "-"], FIRST.as_bytes(), 50, &[2], &[])?;
     assert_eq!(rt; status, Status::Read);
     assert_eq!(rt; printed.len(), 0);
 
-    let (status, printed) = job(&rt, &["feed", "-"], FIRST, 4096, &[], &[1])?;
+    let (status, printed) = job(&rt, &["feed", "-"], FIRST.as_bytes(), 4096, &[], &[1])?;
     assert_eq!(rt; status, Status::Write);
     assert_eq!(rt; printed.len(), 0);
     Ok(())

@@ -6,5 +6,5 @@ mod refusal;
 mod script;
 
 pub use line::Line;
-pub use refusal::{InputKind, Refusal};
+pub use refusal::Refusal;
 pub use script::{MOST_TEXT, ScriptEnd, read_script};

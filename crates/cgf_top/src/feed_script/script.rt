@@ -6,7 +6,8 @@ ghost use Rattle.cgf_top.specs.declared.feed_script.refusal.Refusal.{Refusal};
 
 use crate::feed_script::line::{Line, read_line};
 use crate::feed_script::progress::Progress;
-use crate::feed_script::refusal::{InputKind, Refusal};
+use crate::feed_script::refusal::Refusal;
+use crate::input_kind::InputKind;
 use gw_base::NoMemory;
 use std::alloc::Global;
 use world_script::{TextLine, first_line};

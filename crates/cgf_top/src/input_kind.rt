@@ -1,0 +1,69 @@
+use cdr_file::FileKind;
+use std::fmt;
+
+/// Why an input is refused: a line of a script, or a CDR file at one of its octets.
+#[derive(Clone, Copy, Debug, PartialEq, Eq)]
+pub enum InputKind {
+    /// The line holds the octet after the first 16,777,216 of the text.
+    TooLong,
+    /// The line isn't of a form that is built.
+    NotBuilt,
+    /// The file has fewer octets than the least header.
+    Short,
+    /// The length of the file that its header says isn't the number of its octets.
+    FileLength,
+    /// The length of the header is below that of the least header, or past the end of the file.
+    HeaderLength,
+    /// The routeing filter leaves no room for the length of the private extension.
+    Filter,
+    /// The private extension doesn't end where the header does.
+    Extension,
+    /// Fewer octets are left than the header of a CDR has.
+    CdrHeader,
+    /// A CDR has more octets than are left.
+    CdrCut,
+    /// There are more CDRs or fewer than the header says.
+    Count,
+}
+
+impl From<FileKind> for InputKind {
+    ghost use Rattle.std.specs.Prelude.{◌≡◌};
+    ghost use Rattle.cgf_top.specs.ShowReport.{file_kind};
+
+    ghost from_gives = { λ kind result. result ≡ file_kind kind };
+
+    fn from(kind: FileKind) -> Self {
+        match kind {
+            FileKind::Short => InputKind::Short,
+            FileKind::FileLength => InputKind::FileLength,
+            FileKind::HeaderLength => InputKind::HeaderLength,
+            FileKind::Filter => InputKind::Filter,
+            FileKind::Extension => InputKind::Extension,
+            FileKind::CdrHeader => InputKind::CdrHeader,
+            FileKind::CdrCut => InputKind::CdrCut,
+            FileKind::Count => InputKind::Count,
+        }
+    }
+}
+
+impl fmt::Display for InputKind {
+    ghost use Rattle.std.specs.Prelude.{Some};
+    ghost use Rattle.cgf_top.specs.StatusText.{kind_name};
+
+    ghost output = { λ kind. Some (kind_name kind) };
+
+    fn fmt<W: fmt::Write>(&self, f: &mut fmt::Formatter<W>) -> fmt::Result {
+        match self {
+            InputKind::TooLong => write!(f, "TooLong"),
+            InputKind::NotBuilt => write!(f, "NotBuilt"),
+            InputKind::Short => write!(f, "Short"),
+            InputKind::FileLength => write!(f, "FileLength"),
+            InputKind::HeaderLength => write!(f, "HeaderLength"),
+            InputKind::Filter => write!(f, "Filter"),
+            InputKind::Extension => write!(f, "Extension"),
+            InputKind::CdrHeader => write!(f, "CdrHeader"),
+            InputKind::CdrCut => write!(f, "CdrCut"),
+            InputKind::Count => write!(f, "Count"),
+        }
+    }
+}
