@@ -1,5 +1,5 @@
 -- No number of a feed's history is too big: a request whose number is out of range gets no entry.
-use Rattle.std.proofs.Common.{◌≡◌, ℕ, ◌<◌, ◌^◌, Bool, true, false, ◌==◌, ◌&&◌, nat_le, nat_lt, if◌then◌else◌, List, [], ◌∷◌, ◌++◌, map, Option, Some, None, IfSome, is_none, refl, ap, sym, ◌∙◌, subst, arith}
+use Rattle.std.proofs.Common.{◌≡◌, ℕ, ◌<◌, ◌^◌, Bool, true, false, ◌==◌, ◌&&◌, nat_le, nat_lt, if◌then◌else◌, List, [], map, Option, Some, None, IfSome, is_none, refl, ap, sym, ◌∙◌, subst, arith}
 use Rattle.gtpp_message.specs.Message.{TransferValue, Send, Possible, Cancel, Release}
 use Rattle.gtpp_message.specs.Packet.{packet_octets}
 use Rattle.gw_base.specs.EntryLaws.{top_of-append}

@@ -1,5 +1,5 @@
 -- What was read decides how the job ends, and an input that is shorter than the bound is read whole.
-use Rattle.std.proofs.Common.{◌≡◌, ℕ, ◌≤◌, ◌<◌, ◌⊎◌, inl, inr, List, ◌++◌, length, Option, Some, None, ap, sym, ◌∙◌, subst, arith, length-append, append-nil}
+use Rattle.std.proofs.Common.{◌≡◌, ℕ, ◌<◌, ◌⊎◌, inl, inr, List, ◌++◌, length, Option, Some, None, ap, sym, ◌∙◌, subst, arith, length-append, append-nil}
 use Rattle.std.proofs.lemmas.Option.{same_Some}
 use Rattle.cgf_top.specs.Command.{command_of, most_read}
 use Rattle.cgf_top.specs.Run.{EndsByInput, EndsByWhole, IsBounded, IsComplete, IsRead, TakesUpTo, end_of}

@@ -1,8 +1,8 @@
 -- An input on which a job is done has fewer octets than are read at most, so that it was read to its end.
-use Rattle.std.proofs.Common.{◌≡◌, ℕ, ◌+◌, ◌≤◌, ◌<◌, ◌⊎◌, inl, inr, Bool, true, false, ◌==◌, nat_lt, List, [], ◌∷◌, length, sum_by, Option, Some, Result, Ok, Err, refl, ap, sym, ◌∙◌, subst, arith}
+use Rattle.std.proofs.Common.{◌≡◌, ℕ, ◌+◌, ◌≤◌, ◌<◌, inl, inr, Bool, true, false, ◌==◌, nat_lt, List, [], ◌∷◌, length, sum_by, Option, Some, Result, Ok, Err, refl, ap, arith}
 use Rattle.std.proofs.lemmas.Bool.{ltb-false}
 use Rattle.std.proofs.lemmas.List.Sums.{sum_by-cons}
-use Rattle.std.specs.Io.KnownBytes.{Appends, IsAtEnd}
+use Rattle.std.specs.Io.KnownBytes.{Appends}
 use Rattle.gw_base.specs.Written.{AppendsFront}
 use Rattle.cdr_file.specs.Spelling.{Spells}
 use Rattle.cdr_file.specs.declared.file.CdrFile.{CdrFile}
@@ -10,7 +10,6 @@ use Rattle.cgf_top.specs.Command.{command_of, most_read}
 use Rattle.cgf_top.specs.FeedScript.{behind_step, line_step, lines_from, not_begun, script_of, with_line}
 use Rattle.cgf_top.specs.Run.{IsRead, IsReported, WritesFront, WritesReport, end_of, report_of}
 use Rattle.cgf_top.specs.declared.command.Command.{Command}
-use Rattle.cgf_top.specs.declared.status.Status.{Status}
 use Rattle.cgf_top.specs.declared.status.Status.TheVariants as status
 use Rattle.world_script.specs.Text.{RawLine, line_size, onto_line, raw_lines}
 use Rattle.cgf_top.specs.declared.feed_script.line.Line.{Line}

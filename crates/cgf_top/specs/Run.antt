@@ -17,7 +17,6 @@ use Rattle.cgf_top.specs.declared.status.Status.{Status}
 use Rattle.cgf_top.specs.declared.status.Status.TheVariants as status
 use Rattle.cgf_top.specs.declared.feed_script.line.Line.{Line}
 use Rattle.cgf_top.specs.declared.feed_script.refusal.Refusal.{Refusal}
-use Rattle.cgf_top.specs.declared.input_kind.InputKind.{InputKind}
 
 -- How a job ends by what was read, where nothing fails, and what it prints.
 

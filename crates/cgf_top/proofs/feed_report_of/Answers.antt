@@ -1,4 +1,4 @@
-use Rattle.std.proofs.Common.{◌∙◌, refl}
+use Rattle.std.proofs.Common.{◌∙◌}
 use Rattle.cgf_top.specs.FeedScript.{script_of}
 use Rattle.cgf_top.proofs.Reports.{said_report}
 use Rattle.cgf_top.proofs.Whole.{fed_within}
