@@ -1,3 +1,7 @@
 -- what public clauses cite
 pub mod Files
 pub mod Steps
+pub mod Holding
+pub mod Quiet
+-- laws, which layers above use too
+pub mod FileLaws

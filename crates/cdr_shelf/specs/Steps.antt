@@ -79,12 +79,16 @@ files_after fate f files = if is_done fate then files ++ sealed_as f else files
 abbrev pub seal_step : Fate → Option UnsealedFile → Option UnsealedFile
 seal_step fate f = if is_done fate then left_unsealed f else f
 
+-- this file with a rotten octet in the place of each, as it stands
+abbrev pub rotten : UnsealedFile → UnsealedFile
+rotten f = record { name = f.name; octets = replicate (length f.octets) rot; is_synced = true }
+
 -- what a stop leaves of an unsealed file that was synced since the last write, or not
 abbrev pub left_where : Bool → Outcome3 → UnsealedFile → Option UnsealedFile
 left_where true outcome f = Some f
 left_where false Old f = None
 left_where false New f = Some (record { name = f.name; octets = f.octets; is_synced = true })
-left_where false Rot f = Some (record { name = f.name; octets = replicate (length f.octets) rot; is_synced = true })
+left_where false Rot f = Some (rotten f)
 
 -- What a stop leaves of a stream's unsealed file. One that wasn't synced since the last write is missing, stands as it
 -- was written, or has a rotten octet in the place of each.
@@ -107,3 +111,15 @@ LeavesAfter (Stops outcome) stream step old new = StopsAt outcome stream step ol
 pub record SealLeaves (fate : Fate) (stream : ℕ) (before : ℕ → Option UnsealedFile) (files_before : List SealedFile) (after : ℕ → Option UnsealedFile) (files_after_it : List SealedFile) : Type 0 where
   pub files : files_after_it ≡ files_after fate (before stream) files_before
   pub unsealed : LeavesAfter fate stream (seal_step fate) before after
+
+-- this call isn't made at all
+abbrev pub is_refused : Fate → Bool
+is_refused Runs = false
+is_refused Fails = true
+is_refused (Stops outcome) = false
+
+-- what a call with this fate leaves of the unsealed files, once it did what it does
+abbrev pub Left : Fate → (ℕ → Option UnsealedFile) → (ℕ → Option UnsealedFile) → Type 0
+Left Runs old new = (s : ℕ) → new s ≡ old s
+Left Fails old new = (s : ℕ) → new s ≡ old s
+Left (Stops outcome) old new = (s : ℕ) → new s ≡ left_by outcome (old s)

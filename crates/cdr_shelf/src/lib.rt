@@ -2,8 +2,17 @@
 //! written.
 #![tactic(auto)]
 
+mod contents;
+mod drill;
 mod file_name;
+pub mod laws;
+mod memory;
+mod quiet;
 mod shelf;
+mod stored;
 
+pub use drill::DrillShelf;
 pub use file_name::FileName;
+pub use memory::MemoryShelf;
+pub use quiet::QuietShelf;
 pub use shelf::{Shelf, ShelfStop};

@@ -32,12 +32,22 @@ impl fmt::Display for ShelfStop {
 impl Error for ShelfStop {}
 
 impl From<AllocError> for ShelfStop {
+    ghost use Rattle.std.specs.Prelude.{◌≡◌};
+    ghost use Rattle.cdr_shelf.specs.declared.shelf.ShelfStop.TheVariants as stop;
+
+    ghost from_gives = { λ _ e. e ≡ stop.NoMemory };
+
     fn from(_: AllocError) -> Self {
         ShelfStop::NoMemory
     }
 }
 
 impl From<Failed> for ShelfStop {
+    ghost use Rattle.std.specs.Prelude.{◌≡◌};
+    ghost use Rattle.cdr_shelf.specs.declared.shelf.ShelfStop.TheVariants as stop;
+
+    ghost from_gives = { λ _ e. e ≡ stop.Failed };
+
     fn from(_: Failed) -> Self {
         ShelfStop::Failed
     }

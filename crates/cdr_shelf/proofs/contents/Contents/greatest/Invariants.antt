@@ -1,0 +1,6 @@
+use Rattle.std.proofs.Common.{◌≡◌, drop, max}
+use Rattle.cdr_shelf.specs.Files.{greatest_in}
+use Rattle.cdr_shelf.proofs.contents.Contents.greatest.Given as goal
+
+abbrev pub invariant-files : goal.invariant-files
+invariant-files l = max l.greatest (greatest_in l.stream (drop l.file-index l.file-items)) ≡ greatest_in l.stream l.file-items
