@@ -1,0 +1,6 @@
+-- What public clauses cite.
+pub mod Calls
+pub mod Files
+pub mod Laws
+pub mod Places
+pub mod Streams

@@ -1,0 +1,4 @@
+//! Writes filed records into CDR files.
+#![tactic(auto)]
+
+mod laws;
