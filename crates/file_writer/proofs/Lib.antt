@@ -1,2 +1,4 @@
 pub mod FilesLemmas
 pub mod CallsLemmas
+pub mod StreamsLemmas
+pub mod HoldingLemmas

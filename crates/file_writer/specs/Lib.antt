@@ -1,6 +1,7 @@
 -- What public clauses cite.
 pub mod Calls
 pub mod Files
+pub mod Holding
 pub mod Laws
 pub mod Places
 pub mod Streams
