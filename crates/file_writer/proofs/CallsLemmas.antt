@@ -72,9 +72,9 @@ at-first : (settings : FileSettings) (s sealed closed : ℕ) (cuts : Cuts) (run 
 at-first settings s sealed closed cuts run item division =
     let next : ℕ = closed_by cuts.before closed in
     seals-three (closing settings s sealed (closed + 1) cuts.before run) (appending sealed (next + 1) (still cuts.before run []) item)
-        (closing settings s sealed (next + 1) cuts.after (joined cuts.before run item)) _ (seals-appending sealed (next + 1) (still cuts.before run []) item)
+    (closing settings s sealed (next + 1) cuts.after (joined cuts.before run item)) _ (seals-appending sealed (next + 1) (still cuts.before run []) item)
     ∙ ap (λ (files : List SealedFile). seals (closing settings s sealed (closed + 1) cuts.before run) ++ files)
-        (closing-first settings s sealed next cuts.after (joined cuts.before run item) division)
+    (closing-first settings s sealed next cuts.after (joined cuts.before run item) division)
     ∙ closing-first settings s sealed closed cuts.before run (closed_first cuts.after (joined cuts.before run item) division)
 
 -- ---- items of a stream
@@ -92,5 +92,5 @@ seals-calls_from settings s sealed closed run (item ∷ items) =
     let after : ℕ = closed_by cuts.after (closed_by cuts.before closed) in
     seals-append (calls_at settings.file s sealed cuts closed run item) (calls_from settings s sealed after (run_after cuts run item) items)
     ∙ ap (λ (files : List SealedFile). seals (calls_at settings.file s sealed cuts closed run item) ++ files)
-        (seals-calls_from settings s sealed after (run_after cuts run item) items)
+    (seals-calls_from settings s sealed after (run_after cuts run item) items)
     ∙ at-first settings.file s sealed closed cuts run item (divided_from settings.limits (run_after cuts run item) items)

@@ -33,7 +33,7 @@ take_on : {A : Type 0} (xs ys made left : List A) (k : ℕ) → made ++ left ≡
 take_on {A} xs ys made left k e =
     sym (take-then k (length made) (xs ++ ys)
     ∙ ap (λ (zs : List A). take k (xs ++ ys) ++ take (length made) zs)
-        (drop-append k xs ys ∙ ap (λ (zs : List A). zs ++ drop (k - length xs) ys) (sym e) ∙ append_assoc made left (drop (k - length xs) ys))
+    (drop-append k xs ys ∙ ap (λ (zs : List A). zs ++ drop (k - length xs) ys) (sym e) ∙ append_assoc made left (drop (k - length xs) ys))
     ∙ ap (λ (zs : List A). take k (xs ++ ys) ++ zs) (take-append_seam made (left ++ drop (k - length xs) ys)))
 
 pub take_more : {A : Type 0} (front xs ys made left : List A) (k : ℕ) → made ++ left ≡ drop k xs
@@ -53,19 +53,20 @@ counted_from c n = omega arith
 -- the files of items, of more of them, and of the rest
 three_parts : DivisionGoesOn → (settings : Settings) (closed : ℕ → ℕ) (items more rest : List Item) (s : ℕ)
     → (later : List SealedFile) × (files_after settings closed s ((items ++ more) ++ rest)
-        ≡ files_after settings closed s items ++ (files_from settings.file s (closed s + closed_of settings s items + 1) (later_division settings s items more).closed ++ later))
+    ≡ files_after settings closed s items ++ (files_from settings.file s (closed s + closed_of settings s items + 1) (later_division settings s items more).closed ++ later))
 three_parts law settings closed items more rest s =
     let first : List (ClosedRun (List ℕ)) = (stream_division settings s items).closed in
     let middle : List (ClosedRun (List ℕ)) = (later_division settings s items more).closed in
     let last : List (ClosedRun (List ℕ)) = (later_division settings s (items ++ more) rest).closed in
-    let from : ℕ = closed s + 1 in
-    (files_from settings.file s (from + length (first ++ middle)) last,
-    ap (λ (d : Division (List ℕ)). files_from settings.file s from d.closed) (division-append law settings s (items ++ more) rest)
-    ∙ ap (λ (d : Division (List ℕ)). files_from settings.file s from (d.closed ++ last)) (division-append law settings s items more)
-    ∙ files_from-append settings.file s from (first ++ middle) last
-    ∙ ap (λ (files : List SealedFile). files ++ files_from settings.file s (from + length (first ++ middle)) last) (files_from-append settings.file s from first middle)
-    ∙ append_assoc (files_from settings.file s from first) (files_from settings.file s (from + length first) middle) (files_from settings.file s (from + length (first ++ middle)) last)
-    ∙ ap (λ (n : ℕ). files_from settings.file s from first ++ (files_from settings.file s n middle ++ files_from settings.file s (from + length (first ++ middle)) last)) (counted_from (closed s) (length first)))
+    let from : ℕ = closed s + 1 in (
+      files_from settings.file s (from + length (first ++ middle)) last,
+      ap (λ (d : Division (List ℕ)). files_from settings.file s from d.closed) (division-append law settings s (items ++ more) rest)
+          ∙ ap (λ (d : Division (List ℕ)). files_from settings.file s from (d.closed ++ last)) (division-append law settings s items more)
+          ∙ files_from-append settings.file s from (first ++ middle) last
+          ∙ ap (λ (files : List SealedFile). files ++ files_from settings.file s (from + length (first ++ middle)) last) (files_from-append settings.file s from first middle)
+          ∙ append_assoc (files_from settings.file s from first) (files_from settings.file s (from + length first) middle) (files_from settings.file s (from + length (first ++ middle)) last)
+          ∙ ap (λ (n : ℕ). files_from settings.file s from first ++ (files_from settings.file s n middle ++ files_from settings.file s (from + length (first ++ middle)) last)) (counted_from (closed s) (length first)),
+    )
 
 -- how many files stand before any call, and after all of them
 first_count : (sealed closed n : ℕ) → max sealed (closed + n) - closed ≡ n + (sealed - (closed + n))
@@ -127,5 +128,5 @@ module _ (law : DivisionGoesOn) (settings : Settings) (closed sealed : ℕ → �
   holds-all made files s h e stands =
       holds-some made [] files s h e stands
       ∙ ap (λ (n : ℕ). before s ++ take n (files_after settings closed s all))
-          (ap (λ (n : ℕ). closed_of settings s items + past s + n) (made_all made s h e)
-          ∙ last_count (sealed s) (closed s) (closed_of settings s items) (length (later_division settings s items more).closed) (closed_of settings s (items ++ more)) (closed_of-append law settings s items more))
+      (ap (λ (n : ℕ). closed_of settings s items + past s + n) (made_all made s h e)
+      ∙ last_count (sealed s) (closed s) (closed_of settings s items) (length (later_division settings s items more).closed) (closed_of settings s (items ++ more)) (closed_of-append law settings s items more))

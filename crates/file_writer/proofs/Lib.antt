@@ -2,3 +2,4 @@ pub mod FilesLemmas
 pub mod CallsLemmas
 pub mod StreamsLemmas
 pub mod HoldingLemmas
+pub mod MakingLemmas

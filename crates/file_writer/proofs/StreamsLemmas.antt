@@ -59,7 +59,7 @@ pub later-closed : DivisionGoesOn → (settings : Settings) (s : ℕ) (before xs
 later-closed law settings s before xs ys =
     ap (λ (d : Division (List ℕ)). d.closed) (later-append law settings s before xs ys)
     ∙ ap (λ (run : List (Filed (List ℕ))). (later_division settings s before xs).closed ++ (divided_from settings.limits run (stream_items settings.rules s ys)).closed)
-        (sym (left_open-append law settings s before xs))
+    (sym (left_open-append law settings s before xs))
 
 -- ---- one item
 
@@ -94,7 +94,7 @@ module _ (settings : Settings) (closed sealed : ℕ → ℕ) (before : List Item
   below-none item zero s h = refl
   below-none item (suc n) s h =
       in_both s (calls_below n settings closed sealed before item) (stream_calls settings closed sealed before (item ∷ []) n) [] []
-          (below-none item n s (omega arith)) (other s n (item ∷ []) (λ e. absurd (omega arith)))
+      (below-none item n s (omega arith)) (other s n (item ∷ []) (λ e. absurd (omega arith)))
 
   add_none : (files : List SealedFile) → files ++ [] ≡ files
   add_none [] = refl
@@ -106,12 +106,12 @@ module _ (settings : Settings) (closed sealed : ℕ → ℕ) (before : List Item
       elim (up_to s n h) [
         | inl less ↦
             in_both s (calls_below n settings closed sealed before item) (stream_calls settings closed sealed before (item ∷ []) n) _ []
-                (below-some item n s less) (other s n (item ∷ []) (λ e. absurd (omega arith)))
+            (below-some item n s less) (other s n (item ∷ []) (λ e. absurd (omega arith)))
             ∙ add_none (seals (stream_calls settings closed sealed before (item ∷ []) s))
         | inr same ↦
             in_both s (calls_below n settings closed sealed before item) (stream_calls settings closed sealed before (item ∷ []) n) [] _
-                (below-none item n s (omega arith))
-                (ap (λ (m : ℕ). in_stream s (seals (stream_calls settings closed sealed before (item ∷ []) m))) (sym same) ∙ own s (item ∷ []))
+            (below-none item n s (omega arith))
+            (ap (λ (m : ℕ). in_stream s (seals (stream_calls settings closed sealed before (item ∷ []) m))) (sym same) ∙ own s (item ∷ []))
       ]
 
   -- ---- some files, and later ones
@@ -126,7 +126,7 @@ module _ (settings : Settings) (closed sealed : ℕ → ℕ) (before : List Item
       ≡ drop (sealed - c) (files_from file s (c + 1) (xs ++ ys))
   in_turn file s sealed c xs ys =
       ap (λ (n : ℕ). drop (sealed - c) (files_from file s (c + 1) xs) ++ drop n (files_from file s (c + length xs + 1) ys))
-          (sym (level sealed c (length xs)) ∙ ap (λ (n : ℕ). sealed - c - n) (sym (length-files_from file s (c + 1) xs)))
+      (sym (level sealed c (length xs)) ∙ ap (λ (n : ℕ). sealed - c - n) (sym (length-files_from file s (c + 1) xs)))
       ∙ ap (λ (m : ℕ). drop (sealed - c) (files_from file s (c + 1) xs) ++ drop (sealed - c - length (files_from file s (c + 1) xs)) (files_from file s m ys)) (sym (numbered c (length xs)))
       ∙ sym (drop-append (sealed - c) (files_from file s (c + 1) xs) (files_from file s (c + 1 + length xs) ys))
       ∙ ap (λ (files : List SealedFile). drop (sealed - c) files) (sym (files_from-append file s (c + 1) xs ys))
@@ -145,9 +145,9 @@ seals-calls_of law settings closed sealed before (item ∷ items) s h =
     let here : List (ClosedRun (List ℕ)) = (later_division settings s before (item ∷ [])).closed in
     let later : List (ClosedRun (List ℕ)) = (later_division settings s (before ++ item ∷ []) items).closed in
     in_both settings closed sealed before s (calls_below stream_count settings closed sealed before item) (calls_of settings closed sealed (before ++ item ∷ []) items) _ _
-        (below-some settings closed sealed before item stream_count s h ∙ sealed_by settings closed sealed before s (item ∷ []))
-        (seals-calls_of law settings closed sealed (before ++ item ∷ []) items s h)
+    (below-some settings closed sealed before item stream_count s h ∙ sealed_by settings closed sealed before s (item ∷ []))
+    (seals-calls_of law settings closed sealed (before ++ item ∷ []) items s h)
     ∙ ap (λ (n : ℕ). drop (sealed s - c) (files_from settings.file s (c + 1) here) ++ drop (sealed s - n) (files_from settings.file s (n + 1) later))
-        (sum_of (closed s) _ _ _ (closed_of-append law settings s before (item ∷ [])))
+    (sum_of (closed s) _ _ _ (closed_of-append law settings s before (item ∷ [])))
     ∙ in_turn settings closed sealed before settings.file s (sealed s) c here later
     ∙ ap (λ (runs : List (ClosedRun (List ℕ))). drop (sealed s - c) (files_from settings.file s (c + 1) runs)) (sym (later-closed law settings s before (item ∷ []) items))

@@ -53,7 +53,7 @@ abbrev pub calls_at : FileSettings → ℕ → ℕ → Cuts → ℕ → List (Fi
 calls_at settings s sealed cuts closed run item =
     closing settings s sealed (closed + 1) cuts.before run
     ++ (appending sealed (closed_by cuts.before closed + 1) (still cuts.before run []) item
-        ++ closing settings s sealed (closed_by cuts.before closed + 1) cuts.after (joined cuts.before run item))
+    ++ closing settings s sealed (closed_by cuts.before closed + 1) cuts.after (joined cuts.before run item))
 
 abbrev pub calls_from : Settings → ℕ → ℕ → ℕ → List (Filed (List ℕ)) → List (stream.Item (List ℕ)) → List Call
 calls_from settings s sealed closed run [] = []
@@ -68,7 +68,7 @@ calls_from settings s sealed closed run (item ∷ items) =
 abbrev pub stream_calls : Settings → (ℕ → ℕ) → (ℕ → ℕ) → List Item → List Item → ℕ → List Call
 stream_calls settings closed sealed before items s =
     calls_from settings s (sealed s) (closed s + closed_of settings s before)
-        (stream_division settings s before).left_open (stream_items settings.rules s items)
+    (stream_division settings s before).left_open (stream_items settings.rules s items)
 
 -- those of the first streams for one item, stream after stream
 abbrev pub calls_below : ℕ → Settings → (ℕ → ℕ) → (ℕ → ℕ) → List Item → Item → List Call

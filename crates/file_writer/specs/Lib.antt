@@ -3,5 +3,6 @@ pub mod Calls
 pub mod Files
 pub mod Holding
 pub mod Laws
+pub mod Making
 pub mod Places
 pub mod Streams
