@@ -14,6 +14,10 @@ pub record UnsealedFile : Type 0 where
   -- whether a sync succeeded since the last write
   pub is_synced : Bool
 
+-- the unsealed file of a stream, where it has one
+abbrev pub Unsealed : Type 0
+Unsealed = Option UnsealedFile
+
 -- none of these files has this name
 abbrev pub IsFresh : FileName → List SealedFile → Type 0
 IsFresh name files = All (λ f. f.name ≢ name) files
@@ -40,6 +44,6 @@ file_named name [] = None
 file_named name (f ∷ files) = if same_name f.name name then Some f.octets else file_named name files
 
 -- The file that a seal of this one makes stand: none where it wasn't synced since the last write.
-abbrev pub sealed_as : Option UnsealedFile → List SealedFile
+abbrev pub sealed_as : Unsealed → List SealedFile
 sealed_as None = []
 sealed_as (Some f) = if f.is_synced then record { name = f.name; octets = f.octets } ∷ [] else []

@@ -59,6 +59,7 @@ impl Contents {
     {
         let place = name.stream as usize;
         grow(&mut self.unsealed, place)?;
+        // Room for the seal of each unsealed file; where there is as much, nothing grows.
         self.sealed.reserve(self.unsealed.len())?;
         self.unsealed[place] = Some(OpenFile::new(self.alloc, name));
         Ok(())

@@ -59,7 +59,10 @@ impl OpenFile {
     pub fn write(&mut self, at: usize, from: &[u8]) -> Result<(), AllocError>
         requires { at ≤ length self.old.octets }
         ensures ok { OnOk result (self.new ≡ record {
-            name = self.old.name; octets = overwritten self.old.octets at from.now; is_synced = false }) }
+          name = self.old.name;
+          octets = overwritten self.old.octets at from.now;
+          is_synced = false;
+        }) }
         ensures err { OnErr result (self.new ≡ self.old) }
     {
         put(&mut self.octets, at, from)?;

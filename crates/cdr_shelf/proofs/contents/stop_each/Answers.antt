@@ -5,4 +5,9 @@ use Rattle.cdr_shelf.specs.Steps.{left_by}
 use Rattle.cdr_shelf.proofs.contents.stop_each.Goals as goal
 
 pub places-preserved : goal.places-preserved
-places-preserved c = rw c.stop_slot.ensures (map_over_more (left_by c.args.outcome) c.args.places.now c.places.places c.places.place-index _ c.places-test.true c.places.invariant (get_or_default c.places.places c.places.place-index _ _ (omega arith)))
+places-preserved c =
+    let places = c.places.places in
+    let at = c.places.place-index in
+    let here = get_or_default places at _ _ (omega arith) in
+    rw c.stop_slot.ensures
+    (map_over_more (left_by c.args.outcome) c.args.places.now places at _ c.places-test.true c.places.invariant here)

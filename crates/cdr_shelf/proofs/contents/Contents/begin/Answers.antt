@@ -7,4 +7,5 @@ pub invariant_of-self-2 : goal.invariant_of-self-2
 invariant_of-self-2 c =
     let places = c.grow.new.places.items in
     let begun = set places c.args.name.stream (Some c.new.result) in
-    omega (arith, there-le-length begun, length-set places c.args.name.stream (Some c.new.result), c.in_ok-reserve.ensures.ok, c.len.ensures)
+    let as_many = length-set places c.args.name.stream (Some c.new.result) in
+    omega (arith, there-le-length begun, as_many, c.in_ok-reserve.ensures.ok, c.len.ensures)
