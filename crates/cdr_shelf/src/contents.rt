@@ -1,6 +1,6 @@
 // What a shelf in memory holds.
 ghost use Rattle.std.specs.Prelude.{◌≡◌, ◌↔◌, ◌++◌, ◌+◌, ◌<◌, ◌≤◌, ℕ, [], map, length, OnOk, OnErr, IsNone, None, get_or, sum_by, vec_len, vec_capacity, option_map};
-ghost use Rattle.cdr_shelf.specs.Files.{IsFresh, sealed_as, greatest_in, file_named, number_in};
+ghost use Rattle.cdr_shelf.specs.Files.{IsFresh, sealed_as, greatest_in, file_named};
 ghost use Rattle.cdr_shelf.specs.Steps.{TakesWrite, begun, written, synced, left_unsealed, left_by, StepsAt};
 ghost use Rattle.cdr_shelf.specs.Holding.{unsealed_in, is_there};
 

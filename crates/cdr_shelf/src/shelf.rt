@@ -1,5 +1,5 @@
 // A shelf as a writer of files sees it: sealed files, which stay, and one file per stream that is being written.
-ghost use Rattle.std.specs.Prelude.{◌≡◌, ◌++◌, ◌⊎◌, ℕ, List, Bool, IsTrue, IsSome, IfOk, OnOk, Option, true, false, codes, Some};
+ghost use Rattle.std.specs.Prelude.{◌≡◌, ◌++◌, ◌⊎◌, ℕ, List, Bool, IsTrue, IsSome, IfOk, OnOk, Option, true, false};
 ghost use Rattle.area_disk.specs.Disk.{counted, HasCause};
 ghost use Rattle.area_disk.specs.Plan.{Schedule, next_fate};
 ghost use Rattle.cdr_shelf.specs.Files.{SealedFile, UnsealedFile, IsFresh, greatest_in, sealed_as};

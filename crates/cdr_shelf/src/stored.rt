@@ -1,5 +1,5 @@
 // The files of a shelf in memory: a sealed one, and one that is being written.
-ghost use Rattle.std.specs.Prelude.{◌≡◌, ◌≤◌, [], ◌∷◌, length, OnOk, OnErr, true, false, Some, option_to_list};
+ghost use Rattle.std.specs.Prelude.{◌≡◌, ◌≤◌, [], length, OnOk, OnErr, true, false, Some, option_to_list};
 ghost use Rattle.area_disk.specs.Disk.{overwritten};
 ghost use Rattle.cdr_shelf.specs.Files.{sealed_as};
 ghost use Rattle.cdr_shelf.specs.Steps.{TakesWrite, written, synced, left_unsealed, left_by, rotten};

@@ -1,5 +1,5 @@
 // Files written to shelves in memory, with values worked out by hand.
-ghost use Rattle.std.specs.Prelude.{◌≡◌, IsTrue, IfOk, OnOk, Some, true};
+ghost use Rattle.std.specs.Prelude.{IsTrue};
 ghost use Rattle.cdr_shelf.specs.Files.{IsFresh};
 
 use super::*;
