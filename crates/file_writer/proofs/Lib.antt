@@ -3,3 +3,4 @@ pub mod CallsLemmas
 pub mod StreamsLemmas
 pub mod HoldingLemmas
 pub mod MakingLemmas
+pub mod WritingLemmas

@@ -16,7 +16,10 @@ use Rattle.cdr_shelf.specs.Files.{SealedFile}
 use Rattle.cdr_shelf.specs.Steps.{CallAsPlanned, is_done}
 use Rattle.cdr_shelf.specs.declared.shelf.Shelf.{Ghosts}
 use Rattle.file_writer.specs.Calls.{Call, Writes, Seals, seals}
-use Rattle.file_writer.specs.Making.{AllRan, Comes, Ending, Failed, HasFaults, HasSealed, Makes, OneFailed, OneStopped, Starved, Went, calls_after, done_at, is_failed, is_starved}
+use Rattle.file_writer.specs.Making.{AllRan, Comes, Ending, Failed, HasFaults, HasSealed, Makes, OneFailed, OneStopped, Starved, Went, calls_after, done_at, ending_at, ending_of, is_failed, is_starved}
+use Rattle.std.specs.Result.{IsErr, IsErrAnd}
+use Rattle.file_writer.specs.declared.fault.ShelfFault.{ShelfFault}
+use Rattle.file_writer.specs.declared.fault.ShelfFault.TheVariants.{Device, NoMemory}
 use Rattle.file_writer.proofs.CallsLemmas.{seals-append}
 
 -- ---- one call
@@ -325,3 +328,17 @@ makes_none tells here = record {
   faults = record { later = omega arith; failed = λ e. absurd (cc) };
   planned = λ told memory a armed. record { runs = refl; is_armed = armed };
 }
+
+-- ---- by the results of functions
+
+ending_err : (e : ShelfFault) → ending_at e ≢ Went
+ending_err Device same = absurd (cc)
+ending_err NoMemory same = absurd (cc)
+
+-- the first calls didn't all run, and so the function ended
+pub stopped_at : {A U : Type 0} (tells : Ghosts A) (xs ys : List Call) (old new : A) (q : Result U ShelfFault) (e : ShelfFault)
+    → IsErr q × IsErrAnd q (λ x. x ≡ e) → Makes tells xs (ending_at e) old new → Makes tells (xs ++ ys) (ending_of q) old new
+stopped_at tells xs ys old new (Ok x) e h first = absurd h.1
+stopped_at tells xs ys old new (Err x) e h first =
+    subst (λ (fault : ShelfFault). Makes tells (xs ++ ys) (ending_at fault) old new) (sym h.1)
+    (makes_stop tells xs ys (ending_at e) old new (ending_err e) first)

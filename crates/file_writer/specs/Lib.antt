@@ -6,3 +6,4 @@ pub mod Laws
 pub mod Making
 pub mod Places
 pub mod Streams
+pub mod Writing

@@ -18,10 +18,13 @@ pub data Ending : Type 0 where
   Failed : Ending
   Starved : Ending
 
+abbrev pub ending_at : ShelfFault → Ending
+ending_at Device = Failed
+ending_at NoMemory = Starved
+
 abbrev pub ending_of : {T : Type 0} → Result T ShelfFault → Ending
 ending_of (Ok x) = Went
-ending_of (Err Device) = Failed
-ending_of (Err NoMemory) = Starved
+ending_of (Err fault) = ending_at fault
 
 -- there was memory for each call
 abbrev pub is_starved : Ending → Bool

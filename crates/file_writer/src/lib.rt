@@ -2,7 +2,10 @@
 #![tactic(auto)]
 
 mod fault;
+mod gateway;
 mod laws;
+mod one_file;
+mod progress;
 mod shelf_calls;
 
 pub use fault::ShelfFault;
