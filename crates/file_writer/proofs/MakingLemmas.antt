@@ -342,3 +342,9 @@ stopped_at tells xs ys old new (Ok x) e h first = absurd h.1
 stopped_at tells xs ys old new (Err x) e h first =
     subst (λ (fault : ShelfFault). Makes tells (xs ++ ys) (ending_at fault) old new) (sym h.1)
     (makes_stop tells xs ys (ending_at e) old new (ending_err e) first)
+
+-- the last calls didn't all run, and so the function ended
+pub ended_at : {A U : Type 0} (tells : Ghosts A) (xs : List Call) (old new : A) (q : Result U ShelfFault) (e : ShelfFault)
+    → IsErr q × IsErrAnd q (λ x. x ≡ e) → Makes tells xs (ending_at e) old new → Makes tells xs (ending_of q) old new
+ended_at tells xs old new (Ok x) e h made = absurd h.1
+ended_at tells xs old new (Err x) e h made = subst (λ (fault : ShelfFault). Makes tells xs (ending_at fault) old new) (sym h.1) made
