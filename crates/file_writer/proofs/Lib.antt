@@ -4,3 +4,4 @@ pub mod StreamsLemmas
 pub mod HoldingLemmas
 pub mod MakingLemmas
 pub mod WritingLemmas
+pub mod FollowingLemmas

@@ -197,7 +197,7 @@ take-length (x ∷ xs) = ap (λ (ys : List Call). x ∷ ys) (take-length xs)
 
 module _ {A : Type 0} (tells : Ghosts A) (xs ys : List Call) where
   -- the files after calls that all ran
-  all_sealed : (old new : A) → Makes tells xs Went old new → IsTrue tells.tells_files → tells.files new ≡ tells.files old ++ seals xs
+  pub all_sealed : (old new : A) → Makes tells xs Went old new → IsTrue tells.tells_files → tells.files new ≡ tells.files old ++ seals xs
   all_sealed old new made told =
       (made.sealed told).files
       ∙ ap (λ (n : ℕ). tells.files old ++ seals (take n xs)) ((made.sealed told).each refl ∙ made.all refl)

@@ -89,7 +89,7 @@ sealed_of name n header (Some file) v w h long e f =
 
 -- ---- names
 
-own_number : (s n : ℕ) → number_in s (record { stream = s; sequence = n }) ≡ n
+pub own_number : (s n : ℕ) → number_in s (record { stream = s; sequence = n }) ≡ n
 own_number s n = ap (λ (b : Bool). if b then n else 0) (same_stream s)
   where
     same_stream : (k : ℕ) → (k == k) ≡ true

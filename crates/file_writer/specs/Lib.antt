@@ -1,6 +1,7 @@
 -- What public clauses cite.
 pub mod Calls
 pub mod Files
+pub mod Following
 pub mod Holding
 pub mod Laws
 pub mod Making

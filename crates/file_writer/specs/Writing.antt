@@ -130,15 +130,14 @@ weight_of file = file.closed + open_count file.growing
 abbrev pub filed_of : CdrKind → List ℕ → ℕ → FiledRecord
 filed_of kind octets moment = record { kind = kind; octets = octets; moment = moment }
 
+abbrev pub HasKind : Option RunFacts → Type 0
+HasKind None = Unit {0}
+HasKind (Some run) = IsCdrKind run.kind
+
 -- What is kept of an open file is within its bounds: its size is below the greatest limit.
 abbrev pub IsBounded : Option RunFacts → Type 0
 IsBounded None = Unit {0}
 IsBounded (Some run) = IsCdrKind run.kind × (run.octets < 2 ^ 32 - 2 ^ 17) × (run.count < 2 ^ 32)
-
--- A file that isn't sealed yet has these octets behind its header.
-abbrev pub HasBody : Bool → List ℕ → Option UnsealedFile → Type 0
-HasBody true octets u = Unit {0}
-HasBody false octets u = body_of u ≡ octets
 
 -- A record more stands at the end of the file that is written.
 abbrev pub GrownWhere : Bool → FileName → Option RunFacts → FiledRecord → Option UnsealedFile → Option UnsealedFile → Type 0

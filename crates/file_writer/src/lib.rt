@@ -7,5 +7,6 @@ mod laws;
 mod one_file;
 mod progress;
 mod shelf_calls;
+mod stream;
 
 pub use fault::ShelfFault;

@@ -18,7 +18,7 @@ use gw_base::CdrKind;
 /// Begins a file, with a header that says its first record alone.
 pub(crate) fn begin_file<F: Shelf>(
     shelf: &mut F,
-    gateway: Gateway,
+    gateway: &Gateway,
     name: FileName,
     first: &RunFacts,
 ) -> Result<(), ShelfFault>
@@ -70,14 +70,14 @@ pub(crate) fn append_cdr<F: Shelf>(
 /// Closes the file of some records for a reason: its header is written again, and it is sealed.
 pub(crate) fn close_file<F: Shelf>(
     shelf: &mut F,
-    gateway: Gateway,
+    gateway: &Gateway,
     name: FileName,
     run: RunFacts,
     reason: ClosureReason,
 ) -> Result<(), ShelfFault>
     requires open { IsTrue F.tells_files → IsOpenAt name run.octets (F.unsealed shelf.old name.stream) }
     requires kind { IsCdrKind run.kind }
-    ensures makes { let file = closed_file (settings_of gateway) name reason (Some run) (F.unsealed shelf.old name.stream) in
+    ensures makes { let file = closed_file (settings_of gateway.now) name reason (Some run) (F.unsealed shelf.old name.stream) in
         Makes F.Shelf (Writes ∷ Writes ∷ Seals file ∷ []) (ending_of result) shelf.old shelf.new }
     ensures others { IsTrue F.tells_files → OnOk result (OthersStay name.stream (F.unsealed shelf.old) (F.unsealed shelf.new)) }
 {

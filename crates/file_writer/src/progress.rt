@@ -3,7 +3,7 @@ ghost use Rattle.cdr_file.specs.CdrFile.{cdr_octets};
 ghost use Rattle.cdr_shelf.specs.Files.{IsFresh, greatest_in};
 ghost use Rattle.gw_base.specs.CdrKind.{IsCdrKind};
 ghost use Rattle.file_writer.specs.Making.{Makes, ending_of};
-ghost use Rattle.file_writer.specs.Writing.{ClosesOpen, IsBounded, IsReady, OthersStay, StillOpen, appending_of, beginning_of, body_behind, body_length, closed_progress, closing_of, filed_of, grown, grown_facts, IsBegun, IsGrown, ReadyWhere, settings_of};
+ghost use Rattle.file_writer.specs.Writing.{ClosesOpen, HasKind, IsBounded, IsReady, OthersStay, StillOpen, appending_of, beginning_of, body_behind, body_length, closed_progress, closing_of, filed_of, grown, grown_facts, IsBegun, IsGrown, ReadyWhere, settings_of};
 
 use crate::fault::ShelfFault;
 use crate::gateway::Gateway;
@@ -67,7 +67,7 @@ fn length_of(run: RunFacts) -> u32
 /// Begins the file of a stream where none is open. It answers how many octets the open file has.
 fn end_of_file<F: Shelf>(
     shelf: &mut F,
-    gateway: Gateway,
+    gateway: &Gateway,
     name: FileName,
     growing: Option<RunFacts>,
     next: &RunFacts,
@@ -95,7 +95,7 @@ fn end_of_file<F: Shelf>(
 /// no call.
 pub(crate) fn append<F: Shelf>(
     shelf: &mut F,
-    gateway: Gateway,
+    gateway: &Gateway,
     stream: u8,
     file: Progress,
     next: NextRecord<'_>,
@@ -145,16 +145,16 @@ pub(crate) fn append<F: Shelf>(
 /// Closes the open file of a stream, if there is a reason to. A file that was sealed before gets no call.
 pub(crate) fn close<F: Shelf>(
     shelf: &mut F,
-    gateway: Gateway,
+    gateway: &Gateway,
     stream: u8,
     file: Progress,
     reason: Option<ClosureReason>,
 ) -> Result<Progress, ShelfFault>
     requires ready { IsTrue F.tells_files → IsReady stream file (F.unsealed shelf.old stream) }
     requires open { ClosesOpen reason file.growing }
-    requires bounded { IsBounded file.growing }
+    requires kind { HasKind file.growing }
     requires few { file.closed + 1 < 2 ^ 32 }
-    ensures makes { Makes F.Shelf (closing_of (settings_of gateway) stream file (F.unsealed shelf.old stream) reason)
+    ensures makes { Makes F.Shelf (closing_of (settings_of gateway.now) stream file (F.unsealed shelf.old stream) reason)
         (ending_of result) shelf.old shelf.new }
     ensures closed { IfOk result (λ later. later ≡ closed_progress reason file) }
     ensures still { IsTrue F.tells_files → OnOk result (StillOpen reason (F.unsealed shelf.old stream) (F.unsealed shelf.new stream)) }

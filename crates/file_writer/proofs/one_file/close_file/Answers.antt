@@ -19,7 +19,7 @@ returns-in_err-sync-clause-makes g c =
 pub returns-clause-makes : goal.returns-clause-makes
 returns-clause-makes g c =
     let long : length c.run_header-header.result ≡ 52 = search rules in
-    let header : List ℕ = header_octets (header_of c.args.run c.args.name.sequence c.args.reason (settings_of c.args.gateway)) in
+    let header : List ℕ = header_octets (header_of c.args.run c.args.name.sequence c.args.reason (settings_of c.args.gateway.now)) in
     let u : Option UnsealedFile = g.F.Shelf.unsealed c.args.shelf.now c.args.name.stream in
     makes_then g.F.Shelf (Writes ∷ Writes ∷ []) (Seals (record { name = c.args.name; octets = header ++ body_of u }) ∷ []) _ _ _ _
         (makes_then g.F.Shelf (Writes ∷ []) (Writes ∷ []) _ _ _ _ c.in_ok-write.ensures.makes c.in_ok-sync.ensures.makes)
