@@ -1,5 +1,5 @@
 -- How a stream's file and what is kept of it go on through closings and records.
-use Rattle.std.proofs.Common.{◌≡◌, ◌≢◌, ℕ, max, take, ◌+◌, ◌-◌, ◌==◌, ◌≤◌, ◌<◌, Bool, true, false, nat_le, if◌then◌else◌, IsTrue, IfOk, List, [], ◌∷◌, ◌++◌, length, map, Option, None, Some, Result, Ok, Err, refl, sym, ap, ◌∙◌, subst, arith}
+use Rattle.std.proofs.Common.{◌≡◌, ◌≢◌, ℕ, max, take, ◌+◌, ◌-◌, ◌==◌, ◌≤◌, ◌<◌, Bool, true, false, nat_le, if◌then◌else◌, IsTrue, IfOk, OnOk, List, [], ◌∷◌, ◌++◌, length, map, Option, None, Some, Result, Ok, Err, refl, sym, ap, ◌∙◌, subst, arith}
 use Rattle.std.specs.Result.{IsErr, IsErrAnd}
 use Rattle.std.proofs.lemmas.Bool.Decides.{nat_tests}
 use Rattle.std.proofs.lemmas.List.{append-nil, map-append}
@@ -340,3 +340,7 @@ record_closes (Some file) kind (Some run) reason pairs e = closes_some reason ru
 
 pub grown_closes : (file later : Progress) (r : FiledRecord) (reason : Option ClosureReason) → later ≡ grown file r → ClosesOpen reason later.growing
 grown_closes file later r reason e = subst (λ (f : Progress). ClosesOpen reason f.growing) (sym e) (closes_some reason (grown_facts file.growing r))
+
+pub no_result : {T : Type 0} (q : Result T ShelfFault) (e : ShelfFault) (P : Type 0) → IsErr q × IsErrAnd q (λ x. x ≡ e) → OnOk q P
+no_result (Ok x) e P h = absurd h.1
+no_result (Err x) e P h = tt

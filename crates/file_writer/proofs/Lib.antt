@@ -5,3 +5,4 @@ pub mod HoldingLemmas
 pub mod MakingLemmas
 pub mod WritingLemmas
 pub mod FollowingLemmas
+pub mod AllLemmas

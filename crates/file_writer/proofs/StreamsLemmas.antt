@@ -91,6 +91,7 @@ module _ (settings : Settings) (closed sealed : ℕ → ℕ) (before : List Item
       ∙ ap (λ (files : List SealedFile). a ++ files) f
 
   below-none : (item : Item) (n s : ℕ) → n ≤ s → in_stream s (seals (calls_below n settings closed sealed before item)) ≡ []
+  unfolding calls_below
   below-none item zero s h = refl
   below-none item (suc n) s h =
       in_both s (calls_below n settings closed sealed before item) (stream_calls settings closed sealed before (item ∷ []) n) [] []
@@ -101,6 +102,7 @@ module _ (settings : Settings) (closed sealed : ℕ → ℕ) (before : List Item
   add_none (file ∷ files) = ap (λ (fs : List SealedFile). file ∷ fs) (add_none files)
 
   below-some : (item : Item) (n s : ℕ) → s < n → in_stream s (seals (calls_below n settings closed sealed before item)) ≡ seals (stream_calls settings closed sealed before (item ∷ []) s)
+  unfolding calls_below
   below-some item zero s h = absurd (omega arith)
   below-some item (suc n) s h =
       elim (up_to s n h) [

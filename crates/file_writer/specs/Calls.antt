@@ -71,7 +71,7 @@ stream_calls settings closed sealed before items s =
     (stream_division settings s before).left_open (stream_items settings.rules s items)
 
 -- those of the first streams for one item, stream after stream
-abbrev pub calls_below : ℕ → Settings → (ℕ → ℕ) → (ℕ → ℕ) → List Item → Item → List Call
+unfoldable pub calls_below : ℕ → Settings → (ℕ → ℕ) → (ℕ → ℕ) → List Item → Item → List Call
 calls_below zero settings closed sealed before item = []
 calls_below (suc s) settings closed sealed before item =
     calls_below s settings closed sealed before item ++ stream_calls settings closed sealed before (item ∷ []) s

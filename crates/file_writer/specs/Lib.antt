@@ -1,4 +1,5 @@
 -- What public clauses cite.
+pub mod AllStreams
 pub mod Calls
 pub mod Files
 pub mod Following

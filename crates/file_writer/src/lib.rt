@@ -1,6 +1,7 @@
 //! Writes filed records into CDR files.
 #![tactic(auto)]
 
+mod all_streams;
 mod fault;
 mod gateway;
 mod laws;
