@@ -1,7 +1,7 @@
 -- One stream of all takes an item, and the others stay.
-use Rattle.std.proofs.Common.{◌≡◌, ◌≢◌, ◌⊎◌, inl, inr, ℕ, zero, suc, ◌+◌, ◌<◌, ◌≤◌, ◌==◌, Bool, true, false, nat_lt, IsTrue, IfOk, OnOk, List, [], ◌∷◌, ◌++◌, length, Option, None, Some, Result, Ok, Err, slice_index_or, slice_set, refl, sym, ap, ◌∙◌, subst, arith, append_assoc, length-append}
+use Rattle.std.proofs.Common.{◌≡◌, ◌≢◌, ◌⊎◌, inl, inr, ℕ, zero, suc, ◌+◌, ◌<◌, ◌≤◌, ◌==◌, Bool, true, false, nat_lt, IsTrue, IfOk, OnOk, List, [], ◌∷◌, ◌++◌, length, take, Option, None, Some, Result, Ok, Err, slice_index_or, slice_set, refl, sym, ap, ◌∙◌, subst, arith, append_assoc, length-append}
 use Rattle.std.proofs.lemmas.Bool.Decides.{nat_tests}
-use Rattle.std.proofs.lemmas.List.{append-nil, get_or-set_other, get_or-set_same}
+use Rattle.std.proofs.lemmas.List.{append-nil, get_or-set_other, get_or-set_same, take_more}
 use Rattle.cdr_file.specs.CdrFile.{FileSettings, run_octets}
 use Rattle.cdr_file.specs.declared.closure.ClosureReason.{ClosureReason}
 use Rattle.cdr_shelf.specs.Files.{UnsealedFile, greatest_in}
@@ -11,14 +11,17 @@ use Rattle.file_rotate.specs.Items.{Filed}
 use Rattle.file_rotate.specs.Items as rotate
 use Rattle.file_rotate.specs.declared.limits.Limits.{Limits}
 use Rattle.gw_base.specs.declared.item.Item.{Item}
-use Rattle.file_writer.specs.AllStreams.{EachAt, StreamAt, mark_told, up_to, with_item}
-use Rattle.file_writer.specs.Calls.{Call, calls_at, calls_below, calls_from, closed_by, stream_calls}
+use Rattle.gw_base.specs.declared.kind.CdrKind.{CdrKind}
+use Rattle.gw_base.specs.declared.tag.Tag.{Tag}
+use Rattle.route_filter.specs.Rules.{stream_of}
+use Rattle.file_writer.specs.AllStreams.{EachAt, GoesTo, StreamAt, mark_told, part_of, up_to, with_item}
+use Rattle.file_writer.specs.Calls.{Call, calls_at, calls_below, calls_from, calls_of, closed_by, stream_calls}
 use Rattle.file_writer.specs.Files.{later_division, records_in}
 use Rattle.file_writer.specs.Following.{BodyWhere, Follows, HasTaken, IsBehind, IsSafe, IsUp, Stays, Takes, mark_item}
 use Rattle.route_filter.specs.declared.rule.Rule.{Rule}
 use Rattle.file_writer.specs.Laws.{DivisionGoesOn}
 use Rattle.file_writer.specs.Making.{Makes, ending_of}
-use Rattle.file_writer.specs.Streams.{Settings, closed_of, stream_count, stream_division, stream_item, stream_items}
+use Rattle.file_writer.specs.Streams.{Settings, closed_of, filed_record, record_if, stream_count, stream_division, stream_item, stream_items}
 use Rattle.file_writer.specs.Writing.{IsReady, is_sealed}
 use Rattle.file_writer.specs.declared.fault.ShelfFault.{ShelfFault}
 use Rattle.file_writer.specs.declared.stream.Stream.{Stream}
@@ -238,3 +241,47 @@ pub below_next : (settings : Settings) (closed sealed : ℕ → ℕ) (before : L
     → calls_below n settings closed sealed before item ++ stream_calls settings closed sealed before (item ∷ []) n ≡ calls_below (n + 1) settings closed sealed before item
 unfolding calls_below
 below_next settings closed sealed before item n = ap (λ (k : ℕ). calls_below k settings closed sealed before item) (one_more n)
+
+-- ---- records, and items one after the other
+
+equal_numbers : (s t : ℕ) → s ≡ t → (t == s) ≡ true
+equal_numbers s t e = grind (arith, nat_tests)
+
+unequal_numbers : (s t : ℕ) → s ≢ t → (t == s) ≡ false
+unequal_numbers s t h = grind (arith, nat_tests)
+
+pub not_here : (rules : List Rule) (kind : CdrKind) (tag : Option Tag) (octets : List ℕ) (moment s t : ℕ) → s ≡ stream_of rules tag kind.format → t ≢ s
+    → stream_item rules t (part_of kind tag octets moment) ≡ []
+not_here rules kind tag octets moment s t e other =
+    ap (λ (b : Bool). record_if b (filed_record kind octets moment)) (unequal_numbers t (stream_of rules tag kind.format) (λ same. other (same ∙ sym e)))
+
+pub goes_to : (rules : List Rule) (kind : CdrKind) (tag : Option Tag) (octets : List ℕ) (moment s : ℕ) → s ≡ stream_of rules tag kind.format
+    → GoesTo rules (part_of kind tag octets moment) s (filed_record kind octets moment)
+goes_to rules kind tag octets moment s e = record {
+  here = ap (λ (b : Bool). record_if b (filed_record kind octets moment)) (equal_numbers s (stream_of rules tag kind.format) e);
+  others = λ t other. not_here rules kind tag octets moment s t e other;
+}
+
+pub calls-append : (settings : Settings) (closed sealed : ℕ → ℕ) (before xs ys : List Item)
+    → calls_of settings closed sealed before (xs ++ ys) ≡ calls_of settings closed sealed before xs ++ calls_of settings closed sealed (before ++ xs) ys
+calls-append settings closed sealed before [] ys = ap (λ (items : List Item). calls_of settings closed sealed items ys) (sym (append-nil before))
+calls-append settings closed sealed before (x ∷ xs) ys =
+    ap (λ (calls : List Call). calls_below stream_count settings closed sealed before x ++ calls)
+        (calls-append settings closed sealed (before ++ x ∷ []) xs ys
+        ∙ ap (λ (items : List Item). calls_of settings closed sealed (before ++ x ∷ []) xs ++ calls_of settings closed sealed items ys) (append_assoc before (x ∷ []) xs))
+    ∙ sym (append_assoc (calls_below stream_count settings closed sealed before x) (calls_of settings closed sealed (before ++ x ∷ []) xs) (calls_of settings closed sealed (before ++ (x ∷ xs)) ys))
+
+pub calls-one : (settings : Settings) (closed sealed : ℕ → ℕ) (before xs : List Item) (x : Item)
+    → calls_of settings closed sealed before xs ++ calls_below stream_count settings closed sealed (before ++ xs) x ≡ calls_of settings closed sealed before (xs ++ x ∷ [])
+calls-one settings closed sealed before xs x =
+    ap (λ (calls : List Call). calls_of settings closed sealed before xs ++ calls) (sym (append-nil (calls_below stream_count settings closed sealed (before ++ xs) x)))
+    ∙ sym (calls-append settings closed sealed before xs (x ∷ []))
+
+pub take_next : (items : List Item) (i : ℕ) (x : Item) → i < length items → x ≡ slice_index_or items i x → take (i + 1) items ≡ take i items ++ x ∷ []
+take_next items i x h e = take_more items i x h ∙ ap (λ (y : Item). take i items ++ y ∷ []) (sym e)
+
+pub take_whole : (items : List Item) (i : ℕ) → length items ≤ i → take i items ≡ items
+take_whole [] zero h = refl
+take_whole [] (suc i) h = refl
+take_whole (x ∷ items) zero h = absurd (omega arith)
+take_whole (x ∷ items) (suc i) h = ap (λ (xs : List Item). x ∷ xs) (take_whole items i (omega arith))

@@ -1,8 +1,11 @@
 -- What is kept of all streams, and the shelf, after items.
-use Rattle.std.specs.Prelude.{◌≡◌, ◌≢◌, ℕ, ◌+◌, ◌-◌, ◌^◌, ◌<◌, ◌≤◌, Bool, true, false, nat_lt, List, [], ◌∷◌, ◌++◌, length, slice_index_or, Result, OnOk}
+use Rattle.std.specs.Prelude.{◌≡◌, ◌≢◌, ℕ, ◌+◌, ◌-◌, ◌^◌, ◌<◌, ◌≤◌, Bool, true, false, nat_lt, List, [], ◌∷◌, ◌++◌, length, take, slice_index_or, Option, Result, OnOk}
 use Rattle.cdr_file.specs.CdrFile.{FileSettings}
 use Rattle.cdr_shelf.specs.declared.shelf.Shelf.{Ghosts}
 use Rattle.file_rotate.specs.Items.{Filed, Record}
+use Rattle.gw_base.specs.CdrKind.{IsCdrKind}
+use Rattle.gw_base.specs.declared.kind.CdrKind.{CdrKind}
+use Rattle.gw_base.specs.declared.tag.Tag.{Tag}
 use Rattle.gw_base.specs.declared.item.Item.{Item}
 use Rattle.gw_base.specs.declared.item.Item.TheVariants as item
 use Rattle.route_filter.specs.declared.rule.Rule.{Rule}
@@ -69,3 +72,21 @@ pub record HasMarked {A : Type 0} (tells : Ghosts A) (file : FileSettings) (item
   pub below : (most : ℕ) → EachBelow most first → EachBelow most streams
   pub takes : (settings : Settings) (closed sealed : ℕ → ℕ) (before : List Item) → settings.file ≡ file → AllAt tells settings closed sealed before first old
       → Makes tells (calls_below n settings closed sealed before item) Went old new × EachAt tells settings closed sealed (up_to n before item) streams new
+
+-- a record that is filed
+abbrev pub part_of : CdrKind → Option Tag → List ℕ → ℕ → Item
+part_of kind tag octets moment = item.Part kind tag octets moment
+
+-- A record has a kind that a header can say, and a length that its CDR's header can say.
+abbrev pub IsFit : Item → Type 0
+IsFit (item.Part kind tag octets moment) = IsCdrKind kind × (length octets < 2 ^ 16)
+IsFit (item.Tick moment) = Unit {0}
+IsFit (item.Close moment) = Unit {0}
+
+-- So many items were taken.
+pub record HasTakenSome {A : Type 0} (tells : Ghosts A) (file : FileSettings) (rules : List Rule) (items : List Item) (n : ℕ) (first streams : List Stream) (old new : A) : Type 0 where
+  pub safe : EachSafe tells streams new
+  pub sixteen : length streams ≡ stream_count
+  pub below : (most : ℕ) → EachBelow most first → EachBelow (most + n) streams
+  pub takes : (settings : Settings) (closed sealed : ℕ → ℕ) (before : List Item) → settings.file ≡ file → settings.rules ≡ rules → AllAt tells settings closed sealed before first old
+      → Makes tells (calls_of settings closed sealed before (take n items)) Went old new × AllAt tells settings closed sealed (before ++ take n items) streams new
