@@ -110,7 +110,7 @@ makes_closing tells settings s run file reason ended old new follows opens made 
     makes_same tells _ _ ended old new (closing_long settings s file (tells.unsealed old s) reason run)
         (λ told. closing_is settings s file (tells.unsealed old s) reason run follows.kept opens (follows.body told)) made
 
-none_body : (b : Bool) (u : Option UnsealedFile) → BodyWhere b None [] u
+pub none_body : (b : Bool) (u : Option UnsealedFile) → BodyWhere b None [] u
 none_body true u = tt
 none_body false u = refl
 

@@ -191,7 +191,7 @@ done_within k Old = omega arith
 done_within k New = omega arith
 done_within k Rot = omega arith
 
-take-length : (xs : List Call) → take (length xs) xs ≡ xs
+pub take-length : (xs : List Call) → take (length xs) xs ≡ xs
 take-length [] = refl
 take-length (x ∷ xs) = ap (λ (ys : List Call). x ∷ ys) (take-length xs)
 

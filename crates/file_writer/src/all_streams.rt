@@ -206,6 +206,7 @@ pub(crate) fn take_all<F: Shelf>(
         (λ s. before ++ items.now) streams.new shelf.old shelf.new result }
     ensures safe { OnOk result (EachSafe F.Shelf streams.new shelf.new) }
     ensures below { (most : ℕ) → EachBelow most streams.old → OnOk result (EachBelow (most + length items.now) streams.new) }
+    ensures sixteen { length streams.new ≡ stream_count }
 {
     for item in items {
         take_item(shelf, gateway, rules, streams, item)?;

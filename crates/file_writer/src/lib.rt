@@ -2,6 +2,7 @@
 #![tactic(auto)]
 
 mod all_streams;
+mod asking;
 mod fault;
 mod gateway;
 mod laws;
@@ -9,5 +10,7 @@ mod one_file;
 mod progress;
 mod shelf_calls;
 mod stream;
+mod writer;
 
 pub use fault::ShelfFault;
+pub use writer::Writer;
