@@ -6,3 +6,4 @@ pub mod MakingLemmas
 pub mod WritingLemmas
 pub mod FollowingLemmas
 pub mod AllLemmas
+pub mod PlacesLemmas

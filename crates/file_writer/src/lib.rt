@@ -4,8 +4,9 @@
 mod all_streams;
 mod fault;
 mod gateway;
-mod laws;
+pub mod laws;
 mod one_file;
+pub mod places;
 mod progress;
 mod shelf_calls;
 mod stream;
