@@ -60,7 +60,7 @@ makes_same tells xs ys ended old new long same made = record {
   faults = made.faults;
   planned = λ told memory a armed.
       comes_same tells xs ys ended made.tried old new same (calls_under a (length ys))
-          (subst (λ (n : ℕ). Comes tells xs ended made.tried old new (calls_under a n)) long (made.planned told memory a armed));
+      (subst (λ (n : ℕ). Comes tells xs ended made.tried old new (calls_under a n)) long (made.planned told memory a armed));
 }
 
 -- ---- closing
@@ -100,7 +100,7 @@ closing_is : (settings : FileSettings) (s : ℕ) (file : Progress) (u : Option U
 closing_is settings s file u None run kept opens body = refl
 closing_is settings s file u (Some reason) run kept opens body =
     same_if (is_sealed file) file.growing (run_octets (records_in run)) u _ _ body
-        (λ stands. file_is settings (name_in s file) reason file.growing (records_in run) u kept opens stands)
+    (λ stands. file_is settings (name_in s file) reason file.growing (records_in run) u kept opens stands)
 
 -- the calls of a closing are those for the run
 pub makes_closing : {A : Type 0} (tells : Ghosts A) (settings : FileSettings) (s : ℕ) (run : List (Filed (List ℕ))) (file : Progress) (reason : Option ClosureReason) (ended : Ending) (old new : A)
@@ -108,7 +108,7 @@ pub makes_closing : {A : Type 0} (tells : Ghosts A) (settings : FileSettings) (s
     → Makes tells (closing settings s file.sealed (file.closed + 1) reason run) ended old new
 makes_closing tells settings s run file reason ended old new follows opens made =
     makes_same tells _ _ ended old new (closing_long settings s file (tells.unsealed old s) reason run)
-        (λ told. closing_is settings s file (tells.unsealed old s) reason run follows.kept opens (follows.body told)) made
+    (λ told. closing_is settings s file (tells.unsealed old s) reason run follows.kept opens (follows.body told)) made
 
 pub none_body : (b : Bool) (u : Option UnsealedFile) → BodyWhere b None [] u
 none_body true u = tt
@@ -190,8 +190,11 @@ greatest_closing : (settings : FileSettings) (s : ℕ) (file : Progress) (u : Op
 greatest_closing settings s file u None files h = omega (arith, greatest_in-append s files [])
 greatest_closing settings s file u (Some reason) files h =
     let f : SealedFile = closed_file settings (name_in s file) reason file.growing u in
-    omega (arith, greatest_in-append s files (seals (closing_of settings s file u (Some reason))),
-        greatest_if (is_sealed file) s (file.closed + 1) f (ap (λ (name : FileName). number_in s name) (name_of_closed settings (name_in s file) reason file.growing u) ∙ own_number s (file.closed + 1)))
+    omega (
+      arith,
+      greatest_in-append s files (seals (closing_of settings s file u (Some reason))),
+      greatest_if (is_sealed file) s (file.closed + 1) f (ap (λ (name : FileName). number_in s name) (name_of_closed settings (name_in s file) reason file.growing u) ∙ own_number s (file.closed + 1)),
+    )
 
 other_number : (s t n : ℕ) → t ≢ s → number_in t (record { stream = s; sequence = n }) ≡ 0
 other_number s t n h = ap (λ (b : Bool). if b then n else 0) (apart s t h)
@@ -204,8 +207,11 @@ greatest_elsewhere : (settings : FileSettings) (s t : ℕ) (file : Progress) (u 
 greatest_elsewhere settings s t file u None files h = omega (arith, greatest_in-append t files [])
 greatest_elsewhere settings s t file u (Some reason) files h =
     let f : SealedFile = closed_file settings (name_in s file) reason file.growing u in
-    omega (arith, greatest_in-append t files (seals (closing_of settings s file u (Some reason))),
-        greatest_if (is_sealed file) t 0 f (ap (λ (name : FileName). number_in t name) (name_of_closed settings (name_in s file) reason file.growing u) ∙ other_number s t (file.closed + 1) h))
+    omega (
+      arith,
+      greatest_in-append t files (seals (closing_of settings s file u (Some reason))),
+      greatest_if (is_sealed file) t 0 f (ap (λ (name : FileName). number_in t name) (name_of_closed settings (name_in s file) reason file.growing u) ∙ other_number s t (file.closed + 1) h),
+    )
 
 seals_if : (b : Bool) (growing : Option RunFacts) → seals (if b then [] else beginning_of growing ++ Writes ∷ Writes ∷ []) ≡ []
 seals_if true growing = refl

@@ -135,9 +135,13 @@ grown_at name growing filed old None new h e f = absurd h
 grown_at name growing filed old (Some file) new h e f =
     let Q : Option UnsealedFile → Type 0 = λ u. IsOpenAt name (grown_facts growing filed).octets u × (body_of u ≡ body_behind growing old ++ cdr_octets filed) in
     subst Q (sym f) (
-      (h.0, longer_by (body_length growing) (cdr_length filed) (length file.octets) (length (file.octets ++ cdr_octets filed)) h.1
-          (length-append file.octets (cdr_octets filed) ∙ ap (λ (n : ℕ). length file.octets + n) (length-cdr_octets filed)) ∙ ap (λ (n : ℕ). 52 + n) (sym (octets_of growing filed))),
-      drop-append-le 52 file.octets (cdr_octets filed) (omega (arith, h.1)) ∙ ap (λ (octets : List ℕ). octets ++ cdr_octets filed) e)
+      (
+        h.0,
+        longer_by (body_length growing) (cdr_length filed) (length file.octets) (length (file.octets ++ cdr_octets filed)) h.1
+            (length-append file.octets (cdr_octets filed) ∙ ap (λ (n : ℕ). length file.octets + n) (length-cdr_octets filed)) ∙ ap (λ (n : ℕ). 52 + n) (sym (octets_of growing filed)),
+      ),
+      drop-append-le 52 file.octets (cdr_octets filed) (omega (arith, h.1)) ∙ ap (λ (octets : List ℕ). octets ++ cdr_octets filed) e,
+    )
   where
     octets_of : (g : Option RunFacts) (r : FiledRecord) → (grown_facts g r).octets ≡ body_length g + cdr_length r
     octets_of None r = sym (zero_plus (cdr_length r))

@@ -81,13 +81,7 @@ pub(crate) fn close_file<F: Shelf>(
         Makes F.Shelf (Writes ∷ Writes ∷ Seals file ∷ []) (ending_of result) shelf.old shelf.new }
     ensures others { IsTrue F.tells_files → OnOk result (OthersStay name.stream (F.unsealed shelf.old) (F.unsealed shelf.new)) }
 {
-    let header = run_header(
-        run,
-        name.sequence,
-        reason,
-        gateway.offset,
-        gateway.address,
-    );
+    let header = run_header(run, name.sequence, reason, gateway.offset, gateway.address);
     write(shelf, name.stream, 0, &header)?;
     sync(shelf, name.stream)?;
     seal(shelf, name.stream)

@@ -23,7 +23,7 @@ returns-clause-appended g c = λ told.
     let long : length c.write_cdr-header.result ≡ 4 = ap (λ (xs : List ℕ). length xs) c.write_cdr-header.ensures ∙ length-cdr_header_octets _ in
     let steps : List ℕ → Type 0 = λ xs. StepsAt c.args.stream (appended (xs ++ c.args.octets.now)) (g.F.Shelf.unsealed c.args.shelf.now) (g.F.Shelf.unsealed c.write-2.new.shelf) in
     on_ok c.write-2.result
-        (λ second. subst steps c.write_cdr-header.ensures
-            (written_both c.args.at c.cdr_header_length.result c.write_cdr-header.result c.args.octets.now (g.F.Shelf.unsealed c.args.shelf.now) (g.F.Shelf.unsealed c.write.new.shelf) (g.F.Shelf.unsealed c.write-2.new.shelf) c.args.stream
-                (long ∙ sym c.cdr_header_length.ensures) (c.requires.end told) (c.in_ok-write.ensures.written told) second))
-        (c.write-2.ensures.written told)
+    (λ second. subst steps c.write_cdr-header.ensures
+    (written_both c.args.at c.cdr_header_length.result c.write_cdr-header.result c.args.octets.now (g.F.Shelf.unsealed c.args.shelf.now) (g.F.Shelf.unsealed c.write.new.shelf) (g.F.Shelf.unsealed c.write-2.new.shelf) c.args.stream
+    (long ∙ sym c.cdr_header_length.ensures) (c.requires.end told) (c.in_ok-write.ensures.written told) second))
+    (c.write-2.ensures.written told)

@@ -14,7 +14,7 @@ returns-in_err-write-clause-makes g c = stopped_at g.F.Shelf (Writes ∷ []) (Wr
 pub returns-in_err-sync-clause-makes : goal.returns-in_err-sync-clause-makes
 returns-in_err-sync-clause-makes g c =
     stopped_at g.F.Shelf (Writes ∷ Writes ∷ []) (Seals _ ∷ []) _ _ _ _ c.from_residual-in_err-sync.ensures
-        (makes_then g.F.Shelf (Writes ∷ []) (Writes ∷ []) _ _ _ _ c.in_ok-write.ensures.makes c.in_err-sync.ensures.makes)
+    (makes_then g.F.Shelf (Writes ∷ []) (Writes ∷ []) _ _ _ _ c.in_ok-write.ensures.makes c.in_err-sync.ensures.makes)
 
 pub returns-clause-makes : goal.returns-clause-makes
 returns-clause-makes g c =
@@ -22,8 +22,8 @@ returns-clause-makes g c =
     let header : List ℕ = header_octets (header_of c.args.run c.args.name.sequence c.args.reason (settings_of c.args.gateway.now)) in
     let u : Option UnsealedFile = g.F.Shelf.unsealed c.args.shelf.now c.args.name.stream in
     makes_then g.F.Shelf (Writes ∷ Writes ∷ []) (Seals (record { name = c.args.name; octets = header ++ body_of u }) ∷ []) _ _ _ _
-        (makes_then g.F.Shelf (Writes ∷ []) (Writes ∷ []) _ _ _ _ c.in_ok-write.ensures.makes c.in_ok-sync.ensures.makes)
-        (c.seal.ensures.makes _ (λ told.
-            sealed_of c.args.name c.args.run.octets c.run_header-header.result u _ _ (c.requires.open told) long
-                (c.in_ok-write.ensures.written told).here (c.in_ok-sync.ensures.synced told).here
-            ∙ ap (λ (octets : List ℕ). named_file c.args.name (octets ++ body_of u) ∷ []) c.run_header-header.ensures))
+    (makes_then g.F.Shelf (Writes ∷ []) (Writes ∷ []) _ _ _ _ c.in_ok-write.ensures.makes c.in_ok-sync.ensures.makes)
+    (c.seal.ensures.makes _ (λ told.
+    sealed_of c.args.name c.args.run.octets c.run_header-header.result u _ _ (c.requires.open told) long
+    (c.in_ok-write.ensures.written told).here (c.in_ok-sync.ensures.synced told).here
+    ∙ ap (λ (octets : List ℕ). named_file c.args.name (octets ++ body_of u) ∷ []) c.run_header-header.ensures))

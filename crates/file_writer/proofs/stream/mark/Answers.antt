@@ -22,18 +22,18 @@ returns-in_err-file-clause-takes g c = λ run behind.
     let reason : Option ClosureReason = c.reason_of.result in
     let is_reason : reason ≡ mark_reason stream.cutter.limits stream.cutter.file c.args.closes c.args.moment = c.reason_of.ensures _ (ap (λ (cut : Cut). cut.before) c.mark-cut.ensures.cut) in
     let cuts : only_before reason ≡ cuts_at stream.cutter.limits run item =
-        ap only_before is_reason
-        ∙ ap (λ (kept : Option OpenFile). mark_cuts stream.cutter.limits kept c.args.closes c.args.moment) behind.cut
-        ∙ sym (mark_cuts_is stream.cutter.limits (file_of run) c.args.closes c.args.moment)
-        ∙ c.cutter_keeps_the_run.ensures.cuts stream.cutter.limits run item in
+    ap only_before is_reason
+    ∙ ap (λ (kept : Option OpenFile). mark_cuts stream.cutter.limits kept c.args.closes c.args.moment) behind.cut
+    ∙ sym (mark_cuts_is stream.cutter.limits (file_of run) c.args.closes c.args.moment)
+    ∙ c.cutter_keeps_the_run.ensures.cuts stream.cutter.limits run item in
     let closes : ClosesOpen reason stream.file.growing = mark_closes stream.cutter.limits stream.cutter.file c.args.closes c.args.moment stream.file.growing reason c.requires.safe.pairs is_reason in
     let calls : closing settings c.args.s stream.file.sealed (stream.file.closed + 1) reason run ≡ calls_at settings c.args.s stream.file.sealed (cuts_at stream.cutter.limits run item) stream.file.closed run item =
-        mark_calls settings c.args.s stream.file.sealed stream.file.closed reason run c.args.closes c.args.moment
-        ∙ ap (λ (at : Cuts). calls_at settings c.args.s stream.file.sealed at stream.file.closed run item) cuts in
+    mark_calls settings c.args.s stream.file.sealed stream.file.closed reason run c.args.closes c.args.moment
+    ∙ ap (λ (at : Cuts). calls_at settings c.args.s stream.file.sealed at stream.file.closed run item) cuts in
     record {
       makes = subst (λ (cs : List Call). Makes g.F.Shelf cs (ending_of c.from_residual.result) c.args.shelf.now c.close.new.shelf) calls
           (makes_closing g.F.Shelf settings c.args.s run stream.file reason _ _ _ behind.follows closes
-              (ended_at g.F.Shelf (closing_of settings c.args.s stream.file (g.F.Shelf.unsealed c.args.shelf.now c.args.s) reason) _ _ _ _ c.from_residual.ensures c.in_err-file.ensures.makes));
+          (ended_at g.F.Shelf (closing_of settings c.args.s stream.file (g.F.Shelf.unsealed c.args.shelf.now c.args.s) reason) _ _ _ _ c.from_residual.ensures c.in_err-file.ensures.makes));
       after = no_answer _ _ _ c.from_residual.ensures;
     }
 
@@ -45,17 +45,17 @@ returns-clause-takes g c = λ run behind.
     let reason : Option ClosureReason = c.reason_of.result in
     let is_reason : reason ≡ mark_reason stream.cutter.limits stream.cutter.file c.args.closes c.args.moment = c.reason_of.ensures _ (ap (λ (cut : Cut). cut.before) c.mark-cut.ensures.cut) in
     let cuts : only_before reason ≡ cuts_at stream.cutter.limits run item =
-        ap only_before is_reason
-        ∙ ap (λ (kept : Option OpenFile). mark_cuts stream.cutter.limits kept c.args.closes c.args.moment) behind.cut
-        ∙ sym (mark_cuts_is stream.cutter.limits (file_of run) c.args.closes c.args.moment)
-        ∙ c.cutter_keeps_the_run.ensures.cuts stream.cutter.limits run item in
+    ap only_before is_reason
+    ∙ ap (λ (kept : Option OpenFile). mark_cuts stream.cutter.limits kept c.args.closes c.args.moment) behind.cut
+    ∙ sym (mark_cuts_is stream.cutter.limits (file_of run) c.args.closes c.args.moment)
+    ∙ c.cutter_keeps_the_run.ensures.cuts stream.cutter.limits run item in
     let closes : ClosesOpen reason stream.file.growing = mark_closes stream.cutter.limits stream.cutter.file c.args.closes c.args.moment stream.file.growing reason c.requires.safe.pairs is_reason in
     let calls : closing settings c.args.s stream.file.sealed (stream.file.closed + 1) reason run ≡ calls_at settings c.args.s stream.file.sealed (cuts_at stream.cutter.limits run item) stream.file.closed run item =
-        mark_calls settings c.args.s stream.file.sealed stream.file.closed reason run c.args.closes c.args.moment
-        ∙ ap (λ (at : Cuts). calls_at settings c.args.s stream.file.sealed at stream.file.closed run item) cuts in
+    mark_calls settings c.args.s stream.file.sealed stream.file.closed reason run c.args.closes c.args.moment
+    ∙ ap (λ (at : Cuts). calls_at settings c.args.s stream.file.sealed at stream.file.closed run item) cuts in
     let file = c.in_ok-file.file in
     let run_is : still reason run [] ≡ run_after (cuts_at stream.cutter.limits run item) run item =
-        mark_run reason run c.args.closes c.args.moment ∙ ap (λ (at : Cuts). run_after at run item) cuts in
+    mark_run reason run c.args.closes c.args.moment ∙ ap (λ (at : Cuts). run_after at run item) cuts in
     record {
       makes = subst (λ (cs : List Call). Makes g.F.Shelf cs Went c.args.shelf.now c.close.new.shelf) calls
           (makes_closing g.F.Shelf settings c.args.s run stream.file reason _ _ _ behind.follows closes c.in_ok-file.ensures.makes);

@@ -30,7 +30,7 @@ returns-in_err-file-clause-takes g c = λ run behind.
     let item : Item (List ℕ) = Record filed in
     let cuts : Cuts = cuts_at stream.cutter.limits run item in
     let e_b : b ≡ cuts.before =
-        is_b ∙ ap (λ (k : Option OpenFile). kind_change k next.kind) behind.cut ∙ ap (λ (at : Cuts). at.before) (c.cutter_keeps_the_run.ensures.cuts stream.cutter.limits run item) in
+    is_b ∙ ap (λ (k : Option OpenFile). kind_change k next.kind) behind.cut ∙ ap (λ (at : Cuts). at.before) (c.cutter_keeps_the_run.ensures.cuts stream.cutter.limits run item) in
     let closes : ClosesOpen b stream.file.growing = record_closes kept next.kind stream.file.growing b c.requires.safe.pairs is_b in
     let n : ℕ = closed_by b stream.file.closed in
     let first : List Call = closing settings s stream.file.sealed (stream.file.closed + 1) b run in
@@ -41,7 +41,7 @@ returns-in_err-file-clause-takes g c = λ run behind.
     record {
       makes = subst of_cuts both
           (stopped_at g.F.Shelf first (second ++ third) _ _ _ _ c.from_residual.ensures
-              (makes_closing g.F.Shelf settings s run stream.file b _ _ _ behind.follows closes c.in_err-file.ensures.makes));
+          (makes_closing g.F.Shelf settings s run stream.file b _ _ _ behind.follows closes c.in_err-file.ensures.makes));
       after = no_answer _ _ _ c.from_residual.ensures;
     }
 
@@ -62,7 +62,7 @@ returns-in_err-file-2-clause-takes g c = λ run behind.
     let item : Item (List ℕ) = Record filed in
     let cuts : Cuts = cuts_at stream.cutter.limits run item in
     let e_b : b ≡ cuts.before =
-        is_b ∙ ap (λ (k : Option OpenFile). kind_change k next.kind) behind.cut ∙ ap (λ (at : Cuts). at.before) (c.cutter_keeps_the_run.ensures.cuts stream.cutter.limits run item) in
+    is_b ∙ ap (λ (k : Option OpenFile). kind_change k next.kind) behind.cut ∙ ap (λ (at : Cuts). at.before) (c.cutter_keeps_the_run.ensures.cuts stream.cutter.limits run item) in
     let closes : ClosesOpen b stream.file.growing = record_closes kept next.kind stream.file.growing b c.requires.safe.pairs is_b in
     let n : ℕ = closed_by b stream.file.closed in
     let first : List Call = closing settings s stream.file.sealed (stream.file.closed + 1) b run in
@@ -79,8 +79,8 @@ returns-in_err-file-2-clause-takes g c = λ run behind.
     record {
       makes = subst of_cuts both
           (makes_then g.F.Shelf first (second ++ third) _ _ _ _ made_1
-              (stopped_at g.F.Shelf second third _ _ _ _ c.from_residual-in_err-file-2.ensures
-                  (subst (λ (cs : List Call). Makes g.F.Shelf cs (ending_at c.in_err-file-2.field-0.0) c.close.new.shelf c.append.new.shelf) calls_2 c.in_err-file-2.ensures.makes)));
+          (stopped_at g.F.Shelf second third _ _ _ _ c.from_residual-in_err-file-2.ensures
+          (subst (λ (cs : List Call). Makes g.F.Shelf cs (ending_at c.in_err-file-2.field-0.0) c.close.new.shelf c.append.new.shelf) calls_2 c.in_err-file-2.ensures.makes)));
       after = no_answer _ _ _ c.from_residual-in_err-file-2.ensures;
     }
 
@@ -97,7 +97,7 @@ returns-in_err-file-3-clause-takes g c = λ run behind.
     let item : Item (List ℕ) = Record filed in
     let cuts : Cuts = cuts_at stream.cutter.limits run item in
     let e_b : b ≡ cuts.before =
-        is_b ∙ ap (λ (k : Option OpenFile). kind_change k next.kind) behind.cut ∙ ap (λ (at : Cuts). at.before) (c.cutter_keeps_the_run.ensures.cuts stream.cutter.limits run item) in
+    is_b ∙ ap (λ (k : Option OpenFile). kind_change k next.kind) behind.cut ∙ ap (λ (at : Cuts). at.before) (c.cutter_keeps_the_run.ensures.cuts stream.cutter.limits run item) in
     let closes : ClosesOpen b stream.file.growing = record_closes kept next.kind stream.file.growing b c.requires.safe.pairs is_b in
     let n : ℕ = closed_by b stream.file.closed in
     let first : List Call = closing settings s stream.file.sealed (stream.file.closed + 1) b run in
@@ -105,8 +105,8 @@ returns-in_err-file-3-clause-takes g c = λ run behind.
     let a : Option ClosureReason = c.reason_of-2.result in
     let is_a : a ≡ limit_reached stream.cutter.limits (file_with kept next.kind (length next.octets) next.moment) = c.reason_of-2.ensures _ (ap (λ (cut : Cut). cut.after) c.put-cut.ensures.cut) in
     let e_a : a ≡ cuts.after =
-        is_a ∙ ap (λ (k : Option OpenFile). limit_reached stream.cutter.limits (file_with k next.kind (length next.octets) next.moment)) behind.cut
-        ∙ ap (λ (at : Cuts). at.after) (c.cutter_keeps_the_run.ensures.cuts stream.cutter.limits run item) in
+    is_a ∙ ap (λ (k : Option OpenFile). limit_reached stream.cutter.limits (file_with k next.kind (length next.octets) next.moment)) behind.cut
+    ∙ ap (λ (at : Cuts). at.after) (c.cutter_keeps_the_run.ensures.cuts stream.cutter.limits run item) in
     let both : ◌≡◌ {A = Cuts} (record { before = b; after = a }) cuts = λ i. record { before = e_b i; after = e_a i } in
     let third : List Call = closing settings s stream.file.sealed (n + 1) a (still b run [] ++ filed ∷ []) in
     let of_cuts : Cuts → Type 0 = λ at. Makes g.F.Shelf (calls_at settings s stream.file.sealed at stream.file.closed run item) (ending_of c.from_residual-in_err-file-3.result) c.args.shelf.now c.close-2.new.shelf in
@@ -127,10 +127,10 @@ returns-in_err-file-3-clause-takes g c = λ run behind.
     record {
       makes = subst of_cuts both
           (makes_then g.F.Shelf first (second ++ third) _ _ _ _ made_1
-              (makes_then g.F.Shelf second third _ _ _ _ made_2
-                  (ended_at g.F.Shelf third _ _ _ _ c.from_residual-in_err-file-3.ensures
-                      (subst (λ (cs : List Call). Makes g.F.Shelf cs (ending_at c.in_err-file-3.field-0.0) c.append.new.shelf c.close-2.new.shelf) calls_3
-                          (makes_closing g.F.Shelf settings s _ later a _ _ _ follows_2 (grown_closes file later next a e_2) c.in_err-file-3.ensures.makes)))));
+          (makes_then g.F.Shelf second third _ _ _ _ made_2
+          (ended_at g.F.Shelf third _ _ _ _ c.from_residual-in_err-file-3.ensures
+          (subst (λ (cs : List Call). Makes g.F.Shelf cs (ending_at c.in_err-file-3.field-0.0) c.append.new.shelf c.close-2.new.shelf) calls_3
+          (makes_closing g.F.Shelf settings s _ later a _ _ _ follows_2 (grown_closes file later next a e_2) c.in_err-file-3.ensures.makes)))));
       after = no_answer _ _ _ c.from_residual-in_err-file-3.ensures;
     }
 
@@ -147,7 +147,7 @@ returns-clause-takes g c = λ run behind.
     let item : Item (List ℕ) = Record filed in
     let cuts : Cuts = cuts_at stream.cutter.limits run item in
     let e_b : b ≡ cuts.before =
-        is_b ∙ ap (λ (k : Option OpenFile). kind_change k next.kind) behind.cut ∙ ap (λ (at : Cuts). at.before) (c.cutter_keeps_the_run.ensures.cuts stream.cutter.limits run item) in
+    is_b ∙ ap (λ (k : Option OpenFile). kind_change k next.kind) behind.cut ∙ ap (λ (at : Cuts). at.before) (c.cutter_keeps_the_run.ensures.cuts stream.cutter.limits run item) in
     let closes : ClosesOpen b stream.file.growing = record_closes kept next.kind stream.file.growing b c.requires.safe.pairs is_b in
     let n : ℕ = closed_by b stream.file.closed in
     let first : List Call = closing settings s stream.file.sealed (stream.file.closed + 1) b run in
@@ -155,8 +155,8 @@ returns-clause-takes g c = λ run behind.
     let a : Option ClosureReason = c.reason_of-2.result in
     let is_a : a ≡ limit_reached stream.cutter.limits (file_with kept next.kind (length next.octets) next.moment) = c.reason_of-2.ensures _ (ap (λ (cut : Cut). cut.after) c.put-cut.ensures.cut) in
     let e_a : a ≡ cuts.after =
-        is_a ∙ ap (λ (k : Option OpenFile). limit_reached stream.cutter.limits (file_with k next.kind (length next.octets) next.moment)) behind.cut
-        ∙ ap (λ (at : Cuts). at.after) (c.cutter_keeps_the_run.ensures.cuts stream.cutter.limits run item) in
+    is_a ∙ ap (λ (k : Option OpenFile). limit_reached stream.cutter.limits (file_with k next.kind (length next.octets) next.moment)) behind.cut
+    ∙ ap (λ (at : Cuts). at.after) (c.cutter_keeps_the_run.ensures.cuts stream.cutter.limits run item) in
     let both : ◌≡◌ {A = Cuts} (record { before = b; after = a }) cuts = λ i. record { before = e_b i; after = e_a i } in
     let third : List Call = closing settings s stream.file.sealed (n + 1) a (still b run [] ++ filed ∷ []) in
     let of_cuts : Cuts → Type 0 = λ at. Makes g.F.Shelf (calls_at settings s stream.file.sealed at stream.file.closed run item) (Went) c.args.shelf.now c.close-2.new.shelf in
@@ -178,9 +178,9 @@ returns-clause-takes g c = λ run behind.
     record {
       makes = subst of_cuts both
           (makes_then g.F.Shelf first (second ++ third) _ _ _ _ made_1
-              (makes_then g.F.Shelf second third _ _ _ _ made_2
-                  (subst (λ (cs : List Call). Makes g.F.Shelf cs Went c.append.new.shelf c.close-2.new.shelf) calls_3
-                      (makes_closing g.F.Shelf settings s _ later a _ _ _ follows_2 (grown_closes file later next a e_2) c.in_ok-file-3.ensures.makes))));
+          (makes_then g.F.Shelf second third _ _ _ _ made_2
+          (subst (λ (cs : List Call). Makes g.F.Shelf cs Went c.append.new.shelf c.close-2.new.shelf) calls_3
+          (makes_closing g.F.Shelf settings s _ later a _ _ _ follows_2 (grown_closes file later next a e_2) c.in_ok-file-3.ensures.makes))));
       after = record {
         behind = record {
           cut = ap (λ (k : Cutting). k.file) c.put-cut.ensures.kept
@@ -221,8 +221,8 @@ returns-clause-safe g c =
           ∙ ap (λ (r : Option ClosureReason). still r (Some (file_with kept next.kind (length next.octets) next.moment)) None) is_a
           ∙ sym (ap (λ (k : Cutting). k.file) c.put-cut.ensures.kept))
           (pairs_closed a (after_first b) later last
-              (pairs_grown (still b kept None) file later next (pairs_closed b kept stream.file file c.requires.safe.pairs c.in_ok-file.ensures.closed) c.requires.kind c.in_ok-file-2.ensures.grown)
-              c.in_ok-file-3.ensures.closed);
+          (pairs_grown (still b kept None) file later next (pairs_closed b kept stream.file file c.requires.safe.pairs c.in_ok-file.ensures.closed) c.requires.kind c.in_ok-file-2.ensures.grown)
+          c.in_ok-file-3.ensures.closed);
       up = close_up g.F.Shelf settings s later last a _ _ up_2 c.in_ok-file-3.ensures.closed c.in_ok-file-3.ensures.still c.in_ok-file-3.ensures.makes;
     }
 
@@ -231,7 +231,7 @@ returns-clause-others g c = λ told t other.
     let settings = settings_of c.args.gateway.now in
     let s : ℕ = c.args.s in
     stays_then g.F.Shelf t _ _ _
-        (close_stays g.F.Shelf settings s t c.args.stream.file c.reason_of.result _ _ other told (c.in_ok-file.ensures.others told t other) c.in_ok-file.ensures.makes)
-        (stays_then g.F.Shelf t _ _ _
-            (append_stays g.F.Shelf t c.in_ok-file.file _ _ told (c.in_ok-file-2.ensures.others told t other) c.in_ok-file-2.ensures.makes)
-            (close_stays g.F.Shelf settings s t c.in_ok-file-2.file c.reason_of-2.result _ _ other told (c.in_ok-file-3.ensures.others told t other) c.in_ok-file-3.ensures.makes))
+    (close_stays g.F.Shelf settings s t c.args.stream.file c.reason_of.result _ _ other told (c.in_ok-file.ensures.others told t other) c.in_ok-file.ensures.makes)
+    (stays_then g.F.Shelf t _ _ _
+    (append_stays g.F.Shelf t c.in_ok-file.file _ _ told (c.in_ok-file-2.ensures.others told t other) c.in_ok-file-2.ensures.makes)
+    (close_stays g.F.Shelf settings s t c.in_ok-file-2.file c.reason_of-2.result _ _ other told (c.in_ok-file-3.ensures.others told t other) c.in_ok-file-3.ensures.makes))
