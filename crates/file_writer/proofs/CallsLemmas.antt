@@ -1,21 +1,15 @@
 -- What calls for items seal.
-use Rattle.std.proofs.Common.{◌≡◌, ◌≢◌, ◌⊎◌, inl, inr, ℕ, zero, suc, ◌+◌, ◌-◌, ◌≤◌, ◌<◌, Bool, true, false, nat_le, if◌then◌else◌, List, [], ◌∷◌, ◌++◌, length, drop, Option, Some, None, refl, sym, ap, ◌∙◌, subst, arith, append_assoc, length-append}
-use Rattle.std.specs.List.{filter}
-use Rattle.std.proofs.lemmas.List.{append-nil}
-use Rattle.std.proofs.lemmas.List.Elements.{filter-append}
+use Rattle.std.proofs.Common.{◌≡◌, ℕ, zero, suc, ◌+◌, ◌-◌, Bool, true, false, nat_le, if◌then◌else◌, List, [], ◌∷◌, ◌++◌, drop, Option, Some, None, refl, sym, ap, ◌∙◌, arith, append_assoc}
 use Rattle.std.proofs.lemmas.Bool.Decides.{nat_tests}
 use Rattle.cdr_file.specs.CdrFile.{FileSettings}
 use Rattle.cdr_file.specs.declared.closure.ClosureReason.{ClosureReason}
-use Rattle.cdr_shelf.specs.Files.{SealedFile, in_stream}
-use Rattle.file_rotate.specs.Division.{ClosedRun, Cuts, Division, closed_first, cuts_at, divided_from, goes_on, joined, run_after, still, with_cuts}
+use Rattle.cdr_shelf.specs.Files.{SealedFile}
+use Rattle.file_rotate.specs.Division.{Cuts, Division, closed_first, cuts_at, divided_from, joined, run_after, still, with_cuts}
 use Rattle.file_rotate.specs.Items.{Filed, Record, Tick, Close}
 use Rattle.file_rotate.specs.Items as stream
-use Rattle.gw_base.specs.declared.item.Item.{Item}
-use Rattle.file_writer.specs.Calls.{Call, Writes, Seals, appending, beginning, calls_at, calls_below, calls_from, calls_of, closed_by, closing, seals, stream_calls, unless_sealed}
-use Rattle.file_writer.specs.Files.{file_in, files_from, later_division}
-use Rattle.file_writer.specs.Laws.{DivisionGoesOn}
-use Rattle.file_writer.specs.Streams.{Settings, closed_of, stream_count, stream_division, stream_item, stream_items}
-use Rattle.file_writer.proofs.FilesLemmas.{closed_of-append, division-append, files_from-append, in_stream-other, in_stream-own, length-files_from, stream_items-append}
+use Rattle.file_writer.specs.Calls.{Call, Writes, Seals, appending, calls_at, calls_from, closed_by, closing, seals}
+use Rattle.file_writer.specs.Files.{file_in, files_from}
+use Rattle.file_writer.specs.Streams.{Settings}
 
 pub seals-append : (xs ys : List Call) → seals (xs ++ ys) ≡ seals xs ++ seals ys
 seals-append [] ys = refl

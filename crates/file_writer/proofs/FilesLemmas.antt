@@ -1,11 +1,10 @@
 -- Files of closed runs, and what more items add to them.
-use Rattle.std.proofs.Common.{◌≡◌, ◌≢◌, ℕ, zero, suc, ◌+◌, ◌==◌, Bool, true, false, cond, List, [], ◌∷◌, ◌++◌, length, drop, refl, sym, ap, ◌∙◌, arith, length-append}
-use Rattle.std.specs.List.{filter}
+use Rattle.std.proofs.Common.{◌≡◌, ◌≢◌, ℕ, zero, suc, ◌+◌, ◌==◌, Bool, true, false, cond, List, [], ◌∷◌, ◌++◌, length, drop, refl, ap, ◌∙◌, arith, length-append}
 use Rattle.std.proofs.lemmas.Grind.{flat_map-append}
 use Rattle.std.proofs.lemmas.Bool.Decides.{nat_tests}
 use Rattle.cdr_file.specs.CdrFile.{FileSettings}
 use Rattle.cdr_shelf.specs.Files.{SealedFile, in_stream}
-use Rattle.file_rotate.specs.Division.{ClosedRun, Division, divided_from, division_of, goes_on}
+use Rattle.file_rotate.specs.Division.{ClosedRun, Division, division_of, goes_on}
 use Rattle.file_rotate.specs.Items as stream
 use Rattle.gw_base.specs.declared.item.Item.{Item}
 use Rattle.file_writer.specs.Files.{file_in, files_from, later_division, later_files, stream_files}

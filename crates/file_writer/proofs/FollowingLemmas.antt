@@ -1,11 +1,11 @@
 -- How a stream's file and what is kept of it go on through closings and records.
-use Rattle.std.proofs.Common.{◌≡◌, ◌≢◌, ℕ, max, take, ◌+◌, ◌-◌, ◌==◌, ◌≤◌, ◌<◌, Bool, true, false, nat_le, if◌then◌else◌, IsTrue, IfOk, OnOk, List, [], ◌∷◌, ◌++◌, length, map, Option, None, Some, Result, Ok, Err, refl, sym, ap, ◌∙◌, subst, arith}
+use Rattle.std.proofs.Common.{◌≡◌, ◌≢◌, ℕ, max, take, ◌+◌, ◌-◌, ◌==◌, ◌≤◌, Bool, true, false, nat_le, if◌then◌else◌, IsTrue, IfOk, OnOk, List, [], ◌∷◌, ◌++◌, length, Option, None, Some, Result, Ok, Err, refl, sym, ap, ◌∙◌, subst, arith}
 use Rattle.std.specs.Result.{IsErr, IsErrAnd}
 use Rattle.std.proofs.lemmas.Bool.Decides.{nat_tests}
 use Rattle.std.proofs.lemmas.List.{append-nil, map-append}
-use Rattle.area_disk.specs.Armed.{Armed, Came, IsArmed, calls_under}
+use Rattle.area_disk.specs.Armed.{Came, calls_under}
 use Rattle.area_disk.specs.Armed.Came.{Ran, FailedAt, StoppedAt}
-use Rattle.cdr_file.specs.CdrFile.{FileSettings, FiledRecord, cdr_length, cdr_octets, facts_of, facts_of_one, facts_with, file_octets, header_of, run_octets}
+use Rattle.cdr_file.specs.CdrFile.{FileSettings, FiledRecord, cdr_octets, facts_of, facts_of_one, facts_with, file_octets, header_of, run_octets}
 use Rattle.cdr_file.specs.FileHeader.{header_octets}
 use Rattle.cdr_file.specs.declared.closure.ClosureReason.{ClosureReason}
 use Rattle.cdr_file.specs.declared.run.RunFacts.{RunFacts}

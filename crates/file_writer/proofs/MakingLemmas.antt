@@ -1,22 +1,22 @@
 -- One call, and calls one after the other.
-use Rattle.std.proofs.Common.{◌≡◌, ◌≢◌, ◌⊎◌, inl, inr, ℕ, zero, suc, min, ◌+◌, ◌-◌, ◌≤◌, ◌<◌, Bool, true, false, ◌||◌, if◌then◌else◌, IsTrue, List, [], ◌∷◌, ◌++◌, length, take, Result, Ok, Err, refl, sym, ap, ◌∙◌, subst, arith, append_assoc, length-append, is_err}
+use Rattle.std.proofs.Common.{◌≡◌, ◌≢◌, ◌⊎◌, inl, inr, ℕ, zero, suc, ◌+◌, ◌-◌, ◌≤◌, Bool, true, false, ◌||◌, if◌then◌else◌, IsTrue, List, [], ◌∷◌, ◌++◌, length, take, Result, Ok, Err, refl, sym, ap, ◌∙◌, subst, arith, append_assoc, length-append}
 use Rattle.std.proofs.lemmas.List.{append-nil, take-append-le}
 use Rattle.std.proofs.Math.Seq.{take-append-add}
-use Rattle.area_disk.specs.Armed.{Armed, Came, IsArmed, after_one, calls_under, later_by, one_later, planned_in, then_calls}
+use Rattle.area_disk.specs.Armed.{Armed, Came, IsArmed, after_one, calls_under, later_by, one_later, then_calls}
 use Rattle.area_disk.specs.Armed.Armed.{Nothing, Fail, Stop}
 use Rattle.area_disk.specs.Armed.Came.{Ran, FailedAt, StoppedAt}
 use Rattle.area_disk.specs.ArmedLaws.{armed_failed, armed_next, armed_ran, calls_go_on}
-use Rattle.area_disk.specs.Disk.{Rose, counted, last_count}
+use Rattle.area_disk.specs.Disk.{Rose, counted}
 use Rattle.area_disk.specs.Plan.{Schedule, after_call, is_failure, next_fate}
 use Rattle.area_disk.specs.declared.plan.Fate.{Fate}
 use Rattle.area_disk.specs.declared.plan.Fate.TheVariants.{Runs, Fails, Stops}
 use Rattle.area_disk.specs.declared.plan.Outcome3.{Outcome3}
 use Rattle.area_disk.specs.declared.plan.Outcome3.TheVariants.{Old, New, Rot}
 use Rattle.cdr_shelf.specs.Files.{SealedFile}
-use Rattle.cdr_shelf.specs.Steps.{CallAsPlanned, is_done}
+use Rattle.cdr_shelf.specs.Steps.{is_done}
 use Rattle.cdr_shelf.specs.declared.shelf.Shelf.{Ghosts}
-use Rattle.file_writer.specs.Calls.{Call, Writes, Seals, seals}
-use Rattle.file_writer.specs.Making.{AllRan, Comes, Ending, Failed, HasFaults, HasSealed, Makes, OneFailed, OneStopped, Starved, Went, calls_after, done_at, ending_at, ending_of, is_failed, is_starved}
+use Rattle.file_writer.specs.Calls.{Call, seals}
+use Rattle.file_writer.specs.Making.{Comes, Ending, Failed, HasSealed, Makes, Starved, Went, calls_after, done_at, ending_at, ending_of}
 use Rattle.std.specs.Result.{IsErr, IsErrAnd}
 use Rattle.file_writer.specs.declared.fault.ShelfFault.{ShelfFault}
 use Rattle.file_writer.specs.declared.fault.ShelfFault.TheVariants.{Device, NoMemory}

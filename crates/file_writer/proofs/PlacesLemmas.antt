@@ -1,11 +1,10 @@
 -- Where records stand in runs, and that more items leave them there.
-use Rattle.std.proofs.Common.{◌≡◌, ℕ, ◌+◌, ◌-◌, ◌<◌, ◌≤◌, nat_lt, if◌then◌else◌, Bool, true, false, List, [], ◌∷◌, ◌++◌, length, map, take, slice_get, Option, None, Some, refl, sym, ap, ◌∙◌, subst, arith, append_assoc, append-nil, length-append}
-use Rattle.std.proofs.lemmas.Bool.{ltb-true}
+use Rattle.std.proofs.Common.{◌≡◌, ℕ, ◌+◌, ◌-◌, ◌<◌, ◌≤◌, nat_lt, if◌then◌else◌, Bool, true, false, List, [], ◌∷◌, ◌++◌, length, map, take, slice_get, Option, None, Some, refl, sym, ap, ◌∙◌, arith, append_assoc, append-nil, length-append}
 use Rattle.std.proofs.lemmas.Bool.Decides.{nat_tests}
 use Rattle.std.proofs.lemmas.List.{get_or_append_left, take-append-le}
 use Rattle.std.proofs.lemmas.Option.{get_or_from_slice_get, none-some, slice_get_read, slice_get_within}
 use Rattle.cdr_file.specs.declared.closure.ClosureReason.{ClosureReason}
-use Rattle.file_rotate.specs.Division.{ClosedRun, Division, closed_first, cuts_at, divided_from, ends_after, ends_before, goes_on, joined, still, with_cuts}
+use Rattle.file_rotate.specs.Division.{ClosedRun, Division, closed_first, divided_from, ends_after, ends_before, goes_on, joined, still, with_cuts}
 use Rattle.file_rotate.specs.Items.{Filed, record_in}
 use Rattle.file_rotate.specs.Items as stream
 use Rattle.file_rotate.specs.declared.limits.Limits.{Limits}

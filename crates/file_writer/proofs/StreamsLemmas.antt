@@ -1,6 +1,5 @@
 -- What calls for items seal of each stream.
 use Rattle.std.proofs.Common.{◌≡◌, ◌≢◌, ◌⊎◌, inl, inr, ℕ, zero, suc, ◌+◌, ◌-◌, ◌≤◌, ◌<◌, List, [], ◌∷◌, ◌++◌, length, drop, refl, sym, ap, ◌∙◌, arith}
-use Rattle.std.specs.List.{filter}
 use Rattle.std.proofs.lemmas.List.Elements.{filter-append}
 use Rattle.cdr_file.specs.CdrFile.{FileSettings}
 use Rattle.cdr_shelf.specs.Files.{SealedFile, in_stream}

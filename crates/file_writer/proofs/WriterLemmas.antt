@@ -1,14 +1,12 @@
 -- What a writer keeps when it recovers, and what stands after it took items.
-use Rattle.std.proofs.Common.{◌≡◌, ℕ, zero, suc, max, ◌+◌, ◌-◌, ◌<◌, ◌≤◌, Bool, true, false, nat_le, IsTrue, List, [], ◌∷◌, ◌++◌, length, map, take, drop, replicate, Option, None, slice_index, slice_index_or, slice_set, inl, inr, refl, sym, ap, ◌∙◌, subst, arith}
+use Rattle.std.proofs.Common.{◌≡◌, ℕ, zero, suc, max, ◌+◌, ◌-◌, ◌<◌, List, [], ◌∷◌, ◌++◌, length, map, take, drop, replicate, Option, None, slice_index, slice_index_or, slice_set, inl, inr, refl, sym, ap, ◌∙◌, subst, arith}
 use Rattle.std.proofs.lemmas.List.{append-nil, get_or-map, get_or-set_other, get_or-set_same, take-append-drop}
 use Rattle.cdr_file.specs.declared.run.RunFacts.{RunFacts}
-use Rattle.cdr_shelf.specs.Files.{SealedFile, UnsealedFile, greatest_in}
+use Rattle.cdr_shelf.specs.Files.{SealedFile}
 use Rattle.cdr_shelf.specs.declared.shelf.Shelf.{Ghosts}
 use Rattle.file_rotate.specs.Cutting.{Cutting}
-use Rattle.file_rotate.specs.declared.open_file.OpenFile.{OpenFile}
-use Rattle.file_rotate.specs.declared.limits.Limits.{Limits}
 use Rattle.gw_base.specs.declared.item.Item.{Item}
-use Rattle.file_writer.specs.AllStreams.{AllAt, EachBelow, StreamAt}
+use Rattle.file_writer.specs.AllStreams.{AllAt, EachBelow}
 use Rattle.file_writer.specs.Asking.{HasAsked}
 use Rattle.file_writer.specs.Calls.{Call, calls_of, seals}
 use Rattle.file_writer.specs.Following.{BodyWhere}
@@ -16,12 +14,10 @@ use Rattle.file_writer.specs.Holding.{HoldsOf, IsBegun}
 use Rattle.file_writer.specs.Laws.{DivisionGoesOn}
 use Rattle.file_writer.specs.Streams.{Settings, closed_of, stream_count}
 use Rattle.file_writer.specs.Writing.{is_sealed}
-use Rattle.file_writer.specs.declared.progress.Progress.{Progress}
 use Rattle.file_writer.specs.declared.stream.Stream.{Stream}
 use Rattle.file_writer.proofs.AllLemmas.{is_same}
 use Rattle.file_writer.proofs.FollowingLemmas.{none_body}
 use Rattle.file_writer.proofs.HoldingLemmas.{holds-all, holds-some}
-use Rattle.file_writer.proofs.MakingLemmas.{take-length}
 
 -- any stream
 abbrev pub no_stream : Stream
@@ -99,8 +95,8 @@ all_stand law settings closed sealed later stood before items rest files new hol
     let all : List Item = (before ++ items) ++ rest in
     let n : ℕ → ℕ = λ m. max m (closed s + closed_of settings s (before ++ items)) - closed s in
     subst (λ (fs : List SealedFile). HoldsOf settings closed stood all fs s (n (later s))) (sym e)
-        (subst (λ (m : ℕ). HoldsOf settings closed stood all (files ++ seals calls) s (n m)) (sym (same s h))
-            (holds-all law settings closed sealed stood before items rest calls files s h (sym (append-nil calls)) (holds s h)))
+    (subst (λ (m : ℕ). HoldsOf settings closed stood all (files ++ seals calls) s (n m)) (sym (same s h))
+    (holds-all law settings closed sealed stood before items rest calls files s h (sym (append-nil calls)) (holds s h)))
 
 any_default : (streams : List Stream) (s : ℕ) (x d : Stream) → s < length streams → slice_index_or streams s x ≡ slice_index_or streams s d
 any_default [] s x d h = absurd (omega arith)

@@ -1,5 +1,5 @@
 -- What writes do to the file that is being written.
-use Rattle.std.proofs.Common.{◌≡◌, ◌≢◌, ◌⊎◌, inl, inr, ℕ, suc, max, ◌+◌, ◌==◌, ◌≤◌, ◌<◌, Bool, true, false, nat_le, if◌then◌else◌, List, [], ◌∷◌, ◌++◌, length, take, drop, Option, None, Some, is_some, Result, Ok, Err, OnOk, refl, sym, ap, ◌∙◌, subst, arith, append_assoc, length-append}
+use Rattle.std.proofs.Common.{◌≡◌, ◌≢◌, ℕ, suc, max, ◌+◌, ◌==◌, ◌≤◌, ◌<◌, Bool, true, false, nat_le, if◌then◌else◌, List, [], ◌∷◌, ◌++◌, length, take, drop, Option, None, Some, Result, Ok, Err, OnOk, refl, sym, ap, ◌∙◌, subst, arith, append_assoc, length-append}
 use Rattle.std.proofs.lemmas.Bool.Decides.{nat_tests}
 use Rattle.std.proofs.lemmas.List.{append-nil, drop-append-le}
 use Rattle.std.proofs.lemmas.List.Elements.{All-cons, All-nil}
@@ -8,7 +8,7 @@ use Rattle.area_disk.specs.Disk.{overwritten}
 use Rattle.cdr_file.specs.CdrFile.{FiledRecord, cdr_length, cdr_octets}
 use Rattle.cdr_file.specs.Laws.{length-cdr_octets}
 use Rattle.cdr_file.specs.declared.run.RunFacts.{RunFacts}
-use Rattle.cdr_shelf.specs.Files.{IsFresh, SealedFile, UnsealedFile, file_named, greatest_in, number_in, sealed_as}
+use Rattle.cdr_shelf.specs.Files.{IsFresh, SealedFile, UnsealedFile, greatest_in, number_in, sealed_as}
 use Rattle.cdr_shelf.specs.declared.file_name.FileName.{FileName}
 use Rattle.cdr_shelf.specs.declared.shelf.Shelf.{Ghosts}
 use Rattle.cdr_shelf.specs.Steps.{StepsAt, TakesWrite, synced, written}

@@ -1,5 +1,5 @@
 -- What a writer's calls leave.
-use Rattle.std.specs.Prelude.{◌≡◌, ℕ, ◌<◌, ◌≤◌, IsTrue, List, [], ◌++◌, length, take, Result, OnOk}
+use Rattle.std.specs.Prelude.{◌≡◌, ℕ, ◌<◌, IsTrue, List, [], ◌++◌, take, Result, OnOk}
 use Rattle.cdr_shelf.specs.Files.{SealedFile, greatest_in}
 use Rattle.cdr_shelf.specs.declared.shelf.Shelf.{Ghosts}
 use Rattle.gw_base.specs.declared.item.Item.{Item}

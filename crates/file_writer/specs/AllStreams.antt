@@ -9,7 +9,7 @@ use Rattle.gw_base.specs.declared.tag.Tag.{Tag}
 use Rattle.gw_base.specs.declared.item.Item.{Item}
 use Rattle.gw_base.specs.declared.item.Item.TheVariants as item
 use Rattle.route_filter.specs.declared.rule.Rule.{Rule}
-use Rattle.file_writer.specs.Calls.{Call, calls_below, calls_of, stream_calls}
+use Rattle.file_writer.specs.Calls.{Call, calls_below, calls_of}
 use Rattle.file_writer.specs.Following.{IsBehind, IsSafe}
 use Rattle.file_writer.specs.Making.{Makes, Went, ending_of}
 use Rattle.file_writer.specs.Streams.{Settings, closed_of, stream_count, stream_division, stream_item}

@@ -2,10 +2,8 @@
 use Rattle.std.specs.Prelude.{◌≡◌, ℕ, ◌<◌, ◌≤◌, Bool, true, false, IsTrue, List, length, slice_index, slice_index_or, None}
 use Rattle.area_disk.specs.Armed.{Armed, IsArmed}
 use Rattle.area_disk.specs.Disk.{Rose}
-use Rattle.cdr_file.specs.declared.run.RunFacts.{RunFacts}
 use Rattle.cdr_shelf.specs.Files.{greatest_in}
 use Rattle.cdr_shelf.specs.declared.shelf.Shelf.{Ghosts}
-use Rattle.file_rotate.specs.Cutting.{Cutting}
 use Rattle.file_rotate.specs.declared.limits.Limits.{Limits}
 use Rattle.file_writer.specs.Streams.{stream_count}
 use Rattle.file_writer.specs.declared.stream.Stream.{Stream}

@@ -1,5 +1,5 @@
 -- How what is kept of a stream, and its file on the shelf, follow the items of the stream.
-use Rattle.std.specs.Prelude.{◌≡◌, ◌≢◌, ℕ, ◌+◌, ◌≤◌, max, Bool, true, false, IsTrue, IfOk, List, ◌++◌, Option, None, Some, Result}
+use Rattle.std.specs.Prelude.{◌≡◌, ℕ, ◌+◌, ◌≤◌, max, Bool, true, false, IsTrue, IfOk, List, Option, None, Some, Result}
 use Rattle.cdr_file.specs.CdrFile.{FileSettings, run_octets}
 use Rattle.cdr_file.specs.declared.run.RunFacts.{RunFacts}
 use Rattle.cdr_shelf.specs.Files.{UnsealedFile, greatest_in}
@@ -8,7 +8,6 @@ use Rattle.file_rotate.specs.Cutting.{file_of}
 use Rattle.file_rotate.specs.Division.{cuts_at, run_after}
 use Rattle.file_rotate.specs.Items.{AreLimits, Close, Filed, Tick}
 use Rattle.file_rotate.specs.Items as stream
-use Rattle.file_rotate.specs.declared.limits.Limits.{Limits}
 use Rattle.file_rotate.specs.declared.open_file.OpenFile.{OpenFile}
 use Rattle.gw_base.specs.CdrKind.{IsCdrKind}
 use Rattle.file_writer.specs.Calls.{calls_at, closed_by}

@@ -1,17 +1,12 @@
 -- What callers see of a writer.
-use Rattle.std.specs.Prelude.{◌≡◌, ℕ, ◌+◌, ◌-◌, ◌^◌, ◌<◌, max, min, Bool, true, false, IsTrue, List, ◌++◌, length, map, take, slice_index, Result, OnOk, is_err}
-use Rattle.area_disk.specs.Armed.{Armed, IsArmed}
-use Rattle.area_disk.specs.Plan.{Schedule}
-use Rattle.cdr_shelf.specs.Files.{SealedFile, greatest_in}
+use Rattle.std.specs.Prelude.{ℕ, ◌+◌, ◌-◌, ◌<◌, max, Bool, List, map, slice_index}
+use Rattle.cdr_shelf.specs.Files.{SealedFile}
 use Rattle.cdr_shelf.specs.declared.shelf.Shelf.{Ghosts}
 use Rattle.gw_base.specs.declared.item.Item.{Item}
 use Rattle.file_writer.specs.AllStreams.{AllAt}
-use Rattle.file_writer.specs.Calls.{calls_of, seals}
-use Rattle.file_writer.specs.Holding.{HoldsOf, IsBegun}
-use Rattle.file_writer.specs.Making.{Makes, ending_of}
+use Rattle.file_writer.specs.Holding.{HoldsOf}
 use Rattle.file_writer.specs.Streams.{Settings, closed_of, stream_count}
 use Rattle.file_writer.specs.Writing.{settings_of}
-use Rattle.file_writer.specs.declared.fault.ShelfFault.{ShelfFault}
 use Rattle.file_writer.specs.declared.writer.Writer.{Writer}
 
 module _ {A : Type 0} {tells : Ghosts A} (writer : Writer A tells) where

@@ -1,17 +1,14 @@
 -- What is kept of the file of a stream that is being written, and what calls for it do.
-use Rattle.std.specs.Prelude.{◌≡◌, ◌≢◌, ℕ, ◌+◌, ◌-◌, ◌^◌, ◌<◌, ◌≤◌, max, Bool, true, false, nat_le, IsTrue, if◌then◌else◌, List, [], ◌∷◌, ◌++◌, length, drop, Option, None, Some}
-use Rattle.cdr_file.specs.CdrFile.{FileSettings, FiledRecord, cdr_octets, facts_of, facts_of_one, facts_with, header_length, header_of, run_octets}
+use Rattle.std.specs.Prelude.{◌≡◌, ◌≢◌, ℕ, ◌+◌, ◌-◌, ◌^◌, ◌<◌, Bool, true, false, nat_le, List, [], ◌∷◌, ◌++◌, length, drop, Option, None, Some}
+use Rattle.cdr_file.specs.CdrFile.{FileSettings, FiledRecord, cdr_octets, facts_of, facts_of_one, facts_with, header_of}
 use Rattle.cdr_file.specs.FileHeader.{header_octets}
 use Rattle.cdr_file.specs.declared.closure.ClosureReason.{ClosureReason}
 use Rattle.cdr_file.specs.declared.run.RunFacts.{RunFacts}
-use Rattle.cdr_shelf.specs.Files.{SealedFile, UnsealedFile, greatest_in}
+use Rattle.cdr_shelf.specs.Files.{SealedFile, UnsealedFile}
 use Rattle.cdr_shelf.specs.declared.file_name.FileName.{FileName}
-use Rattle.cdr_shelf.specs.declared.shelf.Shelf.{Ghosts}
-use Rattle.file_rotate.specs.Items.{Filed}
 use Rattle.gw_base.specs.CdrKind.{IsCdrKind}
 use Rattle.gw_base.specs.declared.kind.CdrKind.{CdrKind}
-use Rattle.file_writer.specs.Calls.{Call, Writes, Seals, closed_by, unless_sealed}
-use Rattle.file_writer.specs.Files.{records_in}
+use Rattle.file_writer.specs.Calls.{Call, Writes, Seals, unless_sealed}
 use Rattle.file_writer.specs.declared.gateway.Gateway.{Gateway}
 use Rattle.file_writer.specs.declared.progress.Progress.{Progress}
 

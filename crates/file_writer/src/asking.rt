@@ -12,7 +12,12 @@ use cdr_shelf::Shelf;
 use file_rotate::{Cutter, Limits};
 
 /// A stream with so many closed files, by what is sealed of it.
-fn fresh_stream<F: Shelf>(shelf: &mut F, limits: Limits, s: u8, closed: u32) -> Result<Stream, ShelfFault>
+fn fresh_stream<F: Shelf>(
+    shelf: &mut F,
+    limits: Limits,
+    s: u8,
+    closed: u32,
+) -> Result<Stream, ShelfFault>
     requires { AreLimits limits }
     ensures fresh { IfOk result (λ stream. IsFreshStream limits closed stream) }
     ensures greatest { IsTrue F.tells_files → IfOk result (λ stream. stream.file.sealed ≡ greatest_in s (F.files shelf.old)) }

@@ -49,13 +49,7 @@ impl<F: Shelf> Writer<F> {
 
     /// A writer on a shelf, which is broken until it recovers. The offset is that of the gateway's clock from UTC, in
     /// minutes, and the address is its IPv4 address: the headers of files say them.
-    pub fn new(
-        shelf: F,
-        rules: Rules,
-        limits: Limits,
-        offset: Offset16,
-        address: u32,
-    ) -> Writer<F>
+    pub fn new(shelf: F, rules: Rules, limits: Limits, offset: Offset16, address: u32) -> Writer<F>
         requires { AreLimits limits }
         ensures broken { is_broken result ≡ true }
         ensures shelf { shelf_of result ≡ shelf }

@@ -1,4 +1,4 @@
-use Rattle.std.proofs.Common.{◌≡◌, Result, Ok, Err, List, [], ◌∷◌, ℕ, length, OnOk, ◌++◌, ap, sym, subst, ◌∙◌, refl}
+use Rattle.std.proofs.Common.{◌≡◌, List, [], ◌∷◌, ℕ, length, ◌++◌, ap, sym, subst, ◌∙◌}
 use Rattle.cdr_file.specs.Laws.{length-cdr_header_octets}
 use Rattle.cdr_shelf.specs.Steps.{StepsAt}
 use Rattle.file_writer.specs.Calls.{Writes}

@@ -1,4 +1,4 @@
-use Rattle.std.proofs.Common.{◌≡◌, ◌+◌, Bool, Option, [], ◌∷◌, false, subst, sym}
+use Rattle.std.proofs.Common.{Bool, Option, [], ◌∷◌, subst, sym}
 use Rattle.cdr_file.specs.CdrFile.{FiledRecord}
 use Rattle.cdr_shelf.specs.Files.{UnsealedFile}
 use Rattle.cdr_shelf.specs.declared.file_name.FileName.{FileName}

@@ -1,4 +1,4 @@
-use Rattle.std.proofs.Common.{◌≡◌, ◌⊎◌, inl, inr, ◌∙◌, ◌++◌, List, [], ◌∷◌, if◌then◌else◌, ap, refl}
+use Rattle.std.proofs.Common.{◌≡◌, ◌⊎◌, inl, inr, ◌∙◌, ◌++◌, List, [], ◌∷◌, if◌then◌else◌, ap}
 use Rattle.area_disk.specs.Plan.{next_fate}
 use Rattle.cdr_shelf.specs.Files.{SealedFile}
 use Rattle.cdr_shelf.specs.Steps.{is_done}

@@ -1,4 +1,4 @@
-use Rattle.std.proofs.Common.{inl, refl}
+use Rattle.std.proofs.Common.{inl}
 use Rattle.file_writer.specs.Calls.{Writes}
 use Rattle.file_writer.proofs.MakingLemmas.{left_by_write, one_failed, one_went, unsealed_by}
 use Rattle.file_writer.proofs.shelf_calls.sync.Goals as goal

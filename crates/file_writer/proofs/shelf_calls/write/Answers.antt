@@ -1,4 +1,4 @@
-use Rattle.std.proofs.Common.{◌≡◌, ◌∙◌, Err, false, inl, sym, ap, refl}
+use Rattle.std.proofs.Common.{◌≡◌, Err, false, inl, ap, refl}
 use Rattle.cdr_shelf.specs.Steps.{is_memory}
 use Rattle.cdr_shelf.specs.declared.shelf.ShelfStop.{ShelfStop}
 use Rattle.file_writer.specs.Calls.{Writes}

@@ -1,4 +1,4 @@
-use Rattle.std.proofs.Common.{◌≡◌, ◌≢◌, ℕ, ◌+◌, List, [], ◌∷◌, ◌++◌, Option, None, refl, sym, ap, ◌∙◌, subst}
+use Rattle.std.proofs.Common.{◌≡◌, ℕ, ◌+◌, List, [], Option, None, sym, ap, ◌∙◌, subst}
 use Rattle.cdr_file.specs.declared.closure.ClosureReason.{ClosureReason}
 use Rattle.file_rotate.specs.Cutting.{Cutting, file_of, mark_cuts, mark_file, mark_reason}
 use Rattle.file_rotate.specs.Division.{Cuts, cuts_at, run_after, still}
@@ -7,7 +7,7 @@ use Rattle.file_rotate.specs.declared.limits.Limits.{Limits}
 use Rattle.file_rotate.specs.declared.cut.Cut.{Cut}
 use Rattle.file_rotate.specs.declared.open_file.OpenFile.{OpenFile}
 use Rattle.file_writer.specs.Calls.{Call, calls_at, closed_by, closing}
-use Rattle.file_writer.specs.Following.{Follows, IsBehind, Pairs, mark_item}
+use Rattle.file_writer.specs.Following.{Follows, Pairs, mark_item}
 use Rattle.file_writer.specs.Making.{Makes, Went, ending_of}
 use Rattle.file_writer.specs.Writing.{ClosesOpen, closing_of, settings_of}
 use Rattle.file_writer.proofs.FollowingLemmas.{close_follows, close_stays, close_up, closed_count, closed_sealed, makes_closing, mark_calls, mark_closes, mark_cuts_is, mark_file_is, mark_run, no_answer, only_before, pairs_closed}

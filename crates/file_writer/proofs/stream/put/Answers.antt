@@ -1,17 +1,17 @@
-use Rattle.std.proofs.Common.{◌≡◌, ◌≢◌, ℕ, ◌+◌, List, [], ◌∷◌, ◌++◌, length, Option, Some, None, refl, sym, ap, ◌∙◌, subst}
+use Rattle.std.proofs.Common.{◌≡◌, ℕ, ◌+◌, List, [], ◌∷◌, ◌++◌, length, Option, Some, None, sym, ap, ◌∙◌, subst}
 use Rattle.cdr_file.specs.CdrFile.{FiledRecord}
 use Rattle.cdr_file.specs.declared.closure.ClosureReason.{ClosureReason}
-use Rattle.file_rotate.specs.Cutting.{Cutting, file_of, file_with, kind_change, limit_reached, record_file, with_record}
+use Rattle.file_rotate.specs.Cutting.{Cutting, file_with, kind_change, limit_reached, record_file, with_record}
 use Rattle.file_rotate.specs.Division.{Cuts, cuts_at, run_after, still}
 use Rattle.file_rotate.specs.Items.{AreLimits, Filed, Item, Record}
 use Rattle.file_rotate.specs.declared.limits.Limits.{Limits}
 use Rattle.file_rotate.specs.declared.cut.Cut.{Cut}
 use Rattle.file_rotate.specs.declared.open_file.OpenFile.{OpenFile}
 use Rattle.file_writer.specs.Calls.{Call, appending, calls_at, closed_by, closing}
-use Rattle.file_writer.specs.Following.{Follows, IsBehind, IsUp, Pairs}
+use Rattle.file_writer.specs.Following.{Follows, IsUp, Pairs}
 use Rattle.file_writer.specs.Making.{Makes, Went, ending_at, ending_of}
 use Rattle.file_writer.specs.Streams.{filed_record}
-use Rattle.file_writer.specs.Writing.{ClosesOpen, appending_of, closing_of, filed_of, settings_of}
+use Rattle.file_writer.specs.Writing.{ClosesOpen, appending_of, filed_of, settings_of}
 use Rattle.file_writer.proofs.FollowingLemmas.{FactsLaws, append_follows, append_stays, append_up, appending_is, close_follows, close_stays, close_up, closed_count, closed_sealed, grown_closes, makes_closing, no_answer, pairs_closed, pairs_grown, record_closes, stays_then}
 use Rattle.file_writer.proofs.MakingLemmas.{ended_at, makes_then, stopped_at}
 use Rattle.file_writer.specs.declared.progress.Progress.{Progress}

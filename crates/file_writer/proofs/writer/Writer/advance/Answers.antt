@@ -1,7 +1,5 @@
-use Rattle.std.proofs.Common.{◌≡◌, ℕ, ◌<◌, ◌+◌, List, ◌++◌, length, take, ap, sym, subst, ◌∙◌, refl, arith}
-use Rattle.cdr_shelf.specs.Files.{SealedFile}
-use Rattle.file_writer.specs.Calls.{Call, calls_of, seals}
-use Rattle.file_writer.specs.Streams.{stream_count}
+use Rattle.std.proofs.Common.{List, ◌++◌, refl}
+use Rattle.file_writer.specs.Calls.{Call, calls_of}
 use Rattle.file_writer.specs.Writer.{sealed_in, settings_in}
 use Rattle.file_writer.proofs.FollowingLemmas.{no_result}
 use Rattle.file_writer.proofs.MakingLemmas.{all_sealed, ended_at}
@@ -56,5 +54,5 @@ returns-clause-moves g c = λ closed before at.
       };
       holds = λ told stood rest holds.
           all_stand law (settings_in w) closed (sealed_in w) _ stood before items rest (g.F.Shelf.files w.shelf) _ holds same
-              (all_sealed g.F.Shelf calls calls _ _ made told);
+          (all_sealed g.F.Shelf calls calls _ _ made told);
     }
