@@ -73,9 +73,9 @@ module _ (law : DivisionGoesOn) {A : Type 0} (tells : Ghosts A) (settings : Sett
       let rest : List (Filed (List ℕ)) = run_after cuts run x in
       let same : cuts_at stream.cutter.limits run x ≡ cuts = ap (λ (limits : Limits). cuts_at limits run x) at.limits in
       let left : (stream_division settings s (before ++ item ∷ [])).left_open ≡ rest =
-          left_open-append law settings s before (item ∷ []) ∙ ap (λ (d : Division (List ℕ)). d.left_open) (later_is (x ∷ []) e) ∙ open_after cuts run x rest in
+      left_open-append law settings s before (item ∷ []) ∙ ap (λ (d : Division (List ℕ)). d.left_open) (later_is (x ∷ []) e) ∙ open_after cuts run x rest in
       let count : closed_of settings s (before ++ item ∷ []) ≡ closed_of settings s before + length (with_cuts cuts run x (record { closed = []; left_open = rest })).closed =
-          closed_of-append law settings s before (item ∷ []) ∙ ap (λ (d : Division (List ℕ)). closed_of settings s before + length d.closed) (later_is (x ∷ []) e) in
+      closed_of-append law settings s before (item ∷ []) ∙ ap (λ (d : Division (List ℕ)). closed_of settings s before + length d.closed) (later_is (x ∷ []) e) in
       record {
         behind = subst (λ (r : List (Filed (List ℕ))). IsBehind tells s r later new) (ap (λ (c : Cuts). run_after c run x) same ∙ sym left) taken.behind;
         has_closed = taken.closed ∙ ap (λ (c : Cuts). closed_by c.after (closed_by c.before stream.file.closed)) same
@@ -98,9 +98,9 @@ module _ (law : DivisionGoesOn) {A : Type 0} (tells : Ghosts A) (settings : Sett
       → StreamAt tells settings closed sealed (before ++ item ∷ []) s stream shelf
   not_taken stream shelf e at =
       let left : (stream_division settings s (before ++ item ∷ [])).left_open ≡ run =
-          left_open-append law settings s before (item ∷ []) ∙ ap (λ (d : Division (List ℕ)). d.left_open) (later_is [] e) in
+      left_open-append law settings s before (item ∷ []) ∙ ap (λ (d : Division (List ℕ)). d.left_open) (later_is [] e) in
       let count : closed_of settings s (before ++ item ∷ []) ≡ closed_of settings s before + 0 =
-          closed_of-append law settings s before (item ∷ []) ∙ ap (λ (d : Division (List ℕ)). closed_of settings s before + length d.closed) (later_is [] e) in
+      closed_of-append law settings s before (item ∷ []) ∙ ap (λ (d : Division (List ℕ)). closed_of settings s before + length d.closed) (later_is [] e) in
       record {
         behind = subst (λ (r : List (Filed (List ℕ))). IsBehind tells s r stream shelf) (sym left) at.behind;
         has_closed = at.has_closed ∙ ap (λ (n : ℕ). closed s + n) (no_more (closed_of settings s before) (closed_of settings s (before ++ item ∷ [])) count);
@@ -191,10 +191,11 @@ below_more settings closed sealed before item n zero h =
 below_more settings closed sealed before item n (suc m) h =
     elim (either n m h) [
       | inl less ↦
-          let r = below_more settings closed sealed before item n m less in
-          (r.0 ++ stream_calls settings closed sealed before (item ∷ []) m,
-          ap (λ (calls : List Call). calls ++ stream_calls settings closed sealed before (item ∷ []) m) r.1
-          ∙ append_assoc (calls_below n settings closed sealed before item) r.0 (stream_calls settings closed sealed before (item ∷ []) m))
+          let r = below_more settings closed sealed before item n m less in (
+            r.0 ++ stream_calls settings closed sealed before (item ∷ []) m,
+            ap (λ (calls : List Call). calls ++ stream_calls settings closed sealed before (item ∷ []) m) r.1
+                ∙ append_assoc (calls_below n settings closed sealed before item) r.0 (stream_calls settings closed sealed before (item ∷ []) m),
+          )
       | inr same ↦
           ([], ap (λ (k : ℕ). calls_below k settings closed sealed before item) (sym same) ∙ sym (append-nil (calls_below n settings closed sealed before item)))
     ]
@@ -202,21 +203,22 @@ below_more settings closed sealed before item n (suc m) h =
 -- only one stream makes calls
 pub only_one : (settings : Settings) (closed sealed : ℕ → ℕ) (before : List Item) (item : Item) (n s : ℕ)
     → ((t : ℕ) → t ≢ s → stream_calls settings closed sealed before (item ∷ []) t ≡ []) → (n ≤ s → calls_below n settings closed sealed before item ≡ [])
-        × (s < n → calls_below n settings closed sealed before item ≡ stream_calls settings closed sealed before (item ∷ []) s)
+    × (s < n → calls_below n settings closed sealed before item ≡ stream_calls settings closed sealed before (item ∷ []) s)
 unfolding calls_below
 only_one settings closed sealed before item zero s h = (λ g. refl, λ g. absurd (omega arith))
 only_one settings closed sealed before item (suc n) s h =
-    let r = only_one settings closed sealed before item n s h in
-    (λ g. ap (λ (calls : List Call). calls ++ stream_calls settings closed sealed before (item ∷ []) n) (r.0 (omega arith)) ∙ h n (λ e. absurd (omega arith)),
-    λ g. elim (is_same s n) [
-      | inl same ↦
-          ap (λ (calls : List Call). calls ++ stream_calls settings closed sealed before (item ∷ []) n) (r.0 (omega arith))
-          ∙ ap (λ (k : ℕ). stream_calls settings closed sealed before (item ∷ []) k) same
-      | inr other ↦
-          ap (λ (calls : List Call). calls ++ stream_calls settings closed sealed before (item ∷ []) n) (r.1 (omega arith))
-          ∙ ap (λ (calls : List Call). stream_calls settings closed sealed before (item ∷ []) s ++ calls) (h n other)
-          ∙ append-nil (stream_calls settings closed sealed before (item ∷ []) s)
-    ])
+    let r = only_one settings closed sealed before item n s h in (
+      λ g. ap (λ (calls : List Call). calls ++ stream_calls settings closed sealed before (item ∷ []) n) (r.0 (omega arith)) ∙ h n (λ e. absurd (omega arith)),
+      λ g. elim (is_same s n) [
+        | inl same ↦
+            ap (λ (calls : List Call). calls ++ stream_calls settings closed sealed before (item ∷ []) n) (r.0 (omega arith))
+            ∙ ap (λ (k : ℕ). stream_calls settings closed sealed before (item ∷ []) k) same
+        | inr other ↦
+            ap (λ (calls : List Call). calls ++ stream_calls settings closed sealed before (item ∷ []) n) (r.1 (omega arith))
+            ∙ ap (λ (calls : List Call). stream_calls settings closed sealed before (item ∷ []) s ++ calls) (h n other)
+            ∙ append-nil (stream_calls settings closed sealed before (item ∷ []) s)
+      ],
+    )
 
 pub none_yet : (before : List Item) (item : Item) (s : ℕ) → before ≡ up_to 0 before item s
 none_yet before item s = ap (λ (b : Bool). with_item b before item) (none_below s)
@@ -267,8 +269,8 @@ pub calls-append : (settings : Settings) (closed sealed : ℕ → ℕ) (before x
 calls-append settings closed sealed before [] ys = ap (λ (items : List Item). calls_of settings closed sealed items ys) (sym (append-nil before))
 calls-append settings closed sealed before (x ∷ xs) ys =
     ap (λ (calls : List Call). calls_below stream_count settings closed sealed before x ++ calls)
-        (calls-append settings closed sealed (before ++ x ∷ []) xs ys
-        ∙ ap (λ (items : List Item). calls_of settings closed sealed (before ++ x ∷ []) xs ++ calls_of settings closed sealed items ys) (append_assoc before (x ∷ []) xs))
+    (calls-append settings closed sealed (before ++ x ∷ []) xs ys
+    ∙ ap (λ (items : List Item). calls_of settings closed sealed (before ++ x ∷ []) xs ++ calls_of settings closed sealed items ys) (append_assoc before (x ∷ []) xs))
     ∙ sym (append_assoc (calls_below stream_count settings closed sealed before x) (calls_of settings closed sealed (before ++ x ∷ []) xs) (calls_of settings closed sealed (before ++ (x ∷ xs)) ys))
 
 pub calls-one : (settings : Settings) (closed sealed : ℕ → ℕ) (before xs : List Item) (x : Item)

@@ -7,3 +7,4 @@ pub mod WritingLemmas
 pub mod FollowingLemmas
 pub mod AllLemmas
 pub mod PlacesLemmas
+pub mod RecordsLemmas

@@ -19,8 +19,8 @@ returns-in_err-mark_one-clause-takes g c = λ settings closed sealed before same
     record {
       makes = subst (λ (cs : List Call). Makes g.F.Shelf cs (ending_of c.from_residual.result) c.args.shelf.now c.mark_one.new.shelf) (sym rest.1)
           (stopped_at g.F.Shelf (calls_below (s + 1) settings closed sealed before item) rest.0 _ _ _ _ c.from_residual.ensures
-              (subst (λ (cs : List Call). Makes g.F.Shelf cs (ending_at c.in_err-mark_one.field-0.0) c.args.shelf.now c.mark_one.new.shelf) (below_next settings closed sealed before item s)
-                  (makes_then g.F.Shelf (calls_below s settings closed sealed before item) (stream_calls settings closed sealed before (item ∷ []) s) _ _ _ _ prev.0 next.makes)));
+          (subst (λ (cs : List Call). Makes g.F.Shelf cs (ending_at c.in_err-mark_one.field-0.0) c.args.shelf.now c.mark_one.new.shelf) (below_next settings closed sealed before item s)
+          (makes_then g.F.Shelf (calls_below s settings closed sealed before item) (stream_calls settings closed sealed before (item ∷ []) s) _ _ _ _ prev.0 next.makes)));
       at = no_result c.from_residual.result c.in_err-mark_one.field-0.0 _ c.from_residual.ensures;
     }
 
@@ -31,9 +31,10 @@ loop-s-init g c = record {
   sixteen = c.requires.sixteen;
   below = λ most h. h;
   takes = λ settings closed sealed before same at.
-      let item : Item = mark_told c.args.closes c.args.moment in
-      (subst (λ (cs : List Call). Makes g.F.Shelf cs Went c.args.shelf.now c.args.shelf.now) (below_none settings closed sealed before item) (makes_none g.F.Shelf c.args.shelf.now),
-      λ s d h. subst (λ (items : List Item). StreamAt g.F.Shelf settings closed sealed items s (slice_index_or c.args.streams.now s d) c.args.shelf.now) (none_yet before item s) (at s d h));
+      let item : Item = mark_told c.args.closes c.args.moment in (
+        subst (λ (cs : List Call). Makes g.F.Shelf cs Went c.args.shelf.now c.args.shelf.now) (below_none settings closed sealed before item) (makes_none g.F.Shelf c.args.shelf.now),
+        λ s d h. subst (λ (items : List Item). StreamAt g.F.Shelf settings closed sealed items s (slice_index_or c.args.streams.now s d) c.args.shelf.now) (none_yet before item s) (at s d h),
+      );
 }
 
 pub loop-s-preserved : goal.loop-s-preserved
@@ -48,10 +49,11 @@ loop-s-preserved g c =
       takes = λ settings closed sealed before same at.
           let item : Item = mark_told c.args.closes c.args.moment in
           let prev = inv.takes settings closed sealed before same at in
-          let next = e.takes settings closed sealed before same prev.1 in
-          (subst (λ (cs : List Call). Makes g.F.Shelf cs Went c.args.shelf.now c.mark_one.new.shelf) (below_next settings closed sealed before item c.loop-s.s)
-              (makes_then g.F.Shelf (calls_below c.loop-s.s settings closed sealed before item) (stream_calls settings closed sealed before (item ∷ []) c.loop-s.s) _ _ _ _ prev.0 next.makes),
-          next.at);
+          let next = e.takes settings closed sealed before same prev.1 in (
+            subst (λ (cs : List Call). Makes g.F.Shelf cs Went c.args.shelf.now c.mark_one.new.shelf) (below_next settings closed sealed before item c.loop-s.s)
+                (makes_then g.F.Shelf (calls_below c.loop-s.s settings closed sealed before item) (stream_calls settings closed sealed before (item ∷ []) c.loop-s.s) _ _ _ _ prev.0 next.makes),
+            next.at,
+          );
     }
 
 pub returns-clause-takes : goal.returns-clause-takes

@@ -19,7 +19,7 @@ returns-then-s-streams-clause-takes g c = λ settings closed sealed before same 
     let is_s : s ≡ stream_of settings.rules c.args.tag next.kind.format = c.stream-s.ensures ∙ ap (λ (rs : List Rule). stream_of rs c.args.tag next.kind.format) (sym rules) in
     let past : stream_count ≤ s = omega arith in
     let calls = (only_one settings closed sealed before item stream_count s
-        (λ t other. no_calls law g.F.Shelf settings closed sealed before item t (not_here settings.rules next.kind c.args.tag next.octets.now next.moment s t is_s other))).0 past in
+    (λ t other. no_calls law g.F.Shelf settings closed sealed before item t (not_here settings.rules next.kind c.args.tag next.octets.now next.moment s t is_s other))).0 past in
     record {
       makes = subst (λ (cs : List Call). Makes g.F.Shelf cs Went c.args.shelf.now c.args.shelf.now) (sym calls) (makes_none g.F.Shelf c.args.shelf.now);
       at = λ t d h. not_taken law g.F.Shelf settings closed sealed before item t (slice_index_or c.args.streams.now t d) c.args.shelf.now
@@ -30,6 +30,6 @@ pub returns-clause-takes : goal.returns-clause-takes
 returns-clause-takes g c = λ settings closed sealed before same rules at.
     let next = c.args.next in
     c.put_one.ensures.takes settings closed sealed before (part_of next.kind c.args.tag next.octets.now next.moment) same
-        (goes_to settings.rules next.kind c.args.tag next.octets.now next.moment c.stream-s.result
-            (c.stream-s.ensures ∙ ap (λ (rs : List Rule). stream_of rs c.args.tag next.kind.format) (sym rules)))
-        at
+    (goes_to settings.rules next.kind c.args.tag next.octets.now next.moment c.stream-s.result
+    (c.stream-s.ensures ∙ ap (λ (rs : List Rule). stream_of rs c.args.tag next.kind.format) (sym rules)))
+    at

@@ -28,7 +28,7 @@ returns-in_err-take_item-clause-takes g c = λ settings closed sealed before sam
     record {
       makes = subst (λ (cs : List Call). Makes g.F.Shelf cs (ending_of c.from_residual.result) c.args.shelf.now c.take_item.new.shelf) whole
           (stopped_at g.F.Shelf (calls_of settings closed sealed before (take (i + 1) items)) (calls_of settings closed sealed (before ++ take (i + 1) items) (drop (i + 1) items)) _ _ _ _ c.from_residual.ensures
-              (subst (λ (cs : List Call). Makes g.F.Shelf cs (ending_at c.in_err-take_item.field-0.0) c.args.shelf.now c.take_item.new.shelf) calls made));
+          (subst (λ (cs : List Call). Makes g.F.Shelf cs (ending_at c.in_err-take_item.field-0.0) c.args.shelf.now c.take_item.new.shelf) calls made));
       at = no_result c.from_residual.result c.in_err-take_item.field-0.0 _ c.from_residual.ensures;
     }
 
@@ -46,12 +46,13 @@ loop-item-preserved g c =
       below = λ most h s d g. let b = e.below (most + i) (inv.below most h) s d g in omega arith;
       takes = λ settings closed sealed before same rules at.
           let prev = inv.takes settings closed sealed before same rules at in
-          let next = e.takes settings closed sealed (before ++ take i items) same rules prev.1 in
-          (subst (λ (cs : List Call). Makes g.F.Shelf cs Went c.args.shelf.now c.take_item.new.shelf)
-              (calls-one settings closed sealed before (take i items) x ∙ ap (λ (xs : List Item). calls_of settings closed sealed before xs) (sym more))
-              (makes_then g.F.Shelf (calls_of settings closed sealed before (take i items)) (calls_below stream_count settings closed sealed (before ++ take i items) x) _ _ _ _ prev.0 next.makes),
-          subst (λ (xs : List Item). AllAt g.F.Shelf settings closed sealed xs c.take_item.new.streams c.take_item.new.shelf)
-              (append_assoc before (take i items) (x ∷ []) ∙ ap (λ (xs : List Item). before ++ xs) (sym more)) next.at);
+          let next = e.takes settings closed sealed (before ++ take i items) same rules prev.1 in (
+            subst (λ (cs : List Call). Makes g.F.Shelf cs Went c.args.shelf.now c.take_item.new.shelf)
+                (calls-one settings closed sealed before (take i items) x ∙ ap (λ (xs : List Item). calls_of settings closed sealed before xs) (sym more))
+                (makes_then g.F.Shelf (calls_of settings closed sealed before (take i items)) (calls_below stream_count settings closed sealed (before ++ take i items) x) _ _ _ _ prev.0 next.makes),
+            subst (λ (xs : List Item). AllAt g.F.Shelf settings closed sealed xs c.take_item.new.streams c.take_item.new.shelf)
+                (append_assoc before (take i items) (x ∷ []) ∙ ap (λ (xs : List Item). before ++ xs) (sym more)) next.at,
+          );
     }
 
 pub returns-clause-takes : goal.returns-clause-takes
