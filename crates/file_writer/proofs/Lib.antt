@@ -8,3 +8,4 @@ pub mod FollowingLemmas
 pub mod AllLemmas
 pub mod WriterLemmas
 pub mod PlacesLemmas
+pub mod RecordsLemmas

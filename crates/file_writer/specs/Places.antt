@@ -1,12 +1,14 @@
 -- Where each filed record stands: its stream, its file's number in the sequence of the stream, and how many records
 -- stand before it in the file. Records of a file that is still open have places too.
-use Rattle.std.specs.Prelude.{ℕ, ◌+◌, ◌-◌, nat_lt, if◌then◌else◌, List, [], ◌∷◌, ◌++◌, length, map, take, slice_get, Option, None, Some}
-use Rattle.file_rotate.specs.Division.{Division}
+use Rattle.std.specs.Prelude.{◌≡◌, ℕ, ◌+◌, ◌-◌, nat_lt, if◌then◌else◌, List, [], ◌∷◌, ◌++◌, length, map, take, slice_get, Option, None, Some}
+use Rattle.file_rotate.specs.Division.{Division, ClosedRun}
 use Rattle.file_rotate.specs.Items.{Filed, records_of}
 use Rattle.gw_base.specs.declared.item.Item.{Item}
 use Rattle.gw_base.specs.declared.item.Item.TheVariants as item
+use Rattle.gw_base.specs.declared.kind.CdrKind.{CdrKind}
+use Rattle.gw_base.specs.declared.tag.Tag.{Tag}
 use Rattle.route_filter.specs.Rules.{stream_of}
-use Rattle.file_writer.specs.Streams.{Settings, stream_division, stream_items}
+use Rattle.file_writer.specs.Streams.{Settings, filed_record, stream_division, stream_items}
 
 pub record FilePlace : Type 0 where
   pub stream : ℕ
@@ -52,3 +54,10 @@ in_run index (Some run) = slice_get run index
 abbrev pub record_at : Settings → List Item → FilePlace → Option (Filed (List ℕ))
 record_at settings items place =
     in_run place.index (slice_get (runs_of (stream_division settings place.stream items)) (place.sequence - 1))
+
+-- the record that is the item with this number has a place, in the stream that the rules choose, and stands there
+pub record HasPlace (settings : Settings) (items : List Item) (k : ℕ) (kind : CdrKind) (tag : Option Tag) (octets : List ℕ) (moment : ℕ) : Type 0 where
+  pub place : FilePlace
+  pub found : place_in settings items k ≡ Some place
+  pub stream : place.stream ≡ stream_of settings.rules tag kind.format
+  pub there : record_at settings items place ≡ Some (filed_record kind octets moment)
