@@ -3,6 +3,7 @@
 
 mod all_streams;
 mod asking;
+mod drill;
 mod fault;
 mod gateway;
 pub mod laws;

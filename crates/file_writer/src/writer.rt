@@ -31,7 +31,7 @@ const STREAMS: usize = 16;
 /// writer that is made takes no memory.
 #[derive(Drop)]
 pub struct Writer<F: Shelf> {
-    shelf: F,
+    pub(crate) shelf: F,
     rules: Rules,
     limits: Limits,
     gateway: Gateway,
