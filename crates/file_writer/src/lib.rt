@@ -12,6 +12,8 @@ pub mod places;
 mod progress;
 mod shelf_calls;
 mod stream;
+#[cfg(test)]
+mod tests;
 mod writer;
 
 pub use fault::ShelfFault;
