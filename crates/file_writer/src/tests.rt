@@ -52,10 +52,15 @@ fn no_plan(alloc: Global) -> Plan {
     }
 }
 
-fn limits(size: u32, count: u32) -> Limits {
+/// The greatest size at which a file may be closed.
+const MOST_SIZE: u32 = 4_294_836_224;
+
+fn limits(size: u32, count: u32) -> Limits
+    ensures { AreLimits result }
+{
     Limits {
-        size,
-        count,
+        size: size.clamp(1, MOST_SIZE),
+        count: count.max(1),
         open_time: 60,
     }
 }
