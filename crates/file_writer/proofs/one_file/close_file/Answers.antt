@@ -1,0 +1,29 @@
+use Rattle.std.proofs.Common.{rules, ◌≡◌, ℕ, List, [], ◌∷◌, ◌++◌, length, Option, ap, ◌∙◌}
+use Rattle.cdr_file.specs.CdrFile.{header_of}
+use Rattle.cdr_file.specs.FileHeader.{header_octets}
+use Rattle.cdr_shelf.specs.Files.{UnsealedFile}
+use Rattle.file_writer.specs.Writing.{body_of, settings_of}
+use Rattle.file_writer.proofs.WritingLemmas.{named_file, sealed_of}
+use Rattle.file_writer.specs.Calls.{Writes, Seals}
+use Rattle.file_writer.proofs.MakingLemmas.{makes_then, stopped_at}
+use Rattle.file_writer.proofs.one_file.close_file.Goals as goal
+
+pub returns-in_err-write-clause-makes : goal.returns-in_err-write-clause-makes
+returns-in_err-write-clause-makes g c = stopped_at g.F.Shelf (Writes ∷ []) (Writes ∷ Seals _ ∷ []) _ _ _ _ c.from_residual.ensures c.in_err-write.ensures.makes
+
+pub returns-in_err-sync-clause-makes : goal.returns-in_err-sync-clause-makes
+returns-in_err-sync-clause-makes g c =
+    stopped_at g.F.Shelf (Writes ∷ Writes ∷ []) (Seals _ ∷ []) _ _ _ _ c.from_residual-in_err-sync.ensures
+    (makes_then g.F.Shelf (Writes ∷ []) (Writes ∷ []) _ _ _ _ c.in_ok-write.ensures.makes c.in_err-sync.ensures.makes)
+
+pub returns-clause-makes : goal.returns-clause-makes
+returns-clause-makes g c =
+    let long : length c.run_header-header.result ≡ 52 = search rules in
+    let header : List ℕ = header_octets (header_of c.args.run c.args.name.sequence c.args.reason (settings_of c.args.gateway.now)) in
+    let u : Option UnsealedFile = g.F.Shelf.unsealed c.args.shelf.now c.args.name.stream in
+    makes_then g.F.Shelf (Writes ∷ Writes ∷ []) (Seals (record { name = c.args.name; octets = header ++ body_of u }) ∷ []) _ _ _ _
+    (makes_then g.F.Shelf (Writes ∷ []) (Writes ∷ []) _ _ _ _ c.in_ok-write.ensures.makes c.in_ok-sync.ensures.makes)
+    (c.seal.ensures.makes _ (λ told.
+    sealed_of c.args.name c.args.run.octets c.run_header-header.result u _ _ (c.requires.open told) long
+    (c.in_ok-write.ensures.written told).here (c.in_ok-sync.ensures.synced told).here
+    ∙ ap (λ (octets : List ℕ). named_file c.args.name (octets ++ body_of u) ∷ []) c.run_header-header.ensures))

@@ -1,0 +1,38 @@
+use Rattle.std.proofs.Common.{Bool, Option, [], ◌∷◌, subst, sym}
+use Rattle.cdr_file.specs.CdrFile.{FiledRecord}
+use Rattle.cdr_shelf.specs.Files.{UnsealedFile}
+use Rattle.cdr_shelf.specs.declared.file_name.FileName.{FileName}
+use Rattle.file_writer.specs.Calls.{Writes}
+use Rattle.file_writer.specs.Writing.{GrownWhere, beginning_of, filed_of, name_in}
+use Rattle.file_writer.proofs.MakingLemmas.{ended_at, makes_then, stopped_at}
+use Rattle.file_writer.proofs.WritingLemmas.{grown_at, is_fresh, makes_unsealed, not_sealed}
+use Rattle.file_writer.proofs.progress.append.Goals as goal
+
+pub end_of_file-requires-clause-fresh : goal.end_of_file-requires-clause-fresh
+end_of_file-requires-clause-fresh g c κs within = λ told. is_fresh c.args.stream c.args.file.closed c.args.file.sealed _ (c.requires.fresh told) c.if-sequence-sealed.false
+
+pub returns-in_err-at-clause-makes : goal.returns-in_err-at-clause-makes
+returns-in_err-at-clause-makes g c =
+    makes_unsealed g.F.Shelf c.args.file.closed c.args.file.sealed _ _ _ _ c.if-sequence-sealed.false
+    (stopped_at g.F.Shelf (beginning_of c.args.file.growing) (Writes ∷ Writes ∷ []) _ _ _ _ c.from_residual.ensures c.in_err-at.ensures.makes)
+
+pub returns-in_err-append_cdr-clause-makes : goal.returns-in_err-append_cdr-clause-makes
+returns-in_err-append_cdr-clause-makes g c =
+    makes_unsealed g.F.Shelf c.args.file.closed c.args.file.sealed _ _ _ _ c.if-sequence-sealed.false
+    (makes_then g.F.Shelf (beginning_of c.args.file.growing) (Writes ∷ Writes ∷ []) _ _ _ _ c.in_ok-at.ensures.makes
+    (ended_at g.F.Shelf (Writes ∷ Writes ∷ []) _ _ _ _ c.from_residual-in_err-append_cdr.ensures c.in_err-append_cdr.ensures.makes))
+
+pub returns-clause-makes : goal.returns-clause-makes
+returns-clause-makes g c =
+    makes_unsealed g.F.Shelf c.args.file.closed c.args.file.sealed _ _ _ _ c.if-sequence-sealed.false
+    (makes_then g.F.Shelf (beginning_of c.args.file.growing) (Writes ∷ Writes ∷ []) _ _ _ _ c.in_ok-at.ensures.makes c.in_ok-append_cdr.ensures.makes)
+
+pub returns-clause-stands : goal.returns-clause-stands
+returns-clause-stands g c = λ told.
+    let name : FileName = name_in c.args.stream c.args.file in
+    let filed : FiledRecord = filed_of c.args.next.kind c.args.next.octets.now c.args.next.moment in
+    let old : Option UnsealedFile = g.F.Shelf.unsealed c.args.shelf.now c.args.stream in
+    let new : Option UnsealedFile = g.F.Shelf.unsealed c.append_cdr.new.shelf c.args.stream in
+    let begun = c.in_ok-at.ensures.stands told in
+    subst (λ (b : Bool). GrownWhere b name c.args.file.growing filed old new) (sym (not_sealed c.args.file.closed c.args.file.sealed c.if-sequence-sealed.false))
+    (grown_at name c.args.file.growing filed old _ new begun.0 begun.1 (c.in_ok-append_cdr.ensures.appended told).here)

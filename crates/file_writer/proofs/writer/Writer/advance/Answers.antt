@@ -1,0 +1,58 @@
+use Rattle.std.proofs.Common.{List, ◌++◌, refl}
+use Rattle.file_writer.specs.Calls.{Call, calls_of}
+use Rattle.file_writer.specs.Writer.{sealed_in, settings_in}
+use Rattle.file_writer.proofs.FollowingLemmas.{no_result}
+use Rattle.file_writer.proofs.MakingLemmas.{all_sealed, ended_at}
+use Rattle.file_writer.proofs.WriterLemmas.{all_stand, at_self, begun, more_below, sealed_same}
+use Rattle.file_writer.proofs.writer.Writer.advance.Goals as goal
+
+pub returns-in_err-take_all-clause-moves : goal.returns-in_err-take_all-clause-moves
+returns-in_err-take_all-clause-moves g c = λ closed before at.
+    let w = c.args.self.now in
+    let items = c.args.items.now in
+    let law = c.division_goes_on.ensures in
+    let goes = c.in_err-take_all.ensures.takes (settings_in w) closed (sealed_in w) before refl refl at in
+    let fault = c.in_err-take_all.field-0.0 in
+    let made = goes.makes in
+    record {
+      makes = ended_at g.F.Shelf (calls_of (settings_in w) closed (sealed_in w) before items) _ _ _ _ c.from_residual.ensures made;
+      at = no_result c.from_residual.result fault _ c.from_residual.ensures;
+      sealed = no_result c.from_residual.result fault _ c.from_residual.ensures;
+      keeps = λ told stood rest holds. record {
+        at_any_moment = begun law (settings_in w) closed (sealed_in w) stood before items rest (g.F.Shelf.files w.shelf) holds;
+        now = ((made.sealed told).count, (made.sealed told).files);
+      };
+      holds = λ told stood rest holds. no_result c.from_residual.result fault _ c.from_residual.ensures;
+    }
+
+pub invariant_of-self-2 : goal.invariant_of-self-2
+invariant_of-self-2 g c = record {
+  sound = record {
+    are_limits = c.args.self.now.sound.are_limits;
+    few = c.requires.few;
+    safe = λ e. c.in_ok-take_all.ensures.safe;
+    below = λ e. more_below _ _ _ _ (c.in_ok-take_all.ensures.below _ (c.args.self.now.sound.below c.requires.ready));
+  };
+}
+
+pub returns-clause-moves : goal.returns-clause-moves
+returns-clause-moves g c = λ closed before at.
+    let w = c.args.self.now in
+    let items = c.args.items.now in
+    let law = c.division_goes_on.ensures in
+    let calls : List Call = calls_of (settings_in w) closed (sealed_in w) before items in
+    let goes = c.in_ok-take_all.ensures.takes (settings_in w) closed (sealed_in w) before refl refl at in
+    let made = goes.makes in
+    let same = sealed_same g.F.Shelf (settings_in w) closed (sealed_in w) (before ++ items) c.take_all.new.streams c.take_all.new.shelf c.in_ok-take_all.ensures.sixteen goes.at in
+    record {
+      makes = made;
+      at = at_self g.F.Shelf (settings_in w) closed (sealed_in w) (before ++ items) c.take_all.new.streams c.take_all.new.shelf c.in_ok-take_all.ensures.sixteen goes.at;
+      sealed = same;
+      keeps = λ told stood rest holds. record {
+        at_any_moment = begun law (settings_in w) closed (sealed_in w) stood before items rest (g.F.Shelf.files w.shelf) holds;
+        now = ((made.sealed told).count, (made.sealed told).files);
+      };
+      holds = λ told stood rest holds.
+          all_stand law (settings_in w) closed (sealed_in w) _ stood before items rest (g.F.Shelf.files w.shelf) _ holds same
+          (all_sealed g.F.Shelf calls calls _ _ made told);
+    }

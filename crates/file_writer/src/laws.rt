@@ -1,0 +1,38 @@
+//! Laws of the files that items are divided into. Each holds for all items, and stands on a function that does nothing.
+ghost use Rattle.std.specs.Prelude.{◌≡◌, ◌-◌, ◌+◌, ◌<◌, ◌++◌, ℕ, List, drop};
+ghost use Rattle.gw_base.specs.declared.item.Item.{Item};
+ghost use Rattle.file_rotate.specs.Division.{divided_from};
+ghost use Rattle.file_rotate.specs.Items.{Filed};
+ghost use Rattle.file_rotate.specs.Items as stream;
+ghost use Rattle.cdr_shelf.specs.Files.{in_stream};
+ghost use Rattle.file_writer.specs.Calls.{calls_from, calls_of, seals};
+ghost use Rattle.file_writer.specs.Files.{files_from, later_division, later_files, stream_files};
+ghost use Rattle.file_writer.specs.Streams.{Settings, closed_of, stream_count};
+
+use file_rotate::division_goes_on;
+use gw_base::Octets;
+
+/// Files only grow: more items close more files behind those that the first ones close.
+pub fn files_only_grow()
+    ensures { (settings : Settings) (s : ℕ) (items more : List Item)
+        → stream_files settings s (items ++ more) ≡ stream_files settings s items ++ later_files settings s items more }
+{
+    division_goes_on::<Octets>();
+}
+
+/// What calls for items of a stream seal is what is closed, but for the files that are sealed already.
+pub fn calls_seal_what_is_closed()
+    ensures { (settings : Settings) (s sealed closed : ℕ) (run : List (Filed (List ℕ))) (items : List (stream.Item (List ℕ)))
+        → seals (calls_from settings s sealed closed run items)
+        ≡ drop (sealed - closed) (files_from settings.file s (closed + 1) (divided_from settings.limits run items).closed) }
+{}
+
+/// What the calls for items that come in after others seal of a stream is what those items close, but for the files
+/// that are sealed already.
+pub fn calls_seal_what_items_close()
+    ensures { (settings : Settings) (closed sealed : ℕ → ℕ) (before items : List Item) (s : ℕ) → s < stream_count
+        → in_stream s (seals (calls_of settings closed sealed before items))
+        ≡ drop (sealed s - (closed s + closed_of settings s before)) (files_from settings.file s (closed s + closed_of settings s before + 1) (later_division settings s before items).closed) }
+{
+    division_goes_on::<Octets>();
+}

@@ -1,0 +1,32 @@
+//! Laws of the places of records. Each holds for all items, and stands on a function that does nothing.
+ghost use Rattle.std.specs.Prelude.{◌≡◌, ◌++◌, ℕ, List, Option, Some, slice_get};
+ghost use Rattle.gw_base.specs.declared.item.Item.{Item};
+ghost use Rattle.gw_base.specs.declared.item.Item.TheVariants as item;
+ghost use Rattle.gw_base.specs.declared.kind.CdrKind.{CdrKind};
+ghost use Rattle.gw_base.specs.declared.tag.Tag.{Tag};
+ghost use Rattle.file_writer.specs.Places.{FilePlace, HasPlace, place_in};
+ghost use Rattle.file_writer.specs.Streams.{Settings};
+
+use file_rotate::{division_closes_where_files_end, division_goes_on};
+use gw_base::Octets;
+
+/// A record's place stays, whatever items come after those that gave it: what was closed stays, and the file that was
+/// open goes on.
+pub fn a_place_stays()
+    ensures { (settings : Settings) (items more : List Item) (k : ℕ) (place : FilePlace)
+        → place_in settings items k ≡ Some place → place_in settings (items ++ more) k ≡ Some place }
+{
+    division_goes_on::<Octets>();
+}
+
+/// Each item that is a record has a place and stands there, and no two have one place.
+pub fn each_record_has_one_place()
+    ensures has { (settings : Settings) (items : List Item) (k : ℕ)
+        (kind : CdrKind) (tag : Option Tag) (octets : List ℕ) (moment : ℕ)
+        → slice_get items k ≡ Some (item.Part kind tag octets moment)
+        → HasPlace settings items k kind tag octets moment }
+    ensures only { (settings : Settings) (items : List Item) (k l : ℕ) (place : FilePlace)
+        → place_in settings items k ≡ Some place → place_in settings items l ≡ Some place → k ≡ l }
+{
+    division_closes_where_files_end::<Octets>();
+}
