@@ -1,0 +1,11 @@
+//! A whole charging gateway: what it answers to a datagram, and the history that it keeps on a
+//! journal (3GPP TS 32.295, clauses 5.1.3 and 6.2).
+#![tactic(auto)]
+
+mod outcome;
+mod told;
+
+pub use outcome::{
+    BookFault, Broken, ItemsFault, Marked, Outcome, Receipt, Settled, Setup,
+};
+pub use told::{Counts, Key};
