@@ -1,6 +1,8 @@
 -- What public clauses cite.
 pub mod Answer
 pub mod Answered
+pub mod Calls
+pub mod Cases
 pub mod Filed
 pub mod Fit
 pub mod Items

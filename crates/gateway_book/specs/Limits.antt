@@ -20,7 +20,8 @@ numbers_end = 2 ^ 63
 abbrev pub is_in_range : ℕ → Bool
 is_in_range number = nat_le least_number number && nat_lt number numbers_end
 
--- whether a gateway may know the node: it knows it already, or not so many that it would be the 65th
+-- whether a gateway may know the node: it knows it already, or not so many that it would be the 65th. Where each entry
+-- is fit, no more than 64 nodes are ever known.
 abbrev pub has_place : Observed → Bool
 has_place o = o.is_known || nat_lt o.known most_nodes
 

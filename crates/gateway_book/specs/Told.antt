@@ -1,8 +1,8 @@
--- What a gateway tells of its history without reading it again: paths, keys and counts.
-use Rattle.std.specs.Prelude.{ℕ, List, length, Option, slice_get}
+-- What a gateway tells of its history without reading it again: paths and keys.
+use Rattle.std.specs.Prelude.{ℕ, List, Option}
 use Rattle.std.specs.List.{filter_map}
 use Rattle.std.specs.Option.{option_map}
-use Rattle.gw_base.specs.History.{copies_of, present_state, top_of}
+use Rattle.gw_base.specs.History.{present_state, top_of}
 use Rattle.gw_base.specs.Known.{known_nodes}
 use Rattle.gw_base.specs.Nearest.{nearest}
 use Rattle.gw_base.specs.Starts.{opening_of, start_of}

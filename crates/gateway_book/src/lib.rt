@@ -2,10 +2,11 @@
 //! journal (3GPP TS 32.295, clauses 5.1.3 and 6.2).
 #![tactic(auto)]
 
+mod case;
 mod outcome;
+mod preparing;
 mod told;
 
-pub use outcome::{
-    BookFault, Broken, ItemsFault, Marked, Outcome, Receipt, Settled, Setup,
-};
+pub use outcome::{BookFault, Broken, ItemsFault, Marked, Outcome, Receipt, Settled, Setup};
+pub use preparing::{Prepared, prepare};
 pub use told::{Counts, Key};
