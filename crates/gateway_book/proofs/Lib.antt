@@ -1,1 +1,3 @@
+pub mod FilingLemmas
+pub mod ListsLemmas
 pub mod RecordsLemmas

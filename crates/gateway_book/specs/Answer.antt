@@ -5,6 +5,7 @@ use Rattle.std.specs.Option.{option_map}
 use Rattle.gtpp_message.specs.Message.{MessageValue, TransferValue, Send, Possible, Cancel, Release, TransferResponse, VersionNotSupported}
 use Rattle.gtpp_message.specs.Packet.{PacketValue, Empty, Full, packet_octets}
 use Rattle.gtpp_message.specs.PathMessages.{path_message, path_number}
+use Rattle.gtpp_message.specs.Writing.{written}
 use Rattle.gtpp_message.specs.declared.reading.Why.{Why}
 use Rattle.gtpp_message.specs.declared.reading.Why.TheVariants.{Device, NoRoom, Stray}
 use Rattle.gw_base.specs.Lists.{once}
@@ -151,3 +152,12 @@ failure_answer (OtherVersion number) = Drops Device
 failure_answer (Refused cause number) = responding number SYSTEM_FAILURE None
 failure_answer (Path event) = Drops Device
 failure_answer (Request number body) = responding number SYSTEM_FAILURE None
+
+-- What an answer comes to: nothing is sent, or these octets, and the act that is recorded with them.
+pub data Decided : Type 0 where
+  Silent : (why : Why) → Decided
+  Says : (octets : List ℕ) (act : Option HistoryAct) → Decided
+
+abbrev pub decided : Given → Decided
+decided (Drops why) = Silent why
+decided (Replies number message act) = Says (written number message) act

@@ -7,7 +7,7 @@ use Rattle.gw_base.specs.declared.address.Addr.{Addr}
 use Rattle.gw_base.specs.declared.history.Caller.{Caller}
 use Rattle.gw_base.specs.declared.history.HistoryAct.{HistoryAct}
 use Rattle.gw_base.specs.declared.history.HistoryEntry.{HistoryEntry}
-use Rattle.gateway_book.specs.Answer.{Given, Drops, Replies, answer_by, node_of}
+use Rattle.gateway_book.specs.Answer.{Decided, Given, Says, Silent, answer_by, decided, node_of}
 use Rattle.gateway_book.specs.Preparing.{PreparedValue, prepared_of}
 
 -- the entry that records an act of this caller: its moment is never less than the last entry's
@@ -31,9 +31,12 @@ abbrev pub answer : List HistoryEntry → Addr → List ℕ → ℕ → Given
 answer h from octets size = answer_to h from (prepared_of octets) size
 
 -- the act that an answer records
+abbrev pub act_decided : Decided → Option HistoryAct
+act_decided (Silent why) = None
+act_decided (Says octets act) = act
+
 abbrev pub act_given : Given → Option HistoryAct
-act_given (Drops why) = None
-act_given (Replies number message act) = act
+act_given given = act_decided (decided given)
 
 -- the history with one more entry, where an act is recorded
 abbrev pub with_act : List HistoryEntry → ℕ → Caller → Option HistoryAct → List HistoryEntry

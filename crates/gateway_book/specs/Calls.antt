@@ -1,13 +1,12 @@
 -- What the calls of a book make of the value that it stands for, and what they answer.
 use Rattle.std.specs.Prelude.{ℕ, ◌+◌, ◌-◌, nat_lt, if◌then◌else◌, List, length, Option, Some, None, Result, Ok, Err}
 use Rattle.entry_codec.specs.Room.{capacity_of, costs_of}
-use Rattle.gtpp_message.specs.Writing.{written}
 use Rattle.gw_base.specs.HeldKeys.{promised_octets}
 use Rattle.gw_base.specs.History.{copies_of}
 use Rattle.gw_base.specs.declared.address.Addr.{Addr}
 use Rattle.gw_base.specs.declared.history.Caller.{Caller}
-use Rattle.gateway_book.specs.Answer.{Given, Drops, Replies, failure_answer}
-use Rattle.gateway_book.specs.Answered.{act_given, answer_to}
+use Rattle.gateway_book.specs.Answer.{Decided, Given, Says, Silent, decided, failure_answer}
+use Rattle.gateway_book.specs.Answered.{act_decided, answer_to}
 use Rattle.gateway_book.specs.Marks.{Mark, NotDue, NoRoom, Makes, close_mark, tick_mark}
 use Rattle.gateway_book.specs.Preparing.{PreparedValue}
 use Rattle.gateway_book.specs.Value.{BookValue, Fortune, after_commit, history_of, readied, recorded, recorded_if}
@@ -29,24 +28,24 @@ given_at ready from datagram size =
 
 -- what the caller is told of an answer: its octets, the length of the history that they rest on, and how many commits
 -- and openings again have failed
-abbrev pub outcome_at : BookValue → Given → Outcome
-outcome_at after (Drops why) = outcome.Drop why
-outcome_at after (Replies number message act) =
-    outcome.Answer (record { reply = written number message; front = length (history_of after); faults = after.cuts })
+abbrev pub outcome_at : BookValue → Decided → Outcome
+outcome_at after (Silent why) = outcome.Drop why
+outcome_at after (Says octets act) =
+    outcome.Answer (record { reply = octets; front = length (history_of after); faults = after.cuts })
 
 -- the book as a call left it, and what the call answered
 pub record Left (A : Type 0) : Type 0 where
   pub value : BookValue
   pub answer : A
 
-abbrev pub left_by : BookValue → ℕ → Caller → Given → Left Outcome
-left_by ready now who given =
-    let after = recorded_if ready now who (act_given given) in record { value = after; answer = outcome_at after given }
+abbrev pub left_by : BookValue → ℕ → Caller → Decided → Left Outcome
+left_by ready now who decision =
+    let after = recorded_if ready now who (act_decided decision) in record { value = after; answer = outcome_at after decision }
 
 -- a datagram of this sender is taken
 abbrev pub taken : Fortune → Addr → PreparedValue → ℕ → ℕ → Caller → BookValue → Left Outcome
 taken f from datagram size now who v =
-    let ready = readied f v in left_by ready now who (given_at ready from datagram size)
+    let ready = readied f v in left_by ready now who (decided (given_at ready from datagram size))
 
 -- A mark is made.
 

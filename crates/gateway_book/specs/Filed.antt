@@ -12,19 +12,9 @@ use Rattle.gw_base.specs.declared.history.HistoryAct.{HistoryAct}
 use Rattle.gw_base.specs.declared.history.HistoryAct.TheVariants.{File, Hold, Release}
 use Rattle.gw_base.specs.declared.history.HistoryEntry.{HistoryEntry}
 use Rattle.gw_base.specs.declared.history.PacketKey.{PacketKey}
-use Rattle.gw_base.specs.declared.kind.CdrKind.{CdrKind}
 use Rattle.gw_base.specs.declared.tag.Tag.{Tag}
 use Rattle.gateway_book.specs.Preparing.{ber_format}
-
--- a filed record: the key of the packet that brought it, its index in that packet from 0 on, what the header of its CDR
--- says, the identifier of the record where it is a BER value, its octets, and the moment of the entry that filed it
-pub record FiledRecord : Type 0 where
-  pub key : PacketKey
-  pub index : ℕ
-  pub kind : CdrKind
-  pub tag : Option Tag
-  pub octets : List ℕ
-  pub moment : ℕ
+use Rattle.gateway_book.specs.declared.filing.FiledRecord.{FiledRecord}
 
 -- the identifier of a record of a packet with this data record format; records of other formats have none
 abbrev pub record_tag : ℕ → List ℕ → Option Tag
@@ -77,17 +67,21 @@ released_records before moment n number =
 abbrev pub released_by : List HistoryEntry → ℕ → NodeId → List ℕ → List FiledRecord
 released_by before moment n numbers = flat_map (released_records before moment n) numbers
 
--- the records that an entry files, by the entries before it: a release that names a number twice files its records once
-abbrev pub filed_by : List HistoryEntry → ℕ → HistoryAct → List FiledRecord
-filed_by before moment (File n x packet) = records_of (present_key before n x) moment packet
-filed_by before moment (Release n xs) = released_by before moment n (once (λ x y. x == y) xs)
-filed_by before moment _ = []
+-- the records that an act files, by the entries before it: a release that names a number twice files its records once
+abbrev pub filed_by_act : List HistoryEntry → ℕ → HistoryAct → List FiledRecord
+filed_by_act before moment (File n x packet) = records_of (present_key before n x) moment packet
+filed_by_act before moment (Release n xs) = released_by before moment n (once (λ x y. x == y) xs)
+filed_by_act before moment _ = []
 
--- the records that these entries file, behind those before them
-abbrev pub filed_from : List HistoryEntry → List HistoryEntry → List FiledRecord
-filed_from before [] = []
-filed_from before (e ∷ h) = filed_by before e.moment e.act ++ filed_from (before ++ e ∷ []) h
+-- the records that an entry files
+abbrev pub filed_by : List HistoryEntry → HistoryEntry → List FiledRecord
+filed_by before e = filed_by_act before e.moment e.act
+
+-- what each of these entries gives by the entries before it, one after the other
+abbrev pub along : {A : Type 0} → (List HistoryEntry → HistoryEntry → List A) → List HistoryEntry → List HistoryEntry → List A
+along f before [] = []
+along f before (e ∷ h) = f before e ++ along f (before ++ e ∷ []) h
 
 -- the records that a history files: those of each File entry, and at a Release those of the packets that it releases
 abbrev pub filed : List HistoryEntry → List FiledRecord
-filed h = filed_from [] h
+filed h = along filed_by [] h

@@ -1,8 +1,7 @@
--- Which entries are fit to stand in the journal of a gateway, each behind those before it.
+-- Which entries are fit to stand in the journal of a gateway, behind those before them.
 use Rattle.std.specs.Prelude.{ℕ, ◌+◌, ◌≤◌, ◌==◌, ◌&&◌, nat_le, Bool, true, false, IsTrue, not, List, [], ◌∷◌, Option}
 use Rattle.std.specs.List.{list_all}
 use Rattle.std.specs.Option.{option_map_or}
-use Rattle.cgf_journal.specs.Fit as journal
 use Rattle.entry_codec.specs.Room.{has_room}
 use Rattle.gtpp_message.specs.Packet.{packet_of}
 use Rattle.gw_base.specs.HeldKeys.{is_held}
@@ -66,7 +65,3 @@ pub record IsFit (size : ℕ) (h : List HistoryEntry) (e : HistoryEntry) : Type 
   pub order : last_moment h ≤ e.moment
   pub act : IsTrue (is_act_fit (observed h) e.act)
   pub room : IsTrue (has_room h e size)
-
--- each entry of a history is fit behind those before it
-abbrev pub AllFit : ℕ → List HistoryEntry → Type 0
-AllFit size h = journal.AllFit (IsFit size) [] h

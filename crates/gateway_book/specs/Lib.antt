@@ -3,11 +3,17 @@ pub mod Answer
 pub mod Answered
 pub mod Calls
 pub mod Cases
+pub mod Decisions
 pub mod Filed
 pub mod Fit
+pub mod FitHistory
 pub mod Items
 pub mod Limits
 pub mod Marks
 pub mod Preparing
 pub mod Told
 pub mod Value
+-- Laws of these, with their proofs.
+pub mod FiledLaws
+-- Steps of proofs.
+pub mod Steps

@@ -2,11 +2,17 @@
 //! journal (3GPP TS 32.295, clauses 5.1.3 and 6.2).
 #![tactic(auto)]
 
+mod answering;
 mod case;
+mod decision;
+mod filing;
+mod listing;
+mod observe;
 mod outcome;
 mod preparing;
 mod told;
 
+pub use filing::{FiledRecord, filed};
 pub use outcome::{BookFault, Broken, ItemsFault, Marked, Outcome, Receipt, Settled, Setup};
 pub use preparing::{Prepared, prepare};
 pub use told::{Counts, Key};

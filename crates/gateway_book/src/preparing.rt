@@ -41,7 +41,7 @@ impl<'a> Prepared<'a> {
 }
 
 /// The data record format of records in ASN.1 BER.
-const BER_FORMAT: u8 = 1;
+pub(crate) const BER_FORMAT: u8 = 1;
 
 /// Reads a datagram as a gateway does.
 ///
