@@ -4,7 +4,6 @@ use Rattle.std.specs.List.{list_all}
 use Rattle.std.specs.Option.{option_map_or}
 use Rattle.entry_codec.specs.Room.{has_room}
 use Rattle.gtpp_message.specs.Packet.{packet_of}
-use Rattle.gw_base.specs.HeldKeys.{is_held}
 use Rattle.gw_base.specs.History.{last_moment}
 use Rattle.gw_base.specs.Observed.{Observed, observed}
 use Rattle.gw_base.specs.declared.address.NodeId.{NodeId}
@@ -13,6 +12,7 @@ use Rattle.gw_base.specs.declared.history.HistoryAct.TheVariants.{Start, Path, F
 use Rattle.gw_base.specs.declared.history.HistoryEntry.{HistoryEntry}
 use Rattle.gw_base.specs.declared.key_state.KeyState.{KeyState}
 use Rattle.gw_base.specs.declared.key_state.KeyState.TheVariants.{Fresh}
+use Rattle.transfer_cmd.specs.Lists.{is_held}
 use Rattle.gateway_book.specs.Limits.{has_place, is_in_range, may_hold}
 use Rattle.gateway_book.specs.Preparing.{has_values}
 

@@ -11,9 +11,14 @@ pub mod Items
 pub mod Limits
 pub mod Marks
 pub mod Preparing
+pub mod Recording
 pub mod Told
 pub mod Value
 -- Laws of these, with their proofs.
+pub mod AnswerLaws
 pub mod FiledLaws
+pub mod FitLaws
+pub mod ListFitLaws
+pub mod PreparingLaws
 -- Steps of proofs.
 pub mod Steps

@@ -1,6 +1,6 @@
 -- What a gateway makes of a datagram before it looks at its history (3GPP TS 32.295, clause 6.2): what it reads as a
 -- gateway, and then whether the records that a request sends are what their format says.
-use Rattle.std.specs.Prelude.{ℕ, Bool, true, ◌==◌, if◌then◌else◌, List, Option, Some, None}
+use Rattle.std.specs.Prelude.{◌≡◌, ℕ, Bool, true, ◌==◌, if◌then◌else◌, List, Option, Some, None}
 use Rattle.std.specs.List.{list_all}
 use Rattle.ber_frame.specs.Checked.{is_one_value}
 use Rattle.gw_base.specs.declared.cause.TheConstants.{CDR_DECODING_ERROR}
@@ -69,10 +69,10 @@ framed (read.Message number message) = received number message
 abbrev pub prepared_of : List ℕ → PreparedValue
 prepared_of octets = framed (role_reading Gateway octets)
 
--- the packet that a request sends says what its value says
+-- the packet that a request sends says what its value says, and its records are what their format says
 abbrev pub IsWhole : PreparedValue → Type 0
 IsWhole (Drop why) = Unit {0}
 IsWhole (OtherVersion number) = Unit {0}
 IsWhole (Refused cause number) = Unit {0}
 IsWhole (Path event) = Unit {0}
-IsWhole (Request number body) = IsSendableTransfer body
+IsWhole (Request number body) = IsSendableTransfer body × (sends_values body ≡ true)

@@ -6,6 +6,7 @@ mod answering;
 mod case;
 mod decision;
 mod filing;
+pub mod laws;
 mod listing;
 mod observe;
 mod outcome;
