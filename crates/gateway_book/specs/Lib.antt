@@ -17,8 +17,11 @@ pub mod Value
 -- Laws of these, with their proofs.
 pub mod AnswerLaws
 pub mod FiledLaws
+pub mod FitHistoryLaws
 pub mod FitLaws
 pub mod ListFitLaws
 pub mod PreparingLaws
+pub mod ResourceLaws
+pub mod RoomLaws
 -- Steps of proofs.
 pub mod Steps
