@@ -1,3 +1,9 @@
 pub mod FilingLemmas
+pub mod HeldCounts
+pub mod IndexLemmas
 pub mod ListsLemmas
+pub mod NodesLemmas
 pub mod RecordsLemmas
+pub mod StatesLemmas
+pub mod Telling
+pub mod Tellings

@@ -7,6 +7,7 @@ pub mod Decisions
 pub mod Filed
 pub mod Fit
 pub mod FitHistory
+pub mod Index
 pub mod Items
 pub mod Limits
 pub mod Marks
@@ -23,5 +24,8 @@ pub mod ListFitLaws
 pub mod PreparingLaws
 pub mod ResourceLaws
 pub mod RoomLaws
--- Steps of proofs.
+-- Steps of proofs, and private clauses.
+pub mod Nodes
+pub mod Sides
+pub mod States
 pub mod Steps

@@ -6,12 +6,18 @@ mod answering;
 mod case;
 mod decision;
 mod filing;
+mod index;
 pub mod laws;
 mod listing;
+mod node_mark;
+mod nodes;
 mod observe;
+mod observed;
 mod outcome;
 mod preparing;
+mod states;
 mod told;
+mod totals;
 
 pub use filing::{FiledRecord, filed};
 pub use outcome::{BookFault, Broken, ItemsFault, Marked, Outcome, Receipt, Settled, Setup};
