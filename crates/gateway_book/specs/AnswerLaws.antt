@@ -1,5 +1,6 @@
 -- An answer records an act only where it accepts a request or opens an epoch.
-use Rattle.std.proofs.Common.{◌≡◌, ◌⊎◌, inl, inr, ℕ, Bool, true, false, if◌then◌else◌, List, [], ◌∷◌, Option, Some, None, refl, ap, map}
+use Rattle.std.proofs.Common.{◌≡◌, ◌⊎◌, inl, inr, ℕ, Bool, true, false, if◌then◌else◌, List, [], ◌∷◌, Option, Some, None, refl, sym, ap, subst, map, ⊎_elim, ◌≢◌}
+use Rattle.std.proofs.lemmas.Bool.{false≢true}
 use Rattle.std.specs.Prelude.{⊤}
 use Rattle.std.specs.Option.{option_map}
 use Rattle.gtpp_message.specs.Message.{MessageValue, TransferValue, Send, Possible, Cancel, Release, NodeAliveResponse, TransferResponse}
@@ -80,3 +81,18 @@ records_accepted o from (OtherVersion number) room = tt
 records_accepted o from (Refused cause number) room = tt
 records_accepted o from (Path event) room = by_path o room from event
 records_accepted o from (Request number body) room = by_request o room number (node_of from) body
+
+abbrev cause_in : MessageValue → ℕ
+cause_in (TransferResponse cause responded) = cause
+cause_in _ = 0
+
+abbrev is_response : MessageValue → Bool
+is_response (TransferResponse cause responded) = true
+is_response _ = false
+
+-- a request that is answered with another cause records nothing
+pub refused_records_nothing : (given : Given) → IfRecords Accepts given → (number cause : ℕ) (responded : List ℕ) (a : Option HistoryAct)
+    → given ≡ Replies number (TransferResponse cause responded) a → cause ≢ ACCEPTED → a ≡ None
+refused_records_nothing given accepts number cause responded None is other = refl
+refused_records_nothing given accepts number cause responded (Some a) is other =
+    ⊎_elim (λ e. absurd (other (ap cause_in e))) (λ e. absurd (false≢true (ap is_response (sym e)))) (subst (IfRecords Accepts) is accepts)

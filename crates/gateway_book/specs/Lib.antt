@@ -11,6 +11,7 @@ pub mod Index
 pub mod Items
 pub mod Limits
 pub mod Marks
+pub mod Once
 pub mod Preparing
 pub mod Recording
 pub mod Told
@@ -21,6 +22,7 @@ pub mod FiledLaws
 pub mod FitHistoryLaws
 pub mod FitLaws
 pub mod ListFitLaws
+pub mod OnceLaws
 pub mod PreparingLaws
 pub mod ResourceLaws
 pub mod RoomLaws

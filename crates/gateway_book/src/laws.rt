@@ -1,30 +1,37 @@
 //! Laws of the definitions that the book's calls cite. Each stands on a function that does nothing.
 
-ghost use Rattle.std.specs.Prelude.{◌≡◌, ◌≤◌, [], ◌∷◌, ◌++◌, ℕ, Bool, true, false, List, length};
+ghost use Rattle.std.specs.Prelude.{◌≡◌, ◌≢◌, ◌≤◌, [], ◌∷◌, ◌++◌, ℕ, Bool, true, false, List, Option, None, length};
 ghost use Rattle.entry_codec.specs.Room.{IsWithin};
-ghost use Rattle.gtpp_message.specs.Message.{Cancel, Release, TransferValue};
+ghost use Rattle.gtpp_message.specs.Message.{Cancel, Release, TransferResponse, TransferValue};
 ghost use Rattle.gw_base.specs.History.{is_close_due, last_moment};
 ghost use Rattle.gw_base.specs.Known.{known_nodes};
 ghost use Rattle.gw_base.specs.Observed.{Observed};
 ghost use Rattle.gw_base.specs.declared.address.Addr.{Addr};
+ghost use Rattle.gw_base.specs.declared.cause.TheConstants.{ACCEPTED};
 ghost use Rattle.gw_base.specs.declared.history.Caller.{Caller};
 ghost use Rattle.gw_base.specs.declared.history.HistoryAct.{HistoryAct};
 ghost use Rattle.gw_base.specs.declared.history.HistoryAct.TheVariants.{Close};
 ghost use Rattle.gw_base.specs.declared.history.HistoryEntry.{HistoryEntry};
-ghost use Rattle.gateway_book.specs.Answer.{answer_by};
+ghost use Rattle.gw_base.specs.declared.history.PacketKey.{PacketKey};
+ghost use Rattle.gateway_book.specs.Answer.{Replies, answer_by};
 ghost use Rattle.gateway_book.specs.Answered.{answer_to, entry_by, room_for};
 ghost use Rattle.gateway_book.specs.Filed.{along, filed, filed_by};
 ghost use Rattle.gateway_book.specs.Fit.{IsFit, latest_moment};
 ghost use Rattle.gateway_book.specs.FitHistory.{AllFit};
 ghost use Rattle.gateway_book.specs.Items.{items_by, items_of};
 ghost use Rattle.gateway_book.specs.Limits.{most_nodes};
+ghost use Rattle.gateway_book.specs.Once.{times_filed};
 ghost use Rattle.gateway_book.specs.Preparing.{IsWhole, PreparedValue, Request, prepared_of};
 ghost use Rattle.gateway_book.specs.Recording.{Accepts, HasRoomFor, IfRecords, IsWithinLimits, is_without_resources};
 
-/// An answer records an act only where it accepts a request, or where it answers Node Alive.
+/// An answer records an act only where it accepts a request, or where it answers Node Alive: a
+/// request that is answered with another cause adds nothing.
 pub fn only_what_is_accepted_is_recorded()
-    ensures { (o : Observed) (from : Addr) (datagram : PreparedValue) (room : HistoryAct → Bool) →
+    ensures records { (o : Observed) (from : Addr) (datagram : PreparedValue) (room : HistoryAct → Bool) →
         IfRecords Accepts (answer_by o from datagram room) }
+    ensures refused { (o : Observed) (from : Addr) (datagram : PreparedValue) (room : HistoryAct → Bool) →
+        (number cause : ℕ) (responded : List ℕ) (act : Option HistoryAct) →
+        answer_by o from datagram room ≡ Replies number (TransferResponse cause responded) act → cause ≢ ACCEPTED → act ≡ None }
 {}
 
 /// What a gateway makes of any octets is whole: the packet that a request sends is the one that its
@@ -84,6 +91,12 @@ pub fn a_due_close_has_room()
 {
     entry_codec::laws::a_due_close_has_room();
 }
+
+/// In a fit history each record of the packet under a key is filed at most once.
+pub fn each_record_is_filed_once()
+    ensures { (key : PacketKey) (index size : ℕ) (h : List HistoryEntry) → AllFit size h →
+        times_filed key index (filed h) ≤ 1 }
+{}
 
 /// What a history files stays as it is when entries follow.
 pub fn filed_records_stay()
