@@ -2,6 +2,7 @@ pub mod FilingLemmas
 pub mod HeldCounts
 pub mod IndexLemmas
 pub mod ListsLemmas
+pub mod MarksLemmas
 pub mod NodesLemmas
 pub mod RecordsLemmas
 pub mod StatesLemmas

@@ -31,3 +31,4 @@ pub mod Nodes
 pub mod Sides
 pub mod States
 pub mod Steps
+pub mod WireMarks

@@ -18,6 +18,7 @@ mod preparing;
 mod states;
 mod told;
 mod totals;
+mod wire_marks;
 
 pub use filing::{FiledRecord, filed};
 pub use outcome::{BookFault, Broken, ItemsFault, Marked, Outcome, Receipt, Settled, Setup};

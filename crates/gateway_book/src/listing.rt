@@ -1,5 +1,5 @@
 // The answers to requests that name lists of numbers.
-ghost use Rattle.std.specs.Prelude.{◌≡◌, ◌<◌, ◌^◌, map, IfOk, IfSome, OnOk};
+ghost use Rattle.std.specs.Prelude.{◌≡◌, ◌<◌, ◌^◌, ℕ, [], ◌∷◌, ◌++◌, map, Option, IfOk, IfSome, OnOk};
 ghost use Rattle.std.specs.Option.{option_map};
 ghost use Rattle.gw_base.specs.Entry.{act_view};
 ghost use Rattle.gw_base.specs.Nearest.{nearest};
@@ -7,12 +7,14 @@ ghost use Rattle.transfer_cmd.specs.Lists.{is_held};
 ghost use Rattle.gateway_book.specs.Answer.{changes, changing, decided, held_ones, listed};
 ghost use Rattle.gateway_book.specs.Decisions.{decision_view};
 ghost use Rattle.gateway_book.specs.Steps.{with_held};
+ghost use Rattle.gateway_book.specs.WireMarks.{AreMarked};
 
 use crate::answering::tabled;
 use crate::decision::Decision;
 use crate::observe::Observe;
+use crate::wire_marks::WireMarks;
 use gtpp_elements::Numbers;
-use gw_base::{Absolute, Act, KeyState, NoMemory, NodeId, lists, nearest_number};
+use gw_base::{Absolute, Act, KeyState, NoMemory, NodeId, nearest_number};
 use std::alloc::Global;
 use transfer_cmd::{Verdict, judge};
 
@@ -23,16 +25,19 @@ pub(crate) struct Scratch {
     numbers: Vec<Absolute>,
     states: Vec<KeyState>,
     held: Vec<Absolute>,
+    /// The sequence numbers of the held ones that were found.
+    marks: WireMarks,
 }
 
 impl Scratch {
     /// Empty lists.
-    pub(crate) fn new(alloc: Global) -> Scratch {
-        Scratch {
+    pub(crate) fn new(alloc: Global) -> Result<Scratch, NoMemory> {
+        Ok(Scratch {
             numbers: Vec::new(alloc),
             states: Vec::new(alloc),
             held: Vec::new(alloc),
-        }
+            marks: WireMarks::new(alloc)?,
+        })
     }
 }
 
@@ -48,9 +53,11 @@ pub(crate) fn listed<'a, O: Observe>(
     ensures { IfOk result (λ decision. decision_view decision
         ≡ decided (listed (O.seen seen.now node) (O.room seen.now) node number release numbers.now)) }
 {
-    name_numbers(seen.top(node), numbers, &mut scratch.numbers)?;
+    let top = seen.top(node);
+    name_numbers(top, numbers, &mut scratch.numbers)?;
     find_states(seen, node, &scratch.numbers, &mut scratch.states)?;
-    find_held(seen, node, &scratch.numbers, &mut scratch.held)?;
+    let (held, marks) = (&mut scratch.held, &mut scratch.marks);
+    find_held(seen, node, top, numbers, held, marks)?;
     let verdict = judge(&scratch.states, release);
     let act = changes(verdict, release, node, &scratch.held);
     Ok(tabled(seen, node, number, verdict.cause(), act))
@@ -109,35 +116,62 @@ fn find_states<O: Observe>(
     Ok(())
 }
 
-/// The held ones of these numbers, each once.
-#[tactic(auto, using(crate::proofs::ListsLemmas::held_is))]
+/// The held ones of the numbers that a list names, each once.
+#[tactic(auto, using(crate::proofs::MarksLemmas::step_held))]
 fn find_held<O: Observe>(
     seen: &O,
     node: NodeId,
-    numbers: &[Absolute],
+    top: Option<Absolute>,
+    numbers: &Numbers<'_>,
     into: &mut Vec<Absolute>,
+    marks: &mut WireMarks,
 ) -> Result<(), NoMemory>
-    ensures { OnOk result (into.new.items ≡ held_ones (O.seen seen.now node) numbers.now) }
+    requires { IfSome top (λ t. t < 2 ^ 63) }
+    ensures { OnOk result (into.new.items ≡ held_ones (O.seen seen.now node) (map (nearest top) numbers.now)) }
 {
     into.clear();
-    for number in numbers {
-        keep_held(seen, node, *number, into)?;
+    marks.clear();
+    for place in 0..numbers.count() {
+        keep_held(seen, node, top, numbers.at(place), into, marks)?;
     }
     Ok(())
 }
 
-/// Appends a number, where it is held and isn't there yet.
+/// Appends the number that is meant, where it is held and isn't there yet.
 fn keep_held<O: Observe>(
     seen: &O,
     node: NodeId,
-    number: Absolute,
+    top: Option<Absolute>,
+    wire: u16,
     into: &mut Vec<Absolute>,
+    marks: &mut WireMarks,
 ) -> Result<(), NoMemory>
-    ensures { OnOk result (into.new.items ≡ with_held (O.seen seen.now node) into.old.items number) }
+    requires bounded { IfSome top (λ t. t < 2 ^ 63) }
+    requires found { AreMarked top marks.old into.old.items }
+    ensures kept { OnOk result (into.new.items ≡ with_held (O.seen seen.now node) into.old.items (nearest top wire)) }
+    ensures marked { OnOk result (AreMarked top marks.new into.new.items) }
 {
-    if is_held(seen.state(node, number)) && !lists(into, number) {
-        into.push(number)?;
+    let number = nearest_number(top, wire);
+    if is_held(seen.state(node, number)) && !marks.has(wire) {
+        add(number, wire, into, marks)?;
     }
+    Ok(())
+}
+
+/// Appends a number that isn't there, which a sequence number means, and marks that.
+fn add(
+    number: Absolute,
+    wire: u16,
+    into: &mut Vec<Absolute>,
+    marks: &mut WireMarks,
+) -> Result<(), NoMemory>
+    ensures added { OnOk result (into.new.items ≡ into.old.items ++ number ∷ []) }
+    ensures marked { OnOk result ((top : Option ℕ) → number ≡ nearest top wire →
+        AreMarked top marks.old into.old.items → AreMarked top marks.new into.new.items) }
+{
+    gw_base::nearest_keeps_apart();
+    into.push(number)?;
+    marks.set(wire);
     Ok(())
 }
 
