@@ -32,3 +32,4 @@ pub mod Sides
 pub mod States
 pub mod Steps
 pub mod WireMarks
+pub mod Worked

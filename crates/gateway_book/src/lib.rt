@@ -19,6 +19,8 @@ mod states;
 mod told;
 mod totals;
 mod wire_marks;
+#[cfg(test)]
+mod worked_tests;
 
 pub use filing::{FiledRecord, filed};
 pub use outcome::{BookFault, Broken, ItemsFault, Marked, Outcome, Receipt, Settled, Setup};
