@@ -4,6 +4,7 @@ pub mod IndexLemmas
 pub mod ListsLemmas
 pub mod MarksLemmas
 pub mod NodesLemmas
+pub mod PlainLemmas
 pub mod RecordsLemmas
 pub mod StatesLemmas
 pub mod Telling

@@ -12,6 +12,7 @@ pub mod Items
 pub mod Limits
 pub mod Marks
 pub mod Once
+pub mod Plain
 pub mod Preparing
 pub mod Recording
 pub mod Told
