@@ -16,3 +16,4 @@ case_value (case.Request number body) = of.Request number (transfer_value body)
 pub record IsCaseOf (octets : List ℕ) (prepared : Case) : Type 0 where
   pub value : case_value prepared ≡ of.prepared_of octets
   pub whole : of.IsWhole (case_value prepared)
+  pub short : of.IsShort (case_value prepared)

@@ -27,6 +27,7 @@ pub mod OnceLaws
 pub mod PreparingLaws
 pub mod ResourceLaws
 pub mod RoomLaws
+pub mod ShortLaws
 -- Steps of proofs, and private clauses.
 pub mod Nodes
 pub mod Sides

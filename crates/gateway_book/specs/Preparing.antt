@@ -1,11 +1,11 @@
 -- What a gateway makes of a datagram before it looks at its history (3GPP TS 32.295, clause 6.2): what it reads as a
 -- gateway, and then whether the records that a request sends are what their format says.
-use Rattle.std.specs.Prelude.{◌≡◌, ℕ, Bool, true, ◌==◌, if◌then◌else◌, List, Option, Some, None}
+use Rattle.std.specs.Prelude.{◌≡◌, ◌≤◌, ℕ, Bool, true, ◌==◌, if◌then◌else◌, List, length, Option, Some, None}
 use Rattle.std.specs.List.{list_all}
 use Rattle.ber_frame.specs.Checked.{is_one_value}
 use Rattle.gw_base.specs.declared.cause.TheConstants.{CDR_DECODING_ERROR}
 use Rattle.gtpp_message.specs.Message.{MessageValue, TransferValue, TransferRequest, Send, Possible, Cancel, Release}
-use Rattle.gtpp_message.specs.Packet.{PacketForm, PacketValue, Empty, Full}
+use Rattle.gtpp_message.specs.Packet.{PacketForm, PacketValue, Empty, Full, packet_octets}
 use Rattle.gtpp_message.specs.PathMessages.{path_event}
 use Rattle.gtpp_message.specs.Reading.{ReadingValue}
 use Rattle.gtpp_message.specs.Reading as read
@@ -76,3 +76,17 @@ IsWhole (OtherVersion number) = Unit {0}
 IsWhole (Refused cause number) = Unit {0}
 IsWhole (Path event) = Unit {0}
 IsWhole (Request number body) = IsSendableTransfer body × (sends_values body ≡ true)
+
+-- the packet or the list of a request is no longer than the payload of a message may be
+abbrev pub IsShortTransfer : TransferValue → Type 0
+IsShortTransfer (Send packet) = length (packet_octets packet) ≤ 65535
+IsShortTransfer (Possible packet) = length (packet_octets packet) ≤ 65535
+IsShortTransfer (Cancel numbers) = length numbers ≤ 32767
+IsShortTransfer (Release numbers) = length numbers ≤ 32767
+
+abbrev pub IsShort : PreparedValue → Type 0
+IsShort (Drop why) = Unit {0}
+IsShort (OtherVersion number) = Unit {0}
+IsShort (Refused cause number) = Unit {0}
+IsShort (Path event) = Unit {0}
+IsShort (Request number body) = IsShortTransfer body

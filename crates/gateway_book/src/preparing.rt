@@ -5,7 +5,7 @@ ghost use Rattle.gtpp_message.specs.Packet.{IsPacket};
 ghost use Rattle.gtpp_message.specs.Values.{message_value, packet_value, transfer_value};
 ghost use Rattle.gtpp_message.specs.Writing.{IsSendableMessage, IsSendableTransfer};
 ghost use Rattle.gateway_book.specs.Cases.{IsCaseOf, case_value};
-ghost use Rattle.gateway_book.specs.Preparing.{IsWhole, packet_has_values, prepared_of, received, requested, sends_values, told};
+ghost use Rattle.gateway_book.specs.Preparing.{IsShort, IsWhole, packet_has_values, prepared_of, received, requested, sends_values, told};
 
 use crate::case::Case;
 use gtpp_message::{Message, Packet, Reading, Records, Role, Transfer, Why, read_as};
@@ -50,13 +50,23 @@ pub(crate) const BER_FORMAT: u8 = 1;
 pub fn prepare(octets: &[u8]) -> Prepared<'_>
     ensures { result ≡ octets.now }
 {
+    is_short(octets);
     let case = case_of(octets);
     Prepared { octets, case }
 }
 
+/// No request is longer than the payload of a message may be.
+fn is_short(octets: &[u8])
+    ensures { IsShort (prepared_of octets.now) }
+{
+    gtpp_message::laws::a_role_reads_what_is_read();
+    gtpp_message::laws::what_is_read_is_spelled();
+}
+
 /// What a gateway makes of the octets of a datagram.
 fn case_of(octets: &[u8]) -> Case<'_>
-    ensures { IsCaseOf octets.now result }
+    ensures prepared { case_value result ≡ prepared_of octets.now }
+    ensures whole { IsWhole (case_value result) }
 {
     match read_as(Role::Gateway, octets) {
         Reading::Drop(why) => Case::Drop(why),
