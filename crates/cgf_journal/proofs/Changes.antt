@@ -14,7 +14,7 @@ use Rattle.gw_base.specs.declared.held.HeldKey.{HeldKey}
 use Rattle.gw_base.specs.declared.history.HistoryAct.TheVariants.{Close, Path, Release, Seal, Start, Tick}
 use Rattle.gw_base.specs.View.{stays_held}
 use Rattle.cgf_journal.specs.Keys.{IsAbsent, IsFirstOf, IsFound, changed_key, counted_keys, counts, is_named, key_of, rank, rank_of}
-use Rattle.cgf_journal.specs.Sorted.{IsChanged, firm_keys, live_keys}
+use Rattle.cgf_journal.specs.Sorted.{GrowsBy, IsChanged, firm_keys, live_keys}
 use Rattle.cgf_journal.specs.Tally.{held_after, held_with, key_in_order}
 use Rattle.cgf_journal.specs.declared.key.KeptKey.{KeptKey}
 use Rattle.cgf_journal.specs.declared.sorted.SortedKeys.{SortedKeys}
@@ -50,6 +50,23 @@ firm_after old new at held change inside =
     ∙ firm-changed old.round old.keys.items at now inside
     (λ e. ap (λ (k : KeptKey). key_of k) (get_or_default old.keys.items at d e inside))
     (λ e. count-changed held old.round (slice_index_or old.keys.items at d) ∙ ap (λ (k : KeptKey). counts true old.round k) (get_or_default old.keys.items at d e inside))
+
+-- ---- how many keys are kept
+
+pub changed_grows : (old new : SortedKeys) (at : ℕ) (held : Bool) → IsChanged at held old new → at < length old.keys.items → GrowsBy 0 old new
+changed_grows old new at held change inside =
+    let d = new_key (record { 0 = 0 }) 0 0 in
+    record {
+      firm = firm_after old new at held change inside;
+      count = omega (arith, ap (λ (l : List KeptKey). length l) (change.keys d), length-set old.keys.items at (changed_key held old.round (slice_index_or old.keys.items at d)));
+      reserved = change.reserved;
+    }
+
+pub grows_on : (more : ℕ) (a b c : SortedKeys) → GrowsBy more a b → GrowsBy 0 b c → GrowsBy more a c
+grows_on more a b c one two = record { firm = two.firm ∙ one.firm; count = omega (arith, one.count, two.count); reserved = two.reserved ∙ one.reserved }
+
+pub grows_more : (more : ℕ) (a b : SortedKeys) → GrowsBy 0 a b → GrowsBy more a b
+grows_more more a b grows = record { firm = grows.firm; count = omega (arith, grows.count); reserved = grows.reserved }
 
 -- ---- one key more
 
@@ -133,7 +150,7 @@ key-set keys at now e inside same j d = by_place (cases_eq j at)
 
 -- What stands while the numbers of a node are let go, from `first` on up to `at`; they end at `end`.
 pub record IsLettingGo (n : NodeId) (begun s : SortedKeys) (at end : ℕ) : Type 0 where
-  pub firm : firm_keys s ≡ firm_keys begun
+  pub grows : GrowsBy 0 begun s
   pub live : filter (λ (key : HeldKey). of_others n key) (live_keys s) ≡ filter (λ (key : HeldKey). of_others n key) (live_keys begun)
   pub inside : (at ≤ end) × (end ≤ length s.keys.items)
   pub gone : (j : ℕ) (d : KeptKey) → j < at → (slice_index_or s.keys.items j d).is_held ≡ true → of_others n (key_of (slice_index_or s.keys.items j d)) ≡ true
@@ -142,7 +159,7 @@ pub record IsLettingGo (n : NodeId) (begun s : SortedKeys) (at end : ℕ) : Type
 
 pub begins : (n : NodeId) (s : SortedKeys) (first end : ℕ) → IsFirstOf s.keys.items first n.0 → IsFirstOf s.keys.items end (n.0 + 1) → IsLettingGo n s s first end
 begins n s first end starts ends = record {
-  firm = refl;
+  grows = record { firm = refl; count = omega arith; reserved = refl };
   live = refl;
   inside = (
     elim (cases_lt end first) [
@@ -170,7 +187,7 @@ goes_on n begun s next at end more change so_far =
     let node : (j : ℕ) (d : KeptKey) → (slice_index_or next.keys.items j d).node.0 ≡ (slice_index_or s.keys.items j d).node.0 =
     λ j d. ap (λ (l : List KeptKey). (slice_index_or l j d).node.0) is ∙ ap (λ (key : HeldKey). key.node.0) (same j d) in
     record {
-      firm = firm_after s next at false change within ∙ so_far.firm;
+      grows = grows_on 0 begun s next so_far.grows (changed_grows s next at false change within);
       live =
           (λ i. filter (λ (key : HeldKey). of_others n key) (counted_keys false (change.round i) (is i)))
           ∙ let_go (λ (key : HeldKey). of_others n key) s.round s.keys.items at now within refl (λ d. own_fails n (key_of (slice_index_or s.keys.items at d)) (so_far.own at d (omega arith) more))
@@ -202,7 +219,7 @@ ends_free n begun s at end done so_far =
 
 -- ---- entries that name nothing
 
-all_stay : (act : HistoryAct) → ((key : HeldKey) → stays_held act key ≡ true) → (keys : List HeldKey) → filter (λ (key : HeldKey). stays_held act key) keys ≡ keys
+pub all_stay : (act : HistoryAct) → ((key : HeldKey) → stays_held act key ≡ true) → (keys : List HeldKey) → filter (λ (key : HeldKey). stays_held act key) keys ≡ keys
 all_stay act stay [] = refl
 all_stay act stay (key ∷ keys) = rw (stay key) (ap (λ (l : List HeldKey). key ∷ l) (all_stay act stay keys))
 

@@ -16,6 +16,7 @@ use Rattle.entry_codec.specs.Room.{costs_of}
 use Rattle.entry_codec.specs.Laws.{costs_of-append, costs_of-spelled, entries_of-nil, no_entries}
 use Rattle.cgf_journal.specs.Format.{AreBatches, entries_in}
 use Rattle.cgf_journal.specs.Opening.{AreListed, IsTakenUpTo}
+use Rattle.cgf_journal.specs.Reserved.{Placed}
 use Rattle.cgf_journal.specs.Sound.{EndsBy, IsSound, is_founded, places_behind, places_from}
 use Rattle.cgf_journal.specs.Tally.{Tallies, TallyValue, tally_behind_all, tally_of}
 use Rattle.cgf_journal.proofs.Tallies.{tally_of-costs}
@@ -50,8 +51,11 @@ places_end gate (batch ∷ some) end contents le =
     (places_from-ends (gate + 5) (entries_of batch) end (omega (arith, le, ap length content.are_entries.spelling)))
     (places_end (gate + 5 + length batch) some end (All-tail IsContent batch some contents) (omega (arith, le)))
 
-module _ {A : Type 0} {tells : Ghosts A} (journal : Journal A tells) (size : ℕ) (places : List Place) (tally : Tallies) (sized : size ≡ tells.size (area_of journal))
-    (ends : Told tells → end journal ≡ end_of (batches journal)) {Judged : List HistoryEntry → Type 0} (taken_in : IsTakenUpTo (AreListed tells (batches journal)) Judged size (end journal) places tally) where
+module _ {A : Type 0} {tells : Ghosts A} (journal : Journal A tells) (size : ℕ) (held : Placed) (tally : Tallies) (sized : size ≡ tells.size (area_of journal))
+    (ends : Told tells → end journal ≡ end_of (batches journal)) {Judged : List HistoryEntry → Type 0} (taken_in : IsTakenUpTo (AreListed tells (batches journal)) Judged size (end journal) held tally) where
+  abbrev places : List Place
+  places = held.items
+
   some : List (List ℕ)
   some = taken_in.some
 
@@ -70,7 +74,7 @@ module _ {A : Type 0} {tells : Ghosts A} (journal : Journal A tells) (size : ℕ
   costs_are = ap (λ (t : TallyValue). t.costs) taken_in.taken_in.live ∙ tally_of-costs (entries_in taken_in.some)
 
   pub made : front_of journal ≡ Founded → is_closed journal ≡ false
-      → IsSound journal size (record { octets = []; capacity = longest_batch }) places (length places) (record { firm = tally.live; live = tally.live })
+      → IsSound journal size (record { octets = []; capacity = longest_batch }) places (length places) (record { firm = tally.live; live = tally.live; reserved = tally.reserved })
   made founded opened =
       let all : take (length places) places ≡ places = take_all (length places) places (omega arith) in
       record {

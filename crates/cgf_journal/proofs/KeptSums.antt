@@ -13,16 +13,18 @@ use Rattle.gw_base.specs.View.{stays_held}
 use Rattle.entry_codec.specs.Room.{capacity_of}
 use Rattle.entry_codec.specs.Spelling.{cost_of}
 use Rattle.cgf_journal.specs.Keys.{counted_keys, counts, key_of}
-use Rattle.cgf_journal.specs.Sorted.{firm_keys, keys_of, live_keys}
+use Rattle.cgf_journal.specs.Reserved.{cheapest_hold}
+use Rattle.cgf_journal.specs.Sorted.{ArePaid, GrowsBy, IsFull, count_held, firm_keys, keys_of, live_keys}
 use Rattle.cgf_journal.specs.Sums.{sum_after, tally_with}
 use Rattle.cgf_journal.specs.Tally.{Tallies, TallyValue, free_beside, has_room_behind, held_after, keys_in_order, tally_behind}
 use Rattle.cgf_journal.specs.declared.key.KeptKey.{KeptKey}
 use Rattle.cgf_journal.specs.declared.sorted.SortedKeys.{SortedKeys}
 use Rattle.cgf_journal.specs.declared.sum.Sum.{Sum}
-use Rattle.cgf_journal.proofs.KeysLemmas.{length-key_in_order}
+use Rattle.cgf_journal.proofs.KeysLemmas.{counted_le, length-key_in_order}
+use Rattle.cgf_journal.proofs.Reserves.{hold_costs}
 
 abbrev pub tallies : SortedKeys → Sum → Sum → Tallies
-tallies keys firm live = record { firm = tally_with firm (firm_keys keys); live = tally_with live (live_keys keys) }
+tallies keys firm live = record { firm = tally_with firm (firm_keys keys); live = tally_with live (live_keys keys); reserved = keys.reserved }
 
 -- ---- how many keys stay
 
@@ -48,11 +50,43 @@ length-staying p firm round keys =
 -- ---- one more entry
 
 pub one_more : (keys now : SortedKeys) (firm live sum : Sum) (t : Tallies) (e : HistoryEntry) → tallies keys firm live ≡ t
-    → firm_keys now ≡ firm_keys keys → live_keys now ≡ held_after e.act (live_keys keys) → sum ≡ sum_after live e
-    → tallies now firm sum ≡ (let r : Tallies = record { firm = t.firm; live = tally_behind t.live e } in r)
-one_more keys now firm live sum t e is same more added =
-    (λ i. record { firm = tally_with firm (same i); live = tally_with (added i) (more i) })
-    ∙ ap (λ (s : Tallies). let r : Tallies = record { firm = s.firm; live = tally_behind s.live e } in r) is
+    → firm_keys now ≡ firm_keys keys → live_keys now ≡ held_after e.act (live_keys keys) → now.reserved ≡ keys.reserved → sum ≡ sum_after live e
+    → tallies now firm sum ≡ (let r : Tallies = record { firm = t.firm; live = tally_behind t.live e; reserved = t.reserved } in r)
+one_more keys now firm live sum t e is same more places added =
+    (λ i. record { firm = tally_with firm (same i); live = tally_with (added i) (more i); reserved = places i })
+    ∙ ap (λ (s : Tallies). let r : Tallies = record { firm = s.firm; live = tally_behind s.live e; reserved = s.reserved } in r) is
+
+-- ---- each key was paid for
+
+pub paid_same : (keys now : SortedKeys) (firm live : Sum) → ArePaid keys firm live → GrowsBy 0 keys now → ArePaid now firm live
+paid_same keys now firm live paid grows = record {
+  firm_paid = omega (arith, paid.firm_paid, ap (λ (l : List HeldKey). length l) grows.firm);
+  live_paid = omega (arith, paid.live_paid, grows.count);
+}
+
+pub paid_more : (keys now : SortedKeys) (firm live sum : Sum) (e : HistoryEntry) → ArePaid keys firm live → GrowsBy (count_held e.act) keys now → sum ≡ sum_after live e → ArePaid now firm sum
+paid_more keys now firm live sum e paid grows added = record {
+  firm_paid = omega (arith, paid.firm_paid, ap (λ (l : List HeldKey). length l) grows.firm);
+  live_paid = omega (arith, paid.live_paid, grows.count, hold_costs e, ap (λ (s : Sum). s.costs) added);
+}
+
+pub paid_settled : (keys now : SortedKeys) (firm live : Sum) → ArePaid keys firm live → firm_keys now ≡ live_keys keys → length now.keys.items ≡ length keys.keys.items → ArePaid now live live
+paid_settled keys now firm live paid same count = record {
+  firm_paid = omega (arith, paid.live_paid, ap (λ (l : List HeldKey). length l) same, counted_le false keys.round keys.keys.items);
+  live_paid = omega (arith, paid.live_paid, count);
+}
+
+pub paid_reverted : (keys now : SortedKeys) (firm live : Sum) → ArePaid keys firm live → firm_keys now ≡ firm_keys keys → length now.keys.items ≡ length (firm_keys keys) → ArePaid now firm firm
+paid_reverted keys now firm live paid same count = record {
+  firm_paid = omega (arith, paid.firm_paid, ap (λ (l : List HeldKey). length l) same);
+  live_paid = omega (arith, paid.firm_paid, count);
+}
+
+-- where no key more is reserved, the next would cost more than is left
+pub key_refused : (keys : SortedKeys) (firm live : Sum) (t : Tallies) (e : HistoryEntry) → tallies keys firm live ≡ t → ArePaid keys firm live → IsFull (count_held e.act) keys
+    → cheapest_hold * (t.reserved + 1) ≤ t.live.costs + cost_of e
+key_refused keys firm live t e is paid full =
+    omega (arith, paid.live_paid, full.one, full.full, hold_costs e, ap (λ (s : Tallies). s.reserved) is, ap (λ (s : Tallies). s.live.costs) is)
 
 -- ---- the tally of the firm entries, or else of all
 

@@ -17,7 +17,7 @@ use Rattle.cgf_journal.proofs.Ranks.{not_named}
 abbrev kept_by : Bool → ℕ → List KeptKey → List KeptKey
 kept_by s r keys = filter (λ (kept : KeptKey). counts s r kept) keys
 
-abbrev stays : NodeId → ℕ → HeldKey → Bool
+abbrev pub stays : NodeId → ℕ → HeldKey → Bool
 stays n x key = stays_held (Seal n x) key
 
 -- the keys before a place are before a rank, and those from a place on after it
@@ -39,7 +39,7 @@ all_kept p s r (kept ∷ keys) pass = by_count (counts s r kept) (pass 0 kept (o
     by_count true here rest = rw here (ap (λ (l : List HeldKey). key_of kept ∷ l) rest)
     by_count false here rest = rest
 
-other_stays : (kept : KeptKey) (n : NodeId) (x : ℕ) → (rank kept ≡ rank_of n.0 x → ⊥) → stays n x (key_of kept) ≡ true
+pub other_stays : (kept : KeptKey) (n : NodeId) (x : ℕ) → (rank kept ≡ rank_of n.0 x → ⊥) → stays n x (key_of kept) ≡ true
 other_stays kept n x ne = ap not (not_named kept n.0 x ne)
 
 pub others_stay : (n : NodeId) (x : ℕ) (s : Bool) (r : ℕ) (keys : List KeptKey) → ((j : ℕ) (d : KeptKey) → j < length keys → rank (slice_index_or keys j d) ≡ rank_of n.0 x → ⊥)

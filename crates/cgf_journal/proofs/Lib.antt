@@ -11,10 +11,13 @@ pub mod Meanings
 pub mod Opened
 pub mod Orders
 pub mod Placing
+pub mod Planning
 pub mod Ranks
 pub mod Reopening
+pub mod Reserves
 pub mod Sounds
 pub mod Standing
+pub mod Staying
 pub mod Takings
 pub mod Tallies
 pub mod Trails

@@ -11,6 +11,7 @@ use Rattle.entry_codec.specs.Content.{IsContent, entries_of}
 use Rattle.entry_codec.specs.Room.{capacity_of, costs_of}
 use Rattle.cgf_journal.specs.Format.{AreBatches, entries_in}
 use Rattle.cgf_journal.specs.Opening.{AreTakenIn, BreaksAt, IsTakenUpTo}
+use Rattle.cgf_journal.specs.Reserved.{Placed}
 use Rattle.cgf_journal.specs.Sound.{places_behind, places_from}
 use Rattle.cgf_journal.specs.Tally.{Tallies, TallyValue, tally_behind_all, tally_of}
 use Rattle.cgf_journal.proofs.Entries.{are_batches-push, entries_in-push}
@@ -22,7 +23,7 @@ last_content : (some : List (List ℕ)) (batch : List ℕ) → All IsContent (so
 last_content some batch all =
     All-head IsContent batch [] (subst (λ (l : List (List ℕ)). All IsContent l) (drop_at some (batch ∷ []) (length some) refl) (All-drop IsContent (length some) (some ++ batch ∷ []) all))
 
-module _ (size gate : ℕ) (some : List (List ℕ)) (places : List Place) (tally : Tallies) (taken_in : AreTakenIn size gate some places tally) (batch : List ℕ) where
+module _ (size gate : ℕ) (some : List (List ℕ)) (places : Placed) (tally : Tallies) (taken_in : AreTakenIn size gate some places tally) (batch : List ℕ) where
   live_behind : tally_behind_all tally.live (entries_of batch) ≡ tally_of (entries_in (some ++ batch ∷ []))
   live_behind =
       ap (λ (t : TallyValue). tally_behind_all t (entries_of batch)) taken_in.live
@@ -33,10 +34,10 @@ module _ (size gate : ℕ) (some : List (List ℕ)) (places : List Place) (tally
   costs_are = ap (λ (t : TallyValue). t.costs) live_behind ∙ tally_of-costs (entries_in (some ++ batch ∷ []))
 
   -- one more is taken in
-  pub one_more : (more : List Place) (new : Tallies) → IsContent batch → more ≡ places ++ places_from (gate + 5) (entries_of batch)
-      → new ≡ record { firm = tally.firm; live = tally_behind_all tally.live (entries_of batch) } → new.live.costs ≤ capacity_of size
+  pub one_more : (more : Placed) (new : Tallies) → IsContent batch → more.items ≡ places.items ++ places_from (gate + 5) (entries_of batch) → more.reserved ≡ places.reserved
+      → new ≡ record { firm = tally.firm; live = tally_behind_all tally.live (entries_of batch); reserved = tally.reserved } → new.live.costs ≤ capacity_of size
       → AreTakenIn size (gate + 5 + length batch) (some ++ batch ∷ []) more new
-  one_more more new content placed counted within =
+  one_more more new content placed same counted within =
       let live : new.live ≡ tally_behind_all tally.live (entries_of batch) = ap (λ (t : Tallies). t.live) counted in
       let costs : new.live.costs ≡ costs_of (entries_in (some ++ batch ∷ [])) = ap (λ (t : TallyValue). t.costs) live ∙ costs_are in
       record {
@@ -49,6 +50,10 @@ module _ (size gate : ℕ) (some : List (List ℕ)) (places : List Place) (tally
             ∙ sym (places_behind-push header_length some batch);
         firm = ap (λ (t : Tallies). t.firm) counted ∙ taken_in.firm;
         live = live ∙ live_behind;
+        enough = record {
+          places_last = omega (arith, taken_in.enough.places_last, same);
+          keys_last = omega (arith, taken_in.enough.keys_last, ap (λ (t : Tallies). t.reserved) counted);
+        };
       }
 
   -- one that is no entries is none to take in
@@ -56,7 +61,7 @@ module _ (size gate : ℕ) (some : List (List ℕ)) (places : List Place) (tally
   no_entries other are = other (last_content some batch are.contents)
 
   -- nor is one that costs too much
-  pub too_dear : (new : Tallies) → new ≡ record { firm = tally.firm; live = tally_behind_all tally.live (entries_of batch) } → capacity_of size < new.live.costs → AreBatches size (some ++ batch ∷ []) → ⊥
+  pub too_dear : (new : Tallies) → new ≡ record { firm = tally.firm; live = tally_behind_all tally.live (entries_of batch); reserved = tally.reserved } → capacity_of size < new.live.costs → AreBatches size (some ++ batch ∷ []) → ⊥
   too_dear new counted past are =
       let costs : new.live.costs ≡ costs_of (entries_in (some ++ batch ∷ [])) = ap (λ (t : Tallies). t.live.costs) counted ∙ costs_are in
       omega (arith, past, costs, are.costs)
@@ -72,7 +77,7 @@ no_more some [] all gate is at last = is ∙ append-nil some
 no_more some (batch ∷ rest) all gate is at last = absurd (omega (arith, at, last, ap taken is, taken-append some (batch ∷ rest)))
 
 -- one more of a list is taken in
-pub up_to_next : (Listed : List (List ℕ) → Type 0) (Judged : List HistoryEntry → Type 0) (size gate next : ℕ) (some : List (List ℕ)) (batch : List ℕ) (places : List Place) (tally : Tallies)
+pub up_to_next : (Listed : List (List ℕ) → Type 0) (Judged : List HistoryEntry → Type 0) (size gate next : ℕ) (some : List (List ℕ)) (batch : List ℕ) (places : Placed) (tally : Tallies)
     → AreTakenIn size next (some ++ batch ∷ []) places tally → Judged (entries_in (some ++ batch ∷ [])) → ((all : List (List ℕ)) → Listed all → (rest : List (List ℕ)) × (all ≡ some ++ batch ∷ rest))
     → IsTakenUpTo Listed Judged size next places tally
 up_to_next Listed Judged size gate next some batch places tally taken_in judged begins = record {
@@ -83,12 +88,12 @@ up_to_next Listed Judged size gate next some batch places tally taken_in judged 
 }
 
 -- at first none is
-pub up_to_first : (Listed : List (List ℕ) → Type 0) (Judged : List HistoryEntry → Type 0) (size : ℕ) (places : List Place) (tally : Tallies) → AreTakenIn size header_length [] places tally → Judged []
+pub up_to_first : (Listed : List (List ℕ) → Type 0) (Judged : List HistoryEntry → Type 0) (size : ℕ) (places : Placed) (tally : Tallies) → AreTakenIn size header_length [] places tally → Judged []
     → IsTakenUpTo Listed Judged size header_length places tally
 up_to_first Listed Judged size places tally taken_in judged = record { some = []; taken_in = taken_in; judged = judged; begins = λ all listed. (all, refl) }
 
 -- where a batch was taken in and what is listed goes on with it, the listing has come to the next gate
-pub taken_next : {E : Type 0} (Listed : List (List ℕ) → Type 0) (Judged : List HistoryEntry → Type 0) (size gate : ℕ) (some : List (List ℕ)) (batch : List ℕ) (result : Result ℕ E) (places : List Place) (tally : Tallies)
+pub taken_next : {E : Type 0} (Listed : List (List ℕ) → Type 0) (Judged : List HistoryEntry → Type 0) (size gate : ℕ) (some : List (List ℕ)) (batch : List ℕ) (result : Result ℕ E) (places : Placed) (tally : Tallies)
     → IfOk result (λ next. next ≡ gate + 5 + length batch) → OnOk result (AreTakenIn size (gate + 5 + length batch) (some ++ batch ∷ []) places tally × Judged (entries_in (some ++ batch ∷ [])))
     → ((all : List (List ℕ)) → Listed all → (rest : List (List ℕ)) × (all ≡ some ++ batch ∷ rest))
     → IfOk result (λ next. IsTakenUpTo Listed Judged size next places tally)
@@ -123,5 +128,5 @@ breaks_here Are gate at all some batch rest gate_is are is found =
     record { some = some; batch = batch; more = rest; listed = is; place = found.0 ∙ gate_is; are = are; unfit = found.1 }
 
 -- what was taken in costs at most the capacity
-pub costs_within : (size gate : ℕ) (some : List (List ℕ)) (places : List Place) (tally : Tallies) → AreTakenIn size gate some places tally → tally.live.costs ≤ capacity_of size
+pub costs_within : (size gate : ℕ) (some : List (List ℕ)) (places : Placed) (tally : Tallies) → AreTakenIn size gate some places tally → tally.live.costs ≤ capacity_of size
 costs_within size gate some places tally taken_in = omega (arith, ap (λ (t : TallyValue). t.costs) taken_in.live, tally_of-costs (entries_in some), taken_in.are_batches.costs)

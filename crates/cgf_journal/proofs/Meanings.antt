@@ -46,6 +46,10 @@ module _ (header : List ℕ) (long : length header ≡ 32) (octets : List ℕ) w
   pub stands_or_starts : get_or header 0 0 ≡ 67 → (h : List HistoryEntry) → StandsFor header octets h → Starts header octets → ⊥
   stands_or_starts begins h stands starts = list_or_starts begins stands.batches stands.stands starts
 
+  pub broken_or_starts : get_or header 0 0 ≡ 67 → (at : ℕ) → IsBroken header octets at → Starts header octets → ⊥
+  broken_or_starts begins at broken starts =
+      same_not_starts header long octets (front_before header long octets at broken.batches (record { front = broken.front; small = broken.small; inside = broken.inside })) begins starts
+
   -- batches that are these, where the first of these are these too
   module _ (Are : List (List ℕ) → Type 0) (first : (some more : List (List ℕ)) → Are (some ++ more) → Are some) where
     -- they don't go on behind a gate whose batch isn't whole

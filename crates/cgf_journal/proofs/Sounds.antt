@@ -100,7 +100,7 @@ module _ {A : Type 0} {tells : Ghosts A} (journal : Journal A tells) (size : ℕ
     }
 
     -- what waited is dropped
-    pub dropped : is_closed new ≡ false → IsSound new size (record { octets = []; capacity = waiting.capacity }) (take firm places) firm (record { firm = tally.firm; live = tally.firm })
+    pub dropped : is_closed new ≡ false → IsSound new size (record { octets = []; capacity = waiting.capacity }) (take firm places) firm (record { firm = tally.firm; live = tally.firm; reserved = tally.reserved })
     dropped opened =
         let length-firm : length (take firm places) ≡ firm = length-take-le firm places sound.firm_places in
         let again : take firm (take firm places) ≡ take firm places = take_all firm (take firm places) (omega (arith, length-firm)) in
@@ -145,7 +145,7 @@ module _ {A : Type 0} {tells : Ghosts A} (journal : Journal A tells) (size : ℕ
         ∙ sym (places_behind-push header_length (batches journal) waiting.octets)
         ∙ ap (λ (bs : List (List ℕ)). places_behind header_length bs) (sym (list told))
 
-    pub settled : is_closed new ≡ false → IsSound new size (record { octets = []; capacity = waiting.capacity }) places (length places) (record { firm = tally.live; live = tally.live })
+    pub settled : is_closed new ≡ false → IsSound new size (record { octets = []; capacity = waiting.capacity }) places (length places) (record { firm = tally.live; live = tally.live; reserved = tally.reserved })
     settled opened =
         let all : take (length places) places ≡ places = take_all (length places) places (omega arith) in
         record {
@@ -192,7 +192,7 @@ module _ {A : Type 0} {tells : Ghosts A} (journal : Journal A tells) (size : ℕ
           ∙ ap (λ (h : List HistoryEntry). places_from (end journal + 5) h) (sym pending-push)
 
       pub pushed : is_closed journal ≡ false → length waiting.octets + entry_length e ≤ longest_batch → tally.live.costs + cost_of e ≤ capacity_of (tells.size (area_of journal))
-          → IsSound journal size (record { octets = waiting.octets ++ spelling e; capacity = waiting.capacity }) (places ++ place ∷ []) firm (record { firm = tally.firm; live = tally_behind tally.live e })
+          → IsSound journal size (record { octets = waiting.octets ++ spelling e; capacity = waiting.capacity }) (places ++ place ∷ []) firm (record { firm = tally.firm; live = tally_behind tally.live e; reserved = tally.reserved })
       pushed opened short costs =
           let front : take firm (places ++ place ∷ []) ≡ take firm places = take-append-le firm places (place ∷ []) sound.firm_places in
           record {

@@ -12,6 +12,7 @@ use Rattle.entry_codec.specs.Spelling.{HasSpelling, entry_length, spelling}
 use Rattle.entry_codec.specs.LawTypes.{EntriesAreReadBack, EntriesDivide}
 use Rattle.entry_codec.specs.Laws.{costs_of-spelled, length_of_spelling, more_entries, no_entries, one_entry}
 use Rattle.cgf_journal.specs.Contents.{IsTakenIn}
+use Rattle.cgf_journal.specs.Reserved.{Placed}
 use Rattle.cgf_journal.specs.Sound.{places_from}
 use Rattle.cgf_journal.specs.Tally.{Tallies, tally_behind_all}
 use Rattle.cgf_journal.proofs.Tallies.{tally_all-append, tally_all-costs}
@@ -46,7 +47,7 @@ pub record AreTaken (content rest : List ℕ) (start at : ℕ) (before places : 
   pub are_entries : AreEntries front entries
   pub place : at ≡ start + length front
   pub placed : places ≡ before ++ places_from start entries
-  pub counted : tally ≡ record { firm = old.firm; live = tally_behind_all old.live entries }
+  pub counted : tally ≡ record { firm = old.firm; live = tally_behind_all old.live entries; reserved = old.reserved }
 
 pub none_taken : (content : List ℕ) (start : ℕ) (places : List Place) (tally : Tallies) → AreTaken content content start start places places tally tally
 none_taken content start places tally = record {
@@ -59,9 +60,9 @@ none_taken content start places tally = record {
   counted = refl;
 }
 
-pub one_taken : (content rest : List ℕ) (start at count : ℕ) (before places grown : List Place) (old tally counted : Tallies)
-    → AreTaken content rest start at before places old tally → IsTakenIn rest at count places grown tally counted
-    → AreTaken content (drop count rest) start (at + count) before grown old counted
+pub one_taken : (content rest : List ℕ) (start at count : ℕ) (before : List Place) (places grown : Placed) (old tally counted : Tallies)
+    → AreTaken content rest start at before places.items old tally → IsTakenIn rest at count places grown tally counted
+    → AreTaken content (drop count rest) start (at + count) before grown.items old counted
 one_taken content rest start at count before places grown old tally counted so_far one =
     let split : rest ≡ spelling one.entry ++ drop count rest = sym (take-append-drop count rest) ∙ ap (λ (o : List ℕ). o ++ drop count rest) one.front in
     let lengths : length (so_far.front ++ spelling one.entry) ≡ length so_far.front + count = omega (arith, length-append so_far.front (spelling one.entry), length_of_spelling one.entry, one.size) in
@@ -76,8 +77,8 @@ one_taken content rest start at count before places grown old tally counted so_f
       place = omega (arith, so_far.place, lengths);
       placed = one.placed ∙ ap (λ (ps : List Place). ps ++ place) so_far.placed ∙ append_assoc before (places_from start so_far.entries) place
           ∙ ap (λ (ps : List Place). before ++ ps) (ap (λ (k : ℕ). places_from start so_far.entries ++ places_from k (one.entry ∷ [])) here ∙ sym (places_from-append start so_far.entries (one.entry ∷ [])));
-      counted = one.added ∙ ap (λ (t : Tallies). let r : Tallies = record { firm = t.firm; live = tally_behind_all t.live (one.entry ∷ []) } in r) so_far.counted
-          ∙ λ i. record { firm = old.firm; live = sym (tally_all-append old.live so_far.entries (one.entry ∷ [])) i };
+      counted = one.added ∙ ap (λ (t : Tallies). let r : Tallies = record { firm = t.firm; live = tally_behind_all t.live (one.entry ∷ []); reserved = t.reserved } in r) so_far.counted
+          ∙ λ i. record { firm = old.firm; live = sym (tally_all-append old.live so_far.entries (one.entry ∷ [])) i; reserved = old.reserved };
     }
 
 -- what was taken in costs at most twice its octets, so that the rest can be counted too
@@ -100,7 +101,7 @@ costs_so_far content rest start at before places old tally so_far =
 pub record IsAllTaken (content : List ℕ) (start : ℕ) (before places : List Place) (old tally : Tallies) : Type 0 where
   pub are_entries : AreEntries content (entries_of content)
   pub placed : places ≡ before ++ places_from start (entries_of content)
-  pub counted : tally ≡ record { firm = old.firm; live = tally_behind_all old.live (entries_of content) }
+  pub counted : tally ≡ record { firm = old.firm; live = tally_behind_all old.live (entries_of content); reserved = old.reserved }
   pub costs : tally.live.costs ≡ old.live.costs + length content + 5 * length (entries_of content)
   pub count : length places ≡ length before + length (entries_of content)
 
@@ -114,7 +115,7 @@ all_taken back content rest start at before places old tally so_far end =
     record {
       are_entries = subst (λ (h : List HistoryEntry). AreEntries content h) those are;
       placed = so_far.placed ∙ ap (λ (h : List HistoryEntry). before ++ places_from start h) those;
-      counted = so_far.counted ∙ λ i. record { firm = old.firm; live = tally_behind_all old.live (those i) };
+      counted = so_far.counted ∙ λ i. record { firm = old.firm; live = tally_behind_all old.live (those i); reserved = old.reserved };
       costs = omega (arith, many, ap (λ (t : Tallies). t.live.costs) so_far.counted, tally_all-costs old.live so_far.entries, costs_of-spelled so_far.entries, ap (λ (o : List ℕ). length o) are.spelling);
       count = omega (arith, many, ap (λ (ps : List Place). length ps) so_far.placed, length-append before (places_from start so_far.entries), length-places_from start so_far.entries);
     }

@@ -3,6 +3,7 @@ pub mod Comes
 pub mod Fit
 pub mod Follows
 pub mod Format
+pub mod OpenPlan
 pub mod Outcomes
 pub mod Results
 pub mod Trail
@@ -12,6 +13,7 @@ pub mod Judged
 pub mod Keys
 pub mod Opening
 pub mod Rank
+pub mod Reserved
 pub mod Sorted
 pub mod Sound
 pub mod Sums

@@ -2,24 +2,25 @@
 use Rattle.std.specs.Prelude.{◌≡◌, ℕ, ◌*◌, ◌≤◌, min, IsTrue, Bool, List, [], ◌∷◌, ◌++◌, length}
 use Rattle.area_disk.specs.declared.area.Area.{Ghosts}
 use Rattle.gw_base.specs.declared.history.HistoryEntry.{HistoryEntry}
-use Rattle.gw_base.specs.declared.place.Place.{Place}
 use Rattle.gate_journal.specs.Before.{AreBefore}
 use Rattle.gate_journal.specs.Format.{end_of, header_length, longest_batch}
 use Rattle.gate_journal.specs.Moments.{Told}
 use Rattle.cgf_journal.specs.Format.{AreBatches, entries_in}
+use Rattle.cgf_journal.specs.Reserved.{AreEnough, Placed}
 use Rattle.cgf_journal.specs.Sound.{places_behind}
 use Rattle.cgf_journal.specs.Tally.{Tallies, tally_of}
 
 -- The batches up to this gate were taken in: they are batches of entries, and these are their places and their tally.
-pub record AreTakenIn (size gate : ℕ) (some : List (List ℕ)) (places : List Place) (tally : Tallies) : Type 0 where
+pub record AreTakenIn (size gate : ℕ) (some : List (List ℕ)) (places : Placed) (tally : Tallies) : Type 0 where
   pub are_batches : AreBatches size some
   pub gate_is : gate ≡ end_of some
-  pub placed : places ≡ places_behind header_length some
+  pub placed : places.items ≡ places_behind header_length some
   pub firm : tally.firm ≡ tally_of []
   pub live : tally.live ≡ tally_of (entries_in some)
+  pub enough : AreEnough size places.reserved tally.reserved
 
 -- Batches up to this gate were taken in, their entries have Judged, and each list that has Listed begins with them.
-pub record IsTakenUpTo (Listed : List (List ℕ) → Type 0) (Judged : List HistoryEntry → Type 0) (size gate : ℕ) (places : List Place) (tally : Tallies) : Type 0 where
+pub record IsTakenUpTo (Listed : List (List ℕ) → Type 0) (Judged : List HistoryEntry → Type 0) (size gate : ℕ) (places : Placed) (tally : Tallies) : Type 0 where
   pub some : List (List ℕ)
   pub taken_in : AreTakenIn size gate some places tally
   pub judged : Judged (entries_in some)

@@ -69,7 +69,9 @@ has_room_behind t e size = nat_le ((tally_behind t e).costs + promised_by (tally
 abbrev pub free_beside : TallyValue → ℕ → ℕ
 free_beside t size = capacity_of size - (t.costs + promised_by t)
 
--- the tallies that a trail keeps: of its firm entries, and of these with those that follow
+-- the tallies that a trail keeps: of its firm entries, and of these with those that follow; and for how many keys there is
+-- memory
 pub record Tallies : Type 0 where
   pub firm : TallyValue
   pub live : TallyValue
+  pub reserved : ℕ

@@ -7,6 +7,7 @@ ghost use Rattle.cgf_journal.specs.Contents.{IsTakenIn};
 ghost use Rattle.cgf_journal.specs.Sound.{places_from};
 ghost use Rattle.cgf_journal.specs.Tally.{tally_behind_all};
 
+use crate::places::Places;
 use crate::tally::Tally;
 use entry_codec::laws::{entries_are_read_back, entries_divide};
 use entry_codec::read;
@@ -21,7 +22,7 @@ pub(crate) fn take_in(
     content: &[u8],
     at: u64,
     numbers: &mut [u64],
-    places: &mut Vec<Place>,
+    places: &mut Places,
     tally: &mut Tally,
 ) -> Result<bool, NoMemory>
     requires numbers { length content.now ≤ 8 * length numbers.old }
@@ -31,8 +32,13 @@ pub(crate) fn take_in(
     ensures taken { result ≡ Ok true → IsContent content.now }
     ensures places { result ≡ Ok true →
         places.new.items ≡ places.old.items ++ places_from at (entries_of content.now) }
+    ensures reserved { places.new.reserved ≡ places.old.reserved }
     ensures tally { result ≡ Ok true →
-        tally.new ≡ record { firm = tally.old.firm; live = tally_behind_all tally.old.live (entries_of content.now) } }
+        tally.new ≡ record {
+          firm = tally.old.firm;
+          live = tally_behind_all tally.old.live (entries_of content.now);
+          reserved = tally.old.reserved;
+        } }
     ensures costs { result ≡ Ok true →
         tally.new.live.costs ≡ tally.old.live.costs + length content.now + 5 * length (entries_of content.now) }
     ensures count { result ≡ Ok true →
@@ -60,16 +66,17 @@ fn take_entry(
     octets: &[u8],
     at: u64,
     numbers: &mut [u64],
-    places: &mut Vec<Place>,
+    places: &mut Places,
     tally: &mut Tally,
 ) -> Result<Option<usize>, NoMemory>
     requires numbers { length octets.now ≤ 8 * length numbers.old }
     requires costs { tally.old.live.costs + 2 * length octets.now < 2 ^ 64 }
     requires short { length octets.now < 2 ^ 32 }
     ensures some { IfOk result (λ found. IfSome found (λ count.
-        IsTakenIn octets.now at count places.old.items places.new.items tally.old tally.new)) }
+        IsTakenIn octets.now at count places.old places.new tally.old tally.new)) }
     ensures within { IfOk result (λ found. IfSome found (λ count. (25 ≤ count) × (count ≤ length octets.now))) }
     ensures none { result ≡ Ok None → (e : HistoryEntry) → ¬ (BeginsWith octets.now e) }
+    ensures reserved { places.new.reserved ≡ places.old.reserved }
     ensures numbers { length numbers.new ≡ length numbers.old }
 {
     let Ok((entry, count)) = read(octets, numbers) else {

@@ -1,7 +1,7 @@
 // What an opening asks of each entry beside its spelling and its cost.
 use gw_base::{Entry, NoMemory};
 
-/// Judges the entries of a history, each behind those before it, while it is opened.
+/// Judges the entries of a history, each after those before it, while it is opened.
 pub trait Judge {
     ghost use Rattle.std.specs.Prelude.{◌≡◌, ℕ, true, false, List, [], ◌∷◌, ◌++◌, Ok};
     ghost use Rattle.gw_base.specs.Entry.{entry_view};
@@ -10,10 +10,10 @@ pub trait Judge {
     /// The judge was asked of these entries, from the first on, and each was fit.
     ghost follows: { Self → List HistoryEntry → Type 0 };
 
-    /// In an area of this size an entry is fit behind these.
+    /// In an area of this size an entry is fit after these.
     ghost fits: { ℕ → List HistoryEntry → HistoryEntry → Type 0 };
 
-    /// Whether an entry is fit behind those that the judge was asked of, in an area of this size.
+    /// Whether an entry is fit after those that the judge was asked of, in an area of this size.
     fn take(&mut self, entry: &Entry<'_>, size: u64) -> Result<bool, NoMemory>
         ensures fit { (h : List HistoryEntry) → follows self.old h → result ≡ Ok true →
             (fits size h (entry_view entry.now) × follows self.new (h ++ entry_view entry.now ∷ [])) }

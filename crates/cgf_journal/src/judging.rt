@@ -38,7 +38,7 @@ fn judge_entry<J: Judge>(
     }
 }
 
-/// Whether each entry of a batch's content is fit behind those that the judge was asked of.
+/// Whether each entry of a batch's content is fit after those that the judge was asked of.
 ///
 /// `numbers` needs an eighth as many places as there are octets.
 pub(crate) fn judge_all<J: Judge>(

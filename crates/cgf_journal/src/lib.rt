@@ -10,6 +10,7 @@ mod key;
 pub mod laws;
 mod listing;
 mod opening;
+mod places;
 mod sorted;
 mod sum;
 mod tally;
@@ -17,7 +18,7 @@ mod tally;
 mod tests;
 mod trail;
 
-pub use faults::PushFault;
+pub use faults::BatchFull;
 pub use gate_journal::{Device, OpenFault};
 pub use judge::Judge;
 pub use trail::{Trail, Waiting};

@@ -1,10 +1,11 @@
 // The batches that an opening finds, taken in one after the other.
-ghost use Rattle.std.specs.Prelude.{vec_len, ◌≡◌, ◌≢◌, ℕ, ◌+◌, ◌*◌, ◌<◌, ◌≤◌, min, false, List, [], ◌∷◌, ◌++◌, length, Ok, Err, OnOk, OnErr, IfOk};
+ghost use Rattle.std.specs.Prelude.{vec_len, ◌≡◌, ◌≢◌, ℕ, ◌+◌, ◌*◌, ◌<◌, ◌≤◌, min, IsTrue, false, List, [], ◌∷◌, ◌++◌, length, Ok, Err, OnOk, OnErr, IfOk};
 ghost use Rattle.gate_journal.specs.Format.{end_of, longest_batch};
 ghost use Rattle.area_disk.specs.Disk.{Rose};
 ghost use Rattle.gate_journal.specs.Journal.{IsSettled, area_of, batches, end, is_closed};
 ghost use Rattle.gate_journal.specs.Kept.{IsKept};
 ghost use Rattle.gate_journal.specs.Moments.{Kept, Told};
+ghost use Rattle.gate_journal.specs.Planned.{ReadsRun};
 ghost use Rattle.entry_codec.specs.Room.{capacity_of};
 ghost use Rattle.entry_codec.specs.Content.{IsContent};
 ghost use Rattle.cgf_journal.specs.Fit.{AreFit};
@@ -15,14 +16,21 @@ ghost use Rattle.cgf_journal.specs.Opening.{AreBuffers, AreListed, AreListedBefo
 use crate::contents::take_in;
 use crate::judge::Judge;
 use crate::judging::judge_all;
+use crate::places::Places;
 use crate::tally::Tally;
 use area_disk::Area;
 use gate_journal::{Device, Journal, OpenFault, batch_before, read_before};
-use gw_base::{NoMemory, Place};
+use gw_base::NoMemory;
 use std::alloc::Global;
 
 /// The most octets of a batch.
 pub(crate) const LONGEST: usize = 1_048_576;
+
+/// What an entry costs at least.
+const CHEAPEST: usize = 30;
+
+/// What a Hold costs at least.
+const CHEAPEST_HOLD: usize = 42;
 
 /// A buffer for the content of each batch of an area of this size.
 pub(crate) fn content_for(alloc: Global, size: u64) -> Result<Vec<u8>, NoMemory>
@@ -38,20 +46,23 @@ pub(crate) fn content_for(alloc: Global, size: u64) -> Result<Vec<u8>, NoMemory>
 pub(crate) struct Listing {
     /// The numbers of one entry.
     pub(crate) numbers: Vec<u64>,
-    pub(crate) places: Vec<Place>,
+    pub(crate) places: Places,
     pub(crate) tally: Tally,
 }
 
 impl Listing {
-    /// A listing that has taken in nothing, for batches of at most so many octets.
-    pub(crate) fn new(alloc: Global, longest: usize) -> Result<Listing, NoMemory>
+    /// A listing that has taken in nothing, for batches of at most so many octets of an area of this size. Memory is
+    /// reserved for the places of all entries and keys that the area has room for.
+    pub(crate) fn new(alloc: Global, longest: usize, size: u64) -> Result<Listing, NoMemory>
+        requires { size ≤ 268435456 }
         ensures numbers { IfOk result (λ listing. longest ≤ 8 * vec_len listing.numbers) }
-        ensures taken { (size : ℕ) → IfOk result (λ listing. AreTakenIn size 32 [] listing.places.items listing.tally) }
+        ensures taken { IfOk result (λ listing. AreTakenIn size 32 [] listing.places listing.tally) }
     {
+        let capacity = size.saturating_sub(33) as usize;
         Ok(Listing {
             numbers: vec![in alloc; 0; longest / 8 + 1]?,
-            places: Vec::new(alloc),
-            tally: Tally::new(alloc),
+            places: Places::reserve(alloc, capacity / CHEAPEST)?,
+            tally: Tally::reserve(alloc, capacity / CHEAPEST_HOLD)?,
         })
     }
 
@@ -64,9 +75,11 @@ impl Listing {
         requires costs { self.old.tally.live.costs ≤ capacity_of size }
 
         ensures next { IfOk result (λ next. next ≡ gate + 5 + length content.now) }
-        ensures taken { (some : List (List ℕ)) → AreTakenIn size gate some self.old.places.items self.old.tally →
-            OnOk result (AreTakenIn size (gate + 5 + length content.now) (some ++ content.now ∷ []) self.new.places.items self.new.tally) }
-        ensures unfit { (some : List (List ℕ)) → AreTakenIn size gate some self.old.places.items self.old.tally → (at : ℕ) → result ≡ Err (OpenFault.NotOurs at) →
+        ensures taken { (some : List (List ℕ)) → AreTakenIn size gate some self.old.places self.old.tally →
+            OnOk result (AreTakenIn size (gate + 5 + length content.now) (some ++ content.now ∷ [])
+            self.new.places self.new.tally) }
+        ensures unfit { (some : List (List ℕ)) → AreTakenIn size gate some self.old.places self.old.tally →
+            (at : ℕ) → result ≡ Err (OpenFault.NotOurs at) →
             (at ≡ gate) × (AreBatches size (some ++ content.now ∷ []) → ⊥) }
         ensures content { OnOk result (IsContent content.now) }
         ensures device { result ≢ Err OpenFault.Device }
@@ -105,11 +118,15 @@ impl Listing {
         requires costs { self.old.tally.live.costs ≤ capacity_of size }
 
         ensures next { IfOk result (λ next. next ≡ gate + 5 + length content.now) }
-        ensures taken { (some : List (List ℕ)) → AreTakenIn size gate some self.old.places.items self.old.tally → IsJudged J.Judge size judge.old (entries_in some) →
-            OnOk result (AreTakenIn size (gate + 5 + length content.now) (some ++ content.now ∷ []) self.new.places.items self.new.tally
+        ensures taken { (some : List (List ℕ)) → AreTakenIn size gate some self.old.places self.old.tally →
+            IsJudged J.Judge size judge.old (entries_in some) →
+            OnOk result (AreTakenIn size (gate + 5 + length content.now) (some ++ content.now ∷ [])
+            self.new.places self.new.tally
             × IsJudged J.Judge size judge.new (entries_in (some ++ content.now ∷ []))) }
-        ensures unfit { (some : List (List ℕ)) → AreTakenIn size gate some self.old.places.items self.old.tally → IsJudged J.Judge size judge.old (entries_in some) →
-            (at : ℕ) → result ≡ Err (OpenFault.NotOurs at) → (at ≡ gate) × (AreFit J.fits size (some ++ content.now ∷ []) → ⊥) }
+        ensures unfit { (some : List (List ℕ)) → AreTakenIn size gate some self.old.places self.old.tally →
+            IsJudged J.Judge size judge.old (entries_in some) →
+            (at : ℕ) → result ≡ Err (OpenFault.NotOurs at) → (at ≡ gate) ×
+            (AreFit J.fits size (some ++ content.now ∷ []) → ⊥) }
         ensures device { result ≢ Err OpenFault.Device }
         ensures numbers { vec_len self.new.numbers ≡ vec_len self.old.numbers }
     {
@@ -138,17 +155,24 @@ fn take_next<A: Area, J: Judge>(
     requires short { size ≤ 268435456 }
     requires end { end journal.old < size }
     requires inside { gate < end journal.old }
-    requires taken { IsTakenUpTo (AreListed A.Area (batches journal.old)) (IsJudged J.Judge size judge.old) size gate listing.old.places.items listing.old.tally }
+    requires taken { IsTakenUpTo (AreListed A.Area (batches journal.old)) (IsJudged J.Judge size judge.old)
+        size gate listing.old.places listing.old.tally }
     requires buffers { AreBuffers size (length content.old) (vec_len listing.old.numbers) }
 
     ensures next { IfOk result (λ next. (gate < next) × (next ≤ end journal.old)) }
-    ensures taken { IfOk result (λ next. IsTakenUpTo (AreListed A.Area (batches journal.old)) (IsJudged J.Judge size judge.new) size next listing.new.places.items listing.new.tally) }
-    ensures breaks { Told A.Area → (at : ℕ) → result ≡ Err (OpenFault.NotOurs at) → BreaksAt (AreFit J.fits size) (batches journal.old) at }
+    ensures taken { IfOk result (λ next.
+        IsTakenUpTo (AreListed A.Area (batches journal.old)) (IsJudged J.Judge size judge.new)
+        size next listing.new.places listing.new.tally) }
+    ensures breaks { Told A.Area → (at : ℕ) → result ≡ Err (OpenFault.NotOurs at) →
+        BreaksAt (AreFit J.fits size) (batches journal.old) at }
     ensures numbers { OnOk result (vec_len listing.new.numbers ≡ vec_len listing.old.numbers) }
     ensures kept { IsKept journal.old journal.new }
-    ensures device { result ≡ Err OpenFault.Device → Rose (A.faults (area_of journal.old)) (A.faults (area_of journal.new)) }
+    ensures device { result ≡ Err OpenFault.Device →
+        Rose (A.faults (area_of journal.old)) (A.faults (area_of journal.new)) }
     ensures faults { OnOk result (A.faults (area_of journal.new) ≡ A.faults (area_of journal.old)) }
     ensures faults_err { A.faults (area_of journal.old) ≤ A.faults (area_of journal.new) }
+    ensures runs { IsTrue A.tells_fate → ReadsRun (A.fate (area_of journal.old)).schedule →
+        result ≢ Err OpenFault.Device }
 {
     let Ok(found) = journal.batch(gate) else {
         return Err(OpenFault::Device);
@@ -178,17 +202,22 @@ pub(crate) fn list<A: Area, J: Judge>(
     requires size { size ≡ A.size (area_of journal.old) }
     requires long { 100 ≤ size }
     requires short { size ≤ 268435456 }
-    requires taken { AreTakenIn size 32 [] listing.old.places.items listing.old.tally }
+    requires taken { AreTakenIn size 32 [] listing.old.places listing.old.tally }
     requires follows { J.follows judge.old [] }
     requires buffers { AreBuffers size (length content.old) (vec_len listing.old.numbers) }
 
-    ensures taken { OnOk result (IsTakenUpTo (AreListed A.Area (batches journal.old)) (IsJudged J.Judge size judge.new) size (end journal.old) listing.new.places.items listing.new.tally) }
-    ensures breaks { Told A.Area → (at : ℕ) → result ≡ Err (OpenFault.NotOurs at) → BreaksAt (AreFit J.fits size) (batches journal.old) at }
+    ensures taken { OnOk result (IsTakenUpTo (AreListed A.Area (batches journal.old))
+        (IsJudged J.Judge size judge.new) size (end journal.old) listing.new.places listing.new.tally) }
+    ensures breaks { Told A.Area → (at : ℕ) → result ≡ Err (OpenFault.NotOurs at) →
+        BreaksAt (AreFit J.fits size) (batches journal.old) at }
     ensures some { Told A.Area → OnErr result (batches journal.old ≢ []) }
     ensures kept { IsKept journal.old journal.new }
-    ensures device { result ≡ Err OpenFault.Device → Rose (A.faults (area_of journal.old)) (A.faults (area_of journal.new)) }
+    ensures device { result ≡ Err OpenFault.Device →
+        Rose (A.faults (area_of journal.old)) (A.faults (area_of journal.new)) }
     ensures faults { OnOk result (A.faults (area_of journal.new) ≡ A.faults (area_of journal.old)) }
     ensures faults_err { A.faults (area_of journal.old) ≤ A.faults (area_of journal.new) }
+    ensures runs { IsTrue A.tells_fate → ReadsRun (A.fate (area_of journal.old)).schedule →
+        result ≢ Err OpenFault.Device }
 {
     let end = journal.end();
     let mut gate = 32;
@@ -212,17 +241,22 @@ fn take_before<A: Area, J: Judge>(
     requires long { 100 ≤ size }
     requires short { size ≤ 268435456 }
     requires inside { gate < end }
-    requires taken { IsTakenUpTo (AreListedBefore A.tells_octets (A.octets area.old) end) (IsJudged J.Judge size judge.old) size gate listing.old.places.items listing.old.tally }
+    requires taken { IsTakenUpTo (AreListedBefore A.tells_octets (A.octets area.old) end)
+        (IsJudged J.Judge size judge.old) size gate listing.old.places listing.old.tally }
     requires buffers { AreBuffers size (length content.old) (vec_len listing.old.numbers) }
 
     ensures next { IfOk result (λ next. (gate < next) × (next ≤ end)) }
-    ensures taken { IfOk result (λ next. IsTakenUpTo (AreListedBefore A.tells_octets (A.octets area.old) end) (IsJudged J.Judge size judge.new) size next listing.new.places.items listing.new.tally) }
-    ensures breaks { (all : List (List ℕ)) → AreListedBefore A.tells_octets (A.octets area.old) end all → (at : ℕ) → result ≡ Err (OpenFault.NotOurs at) → BreaksAt (AreFit J.fits size) all at }
+    ensures taken { IfOk result (λ next.
+        IsTakenUpTo (AreListedBefore A.tells_octets (A.octets area.old) end) (IsJudged J.Judge size judge.new)
+        size next listing.new.places listing.new.tally) }
+    ensures breaks { (all : List (List ℕ)) → AreListedBefore A.tells_octets (A.octets area.old) end all → (at : ℕ) →
+        result ≡ Err (OpenFault.NotOurs at) → BreaksAt (AreFit J.fits size) all at }
     ensures numbers { OnOk result (vec_len listing.new.numbers ≡ vec_len listing.old.numbers) }
     ensures kept { Kept A.Area area.old area.new }
     ensures device { result ≡ Err OpenFault.Device → Rose (A.faults area.old) (A.faults area.new) }
     ensures faults { A.faults area.old ≤ A.faults area.new }
     ensures faults_ok { OnOk result (A.faults area.new ≡ A.faults area.old) }
+    ensures runs { IsTrue A.tells_fate → ReadsRun (A.fate area.old).schedule → result ≢ Err OpenFault.Device }
 {
     let Ok(found) = batch_before(area, gate, end) else {
         return Err(OpenFault::Device);
@@ -251,16 +285,19 @@ pub(crate) fn list_before<A: Area, J: Judge>(
     requires size { size ≡ A.size area.old }
     requires long { 100 ≤ size }
     requires short { size ≤ 268435456 }
-    requires taken { AreTakenIn size 32 [] listing.old.places.items listing.old.tally }
+    requires taken { AreTakenIn size 32 [] listing.old.places listing.old.tally }
     requires follows { J.follows judge.old [] }
     requires buffers { AreBuffers size (length content.old) (vec_len listing.old.numbers) }
 
-    ensures are_fit { (all : List (List ℕ)) → AreListedBefore A.tells_octets (A.octets area.old) end all → OnOk result (AreFit J.fits size all) }
-    ensures breaks { (all : List (List ℕ)) → AreListedBefore A.tells_octets (A.octets area.old) end all → (at : ℕ) → result ≡ Err (OpenFault.NotOurs at) → BreaksAt (AreFit J.fits size) all at }
+    ensures are_fit { (all : List (List ℕ)) → AreListedBefore A.tells_octets (A.octets area.old) end all →
+        OnOk result (AreFit J.fits size all) }
+    ensures breaks { (all : List (List ℕ)) → AreListedBefore A.tells_octets (A.octets area.old) end all → (at : ℕ) →
+        result ≡ Err (OpenFault.NotOurs at) → BreaksAt (AreFit J.fits size) all at }
     ensures begun { OnErr result (32 < end) }
     ensures kept { Kept A.Area area.old area.new }
     ensures device { result ≡ Err OpenFault.Device → Rose (A.faults area.old) (A.faults area.new) }
     ensures faults { A.faults area.old ≤ A.faults area.new }
+    ensures runs { IsTrue A.tells_fate → ReadsRun (A.fate area.old).schedule → result ≢ Err OpenFault.Device }
 {
     let mut gate = 32;
     while gate < end {

@@ -1,14 +1,17 @@
 // How a trail is opened.
-ghost use Rattle.std.specs.Prelude.{vec_len, ◌≡◌, ◌≢◌, ◌⊎◌, ◌≤◌, ℕ, false, [], List, length, IfOk, IfErr, OnErr};
+ghost use Rattle.std.specs.Prelude.{vec_len, ◌≡◌, ◌≢◌, ◌⊎◌, ◌≤◌, ℕ, IsTrue, false, [], List, length, IfOk, IfErr, OnErr};
 ghost use Rattle.area_disk.specs.Disk.{Rose};
 ghost use Rattle.gw_base.specs.declared.history.HistoryEntry.{HistoryEntry};
 ghost use Rattle.gate_journal.specs.Format.{Starts, header};
 ghost use Rattle.gate_journal.specs.Journal as gates;
 ghost use Rattle.gate_journal.specs.Moments.{Kept, Told};
+ghost use Rattle.gate_journal.specs.Opening.{is_device};
+ghost use Rattle.gate_journal.specs.Planned.{ReadsRun};
 ghost use Rattle.gate_journal.specs.declared.journal.Front.TheVariants.{Founded};
 ghost use Rattle.cgf_journal.specs.Fit.{AreFit, IsUnfitTo, StandsFit};
 ghost use Rattle.cgf_journal.specs.Format.{IsForeignTo, StandsFor, entries_in};
 ghost use Rattle.cgf_journal.specs.Judged.{IsJudged};
+ghost use Rattle.cgf_journal.specs.OpenPlan.{OpenFollows, is_memory};
 ghost use Rattle.cgf_journal.specs.Opening.{AreBuffers, AreListed, AreListedBefore, AreTakenIn, BreaksAt, IsTakenUpTo};
 ghost use Rattle.cgf_journal.specs.Results.{FindsHistory, IsFresh, IsMadeAnew, IsOpened, IsRefused, OnArea, RefusesForeign};
 ghost use Rattle.cgf_journal.specs.Trail.{area_of, firm_entries};
@@ -34,16 +37,18 @@ fn fault_before<A: Area, J: Judge>(
     requires size { size ≡ A.size area.old }
     requires long { 100 ≤ size }
     requires short { size ≤ 268435456 }
-    requires taken { AreTakenIn size 32 [] listing.places.items listing.tally }
+    requires taken { AreTakenIn size 32 [] listing.places listing.tally }
     requires follows { J.follows judge.old [] }
     requires buffers { AreBuffers size (length content.old) (vec_len listing.numbers) }
 
     ensures here { at ≤ 32 → result ≡ OpenFault.NotOurs at }
-    ensures first { (all : List (List ℕ)) → AreListedBefore A.tells_octets (A.octets area.old) at all → (place : ℕ) → result ≡ OpenFault.NotOurs place →
+    ensures first { (all : List (List ℕ)) → AreListedBefore A.tells_octets (A.octets area.old) at all → (place : ℕ) →
+        result ≡ OpenFault.NotOurs place →
         BreaksAt (AreFit J.fits size) all place ⊎ (AreFit J.fits size all × (place ≡ at)) }
     ensures kept { Kept A.Area area.old area.new }
     ensures device { result ≡ OpenFault.Device → Rose (A.faults area.old) (A.faults area.new) }
     ensures faults { A.faults area.old ≤ A.faults area.new }
+    ensures runs { IsTrue A.tells_fate → ReadsRun (A.fate area.old).schedule → result ≢ OpenFault.Device }
 {
     match list_before(area, at, size, content, &mut listing, judge) {
         Ok(()) => OpenFault::NotOurs { at },
@@ -59,13 +64,16 @@ impl<A: Area> Trail<A> {
 
         ensures ok { let h = header (A.size area) address 0 in IfOk result (IsOpened A.Area h area (StandsFor h)) }
         ensures err { let h = header (A.size area) address 0 in IfErr result (IsRefused A.Area area (IsForeignTo h)) }
-        ensures reads { Told A.Area → (h : List HistoryEntry) → StandsFor (header (A.size area) address 0) (A.octets area) h →
+        ensures reads { Told A.Area → (h : List HistoryEntry) →
+            StandsFor (header (A.size area) address 0) (A.octets area) h →
             FindsHistory A.Area area result h }
         ensures anew { Told A.Area → Starts (header (A.size area) address 0) (A.octets area) →
             IsMadeAnew A.Area (header (A.size area) address 0) area result }
         ensures foreign { Told A.Area → (at : ℕ) → IsForeignTo (header (A.size area) address 0) (A.octets area) at →
             RefusesForeign A.Area area result at }
         ensures size { OnArea result (λ now. A.size now ≡ A.size area) }
+        ensures planned { IsTrue A.tells_fate → is_memory result ≡ false →
+            OpenFollows A.Area area result (header (A.size area) address 0) }
     {
         Trail::open_at(alloc, area, address, 0)
     }
@@ -73,12 +81,13 @@ impl<A: Area> Trail<A> {
     /// Opens the history of an area, for a gateway's address and a generation. It makes one sync and reads; an area
     /// whose making began, or whose octet 0 is 0, is made anew with four calls of the device more, and has no entry.
     ///
-    /// It refuses an area that is no journal of this gateway's, or whose batches aren't entries within the capacity, with
-    /// `NotOurs` and the place that shows it: the first octet of the header that differs, or the first open gate whose
-    /// batch isn't whole. It hands the area back where it fails; after `NotOurs` and `NoMemory` nothing was written.
+    /// It refuses an area that is no journal of this gateway's, or whose batches aren't entries within the capacity,
+    /// with `NotOurs` and the place that shows it: the first octet of the header that differs, or the first open gate
+    /// whose batch isn't whole. It hands the area back where it fails; after `NotOurs` and `NoMemory` nothing was written.
     ///
     /// It takes memory for the entries that will wait (1,048,576 octets), for one batch and its numbers, which are no
-    /// longer than the area needs, and for the place and the key of each entry.
+    /// longer than the area needs, and for the places and keys of as many entries as the area has octets for: 16 octets
+    /// for each 30 and 24 for each 42. So no later call takes any.
     pub fn open_at(
         alloc: Global,
         area: A,
@@ -89,16 +98,22 @@ impl<A: Area> Trail<A> {
         requires short { A.size area ≤ 268435456 }
 
         // The area stands for the history found, or it was made anew.
-        ensures ok { let h = header (A.size area) address generation in IfOk result (IsOpened A.Area h area (StandsFor h)) }
-        ensures err { let h = header (A.size area) address generation in IfErr result (IsRefused A.Area area (IsForeignTo h)) }
+        ensures ok { let h = header (A.size area) address generation in
+            IfOk result (IsOpened A.Area h area (StandsFor h)) }
+        ensures err { let h = header (A.size area) address generation in
+            IfErr result (IsRefused A.Area area (IsForeignTo h)) }
         // The history found is the one that the area stands for.
-        ensures reads { Told A.Area → (h : List HistoryEntry) → StandsFor (header (A.size area) address generation) (A.octets area) h →
+        ensures reads { Told A.Area → (h : List HistoryEntry) →
+            StandsFor (header (A.size area) address generation) (A.octets area) h →
             FindsHistory A.Area area result h }
         ensures anew { Told A.Area → Starts (header (A.size area) address generation) (A.octets area) →
             IsMadeAnew A.Area (header (A.size area) address generation) area result }
-        ensures foreign { Told A.Area → (at : ℕ) → IsForeignTo (header (A.size area) address generation) (A.octets area) at →
+        ensures foreign { Told A.Area → (at : ℕ) →
+            IsForeignTo (header (A.size area) address generation) (A.octets area) at →
             RefusesForeign A.Area area result at }
         ensures size { OnArea result (λ now. A.size now ≡ A.size area) }
+        ensures planned { IsTrue A.tells_fate → is_memory result ≡ false →
+            OpenFollows A.Area area result (header (A.size area) address generation) }
     {
         let mut judge = TakesAll;
         Trail::open_judged(alloc, area, address, generation, &mut judge)
@@ -119,23 +134,29 @@ impl<A: Area> Trail<A> {
         requires follows { J.follows judge.old [] }
 
         // The area stands for the history found, which is fit, or it was made anew.
-        ensures ok { let h = header (A.size area) address generation in IfOk result (IsOpened A.Area h area (StandsFit J.fits h)) }
+        ensures ok { let h = header (A.size area) address generation in
+            IfOk result (IsOpened A.Area h area (StandsFit J.fits h)) }
         ensures follows { Told A.Area → IfOk result (λ trail. J.follows judge.new (firm_entries trail)) }
-        ensures err { let h = header (A.size area) address generation in IfErr result (IsRefused A.Area area (IsUnfitTo J.fits h)) }
+        ensures err { let h = header (A.size area) address generation in
+            IfErr result (IsRefused A.Area area (IsUnfitTo J.fits h)) }
         // The history found is the one that the area stands for.
-        ensures reads { Told A.Area → (h : List HistoryEntry) → StandsFit J.fits (header (A.size area) address generation) (A.octets area) h →
+        ensures reads { Told A.Area → (h : List HistoryEntry) →
+            StandsFit J.fits (header (A.size area) address generation) (A.octets area) h →
             FindsHistory A.Area area result h }
         ensures anew { Told A.Area → Starts (header (A.size area) address generation) (A.octets area) →
             IsMadeAnew A.Area (header (A.size area) address generation) area result }
-        ensures foreign { Told A.Area → (at : ℕ) → IsUnfitTo J.fits (header (A.size area) address generation) (A.octets area) at →
+        ensures foreign { Told A.Area → (at : ℕ) →
+            IsUnfitTo J.fits (header (A.size area) address generation) (A.octets area) at →
             RefusesForeign A.Area area result at }
         ensures size { OnArea result (λ now. A.size now ≡ A.size area) }
+        ensures planned { IsTrue A.tells_fate → is_memory result ≡ false →
+            OpenFollows A.Area area result (header (A.size area) address generation) }
     {
         let size = area.length();
         let Ok(mut content) = content_for(alloc, size) else {
             return Err((OpenFault::NoMemory, area));
         };
-        let Ok(listing) = Listing::new(alloc, content.len()) else {
+        let Ok(listing) = Listing::new(alloc, content.len(), size) else {
             return Err((OpenFault::NoMemory, area));
         };
         let Ok(waiting) = Buffer::with(alloc, LONGEST) else {
@@ -168,7 +189,7 @@ impl<A: Area> Trail<A> {
         requires long { 100 ≤ size }
         requires short { size ≤ 268435456 }
         requires waiting { waiting ≡ record { octets = []; capacity = 1048576 } }
-        requires taken { AreTakenIn size 32 [] listing.places.items listing.tally }
+        requires taken { AreTakenIn size 32 [] listing.places listing.tally }
         requires follows { J.follows judge.old [] }
         requires buffers { AreBuffers size (length content.old) (vec_len listing.numbers) }
 
@@ -177,12 +198,16 @@ impl<A: Area> Trail<A> {
         ensures entries { Told A.Area → IfOk result (λ trail. firm_entries trail ≡ entries_in (gates.batches journal)) }
         ensures fresh { IfOk result (λ trail. IsFresh (gates.header_of journal) trail) }
 
-        ensures breaks { Told A.Area → IfErr result (λ fault. (at : ℕ) → fault.0 ≡ OpenFault.NotOurs at → BreaksAt (AreFit J.fits size) (gates.batches journal) at) }
+        ensures breaks { Told A.Area → IfErr result (λ fault. (at : ℕ) → fault.0 ≡ OpenFault.NotOurs at →
+            BreaksAt (AreFit J.fits size) (gates.batches journal) at) }
         ensures some { Told A.Area → OnErr result (gates.batches journal ≢ []) }
         ensures kept { OnArea result (λ now. Kept A.Area (gates.area_of journal) now) }
-        ensures device { IfErr result (λ fault. fault.0 ≡ OpenFault.Device → Rose (A.faults (gates.area_of journal)) (A.faults fault.1)) }
+        ensures device { IfErr result (λ fault. fault.0 ≡ OpenFault.Device →
+            Rose (A.faults (gates.area_of journal)) (A.faults fault.1)) }
         ensures faults { IfOk result (λ trail. A.faults (area_of trail) ≡ A.faults (gates.area_of journal)) }
         ensures faults_err { IfErr result (λ fault. A.faults (gates.area_of journal) ≤ A.faults fault.1) }
+        ensures runs { IsTrue A.tells_fate → ReadsRun (A.fate (gates.area_of journal)).schedule →
+            is_device result ≡ false }
     {
         match list(&mut journal, size, content, &mut listing, judge) {
             Ok(()) => Ok(Trail::made(journal, size, waiting, listing, judge)),
@@ -203,7 +228,8 @@ impl<A: Area> Trail<A> {
         requires settled { gates.IsSettled journal }
         requires size { size ≡ A.size (gates.area_of journal) }
         requires waiting { waiting ≡ record { octets = []; capacity = 1048576 } }
-        requires taken { IsTakenUpTo (AreListed A.Area (gates.batches journal)) (IsJudged J.Judge size judge.now) size (gates.end journal) listing.places.items listing.tally }
+        requires taken { IsTakenUpTo (AreListed A.Area (gates.batches journal)) (IsJudged J.Judge size judge.now)
+            size (gates.end journal) listing.places listing.tally }
 
         ensures are_fit { Told A.Area → AreFit J.fits size (gates.batches journal) }
         ensures follows { Told A.Area → J.follows judge.now (firm_entries result) }

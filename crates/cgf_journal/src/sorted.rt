@@ -1,5 +1,5 @@
 // The keys that a tally keeps, in order.
-ghost use Rattle.std.specs.Prelude.{◌≡◌, ◌&&◌, count_by, ◌+◌, ◌<◌, ◌≤◌, ◌^◌, [], true, false, filter, length, vec_len, IfOk, IfErr, OnOk, OnErr, slice_index_or, slice_set, map};
+ghost use Rattle.std.specs.Prelude.{◌≡◌, ◌&&◌, count_by, ◌+◌, ◌<◌, ◌≤◌, ◌^◌, [], true, false, filter, length, vec_capacity, vec_len, IfSome, IfOk, IfErr, OnOk, OnErr, slice_index_or, slice_set, map};
 ghost use Rattle.gw_base.specs.Entry.{act_view};
 ghost use Rattle.gw_base.specs.View.{stays_held};
 ghost use Rattle.gw_base.specs.declared.history.HistoryAct.TheVariants.{Path, Release, Seal};
@@ -44,7 +44,8 @@ fn end_of(keys: &[KeptKey], node: NodeId) -> usize
 }
 
 fn count_staying(keys: &[KeptKey], firm: bool, round: u64, act: &Act<'_>) -> u64
-    ensures { result ≡ count_by (λ kept. counts firm round kept && stays_held (act_view act.now) (key_of kept)) keys.now }
+    ensures { result ≡ count_by (λ kept.
+        counts firm round kept && stays_held (act_view act.now) (key_of kept)) keys.now }
 {
     keys.iter()
         .filter(|kept| kept.counts(firm, round) && act.stays_held(kept.key()))
@@ -63,9 +64,12 @@ fn kept_at(keys: &[KeptKey], at: usize) -> KeptKey
 #[derive(Debug, Drop)]
 pub(crate) struct SortedKeys {
     keys: Vec<KeptKey>,
+    /// For how many keys there is memory.
+    reserved: usize,
     round: u64,
     firm: u64,
     live: u64,
+    ghost enough: { reserved ≤ vec_capacity keys },
     ghost ascending: { AreAscending keys.items },
     ghost up_to: { AreUpTo round keys.items },
     ghost firm_counted: { firm ≡ length (counted_keys true round keys.items) },
@@ -73,19 +77,22 @@ pub(crate) struct SortedKeys {
 }
 
 impl SortedKeys {
-    ghost use Rattle.cgf_journal.specs.Sorted.{IsChanged, firm_keys, keys_of, live_keys};
+    ghost use Rattle.cgf_journal.specs.Sorted.{GrowsBy, IsChanged, IsFull, count_held, firm_keys, keys_of, live_keys};
 
-    /// No keys, which take no memory.
-    pub(crate) fn new(alloc: Global) -> SortedKeys
-        ensures firm { firm_keys result ≡ [] }
-        ensures live { live_keys result ≡ [] }
+    /// No keys, and memory for so many.
+    pub(crate) fn reserve(alloc: Global, count: usize) -> Result<SortedKeys, NoMemory>
+        ensures firm { IfOk result (λ keys. firm_keys keys ≡ []) }
+        ensures live { IfOk result (λ keys. live_keys keys ≡ []) }
+        ensures none { IfOk result (λ keys. length keys.keys.items ≡ 0) }
+        ensures reserved { IfOk result (λ keys. keys.reserved ≡ count) }
     {
-        SortedKeys {
-            keys: Vec::new(alloc),
+        Ok(SortedKeys {
+            keys: Vec::with_capacity(alloc, count)?,
+            reserved: count,
             round: 0,
             firm: 0,
             live: 0,
-        }
+        })
     }
 
     /// How many keys the firm entries hold, or else all.
@@ -95,11 +102,60 @@ impl SortedKeys {
         if firm { self.firm } else { self.live }
     }
 
-    /// How many of these stay held after an entry.
+    /// How many of these stay held after an entry. An entry that begins no epoch, and whose numbers are in ascending
+    /// order, takes a search for each of these.
     pub(crate) fn count_staying(&self, firm: bool, act: &Act<'_>) -> u64
         ensures { result ≡ length (filter (λ key. stays_held (act_view act.now) key) (keys_of firm self.now)) }
     {
-        count_staying(&self.keys, firm, self.round, act)
+        match self.count_gone(firm, act) {
+            Some(gone) => self.count(firm) - gone,
+            None => count_staying(&self.keys, firm, self.round, act),
+        }
+    }
+
+    // How many of these an entry lets go, where searches for what it names tell it.
+    fn count_gone(&self, firm: bool, act: &Act<'_>) -> Option<u64>
+        ensures { IfSome result (λ gone. gone + length (filter (λ key.
+            stays_held (act_view act.now) key) (keys_of firm self.now)) ≡ length (keys_of firm self.now)) }
+    {
+        match *act {
+            Act::Start | Act::Tick | Act::Close => Some(0),
+            Act::Path { .. } => None,
+            Act::File { node, number, .. }
+            | Act::Hold { node, number, .. }
+            | Act::Seal { node, number } => Some(self.count_one(firm, node, number)),
+            Act::Release { node, numbers } | Act::Cancel { node, numbers } => {
+                Some(self.count_listed(firm, node, numbers)?)
+            }
+        }
+    }
+
+    // How many of these are this number of this node: one or none.
+    fn count_one(&self, firm: bool, node: NodeId, number: Absolute) -> u64
+        ensures { result + length (filter (λ key. stays_held (Seal node number) key) (keys_of firm self.now)) ≡
+            length (keys_of firm self.now) }
+    {
+        match search(&self.keys, node, number) {
+            Ok(at) => one_if(kept_at(&self.keys, at).counts(firm, self.round)),
+            Err(_) => 0,
+        }
+    }
+
+    // How many of these are among these numbers of this node, where the numbers are in ascending order.
+    fn count_listed(&self, firm: bool, node: NodeId, numbers: &[Absolute]) -> Option<u64>
+        ensures { IfSome result (λ gone. gone + length (filter (λ key.
+            stays_held (Release node numbers.now) key) (keys_of firm self.now)) ≡ length (keys_of firm self.now)) }
+    {
+        let mut gone = 0;
+        let mut least = 0;
+        for number in numbers {
+            if *number < least {
+                return None;
+            }
+            gone += self.count_one(firm, node, *number);
+            least = number.checked_add(1)?;
+        }
+        Some(gone)
     }
 
     // The key that stands here is held by all entries from now on, or isn't.
@@ -116,7 +172,9 @@ impl SortedKeys {
     fn hold(&mut self, node: NodeId, number: Absolute) -> Result<(), NoMemory>
         ensures ok { OnOk result (live_keys self.new ≡ held_with node number (live_keys self.old)) }
         ensures err { OnErr result (live_keys self.new ≡ live_keys self.old) }
-        ensures firm { firm_keys self.new ≡ firm_keys self.old }
+        ensures full { OnErr result (self.old.reserved ≤ length self.old.keys.items) }
+        ensures kept { OnErr result (GrowsBy 0 self.old self.new) }
+        ensures grows { GrowsBy 1 self.old self.new }
     {
         let at = match search(&self.keys, node, number) {
             Ok(at) => {
@@ -144,7 +202,7 @@ impl SortedKeys {
     /// All entries hold this number of this node no more.
     fn free(&mut self, node: NodeId, number: Absolute)
         ensures live { live_keys self.new ≡ filter (λ key. stays_held (Seal node number) key) (live_keys self.old) }
-        ensures firm { firm_keys self.new ≡ firm_keys self.old }
+        ensures grows { GrowsBy 0 self.old self.new }
     {
         if let Ok(at) = search(&self.keys, node, number) {
             self.change(at, false);
@@ -153,8 +211,9 @@ impl SortedKeys {
 
     /// All entries hold these numbers of this node no more.
     fn free_all(&mut self, node: NodeId, numbers: &[Absolute])
-        ensures live { live_keys self.new ≡ filter (λ key. stays_held (Release node numbers.now) key) (live_keys self.old) }
-        ensures firm { firm_keys self.new ≡ firm_keys self.old }
+        ensures live { live_keys self.new ≡ filter (λ key.
+            stays_held (Release node numbers.now) key) (live_keys self.old) }
+        ensures grows { GrowsBy 0 self.old self.new }
     {
         for number in numbers {
             self.free(node, *number);
@@ -164,7 +223,7 @@ impl SortedKeys {
     /// All entries hold no number of this node any more.
     fn free_node(&mut self, node: NodeId)
         ensures live { live_keys self.new ≡ filter (λ key. stays_held (Path node 0 0) key) (live_keys self.old) }
-        ensures firm { firm_keys self.new ≡ firm_keys self.old }
+        ensures grows { GrowsBy 0 self.old self.new }
     {
         let mut at = first_of(&self.keys, node);
         let end = end_of(&self.keys, node);
@@ -178,7 +237,9 @@ impl SortedKeys {
     pub(crate) fn note(&mut self, act: &Act<'_>) -> Result<(), NoMemory>
         ensures ok { OnOk result (live_keys self.new ≡ held_after (act_view act.now) (live_keys self.old)) }
         ensures err { OnErr result (live_keys self.new ≡ live_keys self.old) }
-        ensures firm { firm_keys self.new ≡ firm_keys self.old }
+        ensures full { OnErr result (IsFull (count_held (act_view act.now)) self.old) }
+        ensures kept { OnErr result (GrowsBy 0 self.old self.new) }
+        ensures grows { GrowsBy (count_held (act_view act.now)) self.old self.new }
     {
         match *act {
             Act::Start | Act::Tick | Act::Close => {}
@@ -196,6 +257,8 @@ impl SortedKeys {
     pub(crate) fn settle(&mut self)
         ensures firm { firm_keys self.new ≡ live_keys self.old }
         ensures live { live_keys self.new ≡ live_keys self.old }
+        ensures count { length self.new.keys.items ≡ length self.old.keys.items }
+        ensures reserved { self.new.reserved ≡ self.old.reserved }
     {
         self.firm = self.live;
         match self.round.checked_add(1) {
@@ -204,18 +267,30 @@ impl SortedKeys {
         }
     }
 
-    /// Goes back to what the firm entries hold.
+    /// Goes back to what the firm entries hold: other keys are kept no more.
     pub(crate) fn revert(&mut self)
         ensures firm { firm_keys self.new ≡ firm_keys self.old }
         ensures live { live_keys self.new ≡ firm_keys self.old }
+        ensures count { length self.new.keys.items ≡ length (firm_keys self.old) }
+        ensures reserved { self.new.reserved ≡ self.old.reserved }
     {
         self.live = self.firm;
+        keep_firm(&mut self.keys, self.round);
         settle_all(&mut self.keys, true, self.round);
     }
 }
 
+// Takes out the keys that the firm entries don't hold.
+fn keep_firm(keys: &mut Vec<KeptKey>, round: u64)
+    ensures kept { keys.new.items ≡ filter (λ kept. counts true round kept) keys.old.items }
+    ensures capacity { vec_capacity keys.new ≡ vec_capacity keys.old }
+{
+    keys.retain(|kept| kept.counts(true, round));
+}
+
 fn settle_all(keys: &mut Vec<KeptKey>, firm: bool, round: u64)
-    ensures { keys.new.items ≡ map (λ kept. settled_key firm round kept) keys.old.items }
+    ensures settled { keys.new.items ≡ map (λ kept. settled_key firm round kept) keys.old.items }
+    ensures capacity { vec_capacity keys.new ≡ vec_capacity keys.old }
 {
     settle_keys(keys, firm, round);
 }

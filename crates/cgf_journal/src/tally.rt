@@ -1,7 +1,8 @@
-ghost use Rattle.std.specs.Prelude.{◌≡◌, ◌+◌, ◌*◌, ◌<◌, ◌^◌, false, [], if◌then◌else◌, nat_le, OnOk, OnErr};
+ghost use Rattle.std.specs.Prelude.{◌≡◌, ◌+◌, ◌*◌, ◌<◌, ◌≤◌, ◌^◌, false, [], if◌then◌else◌, nat_le, IfOk, OnOk, OnErr};
 ghost use Rattle.gw_base.specs.Entry.{entry_view};
 ghost use Rattle.entry_codec.specs.Room.{capacity_of};
 ghost use Rattle.entry_codec.specs.Spelling.{cost_of};
+ghost use Rattle.cgf_journal.specs.Reserved.{cheapest_hold};
 ghost use Rattle.cgf_journal.specs.Tally.{free_beside, has_room_behind, tally_behind, tally_of};
 
 use crate::sorted::SortedKeys;
@@ -11,13 +12,13 @@ use gw_base::{Entry, NoMemory};
 use std::alloc::Global;
 use std::marker::Model;
 
-/// What is promised behind a held key: a Release or a Cancel of it, and a Close.
+/// What is promised for a held key: a Release or a Cancel of it, and a Close.
 const PROMISED_FOR_A_KEY: u128 = 76;
 
 /// What is promised where a Close is due.
 const PROMISED_FOR_A_CLOSE: u128 = 30;
 
-/// The octets of an area that no batch has: the header's, and the gate behind the last batch.
+/// The octets of an area that no batch has: the header's, and the gate after the last batch.
 const TAKEN: u64 = 33;
 
 /// What the entries of a trail cost of its journal and what they promise: the firm ones, and all of
@@ -30,36 +31,49 @@ pub(crate) struct Tally {
 }
 
 impl Model for Tally {
-    ghost use Rattle.cgf_journal.specs.Sorted.{firm_keys, live_keys};
+    ghost use Rattle.cgf_journal.specs.Sorted.{ArePaid, firm_keys, live_keys};
     ghost use Rattle.cgf_journal.specs.Sums.{tally_with};
     ghost use Rattle.cgf_journal.specs.Tally.{Tallies};
 
     ghost Value = { Tallies };
 
-    ghost view = { λ t. record { firm = tally_with t.firm (firm_keys t.keys); live = tally_with t.live (live_keys t.keys) } };
+    ghost view = { λ t. record {
+      firm = tally_with t.firm (firm_keys t.keys);
+      live = tally_with t.live (live_keys t.keys);
+      reserved = t.keys.reserved;
+    } };
+
+    ghost invariant = { λ t. ArePaid t.keys t.firm t.live };
 }
 
 impl Tally {
-    /// The tally of no entry, which takes no memory.
-    pub(crate) fn new(alloc: Global) -> Tally
-        ensures { result ≡ record { firm = tally_of []; live = tally_of [] } }
+    /// The tally of no entry, with memory for so many keys.
+    pub(crate) fn reserve(alloc: Global, count: usize) -> Result<Tally, NoMemory>
+        ensures { IfOk result (λ tally. tally ≡ record { firm = tally_of []; live = tally_of []; reserved = count }) }
     {
         let none = Sum {
             costs: 0,
             is_close_due: false,
         };
-        Tally {
-            keys: SortedKeys::new(alloc),
+        Ok(Tally {
+            keys: SortedKeys::reserve(alloc, count)?,
             firm: none,
             live: none,
-        }
+        })
     }
 
-    /// Counts one more entry behind the others. Without memory for its key nothing changes.
+    /// Counts one more entry after the others. It takes memory only where there are as many keys as were reserved;
+    /// without it nothing changes.
     pub(crate) fn add(&mut self, entry: &Entry<'_>) -> Result<(), NoMemory>
         requires { self.old.live.costs + cost_of (entry_view entry.now) < 2 ^ 64 }
-        ensures ok { OnOk result (self.new ≡ record { firm = self.old.firm; live = tally_behind self.old.live (entry_view entry.now) }) }
+        ensures ok { OnOk result (self.new ≡ record {
+          firm = self.old.firm;
+          live = tally_behind self.old.live (entry_view entry.now);
+          reserved = self.old.reserved;
+        }) }
         ensures err { OnErr result (self.new ≡ self.old) }
+        ensures full { OnErr result (cheapest_hold * (self.old.reserved + 1) ≤ self.old.live.costs +
+            cost_of (entry_view entry.now)) }
     {
         self.keys.note(&entry.act)?;
         self.live = self.live.after(entry);
@@ -68,7 +82,7 @@ impl Tally {
 
     /// Makes all entries firm.
     pub(crate) fn settle(&mut self)
-        ensures { self.new ≡ record { firm = self.old.live; live = self.old.live } }
+        ensures { self.new ≡ record { firm = self.old.live; live = self.old.live; reserved = self.old.reserved } }
     {
         self.keys.settle();
         self.firm = self.live;
@@ -76,15 +90,16 @@ impl Tally {
 
     /// Takes all entries out but the firm ones.
     pub(crate) fn revert(&mut self)
-        ensures { self.new ≡ record { firm = self.old.firm; live = self.old.firm } }
+        ensures { self.new ≡ record { firm = self.old.firm; live = self.old.firm; reserved = self.old.reserved } }
     {
         self.keys.revert();
         self.live = self.firm;
     }
 
-    /// Whether an area of this size has room for one more entry behind the firm ones, or else behind all.
+    /// Whether an area of this size has room for one more entry after the firm ones, or else after all.
     pub(crate) fn has_room(&self, behind_firm: bool, entry: &Entry<'_>, size: u64) -> bool
-        ensures { result ≡ has_room_behind (if behind_firm then self.now.firm else self.now.live) (entry_view entry.now) size }
+        ensures { result ≡ has_room_behind (if behind_firm then self.now.firm else self.now.live)
+            (entry_view entry.now) size }
     {
         let sum = Sum::of(behind_firm, self.firm, self.live);
         let due = entry.act.due_after(sum.is_close_due);

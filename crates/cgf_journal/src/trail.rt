@@ -12,27 +12,29 @@ ghost use Rattle.entry_codec.specs.Props.{IsAct-prop};
 ghost use Rattle.entry_codec.specs.Room.{capacity_of, costs_of, has_room};
 ghost use Rattle.entry_codec.specs.Spelling.{cost_of, entry_length, spelling};
 ghost use Rattle.cgf_journal.specs.Format.{StandsFor, cheapest_entry};
+ghost use Rattle.cgf_journal.specs.Reserved.{AreEnough, cheapest_hold};
 ghost use Rattle.cgf_journal.specs.Sound.{IsSound};
 ghost use Rattle.cgf_journal.specs.Tally.{tally_behind};
 
-use crate::faults::PushFault;
+use crate::faults::BatchFull;
+use crate::places::Places;
 use crate::tally::Tally;
 use area_disk::Area;
 use entry_codec::laws::entries_are_read_back;
 use entry_codec::{cost, write};
 use gate_journal::{AppendFault, Device, Journal};
-use gw_base::{Buffer, Entry, NoMemory, Place};
+use gw_base::{Buffer, Entry, Place};
 
 /// Entries that aren't firm, as octets.
 #[derive(Clone, Copy, Debug)]
 pub struct Waiting<'a> {
     /// How many octets spell the firm entries.
     pub at: u64,
-    /// The octets that spell the entries behind them, one after the other.
+    /// The octets that spell the entries after them, one after the other.
     pub octets: &'a [u8],
 }
 
-/// A gateway's history on a journal: the firm entries, which every crash leaves, and those behind them, which wait for
+/// A gateway's history on a journal: the firm entries, which every crash leaves, and those after them, which wait for
 /// a commit.
 ///
 /// A commit makes all waiting entries firm at once. Where it fails the trail is closed, and its entries are the firm
@@ -42,13 +44,14 @@ pub struct Trail<A: Area> {
     pub(crate) journal: Journal<A>,
     /// The length of the area.
     pub(crate) size: u64,
-    /// The octets of the entries behind the firm ones.
+    /// The octets of the entries after the firm ones.
     pub(crate) waiting: Buffer,
     /// The places of all entries, those that wait included.
-    pub(crate) places: Vec<Place>,
+    pub(crate) places: Places,
     /// How many entries are firm.
     pub(crate) firm: usize,
     pub(crate) tally: Tally,
+    ghost enough: { AreEnough size places.reserved tally.reserved },
     ghost sound: { IsSound journal size waiting places.items firm tally } by { Prim.hlevel (IsAct-prop, props) },
 }
 
@@ -58,15 +61,16 @@ impl<A: Area> Trail<A> {
     ghost use Rattle.cgf_journal.specs.Outcomes.{AllFirm, AreTorn, CommitCalls, CommitPlanned, CrashLeaves, FirmPlacesStay, FirmStays, IsKept, IsPushed, IsReopened, ReopenCalls, ReopenPlanned, Stays, TornDropped, TornStand, UnmadeIfNone};
     ghost use Rattle.cgf_journal.specs.Trail.{IsAtRest, IsFirmPlaceOf, IsPlace, IsPlaceOf, IsSettled, area_of, entries, firm_entries, firm_length, free_of, has_room_of, header_of, is_closed, left_by_stop, length_of, stop_stands, torn_stands, waiting, waiting_octets};
 
-    /// Adds an entry behind the others. It is firm after the next commit.
+    /// Adds an entry after the others. It is firm after the next commit. It takes no memory.
     ///
-    /// `Entry` may say anything for which there is room. Until the next commit at most 1,048,576 octets of entries wait.
-    pub fn push(&mut self, entry: &Entry<'_>) -> Result<(), PushFault>
+    /// `Entry` may say anything for which there is room. Until the next commit at most 1,048,576 octets of entries
+    /// wait.
+    pub fn push(&mut self, entry: &Entry<'_>) -> Result<(), BatchFull>
         requires room { has_room_of self.old (entry_view entry.now) ≡ true }
         requires ready { is_closed self.old ≡ false }
 
         ensures ok { OnOk result (IsPushed self.old self.new (entry_view entry.now)) }
-        ensures full { (free : ℕ) → (result ≡ Err (PushFault.BatchFull free)) ↔
+        ensures full { (free : ℕ) → (result ≡ Err (record { free = free })) ↔
             ((free + waiting_octets self.old ≡ longest_batch) × (free < entry_length (entry_view entry.now))) }
         ensures err { OnErr result (IsKept self.old self.new) }
         ensures stays { FirmStays self.old self.new }
@@ -75,14 +79,14 @@ impl<A: Area> Trail<A> {
         let free = self.waiting.free() as u64;
         let length = cost(entry) - 5;
         if free < length {
-            return Err(PushFault::BatchFull { free });
+            return Err(BatchFull { free });
         }
         let at = self.journal.end() + 5 + self.waiting.octets().len() as u64;
         let place = Place {
             at,
             length: length as u32,
         };
-        note(&mut self.places, &mut self.tally, place, entry)?;
+        note(&mut self.places, &mut self.tally, place, entry);
         match write(entry, &mut self.waiting) {
             Ok(()) => Ok(()),
             Err(_) => unreachable!(),
@@ -136,7 +140,8 @@ impl<A: Area> Trail<A> {
         ensures dropped { result ≡ Ok false → TornDropped self.old self.new }
         ensures err { OnErr result (IsKept self.old self.new) }
         // A crash at any moment of the call leaves the firm entries, with the torn ones or without.
-        ensures any_moment { CrashLeaves self.old self.new (firm_entries self.old) (firm_entries self.old ++ waiting self.old) }
+        ensures any_moment { CrashLeaves self.old self.new (firm_entries self.old) (firm_entries self.old ++
+            waiting self.old) }
         ensures stays { FirmPlacesStay self.old self.new }
         ensures device { ReopenCalls self.old self.new result }
         ensures planned { ReopenPlanned self.old self.new result }
@@ -162,7 +167,8 @@ impl<A: Area> Trail<A> {
         ensures open { Told A.Area → result ≡ false → entries self.now ≡ firm_entries self.now ++ waiting self.now }
         ensures rests { IsAtRest self.now }
         ensures stop { IsTrue A.tells_fate → Told A.Area → (outcome : Outcome3) →
-            StandsFor (header_of self.now) ((A.fate (area_of self.now)).leaves outcome) (left_by_stop outcome self.now) }
+            StandsFor (header_of self.now) ((A.fate (area_of self.now)).leaves outcome)
+            (left_by_stop outcome self.now) }
         ensures torn { IsTrue A.tells_fate → torn_stands self.now ≡ stop_stands New self.now }
     {
         self.journal.is_closed()
@@ -171,7 +177,8 @@ impl<A: Area> Trail<A> {
     /// Whether there is room for an entry, whatever it says. It takes no memory.
     pub fn room(&self, entry: &Entry<'_>) -> bool
         ensures counted { result ≡ has_room_of self.now (entry_view entry.now) }
-        ensures room { Told A.Area → result ≡ has_room (entries self.now) (entry_view entry.now) (A.size (area_of self.now)) }
+        ensures room { Told A.Area → result ≡
+            has_room (entries self.now) (entry_view entry.now) (A.size (area_of self.now)) }
     {
         self.tally
             .has_room(self.journal.is_closed(), entry, self.size)
@@ -180,7 +187,9 @@ impl<A: Area> Trail<A> {
     /// The number of octets that costs and promises leave of the capacity, 0 where they leave none.
     pub fn free(&self) -> u64
         ensures counted { result ≡ free_of self.now }
-        ensures free { Told A.Area → result ≡ capacity_of (A.size (area_of self.now)) - (costs_of (entries self.now) + promised_octets (entries self.now)) }
+        ensures free { Told A.Area → result ≡
+            capacity_of (A.size (area_of self.now)) - (costs_of (entries self.now) +
+            promised_octets (entries self.now)) }
     {
         self.tally.free(self.journal.is_closed(), self.size)
     }
@@ -207,7 +216,7 @@ impl<A: Area> Trail<A> {
         self.firm as u64
     }
 
-    /// The entries behind the firm ones, as octets, and how many octets spell the firm ones. Those of a closed trail are
+    /// The entries after the firm ones, as octets, and how many octets spell the firm ones. Those of a closed trail are
     /// the torn ones.
     pub fn waiting(&self) -> Waiting<'_>
         ensures entries { AreEntries result.octets.now (waiting self.now) }
@@ -225,9 +234,10 @@ impl<A: Area> Trail<A> {
     pub fn entry_at(&self, k: u64) -> Place
         requires { k < length_of self.now }
         ensures place { IsPlaceOf self.now k result }
-        ensures length { Told A.Area → (e : HistoryEntry) → slice_get (entries self.now) k ≡ Some e → result.length ≡ entry_length e }
+        ensures length { Told A.Area → (e : HistoryEntry) → slice_get (entries self.now) k ≡ Some e →
+            result.length ≡ entry_length e }
     {
-        self.places[k as usize]
+        self.places.at(k as usize)
     }
 
     /// Reads the octets of a firm entry. After `Device` `into` may hold anything, and the trail is as before.
@@ -238,7 +248,8 @@ impl<A: Area> Trail<A> {
         requires length { length into.old ≡ place.length }
 
         ensures read { Told A.Area → (k : ℕ) (e : HistoryEntry) → IsFirmPlaceOf self.old k place →
-            slice_get (firm_entries self.old) k ≡ Some e → OnOk result ((into.new ≡ spelling e) × AreEntries into.new (e ∷ [])) }
+            slice_get (firm_entries self.old) k ≡ Some e → OnOk result ((into.new ≡ spelling e) ×
+            AreEntries into.new (e ∷ [])) }
         ensures kept { IsKept self.old self.new }
         ensures torn_stands { torn_stands self.new ≡ torn_stands self.old }
         ensures area { Kept A.Area (area_of self.old) (area_of self.new) }
@@ -269,23 +280,23 @@ impl<A: Area> Trail<A> {
     }
 }
 
-// Keeps the place of one more entry, and counts it. Without memory neither is done.
-fn note(
-    places: &mut Vec<Place>,
-    tally: &mut Tally,
-    place: Place,
-    entry: &Entry<'_>,
-) -> Result<(), NoMemory>
-    requires { tally.old.live.costs + cost_of (entry_view entry.now) < 2 ^ 64 }
-    ensures place { OnOk result (places.new.items ≡ places.old.items ++ place ∷ []) }
-    ensures tally { OnOk result (tally.new ≡ record { firm = tally.old.firm; live = tally_behind tally.old.live (entry_view entry.now) }) }
-    ensures no_place { OnErr result (places.new.items ≡ places.old.items) }
-    ensures no_tally { OnErr result (tally.new ≡ tally.old) }
+// Keeps the place of one more entry, and counts it, where memory is reserved for both.
+fn note(places: &mut Places, tally: &mut Tally, place: Place, entry: &Entry<'_>)
+    requires costs { tally.old.live.costs + cost_of (entry_view entry.now) < 2 ^ 64 }
+    requires place { length places.old.items < places.old.reserved }
+    requires key { tally.old.live.costs + cost_of (entry_view entry.now) < cheapest_hold * (tally.old.reserved + 1) }
+    ensures place { places.new.items ≡ places.old.items ++ place ∷ [] }
+    ensures reserved { places.new.reserved ≡ places.old.reserved }
+    ensures tally { tally.new ≡ record {
+      firm = tally.old.firm;
+      live = tally_behind tally.old.live (entry_view entry.now);
+      reserved = tally.old.reserved;
+    } }
 {
-    places.push(place)?;
-    if let Err(fault) = tally.add(entry) {
-        places.pop();
-        return Err(fault);
-    }
-    Ok(())
+    let Ok(()) = places.push(place) else {
+        unreachable!();
+    };
+    let Ok(()) = tally.add(entry) else {
+        unreachable!();
+    };
 }

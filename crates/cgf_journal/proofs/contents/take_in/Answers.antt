@@ -9,26 +9,29 @@ take_entry-requires-clause-costs c =
     omega (
       arith,
       c.requires.costs,
-      costs_so_far c.args.content.now c.loop-rest.rest.now c.args.at c.loop-rest.from c.args.places.now.items c.loop-rest.places.items c.args.tally.now c.loop-rest.tally c.loop-rest.invariant,
+      costs_so_far c.args.content.now c.loop-rest.rest.now c.args.at c.loop-rest.from c.args.places.now.items c.loop-rest.places.items c.args.tally.now c.loop-rest.tally c.loop-rest.invariant.taken,
     )
 
 pub returns-in_default-clause-refused : goal.returns-in_default-clause-refused
 returns-in_default-clause-refused c =
     let none = c.take_entry.ensures.none (c.in_ok-count.was ∙ ap (λ x. Ok x) c.in_default.is) in
-    λ same is. rest_refuses c.entries_divide.ensures c.args.content.now c.loop-rest.rest.now c.args.at c.loop-rest.from c.args.places.now.items c.loop-rest.places.items c.args.tally.now c.loop-rest.tally c.loop-rest.invariant
+    λ same is. rest_refuses c.entries_divide.ensures c.args.content.now c.loop-rest.rest.now c.args.at c.loop-rest.from c.args.places.now.items c.loop-rest.places.items c.args.tally.now c.loop-rest.tally c.loop-rest.invariant.taken
     (not_end c.loop-rest.rest.now (sym c.is_empty.ensures ∙ c.loop-rest-test.true)) none is
 
 pub loop-rest-preserved : goal.loop-rest-preserved
 loop-rest-preserved c =
-    let one : IsTakenIn c.loop-rest.rest.now c.loop-rest.from c.in-Some.count c.loop-rest.places.items c.take_entry.new.places.items c.loop-rest.tally c.take_entry.new.tally =
-    subst (λ (found : Option ℕ). IfSome found (λ (count : ℕ). IsTakenIn c.loop-rest.rest.now c.loop-rest.from count c.loop-rest.places.items c.take_entry.new.places.items c.loop-rest.tally c.take_entry.new.tally)) c.in-Some.is c.in_ok-count.ensures.some in
-    subst (λ (rest : List ℕ). AreTaken c.args.content.now rest c.args.at (c.loop-rest.from + c.in-Some.count) c.args.places.now.items c.take_entry.new.places.items c.args.tally.now c.take_entry.new.tally) (sym c.split_at.ensures.back)
-    (one_taken c.args.content.now c.loop-rest.rest.now c.args.at c.loop-rest.from c.in-Some.count c.args.places.now.items c.loop-rest.places.items c.take_entry.new.places.items c.args.tally.now c.loop-rest.tally c.take_entry.new.tally c.loop-rest.invariant one)
+    let one : IsTakenIn c.loop-rest.rest.now c.loop-rest.from c.in-Some.count c.loop-rest.places c.take_entry.new.places c.loop-rest.tally c.take_entry.new.tally =
+    subst (λ (found : Option ℕ). IfSome found (λ (count : ℕ). IsTakenIn c.loop-rest.rest.now c.loop-rest.from count c.loop-rest.places c.take_entry.new.places c.loop-rest.tally c.take_entry.new.tally)) c.in-Some.is c.in_ok-count.ensures.some in
+    record {
+      taken = subst (λ (rest : List ℕ). AreTaken c.args.content.now rest c.args.at (c.loop-rest.from + c.in-Some.count) c.args.places.now.items c.take_entry.new.places.items c.args.tally.now c.take_entry.new.tally) (sym c.split_at.ensures.back)
+          (one_taken c.args.content.now c.loop-rest.rest.now c.args.at c.loop-rest.from c.in-Some.count c.args.places.now.items c.loop-rest.places c.take_entry.new.places c.args.tally.now c.loop-rest.tally c.take_entry.new.tally c.loop-rest.invariant.taken one);
+      reserved = c.take_entry.ensures.reserved ∙ c.loop-rest.invariant.reserved;
+    }
 
 -- at the end all was taken in
 all : (c : goal.After-is_empty-2) → IsAllTaken c.args.content.now c.args.at c.args.places.now.items c.loop-rest.places.items c.args.tally.now c.loop-rest.tally
 all c =
-    all_taken c.entries_are_read_back.ensures c.args.content.now c.loop-rest.rest.now c.args.at c.loop-rest.from c.args.places.now.items c.loop-rest.places.items c.args.tally.now c.loop-rest.tally c.loop-rest.invariant
+    all_taken c.entries_are_read_back.ensures c.args.content.now c.loop-rest.rest.now c.args.at c.loop-rest.from c.args.places.now.items c.loop-rest.places.items c.args.tally.now c.loop-rest.tally c.loop-rest.invariant.taken
     (is_end c.loop-rest.rest.now (sym c.is_empty.ensures ∙ c.loop-rest-test.false))
 
 pub returns-clause-taken : goal.returns-clause-taken

@@ -26,7 +26,7 @@ returns-clause-taken g c =
     c.in-Ok-read_before.ensures.content listed.told listed.header c.args.end some batch rest listed.long
     (subst (λ (l : List ℕ). AreBefore listed.header l c.args.end (some ++ batch ∷ rest)) (sym c.batch_before.ensures.kept.octets) (subst (λ (l : List (List ℕ)). AreBefore listed.header o c.args.end l) is listed.before))
     (place ∙ ap (λ n. n + 5) at) (room ∙ size)) in
-    taken_next (AreListedBefore g.A.Area.tells_octets o c.args.end) (IsJudged g.J.Judge c.args.size c.take_fit.new.judge) c.args.size c.args.gate some c.read_before.new.into c.take_fit.result c.take_fit.new.self.places.items c.take_fit.new.self.tally c.take_fit.ensures.next (c.take_fit.ensures.taken some c.requires.taken.taken_in c.requires.taken.judged) next
+    taken_next (AreListedBefore g.A.Area.tells_octets o c.args.end) (IsJudged g.J.Judge c.args.size c.take_fit.new.judge) c.args.size c.args.gate some c.read_before.new.into c.take_fit.result c.take_fit.new.self.places c.take_fit.new.self.tally c.take_fit.ensures.next (c.take_fit.ensures.taken some c.requires.taken.taken_in c.requires.taken.judged) next
 
 pub returns-clause-breaks : goal.returns-clause-breaks
 returns-clause-breaks g c = λ all listed stop stops.
@@ -59,4 +59,4 @@ returns-in_default-found-clause-breaks g c = λ all listed stop stops.
 
 pub take_fit-requires-clause-costs : goal.take_fit-requires-clause-costs
 take_fit-requires-clause-costs g c =
-    costs_within c.args.size c.args.gate c.requires.taken.some c.args.listing.now.places.items c.args.listing.now.tally c.requires.taken.taken_in
+    costs_within c.args.size c.args.gate c.requires.taken.some c.args.listing.now.places c.args.listing.now.tally c.requires.taken.taken_in

@@ -1,6 +1,8 @@
 use Rattle.std.proofs.Common.{◌≡◌, ℕ, ◌+◌, ◌-◌, List, length, take, refl, ◌∙◌, ap, subst, arith}
 use Rattle.std.specs.Prelude.{IfSome}
+use Rattle.std.proofs.lemmas.Bool.{true≢false}
 use Rattle.std.proofs.lemmas.List.{length-take-le}
+use Rattle.area_disk.specs.CourseLaws.{read_runs, runs_on}
 use Rattle.gate_journal.specs.Format.{end_of}
 use Rattle.gate_journal.specs.Journal.{batches, end}
 use Rattle.gate_journal.specs.Reading.{IsContent}
@@ -34,7 +36,7 @@ returns-clause-taken g c =
     (λ batch rest is place size.
     whole_read batch c.read.new.into (length (take c.in-Some.length c.args.content.now)) (c.in-Some.place - (end_of some + 5)) (room ∙ size) (omega (arith, place, at))
     (c.in-Ok-read.ensures.content listed.told some batch rest (c.batch.ensures.kept.same.batches ∙ listed.same ∙ is) (omega (arith, place, at)) (omega (arith, place, at, room, size)))) in
-    taken_next (AreListed g.A.Area (batches j)) (IsJudged g.J.Judge c.args.size c.take_fit.new.judge) c.args.size c.args.gate some c.read.new.into c.take_fit.result c.take_fit.new.self.places.items c.take_fit.new.self.tally c.take_fit.ensures.next (c.take_fit.ensures.taken some c.requires.taken.taken_in c.requires.taken.judged) next
+    taken_next (AreListed g.A.Area (batches j)) (IsJudged g.J.Judge c.args.size c.take_fit.new.judge) c.args.size c.args.gate some c.read.new.into c.take_fit.result c.take_fit.new.self.places c.take_fit.new.self.tally c.take_fit.ensures.next (c.take_fit.ensures.taken some c.requires.taken.taken_in c.requires.taken.judged) next
 
 pub returns-clause-breaks : goal.returns-clause-breaks
 returns-clause-breaks g c = λ told stop stops.
@@ -56,4 +58,8 @@ returns-clause-breaks g c = λ told stop stops.
 
 pub take_fit-requires-clause-costs : goal.take_fit-requires-clause-costs
 take_fit-requires-clause-costs g c =
-    costs_within c.args.size c.args.gate c.requires.taken.some c.args.listing.now.places.items c.args.listing.now.tally c.requires.taken.taken_in
+    costs_within c.args.size c.args.gate c.requires.taken.some c.args.listing.now.places c.args.listing.now.tally c.requires.taken.taken_in
+
+pub returns-in_default-read-clause-runs : goal.returns-in_default-read-clause-runs
+returns-in_default-read-clause-runs g c = λ tells run e.
+    true≢false (read_runs _ _ _ (c.in_default-read.ensures.planned tells) (runs_on _ _ (c.batch.ensures.kept.area.planned tells) run))

@@ -6,13 +6,13 @@ pub returns-then-size-costs-clause-unfit : goal.returns-then-size-costs-clause-u
 returns-then-size-costs-clause-unfit c = λ some taken_in at is.
     let ok : c.take_in.result ≡ Ok true = c.in-Ok-true.is ∙ ap Ok c.in-Ok-true.field-0-test in
     let same : at ≡ c.args.gate = cc in
-    (same, too_dear c.args.size c.args.gate some c.args.self.now.places.items c.args.self.now.tally taken_in c.args.content.now c.take_in.new.tally (c.take_in.ensures.tally ok) (omega arith))
+    (same, too_dear c.args.size c.args.gate some c.args.self.now.places c.args.self.now.tally taken_in c.args.content.now c.take_in.new.tally (c.take_in.ensures.tally ok) (omega arith))
 
 pub returns-else-size-costs-clause-taken : goal.returns-else-size-costs-clause-taken
 returns-else-size-costs-clause-taken c = λ some taken_in.
     let ok : c.take_in.result ≡ Ok true = c.in-Ok-true.is ∙ ap Ok c.in-Ok-true.field-0-test in
-    one_more c.args.size c.args.gate some c.args.self.now.places.items c.args.self.now.tally taken_in c.args.content.now c.take_in.new.places.items c.take_in.new.tally
-    (c.take_in.ensures.taken ok) (c.take_in.ensures.places ok) (c.take_in.ensures.tally ok) (omega arith)
+    one_more c.args.size c.args.gate some c.args.self.now.places c.args.self.now.tally taken_in c.args.content.now c.take_in.new.places c.take_in.new.tally
+    (c.take_in.ensures.taken ok) (c.take_in.ensures.places ok) c.take_in.ensures.reserved (c.take_in.ensures.tally ok) (omega arith)
 
 pub returns-else-size-costs-clause-content : goal.returns-else-size-costs-clause-content
 returns-else-size-costs-clause-content c = c.take_in.ensures.taken (c.in-Ok-true.is ∙ ap Ok c.in-Ok-true.field-0-test)

@@ -31,6 +31,7 @@ invariant_of-self c =
     let kept : (d : KeptKey) → c.kept_at-kept.result ≡ slice_index_or c.args.self.now.keys.items c.args.at d = λ d. c.kept_at-kept.ensures d ∙ ap (λ (l : List KeptKey). slice_index_or l c.args.at d) c.deref.ensures.value in
     let is : c.one_if-2.result ≡ one c.changed.result.is_held = c.one_if-2.ensures ∙ sym (ap (λ (k : KeptKey). one k.is_held) c.changed.ensures) in
     record {
+      enough = omega (arith, old.enough);
       ascending = ascending-set old.keys.items c.args.at c.changed.result c.requires (λ d. ap (λ (k : KeptKey). rank k) c.changed.ensures ∙ ap (λ (k : KeptKey). rank k) (kept d)) old.ascending;
       up_to = up_to-set old.round old.keys.items c.args.at c.changed.result c.requires (omega (arith, ap (λ (k : KeptKey). k.round) c.changed.ensures))
           (omega (arith, ap (λ (k : KeptKey). k.number) c.changed.ensures, ap (λ (k : KeptKey). k.number) (kept c.kept_at-kept.result), (old.up_to c.args.at c.kept_at-kept.result c.requires).1)) old.up_to;

@@ -1,21 +1,21 @@
-use Rattle.std.proofs.Common.{ℕ, List, filter, take, refl, sym, ap, ◌∙◌}
+use Rattle.std.proofs.Common.{ℕ, List, filter, take, refl, sym, ap, ◌∙◌, arith}
 use Rattle.std.specs.Prelude.{slice_index_or}
 use Rattle.std.proofs.lemmas.List.{take_more}
 use Rattle.gw_base.specs.declared.held.HeldKey.{HeldKey}
 use Rattle.gw_base.specs.declared.history.HistoryAct.TheVariants.{Release, Seal}
 use Rattle.gw_base.specs.View.{stays_held}
 use Rattle.cgf_journal.specs.Sorted.{live_keys}
-use Rattle.cgf_journal.proofs.Changes.{next_named, none_named}
+use Rattle.cgf_journal.proofs.Changes.{grows_on, next_named, none_named}
 use Rattle.cgf_journal.proofs.sorted.SortedKeys.free_all.Goals as goal
 
 pub loop-number-init : goal.loop-number-init
-loop-number-init c = record { firm = refl; live = sym (none_named c.args.node (live_keys c.args.self.now)) }
+loop-number-init c = record { grows = record { firm = refl; count = omega arith; reserved = refl }; live = sym (none_named c.args.node (live_keys c.args.self.now)) }
 
 pub loop-number-preserved : goal.loop-number-preserved
 loop-number-preserved c =
     let x = slice_index_or c.args.numbers.now c.loop-number.number-index 0 in
     record {
-      firm = c.free.ensures.firm ∙ c.loop-number.invariant.firm;
+      grows = grows_on 0 c.args.self.now c.loop-number.self c.free.new.self c.loop-number.invariant.grows c.free.ensures.grows;
       live =
           c.free.ensures.live
           ∙ ap (λ (l : List HeldKey). filter (λ (key : HeldKey). stays_held (Seal c.args.node x) key) l) c.loop-number.invariant.live

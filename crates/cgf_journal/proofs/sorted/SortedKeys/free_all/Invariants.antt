@@ -2,12 +2,12 @@ use Rattle.std.proofs.Common.{◌≡◌, filter, take}
 use Rattle.gw_base.specs.declared.held.HeldKey.{HeldKey}
 use Rattle.gw_base.specs.declared.history.HistoryAct.TheVariants.{Release}
 use Rattle.gw_base.specs.View.{stays_held}
-use Rattle.cgf_journal.specs.Sorted.{firm_keys, live_keys}
+use Rattle.cgf_journal.specs.Sorted.{GrowsBy, live_keys}
 use Rattle.cgf_journal.proofs.sorted.SortedKeys.free_all.Given as goal
 
 -- the numbers so far are let go
 abbrev pub invariant-loop-number : goal.invariant-loop-number
 invariant-loop-number l = record {
-  firm : firm_keys l.self ≡ firm_keys l.fn.self;
+  grows : GrowsBy 0 l.fn.self l.self;
   live : live_keys l.self ≡ filter (λ (key : HeldKey). stays_held (Release l.fn.node (take l.number-index l.numbers)) key) (live_keys l.fn.self);
 }

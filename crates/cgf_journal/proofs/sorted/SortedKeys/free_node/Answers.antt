@@ -19,5 +19,5 @@ loop-at-preserved c = goes_on c.args.node c.args.self.now c.loop-at.self c.chang
 pub returns-clause-live : goal.returns-clause-live
 returns-clause-live c = ends_free c.args.node c.args.self.now c.loop-at.self c.loop-at.at c.end_of-end.result (omega (arith, c.loop-at-test.false)) c.loop-at.invariant
 
-pub returns-clause-firm : goal.returns-clause-firm
-returns-clause-firm c = c.loop-at.invariant.firm
+pub returns-clause-grows : goal.returns-clause-grows
+returns-clause-grows c = c.loop-at.invariant.grows

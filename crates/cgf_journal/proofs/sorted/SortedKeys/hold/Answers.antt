@@ -1,8 +1,9 @@
-use Rattle.std.proofs.Common.{List, length, true, false, subst, sym, ap, ◌∙◌, arith}
+use Rattle.std.proofs.Common.{List, length, true, false, refl, subst, sym, ap, ◌∙◌, arith}
+use Rattle.std.proofs.lemmas.List.Edits.{length-insert}
 use Rattle.gw_base.specs.declared.held.HeldKey.{HeldKey}
 use Rattle.cgf_journal.specs.Keys.{AreAscending, AreUpTo, IsAbsent, IsFound}
 use Rattle.cgf_journal.specs.declared.key.KeptKey.{KeptKey}
-use Rattle.cgf_journal.proofs.Changes.{firm_after, firm_more, length_more, live_after, live_more, new_key}
+use Rattle.cgf_journal.proofs.Changes.{changed_grows, firm_more, grows_more, length_more, live_after, live_more, new_key}
 use Rattle.cgf_journal.proofs.KeysLemmas.{counted_le}
 use Rattle.cgf_journal.proofs.Orders.{ascending-insert, up_to-insert}
 use Rattle.cgf_journal.proofs.sorted.SortedKeys.hold.Goals as goal
@@ -12,10 +13,10 @@ returns-in-Ok-clause-ok c =
     let P : List KeptKey → Type 0 = λ l. IsFound l c.in-Ok.at c.args.node.0 c.args.number in
     live_after c.args.self.now c.change.new.self c.in-Ok.at true c.args.node c.args.number c.change.ensures (subst P c.deref.ensures.value c.in-Ok.ensures.found)
 
-pub returns-in-Ok-clause-firm : goal.returns-in-Ok-clause-firm
-returns-in-Ok-clause-firm c =
+pub returns-in-Ok-clause-grows : goal.returns-in-Ok-clause-grows
+returns-in-Ok-clause-grows c =
     let P : List KeptKey → Type 0 = λ l. IsFound l c.in-Ok.at c.args.node.0 c.args.number in
-    firm_after c.args.self.now c.change.new.self c.in-Ok.at true c.change.ensures (subst P c.deref.ensures.value c.in-Ok.ensures.found).inside
+    grows_more 1 c.args.self.now c.change.new.self (changed_grows c.args.self.now c.change.new.self c.in-Ok.at true c.change.ensures (subst P c.deref.ensures.value c.in-Ok.ensures.found).inside)
 
 pub overflow_add-self : goal.overflow_add-self
 overflow_add-self c =
@@ -31,6 +32,7 @@ invariant_of-self c =
     let kept : List KeptKey → Type 0 = λ l. AreUpTo old.round l in
     let key = new_key c.args.node c.args.number old.round in
     record {
+      enough = omega (arith, old.enough, c.insert.ensures.capacity);
       ascending = subst up (sym c.in-Ok-insert.ensures.items) (ascending-insert old.keys.items c.in-Err.at key absent.inside absent.before absent.later old.ascending);
       up_to = subst kept (sym c.in-Ok-insert.ensures.items) (up_to-insert old.round old.keys.items c.in-Err.at key absent.inside (omega arith) (omega (arith, c.ranges.number.fits)) old.up_to);
       firm_counted = old.firm_counted ∙ ap (λ (l : List HeldKey). length l) (sym (firm_more c.args.node c.args.number old.round old.keys.items c.insert.new.self.items c.in-Err.at c.in-Ok-insert.ensures.items));
@@ -43,7 +45,13 @@ returns-in-Ok-insert-clause-ok c =
     let P : List KeptKey → Type 0 = λ l. IsAbsent l c.in-Err.at c.args.node.0 c.args.number in
     live_more c.args.node c.args.number old.round old.keys.items c.insert.new.self.items c.in-Err.at (subst P c.deref.ensures.value c.in-Err.ensures.absent) c.in-Ok-insert.ensures.items
 
-pub returns-in-Ok-insert-clause-firm : goal.returns-in-Ok-insert-clause-firm
-returns-in-Ok-insert-clause-firm c =
+pub returns-in-Ok-insert-clause-grows : goal.returns-in-Ok-insert-clause-grows
+returns-in-Ok-insert-clause-grows c =
     let old = c.args.self.now in
-    firm_more c.args.node c.args.number old.round old.keys.items c.insert.new.self.items c.in-Err.at c.in-Ok-insert.ensures.items
+    let P : List KeptKey → Type 0 = λ l. IsAbsent l c.in-Err.at c.args.node.0 c.args.number in
+    let absent = subst P c.deref.ensures.value c.in-Err.ensures.absent in
+    record {
+      firm = firm_more c.args.node c.args.number old.round old.keys.items c.insert.new.self.items c.in-Err.at c.in-Ok-insert.ensures.items;
+      count = omega (arith, ap (λ (l : List KeptKey). length l) c.in-Ok-insert.ensures.items, length-insert old.keys.items c.in-Err.at (new_key c.args.node c.args.number old.round) absent.inside);
+      reserved = refl;
+    }

@@ -1,6 +1,7 @@
 use Rattle.std.proofs.Common.{◌≡◌, ◌+◌, ℕ, List, length, true, false, subst, sym, ap, ◌∙◌, arith, rules}
+use Rattle.std.proofs.lemmas.List.{length-map}
 use Rattle.gw_base.specs.declared.held.HeldKey.{HeldKey}
-use Rattle.cgf_journal.specs.Keys.{AreAscending, AreUpTo, counted_keys}
+use Rattle.cgf_journal.specs.Keys.{AreAscending, AreUpTo, counted_keys, settled_key}
 use Rattle.cgf_journal.specs.declared.key.KeptKey.{KeptKey}
 use Rattle.cgf_journal.proofs.KeysLemmas.{counted-settled, firm-next}
 use Rattle.cgf_journal.proofs.Orders.{ascending-settled, up_to-settled}
@@ -12,6 +13,7 @@ invariant_of-self c =
     let next : c.in-Some.round ≡ old.round + 1 = search rules in
     let firm = ap (λ (r : ℕ). counted_keys true r old.keys.items) next ∙ firm-next old.round old.keys.items old.up_to in
     record {
+      enough = old.enough;
       ascending = old.ascending;
       up_to = λ j d lt. (omega (arith, next, (old.up_to j d lt).0), (old.up_to j d lt).1);
       firm_counted = old.live_counted ∙ ap (λ (l : List HeldKey). length l) (sym firm);
@@ -30,14 +32,20 @@ invariant_of-self-in-None c =
     let up : List KeptKey → Type 0 = λ l. AreAscending l in
     let kept : List KeptKey → Type 0 = λ l. AreUpTo old.round l in
     record {
-      ascending = subst up (sym c.settle_all.ensures) (ascending-settled false old.round old.keys.items old.ascending);
-      up_to = subst kept (sym c.settle_all.ensures) (up_to-settled old.round false old.round old.keys.items old.up_to);
-      firm_counted = old.live_counted ∙ ap (λ (l : List HeldKey). length l) (sym (ap (λ (l : List KeptKey). counted_keys true old.round l) c.settle_all.ensures ∙ counted-settled true old.round false old.round old.keys.items));
-      live_counted = old.live_counted ∙ ap (λ (l : List HeldKey). length l) (sym (ap (λ (l : List KeptKey). counted_keys false old.round l) c.settle_all.ensures ∙ counted-settled false old.round false old.round old.keys.items));
+      enough = omega (arith, old.enough, c.settle_all.ensures.capacity);
+      ascending = subst up (sym c.settle_all.ensures.settled) (ascending-settled false old.round old.keys.items old.ascending);
+      up_to = subst kept (sym c.settle_all.ensures.settled) (up_to-settled old.round false old.round old.keys.items old.up_to);
+      firm_counted = old.live_counted ∙ ap (λ (l : List HeldKey). length l) (sym (ap (λ (l : List KeptKey). counted_keys true old.round l) c.settle_all.ensures.settled ∙ counted-settled true old.round false old.round old.keys.items));
+      live_counted = old.live_counted ∙ ap (λ (l : List HeldKey). length l) (sym (ap (λ (l : List KeptKey). counted_keys false old.round l) c.settle_all.ensures.settled ∙ counted-settled false old.round false old.round old.keys.items));
     }
 
 pub returns-in-None-clause-firm : goal.returns-in-None-clause-firm
-returns-in-None-clause-firm c = let old = c.args.self.now in ap (λ (l : List KeptKey). counted_keys true old.round l) c.settle_all.ensures ∙ counted-settled true old.round false old.round old.keys.items
+returns-in-None-clause-firm c = let old = c.args.self.now in ap (λ (l : List KeptKey). counted_keys true old.round l) c.settle_all.ensures.settled ∙ counted-settled true old.round false old.round old.keys.items
 
 pub returns-in-None-clause-live : goal.returns-in-None-clause-live
-returns-in-None-clause-live c = let old = c.args.self.now in ap (λ (l : List KeptKey). counted_keys false old.round l) c.settle_all.ensures ∙ counted-settled false old.round false old.round old.keys.items
+returns-in-None-clause-live c = let old = c.args.self.now in ap (λ (l : List KeptKey). counted_keys false old.round l) c.settle_all.ensures.settled ∙ counted-settled false old.round false old.round old.keys.items
+
+pub returns-in-None-clause-count : goal.returns-in-None-clause-count
+returns-in-None-clause-count c =
+    let old = c.args.self.now in
+    ap (λ (l : List KeptKey). length l) c.settle_all.ensures.settled ∙ length-map old.keys.items (λ (kept : KeptKey). settled_key false old.round kept)

@@ -15,6 +15,7 @@ use Rattle.cgf_journal.specs.Trail.{StandsForOr, area_of, firm_entries, header_o
 use Rattle.cgf_journal.proofs.Coming.{commit_planned}
 use Rattle.cgf_journal.proofs.Entries.{entries_in-push}
 use Rattle.cgf_journal.proofs.Reopening.{either_way}
+use Rattle.cgf_journal.proofs.Reserves.{still_enough}
 use Rattle.cgf_journal.proofs.Sounds.{fits, settled as settled_sound}
 use Rattle.cgf_journal.proofs.Standing.{founded_still}
 use Rattle.cgf_journal.proofs.Trails.{entries_firm, entries_open, leaves_either, length_firm, same_free, same_room, settled, waiting-none, waiting_octets-none}
@@ -64,10 +65,11 @@ invariant_of-self-in-Ok g c =
     (c.in-Ok.ensures.ok.end ∙ ap (λ (l : List ℕ). journal.end t.journal + 5 + length l) c.octets-2.ensures) c.in-Ok.ensures.ok.settled.place
     (λ told. c.in-Ok.ensures.ok.batches told ∙ ap (λ (l : List ℕ). journal.batches t.journal ++ l ∷ []) c.octets-2.ensures) some c.in-Ok.ensures.ok.ready in
     record {
+      enough = still_enough t.size t.places.reserved t.places.reserved t.tally.reserved c.settle.new.self.reserved refl (ap (λ (v : Tallies). v.reserved) c.settle.ensures) t.enough;
       sound =
           subst (λ (w : Buffered). IsSound j t.size w t.places.items c.len-self.result c.settle.new.self) (sym c.clear.ensures)
           (subst (λ (v : Tallies). IsSound j t.size (record { octets = []; capacity = t.waiting.capacity }) t.places.items c.len-self.result v) (sym c.settle.ensures)
-          (subst (λ n. IsSound j t.size (record { octets = []; capacity = t.waiting.capacity }) t.places.items n (record { firm = t.tally.live; live = t.tally.live })) counted is));
+          (subst (λ n. IsSound j t.size (record { octets = []; capacity = t.waiting.capacity }) t.places.items n (record { firm = t.tally.live; live = t.tally.live; reserved = t.tally.reserved })) counted is));
     }
 
 pub unreachable-requires : goal.unreachable-requires

@@ -7,20 +7,21 @@ use Rattle.cgf_journal.specs.Sound.{IsSound}
 use Rattle.cgf_journal.specs.Tally.{Tallies}
 use Rattle.cgf_journal.specs.Trail.{firm_entries, waiting}
 use Rattle.cgf_journal.proofs.Founding.{all_batches, all_judged, made}
+use Rattle.cgf_journal.proofs.Reserves.{still_enough}
 use Rattle.cgf_journal.proofs.Trails.{entries_firm, settled}
 use Rattle.cgf_journal.proofs.trail.Trail.made.Goals as goal
 
 pub invariant_of-result : goal.invariant_of-result
 invariant_of-result g c =
     let j = c.args.journal in
-    let places = c.args.listing.places.items in
-    let sound = made j c.args.size places c.args.listing.tally c.requires.size c.requires.settled.place c.requires.taken c.requires.founded c.requires.ready in
+    let sound = made j c.args.size c.args.listing.places c.args.listing.tally c.requires.size c.requires.settled.place c.requires.taken c.requires.founded c.requires.ready in
     let counted : c.len.result ≡ length c.args.listing.places.items = omega (arith, c.len.ensures) in
     record {
+      enough = still_enough c.args.size c.args.listing.places.reserved c.args.listing.places.reserved c.args.listing.tally.reserved c.settle.new.self.reserved refl (ap (λ (t : Tallies). t.reserved) c.settle.ensures) c.requires.taken.taken_in.enough;
       sound =
           subst (λ (w : Buffered). IsSound c.args.journal c.args.size w c.args.listing.places.items c.len.result c.settle.new.self) (sym c.requires.waiting)
           (subst (λ (t : Tallies). IsSound c.args.journal c.args.size (record { octets = []; capacity = longest_batch }) c.args.listing.places.items c.len.result t) (sym c.settle.ensures)
-          (subst (λ n. IsSound c.args.journal c.args.size (record { octets = []; capacity = longest_batch }) c.args.listing.places.items n (record { firm = c.args.listing.tally.live; live = c.args.listing.tally.live })) (sym counted) sound));
+          (subst (λ n. IsSound c.args.journal c.args.size (record { octets = []; capacity = longest_batch }) c.args.listing.places.items n (record { firm = c.args.listing.tally.live; live = c.args.listing.tally.live; reserved = c.args.listing.tally.reserved })) (sym counted) sound));
     }
 
 pub returns-clause-entries : goal.returns-clause-entries
@@ -45,10 +46,10 @@ returns-clause-fresh g c =
 
 pub returns-clause-are_fit : goal.returns-clause-are_fit
 returns-clause-are_fit g c = λ told. record {
-  are_batches = all_batches c.args.journal c.args.size c.args.listing.places.items c.args.listing.tally c.requires.size c.requires.settled.place c.requires.taken told;
-  fit = (all_judged c.args.journal c.args.size c.args.listing.places.items c.args.listing.tally c.requires.size c.requires.settled.place c.requires.taken told).fit;
+  are_batches = all_batches c.args.journal c.args.size c.args.listing.places c.args.listing.tally c.requires.size c.requires.settled.place c.requires.taken told;
+  fit = (all_judged c.args.journal c.args.size c.args.listing.places c.args.listing.tally c.requires.size c.requires.settled.place c.requires.taken told).fit;
 }
 
 pub returns-clause-follows : goal.returns-clause-follows
 unfolding firm_entries
-returns-clause-follows g c = λ told. (all_judged c.args.journal c.args.size c.args.listing.places.items c.args.listing.tally c.requires.size c.requires.settled.place c.requires.taken told).follows
+returns-clause-follows g c = λ told. (all_judged c.args.journal c.args.size c.args.listing.places c.args.listing.tally c.requires.size c.requires.settled.place c.requires.taken told).follows

@@ -1,15 +1,19 @@
-use Rattle.std.proofs.Common.{◌≡◌, ◌⊎◌, inl, inr, ℕ, ◌≤◌, List, [], ⊎_elim, refl, sym, ◌∙◌, ap, subst, arith}
+use Rattle.std.proofs.Common.{◌≡◌, ◌⊎◌, inl, inr, ℕ, ◌≤◌, List, [], ⊎_elim, get_or, length, refl, sym, ◌∙◌, ap, subst, arith}
 use Rattle.area_disk.specs.Disk.{Rose}
-use Rattle.gate_journal.specs.Format.{header}
+use Rattle.gate_journal.specs.Format.{IsForeign, Starts, header}
 use Rattle.gate_journal.specs.Journal as gates
 use Rattle.gate_journal.specs.declared.faults.OpenFault.{OpenFault}
 use Rattle.gate_journal.specs.declared.faults.OpenFault.TheVariants.{Device, NotOurs}
 use Rattle.area_disk.specs.MomentLaws.{follow}
 use Rattle.gate_journal.specs.Spelling.{first-header, length-header}
+use Rattle.gate_journal.specs.Opening.{is_device_fault}
+use Rattle.gate_journal.specs.Planned.{SyncPlanned}
 use Rattle.cgf_journal.specs.Fit.{AreFit, IsUnfitTo, StandsFit}
 use Rattle.cgf_journal.specs.Format.{entries_in}
 use Rattle.cgf_journal.specs.Opening.{AreListedBefore, BreaksAt}
 use Rattle.cgf_journal.proofs.Opened.{calls_on, err_is, fault_is, found_is, leaves_on, listed_is, ok_is, other_fault, place_is, places_are, refused, stands_not_starts, stands_or_anew, unfit_not_starts, unwritten_is, widen_making}
+use Rattle.cgf_journal.proofs.Meanings.{broken_or_starts}
+use Rattle.cgf_journal.proofs.Planning.{made_on, none_refused, not_device, opened_on, sync_on}
 use Rattle.cgf_journal.proofs.trail.Trail.open_judged.Goals as goal
 
 rises : (before mid now : ℕ) → before ≤ mid → Rose mid now → Rose before now
@@ -17,6 +21,11 @@ rises before mid now le rose = omega (arith, le, rose)
 
 le_trans : {a b c : ℕ} → a ≤ b → b ≤ c → a ≤ c
 le_trans ab bc = omega (arith, ab, bc)
+
+-- an area that is foreign doesn't start
+no_start : (header : List ℕ) → length header ≡ 32 → get_or header 0 0 ≡ 67 → (octets : List ℕ) (at : ℕ) → IsForeign header octets at → Starts header octets → ⊥
+no_start header long begins octets at (inl differs) starts = differs.begun starts
+no_start header long begins octets at (inr broken) starts = broken_or_starts header long octets begins at broken starts
 
 -- what an opened journal gives
 
@@ -122,7 +131,7 @@ returns-in-Ok-open-clause-foreign g c = λ told at foreign.
 -- what one that was refused gives
 
 pub fault_before-fault-requires-clause-taken : goal.fault_before-fault-requires-clause-taken
-fault_before-fault-requires-clause-taken g c = λ κs within. c.in-Ok-new.ensures.taken c.length-size.result
+fault_before-fault-requires-clause-taken g c = λ κs within. c.in-Ok-new.ensures.taken
 
 pub returns-in-Err-NotOurs-default-clause-err : goal.returns-in-Err-NotOurs-default-clause-err
 returns-in-Err-NotOurs-default-clause-err g c =
@@ -273,4 +282,33 @@ returns-in-Err-NotOurs-default-clause-reads g c = λ told history stands.
           follow g.A.Area a c.in-Err-NotOurs-default.area c.fault_before-fault.new.area (g.A.Area.may_leave c.args.area)
           (c.in-Err-NotOurs-default.ensures.any_moment.unmade told (stands_not_starts fits h long begins o history stands)) c.fault_before-fault.ensures.kept.leaves;
       calls = λ tells. tt;
+    }
+
+-- the plan
+
+pub returns-in-Ok-open-clause-planned : goal.returns-in-Ok-open-clause-planned
+returns-in-Ok-open-clause-planned g c = λ tells some.
+    let j = c.in-Ok-open.journal in
+    let follows = c.in-Ok-open.ensures.planned tells in
+    record {
+      unmade = λ told none. opened_on (gates.area_of j) tells (g.A.Area.fate c.args.area) c.over.result (follows.unmade told none) c.over.ensures.kept (c.over.ensures.runs tells);
+      anew = λ told starts calm runs.
+          made_on (gates.area_of j) tells c.over.result _ (follows.anew told starts calm runs).after c.over.ensures.kept
+          (none_refused c.over.result (gates.batches j) (c.over.ensures.some told) (c.in-Ok-open.ensures.ok.anew told starts));
+    }
+
+pub returns-in-Err-NotOurs-default-clause-planned : goal.returns-in-Err-NotOurs-default-clause-planned
+returns-in-Err-NotOurs-default-clause-planned g c = λ tells some.
+    let mid = c.in-Err-NotOurs-default.area in
+    let follows = c.in-Err-NotOurs-default.ensures.planned tells in
+    let long = length-header (g.A.Area.size c.args.area) c.args.address c.args.generation in
+    let begins = first-header (g.A.Area.size c.args.area) c.args.address c.args.generation in
+    let h = header (g.A.Area.size c.args.area) c.args.address c.args.generation in
+    record {
+      unmade = λ told none.
+          sync_on (g.A.Area.fate c.args.area) (g.A.Area.fate mid) (g.A.Area.fate c.fault_before-fault.new.area) (is_device_fault c.fault_before-fault.result)
+          (subst (λ b. SyncPlanned (g.A.Area.fate c.args.area) b (g.A.Area.fate mid)) (ap is_device_fault c.in-Err-NotOurs-default.field-0-0-is) (follows.unmade told none))
+          (c.fault_before-fault.ensures.kept.planned tells) (λ run. not_device c.fault_before-fault.result (c.fault_before-fault.ensures.runs tells run));
+      anew = λ told starts calm runs.
+          absurd (no_start h long begins (g.A.Area.octets c.args.area) c.in-Err-NotOurs-default.at (c.in-Err-NotOurs-default.ensures.err.not_ours told c.in-Err-NotOurs-default.at c.in-Err-NotOurs-default.field-0-0-is) starts);
     }

@@ -13,6 +13,7 @@ use Rattle.cgf_journal.specs.Trail.{firm_entries, waiting}
 use Rattle.cgf_journal.proofs.Coming.{reopen_failed, reopen_planned}
 use Rattle.cgf_journal.proofs.Entries.{entries_in-push}
 use Rattle.cgf_journal.proofs.Reopening.{either_way, end_goes, goes, list_goes, list_stays, stays, tally_closed}
+use Rattle.cgf_journal.proofs.Reserves.{still_enough}
 use Rattle.cgf_journal.proofs.Sounds.{dropped, settled as settled_sound}
 use Rattle.cgf_journal.proofs.Standing.{founded_is}
 use Rattle.cgf_journal.proofs.Trails.{get_firm, kept, leaves_either, on_err, places_count, same_free, same_room, settled}
@@ -38,10 +39,11 @@ invariant_of-self-then-end g c =
     let is = dropped t.journal t.size t.waiting t.places.items t.firm t.tally t.sound j founded c.reopen.ensures.stays.size same_end
     (λ told. list_stays t j (c.in_ok-reopen.ensures.ok.batches told) (stays t j (c.in_ok-reopen.ensures.ok.place told) same_end)) c.in_ok-reopen.ensures.ok.ready in
     record {
+      enough = still_enough t.size t.places.reserved c.truncate.new.self.reserved t.tally.reserved c.revert.new.self.reserved c.truncate.ensures.reserved (ap (λ (v : Tallies). v.reserved) c.revert.ensures) t.enough;
       sound =
           subst (λ (w : Buffered). IsSound j t.size w c.truncate.new.self.items t.firm c.revert.new.self) (sym c.clear.ensures)
           (subst (λ (v : Tallies). IsSound j t.size (record { octets = []; capacity = t.waiting.capacity }) c.truncate.new.self.items t.firm v) (sym c.revert.ensures)
-          (subst (λ (ps : List Place). IsSound j t.size (record { octets = []; capacity = t.waiting.capacity }) ps t.firm (record { firm = t.tally.firm; live = t.tally.firm })) (sym c.truncate.ensures.items) is));
+          (subst (λ (ps : List Place). IsSound j t.size (record { octets = []; capacity = t.waiting.capacity }) ps t.firm (record { firm = t.tally.firm; live = t.tally.firm; reserved = t.tally.reserved })) (sym c.truncate.ensures.items) is));
     }
 
 pub returns-then-end-clause-ok : goal.returns-then-end-clause-ok
@@ -102,10 +104,11 @@ invariant_of-self-2 g c =
     (end_goes t j c.requires.closed c.in_ok-reopen.ensures.ok.end other) c.in_ok-reopen.ensures.ok.settled.place
     (λ told. list_goes t j c.requires.closed (c.in_ok-reopen.ensures.ok.batches told) (goes t j (c.in_ok-reopen.ensures.ok.place told) other)) (t.sound.some_torn c.requires.closed) c.in_ok-reopen.ensures.ok.ready in
     record {
+      enough = still_enough t.size t.places.reserved t.places.reserved t.tally.reserved c.settle.new.self.reserved refl (ap (λ (v : Tallies). v.reserved) c.settle.ensures) t.enough;
       sound =
           subst (λ (w : Buffered). IsSound j t.size w t.places.items c.len-self.result c.settle.new.self) (sym c.clear-2.ensures)
           (subst (λ (v : Tallies). IsSound j t.size (record { octets = []; capacity = t.waiting.capacity }) t.places.items c.len-self.result v) (sym c.settle.ensures)
-          (subst (λ n. IsSound j t.size (record { octets = []; capacity = t.waiting.capacity }) t.places.items n (record { firm = t.tally.live; live = t.tally.live })) counted is));
+          (subst (λ n. IsSound j t.size (record { octets = []; capacity = t.waiting.capacity }) t.places.items n (record { firm = t.tally.live; live = t.tally.live; reserved = t.tally.reserved })) counted is));
     }
 
 pub returns-clause-ok : goal.returns-clause-ok
