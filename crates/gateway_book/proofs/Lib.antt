@@ -1,6 +1,8 @@
+pub mod FitLemmas
 pub mod FilingLemmas
 pub mod HeldCounts
 pub mod IndexLemmas
+pub mod JudgeLemmas
 pub mod ListsLemmas
 pub mod MarksLemmas
 pub mod NodesLemmas

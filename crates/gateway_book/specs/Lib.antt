@@ -29,7 +29,9 @@ pub mod ResourceLaws
 pub mod RoomLaws
 pub mod ShortLaws
 -- Steps of proofs, and private clauses.
+pub mod Judging
 pub mod Nodes
+pub mod Numbers
 pub mod Sides
 pub mod States
 pub mod Steps
