@@ -57,7 +57,8 @@ fn may_record<O: Observe>(seen: &O, node: NodeId, act: &Act<'_>) -> bool
 /// The message that goes back under a sequence number, and what is recorded with it.
 fn reply<'a>(number: u16, message: &Message<'_>, act: Option<Act<'a>>) -> Decision<'a>
     requires { length (written number (message_value message.now)) ≤ 64 }
-    ensures { decision_view result ≡ decided (Replies number (message_value message.now) (option_map act_view act.entry)) }
+    ensures { decision_view result
+        ≡ decided (Replies number (message_value message.now) (option_map act_view act.entry)) }
 {
     Decision::Reply {
         reply: gtpp_message::reply(number, message),
@@ -84,7 +85,8 @@ fn recording<'a, O: Observe>(
     cause: u8,
     act: Act<'a>,
 ) -> Decision<'a>
-    ensures { decision_view result ≡ decided (recording (O.seen seen.now node) (O.room seen.now) number cause (act_view act.entry)) }
+    ensures { decision_view result
+        ≡ decided (recording (O.seen seen.now node) (O.room seen.now) number cause (act_view act.entry)) }
 {
     if may_record(seen, node, &act) {
         responding(number, cause, Some(act))
@@ -101,7 +103,8 @@ pub(crate) fn tabled<'a, O: Observe>(
     cause: u8,
     act: Option<Act<'a>>,
 ) -> Decision<'a>
-    ensures { decision_view result ≡ decided (tabled (O.seen seen.now node) (O.room seen.now) number cause (option_map act_view act.entry)) }
+    ensures { decision_view result
+        ≡ decided (tabled (O.seen seen.now node) (O.room seen.now) number cause (option_map act_view act.entry)) }
 {
     match act {
         Some(act) => recording(seen, node, number, cause, act),
@@ -172,7 +175,8 @@ fn sent<'a, O: Observe>(
     ask: Ask,
     packet: &'a [u8],
 ) -> Decision<'a>
-    ensures { decision_view result ≡ decided (sent (O.seen seen.now node) (O.room seen.now) node number ask packet.now) }
+    ensures { decision_view result
+        ≡ decided (sent (O.seen seen.now node) (O.room seen.now) node number ask packet.now) }
 {
     let meant = nearest_number(seen.top(node), number);
     let (cause, given) = decide(seen.state(node, meant), ask);
@@ -182,7 +186,8 @@ fn sent<'a, O: Observe>(
 
 /// The answer to a message of path management.
 fn path_given<O: Observe>(seen: &O, from: Addr, event: PathEvent) -> Decision<'static>
-    ensures { decision_view result ≡ decided (path_given (O.seen seen.now (node_of from)) (O.room seen.now) from event) }
+    ensures { decision_view result
+        ≡ decided (path_given (O.seen seen.now (node_of from)) (O.room seen.now) from event) }
 {
     let opening = seen.opening(NodeId(from.ip));
     let known = opening.map(|path| path.counter);

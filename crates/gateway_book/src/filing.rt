@@ -196,7 +196,8 @@ fn file_records(
     packet: Packet<'_>,
 ) -> Result<(), NoMemory>
     requires { IsPacket (packet_value packet) }
-    ensures { OnOk result (into.new.items ≡ into.old.items ++ records_of key moment (packet_octets (packet_value packet.entry))) }
+    ensures { OnOk result (into.new.items
+        ≡ into.old.items ++ records_of key moment (packet_octets (packet_value packet.entry))) }
 {
     let Packet::Full {
         count,

@@ -31,7 +31,8 @@ pub fn only_what_is_accepted_is_recorded()
         IfRecords Accepts (answer_by o from datagram room) }
     ensures refused { (o : Observed) (from : Addr) (datagram : PreparedValue) (room : HistoryAct → Bool) →
         (number cause : ℕ) (responded : List ℕ) (act : Option HistoryAct) →
-        answer_by o from datagram room ≡ Replies number (TransferResponse cause responded) act → cause ≢ ACCEPTED → act ≡ None }
+        answer_by o from datagram room ≡ Replies number (TransferResponse cause responded) act → cause ≢ ACCEPTED →
+        act ≡ None }
 {}
 
 /// What a gateway makes of any octets is whole: the packet that a request sends is the one that its
@@ -60,8 +61,10 @@ pub fn a_fit_history_is_within_the_limits()
 
 /// A history stays fit with an entry that is fit behind it, and each of its entries is.
 pub fn fit_histories_go_on()
-    ensures more { (size : ℕ) (h : List HistoryEntry) (e : HistoryEntry) → AllFit size h → IsFit size h e → AllFit size (h ++ e ∷ []) }
-    ensures parts { (size : ℕ) (h : List HistoryEntry) (e : HistoryEntry) → AllFit size (h ++ e ∷ []) → AllFit size h × IsFit size h e }
+    ensures more { (size : ℕ) (h : List HistoryEntry) (e : HistoryEntry) → AllFit size h → IsFit size h e →
+        AllFit size (h ++ e ∷ []) }
+    ensures parts { (size : ℕ) (h : List HistoryEntry) (e : HistoryEntry) → AllFit size (h ++ e ∷ []) →
+        AllFit size h × IsFit size h e }
 {}
 
 /// A request within the limits, with room for what it calls for, isn't refused for want of
@@ -75,10 +78,10 @@ pub fn room_is_enough()
 /// Where costs and promises are within the capacity, no release or cancel is refused for want of
 /// resources.
 pub fn what_is_held_can_be_released()
-    ensures release { (h : List HistoryEntry) (size : ℕ) (from : Addr) (number : ℕ) (numbers : List ℕ) → IsWithin h size →
-        is_without_resources (answer_to h from (Request number (Release numbers)) size) ≡ false }
-    ensures cancel { (h : List HistoryEntry) (size : ℕ) (from : Addr) (number : ℕ) (numbers : List ℕ) → IsWithin h size →
-        is_without_resources (answer_to h from (Request number (Cancel numbers)) size) ≡ false }
+    ensures release { (h : List HistoryEntry) (size : ℕ) (from : Addr) (number : ℕ) (numbers : List ℕ) →
+        IsWithin h size → is_without_resources (answer_to h from (Request number (Release numbers)) size) ≡ false }
+    ensures cancel { (h : List HistoryEntry) (size : ℕ) (from : Addr) (number : ℕ) (numbers : List ℕ) →
+        IsWithin h size → is_without_resources (answer_to h from (Request number (Cancel numbers)) size) ≡ false }
 {
     gw_base::scan::held_keys_are_those_in_that_state();
     entry_codec::laws::a_release_of_held_numbers_has_room();
@@ -87,7 +90,8 @@ pub fn what_is_held_can_be_released()
 
 /// Where costs and promises are within the capacity, a Close that is due has room.
 pub fn a_due_close_has_room()
-    ensures { (h : List HistoryEntry) (size : ℕ) → IsWithin h size → is_close_due h ≡ true → room_for h size Close ≡ true }
+    ensures { (h : List HistoryEntry) (size : ℕ) → IsWithin h size → is_close_due h ≡ true →
+        room_for h size Close ≡ true }
 {
     entry_codec::laws::a_due_close_has_room();
 }
