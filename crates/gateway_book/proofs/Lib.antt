@@ -1,4 +1,5 @@
 pub mod FitLemmas
+pub mod BookLemmas
 pub mod FilingLemmas
 pub mod HeldCounts
 pub mod IndexLemmas

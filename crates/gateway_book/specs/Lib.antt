@@ -1,6 +1,7 @@
 -- What public clauses cite.
 pub mod Answer
 pub mod Answered
+pub mod Book
 pub mod Calls
 pub mod Cases
 pub mod Decisions
@@ -30,6 +31,8 @@ pub mod RoomLaws
 pub mod ShortLaws
 -- Steps of proofs, and private clauses.
 pub mod Judging
+pub mod Followed
+pub mod FollowedProps
 pub mod Nodes
 pub mod Numbers
 pub mod Sides

@@ -3,6 +3,7 @@
 #![tactic(auto)]
 
 mod answering;
+mod book;
 mod case;
 mod decision;
 mod filing;
@@ -19,6 +20,7 @@ mod observed;
 mod outcome;
 mod plain;
 mod preparing;
+mod readying;
 mod states;
 mod told;
 mod totals;
@@ -26,6 +28,7 @@ mod wire_marks;
 #[cfg(test)]
 mod worked_tests;
 
+pub use book::Book;
 pub use filing::{FiledRecord, filed};
 pub use outcome::{BookFault, Broken, ItemsFault, Marked, Outcome, Receipt, Settled, Setup};
 pub use plain::{OwnedAnswer, answer};
