@@ -1,5 +1,7 @@
 pub mod FitLemmas
 pub mod BookLemmas
+pub mod Committing
+pub mod GatheringLemmas
 pub mod FilingLemmas
 pub mod HeldCounts
 pub mod IndexLemmas

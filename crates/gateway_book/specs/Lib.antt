@@ -33,6 +33,7 @@ pub mod ShortLaws
 pub mod Judging
 pub mod Followed
 pub mod FollowedProps
+pub mod Gathering
 pub mod Nodes
 pub mod Numbers
 pub mod Sides

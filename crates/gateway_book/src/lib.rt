@@ -5,14 +5,17 @@
 mod answering;
 mod book;
 mod case;
+mod commit;
 mod decision;
 mod filing;
 mod fit;
+mod gathering;
 mod index;
 mod judge;
 pub mod laws;
 mod listed;
 mod listing;
+mod lookups;
 mod node_mark;
 mod nodes;
 mod observe;

@@ -35,9 +35,11 @@ returns-clause-fit c = λ h judging is.
     let within : c.is_within.result ≡ true = cc in
     let sum : c.in-Some.costs ≡ c.args.self.now.costs + c.cost.result = search rules in
     let room = leb-true (new.costs + promised_of (side_of false new.index).totals) (capacity_of c.args.size) (sym c.is_within.ensures ∙ within) in
-    let now = judged c.args.self.now new h e judging (λ grow. c.note.ensures.follows h grow (c.in_ok-reserve.ensures.follows false h judging.index)) (omega (arith, sum, c.cost.ensures)) (omega (arith, room, sum, c.ranges.size.fits)) in
-    (is_fit (λ index g node follows. laws.observed false index g node follows) (λ index g follows. laws.totals false index g follows) c.args.self.now new h c.args.size e judging now
-        c.may_stand.ensures.moment (sym c.may_stand.ensures.value ∙ yes) (sym c.is_within.ensures ∙ within), now)
+    let now = judged c.args.self.now new h e judging (λ grow. c.note.ensures.follows h grow (c.in_ok-reserve.ensures.follows false h judging.index)) (omega (arith, sum, c.cost.ensures)) (omega (arith, room, sum, c.ranges.size.fits)) in (
+      is_fit (λ index g node follows. laws.observed false index g node follows) (λ index g follows. laws.totals false index g follows) c.args.self.now new h c.args.size e judging now
+          c.may_stand.ensures.moment (sym c.may_stand.ensures.value ∙ yes) (sym c.is_within.ensures ∙ within),
+      now,
+    )
 
 pub returns-clause-unfit : goal.returns-clause-unfit
 returns-clause-unfit c = λ h judging is fit.
