@@ -6,7 +6,9 @@ use Rattle.entry_codec.specs.Laws.{length_of_spelling}
 use Rattle.entry_codec.specs.Spelling.{spelling}
 use Rattle.gw_base.specs.declared.history.HistoryEntry.{HistoryEntry}
 use Rattle.gateway_book.specs.Calls.{commit_answer}
+use Rattle.gateway_book.specs.Index.{Follows}
 use Rattle.gateway_book.specs.Value.{BookValue, Fortune, Reopening, after_commit, committed, faulted, reopened, tried, tried_with}
+use Rattle.gateway_book.specs.declared.index.Index.{Index}
 use Rattle.gateway_book.specs.declared.outcome.Broken.{Broken}
 
 -- entries that no octet spells are none
@@ -49,3 +51,10 @@ answer_ok v after moved whole n count =
 pub answer_broken : (v after : BookValue) → v ≡ after → v.is_broken ≡ true → ◌≡◌ {A = Result ℕ Broken} (Err (record { faults = v.cuts })) (commit_answer after)
 answer_broken v after moved broken =
     sym (ap (λ b. let r : Result ℕ Broken = if b then Err (record { faults = v.cuts }) else Ok (length v.firm) in r) broken) ∙ ap commit_answer moved
+
+-- the side that the book asks follows its history
+pub asked : (closed side : Bool) (index : Index) (firm all : List HistoryEntry) → side ≡ closed → Follows true index firm → Follows false index all → Follows side index (if closed then firm else all)
+asked true true index firm all e one two = one
+asked true false index firm all e one two = cc
+asked false true index firm all e one two = cc
+asked false false index firm all e one two = two

@@ -7,8 +7,10 @@ pub mod HeldCounts
 pub mod IndexLemmas
 pub mod JudgeLemmas
 pub mod ListsLemmas
+pub mod LookupLemmas
 pub mod MarksLemmas
 pub mod NodesLemmas
+pub mod Openings
 pub mod PlainLemmas
 pub mod RecordsLemmas
 pub mod StatesLemmas

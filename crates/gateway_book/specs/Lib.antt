@@ -13,6 +13,7 @@ pub mod Items
 pub mod Limits
 pub mod Marks
 pub mod Once
+pub mod Opened
 pub mod Plain
 pub mod Preparing
 pub mod Recording
@@ -30,7 +31,10 @@ pub mod ResourceLaws
 pub mod RoomLaws
 pub mod ShortLaws
 -- Steps of proofs, and private clauses.
+pub mod Begun
+pub mod Faults
 pub mod Judging
+pub mod Lookups
 pub mod Followed
 pub mod FollowedProps
 pub mod Gathering

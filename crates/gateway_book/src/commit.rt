@@ -18,12 +18,13 @@ use gw_base::scan::held_keys_are_as_many_as_held_copies;
 impl<A: Area> Book<A> {
     ghost use Rattle.gateway_book.specs.Book.{CrashLeaves, HasCause, IsLeft, Stays, area_of, fortune_of, header_of, value_of};
 
-    /// Makes the whole history firm, and answers its length. A broken book opens its journal again, with one call of the
-    /// device; else it makes four calls where an entry waits, and none where none does.
+    /// Makes the whole history firm, and answers its length. A broken book opens its journal again, with one call of
+    /// the device; else it makes four calls where an entry waits, and none where none does.
     ///
     /// After `Broken` the book is broken: its history is the firm part, and the entries behind it are torn.
     pub fn commit(&mut self) -> Result<u64, Broken>
-        ensures left { Told A.Area → IsLeft self.old self.new (commit_left (fortune_of self.old self.new) (value_of self.old)) result }
+        ensures left { Told A.Area → IsLeft self.old self.new (commit_left (fortune_of self.old self.new)
+            (value_of self.old)) result }
         ensures broken { is_closed self.new.trail ≡ is_err result }
         // A crash at any moment of the call leaves the firm entries, or these with those behind them.
         ensures any_moment { CrashLeaves self.old self.new }
@@ -38,7 +39,8 @@ impl<A: Area> Book<A> {
 
     // Makes the whole history firm, or opens the journal of a broken book again.
     fn firm_up(&mut self) -> Result<(), Device>
-        ensures moved { Told A.Area → value_of self.new ≡ after_commit (fortune_of self.old self.new) (value_of self.old) }
+        ensures moved { Told A.Area → value_of self.new ≡
+            after_commit (fortune_of self.old self.new) (value_of self.old) }
         ensures closed { is_closed self.new.trail ≡ is_err result }
         ensures any_moment { CrashLeaves self.old self.new }
         ensures stays { Stays self.old self.new }

@@ -15,8 +15,8 @@ use gw_base::{Absolute, Act, KeyState, NodeId, lists};
 /// How far below the greatest number of an epoch a number may lie.
 const WINDOW: u64 = 32_768;
 
-/// Whether an act is fit to be recorded next: whether its node may be known, its number may get its first state, its packet
-/// is one, its numbers are held.
+/// Whether an act is fit to be recorded next: whether its node may be known, its number may get its first state, its
+/// packet is one, its numbers are held.
 pub(crate) fn is_act_fit<O: Observe>(seen: &O, act: &Act<'_>) -> bool
     ensures { result ≡ is_act_fit (O.seen seen.now) (act_view act.now) }
 {

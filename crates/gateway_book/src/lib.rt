@@ -20,6 +20,7 @@ mod node_mark;
 mod nodes;
 mod observe;
 mod observed;
+mod opening;
 mod outcome;
 mod plain;
 mod preparing;

@@ -1,5 +1,5 @@
 // The nodes that an index keeps.
-ghost use Rattle.std.specs.Prelude.{◌≡◌, ◌≤◌, ◌<◌, ◌^◌, ◌++◌, ℕ, Bool, true, false, [], ◌∷◌, ◌==◌, length, drop, map, All, IfOk, Some, vec_capacity};
+ghost use Rattle.std.specs.Prelude.{◌≡◌, ◌≤◌, ◌<◌, ◌^◌, ◌++◌, ℕ, Bool, true, false, [], ◌∷◌, ◌==◌, length, slice_get, drop, map, All, IfOk, Some, vec_capacity};
 ghost use Rattle.std.specs.List.{list_any};
 ghost use Rattle.gw_base.specs.Known.{is_known};
 ghost use Rattle.gateway_book.specs.Nodes.{AreSlots, IsKeeping, IsLearning, IsLow, IsRemarking, fresh_slot, kept_slots, known_at, mark_of, node_at, nodes_of, remarked, settled_slot};
@@ -169,6 +169,14 @@ impl NodeTable {
         ensures within { result ≤ 64 }
     {
         if firm { self.firm } else { self.slots.len() }
+    }
+
+    /// The k-th of them, counted from 0.
+    pub(crate) fn node(&self, firm: bool, k: usize) -> NodeId
+        requires { k < length (known_at firm self.now.firm self.now.slots.items) }
+        ensures { slice_get (known_at firm self.now.firm self.now.slots.items) k ≡ Some result }
+    {
+        self.slots[k].node
     }
 
     /// Whether a node is known.

@@ -9,14 +9,8 @@ use Rattle.gateway_book.specs.Index.{Follows}
 use Rattle.gateway_book.specs.Value.{history_of}
 use Rattle.gateway_book.specs.declared.index.Index.{Index}
 use Rattle.gateway_book.specs.declared.totals.Totals.{Totals}
+use Rattle.gateway_book.proofs.Committing.{asked}
 use Rattle.gateway_book.proofs.book.Book.counts.Goals as goal
-
--- the side that the book asks follows its history
-asked : (closed side : Bool) (index : Index) (firm all : List HistoryEntry) → side ≡ closed → Follows true index firm → Follows false index all → Follows side index (if closed then firm else all)
-asked true true index firm all e one two = one
-asked true false index firm all e one two = cc
-asked false true index firm all e one two = cc
-asked false false index firm all e one two = two
 
 pub returns : goal.returns
 returns g c = λ told.
