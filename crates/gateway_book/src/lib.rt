@@ -23,6 +23,8 @@ mod observed;
 mod opening;
 mod outcome;
 mod plain;
+#[cfg(test)]
+mod plain_tests;
 mod preparing;
 mod readying;
 mod states;
