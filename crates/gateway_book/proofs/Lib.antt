@@ -1,8 +1,9 @@
-pub mod FitLemmas
+pub mod AddingLemmas
 pub mod BookLemmas
 pub mod Committing
 pub mod GatheringLemmas
 pub mod FilingLemmas
+pub mod FitLemmas
 pub mod HeldCounts
 pub mod IndexLemmas
 pub mod JudgeLemmas

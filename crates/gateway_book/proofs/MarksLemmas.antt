@@ -1,5 +1,5 @@
 -- Lemmas on marks, and on the loop over the numbers that a list names.
-use Rattle.std.proofs.Common.{◌≡◌, ◌≢◌, ℕ, suc, ◌+◌, ◌<◌, ◌==◌, ◌||◌, Bool, true, false, List, [], ◌∷◌, ◌++◌, length, get_or, set, drop, map, Option, refl, sym, ap, ◌∙◌, arith, ◌⊎◌, inl, inr, ⊎_elim, subst}
+use Rattle.std.proofs.Common.{◌≡◌, ℕ, suc, ◌+◌, ◌<◌, ◌==◌, ◌||◌, Bool, true, false, List, [], ◌∷◌, ◌++◌, length, get_or, set, drop, map, Option, refl, sym, ap, ◌∙◌, arith, ⊎_elim}
 use Rattle.std.proofs.lemmas.Bool.{cases_eq, eq-eqb, ne_eqb}
 use Rattle.std.proofs.lemmas.List.{get_or-set_other, get_or-set_same, length-set}
 use Rattle.std.proofs.lemmas.List.Folds.{list_any-append}
@@ -7,7 +7,6 @@ use Rattle.std.proofs.Math.Seq.{drop-cons}
 use Rattle.std.specs.List.{list_any}
 use Rattle.gw_base.specs.Nearest.{nearest}
 use Rattle.gw_base.specs.Observed.{Observed}
-use Rattle.gateway_book.specs.Answer.{held_ones}
 use Rattle.gateway_book.specs.Steps.{with_held}
 use Rattle.gateway_book.specs.WireMarks.{AreClear, AreMarked, KeepsApart, wire_numbers}
 use Rattle.gateway_book.proofs.ListsLemmas.{held_from}

@@ -1,5 +1,4 @@
 -- What the code's decisions say, which lend packets and numbers.
-use Rattle.std.specs.Prelude.{Option}
 use Rattle.std.specs.Option.{option_map}
 use Rattle.gateway_book.specs.Answer as of
 use Rattle.gw_base.specs.Entry.{act_view}

@@ -1,12 +1,12 @@
 -- What an answer records is fit.
-use Rattle.std.proofs.Common.{◌≡◌, ℕ, ◌+◌, ◌-◌, ◌*◌, ◌%◌, ◌≤◌, max, length, nat_le, Bool, true, false, ◌&&◌, if◌then◌else◌, List, [], ◌∷◌, ◌++◌, Option, Some, None, refl, sym, ap, ◌∙◌, map, arith}
+use Rattle.std.proofs.Common.{◌≡◌, ℕ, ◌+◌, ◌-◌, ◌*◌, ◌%◌, ◌≤◌, length, nat_le, Bool, true, false, ◌&&◌, if◌then◌else◌, List, [], ◌∷◌, ◌++◌, Option, Some, None, refl, sym, ap, ◌∙◌, map, arith}
 use Rattle.std.proofs.lemmas.Bool.{and_from, and_parts, false≢true, le-leb}
 use Rattle.std.specs.Prelude.{⊤}
 use Rattle.std.specs.Option.{option_map, option_map_or}
 use Rattle.entry_codec.specs.Room.{has_room, capacity_of, costs_of}
 use Rattle.entry_codec.specs.Spelling.{cost_of}
 use Rattle.gtpp_message.specs.Message.{MessageValue, TransferValue, Send, Possible, Cancel, Release}
-use Rattle.gtpp_message.specs.Packet.{PacketForm, PacketValue, Empty, Full, IsPacket, packet_of, packet_octets}
+use Rattle.gtpp_message.specs.Packet.{PacketForm, Empty, Full, packet_of}
 use Rattle.gtpp_message.specs.declared.reading.Why.TheVariants.{NoRoom}
 use Rattle.gw_base.specs.EntryLaws.{is_close_due-append}
 use Rattle.gw_base.specs.HeldLaws.{held_keys-append}
@@ -34,7 +34,7 @@ use Rattle.transfer_cmd.specs.declared.verdict.Verdict.{Verdict}
 use Rattle.transfer_cmd.specs.declared.verdict.Verdict.TheVariants.{Wrong, Before, Change}
 use Rattle.gateway_book.specs.Answer.{Given, Drops, Replies, answer_by, asked_by, changes, held_ones, listed, node_of, opening_epoch, path_given, recorded_as, recording, replying, responding, sent, tabled}
 use Rattle.gateway_book.specs.Answered.{answer_to, entry_by, no_caller, room_for}
-use Rattle.gateway_book.specs.Fit.{IsFit, is_act_fit, is_fresh, is_in_window, is_list_fit, is_new, is_packet_fit, latest_moment}
+use Rattle.gateway_book.specs.Fit.{IsFit, is_act_fit, is_fresh, is_in_window, is_new, is_packet_fit, latest_moment}
 use Rattle.gateway_book.specs.Limits.{has_place, is_in_range, may_hold, within_limits}
 use Rattle.gateway_book.specs.ListFitLaws.{change_is_held, held_ones_fit}
 use Rattle.gateway_book.specs.Preparing.{PreparedValue, Drop, OtherVersion, Refused, Path, Request, IsWhole, has_values}

@@ -28,13 +28,16 @@ pub mod ListFitLaws
 pub mod OnceLaws
 pub mod PreparingLaws
 pub mod ResourceLaws
+pub mod RoomAsked
 pub mod RoomLaws
 pub mod ShortLaws
+pub mod SizeLaws
 -- Steps of proofs, and private clauses.
 pub mod Begun
 pub mod Faults
 pub mod Judging
 pub mod Lookups
+pub mod Adding
 pub mod Followed
 pub mod FollowedProps
 pub mod Gathering

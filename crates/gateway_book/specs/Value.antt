@@ -1,5 +1,5 @@
 -- What a book stands for, and how it moves.
-use Rattle.std.specs.Prelude.{ℕ, ◌+◌, ◌-◌, nat_lt, Bool, true, false, if◌then◌else◌, List, [], ◌∷◌, ◌++◌, length, Option, Some, None}
+use Rattle.std.specs.Prelude.{ℕ, ◌-◌, nat_lt, Bool, true, false, if◌then◌else◌, List, [], ◌∷◌, ◌++◌, length, Option, Some, None}
 use Rattle.area_disk.specs.Disk.{counted}
 use Rattle.entry_codec.specs.Content.{spelled}
 use Rattle.gate_journal.specs.Format.{longest_batch}

@@ -238,10 +238,10 @@ pub(crate) fn failure_answer(case: &Case<'_>) -> Decision<'static>
 }
 
 /// The answer to what was made of a datagram from this sender. Without memory none is made.
-pub(crate) fn answer_by<'a, O: Observe>(
+pub(crate) fn answer_by<'a, 'p: 'a, O: Observe>(
     seen: &O,
     from: Addr,
-    case: &'a Case<'a>,
+    case: &Case<'p>,
     scratch: &'a mut Scratch,
 ) -> Result<Decision<'a>, NoMemory>
     ensures { IfOk result (λ decision. decision_view decision
@@ -257,11 +257,11 @@ pub(crate) fn answer_by<'a, O: Observe>(
 }
 
 /// The answer to a request.
-fn asked_by<'a, O: Observe>(
+fn asked_by<'a, 'p: 'a, O: Observe>(
     seen: &O,
     node: NodeId,
     number: u16,
-    body: &'a Transfer<'a>,
+    body: &Transfer<'p>,
     scratch: &'a mut Scratch,
 ) -> Result<Decision<'a>, NoMemory>
     ensures { IfOk result (λ decision. decision_view decision

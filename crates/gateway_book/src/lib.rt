@@ -2,6 +2,7 @@
 //! journal (3GPP TS 32.295, clauses 5.1.3 and 6.2).
 #![tactic(auto)]
 
+mod adding;
 mod answering;
 mod book;
 mod case;

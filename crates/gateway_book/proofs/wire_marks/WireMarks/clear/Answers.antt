@@ -1,4 +1,4 @@
-use Rattle.std.proofs.Common.{◌≡◌, ◌<◌, ℕ, false, length, get_or, refl, sym, ◌∙◌, arith}
+use Rattle.std.proofs.Common.{◌≡◌, false, length, refl, arith}
 use Rattle.gateway_book.specs.WireMarks.{wire_numbers}
 use Rattle.gateway_book.proofs.wire_marks.WireMarks.clear.Goals as goal
 
