@@ -134,9 +134,11 @@ fn add<A: Area>(
     requires may_come { MayCome (act_view entry.now.act) index.old }
     requires free { waiting_octets trail.old + entry_length (entry_view entry.now) ≤ longest_batch }
     ensures said { (octets : List ℕ) → result ≡ Some (Done.Said octets) → (octets ≡ reply)
-        × (has_room_of trail.old (entry_view entry.now) ≡ true) × IsAdded trail.old trail.new index.old index.new (entry_view entry.now) }
+        × (has_room_of trail.old (entry_view entry.now) ≡ true)
+        × IsAdded trail.old trail.new index.old index.new (entry_view entry.now) }
     ensures never_silent { (why : Why) → ¬ (result ≡ Some (Done.Silent why)) }
-    ensures no_room { result ≡ None → (has_room_of trail.old (entry_view entry.now) ≡ false) × IsSame trail.old trail.new index.old index.new }
+    ensures no_room { result ≡ None → (has_room_of trail.old (entry_view entry.now) ≡ false)
+        × IsSame trail.old trail.new index.old index.new }
     ensures no_memory { result ≡ Some Done.NoMemory → AreKept trail.old trail.new index.old index.new }
 {
     if !trail.room(entry) {
@@ -175,10 +177,14 @@ fn conclude<A: Area>(
 ) -> Option<Done>
     requires open { is_closed trail.old ≡ false }
     requires may_come { MayAdd (act_decided (decision_view decision)) trail.old index.old moment who }
-    ensures silent { (why : Why) → result ≡ Some (Done.Silent why) → (decision_view decision.entry ≡ Silent why) × IsSame trail.old trail.new index.old index.new }
-    ensures said { (reply : List ℕ) → result ≡ Some (Done.Said reply) → (act : Option HistoryAct) × (decision_view decision.entry ≡ Says reply act)
-        × IfSome act (λ a. room_in trail.old moment who a ≡ true) × AddsIf trail.old trail.new index.old index.new moment who act }
-    ensures no_room { result ≡ None → (reply : List ℕ) × (act : HistoryAct) × (decision_view decision.entry ≡ Says reply (Some act))
+    ensures silent { (why : Why) → result ≡ Some (Done.Silent why) → (decision_view decision.entry ≡ Silent why)
+        × IsSame trail.old trail.new index.old index.new }
+    ensures said { (reply : List ℕ) → result ≡ Some (Done.Said reply) → (act : Option HistoryAct)
+        × (decision_view decision.entry ≡ Says reply act)
+        × IfSome act (λ a. room_in trail.old moment who a ≡ true)
+        × AddsIf trail.old trail.new index.old index.new moment who act }
+    ensures no_room { result ≡ None → (reply : List ℕ) × (act : HistoryAct) × (decision_view decision.entry ≡
+        Says reply (Some act))
         × (room_in trail.old moment who act ≡ false) × IsSame trail.old trail.new index.old index.new }
     ensures no_memory { result ≡ Some Done.NoMemory → AreKept trail.old trail.new index.old index.new }
 {
@@ -218,7 +224,8 @@ fn answer_with_room<A: Area>(
         × IsSame trail.old trail.new index.old index.new }
     ensures said { (reply : List ℕ) → result ≡ Some (Done.Said reply) → (act : Option HistoryAct)
         × (decided (answer_by (observed_by false index.old (node_of from)) from (case_value case.now) (λ act. true)) ≡ Says reply act)
-        × IfSome act (λ a. room_in trail.old moment who a ≡ true) × AddsIf trail.old trail.new index.old index.new moment who act }
+        × IfSome act (λ a. room_in trail.old moment who a ≡ true)
+        × AddsIf trail.old trail.new index.old index.new moment who act }
     ensures no_room { result ≡ None → (reply : List ℕ) × (act : HistoryAct)
         × (decided (answer_by (observed_by false index.old (node_of from)) from (case_value case.now) (λ act. true)) ≡ Says reply (Some act))
         × (room_in trail.old moment who act ≡ false) × IsSame trail.old trail.new index.old index.new }

@@ -218,7 +218,8 @@ impl Index {
     /// Follows one more entry on the live side. It takes no memory.
     pub fn note(&mut self, entry: &Entry<'_>)
         requires { IsReadyFor (act_view entry.now.act) self.old }
-        ensures follows { (h : List HistoryEntry) → MayGrow h → Follows false self.old h → Follows false self.new (h ++ entry_view entry.now ∷ []) }
+        ensures follows { (h : List HistoryEntry) → MayGrow h → Follows false self.old h →
+            Follows false self.new (h ++ entry_view entry.now ∷ []) }
         ensures firm { (h : List HistoryEntry) → Follows true self.old h → Follows true self.new h }
     {
         held_keys_are_those_in_that_state();

@@ -193,7 +193,8 @@ impl NodeTable {
     /// Makes a node known, if it isn't.
     pub(crate) fn learn(&mut self, node: NodeId)
         requires { is_known (nodes_of self.old.slots.items) node ≡ false → length self.old.slots.items < 64 }
-        ensures { (self.new.firm ≡ self.old.firm) × IsLearning node self.old.firm self.old.slots.items self.new.slots.items }
+        ensures { (self.new.firm ≡ self.old.firm)
+            × IsLearning node self.old.firm self.old.slots.items self.new.slots.items }
     {
         if is_known(&self.slots, node) {
             return;
@@ -204,7 +205,8 @@ impl NodeTable {
     /// Keeps something else of a node, if it is known.
     pub(crate) fn set(&mut self, node: NodeId, mark: NodeMark)
         requires { IsLow mark }
-        ensures { (self.new.firm ≡ self.old.firm) × IsRemarking node mark self.old.firm self.old.slots.items self.new.slots.items }
+        ensures { (self.new.firm ≡ self.old.firm)
+            × IsRemarking node mark self.old.firm self.old.slots.items self.new.slots.items }
     {
         remark_all(&mut self.slots, node, mark);
     }

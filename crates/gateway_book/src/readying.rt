@@ -24,7 +24,8 @@ impl<A: Area> Book<A> {
     pub(crate) fn open_again(&mut self) -> Result<(), Device>
         requires { is_closed self.old.trail ≡ true }
 
-        ensures moved { Told A.Area → value_of self.new ≡ reopened (value_of self.old) (reopening_of (is_err result) (torn_stands self.old.trail)) }
+        ensures moved { Told A.Area → value_of self.new ≡
+            reopened (value_of self.old) (reopening_of (is_err result) (torn_stands self.old.trail)) }
         ensures closed { is_closed self.new.trail ≡ is_err result }
         ensures emptied { OnOk result (waiting_octets self.new.trail ≡ 0) }
         ensures any_moment { CrashLeaves self.old self.new }
@@ -48,7 +49,8 @@ impl<A: Area> Book<A> {
     pub(crate) fn make_firm(&mut self) -> Result<(), Device>
         requires { is_closed self.old.trail ≡ false }
 
-        ensures moved { Told A.Area → value_of self.new ≡ (if is_err result then faulted (value_of self.old) else committed (value_of self.old)) }
+        ensures moved { Told A.Area → value_of self.new ≡
+            (if is_err result then faulted (value_of self.old) else committed (value_of self.old)) }
         ensures closed { is_closed self.new.trail ≡ is_err result }
         ensures emptied { OnOk result (waiting_octets self.new.trail ≡ 0) }
         ensures any_moment { CrashLeaves self.old self.new }

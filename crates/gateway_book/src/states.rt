@@ -140,7 +140,8 @@ impl StateTable {
 
     /// Makes a place for a key. Without memory nothing is lost.
     pub(crate) fn place(&mut self, key: PacketKey) -> Result<(), NoMemory>
-        ensures states { (firm : Bool) (q : PacketKey) → state_in firm self.new.states q ≡ state_in firm self.old.states q }
+        ensures states { (firm : Bool) (q : PacketKey) → state_in firm self.new.states q ≡
+            state_in firm self.old.states q }
         ensures placed { (q : PacketKey) → IsPlaced self.old q → IsPlaced self.new q }
         ensures ok { OnOk result (IsPlaced self.new key) }
     {
