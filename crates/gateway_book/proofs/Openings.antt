@@ -1,0 +1,191 @@
+-- A book that is opened: what its index follows, and the Start that it adds.
+use Rattle.std.proofs.Common.{◌≡◌, ◌⊎◌, inl, inr, ⊎_elim, ℕ, ◌+◌, ◌*◌, ◌<◌, ◌≤◌, ◌^◌, Bool, true, false, if◌then◌else◌, max, List, [], ◌∷◌, ◌++◌, Result, Ok, Err, length, refl, sym, ap, subst, ◌∙◌, append_assoc, arith}
+use Rattle.std.specs.Prelude.{IfErr, IfOk, IsErrAnd, IsTrue, OnErr, OnOk}
+use Rattle.std.proofs.lemmas.List.{append-nil}
+use Rattle.area_disk.specs.Disk.{Rose, counted}
+use Rattle.area_disk.specs.declared.area.Area.{Ghosts}
+use Rattle.gate_journal.specs.Format.{Starts}
+use Rattle.gate_journal.specs.Moments.{Leaves, Told}
+use Rattle.gate_journal.specs.declared.faults.OpenFault.{OpenFault}
+use Rattle.gate_journal.specs.declared.faults.OpenFault.TheVariants as opening
+use Rattle.entry_codec.specs.Room.{IsWithin, capacity_of, costs_of, has_room}
+use Rattle.gw_base.specs.History.{last_moment, moment_after}
+use Rattle.gw_base.specs.HeldKeys.{promised_octets}
+use Rattle.gw_base.specs.Observed.{observed}
+use Rattle.gw_base.specs.declared.history.HistoryAct.{HistoryAct}
+use Rattle.gw_base.specs.declared.history.HistoryAct.TheVariants.{Start}
+use Rattle.gw_base.specs.declared.history.HistoryEntry.{HistoryEntry}
+use Rattle.cgf_journal.specs.Outcomes.{FirmStays, IsPushed}
+use Rattle.cgf_journal.specs.Trail.{area_of, entries, firm_entries, is_closed, waiting}
+use Rattle.cgf_journal.specs.declared.trail.Trail.{Trail}
+use Rattle.cgf_journal.specs.Fit.{StandsFit}
+use Rattle.cgf_journal.specs.Results as trails
+use Rattle.gateway_book.specs.Begun.{HasNoMore, HasOneMore, IsBegun}
+use Rattle.gateway_book.specs.Book.{area_of as book_area, value_of}
+use Rattle.gateway_book.specs.Faults.{book_fault}
+use Rattle.gateway_book.specs.Opened.{IsNotOurs, IsOpened, IsRefused, OnArea, StandsOrStarts}
+use Rattle.gateway_book.specs.declared.book.Book.{Book}
+use Rattle.gateway_book.specs.declared.outcome.BookFault.{BookFault}
+use Rattle.gateway_book.specs.declared.outcome.BookFault.TheVariants.{Device, NoMemory, NotOurs}
+use Rattle.gateway_book.specs.Answered.{entry_by, no_caller, room_for}
+use Rattle.gateway_book.specs.Fit.{IsFit, is_act_fit, latest_moment}
+use Rattle.gateway_book.specs.FitHistory.{AllFit}
+use Rattle.gateway_book.specs.FitHistoryLaws.{fit_is_within, fit_more, last_is_in_range}
+use Rattle.gateway_book.specs.Followed.{IsFollowed, all_entries}
+use Rattle.gateway_book.specs.Index.{Follows, MayGrow}
+use Rattle.gateway_book.specs.Value.{BookValue, history_of, opened, recorded, started}
+use Rattle.gateway_book.specs.declared.index.Index.{Index}
+
+costs_at_least : (h : List HistoryEntry) → 30 * length h ≤ costs_of h
+costs_at_least [] = omega arith
+costs_at_least (e ∷ h) = omega (arith, costs_at_least h)
+
+-- a fit history may grow
+pub fit_may_grow : (size : ℕ) (h : List HistoryEntry) → size ≤ 268435456 → AllFit size h → MayGrow h
+fit_may_grow size h short fit =
+    let within : IsWithin h size = fit_is_within size h fit in
+    omega (arith, short, within, costs_at_least h)
+
+-- a Start for which there is room is fit
+pub start_is_fit : (size : ℕ) (h : List HistoryEntry) (e : HistoryEntry) → AllFit size h → e.moment ≡ last_moment h → e.act ≡ Start → has_room h e size ≡ true → IsFit size h e
+start_is_fit size h e fit moment act room = record {
+  moment = omega (arith, moment, last_is_in_range size h fit);
+  order = omega (arith, moment);
+  act = ap (λ (a : HistoryAct). is_act_fit (observed h) a) act;
+  room = room;
+}
+
+module _ {A : Type 0} {tells : Ghosts A} (old new : Trail A tells) (before after : Index) (e : HistoryEntry) (followed : IsFollowed old before) (added : HasOneMore old new before after e) where
+  pub all_more : all_entries new ≡ all_entries old ++ e ∷ []
+  all_more = (λ i. added.stays.listed i ++ added.pushed.waits i) ∙ sym (append_assoc (firm_entries old) (waiting old) (e ∷ []))
+
+  -- with one more entry that is fit the index follows the trail
+  pub added_followed : (Told tells → IsFit (tells.size (area_of old)) (all_entries old) e) → IsFollowed new after
+  added_followed fits =
+      let size : tells.size (area_of new) ≡ tells.size (area_of old) = ap (λ (a : A). tells.size a) added.stays.area in
+      record {
+        short = subst (λ (n : ℕ). n ≤ 268435456) (sym size) followed.short;
+        firm = λ told. subst (λ (h : List HistoryEntry). Follows true after h) (sym added.stays.listed) (added.firm (firm_entries old) (followed.firm told));
+        live = λ told.
+            subst (λ (h : List HistoryEntry). Follows false after h) (sym all_more)
+            (added.live (all_entries old) (fit_may_grow (tells.size (area_of old)) (all_entries old) followed.short (followed.fit told)) (followed.live told));
+        fit = λ told.
+            subst (λ (n : ℕ). AllFit n (all_entries new)) (sym size)
+            (subst (λ (h : List HistoryEntry). AllFit (tells.size (area_of old)) h) (sym all_more) (fit_more (tells.size (area_of old)) [] (all_entries old) e (followed.fit told) (fits told)));
+      }
+
+-- whether it was added or not
+pub both_followed : {A : Type 0} {tells : Ghosts A} {F : Type 0} (old new : Trail A tells) (before after : Index) (e : HistoryEntry) (r : Result (Unit {0}) F) → IsFollowed old before → OnOk r (HasOneMore old new before after e)
+    → OnErr r (HasNoMore old new before after) → (Told tells → IsFit (tells.size (area_of old)) (all_entries old) e) → IsFollowed new after
+both_followed old new before after e (Ok x) followed added kept fits = added_followed old new before after e followed added fits
+both_followed {tells = tells} old new before after e (Err fault) followed added kept fits =
+    let same : all_entries new ≡ all_entries old = λ i. kept.stays.listed i ++ kept.kept.waiting i in
+    record {
+      short = subst (λ (n : ℕ). n ≤ 268435456) (sym kept.kept.size) followed.short;
+      firm = λ told. subst (λ (h : List HistoryEntry). Follows true after h) (sym kept.stays.listed) (kept.follows true (firm_entries old) (followed.firm told));
+      live = λ told. subst (λ (h : List HistoryEntry). Follows false after h) (sym same) (kept.follows false (all_entries old) (followed.live told));
+      fit = λ told. subst (λ (n : ℕ). AllFit n (all_entries new)) (sym kept.kept.size) (subst (λ (h : List HistoryEntry). AllFit (tells.size (area_of old)) h) (sym same) (followed.fit told));
+    }
+
+-- ---- the Start
+
+zero_max : (n : ℕ) → n ≡ max 0 n
+zero_max n = omega arith
+
+module _ (v : BookValue) (size : ℕ) (e : HistoryEntry) (whole : v.is_broken ≡ false) (moment : e.moment ≡ last_moment (v.firm ++ v.rest)) (caller : e.caller ≡ no_caller) (act : e.act ≡ Start) where
+  history : v.firm ++ v.rest ≡ history_of v
+  history = sym (ap (λ b. if b then v.firm else v.firm ++ v.rest) whole)
+
+  entry : e ≡ entry_by (history_of v) 0 no_caller Start
+  entry = λ i. record { moment = when i; caller = caller i; act = act i }
+    where
+      when : e.moment ≡ moment_after (history_of v) 0
+      when = moment ∙ ap (λ (h : List HistoryEntry). last_moment h) history ∙ zero_max (last_moment (history_of v))
+
+  room : has_room (v.firm ++ v.rest) e size ≡ room_for (history_of v) size Start
+  room = λ i. has_room (history i) (entry i) size
+
+  pub start_added : has_room (v.firm ++ v.rest) e size ≡ true → (let w : BookValue = record v { rest = v.rest ++ e ∷ [] } in w) ≡ started size v
+  start_added has =
+      (λ i. record v { rest = v.rest ++ entry i ∷ [] })
+      ∙ sym (ap (λ b. if b then recorded v 0 no_caller Start else v) (sym room ∙ has))
+
+  pub start_left_out : has_room (v.firm ++ v.rest) e size ≡ false → v ≡ started size v
+  start_left_out none = sym (ap (λ b. if b then recorded v 0 no_caller Start else v) (sym room ∙ none))
+
+-- ---- from the trail's opening to the book's
+
+pub not_ours_is : (fault : OpenFault) (at : ℕ) → book_fault fault ≡ NotOurs at → fault ≡ opening.NotOurs at
+not_ours_is opening.Device at e = cc
+not_ours_is (opening.NotOurs k) at e = let same : k ≡ at = cc in ap opening.NotOurs same
+not_ours_is opening.NoMemory at e = cc
+
+pub device_is : (fault : OpenFault) → book_fault fault ≡ Device → fault ≡ opening.Device
+device_is opening.Device e = refl
+device_is (opening.NotOurs k) e = cc
+device_is opening.NoMemory e = cc
+
+apart_not_ours : (at : ℕ) → NoMemory ≡ NotOurs at → ⊥
+apart_not_ours at e = cc
+
+apart_device : ◌≡◌ {A = BookFault} NoMemory Device → ⊥
+apart_device e = cc
+
+module _ {A : Type 0} {tells : Ghosts A} (header : List ℕ) (area : A) (t : Trail A tells) (open_time : ℕ) where
+  -- what the trail's area is, the book's is
+  pub on_area : (P : A → Type 0) (r : Result (Book A tells) (BookFault × A)) → IfOk r (λ book. IsBegun t open_time book) → IfErr r (λ fault. fault ≡ (NoMemory, area_of t)) → P (area_of t) → OnArea r P
+  on_area P (Ok book) ok err p = subst P (sym ok.area) p
+  on_area P (Err fault) ok err p = subst P (sym (ap (λ (f : BookFault × A). f.1) err)) p
+
+  pub if_ok_area : (P : A → Type 0) (r : Result (Book A tells) (BookFault × A)) → IfOk r (λ book. IsBegun t open_time book) → P (area_of t) → IfOk r (λ book. P (book_area book))
+  if_ok_area P (Ok book) ok p = subst P (sym ok.area) p
+  if_ok_area P (Err fault) ok p = tt
+
+  module _ (size : tells.size (area_of t) ≡ tells.size area) where
+    value_is : (book : Book A tells) (h : List HistoryEntry) → IsBegun t open_time book → Told tells → firm_entries t ≡ h → value_of book ≡ opened (tells.size area) h
+    value_is book h begun told listed = begun.value told ∙ (λ i. opened (size i) (listed i))
+
+    pub ok_is : (r : Result (Book A tells) (BookFault × A)) → IfOk r (λ book. IsBegun t open_time book) → trails.IsOpened tells header area (StandsFit IsFit header) t → IfOk r (λ book. IsOpened header area open_time book)
+    ok_is (Ok book) begun found = record {
+      found = λ told. (firm_entries t, found.found told, value_is book (firm_entries t) begun told refl);
+      whole = begun.whole;
+      uncut = begun.uncut;
+      named = begun.named ∙ found.fresh.named;
+      set = begun.set;
+      faults = ap (λ (a : A). tells.faults a) begun.area ∙ found.faults;
+    }
+    ok_is (Err fault) begun found = tt
+
+    pub listed_as : (r : Result (Book A tells) (BookFault × A)) (h : List HistoryEntry) → IfOk r (λ book. IsBegun t open_time book) → Told tells → firm_entries t ≡ h → IfOk r (λ book. value_of book ≡ opened (tells.size area) h)
+    listed_as (Ok book) h begun told listed = value_is book h begun told listed
+    listed_as (Err fault) h begun told listed = tt
+
+  pub err_is : (r : Result (Book A tells) (BookFault × A)) → IfErr r (λ fault. fault ≡ (NoMemory, area_of t)) → tells.faults (area_of t) ≡ tells.faults area → IfErr r (λ fault. IsRefused tells area header fault)
+  err_is (Ok book) err faults = tt
+  err_is (Err fault) err faults =
+      let kind : fault.0 ≡ NoMemory = ap (λ (f : BookFault × A). f.0) err in
+      record {
+        place = λ told at e. absurd (apart_not_ours at (sym kind ∙ e));
+        unwritten = λ told at e. absurd (apart_not_ours at (sym kind ∙ e));
+        cause = λ e. absurd (apart_device (sym kind ∙ e));
+        faults = omega (arith, faults, ap (λ (f : BookFault × A). tells.faults f.1) err);
+      }
+
+-- a fault that isn't the device's left the octets as they were
+pub unwritten_is : {P : Type 0} (fault : OpenFault) (at : ℕ) → fault ≡ opening.NotOurs at → (fault ≡ opening.Device) ⊎ P → P
+unwritten_is fault at is (inl device) = absurd (apart (sym is ∙ device))
+  where
+    apart : ◌≡◌ {A = OpenFault} (opening.NotOurs at) opening.Device → ⊥
+    apart e = cc
+unwritten_is fault at is (inr p) = p
+
+pub foreign_is : (fault : OpenFault) (at : ℕ) (told : BookFault) → told ≡ book_fault fault → (fault ≡ opening.NotOurs at) ⊎ ((fault ≡ opening.Device) ⊎ (fault ≡ opening.NoMemory))
+    → (told ≡ NotOurs at) ⊎ ((told ≡ Device) ⊎ (told ≡ NoMemory))
+foreign_is fault at told is (inl e) = inl (is ∙ ap book_fault e)
+foreign_is fault at told is (inr (inl e)) = inr (inl (is ∙ ap book_fault e))
+foreign_is fault at told is (inr (inr e)) = inr (inr (is ∙ ap book_fault e))
+
+-- what an opening found is fit
+pub found_fit : (header octets : List ℕ) (h : List HistoryEntry) (size n : ℕ) → length octets ≡ size → n ≡ size → StandsOrStarts header octets h → AllFit n h
+found_fit header octets h size n long same (inl stands) = subst (λ (m : ℕ). AllFit m h) (long ∙ sym same) stands.fit
+found_fit header octets h size n long same (inr starts) = subst (λ (g : List HistoryEntry). AllFit n g) (sym starts.1) tt

@@ -1,0 +1,13 @@
+use Rattle.std.proofs.Common.{◌≡◌, List, ℕ, sym, ap, ◌∙◌}
+use Rattle.std.specs.Option.{option_map}
+use Rattle.gw_base.specs.Entry.{act_view}
+use Rattle.gateway_book.specs.Answer.{Says}
+use Rattle.gateway_book.specs.Decisions.{decision_view}
+use Rattle.gateway_book.specs.declared.decision.Decision.{Decision}
+use Rattle.gateway_book.proofs.adding.answer_without_room.Goals as goal
+
+pub returns-in-Ok-Reply-clause-said : goal.returns-in-Ok-Reply-clause-said
+returns-in-Ok-Reply-clause-said c = λ reply same. (
+  option_map act_view c.in-Ok-Reply.field-0-1,
+  sym c.in-Ok-Reply.ensures ∙ ap (λ (d : Decision). decision_view d) c.in-Ok-Reply.field-0-is ∙ (let e : ◌≡◌ {A = List ℕ} c.in-Ok-Reply.reply reply = cc same in ap (λ (octets : List ℕ). Says octets (option_map act_view c.in-Ok-Reply.field-0-1)) e),
+)

@@ -1,0 +1,24 @@
+use Rattle.std.proofs.Common.{◌≡◌, true, false, sym, ap, ◌∙◌}
+use Rattle.std.specs.Prelude.{is_err}
+use Rattle.gateway_book.specs.Book.{fortune_of, value_of}
+use Rattle.gateway_book.specs.Value.{after_commit}
+use Rattle.gateway_book.proofs.Committing.{answer_broken, answer_ok}
+use Rattle.gateway_book.proofs.book.Book.commit.Goals as goal
+
+pub returns-in-Ok-clause-left : goal.returns-in-Ok-clause-left
+returns-in-Ok-clause-left g c = λ told.
+    let new = c.firm_up.new.self in
+    let moved = c.firm_up.ensures.moved told in
+    record {
+      value = moved;
+      answer = answer_ok (value_of new) (after_commit (fortune_of c.args.self.now new) (value_of c.args.self.now)) moved (c.firm_up.ensures.closed ∙ ap is_err c.in-Ok.is) c.firm.result (c.firm.ensures.length told);
+    }
+
+pub returns-in-Err-clause-left : goal.returns-in-Err-clause-left
+returns-in-Err-clause-left g c = λ told.
+    let new = c.firm_up.new.self in
+    let moved = c.firm_up.ensures.moved told in
+    record {
+      value = moved;
+      answer = answer_broken (value_of new) (after_commit (fortune_of c.args.self.now new) (value_of c.args.self.now)) moved (c.firm_up.ensures.closed ∙ ap is_err c.in-Err.is);
+    }

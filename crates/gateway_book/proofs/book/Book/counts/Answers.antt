@@ -1,0 +1,27 @@
+use Rattle.std.proofs.Common.{◌≡◌, ℕ, Bool, true, false, if◌then◌else◌, List, ◌++◌, length, refl, sym, ap, ◌∙◌}
+use Rattle.gate_journal.specs.Moments.{Told}
+use Rattle.gw_base.specs.HeldKeys.{held_keys}
+use Rattle.gw_base.specs.declared.history.HistoryEntry.{HistoryEntry}
+use Rattle.cgf_journal.specs.Trail.{firm_entries, is_closed, waiting}
+use Rattle.gateway_book.specs.Book.{value_of}
+use Rattle.gateway_book.specs.Followed.{all_entries}
+use Rattle.gateway_book.specs.Index.{Follows}
+use Rattle.gateway_book.specs.Value.{history_of}
+use Rattle.gateway_book.specs.declared.index.Index.{Index}
+use Rattle.gateway_book.specs.declared.totals.Totals.{Totals}
+use Rattle.gateway_book.proofs.Committing.{asked}
+use Rattle.gateway_book.proofs.book.Book.counts.Goals as goal
+
+pub returns : goal.returns
+returns g c = λ told.
+    let book = c.args.self.now in
+    let follows = asked (is_closed book.trail) c.is_closed.result book.index (firm_entries book.trail) (all_entries book.trail) c.is_closed.ensures.closed (book.followed.firm told) (book.followed.live told) in
+    let h = history_of (value_of book) in
+    let totals = c.totals-totals.ensures ∙ c.an_index_tells_its_history.ensures.totals c.is_closed.result book.index h follows in
+    λ i. record {
+      entries = c.length.ensures.length told i;
+      firm = c.firm.ensures.length told i;
+      held = (ap (λ (t : Totals). t.held) totals ∙ c.held_keys_are_as_many_as_held_copies.ensures h) i;
+      stranded = ap (λ (t : Totals). t.stranded) totals i;
+      free = c.free.ensures.free told i;
+    }

@@ -1,0 +1,77 @@
+use Rattle.std.proofs.Common.{◌≡◌, ◌⊎◌, inl, inr, ⊎_elim, ℕ, List, [], refl, sym, ap, ◌∙◌}
+use Rattle.area_disk.specs.Disk.{counted}
+use Rattle.gate_journal.specs.Format.{Starts, header}
+use Rattle.gate_journal.specs.Moments.{Leaves, Told}
+use Rattle.gate_journal.specs.declared.faults.OpenFault.{OpenFault}
+use Rattle.cgf_journal.specs.Format.{StandsFor}
+use Rattle.cgf_journal.specs.Trail.{firm_entries}
+use Rattle.gateway_book.specs.Faults.{book_fault}
+use Rattle.gateway_book.proofs.Openings.{device_is, err_is, foreign_is, found_fit, if_ok_area, listed_as, not_ours_is, ok_is, on_area, unwritten_is}
+use Rattle.gateway_book.proofs.book.Book.open.Goals as goal
+
+pub returns-in-Ok-open_judged-clause-ok : goal.returns-in-Ok-open_judged-clause-ok
+returns-in-Ok-open_judged-clause-ok g c =
+    ok_is (header (g.A.Area.size c.args.area) c.args.setup.address 0) c.args.area c.in-Ok-open_judged.trail c.args.setup.open_time c.in-Ok-open_judged.ensures.size c.begin.result c.begin.ensures.ok c.in-Ok-open_judged.ensures.ok
+
+pub returns-in-Ok-open_judged-clause-err : goal.returns-in-Ok-open_judged-clause-err
+returns-in-Ok-open_judged-clause-err g c =
+    err_is (header (g.A.Area.size c.args.area) c.args.setup.address 0) c.args.area c.in-Ok-open_judged.trail c.args.setup.open_time c.begin.result c.begin.ensures.err c.in-Ok-open_judged.ensures.ok.faults
+
+pub returns-in-Ok-open_judged-clause-reads : goal.returns-in-Ok-open_judged-clause-reads
+returns-in-Ok-open_judged-clause-reads g c = λ told history stands.
+    let h = header (g.A.Area.size c.args.area) c.args.setup.address 0 in
+    let a = c.args.area in
+    let finds = c.in-Ok-open_judged.ensures.reads told history stands in
+    record {
+      value = listed_as h a c.in-Ok-open_judged.trail c.args.setup.open_time c.in-Ok-open_judged.ensures.size c.begin.result history c.begin.ensures.ok told finds.listed;
+      moments = on_area h a c.in-Ok-open_judged.trail c.args.setup.open_time (λ now. Leaves g.A.Area a now (g.A.Area.may_leave a)) c.begin.result c.begin.ensures.ok c.begin.ensures.err finds.moments;
+      calls = λ tells. if_ok_area h a c.in-Ok-open_judged.trail c.args.setup.open_time (λ now. g.A.Area.calls now ≡ counted 1 (g.A.Area.calls a)) c.begin.result c.begin.ensures.ok (finds.calls tells);
+    }
+
+pub returns-in-Ok-open_judged-clause-anew : goal.returns-in-Ok-open_judged-clause-anew
+returns-in-Ok-open_judged-clause-anew g c = λ told starts.
+    let h = header (g.A.Area.size c.args.area) c.args.setup.address 0 in
+    let a = c.args.area in
+    let made = c.in-Ok-open_judged.ensures.anew told starts in
+    record {
+      value = listed_as h a c.in-Ok-open_judged.trail c.args.setup.open_time c.in-Ok-open_judged.ensures.size c.begin.result [] c.begin.ensures.ok told made.listed;
+      moments =
+          on_area h a c.in-Ok-open_judged.trail c.args.setup.open_time (λ now. Leaves g.A.Area a now (λ o. g.A.Area.may_leave a o ⊎ (Starts h o ⊎ StandsFor h o []))) c.begin.result c.begin.ensures.ok
+          c.begin.ensures.err made.moments;
+      calls = λ tells. if_ok_area h a c.in-Ok-open_judged.trail c.args.setup.open_time (λ now. g.A.Area.calls now ≡ counted 5 (g.A.Area.calls a)) c.begin.result c.begin.ensures.ok (made.calls tells);
+    }
+
+pub returns-in-Ok-open_judged-clause-foreign : goal.returns-in-Ok-open_judged-clause-foreign
+returns-in-Ok-open_judged-clause-foreign g c = λ told at foreign. absurd (c.in-Ok-open_judged.ensures.foreign told at foreign).place
+
+pub returns-in-Ok-open_judged-clause-size : goal.returns-in-Ok-open_judged-clause-size
+returns-in-Ok-open_judged-clause-size g c =
+    on_area (header (g.A.Area.size c.args.area) c.args.setup.address 0) c.args.area c.in-Ok-open_judged.trail c.args.setup.open_time (λ now. g.A.Area.size now ≡ g.A.Area.size c.args.area) c.begin.result c.begin.ensures.ok
+    c.begin.ensures.err c.in-Ok-open_judged.ensures.size
+
+pub begin-requires-clause-fit : goal.begin-requires-clause-fit
+begin-requires-clause-fit g c = λ κs le told.
+    let laws = g.met.A.Area g.world.𝓛 g.world.𝓜 g.world.𝓡 ((λ s x. x), (λ x. x), (λ x. x), λ x. x) in
+    found_fit (header (g.A.Area.size c.args.area) c.args.setup.address 0) (g.A.Area.octets c.args.area) (firm_entries c.in-Ok-open_judged.trail) (g.A.Area.size c.args.area) _ (laws.whole c.args.area told.0) c.in-Ok-open_judged.ensures.size
+    (c.in-Ok-open_judged.ensures.ok.found told)
+
+pub returns-in-Err-clause-err : goal.returns-in-Err-clause-err
+returns-in-Err-clause-err g c =
+    let refused = c.in-Err.ensures.err in
+    record {
+      place = λ told at e. refused.place told at (not_ours_is c.in-Err.fault at (sym c.fault_of.ensures ∙ e));
+      unwritten = λ told at e. unwritten_is c.in-Err.fault at (not_ours_is c.in-Err.fault at (sym c.fault_of.ensures ∙ e)) (refused.unwritten told);
+      cause = λ e. refused.cause (device_is c.in-Err.fault (sym c.fault_of.ensures ∙ e));
+      faults = refused.faults;
+    }
+
+pub returns-in-Err-clause-reads : goal.returns-in-Err-clause-reads
+returns-in-Err-clause-reads g c = λ told history stands. record { value = tt; moments = (c.in-Err.ensures.reads told history stands).moments; calls = λ tells. tt }
+
+pub returns-in-Err-clause-anew : goal.returns-in-Err-clause-anew
+returns-in-Err-clause-anew g c = λ told starts. record { value = tt; moments = (c.in-Err.ensures.anew told starts).moments; calls = λ tells. tt }
+
+pub returns-in-Err-clause-foreign : goal.returns-in-Err-clause-foreign
+returns-in-Err-clause-foreign g c = λ told at foreign.
+    let refused = c.in-Err.ensures.foreign told at foreign in
+    record { place = foreign_is c.in-Err.fault at c.fault_of.result c.fault_of.ensures refused.place; moments = refused.moments }

@@ -1,0 +1,28 @@
+use Rattle.std.proofs.Common.{◌≡◌, Bool, true, false, List, sym, ap, ◌∙◌, slice_get}
+use Rattle.std.specs.Prelude.{Option}
+use Rattle.std.specs.List.{filter_map}
+use Rattle.std.specs.Option.{option_map}
+use Rattle.gate_journal.specs.Moments.{Told}
+use Rattle.gw_base.specs.declared.address.Addr.{Addr}
+use Rattle.gw_base.specs.declared.address.NodeId.{NodeId}
+use Rattle.gw_base.specs.declared.history.Opening.{Opening}
+use Rattle.gw_base.specs.Observed.{Observed}
+use Rattle.cgf_journal.specs.Trail.{firm_entries, is_closed}
+use Rattle.gateway_book.specs.Book.{value_of}
+use Rattle.gateway_book.specs.Followed.{all_entries}
+use Rattle.gateway_book.specs.Index.{observed_by, side_of}
+use Rattle.gateway_book.specs.Value.{history_of}
+use Rattle.gateway_book.proofs.Committing.{asked}
+use Rattle.gateway_book.proofs.book.Book.path.Goals as goal
+
+pub returns : goal.returns
+unfolding observed_by
+returns g c = λ told.
+    let book = c.args.self.now in
+    let laws = c.an_index_tells_its_history.ensures in
+    let firm = c.is_closed.result in
+    let h = history_of (value_of book) in
+    let follows = asked (is_closed book.trail) firm book.index (firm_entries book.trail) (all_entries book.trail) c.is_closed.ensures.closed (book.followed.firm told) (book.followed.live told) in
+    let opening : (n : NodeId) → _ = λ n. ap (λ (o : Observed). o.opening) (laws.observed firm book.index h n follows) in
+    c.path.ensures
+    ∙ λ i. slice_get (filter_map (λ (n : NodeId). option_map (λ (o : Opening). let a : Addr = record { ip = n.0; port = o.port } in a) (opening n i)) (laws.known firm book.index h follows i)) c.args.k

@@ -1,0 +1,64 @@
+use Rattle.std.proofs.Common.{◌≡◌, ℕ, true, false, if◌then◌else◌, List, [], ◌∷◌, ◌++◌, refl, sym, ap, ◌∙◌}
+use Rattle.entry_codec.specs.Room.{has_room}
+use Rattle.gate_journal.specs.Moments.{Told}
+use Rattle.gw_base.specs.Entry.{entry_view}
+use Rattle.gw_base.specs.History.{last_moment}
+use Rattle.gw_base.specs.declared.history.HistoryAct.TheVariants.{Start}
+use Rattle.gw_base.specs.declared.history.HistoryEntry.{HistoryEntry}
+use Rattle.cgf_journal.specs.Trail.{area_of, entries, firm_entries, is_closed, waiting}
+use Rattle.gateway_book.specs.Book.{value_of}
+use Rattle.gateway_book.specs.Followed.{all_entries}
+use Rattle.gateway_book.specs.Index.{side_of}
+use Rattle.gateway_book.specs.Value.{BookValue}
+use Rattle.gateway_book.specs.declared.totals.Totals.{Totals}
+use Rattle.gateway_book.proofs.Openings.{both_followed, start_added, start_is_fit, start_left_out}
+use Rattle.gateway_book.proofs.book.Book.start.Goals as goal
+
+pub invariant_of-self : goal.invariant_of-self
+invariant_of-self g c =
+    let old = c.args.self.now in
+    let size = g.A.Area.size (area_of old.trail) in
+    let e : HistoryEntry = record { moment = c.totals.result.moment; caller = record { session = 0; serial = 0 }; act = Start } in
+    record {
+      followed = both_followed old.trail c.add_start.new.trail old.index c.add_start.new.index e c.add_start.result old.followed c.add_start.ensures.ok c.add_start.ensures.err
+          (λ told.
+          start_is_fit size (all_entries old.trail) e (old.followed.fit told)
+          (ap (λ (t : Totals). t.moment) (c.totals.ensures ∙ c.an_index_tells_its_history.ensures.totals false old.index (all_entries old.trail) (old.followed.live told))) refl
+          (ap (λ b. has_room (if b then firm_entries old.trail else all_entries old.trail) e size) (sym c.requires.ready) ∙ sym (c.room.ensures.room told) ∙ c.if-room.true));
+    }
+
+pub returns-in_ok-add_start-clause-ok : goal.returns-in_ok-add_start-clause-ok
+returns-in_ok-add_start-clause-ok g c =
+    let old = c.args.self.now in
+    let added = c.in_ok-add_start.ensures.ok in
+    let size = g.A.Area.size (area_of old.trail) in
+    let e : HistoryEntry = record { moment = c.totals.result.moment; caller = record { session = 0; serial = 0 }; act = Start } in
+    record {
+      value = λ told.
+          (λ i. record { firm = added.stays.listed i; rest = added.pushed.waits i; cuts = old.cuts; is_broken = added.stays.opened i })
+          ∙ start_added (value_of old) size e c.requires.ready
+          (ap (λ (t : Totals). t.moment) (c.totals.ensures ∙ c.an_index_tells_its_history.ensures.totals false old.index (all_entries old.trail) (old.followed.live told))) refl refl
+          (ap (λ b. has_room (if b then firm_entries old.trail else all_entries old.trail) e size) (sym c.requires.ready) ∙ sym (c.room.ensures.room told) ∙ c.if-room.true);
+      whole = added.stays.opened ∙ c.requires.ready;
+      uncut = refl;
+      area = added.stays.area;
+      named = added.stays.header;
+      set = refl;
+    }
+
+pub returns-else-room-clause-ok : goal.returns-else-room-clause-ok
+returns-else-room-clause-ok g c =
+    let old = c.args.self.now in
+    let size = g.A.Area.size (area_of old.trail) in
+    let e : HistoryEntry = record { moment = c.totals.result.moment; caller = record { session = 0; serial = 0 }; act = Start } in
+    record {
+      value = λ told.
+          start_left_out (value_of old) size e c.requires.ready
+          (ap (λ (t : Totals). t.moment) (c.totals.ensures ∙ c.an_index_tells_its_history.ensures.totals false old.index (all_entries old.trail) (old.followed.live told))) refl refl
+          (ap (λ b. has_room (if b then firm_entries old.trail else all_entries old.trail) e size) (sym c.requires.ready) ∙ sym (c.room.ensures.room told) ∙ c.if-room.false);
+      whole = c.requires.ready;
+      uncut = refl;
+      area = refl;
+      named = refl;
+      set = refl;
+    }

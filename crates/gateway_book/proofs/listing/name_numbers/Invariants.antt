@@ -1,0 +1,7 @@
+use Rattle.std.proofs.Common.{◌≡◌, ◌++◌, map, drop}
+use Rattle.gw_base.specs.Nearest.{nearest}
+use Rattle.gateway_book.proofs.listing.name_numbers.Given as goal
+
+-- the numbers so far, and those that are left, are all of them
+abbrev pub invariant-loop-place : goal.invariant-loop-place
+invariant-loop-place l = l.into.items ++ map (nearest l.top) (drop l.place l.numbers) ≡ map (nearest l.top) l.numbers

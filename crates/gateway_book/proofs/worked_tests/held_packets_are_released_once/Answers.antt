@@ -1,0 +1,11 @@
+use Rattle.std.proofs.Common.{refl}
+use Rattle.gateway_book.proofs.worked_tests.held_packets_are_released_once.Goals as goal
+
+pub returns-clause-causes : goal.returns-clause-causes
+returns-clause-causes c = refl
+
+pub returns-clause-filed : goal.returns-clause-filed
+returns-clause-filed c = refl
+
+pub returns-clause-wrong : goal.returns-clause-wrong
+returns-clause-wrong c = refl

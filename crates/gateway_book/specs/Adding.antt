@@ -1,0 +1,50 @@
+-- How an answer adds to a trail and its index.
+use Rattle.std.specs.Prelude.{◌≡◌, ◌≤◌, ◌+◌, ℕ, Bool, true, false, List, [], ◌∷◌, ◌++◌, Option, Some, None}
+use Rattle.area_disk.specs.declared.area.Area.{Ghosts}
+use Rattle.cgf_journal.specs.Outcomes.{FirmStays, IsKept, IsPushed}
+use Rattle.cgf_journal.specs.Trail.{has_room_of, waiting_octets}
+use Rattle.entry_codec.specs.Spelling.{entry_length}
+use Rattle.gate_journal.specs.Format.{longest_batch}
+use Rattle.cgf_journal.specs.declared.trail.Trail.{Trail}
+use Rattle.gw_base.specs.declared.history.Caller.{Caller}
+use Rattle.gw_base.specs.declared.history.HistoryAct.{HistoryAct}
+use Rattle.gw_base.specs.declared.history.HistoryEntry.{HistoryEntry}
+use Rattle.gateway_book.specs.Index.{Follows, MayCome, MayGrow}
+use Rattle.gateway_book.specs.declared.index.Index.{Index}
+
+-- the entry of an act at a moment, by a caller
+abbrev pub entry_of : ℕ → Caller → HistoryAct → HistoryEntry
+entry_of moment who act = record { moment = moment; caller = who; act = act }
+
+module _ {A : Type 0} {tells : Ghosts A} (old new : Trail A tells) (before after : Index) where
+  -- The trail and its index have one more entry.
+  pub record IsAdded (e : HistoryEntry) : Type 0 where
+    pub pushed : IsPushed old new e
+    pub stays : FirmStays old new
+    pub live : (h : List HistoryEntry) → MayGrow h → Follows false before h → Follows false after (h ++ e ∷ [])
+    pub firm : (h : List HistoryEntry) → Follows true before h → Follows true after h
+
+  -- The trail and its index are as before.
+  pub record IsSame : Type 0 where
+    pub trail : new ≡ old
+    pub index : after ≡ before
+
+  -- What they hold is as before.
+  pub record AreKept : Type 0 where
+    pub kept : IsKept old new
+    pub stays : FirmStays old new
+    pub follows : (firm : Bool) (h : List HistoryEntry) → Follows firm before h → Follows firm after h
+
+  -- They have one more entry where an act is recorded.
+  abbrev pub AddsIf : ℕ → Caller → Option HistoryAct → Type 0
+  AddsIf moment who None = IsSame
+  AddsIf moment who (Some act) = IsAdded (entry_of moment who act)
+
+-- which acts there is room for, as a trail counts
+abbrev pub room_in : {A : Type 0} {tells : Ghosts A} → Trail A tells → ℕ → Caller → HistoryAct → Bool
+room_in trail moment who act = has_room_of trail (entry_of moment who act)
+
+-- an act that an answer records may be added, where there is room for it
+abbrev pub MayAdd : {A : Type 0} {tells : Ghosts A} → Option HistoryAct → Trail A tells → Index → ℕ → Caller → Type 0
+MayAdd None trail index moment who = Unit {0}
+MayAdd (Some act) trail index moment who = MayCome act index × (waiting_octets trail + entry_length (entry_of moment who act) ≤ longest_batch)

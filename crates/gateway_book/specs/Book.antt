@@ -1,0 +1,66 @@
+-- What contracts see of a book.
+use Rattle.std.specs.Prelude.{◌≡◌, ◌≢◌, ℕ, ◌≤◌, IsTrue, Bool, true, false, List, ◌++◌}
+use Rattle.area_disk.specs.Disk.{Rose, counted}
+use Rattle.area_disk.specs.declared.area.Area.{Ghosts}
+use Rattle.gate_journal.specs.Moments.{Calls, Leaves, Told}
+use Rattle.cgf_journal.specs.Trail as trail
+use Rattle.gateway_book.specs.Calls.{Left}
+use Rattle.gateway_book.specs.Value.{BookValue, Fortune, Reopening, Whole, Gone, Refused, is_batch_full}
+use Rattle.gateway_book.specs.declared.book.Book.{Book}
+
+-- what a book stands for
+abbrev pub value_of : {A : Type 0} {tells : Ghosts A} → Book A tells → BookValue
+value_of book = record {
+  firm = trail.firm_entries book.trail;
+  rest = trail.waiting book.trail;
+  cuts = book.cuts;
+  is_broken = trail.is_closed book.trail;
+}
+
+-- the area that it stands on, its length, and the header
+abbrev pub area_of : {A : Type 0} {tells : Ghosts A} → Book A tells → A
+area_of book = trail.area_of book.trail
+
+abbrev pub size_of : {A : Type 0} {tells : Ghosts A} → Book A tells → ℕ
+size_of {tells = tells} book = tells.size (area_of book)
+
+abbrev pub header_of : {A : Type 0} {tells : Ghosts A} → Book A tells → List ℕ
+header_of book = trail.header_of book.trail
+
+abbrev pub open_time_of : {A : Type 0} {tells : Ghosts A} → Book A tells → ℕ
+open_time_of book = book.open_time
+
+-- what an opening again finds, by whether it fails, and by whether the torn entries stand
+abbrev pub reopening_of : Bool → Bool → Reopening
+reopening_of true stands = Refused
+reopening_of false true = Whole
+reopening_of false false = Gone
+
+module _ {A : Type 0} {tells : Ghosts A} (old new : Book A tells) where
+  -- what the device did to a call that found one book and left another: where it is broken afterwards, a commit or an
+  -- opening again failed; else an opening again found the torn entries where they stood
+  abbrev pub fortune_of : Fortune
+  fortune_of = record {
+    fails = trail.is_closed new.trail;
+    reopening = reopening_of (trail.is_closed new.trail) (trail.torn_stands old.trail);
+  }
+
+  -- The call left this book, and answered this.
+  pub record IsLeft {R : Type 0} (left : Left R) (result : R) : Type 0 where
+    pub value : value_of new ≡ left.value
+    pub answer : result ≡ left.answer
+
+  -- The area's length, its header and what the book was set up with stay.
+  pub record Stays : Type 0 where
+    pub size : size_of new ≡ size_of old
+    pub header : header_of new ≡ header_of old
+    pub open_time : open_time_of new ≡ open_time_of old
+
+  -- The count of faults never falls, and where the book is broken afterwards it rose in the call.
+  pub record HasCause : Type 0 where
+    pub later : tells.faults (area_of old) ≤ tells.faults (area_of new)
+    pub broken : trail.is_closed new.trail ≡ true → Rose (tells.faults (area_of old)) (tells.faults (area_of new))
+
+  -- A crash at any moment of the call leaves the firm entries, or these with those behind them.
+  abbrev pub CrashLeaves : Type 0
+  CrashLeaves = Told tells → Leaves tells (area_of old) (area_of new) (trail.StandsForOr (header_of old) (value_of old).firm ((value_of old).firm ++ (value_of old).rest))

@@ -1,0 +1,13 @@
+-- Which histories are fit.
+use Rattle.std.specs.Prelude.{ℕ, List, []}
+use Rattle.cgf_journal.specs.Fit as journal
+use Rattle.gw_base.specs.declared.history.HistoryEntry.{HistoryEntry}
+use Rattle.gateway_book.specs.Fit.{IsFit}
+
+-- each entry of a history is fit behind those before it
+abbrev pub AllFit : ℕ → List HistoryEntry → Type 0
+AllFit size h = journal.AllFit (IsFit size) [] h
+
+-- each of these entries is fit behind these before it and those in front of it
+abbrev pub FitBehind : ℕ → List HistoryEntry → List HistoryEntry → Type 0
+FitBehind size before h = journal.AllFit (IsFit size) before h

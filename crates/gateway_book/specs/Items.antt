@@ -1,0 +1,32 @@
+-- What the writer of files is told of a history, one after the other: the filed records, and the marks that close
+-- files. The items are numbered from 0 on in their order.
+use Rattle.std.specs.Prelude.{ℕ, List, [], ◌∷◌, map, take, drop}
+use Rattle.gw_base.specs.declared.history.HistoryAct.{HistoryAct}
+use Rattle.gw_base.specs.declared.history.HistoryAct.TheVariants as act
+use Rattle.gw_base.specs.declared.history.HistoryEntry.{HistoryEntry}
+use Rattle.gw_base.specs.declared.item.Item.{Item}
+use Rattle.gw_base.specs.declared.item.Item.TheVariants as item
+use Rattle.gateway_book.specs.Filed.{along, filed_by_act}
+use Rattle.gateway_book.specs.declared.filing.FiledRecord.{FiledRecord}
+
+-- what the writer is told of a filed record
+abbrev pub part_of : FiledRecord → Item
+part_of filed = item.Part filed.kind filed.tag filed.octets filed.moment
+
+-- the items that an act makes, by the entries before it
+abbrev pub items_by_act : List HistoryEntry → ℕ → HistoryAct → List Item
+items_by_act before moment act.Tick = item.Tick moment ∷ []
+items_by_act before moment act.Close = item.Close moment ∷ []
+items_by_act before moment a = map part_of (filed_by_act before moment a)
+
+-- the items that an entry makes
+abbrev pub items_by : List HistoryEntry → HistoryEntry → List Item
+items_by before e = items_by_act before e.moment e.act
+
+-- the items of a history
+abbrev pub items_of : List HistoryEntry → List Item
+items_of h = along items_by [] h
+
+-- so many items from a number on, or all where there are fewer
+abbrev pub items_between : ℕ → ℕ → List HistoryEntry → List Item
+items_between from max h = take max (drop from (items_of h))

@@ -1,0 +1,43 @@
+-- What answers record, for laws.
+use Rattle.std.specs.Prelude.{◌≡◌, ◌⊎◌, ℕ, ◌==◌, Bool, true, false, [], ◌∷◌, Some, None, ⊤}
+use Rattle.gtpp_message.specs.Message.{MessageValue, NodeAliveResponse, TransferResponse}
+use Rattle.gw_base.specs.Observed.{Observed}
+use Rattle.gw_base.specs.Nearest.{nearest}
+use Rattle.gw_base.specs.declared.address.Addr.{Addr}
+use Rattle.gw_base.specs.declared.address.NodeId.{NodeId}
+use Rattle.gw_base.specs.declared.cause.TheConstants.{ACCEPTED, NO_RESOURCES}
+use Rattle.gw_base.specs.declared.history.HistoryAct.{HistoryAct}
+use Rattle.gateway_book.specs.Answer.{Given, Drops, Replies, answer_by}
+use Rattle.gateway_book.specs.Answered.{act_given}
+use Rattle.gateway_book.specs.Fit.{is_act_fit}
+use Rattle.gateway_book.specs.Limits.{has_place, is_in_range, may_hold}
+use Rattle.gateway_book.specs.Preparing.{PreparedValue}
+
+-- P holds of the number, the message and the act of an answer that records one
+abbrev pub IfRecords : (ℕ → MessageValue → HistoryAct → Type 0) → Given → Type 0
+IfRecords P (Drops why) = ⊤
+IfRecords P (Replies number message None) = ⊤
+IfRecords P (Replies number message (Some act)) = P number message act
+
+-- the message accepts the request with this number, or answers Node Alive
+abbrev pub Accepts : ℕ → MessageValue → HistoryAct → Type 0
+Accepts number message act = (message ≡ TransferResponse ACCEPTED (number ∷ [])) ⊎ (message ≡ NodeAliveResponse)
+
+-- the act is fit by what is observed, and there is room for it
+abbrev pub Fits : (NodeId → Observed) → (HistoryAct → Bool) → ℕ → MessageValue → HistoryAct → Type 0
+Fits of room number message act = (is_act_fit of act ≡ true) × (room act ≡ true)
+
+-- whether an answer says that no resources are available
+abbrev pub is_without_resources : Given → Bool
+is_without_resources (Replies number (TransferResponse cause responded) act) = cause == NO_RESOURCES
+is_without_resources _ = false
+
+-- whatever act a request calls for, there is room for it: for the one that would be recorded if there were room for each
+abbrev pub HasRoomFor : Observed → Addr → PreparedValue → (HistoryAct → Bool) → Type 0
+HasRoomFor o from datagram room = (a : HistoryAct) → act_given (answer_by o from datagram (λ b. true)) ≡ Some a → room a ≡ true
+
+-- the limits that a request may meet: of nodes, of held copies and of numbers
+pub record IsWithinLimits (o : Observed) (number : ℕ) : Type 0 where
+  pub place : has_place o ≡ true
+  pub copies : may_hold o ≡ true
+  pub range : is_in_range (nearest o.top number) ≡ true

@@ -1,0 +1,266 @@
+// What an answer adds.
+ghost use Rattle.std.specs.Prelude.{◌≡◌, ◌≤◌, ◌+◌, true, false, Some, None, Option, List, ℕ, IfOk, IfSome, OnOk, OnErr};
+ghost use Rattle.entry_codec.specs.Spelling.{entry_length};
+ghost use Rattle.gate_journal.specs.Format.{longest_batch};
+ghost use Rattle.cgf_journal.specs.Trail.{has_room_of, is_closed, waiting_octets};
+ghost use Rattle.gw_base.specs.Entry.{act_view, entry_view};
+ghost use Rattle.gw_base.specs.declared.address.NodeId.{NodeId};
+ghost use Rattle.gw_base.specs.declared.history.HistoryAct.{HistoryAct};
+ghost use Rattle.gtpp_message.specs.declared.reading.Why.{Why};
+ghost use Rattle.gateway_book.specs.Adding.{AddsIf, AreKept, IsAdded, IsSame, MayAdd, room_in};
+ghost use Rattle.gateway_book.specs.Answer.{Says, Silent, answer_by, decided, node_of};
+ghost use Rattle.gateway_book.specs.Answered.{act_decided};
+ghost use Rattle.gateway_book.specs.Cases.{case_value};
+ghost use Rattle.gateway_book.specs.Decisions.{decision_view};
+ghost use Rattle.gateway_book.specs.Index.{MayCome, observed_by};
+ghost use Rattle.gateway_book.specs.Limits.{has_place, may_hold};
+ghost use Rattle.gateway_book.specs.Preparing.{IsShort, IsWhole};
+ghost use Rattle.gateway_book.specs.Value.{most_for_one};
+
+use crate::answering::answer_by;
+use crate::case::Case;
+use crate::decision::Decision;
+use crate::index::Index;
+use crate::listing::Scratch;
+use crate::observe::Observe;
+use area_disk::Area;
+use cgf_journal::Trail;
+use gtpp_message::Why;
+use gw_base::{
+    Absolute, Act, Addr, Caller, Entry, KeyState, Moment, NoMemory, NodeId, Opening, Short,
+};
+
+/// Adds an entry behind the others, where it waits for a commit. Without memory nothing is added.
+pub(crate) fn record<A: Area>(
+    trail: &mut Trail<A>,
+    index: &mut Index,
+    entry: &Entry<'_>,
+) -> Result<(), NoMemory>
+    requires open { is_closed trail.old ≡ false }
+    requires room { has_room_of trail.old (entry_view entry.now) ≡ true }
+    requires may_come { MayCome (act_view entry.now.act) index.old }
+    requires free { waiting_octets trail.old + entry_length (entry_view entry.now) ≤ longest_batch }
+    ensures ok { OnOk result (IsAdded trail.old trail.new index.old index.new (entry_view entry.now)) }
+    ensures err { OnErr result (AreKept trail.old trail.new index.old index.new) }
+{
+    index.reserve(&entry.act)?;
+    match trail.push(entry) {
+        Ok(()) => {
+            index.note(entry);
+            Ok(())
+        }
+        Err(_) => unreachable!(),
+    }
+}
+
+/// What the index of an open trail tells, where there is room for any act, or for none.
+#[derive(Drop)]
+struct Seen<'a> {
+    index: &'a Index,
+    has_room: bool,
+}
+
+impl Observe for Seen<'_> {
+    ghost seen = { λ s node. observed_by false s.index.now node };
+
+    ghost room = { λ s act. s.has_room };
+
+    fn own(&self) -> u8 {
+        self.index.own(false)
+    }
+
+    fn opening(&self, node: NodeId) -> Option<Opening> {
+        self.index.opening(false, node)
+    }
+
+    fn top(&self, node: NodeId) -> Option<Absolute> {
+        self.index.top(false, node)
+    }
+
+    fn state(&self, node: NodeId, number: Absolute) -> KeyState {
+        self.index.state(false, node, number)
+    }
+
+    fn has_place(&self, node: NodeId) -> bool {
+        self.index.has_place(false, node)
+    }
+
+    fn may_hold(&self) -> bool {
+        self.index.may_hold(false)
+    }
+
+    fn has_room(&self, _: &Act<'_>) -> bool {
+        self.has_room
+    }
+}
+
+/// What is done with a datagram.
+#[derive(Debug, Drop)]
+pub(crate) enum Done {
+    /// It isn't answered.
+    Silent(Why),
+    /// These octets go back, and what the answer records was added.
+    Said(Short),
+    /// There was no memory, and nothing was added.
+    NoMemory,
+}
+
+/// Answers a datagram by an index, as if there were room for no act.
+fn answer_without_room(index: &Index, scratch: &mut Scratch, from: Addr, case: &Case<'_>) -> Done
+    ensures silent { (why : Why) → result ≡ Done.Silent why →
+        decided (answer_by (observed_by false index.now (node_of from)) from (case_value case.now) (λ act. false)) ≡ Silent why }
+    ensures said { (reply : List ℕ) → result ≡ Done.Said reply → (act : Option HistoryAct)
+        × (decided (answer_by (observed_by false index.now (node_of from)) from (case_value case.now) (λ act. false)) ≡ Says reply act) }
+{
+    let seen = Seen {
+        index,
+        has_room: false,
+    };
+    match answer_by(&seen, from, case, scratch) {
+        Ok(Decision::Drop(why)) => Done::Silent(why),
+        Ok(Decision::Reply { reply, act: _ }) => Done::Said(reply),
+        Err(NoMemory) => Done::NoMemory,
+    }
+}
+
+/// Adds the entry of an answer, where there is room for it, and else answers none.
+fn add<A: Area>(
+    trail: &mut Trail<A>,
+    index: &mut Index,
+    reply: Short,
+    entry: &Entry<'_>,
+) -> Option<Done>
+    requires open { is_closed trail.old ≡ false }
+    requires may_come { MayCome (act_view entry.now.act) index.old }
+    requires free { waiting_octets trail.old + entry_length (entry_view entry.now) ≤ longest_batch }
+    ensures said { (octets : List ℕ) → result ≡ Some (Done.Said octets) → (octets ≡ reply)
+        × (has_room_of trail.old (entry_view entry.now) ≡ true)
+        × IsAdded trail.old trail.new index.old index.new (entry_view entry.now) }
+    ensures never_silent { (why : Why) → ¬ (result ≡ Some (Done.Silent why)) }
+    ensures no_room { result ≡ None → (has_room_of trail.old (entry_view entry.now) ≡ false)
+        × IsSame trail.old trail.new index.old index.new }
+    ensures no_memory { result ≡ Some Done.NoMemory → AreKept trail.old trail.new index.old index.new }
+{
+    if !trail.room(entry) {
+        return None;
+    }
+    match record(trail, index, entry) {
+        Ok(()) => Some(Done::Said(reply)),
+        Err(NoMemory) => Some(Done::NoMemory),
+    }
+}
+
+/// The answer to a datagram by an index, as if there were room for any act.
+fn propose<'a, 'p: 'a>(
+    index: &Index,
+    scratch: &'a mut Scratch,
+    from: Addr,
+    case: &Case<'p>,
+) -> Result<Decision<'a>, NoMemory>
+    ensures { IfOk result (λ decision. decision_view decision
+        ≡ decided (answer_by (observed_by false index.now (node_of from)) from (case_value case.now) (λ act. true))) }
+{
+    let seen = Seen {
+        index,
+        has_room: true,
+    };
+    answer_by(&seen, from, case, scratch)
+}
+
+/// Adds what an answer records, where there is room for it, and else answers none.
+fn conclude<A: Area>(
+    trail: &mut Trail<A>,
+    index: &mut Index,
+    decision: Decision<'_>,
+    moment: Moment,
+    who: Caller,
+) -> Option<Done>
+    requires open { is_closed trail.old ≡ false }
+    requires may_come { MayAdd (act_decided (decision_view decision)) trail.old index.old moment who }
+    ensures silent { (why : Why) → result ≡ Some (Done.Silent why) → (decision_view decision.entry ≡ Silent why)
+        × IsSame trail.old trail.new index.old index.new }
+    ensures said { (reply : List ℕ) → result ≡ Some (Done.Said reply) → (act : Option HistoryAct)
+        × (decision_view decision.entry ≡ Says reply act)
+        × IfSome act (λ a. room_in trail.old moment who a ≡ true)
+        × AddsIf trail.old trail.new index.old index.new moment who act }
+    ensures no_room { result ≡ None → (reply : List ℕ) × (act : HistoryAct) × (decision_view decision.entry ≡
+        Says reply (Some act))
+        × (room_in trail.old moment who act ≡ false) × IsSame trail.old trail.new index.old index.new }
+    ensures no_memory { result ≡ Some Done.NoMemory → AreKept trail.old trail.new index.old index.new }
+{
+    match decision {
+        Decision::Drop(why) => Some(Done::Silent(why)),
+        Decision::Reply { reply, act } => match act {
+            None => Some(Done::Said(reply)),
+            Some(act) => {
+                let entry = Entry {
+                    moment,
+                    caller: who,
+                    act,
+                };
+                add(trail, index, reply, &entry)
+            }
+        },
+    }
+}
+
+/// Answers a datagram by an open trail and its index, and adds what the answer records, or answers none where there
+/// is no room for that.
+fn answer_with_room<A: Area>(
+    trail: &mut Trail<A>,
+    index: &mut Index,
+    scratch: &mut Scratch,
+    from: Addr,
+    case: &Case<'_>,
+    moment: Moment,
+    who: Caller,
+) -> Option<Done>
+    requires open { is_closed trail.old ≡ false }
+    requires free { waiting_octets trail.old + most_for_one ≤ longest_batch }
+    requires whole { IsWhole (case_value case.now) }
+    requires short { IsShort (case_value case.now) }
+    ensures silent { (why : Why) → result ≡ Some (Done.Silent why) →
+        (decided (answer_by (observed_by false index.old (node_of from)) from (case_value case.now) (λ act. true)) ≡ Silent why)
+        × IsSame trail.old trail.new index.old index.new }
+    ensures said { (reply : List ℕ) → result ≡ Some (Done.Said reply) → (act : Option HistoryAct)
+        × (decided (answer_by (observed_by false index.old (node_of from)) from (case_value case.now) (λ act. true)) ≡ Says reply act)
+        × IfSome act (λ a. room_in trail.old moment who a ≡ true)
+        × AddsIf trail.old trail.new index.old index.new moment who act }
+    ensures no_room { result ≡ None → (reply : List ℕ) × (act : HistoryAct)
+        × (decided (answer_by (observed_by false index.old (node_of from)) from (case_value case.now) (λ act. true)) ≡ Says reply (Some act))
+        × (room_in trail.old moment who act ≡ false) × IsSame trail.old trail.new index.old index.new }
+    ensures no_memory { result ≡ Some Done.NoMemory → AreKept trail.old trail.new index.old index.new }
+{
+    match propose(index, scratch, from, case) {
+        Ok(decision) => conclude(trail, index, decision, moment, who),
+        Err(NoMemory) => Some(Done::NoMemory),
+    }
+}
+
+/// Answers a datagram by an open trail and its index, and adds what the answer records.
+pub(crate) fn answer<A: Area>(
+    trail: &mut Trail<A>,
+    index: &mut Index,
+    scratch: &mut Scratch,
+    from: Addr,
+    case: &Case<'_>,
+    moment: Moment,
+    who: Caller,
+) -> Done
+    requires open { is_closed trail.old ≡ false }
+    requires free { waiting_octets trail.old + most_for_one ≤ longest_batch }
+    requires whole { IsWhole (case_value case.now) }
+    requires short { IsShort (case_value case.now) }
+    ensures silent { (why : Why) → result ≡ Done.Silent why →
+        (decided (answer_by (observed_by false index.old (node_of from)) from (case_value case.now) (room_in trail.old moment who)) ≡ Silent why)
+        × IsSame trail.old trail.new index.old index.new }
+    ensures said { (reply : List ℕ) → result ≡ Done.Said reply → (act : Option HistoryAct)
+        × (decided (answer_by (observed_by false index.old (node_of from)) from (case_value case.now) (room_in trail.old moment who)) ≡ Says reply act)
+        × AddsIf trail.old trail.new index.old index.new moment who act }
+    ensures no_memory { result ≡ Done.NoMemory → AreKept trail.old trail.new index.old index.new }
+{
+    match answer_with_room(trail, index, scratch, from, case, moment, who) {
+        Some(done) => done,
+        None => answer_without_room(index, scratch, from, case),
+    }
+}

@@ -1,0 +1,107 @@
+//! How a book's history is made firm, what has become of its answers, and how it ends.
+ghost use Rattle.std.specs.Prelude.{◌≡◌, ◌≤◌, IsTrue, is_err};
+ghost use Rattle.area_disk.specs.Disk.{HasCause as HasFaults};
+ghost use Rattle.area_disk.specs.declared.plan.Outcome3.{Outcome3};
+ghost use Rattle.gate_journal.specs.Moments.{Told};
+ghost use Rattle.cgf_journal.specs.Format.{StandsFor};
+ghost use Rattle.cgf_journal.specs.Trail.{IsAtRest, is_closed, left_by_stop};
+ghost use Rattle.gateway_book.specs.Calls.{commit_left, counts_of, settled_of};
+ghost use Rattle.gateway_book.specs.Value.{after_commit};
+
+use crate::book::Book;
+use crate::observed::an_index_tells_its_history;
+use crate::{Broken, Counts, Settled};
+use area_disk::Area;
+use cgf_journal::Device;
+use gw_base::scan::held_keys_are_as_many_as_held_copies;
+
+impl<A: Area> Book<A> {
+    ghost use Rattle.gateway_book.specs.Book.{CrashLeaves, HasCause, IsLeft, Stays, area_of, fortune_of, header_of, value_of};
+
+    /// Makes the whole history firm, and answers its length. A broken book opens its journal again, with one call of
+    /// the device; else it makes four calls where an entry waits, and none where none does.
+    ///
+    /// After `Broken` the book is broken: its history is the firm part, and the entries behind it are torn.
+    pub fn commit(&mut self) -> Result<u64, Broken>
+        ensures left { Told A.Area → IsLeft self.old self.new (commit_left (fortune_of self.old self.new)
+            (value_of self.old)) result }
+        ensures broken { is_closed self.new.trail ≡ is_err result }
+        // A crash at any moment of the call leaves the firm entries, or these with those behind them.
+        ensures any_moment { CrashLeaves self.old self.new }
+        ensures stays { Stays self.old self.new }
+        ensures cause { HasCause self.old self.new }
+    {
+        match self.firm_up() {
+            Ok(()) => Ok(self.trail.firm()),
+            Err(Device) => Err(Broken { faults: self.cuts }),
+        }
+    }
+
+    // Makes the whole history firm, or opens the journal of a broken book again.
+    fn firm_up(&mut self) -> Result<(), Device>
+        ensures moved { Told A.Area → value_of self.new ≡
+            after_commit (fortune_of self.old self.new) (value_of self.old) }
+        ensures closed { is_closed self.new.trail ≡ is_err result }
+        ensures any_moment { CrashLeaves self.old self.new }
+        ensures stays { Stays self.old self.new }
+        ensures faults { HasFaults (A.faults (area_of self.old)) (A.faults (area_of self.new)) result }
+    {
+        if self.trail.is_closed() {
+            return self.open_again();
+        }
+        if self.trail.waiting().octets.is_empty() {
+            return Ok(());
+        }
+        self.make_firm()
+    }
+
+    /// What has become of an answer with this front, given when so many commits and openings again had failed.
+    pub fn settled(&self, front: u64, faults: u64) -> Settled
+        ensures { Told A.Area → result ≡ settled_of (value_of self.now) front faults }
+    {
+        let firm = self.trail.firm();
+        if self.cuts > faults {
+            return Settled::Lost { faults: self.cuts };
+        }
+        if firm < front {
+            return Settled::NotYet { firm };
+        }
+        Settled::Firm
+    }
+
+    /// How much the book has recorded and holds.
+    pub fn counts(&self) -> Counts
+        ensures { Told A.Area → result ≡ counts_of (value_of self.now) (A.size (area_of self.now)) }
+    {
+        an_index_tells_its_history();
+        held_keys_are_as_many_as_held_copies();
+        let totals = self.index.totals(self.trail.is_closed());
+        Counts {
+            entries: self.trail.length(),
+            firm: self.trail.firm(),
+            held: totals.held,
+            stranded: totals.stranded,
+            free: self.trail.free(),
+        }
+    }
+
+    /// Hands the area back as it is. It takes no memory.
+    pub fn into_area(self) -> A
+        ensures area { result ≡ area_of self }
+        ensures long { 100 ≤ A.size result }
+        ensures short { A.size result ≤ 268435456 }
+        // At rest the area stands for the firm entries, or these with those behind them.
+        ensures rests { IsAtRest self.trail }
+        ensures stop { IsTrue A.tells_fate → Told A.Area → (outcome : Outcome3) →
+            StandsFor (header_of self) ((A.fate (area_of self)).leaves outcome) (left_by_stop outcome self.trail) }
+    {
+        let Book {
+            trail,
+            index: _,
+            scratch: _,
+            open_time: _,
+            cuts: _,
+        } = self;
+        trail.into_area()
+    }
+}

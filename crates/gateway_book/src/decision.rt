@@ -1,0 +1,15 @@
+use gtpp_message::Why;
+use gw_base::{Act, Short};
+
+/// What is done with a datagram.
+#[derive(Debug, Drop)]
+pub(crate) enum Decision<'a> {
+    /// It isn't answered.
+    Drop(Why),
+    /// These octets go back to the sender.
+    Reply {
+        reply: Short,
+        /// What is recorded with the answer.
+        act: Option<Act<'a>>,
+    },
+}

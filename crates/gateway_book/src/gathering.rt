@@ -1,0 +1,123 @@
+//! Items gathered one after the other.
+ghost use Rattle.std.specs.Prelude.{◌≡◌, ◌==◌, [], ◌∷◌, OnOk};
+ghost use Rattle.gtpp_message.specs.Packet.{IsPacket};
+ghost use Rattle.gtpp_message.specs.Values.{packet_value};
+ghost use Rattle.gateway_book.specs.Gathering.{gathered, packet_items, record_item};
+
+use crate::filing::record_tag;
+use gtpp_message::Packet;
+use gw_base::{Item, Moment, NoMemory, Octets, cdr_kind};
+use std::alloc::Global;
+use std::marker::Model;
+
+/// Items that are gathered: those from a number on, and at most so many.
+#[derive(Debug, Drop)]
+pub(crate) struct Gathering {
+    /// How many of the items that come are still left out.
+    skip: u64,
+    /// For how many more there is room.
+    room: usize,
+    items: Vec<Item>,
+}
+
+impl Model for Gathering {
+    ghost use Rattle.gateway_book.specs.Gathering.{Gathered};
+
+    ghost Value = { Gathered };
+
+    ghost view = { λ g. record { skip = g.skip; room = g.room; items = g.items.items } };
+}
+
+impl Gathering {
+    /// No items yet.
+    pub(crate) fn new(alloc: Global, skip: u64, room: usize) -> Gathering
+        ensures { result ≡ record { skip = skip; room = room; items = [] } }
+    {
+        Gathering {
+            skip,
+            room,
+            items: Vec::new(alloc),
+        }
+    }
+
+    /// Whether there is room for none more.
+    pub(crate) fn is_full(&self) -> bool
+        ensures { result ≡ (self.now.room == 0) }
+    {
+        self.room == 0
+    }
+
+    /// The items.
+    pub(crate) fn into_items(self) -> Vec<Item>
+        ensures { result.items ≡ self.items }
+    {
+        self.items
+    }
+
+    /// Gathers one item more.
+    pub(crate) fn add(&mut self, item: Item) -> Result<(), NoMemory>
+        ensures { OnOk result (self.new ≡ gathered (item ∷ []) self.old) }
+    {
+        if self.skip > 0 {
+            self.skip -= 1;
+            return Ok(());
+        }
+        if self.room > 0 {
+            self.room -= 1;
+            self.items.push(item)?;
+        }
+        Ok(())
+    }
+
+    /// Gathers the items of a packet that is filed at a moment.
+    #[tactic(auto, using(crate::proofs::GatheringLemmas::one_and_more, crate::proofs::GatheringLemmas::none_more))]
+    pub(crate) fn add_packet(
+        &mut self,
+        alloc: Global,
+        packet: Packet<'_>,
+        moment: Moment,
+    ) -> Result<(), NoMemory>
+        requires { IsPacket (packet_value packet) }
+        ensures { OnOk result (self.new ≡ gathered (packet_items moment (packet_value packet.entry)) self.old) }
+    {
+        let Packet::Full {
+            format,
+            version,
+            ..
+        } = packet
+        else {
+            return Ok(());
+        };
+        let mut records = packet.records();
+        while let Some(octets) = records.next() {
+            self.add_record(alloc, format, version, octets, moment)?;
+        }
+        Ok(())
+    }
+
+    /// Gathers the item of one record.
+    fn add_record(
+        &mut self,
+        alloc: Global,
+        format: u8,
+        version: u16,
+        octets: &[u8],
+        moment: Moment,
+    ) -> Result<(), NoMemory>
+        ensures { OnOk result (self.new ≡ gathered (record_item moment format version octets.now ∷ []) self.old) }
+    {
+        if self.skip > 0 {
+            self.skip -= 1;
+            return Ok(());
+        }
+        if self.room == 0 {
+            return Ok(());
+        }
+        self.add(Item::Part {
+            kind: cdr_kind(format, version),
+            tag: record_tag(format, octets),
+            octets: Octets::of(alloc, octets)?,
+            moment,
+        })
+    }
+}

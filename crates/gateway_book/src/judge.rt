@@ -1,0 +1,147 @@
+//! Whether the entries of a journal are fit, as it is opened.
+ghost use Rattle.std.specs.Prelude.{◌≡◌, ◌≤◌, ◌&&◌, ◌+◌, ◌*◌, ◌<◌, ◌^◌, ℕ, true, false, List, [], nat_le, if◌then◌else◌, IfOk};
+ghost use Rattle.entry_codec.specs.Room.{capacity_of};
+ghost use Rattle.gw_base.specs.Entry.{act_view, entry_view};
+ghost use Rattle.gateway_book.specs.Fit.{is_act_fit, latest_moment};
+ghost use Rattle.gateway_book.specs.Index.{MayCome, observed_by, side_of};
+
+use crate::fit::is_act_fit;
+use crate::index::Index;
+use crate::observe::Observe;
+use crate::observed::an_index_tells_its_history;
+use crate::totals::Totals;
+use cgf_journal::Judge;
+use entry_codec::cost;
+use gw_base::{Absolute, Act, Entry, KeyState, NoMemory, NodeId, Opening};
+use std::alloc::Global;
+
+/// What is promised for a held key: a Release or a Cancel of it, and a Close.
+const PROMISED_FOR_A_KEY: u128 = 76;
+
+/// What is promised where a Close is due.
+const PROMISED_FOR_A_CLOSE: u128 = 30;
+
+/// The octets of an area that no batch has: the header's, and the gate after the last batch.
+const TAKEN: u64 = 33;
+
+/// Judges entries by an index that follows them.
+#[derive(Debug, Drop)]
+pub(crate) struct FitJudge {
+    pub(crate) index: Index,
+    /// What the entries cost.
+    pub(crate) costs: u64,
+}
+
+/// What an index tells of all entries, which says nothing of room.
+#[derive(Clone, Copy, Debug)]
+struct Unbounded<'a> {
+    index: &'a Index,
+}
+
+impl<'a> Observe for Unbounded<'a> {
+    ghost use Rattle.std.specs.Prelude.{false};
+    ghost use Rattle.gateway_book.specs.Index.{observed_by};
+
+    ghost seen = { λ s node. observed_by false s.index.now node };
+
+    ghost room = { λ s act. false };
+
+    fn own(&self) -> u8 {
+        self.index.own(false)
+    }
+
+    fn opening(&self, node: NodeId) -> Option<Opening> {
+        self.index.opening(false, node)
+    }
+
+    fn top(&self, node: NodeId) -> Option<Absolute> {
+        self.index.top(false, node)
+    }
+
+    fn state(&self, node: NodeId, number: Absolute) -> KeyState {
+        self.index.state(false, node, number)
+    }
+
+    fn has_place(&self, node: NodeId) -> bool {
+        self.index.has_place(false, node)
+    }
+
+    fn may_hold(&self) -> bool {
+        self.index.may_hold(false)
+    }
+
+    fn has_room(&self, _: &Act<'_>) -> bool {
+        false
+    }
+}
+
+impl FitJudge {
+    ghost use Rattle.gateway_book.specs.Judging.{IsJudging, is_within};
+
+    /// The judge of no entry.
+    pub(crate) fn new(alloc: Global) -> Result<FitJudge, NoMemory>
+        ensures { IfOk result (λ judge. IsJudging judge []) }
+    {
+        Ok(FitJudge {
+            index: Index::new(alloc)?,
+            costs: 0,
+        })
+    }
+
+    // Whether an entry is fit, but for room.
+    fn may_stand(&self, entry: &Entry<'_>) -> bool
+        ensures value { result ≡ (nat_le (side_of false self.now.index).totals.moment entry.now.moment
+            && is_act_fit (observed_by false self.now.index) (act_view entry.now.act)) }
+        ensures moment { entry.now.moment ≤ latest_moment }
+    {
+        let moment = entry.moment.seconds();
+        if moment < self.index.totals(false).moment.seconds() {
+            return false;
+        }
+        let seen = Unbounded { index: &self.index };
+        is_act_fit(&seen, &entry.act)
+    }
+
+    // Whether what the entries cost and promise is within the capacity of an area of this size.
+    fn is_within(&self, size: u64) -> bool
+        ensures { result ≡ is_within self.now size }
+    {
+        let taken = u128::from(self.costs) + promised(self.index.totals(false));
+        taken <= u128::from(size.saturating_sub(TAKEN))
+    }
+}
+
+/// The octets that are promised.
+fn promised(totals: Totals) -> u128
+    ensures { result ≡ 76 * totals.held + (if totals.is_close_due then 30 else 0) }
+{
+    let keys = PROMISED_FOR_A_KEY * u128::from(totals.held);
+    if totals.is_close_due {
+        keys + PROMISED_FOR_A_CLOSE
+    } else {
+        keys
+    }
+}
+
+impl Judge for FitJudge {
+    ghost use Rattle.gateway_book.specs.Fit.{IsFit};
+    ghost use Rattle.gateway_book.specs.Judging.{IsJudging};
+
+    ghost follows = { λ judge h. IsJudging judge h };
+
+    ghost fits = { λ size h e. IsFit size h e };
+
+    fn take(&mut self, entry: &Entry<'_>, size: u64) -> Result<bool, NoMemory> {
+        an_index_tells_its_history();
+        if !self.may_stand(entry) {
+            return Ok(false);
+        }
+        let Some(costs) = self.costs.checked_add(cost(entry)) else {
+            return Ok(false);
+        };
+        self.index.reserve(&entry.act)?;
+        self.index.note(entry);
+        self.costs = costs;
+        Ok(self.is_within(size))
+    }
+}

@@ -1,0 +1,43 @@
+//! A whole charging gateway: what it answers to a datagram, and the history that it keeps on a
+//! journal (3GPP TS 32.295, clauses 5.1.3 and 6.2).
+#![tactic(auto)]
+
+mod adding;
+mod answering;
+mod book;
+mod case;
+mod commit;
+mod decision;
+mod filing;
+mod fit;
+mod gathering;
+mod index;
+mod judge;
+pub mod laws;
+mod listed;
+mod listing;
+mod lookups;
+mod node_mark;
+mod nodes;
+mod observe;
+mod observed;
+mod opening;
+mod outcome;
+mod plain;
+#[cfg(test)]
+mod plain_tests;
+mod preparing;
+mod readying;
+mod states;
+mod told;
+mod totals;
+mod wire_marks;
+#[cfg(test)]
+mod worked_tests;
+
+pub use book::Book;
+pub use filing::{FiledRecord, filed};
+pub use outcome::{BookFault, Broken, ItemsFault, Marked, Outcome, Receipt, Settled, Setup};
+pub use plain::{OwnedAnswer, answer};
+pub use preparing::{Prepared, prepare};
+pub use told::{Counts, Key};

@@ -1,0 +1,182 @@
+// The answers to requests that name lists of numbers.
+ghost use Rattle.std.specs.Prelude.{◌≡◌, ◌<◌, ◌^◌, ℕ, [], ◌∷◌, ◌++◌, map, Option, IfOk, IfSome, OnOk};
+ghost use Rattle.std.specs.Option.{option_map};
+ghost use Rattle.gw_base.specs.Entry.{act_view};
+ghost use Rattle.gw_base.specs.Nearest.{nearest};
+ghost use Rattle.transfer_cmd.specs.Lists.{is_held};
+ghost use Rattle.gateway_book.specs.Answer.{changes, changing, decided, held_ones, listed};
+ghost use Rattle.gateway_book.specs.Decisions.{decision_view};
+ghost use Rattle.gateway_book.specs.Steps.{with_held};
+ghost use Rattle.gateway_book.specs.WireMarks.{AreMarked};
+
+use crate::answering::tabled;
+use crate::decision::Decision;
+use crate::observe::Observe;
+use crate::wire_marks::WireMarks;
+use gtpp_elements::Numbers;
+use gw_base::{Absolute, Act, KeyState, NoMemory, NodeId, nearest_number};
+use std::alloc::Global;
+use transfer_cmd::{Verdict, judge};
+
+/// The lists in which answers are worked out: the numbers that a request names, their states, and
+/// the held ones. They keep their memory from one answer to the next.
+#[derive(Debug, Drop)]
+pub(crate) struct Scratch {
+    numbers: Vec<Absolute>,
+    states: Vec<KeyState>,
+    held: Vec<Absolute>,
+    /// The sequence numbers of the held ones that were found.
+    marks: WireMarks,
+}
+
+impl Scratch {
+    /// Empty lists.
+    pub(crate) fn new(alloc: Global) -> Result<Scratch, NoMemory> {
+        Ok(Scratch {
+            numbers: Vec::new(alloc),
+            states: Vec::new(alloc),
+            held: Vec::new(alloc),
+            marks: WireMarks::new(alloc)?,
+        })
+    }
+}
+
+/// The answer to a request that releases, or else cancels, the packets of a list of numbers.
+pub(crate) fn listed<'a, O: Observe>(
+    seen: &O,
+    node: NodeId,
+    number: u16,
+    release: bool,
+    numbers: &Numbers<'_>,
+    scratch: &'a mut Scratch,
+) -> Result<Decision<'a>, NoMemory>
+    ensures { IfOk result (λ decision. decision_view decision
+        ≡ decided (listed (O.seen seen.now node) (O.room seen.now) node number release numbers.now)) }
+{
+    let top = seen.top(node);
+    name_numbers(top, numbers, &mut scratch.numbers)?;
+    find_states(seen, node, &scratch.numbers, &mut scratch.states)?;
+    let (held, marks) = (&mut scratch.held, &mut scratch.marks);
+    find_held(seen, node, top, numbers, held, marks)?;
+    let verdict = judge(&scratch.states, release);
+    let act = changes(verdict, release, node, &scratch.held);
+    Ok(tabled(seen, node, number, verdict.cause(), act))
+}
+
+/// What a list is recorded as by its verdict.
+fn changes(verdict: Verdict, release: bool, node: NodeId, numbers: &[Absolute]) -> Option<Act<'_>>
+    ensures { option_map act_view result ≡ changes verdict release node numbers.now }
+{
+    match verdict {
+        Verdict::Wrong | Verdict::Before => None,
+        Verdict::Change => Some(changing(release, node, numbers)),
+    }
+}
+
+fn changing(release: bool, node: NodeId, numbers: &[Absolute]) -> Act<'_>
+    ensures { act_view result ≡ changing release node numbers.now }
+{
+    if release {
+        Act::Release { node, numbers }
+    } else {
+        Act::Cancel { node, numbers }
+    }
+}
+
+/// The request numbers that a list names.
+#[tactic(auto, using(crate::proofs::ListsLemmas::step_numbers))]
+fn name_numbers(
+    top: Option<Absolute>,
+    numbers: &Numbers<'_>,
+    into: &mut Vec<Absolute>,
+) -> Result<(), NoMemory>
+    requires { IfSome top (λ t. t < 2 ^ 63) }
+    ensures { OnOk result (into.new.items ≡ map (nearest top) numbers.now) }
+{
+    into.clear();
+    for place in 0..numbers.count() {
+        into.push(nearest_number(top, numbers.at(place)))?;
+    }
+    Ok(())
+}
+
+/// The states of these numbers.
+fn find_states<O: Observe>(
+    seen: &O,
+    node: NodeId,
+    numbers: &[Absolute],
+    into: &mut Vec<KeyState>,
+) -> Result<(), NoMemory>
+    ensures { OnOk result (into.new.items ≡ map ((O.seen seen.now node).state) numbers.now) }
+{
+    into.clear();
+    for number in numbers {
+        into.push(seen.state(node, *number))?;
+    }
+    Ok(())
+}
+
+/// The held ones of the numbers that a list names, each once.
+#[tactic(auto, using(crate::proofs::MarksLemmas::step_held))]
+fn find_held<O: Observe>(
+    seen: &O,
+    node: NodeId,
+    top: Option<Absolute>,
+    numbers: &Numbers<'_>,
+    into: &mut Vec<Absolute>,
+    marks: &mut WireMarks,
+) -> Result<(), NoMemory>
+    requires { IfSome top (λ t. t < 2 ^ 63) }
+    ensures { OnOk result (into.new.items ≡ held_ones (O.seen seen.now node) (map (nearest top) numbers.now)) }
+{
+    into.clear();
+    marks.clear();
+    for place in 0..numbers.count() {
+        keep_held(seen, node, top, numbers.at(place), into, marks)?;
+    }
+    Ok(())
+}
+
+/// Appends the number that is meant, where it is held and isn't there yet.
+fn keep_held<O: Observe>(
+    seen: &O,
+    node: NodeId,
+    top: Option<Absolute>,
+    wire: u16,
+    into: &mut Vec<Absolute>,
+    marks: &mut WireMarks,
+) -> Result<(), NoMemory>
+    requires bounded { IfSome top (λ t. t < 2 ^ 63) }
+    requires found { AreMarked top marks.old into.old.items }
+    ensures kept { OnOk result (into.new.items ≡ with_held (O.seen seen.now node) into.old.items (nearest top wire)) }
+    ensures marked { OnOk result (AreMarked top marks.new into.new.items) }
+{
+    let number = nearest_number(top, wire);
+    if is_held(seen.state(node, number)) && !marks.has(wire) {
+        add(number, wire, into, marks)?;
+    }
+    Ok(())
+}
+
+/// Appends a number that isn't there, which a sequence number means, and marks that.
+fn add(
+    number: Absolute,
+    wire: u16,
+    into: &mut Vec<Absolute>,
+    marks: &mut WireMarks,
+) -> Result<(), NoMemory>
+    ensures added { OnOk result (into.new.items ≡ into.old.items ++ number ∷ []) }
+    ensures marked { OnOk result ((top : Option ℕ) → number ≡ nearest top wire →
+        AreMarked top marks.old into.old.items → AreMarked top marks.new into.new.items) }
+{
+    gw_base::nearest_keeps_apart();
+    into.push(number)?;
+    marks.set(wire);
+    Ok(())
+}
+
+fn is_held(state: KeyState) -> bool
+    ensures { result ≡ is_held state }
+{
+    matches!(state, KeyState::Held)
+}

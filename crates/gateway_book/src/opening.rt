@@ -1,0 +1,157 @@
+//! How a book is opened.
+ghost use Rattle.std.specs.Prelude.{◌≡◌, ◌≤◌, ℕ, true, false, [], List, IfErr, IfOk, OnOk, OnErr};
+ghost use Rattle.gate_journal.specs.Format.{Starts, header};
+ghost use Rattle.gate_journal.specs.Moments.{Told};
+ghost use Rattle.cgf_journal.specs.Trail.{area_of as trail_area, firm_entries, has_room_of, is_closed, waiting, waiting_octets};
+ghost use Rattle.gw_base.specs.declared.history.HistoryEntry.{HistoryEntry};
+ghost use Rattle.gw_base.specs.Entry.{act_view, entry_view};
+ghost use Rattle.gw_base.specs.declared.history.HistoryAct.TheVariants.{Start};
+ghost use Rattle.gateway_book.specs.Begun.{HasNoMore, HasOneMore, IsBegun, IsStarted};
+ghost use Rattle.gateway_book.specs.Faults.{book_fault};
+ghost use Rattle.gateway_book.specs.FitHistory.{AllFit};
+ghost use Rattle.gateway_book.specs.Judging.{IsJudging};
+ghost use Rattle.gateway_book.specs.Opened.{FindsHistory, IsMadeAnew, IsNotOurs, IsOpened, IsRefused, OnArea, RefusesForeign, StandsFitFor};
+
+use crate::book::Book;
+use crate::index::Index;
+use crate::judge::FitJudge;
+use crate::listing::Scratch;
+use crate::observed::an_index_tells_its_history;
+use crate::{BookFault, Setup};
+use area_disk::Area;
+use cgf_journal::{OpenFault, Trail};
+use gw_base::{Act, Caller, Entry, NoMemory};
+use std::alloc::Global;
+
+/// The caller of an entry that no session made.
+const NO_CALLER: Caller = Caller {
+    session: 0,
+    serial: 0,
+};
+
+impl<A: Area> Book<A> {
+    ghost use Rattle.gateway_book.specs.Book.{area_of, value_of};
+
+    /// Opens a gateway's history on an area, for its address, and adds a Start where there is room for one, which isn't
+    /// firm yet. It makes one sync and reads; an area whose making began, or whose octet 0 is 0, is made anew with four
+    /// calls of the device more, and has no entry. The area has from 100 to 268,435,456 octets.
+    ///
+    /// It refuses an area that stands for no history of fit entries with `NotOurs` and the place that shows it: the
+    /// first octet of the header that differs, or the first open gate whose batch isn't whole or holds an entry that
+    /// isn't fit; nothing was written then. It hands the area back where it fails.
+    pub fn open(alloc: Global, area: A, setup: Setup) -> Result<Book<A>, (BookFault, A)>
+        requires long { 100 ≤ A.size area }
+        requires short { A.size area ≤ 268435456 }
+
+        // The book has the history that the area stands for, or the area was made anew.
+        ensures ok { let h = header (A.size area) setup.address 0 in IfOk result (IsOpened h area setup.open_time) }
+        ensures err { let h = header (A.size area) setup.address 0 in IfErr result (IsRefused A.Area area h) }
+        // The history found is the one that the area stands for.
+        ensures reads { Told A.Area → (h : List HistoryEntry) →
+            StandsFitFor (header (A.size area) setup.address 0) (A.octets area) h → FindsHistory area result h }
+        ensures anew { Told A.Area → Starts (header (A.size area) setup.address 0) (A.octets area) →
+            IsMadeAnew area result (header (A.size area) setup.address 0) }
+        ensures foreign { Told A.Area → (at : ℕ) →
+            IsNotOurs (header (A.size area) setup.address 0) (A.octets area) at → RefusesForeign area result at }
+        ensures size { OnArea result (λ now. A.size now ≡ A.size area) }
+    {
+        let Ok(mut judge) = FitJudge::new(alloc) else {
+            return Err((BookFault::NoMemory, area));
+        };
+        let Ok(scratch) = Scratch::new(alloc) else {
+            return Err((BookFault::NoMemory, area));
+        };
+        match Trail::open_judged(alloc, area, setup.address, 0, &mut judge) {
+            Ok(trail) => Book::begin(trail, judge, scratch, setup.open_time),
+            Err((fault, area)) => Err((fault_of(fault), area)),
+        }
+    }
+
+    // A book over a trail that was opened, with a Start where there is room for one.
+    fn begin(
+        trail: Trail<A>,
+        judge: FitJudge,
+        scratch: Scratch,
+        open_time: u64,
+    ) -> Result<Book<A>, (BookFault, A)>
+        requires short { A.size (trail_area trail) ≤ 268435456 }
+        requires ready { is_closed trail ≡ false }
+        requires none { waiting trail ≡ [] }
+        requires emptied { waiting_octets trail ≡ 0 }
+        requires fit { Told A.Area → AllFit (A.size (trail_area trail)) (firm_entries trail) }
+        requires follows { Told A.Area → IsJudging judge (firm_entries trail) }
+
+        ensures ok { IfOk result (IsBegun trail open_time) }
+        ensures err { IfErr result (λ fault. fault ≡ (BookFault.NoMemory, trail_area trail)) }
+    {
+        let FitJudge {
+            mut index,
+            costs: _,
+        } = judge;
+        index.keep(false);
+        let mut book = Book {
+            trail,
+            index,
+            scratch,
+            open_time,
+            cuts: 0,
+        };
+        match book.start() {
+            Ok(()) => Ok(book),
+            Err(NoMemory) => Err((BookFault::NoMemory, book.into_area())),
+        }
+    }
+
+    // Adds a Start where there is room for one.
+    fn start(&mut self) -> Result<(), NoMemory>
+        requires ready { is_closed self.old.trail ≡ false }
+        requires emptied { waiting_octets self.old.trail ≡ 0 }
+        ensures ok { OnOk result (IsStarted self.old self.new) }
+        ensures err { OnErr result (area_of self.new ≡ area_of self.old) }
+    {
+        an_index_tells_its_history();
+        let entry = Entry {
+            moment: self.index.totals(false).moment,
+            caller: NO_CALLER,
+            act: Act::Start,
+        };
+        if self.trail.room(&entry) {
+            add_start(&mut self.trail, &mut self.index, &entry)?;
+        }
+        Ok(())
+    }
+}
+
+/// The fault of a book whose trail wasn't opened.
+fn fault_of(fault: OpenFault) -> BookFault
+    ensures { result ≡ book_fault fault }
+{
+    match fault {
+        OpenFault::Device => BookFault::Device,
+        OpenFault::NotOurs { at } => BookFault::NotOurs { at },
+        OpenFault::NoMemory => BookFault::NoMemory,
+    }
+}
+
+// Adds a Start after the others. Without memory nothing is added.
+fn add_start<A: Area>(
+    trail: &mut Trail<A>,
+    index: &mut Index,
+    entry: &Entry<'_>,
+) -> Result<(), NoMemory>
+    requires ready { is_closed trail.old ≡ false }
+    requires room { has_room_of trail.old (entry_view entry.now) ≡ true }
+    requires start { act_view entry.now.act ≡ Start }
+    requires emptied { waiting_octets trail.old ≡ 0 }
+    ensures ok { OnOk result (HasOneMore trail.old trail.new index.old index.new (entry_view entry.now)) }
+    ensures err { OnErr result (HasNoMore trail.old trail.new index.old index.new) }
+{
+    index.reserve(&entry.act)?;
+    match trail.push(entry) {
+        Ok(()) => {
+            index.note(entry);
+            Ok(())
+        }
+        Err(_) => unreachable!(),
+    }
+}

@@ -1,0 +1,100 @@
+use gtpp_message::Why;
+use gw_base::Short;
+
+/// What a gateway is set up with.
+#[derive(Clone, Copy, Debug, PartialEq, Eq)]
+pub struct Setup {
+    /// Its IPv4 address.
+    pub address: u32,
+    /// For how many seconds a file may stay open before a Tick closes it.
+    pub open_time: u64,
+}
+
+/// Why a book wasn't opened.
+#[derive(Clone, Copy, Debug, PartialEq, Eq)]
+pub enum BookFault {
+    /// The device failed.
+    Device,
+    /// The area stands for no history of such a gateway, and isn't new either.
+    NotOurs {
+        /// The first octet of the header that differs, or the first open gate whose batch isn't
+        /// whole or holds an entry that isn't fit.
+        at: u64,
+    },
+    /// There was no memory.
+    NoMemory,
+}
+
+/// What became of a datagram.
+#[derive(Debug, Drop)]
+pub enum Outcome {
+    /// It is answered.
+    Answer(Receipt),
+    /// It isn't answered.
+    Drop(Why),
+    /// There was no memory. No entry was added.
+    NoMemory,
+}
+
+/// An answer, and when it may be sent.
+#[derive(Debug, Drop)]
+pub struct Receipt {
+    /// The octets of the message that goes back to the sender.
+    pub reply: Short,
+    /// The length of the history after the answer, which the firm part has to reach first.
+    pub front: u64,
+    /// How many commits and openings again had failed by then.
+    pub faults: u64,
+}
+
+/// What became of a mark.
+#[derive(Clone, Copy, Debug, PartialEq, Eq)]
+pub enum Marked {
+    /// It was recorded.
+    Made {
+        /// The length of the history after it.
+        front: u64,
+        /// How many commits and openings again had failed by then.
+        faults: u64,
+    },
+    /// It isn't due.
+    NotDue,
+    /// It is due, and there is no room for it.
+    NoRoom,
+    /// The device failed, and nothing was recorded.
+    Device,
+    /// There was no memory, and nothing was recorded.
+    NoMemory,
+}
+
+/// What has become of an answer by now.
+#[derive(Clone, Copy, Debug, PartialEq, Eq)]
+pub enum Settled {
+    /// All that it rests on is firm: it may be sent.
+    Firm,
+    /// So many entries are firm, which aren't enough.
+    NotYet {
+        firm: u64,
+    },
+    /// A commit or an opening again has failed since, and the answer is void.
+    Lost {
+        /// How many have failed by now.
+        faults: u64,
+    },
+}
+
+/// A commit or an opening again failed, and the book is broken until one succeeds.
+#[derive(Clone, Copy, Debug, PartialEq, Eq)]
+pub struct Broken {
+    /// How many have failed by now.
+    pub faults: u64,
+}
+
+/// Why items aren't told.
+#[derive(Clone, Copy, Debug, PartialEq, Eq)]
+pub enum ItemsFault {
+    /// The device failed.
+    Device,
+    /// There was no memory.
+    NoMemory,
+}

@@ -1,0 +1,97 @@
+// What comes before a datagram is answered or a mark is made.
+ghost use Rattle.std.specs.Prelude.{◌≡◌, ◌≤◌, ◌+◌, true, false, if◌then◌else◌, OnOk, is_err};
+ghost use Rattle.area_disk.specs.Disk.{HasCause as HasFaults};
+ghost use Rattle.gate_journal.specs.Moments.{Told};
+ghost use Rattle.gate_journal.specs.Format.{longest_batch};
+ghost use Rattle.cgf_journal.specs.Trail.{is_closed, torn_stands, waiting_octets};
+ghost use Rattle.gateway_book.specs.Value.{committed, faulted, is_batch_full, most_for_one, readied, reopened};
+
+use crate::book::Book;
+use area_disk::Area;
+use cgf_journal::Device;
+
+/// The octets of a batch that the answer to one more datagram may need.
+const MOST_FOR_ONE: usize = 270_000;
+
+/// The most octets of a batch.
+const LONGEST_BATCH: usize = 1_048_576;
+
+impl<A: Area> Book<A> {
+    ghost use Rattle.gateway_book.specs.Book.{CrashLeaves, Stays, area_of, fortune_of, reopening_of, value_of};
+
+    /// Opens the journal of a broken book again: it makes one call of the device, and writes nothing. After `Device`
+    /// the book is broken as before.
+    pub(crate) fn open_again(&mut self) -> Result<(), Device>
+        requires { is_closed self.old.trail ≡ true }
+
+        ensures moved { Told A.Area → value_of self.new ≡
+            reopened (value_of self.old) (reopening_of (is_err result) (torn_stands self.old.trail)) }
+        ensures closed { is_closed self.new.trail ≡ is_err result }
+        ensures emptied { OnOk result (waiting_octets self.new.trail ≡ 0) }
+        ensures any_moment { CrashLeaves self.old self.new }
+        ensures stays { Stays self.old self.new }
+        ensures faults { HasFaults (A.faults (area_of self.old)) (A.faults (area_of self.new)) result }
+    {
+        match self.trail.reopen() {
+            Ok(stands) => {
+                self.index.keep(!stands);
+                Ok(())
+            }
+            Err(fault) => {
+                self.cuts = self.cuts.saturating_add(1);
+                Err(fault)
+            }
+        }
+    }
+
+    /// Makes all entries firm: it makes four calls of the device where some wait, and none else. After `Device` the
+    /// book is broken, and the entries that waited are torn.
+    pub(crate) fn make_firm(&mut self) -> Result<(), Device>
+        requires { is_closed self.old.trail ≡ false }
+
+        ensures moved { Told A.Area → value_of self.new ≡
+            (if is_err result then faulted (value_of self.old) else committed (value_of self.old)) }
+        ensures closed { is_closed self.new.trail ≡ is_err result }
+        ensures emptied { OnOk result (waiting_octets self.new.trail ≡ 0) }
+        ensures any_moment { CrashLeaves self.old self.new }
+        ensures stays { Stays self.old self.new }
+        ensures faults { HasFaults (A.faults (area_of self.old)) (A.faults (area_of self.new)) result }
+    {
+        match self.trail.commit() {
+            Ok(_) => {
+                self.index.keep(false);
+                Ok(())
+            }
+            Err(fault) => {
+                self.cuts = self.cuts.saturating_add(1);
+                Err(fault)
+            }
+        }
+    }
+
+    /// Whether fewer octets of the batch are free than the answer to one more datagram may need.
+    fn is_batch_full(&self) -> bool
+        ensures full { result ≡ is_batch_full (value_of self.now) }
+        ensures free { result ≡ false → waiting_octets self.now.trail + most_for_one ≤ longest_batch }
+    {
+        LONGEST_BATCH - self.trail.waiting().octets.len() < MOST_FOR_ONE
+    }
+
+    /// Opens a broken book again, and commits where the batch is nearly full. After `Device` the book is broken.
+    pub(crate) fn ready(&mut self) -> Result<(), Device>
+        ensures moved { Told A.Area → value_of self.new ≡ readied (fortune_of self.old self.new) (value_of self.old) }
+        ensures closed { is_closed self.new.trail ≡ is_err result }
+        ensures free { OnOk result (waiting_octets self.new.trail + most_for_one ≤ longest_batch) }
+        ensures any_moment { CrashLeaves self.old self.new }
+        ensures stays { Stays self.old self.new }
+        ensures faults { HasFaults (A.faults (area_of self.old)) (A.faults (area_of self.new)) result }
+    {
+        if self.trail.is_closed() {
+            return self.open_again();
+        }
+        if self.is_batch_full() {
+            return self.make_firm();
+        }
+        Ok(())
+    }
+}
