@@ -1,0 +1,13 @@
+pub mod CopiesLemmas
+pub mod LogLemmas
+pub mod NodeLemmas
+pub mod NumberedLemmas
+pub mod OwnLemmas
+pub mod DraftLemmas
+pub mod PeerLemmas
+pub mod PlanLemmas
+pub mod RespondedLemmas
+pub mod SettledLemmas
+pub mod TickLemmas
+pub mod WorkedLemmas
+pub mod WrittenLemmas

@@ -1,0 +1,233 @@
+-- Packets of which those in front are done: what is asked of all can be asked of the rest.
+use Rattle.std.proofs.Common.{◌≡◌, ℕ, zero, suc, ◌+◌, ◌≤◌, ◌<◌, ◌&&◌, ◌||◌, not, Bool, true, false, cond, if◌then◌else◌, List, [], ◌∷◌, ◌++◌, length, map, take, drop, set, get_or, Option, Some, None, refl, sym, ap, subst, ◌∙◌, add-one, min, arith}
+use Rattle.std.specs.List.{count_by, find, flat_map, list_any}
+use Rattle.std.specs.Option.{option_map, option_or}
+use Rattle.std.proofs.lemmas.List.{at_drop_all, at_drop_more, take_more}
+use Rattle.std.proofs.lemmas.List.Edits.{map_over_more}
+use Rattle.std.proofs.lemmas.List.Sums.{sum_by-cons}
+use Rattle.node_core.specs.declared.copy.PacketCopy.{PacketCopy}
+use Rattle.node_core.specs.declared.peer.Peer.{Peer}
+use Rattle.node_core.specs.declared.port.Port.{Port}
+use Rattle.node_core.specs.Hearing.{first_made}
+use Rattle.node_core.specs.Log.{done_among, resolved_among}
+use Rattle.node_core.specs.Moving.{waits_at}
+use Rattle.node_core.specs.Packets.{PacketState, is_done, is_resolved, packet_hearing, while_open}
+use Rattle.node_core.specs.Sendings.{due_for_all}
+use Rattle.node_core.specs.Sound.{AllDone, IsSettled, KeptPackets}
+use Rattle.node_core.specs.Submitting.{least, oldest_number, open_among, unsettled_at}
+
+-- ---- what a done packet adds
+
+count_by-cons : (f : PacketState → Bool) (packet : PacketState) (packets : List PacketState) →
+    count_by f (packet ∷ packets) ≡ (if f packet then 1 else 0) + count_by f packets
+count_by-cons f packet packets = sum_by-cons (λ x. if f x then 1 else 0) packet packets
+
+count_by-pass : (f : PacketState → Bool) (packet : PacketState) (packets : List PacketState) (is : Bool) → f packet ≡ is →
+    count_by f (packet ∷ packets) ≡ (if is then 1 else 0) + count_by f packets
+count_by-pass f packet packets is e = count_by-cons f packet packets ∙ ap (λ (b : Bool). (if b then 1 else 0) + count_by f packets) e
+
+-- a done packet is resolved
+resolved_first : (copies : List PacketCopy) → is_done copies ≡ true → is_resolved copies ≡ true
+resolved_first [] done = done
+resolved_first (plain ∷ duplicates) done = and_left (is_resolved (plain ∷ duplicates)) _ done
+  where
+    and_left : (a b : Bool) → (a && b) ≡ true → a ≡ true
+    and_left true b e = refl
+    and_left false b e = e
+
+-- ---- the packets from the first open one on
+
+open_of : (n : ℕ) (packets : List PacketState) → AllDone (take n packets) → open_among (drop n packets) ≡ open_among packets
+open_of zero packets done = refl
+open_of (suc n) [] done = refl
+open_of (suc n) (packet ∷ packets) done =
+    open_of n packets done.1
+    ∙ sym (count_by-pass (λ (p : PacketState). not (is_done p.copies)) packet packets false (ap not done.0) ∙ (omega arith))
+
+pub open_settled : (kept : KeptPackets) → IsSettled kept → open_among (drop kept.settled kept.packets) ≡ open_among kept.packets
+open_settled kept settled = open_of kept.settled kept.packets settled.done
+
+resolved_of : (n : ℕ) (packets : List PacketState) → n ≤ length packets → AllDone (take n packets) →
+    n + resolved_among (drop n packets) ≡ resolved_among packets
+resolved_of zero packets within done = omega arith
+resolved_of (suc n) [] within done = absurd (omega (arith, within))
+resolved_of (suc n) (packet ∷ packets) within done =
+    omega (
+      arith,
+      resolved_of n packets (omega (arith, within)) done.1,
+      count_by-pass (λ (p : PacketState). is_resolved p.copies) packet packets true (resolved_first packet.copies done.0),
+    )
+
+pub resolved_settled : (kept : KeptPackets) → IsSettled kept →
+    kept.settled + resolved_among (drop kept.settled kept.packets) ≡ resolved_among kept.packets
+resolved_settled kept settled = resolved_of kept.settled kept.packets settled.within settled.done
+
+done_of : (n : ℕ) (packets : List PacketState) → n ≤ length packets → AllDone (take n packets) →
+    n + done_among (drop n packets) ≡ done_among packets
+done_of zero packets within done = omega arith
+done_of (suc n) [] within done = absurd (omega (arith, within))
+done_of (suc n) (packet ∷ packets) within done =
+    omega (
+      arith,
+      done_of n packets (omega (arith, within)) done.1,
+      count_by-pass (λ (p : PacketState). is_done p.copies) packet packets true done.0,
+    )
+
+pub done_settled : (kept : KeptPackets) → IsSettled kept →
+    kept.settled + done_among (drop kept.settled kept.packets) ≡ done_among kept.packets
+done_settled kept settled = done_of kept.settled kept.packets settled.within settled.done
+
+waits_not : (gateway : ℕ) (packet : PacketState) → is_done packet.copies ≡ true → waits_at gateway packet ≡ false
+waits_not gateway packet done = rw done refl
+
+waits_of : (gateway n : ℕ) (packets : List PacketState) → AllDone (take n packets) →
+    list_any (waits_at gateway) (drop n packets) ≡ list_any (waits_at gateway) packets
+waits_of gateway zero packets done = refl
+waits_of gateway (suc n) [] done = refl
+waits_of gateway (suc n) (packet ∷ packets) done =
+    waits_of gateway n packets done.1 ∙ sym (ap (λ (b : Bool). b || list_any (waits_at gateway) packets) (waits_not gateway packet done.0))
+
+pub waits_settled : (gateway : ℕ) (kept : KeptPackets) → IsSettled kept →
+    list_any (waits_at gateway) (drop kept.settled kept.packets) ≡ list_any (waits_at gateway) kept.packets
+waits_settled gateway kept settled = waits_of gateway kept.settled kept.packets settled.done
+
+-- ---- the oldest number
+
+least-append : (number : ℕ) (xs ys : List ℕ) → least number (xs ++ ys) ≡ least (least number xs) ys
+least-append number [] ys = refl
+least-append number (x ∷ xs) ys = least-append (min number x) xs ys
+
+unsettled_none : (gateway : ℕ) (packet : PacketState) → is_done packet.copies ≡ true → unsettled_at gateway packet ≡ []
+unsettled_none gateway packet done = rw done refl
+
+oldest_of : (gateway next n : ℕ) (packets : List PacketState) → AllDone (take n packets) →
+    oldest_number gateway next (drop n packets) ≡ oldest_number gateway next packets
+oldest_of gateway next zero packets done = refl
+oldest_of gateway next (suc n) [] done = refl
+oldest_of gateway next (suc n) (packet ∷ packets) done =
+    oldest_of gateway next n packets done.1
+    ∙ sym (ap (λ (xs : List ℕ). least next (xs ++ flat_map (unsettled_at gateway) packets)) (unsettled_none gateway packet done.0))
+
+pub oldest_settled : (gateway next : ℕ) (kept : KeptPackets) → IsSettled kept →
+    oldest_number gateway next (drop kept.settled kept.packets) ≡ oldest_number gateway next kept.packets
+oldest_settled gateway next kept settled = oldest_of gateway next kept.settled kept.packets settled.done
+
+pub oldest_more : (gateway next : ℕ) (packets : List PacketState) (i : ℕ) (d : PacketState) → i < length packets →
+    oldest_number gateway next (drop i packets)
+    ≡ oldest_number gateway (least next (unsettled_at gateway (get_or packets i d))) (drop (i + 1) packets)
+oldest_more gateway next packets i d below =
+    at_drop_more (oldest_number gateway next) packets i d below
+    ∙ least-append next (unsettled_at gateway (get_or packets i d)) (flat_map (unsettled_at gateway) (drop (i + 1) packets))
+
+pub oldest_none : (gateway next : ℕ) (packets : List PacketState) → oldest_number gateway next (drop (length packets) packets) ≡ next
+oldest_none gateway next packets = at_drop_all (oldest_number gateway next) packets (length packets) (omega arith)
+
+-- ---- one more packet
+
+pub one_more_done : (packets : List PacketState) (i : ℕ) (d : PacketState) → i < length packets → AllDone (take i packets) →
+    is_done (get_or packets i d).copies ≡ true → AllDone (take (i + 1) packets)
+one_more_done packets i d below done is = rw add-one (by packets i below done is)
+  where
+    by : (packets : List PacketState) (i : ℕ) → i < length packets → AllDone (take i packets) →
+        is_done (get_or packets i d).copies ≡ true → AllDone (take (suc i) packets)
+    by [] i below done is = absurd (omega (arith, below))
+    by (packet ∷ packets) zero below done is = (is, tt)
+    by (packet ∷ packets) (suc i) below done is = (done.0, by packets i (omega (arith, below)) done.1 is)
+
+pub heard_more : (port : Port) (gateway cause : ℕ) (numbers : List ℕ) (xs ys : List PacketState) (i : ℕ) (x : PacketState) → i < length xs →
+    ys ≡ map (while_open (packet_hearing port gateway cause numbers)) (take i xs) ++ drop i xs → x ≡ get_or ys i x →
+    set ys i (while_open (packet_hearing port gateway cause numbers) x)
+    ≡ map (while_open (packet_hearing port gateway cause numbers)) (take (i + 1) xs) ++ drop (i + 1) xs
+heard_more port gateway cause numbers = map_over_more (while_open (packet_hearing port gateway cause numbers))
+
+module _ (test : List PacketCopy → Bool) (change : PacketState → PacketState) where
+  made-append : (one two : List PacketState) → first_made test change (one ++ two) ≡ option_or (first_made test change one) (first_made test change two)
+  made-append [] two = refl
+  made-append (packet ∷ one) two = by (not (test packet.copies) && test (change packet).copies) refl (made-append one two)
+    where
+      by : (is : Bool) → (not (test packet.copies) && test (change packet).copies) ≡ is →
+          first_made test change (one ++ two) ≡ option_or (first_made test change one) (first_made test change two) →
+          first_made test change ((packet ∷ one) ++ two) ≡ option_or (first_made test change (packet ∷ one)) (first_made test change two)
+      by true e later = rw e refl
+      by false e later = rw e later
+
+  pub made_more : (packets : List PacketState) (i : ℕ) (d : PacketState) → i < length packets →
+      first_made test change (take (i + 1) packets)
+      ≡ option_or (first_made test change (take i packets)) (first_made test change (get_or packets i d ∷ []))
+  made_more packets i d below =
+      ap (first_made test change) (take_more packets i d below) ∙ made-append (take i packets) (get_or packets i d ∷ [])
+
+-- ---- what is due
+
+due_of : (favourite : ℕ) (up : Bool) (peers : List Peer) (n : ℕ) (packets : List PacketState) → AllDone (take n packets) →
+    due_for_all favourite up peers (drop n packets) ≡ due_for_all favourite up peers packets
+due_of favourite up peers zero packets done = refl
+due_of favourite up peers (suc n) [] done = refl
+due_of favourite up peers (suc n) (packet ∷ packets) done = rw done.0 (due_of favourite up peers n packets done.1)
+
+pub due_settled : (favourite : ℕ) (up : Bool) (peers : List Peer) (kept : KeptPackets) → IsSettled kept →
+    due_for_all favourite up peers (drop kept.settled kept.packets) ≡ due_for_all favourite up peers kept.packets
+due_settled favourite up peers kept settled = due_of favourite up peers kept.settled kept.packets settled.done
+
+-- ---- a change while they are open
+
+open_map : (f : PacketState → PacketState) (n : ℕ) (packets : List PacketState) → AllDone (take n packets) →
+    take n packets ++ map (while_open f) (drop n packets) ≡ map (while_open f) packets
+open_map f zero packets done = refl
+open_map f (suc n) [] done = refl
+open_map f (suc n) (packet ∷ packets) done =
+    ap (λ (p : PacketState). p ∷ (take n packets ++ map (while_open f) (drop n packets))) (sym (rw done.0 refl))
+    ∙ ap (λ (ps : List PacketState). while_open f packet ∷ ps) (open_map f n packets done.1)
+
+pub changed_settled : (f : PacketState → PacketState) (kept : KeptPackets) → IsSettled kept →
+    take kept.settled kept.packets ++ map (while_open f) (drop kept.settled kept.packets) ≡ map (while_open f) kept.packets
+changed_settled f kept settled = open_map f kept.settled kept.packets settled.done
+
+-- ---- a response heard by all, from the first open packet on
+
+still_done : (f : PacketState → PacketState) (packet : PacketState) → is_done packet.copies ≡ true → while_open f packet ≡ packet
+still_done f packet done = rw done refl
+
+pub changed_front : (f : PacketState → PacketState) (n : ℕ) (packets : List PacketState) → AllDone (take n packets) →
+    packets ≡ map (while_open f) (take n packets) ++ drop n packets
+changed_front f zero packets done = refl
+changed_front f (suc n) [] done = refl
+changed_front f (suc n) (packet ∷ packets) done =
+    ap (λ (ps : List PacketState). packet ∷ ps) (changed_front f n packets done.1)
+    ∙ ap (λ (p : PacketState). p ∷ (map (while_open f) (take n packets) ++ drop n packets)) (sym (still_done f packet done.0))
+
+pub done_front : (f : PacketState → PacketState) (n : ℕ) (packets : List PacketState) → AllDone (take n packets) →
+    AllDone (take n (map (while_open f) packets))
+done_front f zero packets done = tt
+done_front f (suc n) [] done = tt
+done_front f (suc n) (packet ∷ packets) done =
+    (subst (λ (p : PacketState). is_done p.copies ≡ true) (sym (still_done f packet done.0)) done.0, done_front f n packets done.1)
+
+never_both : (b : Bool) → (not b && b) ≡ false
+never_both true = refl
+never_both false = refl
+
+pub made_front : (test : List PacketCopy → Bool) (f : PacketState → PacketState) (n : ℕ) (packets : List PacketState) → AllDone (take n packets) →
+    ◌≡◌ {A = Option ℕ} None (first_made test (while_open f) (take n packets))
+made_front test f zero packets done = refl
+made_front test f (suc n) [] done = refl
+made_front test f (suc n) (packet ∷ packets) done =
+    let not_now : (not (test packet.copies) && test (while_open f packet).copies) ≡ false =
+    ap (λ (p : PacketState). not (test packet.copies) && test p.copies) (still_done f packet done.0) ∙ never_both (test packet.copies) in
+    rw not_now (made_front test f n packets done.1)
+
+middle : (f : PacketState → PacketState) (xs : List PacketState) (i : ℕ) (d : PacketState) → i < length xs →
+    get_or (map f (take i xs) ++ drop i xs) i d ≡ get_or xs i d
+middle f [] i d below = absurd (omega (arith, below))
+middle f (x ∷ xs) zero d below = refl
+middle f (x ∷ xs) (suc i) d below = middle f xs i d (omega (arith, below))
+
+pub made_step : (test : List PacketCopy → Bool) (f : PacketState → PacketState) (xs ys : List PacketState) (i : ℕ) (x : PacketState)
+    (before here after : Option ℕ) → i < length xs → ys ≡ map f (take i xs) ++ drop i xs → x ≡ get_or ys i x →
+    before ≡ first_made test f (take i xs) → here ≡ first_made test f (x ∷ []) → after ≡ option_or before here →
+    after ≡ first_made test f (take (i + 1) xs)
+made_step test f xs ys i x before here after below so_far is was now result =
+    let at : x ≡ get_or xs i x = is ∙ ap (λ (zs : List PacketState). get_or zs i x) so_far ∙ middle f xs i x below in
+    result ∙ ap (λ (o : Option ℕ). option_or o here) was
+    ∙ ap (option_or (first_made test f (take i xs))) (now ∙ ap (λ (p : PacketState). first_made test f (p ∷ [])) at)
+    ∙ sym (made_more test f xs i x below)

@@ -1,0 +1,32 @@
+use Rattle.std.proofs.Common.{◌≡◌, ℕ, Bool, ◌==◌, ◌&&◌, if◌then◌else◌, Some, None, Option, List, map, length, sym, ap, ◌∙◌}
+use Rattle.gw_base.specs.Nearest.{nearest}
+use Rattle.node_core.specs.declared.copy.PacketCopy.{PacketCopy}
+use Rattle.node_core.specs.Hearing.{id_of, made_by}
+use Rattle.node_core.specs.Log.{Responds, packets_hearing}
+use Rattle.node_core.specs.Moving.{appointing, is_refusal, next_place}
+use Rattle.node_core.specs.Packets.{is_done, is_resolved}
+use Rattle.node_core.specs.Peers.{last_number}
+use Rattle.node_core.specs.Value.{NodeValue, befallen}
+use Rattle.node_core.proofs.node.Node.hear_response.Goals as goal
+
+pub returns-clause-heeds : goal.returns-clause-heeds
+returns-clause-heeds c =
+    let at : (List PacketCopy → Bool) → NodeValue → Option ℕ = λ test v. made_by test v c.args.port c.args.gateway
+    (Responds c.args.cause (map (nearest (Some (last_number v.gateways c.args.gateway))) c.args.responded)) in
+    let address : c.self.inside.address ≡ c.args.self.now.address = ap (λ (v : NodeValue). v.address) c.self.view_is in
+    let resolved = c.learn-made.ensures.resolved ∙ ap (at is_resolved) c.end_quiet.ensures in
+    let done = c.learn-made.ensures.done ∙ ap (at is_done) c.end_quiet.ensures in
+    c.telling.ensures ∙ (λ i. record { reply = None; drop = None; resolved = id_of (address i) (resolved i); done = id_of (address i) (done i) })
+
+pub returns-clause-node : goal.returns-clause-node
+returns-clause-node c =
+    let moved : Option ℕ =
+    if (c.args.gateway == c.args.self.now.favourite_place) && is_refusal c.args.port c.args.cause
+    then next_place (length c.args.self.now.gateways) c.args.gateway else None in
+    let learnt : NodeValue → NodeValue = λ v. record v {
+      packets = packets_hearing c.args.port c.args.gateway
+          (Responds c.args.cause (map (nearest (Some (last_number v.gateways c.args.gateway))) c.args.responded)) v.packets;
+    } in
+    c.appoint.ensures
+    ∙ ap (λ (o : Option ℕ). befallen (appointing o) c.learn-made.new.self) c.refused-moved.ensures.moved
+    ∙ ap (befallen (appointing moved)) (c.learn-made.ensures.packets ∙ ap learnt c.end_quiet.ensures)

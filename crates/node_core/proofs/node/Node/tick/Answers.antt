@@ -1,0 +1,81 @@
+use Rattle.std.proofs.Common.{◌≡◌, ℕ, suc, ◌+◌, ◌-◌, ◌≤◌, ◌<◌, min, List, ◌++◌, take, map, length, Option, refl, sym, ap, subst, ◌∙◌, arith}
+use Rattle.std.specs.Prelude.{IfSome}
+use Rattle.std.proofs.lemmas.List.{length-map}
+use Rattle.path_mgmt.specs.NodePath.{is_alive}
+use Rattle.node_core.specs.declared.peer.Peer.{Peer}
+use Rattle.node_core.specs.declared.sending.Sending.{Sending}
+use Rattle.node_core.specs.Moving.{favourite_by, moved_at_tick, quiet_by}
+use Rattle.node_core.specs.NodeFields.{value_of_node}
+use Rattle.node_core.specs.Packets.{PacketState, packet_after_all, while_open}
+use Rattle.node_core.specs.Peers.{all_drawn}
+use Rattle.node_core.specs.Sound.{AreNumbered}
+use Rattle.node_core.specs.Ticks.{due_by, tick_entries}
+use Rattle.node_core.specs.Value.{NodeValue, befallen, most_quiet}
+use Rattle.node_core.proofs.OwnLemmas.{length-replaced, replaced_is}
+use Rattle.node_core.proofs.TickLemmas.{length-all_drawn, numbered_tick, tick_result, within_by}
+use Rattle.node_core.proofs.node.Node.tick.Goals as goal
+
+pub replace-requires : goal.replace-requires
+replace-requires c =
+    length-replaced c.favourite_by-favourite.result c.is_alive.result _ c.self.inside.packets c.in_ok-plan.plan.packets.items
+    c.in_ok-plan.ensures.settled c.in_ok-plan.ensures.packets
+
+-- the packets after the tick
+replaced : (c : goal.After-drop-plan-2) → c.replace.new.self.packets
+    ≡ map (while_open (packet_after_all (due_by c.favourite_by-favourite.result c.is_alive.result c.self.inside.paths c.deref.result.now c.self.inside.packets.packets)))
+    c.self.inside.packets.packets
+replaced c =
+    replaced_is c.favourite_by-favourite.result c.is_alive.result c.self.inside.paths c.deref.result.now
+    (c.self.inside.submissions - length c.self.inside.packets.packets) c.self.inside.packets c.in_ok-plan.plan.packets.items
+    c.replace.new.self.packets c.self.invariant.numbered c.in_ok-plan.ensures.settled c.in_ok-plan.ensures.packets c.replace.ensures
+
+pub invariant_of-self : goal.invariant_of-self
+invariant_of-self c =
+    let inside = c.self.inside in
+    let sound = c.self.invariant in
+    let sendings : List Sending = due_by c.favourite_by-favourite.result c.is_alive.result inside.paths c.deref.result.now inside.packets.packets in
+    let peers : length c.in_ok-plan.plan.peers.items ≡ length inside.gateways.items =
+    ap (λ (ps : List Peer). length ps) c.in_ok-plan.ensures.peers ∙ length-all_drawn sendings c.deref.result.now
+    ∙ ap (λ (ps : List Peer). length ps) c.deref.ensures.value in
+    let size : length c.replace.new.self.packets ≡ length inside.packets.packets =
+    ap (λ (ps : List PacketState). length ps) (replaced c) ∙ length-map inside.packets.packets (while_open (packet_after_all sendings)) in
+    let moves : IfSome c.moved_at_tick-moved.result (λ place. place < length inside.gateways.items) =
+    subst (λ (v : NodeValue). IfSome c.moved_at_tick-moved.result (λ place. place < length v.gateways)) (sym c.self.view_is)
+    c.moved_at_tick-moved.ensures.within in
+    let within : c.favourite_by-favourite.result < length inside.gateways.items =
+    subst (λ (n : ℕ). n < length inside.gateways.items) (sym c.favourite_by-favourite.ensures)
+    (within_by c.moved_at_tick-moved.result inside.favourite (length inside.gateways.items) moves sound.within) in
+    record {
+      some = omega (arith, peers, sound.some);
+      most = omega (arith, peers, sound.most);
+      within = omega (arith, peers, within);
+      quiet = omega (arith, c.min-self-inside.ensures);
+      numbers = c.in_ok-plan.ensures.numbers;
+      numbered = subst (λ (n : ℕ). AreNumbered (inside.submissions - n) c.replace.new.self.packets) (sym size)
+          (subst (λ (ps : List PacketState). AreNumbered (inside.submissions - length inside.packets.packets) ps) (sym (replaced c))
+          (numbered_tick sendings (inside.submissions - length inside.packets.packets) inside.packets.packets sound.numbered));
+      packets = omega (arith, size, sound.packets);
+      forms = sound.forms ∙ sym size;
+      submissions = sound.submissions;
+      resolved = omega (arith, size, sound.resolved);
+      done = omega (arith, size, sound.done);
+      counter = sound.counter;
+    }
+
+pub returns-clause-node : goal.returns-clause-node
+returns-clause-node c =
+    let inside = c.self.inside in
+    let node : NodeValue = value_of_node inside in
+    let moved : c.moved_at_tick-moved.result ≡ moved_at_tick node = c.moved_at_tick-moved.ensures.moved ∙ ap moved_at_tick (sym c.self.view_is) in
+    let sendings : List Sending = due_by c.favourite_by-favourite.result c.is_alive.result inside.paths inside.gateways.items inside.packets.packets in
+    let quiet : c.min-self-inside.result ≡ min most_quiet (suc (quiet_by c.moved_at_tick-moved.result inside.quiet)) =
+    omega (arith, c.min-self-inside.ensures, c.quiet_by.ensures) in
+    let peers : c.in_ok-plan.plan.peers.items ≡ all_drawn sendings inside.gateways.items =
+    c.in_ok-plan.ensures.peers
+    ∙ ap (λ (ps : List Peer). all_drawn (due_by c.favourite_by-favourite.result c.is_alive.result inside.paths ps inside.packets.packets) ps) c.deref.ensures.value in
+    let packets : c.replace.new.self.packets ≡ map (while_open (packet_after_all sendings)) inside.packets.packets =
+    replaced c
+    ∙ ap (λ (ps : List Peer). map (while_open (packet_after_all (due_by c.favourite_by-favourite.result c.is_alive.result inside.paths ps inside.packets.packets))) inside.packets.packets) c.deref.ensures.value in
+    let after = (tick_result node c.moved_at_tick-moved.result c.favourite_by-favourite.result c.is_alive.result c.min-self-inside.result
+    c.in_ok-plan.plan.peers.items sendings c.replace.new.self.packets moved c.favourite_by-favourite.ensures c.is_alive.ensures quiet refl peers packets).1 in
+    after ∙ ap (λ (v : NodeValue). befallen (tick_entries v) v) c.self.view_is

@@ -1,0 +1,19 @@
+use Rattle.std.proofs.Common.{◌≡◌, ℕ, ◌-◌, ◌≤◌, ◌<◌, suc, length, List, Option, sym, ap, ◌∙◌, arith, rules}
+use Rattle.std.specs.Prelude.{slice_get}
+use Rattle.node_core.specs.Packets.{PacketState}
+use Rattle.node_core.proofs.NumberedLemmas.{none_numbered, place_numbered}
+use Rattle.node_core.proofs.packets.Packets.numbered.Goals as goal
+
+pub returns-then-number-before : goal.returns-then-number-before
+returns-then-number-before c =
+    let kept = c.args.self.now in
+    let size : c.len.result ≡ length kept.packets = search rules in
+    sym (none_numbered (c.args.last - length kept.packets) c.args.number kept.packets c.requires.numbered (omega (arith, size)))
+
+pub returns : goal.returns
+returns c =
+    let kept = c.args.self.now in
+    let size : c.len.result ≡ length kept.packets = search rules in
+    let place : c.args.number - (c.args.last - c.len.result) - 1 ≡ c.args.number - suc (c.args.last - length kept.packets) = omega (arith, size) in
+    c.at.ensures ∙ ap (slice_get kept.packets) place
+    ∙ sym (place_numbered (c.args.last - length kept.packets) c.args.number kept.packets c.requires.numbered (omega (arith, size, c.if-number-before.false)))

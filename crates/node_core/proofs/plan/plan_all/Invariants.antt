@@ -1,0 +1,15 @@
+use Rattle.std.proofs.Common.{◌≡◌, ◌++◌, drop}
+use Rattle.node_core.specs.Peers.{all_drawn}
+use Rattle.node_core.specs.Sendings.{due_for_all}
+use Rattle.node_core.specs.Sound.{AreNumbers, planned}
+use Rattle.node_core.proofs.plan.plan_all.Given as goal
+
+abbrev pub invariant-loop-packet : goal.invariant-loop-packet
+invariant-loop-packet l =
+    (l.after.items ++ planned l.aim.favourite l.aim.is_alive l.peers (drop l.packet-index l.packets)
+    ≡ l.initial.after.items ++ planned l.aim.favourite l.aim.is_alive l.initial.peers l.packets)
+    × (l.sendings.items ++ due_for_all l.aim.favourite l.aim.is_alive l.peers (drop l.packet-index l.packets)
+    ≡ l.initial.sendings.items ++ due_for_all l.aim.favourite l.aim.is_alive l.initial.peers l.packets)
+    × (all_drawn (due_for_all l.aim.favourite l.aim.is_alive l.peers (drop l.packet-index l.packets)) l.peers
+    ≡ all_drawn (due_for_all l.aim.favourite l.aim.is_alive l.initial.peers l.packets) l.initial.peers)
+    × AreNumbers l.peers

@@ -1,0 +1,17 @@
+-- What public clauses cite.
+pub mod Copies
+pub mod Packets
+pub mod Peers
+pub mod Sendings
+pub mod Log
+pub mod Value
+pub mod Moving
+pub mod Ticks
+pub mod Octets
+pub mod Hearing
+pub mod Submitting
+pub mod Counting
+pub mod Drafts
+-- Steps of proofs, and private clauses.
+pub mod NodeFields
+pub mod Sound

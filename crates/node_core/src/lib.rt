@@ -1,0 +1,41 @@
+//! The driver of a serving node (3GPP TS 32.295, clause 5): it sends each packet to its first
+//! gateway, redirects it after silence or refusal, tests the first gateway before it releases a
+//! duplicate, and never asks for both.
+#![tactic(auto)]
+
+mod copies;
+mod copy;
+mod counts;
+mod draft;
+#[cfg(test)]
+mod draft_tests;
+mod due;
+mod fault;
+mod hear;
+mod logs;
+mod message;
+mod moving;
+mod node;
+mod node_packet;
+#[cfg(test)]
+mod node_tests;
+mod outgoing;
+mod packets;
+mod peer;
+mod plan;
+mod port;
+mod responded;
+mod sending;
+mod submit;
+mod tick;
+
+pub use copy::{Command, Order, PacketCopy, Verdict};
+pub use counts::{NodeCopy, NodeCounts, Phase, Tally};
+pub use draft::Draft;
+pub use fault::{DraftFault, SubmitFault};
+pub use logs::{a_node_stands_for_its_log, ticks_and_messages_follow_every_log};
+pub use message::{Heeded, Outgoing};
+pub use node::Node;
+pub use peer::Peer;
+pub use port::Port;
+pub use sending::Sending;

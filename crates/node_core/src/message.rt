@@ -1,0 +1,29 @@
+use crate::port::Port;
+use gtpp_message::Why;
+use gw_base::{Absolute, Addr, Octets, PacketId, Short};
+
+/// A datagram that a tick sends.
+#[derive(Debug, Drop)]
+pub struct Outgoing {
+    /// The node's port from which it goes.
+    pub port: Port,
+    pub to: Addr,
+    pub octets: Octets,
+    /// The path number or the whole request number that is meant.
+    pub number: Absolute,
+    /// The number of the copy that a release or a cancel names.
+    pub named: Option<Absolute>,
+}
+
+/// What a node makes of a datagram.
+#[derive(Debug, Drop)]
+pub struct Heeded {
+    /// The answer, which goes from the port that heard, to the sender.
+    pub reply: Option<Short>,
+    /// Why the datagram is dropped, where it is. The node is then as before.
+    pub drop: Option<Why>,
+    /// The first packet, in order of submission, that became resolved.
+    pub resolved: Option<PacketId>,
+    /// The first packet, in order of submission, that became done.
+    pub done: Option<PacketId>,
+}

@@ -1,0 +1,131 @@
+//! The datagrams of a tick.
+
+ghost use Rattle.std.specs.Prelude.{◌≡◌, ◌≤◌, IfOk, length, map};
+ghost use Rattle.gtpp_message.specs.Message.{TransferRequest};
+ghost use Rattle.gtpp_message.specs.Values.{message_value, packet_value};
+ghost use Rattle.gtpp_message.specs.Writing.{body_octets, written};
+ghost use Rattle.gtpp_message.specs.Packet.{packet_octets};
+ghost use Rattle.node_core.specs.Octets.{octets_of, order_of, outgoing, packet_numbered, wire};
+
+use crate::copy::Order;
+use crate::draft::MOST_VALUE_OCTETS;
+use crate::message::Outgoing;
+use crate::node::Node;
+use crate::peer::address_at;
+use crate::sending::Sending;
+use gtpp_elements::Numbers;
+use gtpp_message::{Message, Packet, Transfer, write};
+use gw_base::{Buffer, NoMemory, Octets};
+use std::alloc::Global;
+
+/// The most octets of a datagram.
+const DATAGRAM_OCTETS: usize = 65_507;
+
+impl Node {
+    /// The datagrams of these sendings.
+    pub(crate) fn outgoing(
+        &self,
+        alloc: Global,
+        sendings: &[Sending],
+    ) -> Result<Vec<Outgoing>, NoMemory>
+        ensures { IfOk result (λ sent. sent.items ≡ map (outgoing self.now) sendings.now) }
+    {
+        let mut sent = Vec::with_capacity(alloc, sendings.len())?;
+        for sending in sendings {
+            sent.push(self.datagram(alloc, sending)?)?;
+        }
+        Ok(sent)
+    }
+
+    /// The datagram of a sending.
+    fn datagram(&self, alloc: Global, sending: &Sending) -> Result<Outgoing, NoMemory>
+        ensures { IfOk result (λ datagram. datagram ≡ outgoing self.now sending.now) }
+    {
+        let (port, gateway, number, named) = sending.fields();
+        Ok(Outgoing {
+            port,
+            to: address_at(&self.gateways, gateway),
+            octets: self.octets_of(alloc, sending)?,
+            number,
+            named,
+        })
+    }
+
+    /// The octets of a sending.
+    fn octets_of(&self, alloc: Global, sending: &Sending) -> Result<Octets, NoMemory>
+        ensures { IfOk result (λ octets. octets ≡ octets_of self.now sending.now) }
+    {
+        match *sending {
+            Sending::Probe { number, .. } => {
+                let address = self.address.to_be_bytes();
+                let message = Message::NodeAliveRequest {
+                    address: Some(&address),
+                };
+                message_octets(alloc, u64::from(number), &message)
+            }
+            Sending::Data {
+                packet,
+                number,
+                is_plain,
+                ..
+            } => {
+                let packet = self.packet_numbered(packet);
+                let body = if is_plain {
+                    Transfer::Send(packet)
+                } else {
+                    Transfer::Possible(packet)
+                };
+                message_octets(alloc, number, &Message::TransferRequest { body })
+            }
+            Sending::Test { number, .. } => {
+                let body = Transfer::Possible(Packet::Empty);
+                message_octets(alloc, number, &Message::TransferRequest { body })
+            }
+            Sending::Command {
+                named,
+                number,
+                order,
+                ..
+            } => order_octets(alloc, number, order, named),
+        }
+    }
+
+    /// What the packet with this number sends.
+    fn packet_numbered(&self, packet: u64) -> Packet<'_>
+        ensures packet { packet_value result ≡ packet_numbered self.now packet }
+        ensures short { length (packet_octets (packet_numbered self.now packet)) ≤ MOST_VALUE_OCTETS }
+    {
+        let before = self.submissions - self.forms.len() as u64;
+        match self.forms.get(packet.saturating_sub(before + 1) as usize) {
+            Some(draft) => draft.packet(),
+            None => Packet::Empty,
+        }
+    }
+}
+
+/// The octets of a release or a cancel that names a number.
+fn order_octets(alloc: Global, number: u64, order: Order, named: u64) -> Result<Octets, NoMemory>
+    ensures { IfOk result (λ octets. octets ≡ written (wire number) (TransferRequest (order_of order named))) }
+{
+    let octets = ((named % 65_536) as u16).to_be_bytes();
+    let Ok(numbers) = Numbers::of(&octets) else {
+        unreachable!()
+    };
+    let body = match order {
+        Order::Release => Transfer::Release(numbers),
+        Order::Cancel => Transfer::Cancel(numbers),
+    };
+    message_octets(alloc, number, &Message::TransferRequest { body })
+}
+
+/// The octets of a message with the last 16 bits of this number.
+fn message_octets(alloc: Global, number: u64, message: &Message<'_>) -> Result<Octets, NoMemory>
+    requires { length (body_octets (message_value message.now)) ≤ 65501 }
+    ensures { IfOk result (λ octets. octets ≡ written (wire number) (message_value message.now)) }
+{
+    let mut buffer = Buffer::with(alloc, DATAGRAM_OCTETS)?;
+    if let Err(_full) = write((number % 65_536) as u16, message, &mut buffer) {
+        unreachable!()
+    }
+    Octets::of(alloc, buffer.octets())
+}
