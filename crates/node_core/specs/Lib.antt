@@ -15,3 +15,10 @@ pub mod Drafts
 -- Steps of proofs, and private clauses.
 pub mod NodeFields
 pub mod Sound
+-- What the laws say.
+pub mod Reached
+pub mod Resting
+pub mod Growing
+pub mod Roles
+pub mod Choosing
+pub mod Nearness

@@ -12,6 +12,7 @@ mod draft_tests;
 mod due;
 mod fault;
 mod hear;
+pub mod laws;
 mod logs;
 mod message;
 mod moving;

@@ -1,0 +1,350 @@
+-- A copy for which a release was sent stays the choice of its packet, whose first copy is sealed.
+use Rattle.std.proofs.Common.{◌≡◌, ◌≢◌, ℕ, ◌≤◌, ◌==◌, ◌⊎◌, Bool, true, false, if◌then◌else◌, List, [], ◌∷◌, ◌++◌, length, map, Option, Some, None, option_map, refl, sym, ap, ◌∙◌, inl, inr}
+use Rattle.std.specs.List.{All, AllByRecursion, find}
+use Rattle.std.specs.Option.{option_map_or, option_or}
+use Rattle.std.proofs.lemmas.Bool.Decides.{eqb_tells}
+use Rattle.std.proofs.lemmas.List.Elements.{All-from_recursion}
+use Rattle.node_core.specs.declared.copy.Command.{Command}
+use Rattle.node_core.specs.declared.copy.Order.TheVariants.{Release, Cancel}
+use Rattle.node_core.specs.declared.copy.PacketCopy.{PacketCopy}
+use Rattle.node_core.specs.declared.copy.Verdict.{Verdict}
+use Rattle.node_core.specs.declared.copy.Verdict.TheVariants.{Unknown, Filed, Sealed, Held}
+use Rattle.node_core.specs.declared.peer.Peer.{Peer}
+use Rattle.node_core.specs.declared.port.Port.{Port}
+use Rattle.node_core.specs.Choosing.{IsChoice, ReleasesChoice}
+use Rattle.node_core.specs.Copies.{command_hearing, copy_hearing, copy_hearing_own, first_told, is_chosen, is_held, is_release, new_copy}
+use Rattle.node_core.specs.Log.{NodeSetup}
+use Rattle.node_core.specs.Packets.{PacketState, chosen, commanded, is_done, packet_hearing, while_open, with_command}
+use Rattle.node_core.specs.Peers.{next_number}
+use Rattle.node_core.specs.Reached.{NodeCall, reached}
+use Rattle.node_core.proofs.DueMoves.{IsPlaced, IsThere, all_there, chosen_is}
+use Rattle.node_core.proofs.KeptLemmas.{AllKept}
+use Rattle.node_core.proofs.Moves.{CommandsOne, Copying, Commanding, IsMove, Move, One, are_none, beyond, command_with, copies_moved, find_at, here}
+use Rattle.node_core.proofs.ReachedLemmas.{Closed, new_packet, stands}
+use Rattle.node_core.proofs.RestingLemmas.{each_map, each_push, each_weaker}
+
+-- none is released, or the first copy is sealed and one is
+abbrev IsFirstChosen : List PacketCopy → PacketCopy → Type 0
+IsFirstChosen duplicates copy = is_chosen copy ≡ true → find is_chosen duplicates ≡ Some copy
+
+abbrev NoneChosen : List PacketCopy → Type 0
+NoneChosen duplicates = AllByRecursion (λ (copy : PacketCopy). is_chosen copy ≡ false) duplicates
+
+record OneChosen (plain : PacketCopy) (duplicates : List PacketCopy) : Type 0 where
+  sealed : plain.verdict ≡ Sealed
+  firsts : AllByRecursion (IsFirstChosen duplicates) duplicates
+
+abbrev Chosen : List PacketCopy → Type 0
+Chosen [] = Unit {0}
+Chosen (plain ∷ duplicates) = (is_chosen plain ≡ false) × (NoneChosen duplicates ⊎ OneChosen plain duplicates)
+
+-- ---- finding
+
+find_push : (test : PacketCopy → Bool) (copies : List PacketCopy) (last copy : PacketCopy) → find test copies ≡ Some copy →
+    find test (copies ++ last ∷ []) ≡ Some copy
+find_push test [] last copy found = absurd (cc)
+find_push test (first ∷ copies) last copy found = by (test first) found (find_push test copies last copy)
+  where
+    by : (passes : Bool) → (if passes then Some first else find test copies) ≡ Some copy →
+        (find test copies ≡ Some copy → find test (copies ++ last ∷ []) ≡ Some copy) →
+        (if passes then Some first else find test (copies ++ last ∷ [])) ≡ Some copy
+    by true found rest = found
+    by false found rest = rest found
+
+find_map : (test : PacketCopy → Bool) (f : PacketCopy → PacketCopy) → ((copy : PacketCopy) → test (f copy) ≡ test copy) → (copies : List PacketCopy) →
+    find test (map f copies) ≡ option_map f (find test copies)
+find_map test f same [] = refl
+find_map test f same (copy ∷ copies) =
+    ap (λ (b : Bool). if b then Some (f copy) else find test (map f copies)) (same copy) ∙ by (test copy) (find_map test f same copies)
+  where
+    by : (passes : Bool) → find test (map f copies) ≡ option_map f (find test copies) →
+        (if passes then Some (f copy) else find test (map f copies)) ≡ option_map f (if passes then Some copy else find test copies)
+    by true rest = refl
+    by false rest = rest
+
+find_none : (test : PacketCopy → Bool) (copies : List PacketCopy) → find test copies ≡ None → AllByRecursion (λ (copy : PacketCopy). test copy ≡ false) copies
+find_none test [] none = tt
+find_none test (copy ∷ copies) none = by (test copy) refl none (find_none test copies)
+  where
+    by : (passes : Bool) → test copy ≡ passes → (if passes then Some copy else find test copies) ≡ None →
+        (find test copies ≡ None → AllByRecursion (λ (c : PacketCopy). test c ≡ false) copies) →
+        (test copy ≡ false) × AllByRecursion (λ (c : PacketCopy). test c ≡ false) copies
+    by true e none rest = absurd (cc)
+    by false e none rest = (e, rest none)
+
+find_passes : (test : PacketCopy → Bool) (copies : List PacketCopy) (copy : PacketCopy) → find test copies ≡ Some copy → test copy ≡ true
+find_passes test [] copy found = absurd (cc)
+find_passes test (first ∷ copies) copy found = by (test first) refl found (find_passes test copies copy)
+  where
+    by : (passes : Bool) → test first ≡ passes → (if passes then Some first else find test copies) ≡ Some copy →
+        (find test copies ≡ Some copy → test copy ≡ true) → test copy ≡ true
+    by true e found rest = let same : first ≡ copy = cc in ap test (sym same) ∙ e
+    by false e found rest = rest found
+
+-- the only one that passes once it is changed is found
+find_only : (test : PacketCopy → Bool) (f : PacketCopy → PacketCopy) (choice : PacketCopy) → test (f choice) ≡ true → (copies : List PacketCopy) →
+    AllByRecursion (λ (copy : PacketCopy). test (f copy) ≡ true → copy ≡ choice) copies →
+    (there : PacketCopy → Bool) → find there copies ≡ Some choice → find test (map f copies) ≡ Some (f choice)
+find_only test f choice passes [] only there found = absurd (cc)
+find_only test f choice passes (copy ∷ copies) only there found =
+    by (test (f copy)) refl (there copy) found (find_only test f choice passes copies only.1 there)
+  where
+    by : (is : Bool) → test (f copy) ≡ is → (at : Bool) → (if at then Some copy else find there copies) ≡ Some choice →
+        (find there copies ≡ Some choice → find test (map f copies) ≡ Some (f choice)) →
+        (if is then Some (f copy) else find test (map f copies)) ≡ Some (f choice)
+    by true e at found rest = ap (λ (c : PacketCopy). Some (f c)) (only.0 e)
+    by false e true found rest = let same : copy ≡ choice = cc in let is : test (f copy) ≡ true = ap (λ (c : PacketCopy). test (f c)) same ∙ passes in absurd (cc)
+    by false e false found rest = rest found
+
+-- ---- what leaves the choice
+
+-- each copy is released exactly where it was, and a sealed one stays sealed
+record KeepsChoice (f : PacketCopy → PacketCopy) : Type 0 where
+  same : (copy : PacketCopy) → is_chosen (f copy) ≡ is_chosen copy
+  sealed : (copy : PacketCopy) → copy.verdict ≡ Sealed → (f copy).verdict ≡ Sealed
+
+chosen_map : (f : PacketCopy → PacketCopy) → KeepsChoice f → (copies : List PacketCopy) → Chosen copies → Chosen (map f copies)
+chosen_map f keeps [] is = tt
+chosen_map f keeps (plain ∷ duplicates) is = (keeps.same plain ∙ is.0, by is.1)
+  where
+    by : NoneChosen duplicates ⊎ OneChosen plain duplicates → NoneChosen (map f duplicates) ⊎ OneChosen (f plain) (map f duplicates)
+    by (inl none) = inl (each_map (λ (c : PacketCopy). is_chosen c ≡ false) (λ (c : PacketCopy). is_chosen c ≡ false) f (λ c is_not. keeps.same c ∙ is_not) duplicates none)
+    by (inr one) = inr (record {
+      sealed = keeps.sealed plain one.sealed;
+      firsts = each_map (IsFirstChosen duplicates) (IsFirstChosen (map f duplicates)) f
+          (λ c first is_so. find_map is_chosen f keeps.same duplicates ∙ ap (option_map f) (first (sym (keeps.same c) ∙ is_so))) duplicates one.firsts;
+    })
+
+chosen_push : (gateway number : ℕ) (copies : List PacketCopy) → Chosen copies → Chosen (copies ++ new_copy gateway number (are_none copies) ∷ [])
+chosen_push gateway number [] is = (refl, inl tt)
+chosen_push gateway number (plain ∷ duplicates) is = (is.0, by is.1)
+  where
+    by : NoneChosen duplicates ⊎ OneChosen plain duplicates →
+        NoneChosen (duplicates ++ new_copy gateway number false ∷ []) ⊎ OneChosen plain (duplicates ++ new_copy gateway number false ∷ [])
+    by (inl none) = inl (each_push (λ (c : PacketCopy). is_chosen c ≡ false) duplicates (new_copy gateway number false) none refl)
+    by (inr one) = inr (record {
+      sealed = one.sealed;
+      firsts = each_push (IsFirstChosen (duplicates ++ new_copy gateway number false ∷ [])) duplicates (new_copy gateway number false)
+          (each_weaker (IsFirstChosen duplicates) (IsFirstChosen (duplicates ++ new_copy gateway number false ∷ []))
+          (λ c first is_so. find_push is_chosen duplicates (new_copy gateway number false) c (first is_so)) duplicates one.firsts)
+          (λ is_so. absurd (cc));
+    })
+
+cancel_keeps : (gateway number : ℕ) → KeepsChoice (commanded gateway (command_with Cancel number))
+cancel_keeps gateway number = record {
+  same = λ copy. same copy (copy.gateway == gateway);
+  sealed = λ copy is. verdict copy (copy.gateway == gateway) ∙ is;
+}
+  where
+    at : (command : Option Command) → option_map_or (λ (c : Command). is_release c.order) (option_or command (Some (command_with Cancel number))) false
+        ≡ option_map_or (λ (c : Command). is_release c.order) command false
+    at None = refl
+    at (Some command) = refl
+
+    same : (copy : PacketCopy) (is : Bool) → is_chosen (if is then with_command (command_with Cancel number) copy else copy) ≡ is_chosen copy
+    same copy true = at copy.command
+    same copy false = refl
+
+    verdict : (copy : PacketCopy) (is : Bool) → (if is then with_command (command_with Cancel number) copy else copy).verdict ≡ copy.verdict
+    verdict copy true = refl
+    verdict copy false = refl
+
+hearing_keeps : (port : Port) (gateway cause : ℕ) (numbers : List ℕ) → KeepsChoice (copy_hearing port gateway cause numbers)
+hearing_keeps port gateway cause numbers = record {
+  same = λ copy. same copy (copy.gateway == gateway);
+  sealed = λ copy is. sealed copy (copy.gateway == gateway) is;
+}
+  where
+    at : (command : Option Command) → option_map_or (λ (c : Command). is_release c.order) (option_map (command_hearing cause numbers) command) false
+        ≡ option_map_or (λ (c : Command). is_release c.order) command false
+    at None = refl
+    at (Some command) = refl
+
+    same : (copy : PacketCopy) (is : Bool) → is_chosen (if is then copy_hearing_own port cause numbers copy else copy) ≡ is_chosen copy
+    same copy true = at copy.command
+    same copy false = refl
+
+    stays : (verdict later : Verdict) → verdict ≡ Sealed → first_told verdict later ≡ Sealed
+    stays Unknown later is = absurd (cc)
+    stays Filed later is = is
+    stays Sealed later is = refl
+    stays Held later is = is
+
+    sealed : (copy : PacketCopy) (is : Bool) → copy.verdict ≡ Sealed → (if is then copy_hearing_own port cause numbers copy else copy).verdict ≡ Sealed
+    sealed copy true e = stays copy.verdict _ e
+    sealed copy false e = e
+
+-- ---- a release
+
+module _ (peers : List Peer) (plain : PacketCopy) (duplicates : List PacketCopy) (placed : IsPlaced peers (plain ∷ duplicates)) (gateway number : ℕ)
+    (one : CommandsOne (plain ∷ duplicates) gateway Release) where
+  abbrev after_release : PacketCopy → PacketCopy
+  after_release copy = commanded gateway (command_with Release number) copy
+
+  -- who is at the gateway is the one that is released
+  at_gateway : (copy : PacketCopy) → IsThere peers (plain ∷ duplicates) copy → copy.gateway ≡ gateway → copy ≡ one.copy
+  at_gateway copy is same =
+      let found : Some copy ≡ Some one.copy = sym is.found ∙ ap (λ (g : ℕ). find_at g (plain ∷ duplicates)) same ∙ one.found in
+      cc
+
+  there : IsThere peers (plain ∷ duplicates) plain × AllByRecursion (IsThere peers (plain ∷ duplicates)) duplicates
+  there = let all = all_there peers (plain ∷ duplicates) placed.apart placed.places in (all.0, all.1)
+
+  place_is : one.copy.gateway ≡ gateway
+  place_is = by (eqb_tells one.copy.gateway gateway) (find_passes (λ (c : PacketCopy). c.gateway == gateway) (plain ∷ duplicates) one.copy one.found)
+    where
+      by : (((one.copy.gateway == gateway) ≡ true) × (one.copy.gateway ≡ gateway)) ⊎ (((one.copy.gateway == gateway) ≡ false) × (one.copy.gateway ≢ gateway)) →
+          (one.copy.gateway == gateway) ≡ true → one.copy.gateway ≡ gateway
+      by (inl is) is_so = is.1
+      by (inr isnt) is_so = let is_not : (one.copy.gateway == gateway) ≡ false = isnt.0 in absurd (cc)
+
+  sealed_is : plain.verdict ≡ Sealed
+  sealed_is =
+      let whole : (plain ∷ duplicates) ≡ (one.right.plain ∷ one.right.duplicates) = one.right.whole in
+      let same : plain ≡ one.right.plain = cc in
+      ap (λ (c : PacketCopy). c.verdict) same ∙ one.right.sealed
+
+  choice_is : chosen duplicates ≡ Some one.copy
+  choice_is =
+      let whole : (plain ∷ duplicates) ≡ (one.right.plain ∷ one.right.duplicates) = one.right.whole in
+      let same : duplicates ≡ one.right.duplicates = cc in
+      let chosen_one : chosen duplicates ≡ Some one.right.copy = ap chosen same ∙ one.right.choice in
+      let is_there : IsThere peers (plain ∷ duplicates) one.right.copy =
+      chosen_is (IsThere peers (plain ∷ duplicates)) duplicates one.right.copy chosen_one there.1 in
+      chosen_one ∙ ap (λ (c : PacketCopy). Some c) (at_gateway one.right.copy is_there (one.right.gateway_is ∙ place_is))
+
+  unchosen : is_chosen one.copy ≡ false
+  unchosen = ap (λ (c : Option Command). option_map_or (λ (command : Command). is_release command.order) c false) one.fresh
+
+  none_yet : (find is_chosen duplicates ≡ None) × (find (λ (c : PacketCopy). is_held c.verdict) duplicates ≡ Some one.copy)
+  none_yet = by (find is_chosen duplicates) refl choice_is
+    where
+      by : (found : Option PacketCopy) → find is_chosen duplicates ≡ found →
+          option_or found (find (λ (c : PacketCopy). is_held c.verdict) duplicates) ≡ Some one.copy →
+          (find is_chosen duplicates ≡ None) × (find (λ (c : PacketCopy). is_held c.verdict) duplicates ≡ Some one.copy)
+      by None e is = (e, is)
+      by (Some copy) e is =
+          let same : copy ≡ one.copy = cc in
+          let is_so : is_chosen one.copy ≡ true = ap is_chosen (sym same) ∙ find_passes is_chosen duplicates copy e in
+          let is_not : is_chosen one.copy ≡ false = unchosen in
+          absurd (cc)
+
+  only : (copies : List PacketCopy) → AllByRecursion (IsThere peers (plain ∷ duplicates)) copies → NoneChosen copies →
+      AllByRecursion (λ (copy : PacketCopy). is_chosen (after_release copy) ≡ true → copy ≡ one.copy) copies
+  only [] are none = tt
+  only (copy ∷ copies) are none = (here_only (eqb_tells copy.gateway gateway), only copies are.1 none.1)
+    where
+      here_only : (((copy.gateway == gateway) ≡ true) × (copy.gateway ≡ gateway)) ⊎ (((copy.gateway == gateway) ≡ false) × (copy.gateway ≢ gateway)) →
+          is_chosen (after_release copy) ≡ true → copy ≡ one.copy
+      here_only (inl is) is_so = at_gateway copy are.0 is.1
+      here_only (inr isnt) is_so =
+          let same : is_chosen (after_release copy) ≡ is_chosen copy =
+          ap (λ (b : Bool). is_chosen (if b then with_command (command_with Release number) copy else copy)) isnt.0 in
+          let is_not : is_chosen copy ≡ false = none.0 in
+          absurd (cc)
+
+  released_now : is_chosen (after_release one.copy) ≡ true
+  released_now =
+      ap (λ (b : Bool). is_chosen (if b then with_command (command_with Release number) one.copy else one.copy))
+      (find_passes (λ (c : PacketCopy). c.gateway == gateway) (plain ∷ duplicates) one.copy one.found)
+      ∙ ap (λ (c : Option Command). option_map_or (λ (command : Command). is_release command.order) (option_or c (Some (command_with Release number))) false) one.fresh
+
+  plain_stays : after_release plain ≡ plain
+  plain_stays = by (eqb_tells plain.gateway gateway)
+    where
+      by : (((plain.gateway == gateway) ≡ true) × (plain.gateway ≡ gateway)) ⊎ (((plain.gateway == gateway) ≡ false) × (plain.gateway ≢ gateway)) →
+          after_release plain ≡ plain
+      by (inl is) =
+          absurd (chosen_is (λ (other : PacketCopy). plain.gateway ≢ other.gateway) duplicates one.copy choice_is placed.apart.0 (is.1 ∙ sym place_is))
+      by (inr isnt) = ap (λ (b : Bool). if b then with_command (command_with Release number) plain else plain) isnt.0
+
+  chosen_released : is_chosen plain ≡ false → Chosen (map after_release (plain ∷ duplicates))
+  chosen_released plain_not =
+      let found : find is_chosen (map after_release duplicates) ≡ Some (after_release one.copy) =
+      find_only is_chosen after_release one.copy released_now duplicates (only duplicates there.1 (find_none is_chosen duplicates none_yet.0))
+      (λ (c : PacketCopy). is_held c.verdict) none_yet.1 in (
+        ap is_chosen plain_stays ∙ plain_not,
+        inr (record {
+          sealed = ap (λ (c : PacketCopy). c.verdict) plain_stays ∙ sealed_is;
+          firsts = each_map (λ (copy : PacketCopy). is_chosen (after_release copy) ≡ true → copy ≡ one.copy) (IsFirstChosen (map after_release duplicates)) after_release
+              (λ copy is is_so. found ∙ ap (λ (c : PacketCopy). Some (after_release c)) (sym (is is_so)))
+              duplicates (only duplicates there.1 (find_none is_chosen duplicates none_yet.0));
+        }),
+      )
+
+-- ---- all moves
+
+chosen_moved : (move : Move) (peers : List Peer) (copies : List PacketCopy) → IsPlaced peers copies → IsMove peers copies move → Chosen copies →
+    Chosen (copies_moved peers move copies)
+chosen_moved (Copying gateway) peers copies placed is chosen_was = chosen_push gateway (next_number peers gateway) copies chosen_was
+chosen_moved (Commanding gateway Cancel) peers copies placed is chosen_was =
+    chosen_map (commanded gateway (command_with Cancel (next_number peers gateway))) (cancel_keeps gateway (next_number peers gateway)) copies chosen_was
+chosen_moved (Commanding gateway Release) peers [] placed is chosen_was = tt
+chosen_moved (Commanding gateway Release) peers (plain ∷ duplicates) placed is chosen_was =
+    chosen_released peers plain duplicates placed gateway (next_number peers gateway) is.1 chosen_was.0
+
+abbrev AllChosen : List Peer → List PacketState → Type 0
+AllChosen peers packets = AllByRecursion (λ (packet : PacketState). Chosen packet.copies) packets
+
+all_moved : {peers : List Peer} {move : Move} {packets after : List PacketState} → AllKept peers packets → One peers move packets after →
+    AllByRecursion (λ (packet : PacketState). Chosen packet.copies) packets → AllByRecursion (λ (packet : PacketState). Chosen packet.copies) after
+all_moved {peers} {move} kept (here {packet} {packets} open_yet is) all = (chosen_moved move peers packet.copies kept.0.placed is all.0, all.1)
+all_moved kept (beyond one) all = (all.0, all_moved kept.1 one all.1)
+
+all_chosen : Closed AllChosen
+all_chosen = record {
+  anew = λ addresses. tt;
+  alike = λ peers other packets alike is. is;
+  pushed = λ peers packets number kept unrefused is. each_push (λ (packet : PacketState). Chosen packet.copies) packets (new_packet number) is tt;
+  moved = λ peers move packets after kept one is. all_moved kept one is;
+  heard = λ peers packets port gateway cause numbers kept is.
+      each_map (λ (packet : PacketState). Chosen packet.copies) (λ (packet : PacketState). Chosen packet.copies)
+      (while_open (packet_hearing port gateway cause numbers)) (hears port gateway cause numbers) packets is;
+}
+  where
+    hears : (port : Port) (gateway cause : ℕ) (numbers : List ℕ) (packet : PacketState) → Chosen packet.copies →
+        Chosen (while_open (packet_hearing port gateway cause numbers) packet).copies
+    hears port gateway cause numbers packet is = by (is_done packet.copies)
+      where
+        by : (done : Bool) → Chosen (if done then packet else packet_hearing port gateway cause numbers packet).copies
+        by true = is
+        by false = chosen_map (copy_hearing port gateway cause numbers) (hearing_keeps port gateway cause numbers) packet.copies is
+
+-- ---- the choice
+
+released_is_choice : (packet : PacketState) → Chosen packet.copies → ReleasesChoice packet
+released_is_choice packet is = All-from_recursion (λ copy. is_chosen copy ≡ true → IsChoice packet.copies copy.gateway copy.number) packet.copies
+    (by packet.copies refl is)
+  where
+    one_choice : (plain : PacketCopy) (duplicates : List PacketCopy) → packet.copies ≡ plain ∷ duplicates → OneChosen plain duplicates →
+        (copy : PacketCopy) → IsFirstChosen duplicates copy → is_chosen copy ≡ true → IsChoice packet.copies copy.gateway copy.number
+    one_choice plain duplicates whole one copy first is_so = record {
+      plain = plain;
+      duplicates = duplicates;
+      copy = copy;
+      whole = whole;
+      sealed = one.sealed;
+      choice = ap (λ (found : Option PacketCopy). option_or found (find (λ (c : PacketCopy). is_held c.verdict) duplicates)) (first is_so);
+      gateway_is = refl;
+      number_is = refl;
+    }
+
+    others : (plain : PacketCopy) (duplicates : List PacketCopy) → packet.copies ≡ plain ∷ duplicates → NoneChosen duplicates ⊎ OneChosen plain duplicates →
+        AllByRecursion (λ copy. is_chosen copy ≡ true → IsChoice packet.copies copy.gateway copy.number) duplicates
+    others plain duplicates whole (inl none) =
+        each_weaker (λ (copy : PacketCopy). is_chosen copy ≡ false) (λ copy. is_chosen copy ≡ true → IsChoice packet.copies copy.gateway copy.number)
+        (λ copy is_not is_so. absurd (cc)) duplicates none
+    others plain duplicates whole (inr one) =
+        each_weaker (IsFirstChosen duplicates) (λ copy. is_chosen copy ≡ true → IsChoice packet.copies copy.gateway copy.number)
+        (one_choice plain duplicates whole one) duplicates one.firsts
+
+    by : (copies : List PacketCopy) → packet.copies ≡ copies → Chosen copies →
+        AllByRecursion (λ copy. is_chosen copy ≡ true → IsChoice packet.copies copy.gateway copy.number) copies
+    by [] whole is = tt
+    by (plain ∷ duplicates) whole is = ((λ is_so. let is_not : is_chosen plain ≡ false = is.0 in absurd (cc)), others plain duplicates whole is.1)
+
+pub all_released_chosen : (setup : NodeSetup) (calls : List NodeCall) → 1 ≤ length setup.gateways → All ReleasesChoice (reached setup calls).packets
+all_released_chosen setup calls some =
+    let is = stands setup some AllChosen all_chosen calls in
+    All-from_recursion ReleasesChoice (reached setup calls).packets
+    (each_weaker (λ (packet : PacketState). Chosen packet.copies) ReleasesChoice released_is_choice (reached setup calls).packets is.law_holds)

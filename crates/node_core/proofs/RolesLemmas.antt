@@ -1,0 +1,267 @@
+-- Each number that is drawn is that of one copy, or of one release or cancel.
+use Rattle.std.proofs.Common.{◌≡◌, ◌≢◌, ℕ, zero, suc, ◌+◌, ◌<◌, ◌≤◌, ◌==◌, Bool, true, false, if◌then◌else◌, List, [], ◌∷◌, ◌++◌, length, map, Option, Some, None, option_map, refl, sym, ap, subst, ◌∙◌, arith, inl, inr}
+use Rattle.std.specs.List.{AllByRecursion}
+use Rattle.std.specs.Option.{option_or}
+use Rattle.std.proofs.lemmas.Bool.Decides.{eqb_tells}
+use Rattle.gw_base.specs.declared.address.Addr.{Addr}
+use Rattle.node_core.specs.declared.copy.Command.{Command}
+use Rattle.node_core.specs.declared.copy.PacketCopy.{PacketCopy}
+use Rattle.node_core.specs.declared.peer.Peer.{Peer}
+use Rattle.node_core.specs.declared.port.Port.{Port}
+use Rattle.node_core.specs.Copies.{command_hearing, copy_hearing, copy_hearing_own, new_copy}
+use Rattle.node_core.specs.Log.{NodeSetup}
+use Rattle.node_core.specs.Packets.{PacketState, commanded, is_done, packet_hearing, while_open, with_command}
+use Rattle.node_core.specs.Peers.{next_number, peer_anew}
+use Rattle.node_core.specs.Reached.{NodeCall, reached}
+use Rattle.node_core.specs.Roles.{HasOneRole, use_of, uses, uses_by_command, uses_by_copies, uses_by_copy}
+use Rattle.node_core.proofs.DueMoves.{AreApart}
+use Rattle.node_core.proofs.KeptLemmas.{AllKept}
+use Rattle.node_core.proofs.Moves.{Copying, Commanding, IsMove, Move, One, are_none, beyond, command_with, copies_moved, find_at, here, length_drawn, next_drawn, next_drawn_other, peers_moved, place}
+use Rattle.node_core.proofs.ReachedLemmas.{Closed, new_packet, stands}
+use Rattle.node_core.proofs.WeightLemmas.{one_within}
+
+-- ---- a packet
+
+uses_push : (gateway number : ℕ) (copies : List PacketCopy) (copy : PacketCopy) →
+    uses_by_copies gateway number (copies ++ copy ∷ []) ≡ uses_by_copies gateway number copies + uses_by_copy gateway number copy
+uses_push gateway number [] copy = omega arith
+uses_push gateway number (first ∷ copies) copy = omega (arith, uses_push gateway number copies copy)
+
+here_uses : (gateway number : ℕ) (copy : PacketCopy) → copy.gateway ≡ gateway →
+    uses_by_copy gateway number copy ≡ use_of number copy.number + uses_by_command number copy.command
+here_uses gateway number copy same = elim (eqb_tells copy.gateway gateway) [ inl is ↦ rw is.0 refl | inr isnt ↦ absurd (isnt.1 same) ]
+
+there_uses : (gateway number : ℕ) (copy : PacketCopy) → copy.gateway ≢ gateway → uses_by_copy gateway number copy ≡ 0
+there_uses gateway number copy apart = elim (eqb_tells copy.gateway gateway) [ inl is ↦ absurd (apart is.1) | inr isnt ↦ rw isnt.0 refl ]
+
+-- copies elsewhere stay as they are
+map_same : (gateway : ℕ) (command : Command) (copies : List PacketCopy) → AllByRecursion (λ (copy : PacketCopy). gateway ≢ copy.gateway) copies →
+    map (commanded gateway command) copies ≡ copies
+map_same gateway command [] apart = refl
+map_same gateway command (copy ∷ copies) apart =
+    elim (eqb_tells copy.gateway gateway) [
+      | inl is ↦ absurd (apart.0 (sym is.1))
+      | inr isnt ↦ rw isnt.0 (ap (λ (cs : List PacketCopy). copy ∷ cs) (map_same gateway command copies apart.1))
+    ]
+
+command_uses : (gateway number : ℕ) (command : Command) (copies : List PacketCopy) (copy : PacketCopy) → AreApart copies → find_at gateway copies ≡ Some copy →
+    copy.command ≡ None →
+    uses_by_copies gateway number (map (commanded gateway command) copies) ≡ uses_by_copies gateway number copies + use_of number command.number
+command_uses gateway number command [] copy apart found fresh = absurd (cc)
+command_uses gateway number command (first ∷ copies) copy apart found fresh =
+    elim (eqb_tells first.gateway gateway) [
+      | inl is ↦
+          let at : Some first ≡ Some copy = rw is.0 at found in
+          let same : first ≡ copy = cc in
+          let fresh_first : first.command ≡ None = ap (λ (c : PacketCopy). c.command) same ∙ fresh in
+          let rest : map (commanded gateway command) copies ≡ copies =
+          map_same gateway command copies (subst (λ (g : ℕ). AllByRecursion (λ (c : PacketCopy). g ≢ c.gateway) copies) is.1 apart.0) in
+          let head : commanded gateway command first ≡ with_command command first =
+          ap (λ (b : Bool). if b then with_command command first else first) is.0 in
+          let after : uses_by_copy gateway number (with_command command first)
+          ≡ use_of number first.number + uses_by_command number (option_or first.command (Some command)) =
+          here_uses gateway number (with_command command first) is.1 in
+          let filled : uses_by_command number (option_or first.command (Some command)) ≡ use_of number command.number =
+          ap (λ (c : Option Command). uses_by_command number (option_or c (Some command))) fresh_first in
+          let before : uses_by_copy gateway number first ≡ use_of number first.number + uses_by_command number first.command = here_uses gateway number first is.1 in
+          let empty : uses_by_command number first.command ≡ 0 = ap (uses_by_command number) fresh_first in
+          omega (arith, ap (uses_by_copy gateway number) head, ap (uses_by_copies gateway number) rest, after, filled, before, empty)
+      | inr isnt ↦
+          let head : commanded gateway command first ≡ first = ap (λ (b : Bool). if b then with_command command first else first) isnt.0 in
+          omega (
+            arith,
+            ap (uses_by_copy gateway number) head,
+            command_uses gateway number command copies copy apart.1 (rw isnt.0 at found) fresh,
+          )
+    ]
+
+command_uses_other : (gateway other number : ℕ) (command : Command) (copies : List PacketCopy) → gateway ≢ other →
+    uses_by_copies other number (map (commanded gateway command) copies) ≡ uses_by_copies other number copies
+command_uses_other gateway other number command [] apart = refl
+command_uses_other gateway other number command (copy ∷ copies) apart =
+    omega (arith, one, command_uses_other gateway other number command copies apart)
+  where
+    one : uses_by_copy other number (commanded gateway command copy) ≡ uses_by_copy other number copy
+    one = elim (eqb_tells copy.gateway gateway) [
+      | inl is ↦
+          let elsewhere : copy.gateway ≢ other = λ e. apart (sym is.1 ∙ e) in
+          let head : commanded gateway command copy ≡ with_command command copy =
+          ap (λ (b : Bool). if b then with_command command copy else copy) is.0 in
+          ap (uses_by_copy other number) head ∙ there_uses other number (with_command command copy) elsewhere ∙ sym (there_uses other number copy elsewhere)
+      | inr isnt ↦ ap (uses_by_copy other number) (ap (λ (b : Bool). if b then with_command command copy else copy) isnt.0)
+    ]
+
+copies_uses : (move : Move) (peers : List Peer) (copies : List PacketCopy) (number : ℕ) → AreApart copies → IsMove peers copies move →
+    uses_by_copies (place move) number (copies_moved peers move copies)
+    ≡ uses_by_copies (place move) number copies + use_of number (next_number peers (place move))
+copies_uses (Copying gateway) peers copies number apart is =
+    let copy : PacketCopy = new_copy gateway (next_number peers gateway) (are_none copies) in
+    omega (arith, uses_push gateway number copies copy, here_uses gateway number copy refl)
+copies_uses (Commanding gateway order) peers copies number apart is =
+    command_uses gateway number (command_with order (next_number peers gateway)) copies is.1.copy apart is.1.found is.1.fresh
+
+copies_uses_other : (move : Move) (peers : List Peer) (copies : List PacketCopy) (gateway number : ℕ) → place move ≢ gateway →
+    uses_by_copies gateway number (copies_moved peers move copies) ≡ uses_by_copies gateway number copies
+copies_uses_other (Copying there) peers copies gateway number apart =
+    let copy : PacketCopy = new_copy there (next_number peers there) (are_none copies) in
+    omega (arith, uses_push gateway number copies copy, there_uses gateway number copy apart)
+copies_uses_other (Commanding there order) peers copies gateway number apart =
+    command_uses_other there gateway number (command_with order (next_number peers there)) copies apart
+
+-- ---- all packets
+
+uses_moved : {peers : List Peer} {move : Move} {packets after : List PacketState} (number : ℕ) → AllKept peers packets → One peers move packets after →
+    uses (place move) number after ≡ uses (place move) number packets + use_of number (next_number peers (place move))
+uses_moved {peers} {move} number kept (here {packet} {packets} open_yet is) =
+    omega (arith, copies_uses move peers packet.copies number kept.0.placed.apart is)
+uses_moved number kept (beyond one) = omega (arith, uses_moved number kept.1 one)
+
+uses_moved_other : {peers : List Peer} {move : Move} {packets after : List PacketState} (gateway number : ℕ) → place move ≢ gateway → One peers move packets after →
+    uses gateway number after ≡ uses gateway number packets
+uses_moved_other {peers} {move} gateway number apart (here {packet} {packets} open_yet is) =
+    omega (arith, copies_uses_other move peers packet.copies gateway number apart)
+uses_moved_other gateway number apart (beyond one) = omega (arith, uses_moved_other gateway number apart one)
+
+uses_pushed : (gateway number : ℕ) (packets : List PacketState) (new : ℕ) → uses gateway number (packets ++ new_packet new ∷ []) ≡ uses gateway number packets
+uses_pushed gateway number [] new = omega arith
+uses_pushed gateway number (packet ∷ packets) new = omega (arith, uses_pushed gateway number packets new)
+
+module _ (port : Port) (heard_gateway cause : ℕ) (numbers : List ℕ) (gateway number : ℕ) where
+  copy_heard : (copy : PacketCopy) → uses_by_copy gateway number (copy_hearing port heard_gateway cause numbers copy) ≡ uses_by_copy gateway number copy
+  copy_heard copy = by (copy.gateway == heard_gateway)
+    where
+      command_heard : (command : Option Command) → uses_by_command number (option_map (command_hearing cause numbers) command) ≡ uses_by_command number command
+      command_heard None = refl
+      command_heard (Some command) = refl
+
+      by : (is : Bool) → uses_by_copy gateway number (if is then copy_hearing_own port cause numbers copy else copy) ≡ uses_by_copy gateway number copy
+      by true = ap (λ (n : ℕ). if copy.gateway == gateway then use_of number copy.number + n else 0) (command_heard copy.command)
+      by false = refl
+
+  copies_heard : (copies : List PacketCopy) → uses_by_copies gateway number (map (copy_hearing port heard_gateway cause numbers) copies) ≡ uses_by_copies gateway number copies
+  copies_heard [] = refl
+  copies_heard (copy ∷ copies) = omega (arith, copy_heard copy, copies_heard copies)
+
+  uses_heard : (packets : List PacketState) →
+      uses gateway number (map (while_open (packet_hearing port heard_gateway cause numbers)) packets) ≡ uses gateway number packets
+  uses_heard [] = refl
+  uses_heard (packet ∷ packets) = omega (arith, one (is_done packet.copies), uses_heard packets)
+    where
+      one : (is : Bool) → uses_by_copies gateway number (if is then packet else packet_hearing port heard_gateway cause numbers packet).copies
+          ≡ uses_by_copies gateway number packet.copies
+      one true = refl
+      one false = copies_heard packet.copies
+
+-- ---- one use each
+
+pub record OneUse (peers : List Peer) (packets : List PacketState) (gateway number : ℕ) : Type 0 where
+  pub first : 65536 ≤ next_number peers gateway
+  pub before : number < 65536 → uses gateway number packets ≡ 0
+  pub drawn : 65536 ≤ number → number < next_number peers gateway → uses gateway number packets ≡ 1
+  pub behind : next_number peers gateway ≤ number → uses gateway number packets ≡ 0
+
+abbrev pub OneUses : List Peer → List PacketState → Type 0
+OneUses peers packets = (gateway number : ℕ) → gateway < length peers → OneUse peers packets gateway number
+
+anew_next : (addresses : List Addr) (gateway : ℕ) → next_number (map peer_anew addresses) gateway ≡ 65536
+anew_next [] gateway = refl
+anew_next (address ∷ addresses) zero = refl
+anew_next (address ∷ addresses) (suc gateway) = anew_next addresses gateway
+
+use_same : (number : ℕ) → use_of number number ≡ 1
+use_same number = elim (eqb_tells number number) [ inl is ↦ rw is.0 refl | inr isnt ↦ absurd (isnt.1 refl) ]
+
+use_other : (number other : ℕ) → other ≢ number → use_of number other ≡ 0
+use_other number other apart = elim (eqb_tells other number) [ inl is ↦ absurd (apart is.1) | inr isnt ↦ rw isnt.0 refl ]
+
+one_moved : (peers : List Peer) (move : Move) (packets after : List PacketState) → AllKept peers packets → One peers move packets after →
+    OneUses peers packets → OneUses (peers_moved move peers) after
+one_moved peers move packets after kept one is gateway number below =
+    let within : gateway < length peers = omega (arith, below, length_drawn (place move) (next_number peers (place move)) peers) in
+    elim (eqb_tells (place move) gateway) [
+      | inl same ↦ subst (λ (g : ℕ). OneUse (peers_moved move peers) after g number) same.1
+          (there (subst (λ (g : ℕ). OneUse peers packets g number) (sym same.1) (is gateway number within)))
+      | inr differs ↦
+          let next : next_number (peers_moved move peers) gateway ≡ next_number peers gateway =
+          next_drawn_other (place move) (next_number peers (place move)) gateway peers differs.1 in
+          let many : uses gateway number after ≡ uses gateway number packets = uses_moved_other gateway number differs.1 one in
+          let was : OneUse peers packets gateway number = is gateway number within in
+          record {
+            first = omega (arith, was.first, next);
+            before = λ low. many ∙ was.before low;
+            drawn = λ from to. many ∙ was.drawn from (omega (arith, to, next));
+            behind = λ high. many ∙ was.behind (omega (arith, high, next));
+          }
+    ]
+  where
+    there : OneUse peers packets (place move) number → OneUse (peers_moved move peers) after (place move) number
+    there was =
+        let next : next_number (peers_moved move peers) (place move) ≡ suc (next_number peers (place move)) = next_drawn (place move) _ peers (one_within one) in
+        let many : uses (place move) number after ≡ uses (place move) number packets + use_of number (next_number peers (place move)) = uses_moved number kept one in
+        elim (eqb_tells (next_number peers (place move)) number) [
+          | inl same ↦
+              let used : use_of number (next_number peers (place move)) ≡ 1 = ap (use_of number) same.1 ∙ use_same number in
+              record {
+                first = omega (arith, was.first, next);
+                before = λ low. absurd (omega (arith, low, same.1, was.first));
+                drawn = λ from to. omega (arith, many, used, was.behind (omega (arith, same.1)));
+                behind = λ high. absurd (omega (arith, high, next, same.1));
+              }
+          | inr differs ↦
+              let unused : use_of number (next_number peers (place move)) ≡ 0 = use_other number (next_number peers (place move)) differs.1 in
+              let apart : next_number peers (place move) ≢ number = differs.1 in
+              record {
+                first = omega (arith, was.first, next);
+                before = λ low. omega (arith, many, unused, was.before low);
+                drawn = λ from to. omega (arith, many, unused, was.drawn from (omega (arith, to, next, apart)));
+                behind = λ high. omega (arith, many, unused, was.behind (omega (arith, high, next)));
+              }
+        ]
+
+pub one_use : Closed OneUses
+one_use = record {
+  anew = λ addresses gateway number below.
+      let next : next_number (map peer_anew addresses) gateway ≡ 65536 = anew_next addresses gateway in
+      record {
+        first = omega (arith, next);
+        before = λ low. refl;
+        drawn = λ from to. absurd (omega (arith, next, from, to));
+        behind = λ high. refl;
+      };
+  alike = λ peers other packets alike is gateway number below.
+      let was : OneUse peers packets gateway number = is gateway number (omega (arith, below, alike.size)) in
+      let next : next_number other gateway ≡ next_number peers gateway = alike.numbers gateway in
+      record {
+        first = omega (arith, was.first, next);
+        before = was.before;
+        drawn = λ from to. was.drawn from (omega (arith, to, next));
+        behind = λ high. was.behind (omega (arith, high, next));
+      };
+  pushed = λ peers packets new kept unrefused is gateway number below.
+      let was : OneUse peers packets gateway number = is gateway number below in
+      let many : uses gateway number (packets ++ new_packet new ∷ []) ≡ uses gateway number packets = uses_pushed gateway number packets new in
+      record {
+        first = was.first;
+        before = λ low. many ∙ was.before low;
+        drawn = λ from to. many ∙ was.drawn from to;
+        behind = λ high. many ∙ was.behind high;
+      };
+  moved = one_moved;
+  heard = λ peers packets port heard_gateway cause numbers kept is gateway number below.
+      let was : OneUse peers packets gateway number = is gateway number below in
+      let many : uses gateway number (map (while_open (packet_hearing port heard_gateway cause numbers)) packets) ≡ uses gateway number packets =
+      uses_heard port heard_gateway cause numbers gateway number packets in
+      record {
+        first = was.first;
+        before = λ low. many ∙ was.before low;
+        drawn = λ from to. many ∙ was.drawn from to;
+        behind = λ high. many ∙ was.behind high;
+      };
+}
+
+pub one_role : (setup : NodeSetup) (calls : List NodeCall) (gateway number : ℕ) → 1 ≤ length setup.gateways → gateway < length setup.gateways →
+    HasOneRole (reached setup calls) gateway number
+one_role setup calls gateway number some within =
+    let is = stands setup some OneUses one_use calls in
+    let one : OneUse (reached setup calls).gateways (reached setup calls).packets gateway number = is.law_holds gateway number (omega (arith, within, is.size)) in
+    record { before = one.before; drawn = one.drawn; behind = one.behind }

@@ -1,0 +1,5 @@
+use Rattle.node_core.proofs.ChoosingLemmas.{release_is_of_choice}
+use Rattle.node_core.proofs.laws.releases_name_the_choice.Goals as goal
+
+pub returns : goal.returns
+returns c = release_is_of_choice

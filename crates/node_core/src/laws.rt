@@ -1,0 +1,90 @@
+//! Laws of nodes. Each stands on a function that does nothing, and holds for every log, or for every
+//! log that a node has after any calls.
+
+ghost use Rattle.std.specs.Prelude.{◌≡◌, ℕ, ◌≤◌, ◌<◌, ◌+◌, Bool, true, List, ◌∷◌, All, Contains, length};
+ghost use Rattle.std.specs.List.{flat_map};
+ghost use Rattle.node_core.specs.declared.copy.Order.TheVariants as order;
+ghost use Rattle.node_core.specs.declared.sending.Sending.TheVariants as send;
+ghost use Rattle.node_core.specs.Choosing.{IsChoiceOf, ReleasesChoice};
+ghost use Rattle.node_core.specs.Growing.{Extends, PacketGrows, is_within_start};
+ghost use Rattle.node_core.specs.Log.{LogEntry, NodeSetup, packets_of};
+ghost use Rattle.node_core.specs.Nearness.{ComesSoon, HasCopy, HasOpenCopy, IsCopyOrBase, all_unsettled_at};
+ghost use Rattle.node_core.specs.Peers.{next_number};
+ghost use Rattle.node_core.specs.Reached.{NodeCall, reached};
+ghost use Rattle.node_core.specs.Resting.{AllRestOn, since_start};
+ghost use Rattle.node_core.specs.Roles.{HasOneRole, IsSingle};
+ghost use Rattle.node_core.specs.Submitting.{least, unsettled_at};
+ghost use Rattle.node_core.specs.Ticks.{due};
+ghost use Rattle.node_core.specs.Value.{NodeValue};
+
+/// What a node knows of a copy, and that a release or a cancel is fulfilled, was told by a response
+/// that it heard since its start from the copy's gateway and that names just this number.
+pub fn knowledge_rests_on_responses()
+    ensures { (log : List LogEntry) → All (AllRestOn (since_start log)) (packets_of log) }
+{}
+
+/// Within a start packets and copies stay, what is known of them stays, and what is resolved or done
+/// stays so.
+pub fn knowledge_grows()
+    ensures { (entry : LogEntry) (log : List LogEntry) → is_within_start entry ≡ true →
+        Extends PacketGrows (packets_of log) (packets_of (entry ∷ log)) }
+{}
+
+/// A release that is due names the chosen duplicate of a packet whose first copy is sealed.
+pub fn releases_name_the_choice()
+    ensures { (node : NodeValue) (packet gateway named number : ℕ) (is_new : Bool) →
+        Contains (due node) (send.Command packet gateway named number order.Release is_new) →
+        IsChoiceOf node.packets packet gateway named }
+{}
+
+/// A copy for which a release was sent stays the choice of its packet, whose first copy is sealed.
+pub fn released_copies_are_chosen()
+    ensures { (setup : NodeSetup) (calls : List NodeCall) → 1 ≤ length setup.gateways →
+        All ReleasesChoice (reached setup calls).packets }
+{}
+
+/// A packet has one copy at a gateway, the first alone is plain, and a release or a cancel has a
+/// greater number than its copy.
+pub fn a_gateway_gets_one_copy()
+    ensures { (setup : NodeSetup) (calls : List NodeCall) → 1 ≤ length setup.gateways →
+        All (IsSingle (reached setup calls).gateways) (reached setup calls).packets }
+{}
+
+/// Each request number that was drawn for a gateway since the start is that of one copy, or of one
+/// release or cancel.
+pub fn each_number_has_one_role()
+    ensures { (setup : NodeSetup) (calls : List NodeCall) (gateway number : ℕ) → 1 ≤ length setup.gateways →
+        gateway < length setup.gateways → HasOneRole (reached setup calls) gateway number }
+{}
+
+/// At each gateway the number of an open packet's copy is at most 16,511 below the next one.
+pub fn open_numbers_stay_near()
+    ensures { (setup : NodeSetup) (calls : List NodeCall) (gateway number : ℕ) → 1 ≤ length setup.gateways →
+        gateway < length setup.gateways → HasOpenCopy (reached setup calls).packets gateway number →
+        next_number (reached setup calls).gateways gateway ≤ number + 16511 }
+{}
+
+/// Behind the number of each copy, and behind 65,535, the number of another copy comes within 65, or
+/// the next number does.
+pub fn copies_come_soon()
+    ensures { (setup : NodeSetup) (calls : List NodeCall) (gateway number : ℕ) → 1 ≤ length setup.gateways →
+        gateway < length setup.gateways → IsCopyOrBase (reached setup calls) gateway number →
+        ComesSoon (reached setup calls) gateway number }
+{}
+
+/// Where all copies of a gateway with greater numbers than this one are of open packets, the next
+/// number is at most 16,576 above it.
+pub fn numbers_stay_near_the_last_settled()
+    ensures { (setup : NodeSetup) (calls : List NodeCall) (gateway number : ℕ) → 1 ≤ length setup.gateways →
+        gateway < length setup.gateways → IsCopyOrBase (reached setup calls) gateway number →
+        ((later : ℕ) → HasCopy (reached setup calls).packets gateway later → number < later →
+        HasOpenCopy (reached setup calls).packets gateway later) →
+        next_number (reached setup calls).gateways gateway ≤ number + 16576 }
+{}
+
+/// The least number of the open packets' copies at a gateway is the least of all their numbers there.
+pub fn the_least_number_is_of_a_copy()
+    ensures { (setup : NodeSetup) (calls : List NodeCall) (gateway number : ℕ) → 1 ≤ length setup.gateways →
+        least number (flat_map (unsettled_at gateway) (reached setup calls).packets)
+        ≡ least number (flat_map (all_unsettled_at gateway) (reached setup calls).packets) }
+{}
