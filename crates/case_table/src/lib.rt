@@ -1,4 +1,9 @@
 //! Tables of cases: rows under keys, of which no two are the same.
+//!
+//! The model of a table is the list of its rows, `specs/Rows.antt`; the contract of `find` is that
+//! it searches that list.
+//!
+//!     let row = cases![1 => 10, 0; 2 => 20, 1].find(2);
 #![tactic(auto)]
 
 ghost use Rattle.std.specs.Prelude.{◌≡◌, ◌≢◌, ℕ, ◌↔◌, true, All, Contains, IfOk, IfSome, IsNone, is_ok};

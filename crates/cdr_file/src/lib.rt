@@ -1,8 +1,13 @@
 //! CDR files (3GPP TS 32.297, clause 6.1): the header of a file, the header of each CDR in it, the
 //! timestamps that they carry, and why a file was closed; reading a file, and listing it.
 //!
-//! The octets of a whole file are `file_octets` of `specs/CdrFile.antt`: the header of the file, and
-//! then each CDR after its own header. `Spells` of `specs/Spelling.antt` says which octets are a file.
+//! The octets of a whole file are `file_octets` of `specs/CdrFile.antt`: the header of the file,
+//! and then each CDR after its own header. `Spells` of `specs/Spelling.antt` says which octets are
+//! a file. The contract of `read` is that it reads just these, and else tells the first fault with
+//! its place.
+//!
+//!     let header = run_header(run, sequence, ClosureReason::Manual, offset, address);
+//!     let file = read(alloc, &octets)?;
 #![tactic(auto)]
 
 mod cdr_header;

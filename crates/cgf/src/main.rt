@@ -1,5 +1,8 @@
 //! The program: it makes the real input and output, hands them to the top call, and tells how that
 //! ended.
+//!
+//! It has no model of its own. Its adapters over readers and writers keep the promises of `Source`
+//! and `Sink`, and tell what these told; the exit code is the number of the status.
 #![tactic(auto)]
 
 ghost use Rattle.std.specs.Prelude.{◌≡◌, ◌≢◌};

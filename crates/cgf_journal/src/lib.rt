@@ -1,4 +1,14 @@
 //! A gateway's history on a journal: the entries that stand, and those that wait for a commit.
+//!
+//! The model is a list of entries with its firm front, `specs/Trail.antt`; `specs/Format.antt` says
+//! which octets of an area stand for it. The contract is that of `Trail::commit`: a crash at any
+//! moment leaves the firm entries, or all, and after `Ok` all.
+//!
+//!     let mut trail = Trail::open(alloc, area, address)?;
+//!     if trail.room(&entry) {
+//!         trail.push(&entry)?;
+//!     }
+//!     trail.commit()?;
 #![tactic(auto)]
 
 mod contents;

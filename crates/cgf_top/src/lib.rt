@@ -1,4 +1,10 @@
 //! The job of the program, over any source and any sink.
+//!
+//! The model is the octets of an input, a script or a CDR file, and what is printed for them:
+//! `report_of` of `specs/Run.antt`. The contract is that of `run_cgf`: what is written is the
+//! report of what was read.
+//!
+//!     let status = run_cgf(alloc, &words, &mut source, &mut sink);
 #![tactic(auto)]
 
 ghost use Rattle.std.specs.Prelude.{◌≡◌, ◌≢◌, ◌<◌, ◌↔◌, List, true, false, None, Ok, Err, IfOk, OnOk, length, map, string_bytes};

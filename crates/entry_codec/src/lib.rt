@@ -1,5 +1,13 @@
 //! Entries of a gateway's history as octets of its journal: each has one spelling, and none is the
 //! beginning of another's.
+//!
+//! The model is `HistoryEntry` of `gw_base`; `specs/Spelling.antt` has its octets, and
+//! `specs/Room.antt` which entries a journal has room for. The contract of `read` is that it gives
+//! the one entry that the octets begin with, or the first octet at which it is certain that there
+//! is none.
+//!
+//!     write(&entry, &mut buffer)?;
+//!     let (entry, length) = read(octets, &mut numbers)?;
 #![tactic(auto)]
 
 ghost use Rattle.std.specs.Prelude.{◌≡◌, ◌≤◌, ◌*◌, length, take, IfOk, IfErr, OnErr};

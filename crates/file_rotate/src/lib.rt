@@ -1,7 +1,12 @@
 //! When the CDR file of one stream of records is closed, and why (3GPP TS 32.297, clause 6.1.1).
 //!
 //! The records of a stream are cut into files one after the other: `division_of` of
-//! `specs/Division.antt` says which file has which records.
+//! `specs/Division.antt` says which file has which records. The contract of a `Cutter` is that its
+//! answers, over any items, mark that division.
+//!
+//!     let mut cutter = Cutter::new(limits);
+//!     let cut = cutter.put(kind, length, moment);
+//!     // cut says whether a file is closed before the record, and whether one is after it
 #![tactic(auto)]
 
 mod cut;

@@ -1,4 +1,7 @@
+-- what public clauses cite
 pub mod Elements
 pub mod Numbers
+-- a step of proofs
 pub mod Parsed
+-- what public clauses cite
 pub mod Reading

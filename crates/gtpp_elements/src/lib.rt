@@ -1,5 +1,12 @@
-//! The information elements of GTP' messages (3GPP TS 32.295, clause 6.2), lent from the octets
-//! of a message without a copy.
+//! The information elements of GTP' messages (3GPP TS 32.295, clause 6.2), lent from the octets of
+//! a message without a copy.
+//!
+//! The model is a list of `Element`, a type and a value; `specs/Elements.antt` says which octets
+//! spell it. The contract of `read` is that the body spells just these elements, or that this is
+//! its first fault.
+//!
+//!     let elements = read(body)?;
+//!     let command = elements.first(element_types::COMMAND);
 #![tactic(auto)]
 
 mod element;

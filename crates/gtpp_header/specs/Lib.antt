@@ -1,2 +1,3 @@
+-- Public clauses cite both.
 pub mod Header
 pub mod Reading

@@ -1,5 +1,12 @@
-//! The header of GTP', the protocol that carries charging data records to a charging gateway
-//! (3GPP TS 32.295, clause 6.1). Six octets stand before the payload of each message.
+//! The header of GTP', the protocol that carries charging data records to a charging gateway (3GPP
+//! TS 32.295, clause 6.1). Six octets stand before the payload of each message.
+//!
+//! The model is `Header`, three numbers; `specs/Header.antt` says which octets spell it, and
+//! `specs/Reading.antt` in which order they are tested. The contract of `read` is that the first
+//! test that fails decides, and that what it reads the octets spell.
+//!
+//!     let header = read(datagram)?;
+//!     let payload = &datagram[HEADER_OCTETS..HEADER_OCTETS + usize::from(header.length)];
 #![tactic(auto)]
 
 ghost use Rattle.std.specs.Prelude.{◌≡◌, ℕ, ◌+◌, ◌≤◌, ◌↔◌, IsTrue, IfOk, length};

@@ -1,3 +1,4 @@
+-- What public clauses cite.
 pub mod Message
 pub mod Names
 pub mod Packet

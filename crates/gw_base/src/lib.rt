@@ -1,5 +1,13 @@
 //! The types that all crates of the gateway share, and the traits of the outside: an input, an
 //! output, a clock, and what a fault of each looks like.
+//!
+//! The model is a gateway's history, a list of `HistoryEntry`: `specs/History.antt` says what it
+//! tells of epochs, key states and held copies. The contract of `scan` is that each of its
+//! functions is that definition; that of `Source`, `Sink` and `Clock`, that a fault comes only
+//! where the count of faults rose.
+//!
+//!     let epoch = scan::epoch(&history, node);
+//!     let state = scan::state(&history, PacketKey { node, epoch, number });
 #![tactic(auto)]
 
 mod act;

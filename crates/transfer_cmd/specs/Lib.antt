@@ -1,3 +1,4 @@
+-- What public clauses cite.
 pub mod Lists
 pub mod Table
 -- Steps of the proof.
