@@ -22,6 +22,8 @@ mod nodes;
 mod observe;
 mod observed;
 mod opening;
+#[cfg(test)]
+mod opening_tests;
 mod outcome;
 mod plain;
 #[cfg(test)]
