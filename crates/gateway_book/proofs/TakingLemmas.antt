@@ -2,54 +2,49 @@
 use Rattle.std.proofs.Common.{◌≡◌, ◌≢◌, ℕ, ◌+◌, ◌*◌, ◌^◌, ◌<◌, ◌≤◌, max, Bool, true, false, if◌then◌else◌, List, [], ◌∷◌, ◌++◌, Option, Some, None, length, refl, sym, ap, subst, ◌∙◌, append_assoc, arith}
 use Rattle.area_disk.specs.declared.area.Area.{Ghosts}
 use Rattle.gate_journal.specs.Moments.{Told}
+use Rattle.cgf_journal.specs.Outcomes.{FirmStays}
 use Rattle.cgf_journal.specs.Trail.{area_of, entries, firm_entries, is_closed, waiting}
 use Rattle.cgf_journal.specs.declared.trail.Trail.{Trail}
-use Rattle.entry_codec.specs.Room.{IsWithin, costs_of, has_room}
+use Rattle.entry_codec.specs.Room.{has_room}
 use Rattle.gtpp_message.specs.Message.{MessageValue}
 use Rattle.gtpp_message.specs.declared.reading.Why.{Why}
 use Rattle.gw_base.specs.History.{moment_after}
 use Rattle.gw_base.specs.Observed.{observed}
 use Rattle.gw_base.specs.declared.address.Addr.{Addr}
-use Rattle.gw_base.specs.declared.address.NodeId.{NodeId}
 use Rattle.gw_base.specs.declared.history.Caller.{Caller}
 use Rattle.gw_base.specs.declared.history.HistoryAct.{HistoryAct}
 use Rattle.gw_base.specs.declared.history.HistoryEntry.{HistoryEntry}
-use Rattle.gateway_book.specs.Adding.{AddsIf, AreKept, IsAdded, IsSame, entry_of, room_told}
-use Rattle.gateway_book.specs.Answer.{Decided, Given, Drops, Replies, Says, Silent, answer_by, decided, node_of}
-use Rattle.gateway_book.specs.Answered.{answer_to, entry_by, room_for}
-use Rattle.gateway_book.specs.Fit.{IsFit}
+use Rattle.gateway_book.specs.Adding.{AddsIf, AreKept, IsAdded, IsSame, entry_of, room_in, room_told}
+use Rattle.gateway_book.specs.Answer.{Decided, Given, Drops, Replies, Says, Silent, answer_by, decided, failure_answer, node_of}
+use Rattle.gateway_book.specs.Answered.{act_decided, answer_to, entry_by, room_for}
+use Rattle.gateway_book.specs.Calls.{Left, given_at, left_by, outcome_at, taken}
+use Rattle.gateway_book.specs.Fit.{IsFit, latest_moment}
 use Rattle.gateway_book.specs.FitHistory.{AllFit}
-use Rattle.gateway_book.specs.FitLaws.{room_is_for_each}
+use Rattle.gateway_book.specs.FitHistoryLaws.{last_is_in_range}
+use Rattle.gateway_book.specs.FitLaws.{answer_fits, room_is_for_each}
 use Rattle.gateway_book.specs.Followed.{IsFollowed, all_entries}
 use Rattle.gateway_book.specs.Index.{Follows, observed_by}
-use Rattle.gateway_book.specs.Preparing.{PreparedValue}
+use Rattle.gateway_book.specs.Preparing.{IsWhole, PreparedValue, Drop, OtherVersion, Refused, Path, Request}
 use Rattle.gateway_book.specs.Recording.{IfRecords}
-use Rattle.gateway_book.specs.Value.{BookValue, history_of, recorded_if}
+use Rattle.gateway_book.specs.Taking.{IsDone}
+use Rattle.gateway_book.specs.Value.{BookValue, Fortune, history_of, readied, recorded_if}
 use Rattle.gateway_book.specs.declared.adding.Done.{Done}
 use Rattle.gateway_book.specs.declared.adding.Done.TheVariants as done
 use Rattle.gateway_book.specs.declared.index.Index.{Index}
+use Rattle.gateway_book.specs.declared.outcome.Outcome.{Outcome}
+use Rattle.gateway_book.specs.declared.outcome.Outcome.TheVariants as outcome
 use Rattle.gateway_book.proofs.BookLemmas.{fit_more}
-
-costs_long : (h : List HistoryEntry) → 30 * length h ≤ costs_of h
-costs_long [] = omega arith
-costs_long (e ∷ h) = omega (arith, costs_long h)
-
--- a history within the capacity of an area may grow
-grows : (size : ℕ) (h : List HistoryEntry) → IsWithin h size → size ≤ 268435456 → length h + 2 < 2 ^ 64
-grows size h within short = omega (arith, within, short, costs_long h)
-
-abbrev pub WithinLaw : Type 0
-WithinLaw = (size : ℕ) (h : List HistoryEntry) → AllFit size h → IsWithin h size
+use Rattle.gateway_book.proofs.Openings.{fit_may_grow}
 
 module _ {A : Type 0} {tells : Ghosts A} (old new : Trail A tells) (before after : Index) where
   same_area : area_of new ≡ area_of old → tells.size (area_of new) ≡ tells.size (area_of old)
   same_area e = ap tells.size e
 
-  pub followed_added : WithinLaw → (e : HistoryEntry) → IsFollowed old before → IsAdded old new before after e → (Told tells → IsFit (tells.size (area_of old)) (all_entries old) e) → IsFollowed new after
-  followed_added within e followed added fits = record {
+  pub followed_added : (e : HistoryEntry) → IsFollowed old before → IsAdded old new before after e → (Told tells → IsFit (tells.size (area_of old)) (all_entries old) e) → IsFollowed new after
+  followed_added e followed added fits = record {
     short = subst (λ (n : ℕ). n ≤ 268435456) (sym (same_area added.stays.area)) followed.short;
     firm = λ told. subst (λ (h : List HistoryEntry). Follows true after h) (sym added.stays.listed) (added.firm (firm_entries old) (followed.firm told));
-    live = λ told. subst (λ (h : List HistoryEntry). Follows false after h) (sym all) (added.live (all_entries old) (grows (tells.size (area_of old)) (all_entries old) (within (tells.size (area_of old)) (all_entries old) (followed.fit told)) followed.short) (followed.live told));
+    live = λ told. subst (λ (h : List HistoryEntry). Follows false after h) (sym all) (added.live (all_entries old) (fit_may_grow (tells.size (area_of old)) (all_entries old) followed.short (followed.fit told)) (followed.live told));
     fit = λ told. subst (λ (n : ℕ). AllFit n (all_entries new)) (sym (same_area added.stays.area))
         (subst (λ (h : List HistoryEntry). AllFit (tells.size (area_of old)) h) (sym all) (fit_more (tells.size (area_of old)) (all_entries old) e (followed.fit told) (fits told)));
   }
@@ -72,18 +67,18 @@ module _ {A : Type 0} {tells : Ghosts A} (old new : Trail A tells) (before after
       all = λ i. kept.stays.listed i ++ kept.kept.waiting i
 
   -- whatever an answer did, the index follows the trail
-  pub followed_answer : WithinLaw → (moment : ℕ) (who : Caller) (decision : Decided) (finished : Done) → IsFollowed old before
+  pub followed_answer : (moment : ℕ) (who : Caller) (decision : Decided) (finished : Done) → IsFollowed old before
       → ((why : Why) → finished ≡ done.Silent why → (decision ≡ Silent why) × IsSame old new before after)
       → ((reply : List ℕ) → finished ≡ done.Said reply → (a : Option HistoryAct) × (decision ≡ Says reply a) × AddsIf old new before after moment who a)
       → (finished ≡ done.NoMemory → AreKept old new before after)
       → (Told tells → (reply : List ℕ) (a : HistoryAct) → finished ≡ done.Said reply → decision ≡ Says reply (Some a) → IsFit (tells.size (area_of old)) (all_entries old) (entry_of moment who a)) → IsFollowed new after
-  followed_answer within moment who decision (done.Silent why) followed silent said no_memory fits = followed_same followed (silent why refl).1
-  followed_answer within moment who decision done.NoMemory followed silent said no_memory fits = followed_kept followed (no_memory refl)
-  followed_answer within moment who decision (done.Said reply) followed silent said no_memory fits = by_act (said reply refl).0 (said reply refl).1 (said reply refl).2
+  followed_answer moment who decision (done.Silent why) followed silent said no_memory fits = followed_same followed (silent why refl).1
+  followed_answer moment who decision done.NoMemory followed silent said no_memory fits = followed_kept followed (no_memory refl)
+  followed_answer moment who decision (done.Said reply) followed silent said no_memory fits = by_act (said reply refl).0 (said reply refl).1 (said reply refl).2
     where
       by_act : (a : Option HistoryAct) → decision ≡ Says reply a → AddsIf old new before after moment who a → IsFollowed new after
       by_act None is same = followed_same followed same
-      by_act (Some a) is added = followed_added within (entry_of moment who a) followed added (λ told. fits told reply a refl is)
+      by_act (Some a) is added = followed_added (entry_of moment who a) followed added (λ told. fits told reply a refl is)
 
 -- ---- what was answered, as the area tells
 
@@ -129,3 +124,77 @@ stands_after old new before after cuts now moment who (Some a) open_now at added
   cuts = cuts;
   is_broken = added.stays.opened i;
 }
+
+-- ---- the whole of an answer
+
+module _ {A : Type 0} {tells : Ghosts A} (old new : Trail A tells) (before after : Index) (moment : ℕ) (who : Caller) (decision : Decided) where
+  -- the firm entries stay
+  firm_same : new ≡ old → FirmStays old new
+  firm_same same = subst (λ (t : Trail A tells). FirmStays old t) (sym same) (record { listed = refl; count = refl; places = λ k place is. is; opened = refl; area = refl; header = refl })
+
+  firm_if : (a : Option HistoryAct) → AddsIf old new before after moment who a → FirmStays old new
+  firm_if None same = firm_same same.trail
+  firm_if (Some a) added = added.stays
+
+  pub firm_stays : (finished : Done)
+      → ((why : Why) → finished ≡ done.Silent why → (decision ≡ Silent why) × IsSame old new before after)
+      → ((reply : List ℕ) → finished ≡ done.Said reply → (a : Option HistoryAct) × (decision ≡ Says reply a) × AddsIf old new before after moment who a)
+      → (finished ≡ done.NoMemory → AreKept old new before after) → FirmStays old new
+  firm_stays (done.Silent why) silent said no_memory = firm_same (silent why refl).1.trail
+  firm_stays (done.Said reply) silent said no_memory = firm_if (said reply refl).0 (said reply refl).2
+  firm_stays done.NoMemory silent said no_memory = (no_memory refl).stays
+
+  -- what was done is what was decided
+  pub done_is : (now cuts : ℕ) (told_decision : Decided) (finished : Done) → is_closed old ≡ false → moment ≡ moment_after (all_entries old) now
+      → (finished ≢ done.NoMemory → decision ≡ told_decision)
+      → ((why : Why) → finished ≡ done.Silent why → (decision ≡ Silent why) × IsSame old new before after)
+      → ((reply : List ℕ) → finished ≡ done.Said reply → (a : Option HistoryAct) × (decision ≡ Says reply a) × AddsIf old new before after moment who a)
+      → (finished ≡ done.NoMemory → AreKept old new before after) → IsDone finished (standing old cuts) (standing new cuts) now who told_decision
+  done_is now cuts told_decision (done.Silent why) open_now at is silent said no_memory =
+      (sym (is (λ e. cc)) ∙ (silent why refl).0, stands_same old new cuts (silent why refl).1.trail)
+  done_is now cuts told_decision (done.Said reply) open_now at is silent said no_memory =
+      ((said reply refl).0, sym (is (λ e. cc)) ∙ (said reply refl).1, stands_after old new before after cuts now moment who (said reply refl).0 open_now at (said reply refl).2)
+  done_is now cuts told_decision done.NoMemory open_now at is silent said no_memory = stands_kept old new before after cuts (no_memory refl)
+
+pub said_is_some : (finished : Done) (reply : List ℕ) → finished ≡ done.Said reply → finished ≢ done.NoMemory
+said_is_some finished reply is none = let both : done.Said reply ≡ done.NoMemory = sym is ∙ none in cc both
+
+-- what an answer records is fit
+pub recorded_is_fit : (size : ℕ) (h : List HistoryEntry) (from : Addr) (datagram : PreparedValue) (now moment : ℕ) (who : Caller) (decision : Decided) (reply : List ℕ) (a : HistoryAct)
+    → AllFit size h → IsWhole datagram → now ≤ latest_moment → moment ≡ moment_after h now → decision ≡ decided (answer_to h from datagram size) → decision ≡ Says reply (Some a) → IsFit size h (entry_of moment who a)
+recorded_is_fit size h from datagram now moment who decision reply a fit whole here at is says =
+    subst (λ (m : ℕ). IsFit size h (entry_of m who a)) (sym at)
+    (fit_of size h now who (answer_to h from datagram size) reply a (answer_fits h from datagram size now who whole (last_is_in_range size h fit) here) (sym is ∙ says))
+
+-- ---- what a call leaves
+
+module _ (old new : BookValue) (now : ℕ) (who : Caller) (decision : Decided) where
+  pub left_value : (other : Decided) → decision ≡ other → new ≡ recorded_if old now who (act_decided other) → new ≡ (left_by old now who decision).value
+  left_value other same is = is ∙ ap (λ (d : Decided). recorded_if old now who (act_decided d)) (sym same)
+
+  pub left_answer : (result : Outcome) → new ≡ (left_by old now who decision).value → result ≡ outcome_at new decision → result ≡ (left_by old now who decision).answer
+  left_answer result value is = is ∙ ap (λ (v : BookValue). outcome_at v decision) value
+
+-- nothing is recorded of an answer by the failure of the device
+failure_records_nothing : (datagram : PreparedValue) → act_decided (decided (failure_answer datagram)) ≡ None
+failure_records_nothing (Drop why) = refl
+failure_records_nothing (OtherVersion number) = refl
+failure_records_nothing (Refused cause number) = refl
+failure_records_nothing (Path event) = refl
+failure_records_nothing (Request number body) = refl
+
+-- the device failed
+module _ (f : Fortune) (v new : BookValue) (from : Addr) (datagram : PreparedValue) (size now : ℕ) (who : Caller) where
+  pub failed_given : new ≡ readied f v → new.is_broken ≡ true → given_at (readied f v) from datagram size ≡ failure_answer datagram
+  failed_given moved broken =
+      ap (λ (w : BookValue). given_at w from datagram size) (sym moved) ∙ ap (λ b. if b then failure_answer datagram else answer_to (history_of new) from datagram size) broken
+
+  pub failed_value : new ≡ readied f v → new.is_broken ≡ true → new ≡ (taken f from datagram size now who v).value
+  failed_value moved broken =
+      moved
+      ∙ ap (λ (a : Option HistoryAct). recorded_if (readied f v) now who a) (sym (failure_records_nothing datagram))
+      ∙ ap (λ (given : Given). recorded_if (readied f v) now who (act_decided (decided given))) (sym (failed_given moved broken))
+
+  pub failed_answer : new ≡ readied f v → new.is_broken ≡ true → (result : Outcome) → result ≡ outcome_at new (decided (failure_answer datagram)) → result ≡ (taken f from datagram size now who v).answer
+  failed_answer moved broken result is =
+      is ∙ (λ i. outcome_at (failed_value moved broken i) (decided (failed_given moved broken (~ i))))

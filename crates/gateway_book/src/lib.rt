@@ -31,6 +31,7 @@ mod plain_tests;
 mod preparing;
 mod readying;
 mod states;
+mod taking;
 mod told;
 mod totals;
 mod wire_marks;
