@@ -197,4 +197,6 @@ module _ (f : Fortune) (v new : BookValue) (from : Addr) (datagram : PreparedVal
 
   pub failed_answer : new ≡ readied f v → new.is_broken ≡ true → (result : Outcome) → result ≡ outcome_at new (decided (failure_answer datagram)) → result ≡ (taken f from datagram size now who v).answer
   failed_answer moved broken result is =
-      is ∙ (λ i. outcome_at (failed_value moved broken i) (decided (failed_given moved broken (~ i))))
+      is
+      ∙ ap (λ (w : BookValue). outcome_at w (decided (failure_answer datagram))) (failed_value moved broken)
+      ∙ ap (λ (given : Given). outcome_at (taken f from datagram size now who v).value (decided given)) (sym (failed_given moved broken))
