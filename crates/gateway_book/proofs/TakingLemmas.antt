@@ -1,12 +1,11 @@
 -- What an answer leaves of a book.
-use Rattle.std.proofs.Common.{◌≡◌, ◌≢◌, ℕ, ◌+◌, ◌*◌, ◌^◌, ◌<◌, ◌≤◌, max, Bool, true, false, if◌then◌else◌, List, [], ◌∷◌, ◌++◌, Option, Some, None, length, refl, sym, ap, subst, ◌∙◌, append_assoc, arith}
+use Rattle.std.proofs.Common.{◌≡◌, ◌≢◌, ℕ, ◌≤◌, true, false, if◌then◌else◌, List, [], ◌∷◌, ◌++◌, Option, Some, None, refl, sym, ap, subst, ◌∙◌, append_assoc}
 use Rattle.area_disk.specs.declared.area.Area.{Ghosts}
 use Rattle.gate_journal.specs.Moments.{Told}
 use Rattle.cgf_journal.specs.Outcomes.{FirmStays}
 use Rattle.cgf_journal.specs.Trail.{area_of, entries, firm_entries, is_closed, waiting}
 use Rattle.cgf_journal.specs.declared.trail.Trail.{Trail}
 use Rattle.entry_codec.specs.Room.{has_room}
-use Rattle.gtpp_message.specs.Message.{MessageValue}
 use Rattle.gtpp_message.specs.declared.reading.Why.{Why}
 use Rattle.gw_base.specs.History.{moment_after}
 use Rattle.gw_base.specs.Observed.{observed}
@@ -14,25 +13,24 @@ use Rattle.gw_base.specs.declared.address.Addr.{Addr}
 use Rattle.gw_base.specs.declared.history.Caller.{Caller}
 use Rattle.gw_base.specs.declared.history.HistoryAct.{HistoryAct}
 use Rattle.gw_base.specs.declared.history.HistoryEntry.{HistoryEntry}
-use Rattle.gateway_book.specs.Adding.{AddsIf, AreKept, IsAdded, IsSame, entry_of, room_in, room_told}
-use Rattle.gateway_book.specs.Answer.{Decided, Given, Drops, Replies, Says, Silent, answer_by, decided, failure_answer, node_of}
+use Rattle.gateway_book.specs.Adding.{AddsIf, AreKept, IsAdded, IsSame, entry_of, room_told}
+use Rattle.gateway_book.specs.Answer.{Decided, Given, Drops, Replies, Says, Silent, answer_by, decided, node_of}
 use Rattle.gateway_book.specs.Answered.{act_decided, answer_to, entry_by, room_for}
-use Rattle.gateway_book.specs.Calls.{Left, given_at, left_by, outcome_at, taken}
+use Rattle.gateway_book.specs.Calls.{left_by, outcome_at}
 use Rattle.gateway_book.specs.Fit.{IsFit, latest_moment}
 use Rattle.gateway_book.specs.FitHistory.{AllFit}
 use Rattle.gateway_book.specs.FitHistoryLaws.{last_is_in_range}
 use Rattle.gateway_book.specs.FitLaws.{answer_fits, room_is_for_each}
 use Rattle.gateway_book.specs.Followed.{IsFollowed, all_entries}
 use Rattle.gateway_book.specs.Index.{Follows, observed_by}
-use Rattle.gateway_book.specs.Preparing.{IsWhole, PreparedValue, Drop, OtherVersion, Refused, Path, Request}
+use Rattle.gateway_book.specs.Preparing.{IsWhole, PreparedValue}
 use Rattle.gateway_book.specs.Recording.{IfRecords}
 use Rattle.gateway_book.specs.Taking.{IsDone}
-use Rattle.gateway_book.specs.Value.{BookValue, Fortune, history_of, readied, recorded_if}
+use Rattle.gateway_book.specs.Value.{BookValue, history_of, recorded_if}
 use Rattle.gateway_book.specs.declared.adding.Done.{Done}
 use Rattle.gateway_book.specs.declared.adding.Done.TheVariants as done
 use Rattle.gateway_book.specs.declared.index.Index.{Index}
 use Rattle.gateway_book.specs.declared.outcome.Outcome.{Outcome}
-use Rattle.gateway_book.specs.declared.outcome.Outcome.TheVariants as outcome
 use Rattle.gateway_book.proofs.BookLemmas.{fit_more}
 use Rattle.gateway_book.proofs.Openings.{fit_may_grow}
 
@@ -174,29 +172,3 @@ module _ (old new : BookValue) (now : ℕ) (who : Caller) (decision : Decided) w
 
   pub left_answer : (result : Outcome) → new ≡ (left_by old now who decision).value → result ≡ outcome_at new decision → result ≡ (left_by old now who decision).answer
   left_answer result value is = is ∙ ap (λ (v : BookValue). outcome_at v decision) value
-
--- nothing is recorded of an answer by the failure of the device
-failure_records_nothing : (datagram : PreparedValue) → act_decided (decided (failure_answer datagram)) ≡ None
-failure_records_nothing (Drop why) = refl
-failure_records_nothing (OtherVersion number) = refl
-failure_records_nothing (Refused cause number) = refl
-failure_records_nothing (Path event) = refl
-failure_records_nothing (Request number body) = refl
-
--- the device failed
-module _ (f : Fortune) (v new : BookValue) (from : Addr) (datagram : PreparedValue) (size now : ℕ) (who : Caller) where
-  pub failed_given : new ≡ readied f v → new.is_broken ≡ true → given_at (readied f v) from datagram size ≡ failure_answer datagram
-  failed_given moved broken =
-      ap (λ (w : BookValue). given_at w from datagram size) (sym moved) ∙ ap (λ b. if b then failure_answer datagram else answer_to (history_of new) from datagram size) broken
-
-  pub failed_value : new ≡ readied f v → new.is_broken ≡ true → new ≡ (taken f from datagram size now who v).value
-  failed_value moved broken =
-      moved
-      ∙ ap (λ (a : Option HistoryAct). recorded_if (readied f v) now who a) (sym (failure_records_nothing datagram))
-      ∙ ap (λ (given : Given). recorded_if (readied f v) now who (act_decided (decided given))) (sym (failed_given moved broken))
-
-  pub failed_answer : new ≡ readied f v → new.is_broken ≡ true → (result : Outcome) → result ≡ outcome_at new (decided (failure_answer datagram)) → result ≡ (taken f from datagram size now who v).answer
-  failed_answer moved broken result is =
-      is
-      ∙ ap (λ (w : BookValue). outcome_at w (decided (failure_answer datagram))) (failed_value moved broken)
-      ∙ ap (λ (given : Given). outcome_at (taken f from datagram size now who v).value (decided given)) (sym (failed_given moved broken))

@@ -32,6 +32,8 @@ mod preparing;
 mod readying;
 mod states;
 mod taking;
+#[cfg(test)]
+mod taking_tests;
 mod told;
 mod totals;
 mod wire_marks;

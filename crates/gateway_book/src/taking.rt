@@ -31,22 +31,18 @@ use gw_base::{Addr, Caller, Moment, Short};
 impl<A: Area> Book<A> {
     ghost use Rattle.gateway_book.specs.Book.{CrashLeaves, HasCause, IsLeft, Stays, area_of, fortune_of, size_of, value_of};
 
-    /// Takes a datagram of this sender: a broken book is opened again first, and one whose batch is nearly full
-    /// commits. Then it answers, and adds what the answer records, at the moment and by the caller.
+    /// Takes a datagram of this sender. A broken book is opened again first, with one call of the device; one of whose
+    /// batch fewer than 270,000 octets are free commits first, with four. Then it answers, and adds what the answer
+    /// records, at the moment and by the caller: the entry waits for a commit.
     ///
-    /// Where the device fails a request is answered by the cause system failure, and all else is dropped. Without
-    /// memory nothing is added.
-    pub fn take(
-        &mut self,
-        from: Addr,
-        request: &Prepared<'_>,
-        now: Moment,
-        who: Caller,
-    ) -> Outcome
+    /// Where the device fails a request is answered by the cause system failure, all else is dropped, and the book is
+    /// broken. After `NoMemory` nothing was added, and the book isn't broken.
+    pub fn take(&mut self, from: Addr, request: &Prepared<'_>, now: Moment, who: Caller) -> Outcome
         ensures taken { Told A.Area → result ≢ NoMemory → IsLeft self.old self.new
-            (taken (fortune_of self.old self.new) from (prepared_of request.now) (size_of self.old) now who (value_of self.old)) result }
-        ensures no_memory { Told A.Area → result ≡ NoMemory →
-            (value_of self.new ≡ readied (fortune_of self.old self.new) (value_of self.old)) × (is_closed self.new.trail ≡ false) }
+            (taken (fortune_of self.old self.new) from (prepared_of request.now) (size_of self.old) now who
+            (value_of self.old)) result }
+        ensures no_memory { Told A.Area → result ≡ NoMemory → (is_closed self.new.trail ≡ false)
+            × (value_of self.new ≡ readied (fortune_of self.old self.new) (value_of self.old)) }
         // A crash at any moment of the call leaves the firm entries, or these with those behind them.
         ensures any_moment { CrashLeaves self.old self.new }
         ensures stays { Stays self.old self.new }
@@ -61,7 +57,8 @@ impl<A: Area> Book<A> {
 
     // The octets that go back, and when they may.
     fn receipt(&self, reply: Short) -> Outcome
-        ensures answered { Told A.Area → (act : Option HistoryAct) → result ≡ outcome_at (value_of self.now) (Says reply act) }
+        ensures answered { Told A.Area → (act : Option HistoryAct) →
+            result ≡ outcome_at (value_of self.now) (Says reply act) }
         ensures never_memory { result ≢ NoMemory }
     {
         Outcome::Answer(Receipt {
@@ -73,7 +70,8 @@ impl<A: Area> Book<A> {
 
     // What is answered where the device failed.
     fn fail(&self, case: &Case<'_>) -> Outcome
-        ensures answered { Told A.Area → result ≡ outcome_at (value_of self.now) (decided (failure_answer (case_value case.now))) }
+        ensures answered { Told A.Area →
+            result ≡ outcome_at (value_of self.now) (decided (failure_answer (case_value case.now))) }
         ensures never_memory { result ≢ NoMemory }
     {
         match failure_answer(case) {
@@ -113,8 +111,9 @@ impl<A: Area> Book<A> {
         requires open { is_closed self.old.trail ≡ false }
         requires free { waiting_octets self.old.trail + most_for_one ≤ longest_batch }
         requires prepared { IsWhole (case_value case.now) × IsShort (case_value case.now) }
-        ensures left { Told A.Area → result ≢ NoMemory → IsLeft self.old self.new (left_by (value_of self.old) now who
-            (decided (answer_to (history_of (value_of self.old)) from (case_value case.now) (size_of self.old)))) result }
+        ensures left { Told A.Area → result ≢ NoMemory → IsLeft self.old self.new
+            (left_by (value_of self.old) now who (decided
+            (answer_to (history_of (value_of self.old)) from (case_value case.now) (size_of self.old)))) result }
         ensures no_memory { Told A.Area → result ≡ NoMemory → value_of self.new ≡ value_of self.old }
         ensures firm { FirmStays self.old.trail self.new.trail }
         ensures stays { Stays self.old self.new }
