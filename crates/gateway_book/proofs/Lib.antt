@@ -15,5 +15,6 @@ pub mod Openings
 pub mod PlainLemmas
 pub mod RecordsLemmas
 pub mod StatesLemmas
+pub mod TakingLemmas
 pub mod Telling
 pub mod Tellings

@@ -2,7 +2,8 @@
 use Rattle.std.specs.Prelude.{◌≡◌, ◌≤◌, ◌+◌, ℕ, Bool, true, false, List, [], ◌∷◌, ◌++◌, Option, Some, None}
 use Rattle.area_disk.specs.declared.area.Area.{Ghosts}
 use Rattle.cgf_journal.specs.Outcomes.{FirmStays, IsKept, IsPushed}
-use Rattle.cgf_journal.specs.Trail.{has_room_of, waiting_octets}
+use Rattle.cgf_journal.specs.Trail.{area_of, entries, has_room_of, waiting_octets}
+use Rattle.entry_codec.specs.Room.{has_room}
 use Rattle.entry_codec.specs.Spelling.{entry_length}
 use Rattle.gate_journal.specs.Format.{longest_batch}
 use Rattle.cgf_journal.specs.declared.trail.Trail.{Trail}
@@ -48,3 +49,7 @@ room_in trail moment who act = has_room_of trail (entry_of moment who act)
 abbrev pub MayAdd : {A : Type 0} {tells : Ghosts A} → Option HistoryAct → Trail A tells → Index → ℕ → Caller → Type 0
 MayAdd None trail index moment who = Unit {0}
 MayAdd (Some act) trail index moment who = MayCome act index × (waiting_octets trail + entry_length (entry_of moment who act) ≤ longest_batch)
+
+-- which acts there is room for, as the area tells
+abbrev pub room_told : {A : Type 0} {tells : Ghosts A} → Trail A tells → ℕ → Caller → HistoryAct → Bool
+room_told {tells = tells} trail moment who act = has_room (entries trail) (entry_of moment who act) (tells.size (area_of trail))

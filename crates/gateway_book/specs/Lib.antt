@@ -45,6 +45,7 @@ pub mod Nodes
 pub mod Numbers
 pub mod Sides
 pub mod States
+pub mod Taking
 pub mod Steps
 pub mod WireMarks
 pub mod Worked

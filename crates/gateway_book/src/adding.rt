@@ -1,15 +1,17 @@
 // What an answer adds.
-ghost use Rattle.std.specs.Prelude.{◌≡◌, ◌≤◌, ◌+◌, true, false, Some, None, Option, List, ℕ, IfOk, IfSome, OnOk, OnErr};
+ghost use Rattle.std.specs.Prelude.{◌≡◌, ◌≢◌, ◌≤◌, ◌+◌, true, false, Some, None, Option, List, ℕ, IfOk, IfSome, OnOk, OnErr};
 ghost use Rattle.entry_codec.specs.Spelling.{entry_length};
 ghost use Rattle.gate_journal.specs.Format.{longest_batch};
-ghost use Rattle.cgf_journal.specs.Trail.{has_room_of, is_closed, waiting_octets};
+ghost use Rattle.entry_codec.specs.Room.{has_room};
+ghost use Rattle.gate_journal.specs.Moments.{Told};
+ghost use Rattle.cgf_journal.specs.Trail.{area_of, entries, has_room_of, is_closed, waiting_octets};
 ghost use Rattle.gw_base.specs.Entry.{act_view, entry_view};
 ghost use Rattle.gw_base.specs.declared.address.NodeId.{NodeId};
 ghost use Rattle.gw_base.specs.declared.history.HistoryAct.{HistoryAct};
 ghost use Rattle.gtpp_message.specs.declared.reading.Why.{Why};
-ghost use Rattle.gateway_book.specs.Adding.{AddsIf, AreKept, IsAdded, IsSame, MayAdd, room_in};
+ghost use Rattle.gateway_book.specs.Adding.{AddsIf, AreKept, IsAdded, IsSame, MayAdd, room_in, room_told};
 ghost use Rattle.gateway_book.specs.Answer.{Says, Silent, answer_by, decided, node_of};
-ghost use Rattle.gateway_book.specs.Answered.{act_decided};
+ghost use Rattle.gateway_book.specs.Answered.{act_decided, act_given};
 ghost use Rattle.gateway_book.specs.Cases.{case_value};
 ghost use Rattle.gateway_book.specs.Decisions.{decision_view};
 ghost use Rattle.gateway_book.specs.Index.{MayCome, observed_by};
@@ -140,6 +142,8 @@ fn add<A: Area>(
     ensures no_room { result ≡ None → (has_room_of trail.old (entry_view entry.now) ≡ false)
         × IsSame trail.old trail.new index.old index.new }
     ensures no_memory { result ≡ Some Done.NoMemory → AreKept trail.old trail.new index.old index.new }
+    ensures told { Told A.Area → has_room_of trail.old (entry_view entry.now) ≡
+        has_room (entries trail.old) (entry_view entry.now) (A.size (area_of trail.old)) }
 {
     if !trail.room(entry) {
         return None;
@@ -187,6 +191,8 @@ fn conclude<A: Area>(
         Says reply (Some act))
         × (room_in trail.old moment who act ≡ false) × IsSame trail.old trail.new index.old index.new }
     ensures no_memory { result ≡ Some Done.NoMemory → AreKept trail.old trail.new index.old index.new }
+    ensures told { (a : HistoryAct) → act_decided (decision_view decision.entry) ≡ Some a → Told A.Area →
+        room_in trail.old moment who a ≡ room_told trail.old moment who a }
 {
     match decision {
         Decision::Drop(why) => Some(Done::Silent(why)),
@@ -217,8 +223,7 @@ fn answer_with_room<A: Area>(
 ) -> Option<Done>
     requires open { is_closed trail.old ≡ false }
     requires free { waiting_octets trail.old + most_for_one ≤ longest_batch }
-    requires whole { IsWhole (case_value case.now) }
-    requires short { IsShort (case_value case.now) }
+    requires prepared { IsWhole (case_value case.now) × IsShort (case_value case.now) }
     ensures silent { (why : Why) → result ≡ Some (Done.Silent why) →
         (decided (answer_by (observed_by false index.old (node_of from)) from (case_value case.now) (λ act. true)) ≡ Silent why)
         × IsSame trail.old trail.new index.old index.new }
@@ -230,6 +235,9 @@ fn answer_with_room<A: Area>(
         × (decided (answer_by (observed_by false index.old (node_of from)) from (case_value case.now) (λ act. true)) ≡ Says reply (Some act))
         × (room_in trail.old moment who act ≡ false) × IsSame trail.old trail.new index.old index.new }
     ensures no_memory { result ≡ Some Done.NoMemory → AreKept trail.old trail.new index.old index.new }
+    ensures told { result ≢ Some Done.NoMemory → (a : HistoryAct) →
+        act_given (answer_by (observed_by false index.old (node_of from)) from (case_value case.now) (λ act. true)) ≡ Some a →
+        Told A.Area → room_in trail.old moment who a ≡ room_told trail.old moment who a }
 {
     match propose(index, scratch, from, case) {
         Ok(decision) => conclude(trail, index, decision, moment, who),
@@ -249,8 +257,7 @@ pub(crate) fn answer<A: Area>(
 ) -> Done
     requires open { is_closed trail.old ≡ false }
     requires free { waiting_octets trail.old + most_for_one ≤ longest_batch }
-    requires whole { IsWhole (case_value case.now) }
-    requires short { IsShort (case_value case.now) }
+    requires prepared { IsWhole (case_value case.now) × IsShort (case_value case.now) }
     ensures silent { (why : Why) → result ≡ Done.Silent why →
         (decided (answer_by (observed_by false index.old (node_of from)) from (case_value case.now) (room_in trail.old moment who)) ≡ Silent why)
         × IsSame trail.old trail.new index.old index.new }
@@ -258,6 +265,9 @@ pub(crate) fn answer<A: Area>(
         × (decided (answer_by (observed_by false index.old (node_of from)) from (case_value case.now) (room_in trail.old moment who)) ≡ Says reply act)
         × AddsIf trail.old trail.new index.old index.new moment who act }
     ensures no_memory { result ≡ Done.NoMemory → AreKept trail.old trail.new index.old index.new }
+    ensures told { Told A.Area → result ≢ Done.NoMemory →
+        decided (answer_by (observed_by false index.old (node_of from)) from (case_value case.now) (room_in trail.old moment who))
+        ≡ decided (answer_by (observed_by false index.old (node_of from)) from (case_value case.now) (room_told trail.old moment who)) }
 {
     match answer_with_room(trail, index, scratch, from, case, moment, who) {
         Some(done) => done,

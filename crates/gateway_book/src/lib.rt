@@ -31,6 +31,9 @@ mod plain_tests;
 mod preparing;
 mod readying;
 mod states;
+mod taking;
+#[cfg(test)]
+mod taking_tests;
 mod told;
 mod totals;
 mod wire_marks;

@@ -1,0 +1,51 @@
+use Rattle.std.proofs.Common.{false, List, sym, ap, ◌∙◌}
+use Rattle.gw_base.specs.declared.history.HistoryEntry.{HistoryEntry}
+use Rattle.gateway_book.specs.Adding.{room_in}
+use Rattle.gateway_book.specs.Answer.{answer_by, decided, node_of}
+use Rattle.gateway_book.specs.Answered.{answer_to}
+use Rattle.gateway_book.specs.Book.{size_of, value_of}
+use Rattle.gateway_book.specs.Cases.{case_value}
+use Rattle.gateway_book.specs.Followed.{all_entries}
+use Rattle.gateway_book.specs.Index.{observed_by}
+use Rattle.gateway_book.specs.Value.{history_of}
+use Rattle.gateway_book.proofs.TakingLemmas.{answered_is, done_is, firm_stays, followed_answer, history_is, recorded_is_fit, said_is_some}
+use Rattle.gateway_book.proofs.book.Book.add_answer.Goals as goal
+
+pub invariant_of-self : goal.invariant_of-self
+invariant_of-self g c =
+    let book = c.args.self.now in
+    let from = c.args.from in
+    let datagram = case_value c.args.case.now in
+    let moment = c.moment_after-moment.result in
+    let decision = decided (answer_by (observed_by false book.index (node_of from)) from datagram (room_in book.trail moment c.args.who)) in
+    record {
+      followed = followed_answer book.trail c.answer.new.trail book.index c.answer.new.index moment c.args.who decision c.answer.result book.followed c.answer.ensures.silent c.answer.ensures.said c.answer.ensures.no_memory
+          (λ told reply a is says.
+          let at = c.moment_after-moment.ensures.after told in
+          let seen = c.an_index_tells_its_history.ensures.observed false book.index (all_entries book.trail) (node_of from) (book.followed.live told) in
+          recorded_is_fit (size_of book) (all_entries book.trail) from datagram c.args.now moment c.args.who decision reply a (book.followed.fit told) c.requires.prepared.0 c.moment_after-moment.ensures.within at
+          (c.answer.ensures.told told (said_is_some c.answer.result reply is) ∙ answered_is book.trail book.index from datagram c.args.now moment c.args.who c.requires.open at seen) says);
+    }
+
+pub returns-clause-moved : goal.returns-clause-moved
+returns-clause-moved g c = λ told.
+    let book = c.args.self.now in
+    let from = c.args.from in
+    let datagram = case_value c.args.case.now in
+    let moment = c.moment_after-moment.result in
+    let decision = decided (answer_by (observed_by false book.index (node_of from)) from datagram (room_in book.trail moment c.args.who)) in
+    let at = c.moment_after-moment.ensures.after told in
+    let seen = c.an_index_tells_its_history.ensures.observed false book.index (all_entries book.trail) (node_of from) (book.followed.live told) in
+    done_is book.trail c.answer.new.trail book.index c.answer.new.index moment c.args.who decision c.args.now book.cuts (decided (answer_to (history_of (value_of book)) from datagram (size_of book))) c.answer.result c.requires.open at
+    (λ some.
+    c.answer.ensures.told told some
+    ∙ answered_is book.trail book.index from datagram c.args.now moment c.args.who c.requires.open at seen
+    ∙ ap (λ (h : List HistoryEntry). decided (answer_to h from datagram (size_of book))) (sym (history_is book.trail book.cuts c.requires.open)))
+    c.answer.ensures.silent c.answer.ensures.said c.answer.ensures.no_memory
+
+pub returns-clause-firm : goal.returns-clause-firm
+returns-clause-firm g c =
+    let book = c.args.self.now in
+    let moment = c.moment_after-moment.result in
+    let decision = decided (answer_by (observed_by false book.index (node_of c.args.from)) c.args.from (case_value c.args.case.now) (room_in book.trail moment c.args.who)) in
+    firm_stays book.trail c.answer.new.trail book.index c.answer.new.index moment c.args.who decision c.answer.result c.answer.ensures.silent c.answer.ensures.said c.answer.ensures.no_memory

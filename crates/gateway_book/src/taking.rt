@@ -1,0 +1,127 @@
+// What a gateway answers to a datagram.
+ghost use Rattle.std.specs.Prelude.{◌≡◌, ◌≢◌, ◌≤◌, ◌+◌, Option, true, false};
+ghost use Rattle.gate_journal.specs.Format.{longest_batch};
+ghost use Rattle.gate_journal.specs.Moments.{Told};
+ghost use Rattle.cgf_journal.specs.Outcomes.{FirmStays};
+ghost use Rattle.cgf_journal.specs.Trail.{is_closed, waiting_octets};
+ghost use Rattle.gw_base.specs.History.{moment_after};
+ghost use Rattle.gw_base.specs.declared.history.HistoryAct.{HistoryAct};
+ghost use Rattle.gateway_book.specs.Answer.{Says, decided, failure_answer};
+ghost use Rattle.gateway_book.specs.Answered.{answer_to};
+ghost use Rattle.gateway_book.specs.Calls.{left_by, outcome_at, taken};
+ghost use Rattle.gateway_book.specs.Cases.{case_value};
+ghost use Rattle.gateway_book.specs.Fit.{latest_moment};
+ghost use Rattle.gateway_book.specs.Followed.{all_entries};
+ghost use Rattle.gateway_book.specs.Preparing.{IsShort, IsWhole, prepared_of};
+ghost use Rattle.gateway_book.specs.Taking.{IsDone};
+ghost use Rattle.gateway_book.specs.Value.{history_of, most_for_one, readied};
+ghost use Rattle.gateway_book.specs.declared.outcome.Outcome.TheVariants.{NoMemory};
+
+use crate::adding::{Done, answer};
+use crate::answering::failure_answer;
+use crate::book::Book;
+use crate::case::Case;
+use crate::decision::Decision;
+use crate::observed::an_index_tells_its_history;
+use crate::preparing::Prepared;
+use crate::{Outcome, Receipt};
+use area_disk::Area;
+use gw_base::{Addr, Caller, Moment, Short};
+
+impl<A: Area> Book<A> {
+    ghost use Rattle.gateway_book.specs.Book.{CrashLeaves, HasCause, IsLeft, Stays, area_of, fortune_of, size_of, value_of};
+
+    /// Takes a datagram of this sender. A broken book is opened again first, with one call of the device; one of whose
+    /// batch fewer than 270,000 octets are free commits first, with four. Then it answers, and adds what the answer
+    /// records, at the moment and by the caller: the entry waits for a commit.
+    ///
+    /// Where the device fails a request is answered by the cause system failure, all else is dropped, and the book is
+    /// broken. After `NoMemory` nothing was added, and the book isn't broken.
+    pub fn take(&mut self, from: Addr, request: &Prepared<'_>, now: Moment, who: Caller) -> Outcome
+        ensures taken { Told A.Area → result ≢ NoMemory → IsLeft self.old self.new
+            (taken (fortune_of self.old self.new) from (prepared_of request.now) (size_of self.old) now who
+            (value_of self.old)) result }
+        ensures no_memory { Told A.Area → result ≡ NoMemory → (is_closed self.new.trail ≡ false)
+            × (value_of self.new ≡ readied (fortune_of self.old self.new) (value_of self.old)) }
+        // A crash at any moment of the call leaves the firm entries, or these with those behind them.
+        ensures any_moment { CrashLeaves self.old self.new }
+        ensures stays { Stays self.old self.new }
+        ensures cause { HasCause self.old self.new }
+    {
+        let case = request.case();
+        match self.ready() {
+            Ok(()) => self.respond(from, case, now, who),
+            Err(_) => self.fail(case),
+        }
+    }
+
+    // The octets that go back, and when they may.
+    fn receipt(&self, reply: Short) -> Outcome
+        ensures answered { Told A.Area → (act : Option HistoryAct) →
+            result ≡ outcome_at (value_of self.now) (Says reply act) }
+        ensures never_memory { result ≢ NoMemory }
+    {
+        Outcome::Answer(Receipt {
+            reply,
+            front: self.trail.length(),
+            faults: self.cuts,
+        })
+    }
+
+    // What is answered where the device failed.
+    fn fail(&self, case: &Case<'_>) -> Outcome
+        ensures answered { Told A.Area →
+            result ≡ outcome_at (value_of self.now) (decided (failure_answer (case_value case.now))) }
+        ensures never_memory { result ≢ NoMemory }
+    {
+        match failure_answer(case) {
+            Decision::Drop(why) => Outcome::Drop(why),
+            Decision::Reply { reply, act: _ } => self.receipt(reply),
+        }
+    }
+
+    // The moment that an entry made now bears.
+    fn moment_after(&self, now: Moment) -> Moment
+        ensures after { Told A.Area → result ≡ moment_after (all_entries self.now.trail) now }
+        ensures within { now ≤ latest_moment }
+    {
+        an_index_tells_its_history();
+        let _seconds = now.seconds();
+        now.max(self.index.totals(false).moment)
+    }
+
+    // Adds what the answer to a datagram records, where the book is ready.
+    fn add_answer(&mut self, from: Addr, case: &Case<'_>, now: Moment, who: Caller) -> Done
+        requires open { is_closed self.old.trail ≡ false }
+        requires free { waiting_octets self.old.trail + most_for_one ≤ longest_batch }
+        requires prepared { IsWhole (case_value case.now) × IsShort (case_value case.now) }
+        ensures moved { Told A.Area → IsDone result (value_of self.old) (value_of self.new) now who
+            (decided (answer_to (history_of (value_of self.old)) from (case_value case.now) (size_of self.old))) }
+        ensures firm { FirmStays self.old.trail self.new.trail }
+        ensures stays { Stays self.old self.new }
+    {
+        an_index_tells_its_history();
+        let moment = self.moment_after(now);
+        let (trail, index, scratch) = (&mut self.trail, &mut self.index, &mut self.scratch);
+        answer(trail, index, scratch, from, case, moment, who)
+    }
+
+    // Answers a datagram where the book is ready.
+    fn respond(&mut self, from: Addr, case: &Case<'_>, now: Moment, who: Caller) -> Outcome
+        requires open { is_closed self.old.trail ≡ false }
+        requires free { waiting_octets self.old.trail + most_for_one ≤ longest_batch }
+        requires prepared { IsWhole (case_value case.now) × IsShort (case_value case.now) }
+        ensures left { Told A.Area → result ≢ NoMemory → IsLeft self.old self.new
+            (left_by (value_of self.old) now who (decided
+            (answer_to (history_of (value_of self.old)) from (case_value case.now) (size_of self.old)))) result }
+        ensures no_memory { Told A.Area → result ≡ NoMemory → value_of self.new ≡ value_of self.old }
+        ensures firm { FirmStays self.old.trail self.new.trail }
+        ensures stays { Stays self.old self.new }
+    {
+        match self.add_answer(from, case, now, who) {
+            Done::Silent(why) => Outcome::Drop(why),
+            Done::Said(reply) => self.receipt(reply),
+            Done::NoMemory => Outcome::NoMemory,
+        }
+    }
+}
