@@ -99,8 +99,9 @@ impl<A: Area> Book<A> {
     fn tick_if_due(&mut self, now: Moment, who: Caller) -> Marked
         requires ready { is_closed self.old.trail ≡ false }
         requires free { waiting_octets self.old.trail + most_for_one ≤ longest_batch }
-        ensures left { Told A.Area → result ≢ Marked.NoMemory → IsLeft self.old self.new (marked_at (value_of self.old)
-            now who (tick_mark (open_time_of self.old) now (history_of (value_of self.old)) (size_of self.old))) result }
+        ensures left { Told A.Area → result ≢ Marked.NoMemory → IsLeft self.old self.new
+            (marked_at (value_of self.old) now who (tick_mark (open_time_of self.old) now
+            (history_of (value_of self.old)) (size_of self.old))) result }
         ensures no_memory { Told A.Area → result ≡ Marked.NoMemory → value_of self.new ≡ value_of self.old }
         ensures firm { FirmStays self.old.trail self.new.trail }
         ensures stays { Stays self.old self.new }
@@ -115,8 +116,8 @@ impl<A: Area> Book<A> {
     fn close_if_due(&mut self, now: Moment, who: Caller) -> Marked
         requires ready { is_closed self.old.trail ≡ false }
         requires free { waiting_octets self.old.trail + most_for_one ≤ longest_batch }
-        ensures left { Told A.Area → result ≢ Marked.NoMemory → IsLeft self.old self.new (marked_at (value_of self.old)
-            now who (close_mark (history_of (value_of self.old)))) result }
+        ensures left { Told A.Area → result ≢ Marked.NoMemory → IsLeft self.old self.new
+            (marked_at (value_of self.old) now who (close_mark (history_of (value_of self.old)))) result }
         ensures no_memory { Told A.Area → result ≡ Marked.NoMemory → value_of self.new ≡ value_of self.old }
         ensures firm { FirmStays self.old.trail self.new.trail }
         ensures stays { Stays self.old self.new }
@@ -133,9 +134,10 @@ impl<A: Area> Book<A> {
         requires ready { is_closed self.old.trail ≡ false }
         requires free { waiting_octets self.old.trail + most_for_one ≤ longest_batch }
         requires closes { IsMark (act_view act) }
-        ensures left { Told A.Area → result ≢ Marked.NoMemory → IsLeft self.old self.new (marked_at (value_of self.old)
-            now who (made_if (room_for (all_entries self.old.trail) (size_of self.old) (act_view act.entry))
-            (act_view act.entry))) result }
+        ensures left { Told A.Area → result ≢ Marked.NoMemory → IsLeft self.old self.new
+            (marked_at (value_of self.old) now who (made_if
+            (room_for (all_entries self.old.trail) (size_of self.old) (act_view act.entry)) (act_view act.entry)))
+            result }
         ensures no_memory { Told A.Area → result ≡ Marked.NoMemory → value_of self.new ≡ value_of self.old }
         ensures firm { FirmStays self.old.trail self.new.trail }
         ensures stays { Stays self.old self.new }

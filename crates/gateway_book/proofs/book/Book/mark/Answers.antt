@@ -19,8 +19,8 @@ returns-then-not-room-clause-left g c = λ told some.
     let moment = c.moment_after-moment.result in
     let all = all_entries book.trail in
     let room : room_for all (size_of book) act ≡ false =
-        sym (room_of_open book.trail (entry_of moment c.args.who act) c.requires.ready ∙ room_of_mark (size_of book) all c.args.now moment c.args.who act (c.moment_after-moment.ensures.after told))
-        ∙ sym (c.room.ensures.room told) ∙ c.if-not-room.true in
+    sym (room_of_open book.trail (entry_of moment c.args.who act) c.requires.ready ∙ room_of_mark (size_of book) all c.args.now moment c.args.who act (c.moment_after-moment.ensures.after told))
+    ∙ sym (c.room.ensures.room told) ∙ c.if-not-room.true in
     let made = none_without_room (room_for all (size_of book) act) act room in
     record {
       value = ap (λ (m : Mark). (marked_at (value_of book) c.args.now c.args.who m).value) made;
@@ -36,11 +36,11 @@ returns-in-Ok-clause-left g c = λ told some.
     let at = c.moment_after-moment.ensures.after told in
     let all = all_entries book.trail in
     let room : room_for all (size_of book) act ≡ true =
-        sym (room_of_open book.trail (entry_of moment c.args.who act) c.requires.ready ∙ room_of_mark (size_of book) all c.args.now moment c.args.who act at)
-        ∙ sym (c.room.ensures.room told) ∙ c.if-not-room.false in
+    sym (room_of_open book.trail (entry_of moment c.args.who act) c.requires.ready ∙ room_of_mark (size_of book) all c.args.now moment c.args.who act at)
+    ∙ sym (c.room.ensures.room told) ∙ c.if-not-room.false in
     let made = made_with_room (room_for all (size_of book) act) act room in
     let value : value_of new ≡ recorded (value_of book) c.args.now c.args.who act =
-        c.in-Ok.ensures.ok ∙ put_is_recorded (value_of book) all c.args.now moment c.args.who act (history_is book.trail book.cuts c.requires.ready) at in
+    c.in-Ok.ensures.ok ∙ put_is_recorded (value_of book) all c.args.now moment c.args.who act (history_is book.trail book.cuts c.requires.ready) at in
     record {
       value = value ∙ ap (λ (m : Mark). (marked_at (value_of book) c.args.now c.args.who m).value) made;
       answer =
