@@ -9,6 +9,7 @@ pub mod IndexLemmas
 pub mod JudgeLemmas
 pub mod ListsLemmas
 pub mod LookupLemmas
+pub mod MarkingLemmas
 pub mod MarksLemmas
 pub mod NodesLemmas
 pub mod Openings

@@ -39,6 +39,7 @@ pub mod Judging
 pub mod Lookups
 pub mod Adding
 pub mod Followed
+pub mod Marking
 pub mod FollowedProps
 pub mod Gathering
 pub mod Nodes

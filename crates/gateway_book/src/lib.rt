@@ -17,6 +17,7 @@ pub mod laws;
 mod listed;
 mod listing;
 mod lookups;
+mod marking;
 mod node_mark;
 mod nodes;
 mod observe;

@@ -80,8 +80,8 @@ impl<A: Area> Book<A> {
         }
     }
 
-    // The moment that an entry made now bears.
-    fn moment_after(&self, now: Moment) -> Moment
+    /// The moment that an entry made now bears.
+    pub(crate) fn moment_after(&self, now: Moment) -> Moment
         ensures after { Told A.Area → result ≡ moment_after (all_entries self.now.trail) now }
         ensures within { now ≤ latest_moment }
     {

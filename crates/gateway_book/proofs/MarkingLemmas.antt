@@ -1,0 +1,53 @@
+-- How a mark is added to a book.
+use Rattle.std.proofs.Common.{◌≡◌, ℕ, Bool, true, false, if◌then◌else◌, List, Result, Ok, Err, sym, ap, ◌∙◌}
+use Rattle.std.specs.Prelude.{OnOk, OnErr}
+use Rattle.area_disk.specs.declared.area.Area.{Ghosts}
+use Rattle.entry_codec.specs.Room.{has_room}
+use Rattle.gate_journal.specs.Moments.{Told}
+use Rattle.cgf_journal.specs.Trail.{area_of, entries, firm_entries, is_closed}
+use Rattle.cgf_journal.specs.declared.trail.Trail.{Trail}
+use Rattle.gw_base.specs.History.{is_close_due, moment_after}
+use Rattle.gw_base.specs.declared.history.Caller.{Caller}
+use Rattle.gw_base.specs.declared.history.HistoryAct.{HistoryAct}
+use Rattle.gw_base.specs.declared.history.HistoryAct.TheVariants.{Close}
+use Rattle.gw_base.specs.declared.history.HistoryEntry.{HistoryEntry}
+use Rattle.gateway_book.specs.Adding.{AreKept, IsAdded, entry_of}
+use Rattle.gateway_book.specs.Answered.{room_for}
+use Rattle.gateway_book.specs.Fit.{IsFit}
+use Rattle.gateway_book.specs.FitLaws.{room_is_for_each}
+use Rattle.gateway_book.specs.Followed.{IsFollowed, all_entries}
+use Rattle.gateway_book.specs.Marking.{with_entry}
+use Rattle.gateway_book.specs.Marks.{Mark, NotDue, NoRoom, Makes, close_mark, made_if}
+use Rattle.gateway_book.specs.Value.{BookValue, history_of, recorded}
+use Rattle.gateway_book.specs.declared.index.Index.{Index}
+use Rattle.gateway_book.proofs.TakingLemmas.{followed_added, followed_kept}
+
+-- the room for an entry of an open trail
+pub room_of_open : {A : Type 0} {tells : Ghosts A} (trail : Trail A tells) (e : HistoryEntry) → is_closed trail ≡ false → has_room (entries trail) e (tells.size (area_of trail)) ≡ has_room (all_entries trail) e (tells.size (area_of trail))
+room_of_open {tells = tells} trail e open_now = ap (λ b. has_room (if b then firm_entries trail else all_entries trail) e (tells.size (area_of trail))) open_now
+
+pub room_of_mark : (size : ℕ) (h : List HistoryEntry) (now moment : ℕ) (who : Caller) (act : HistoryAct) → moment ≡ moment_after h now → has_room h (entry_of moment who act) size ≡ room_for h size act
+room_of_mark size h now moment who act at = ap (λ (m : ℕ). has_room h (entry_of m who act) size) at ∙ room_is_for_each h size now who act
+
+-- what was put
+module _ {A : Type 0} {tells : Ghosts A} {F : Type 0} (old new : Trail A tells) (before after : Index) (e : HistoryEntry) where
+  pub followed_put : (r : Result (Unit {0}) F) → IsFollowed old before → OnOk r (IsAdded old new before after e) → OnErr r (AreKept old new before after) → (Told tells → IsFit (tells.size (area_of old)) (all_entries old) e) → IsFollowed new after
+  followed_put (Ok x) followed ok err fits = followed_added old new before after e followed ok fits
+  followed_put (Err f) followed ok err fits = followed_kept old new before after followed err
+
+-- the entry of a mark is the one that is recorded
+pub put_is_recorded : (v : BookValue) (h : List HistoryEntry) (now moment : ℕ) (who : Caller) (act : HistoryAct) → history_of v ≡ h → moment ≡ moment_after h now → with_entry v (entry_of moment who act) ≡ recorded v now who act
+put_is_recorded v h now moment who act is at = ap (λ (m : ℕ). with_entry v (entry_of m who act)) (at ∙ ap (λ (g : List HistoryEntry). moment_after g now) (sym is))
+
+pub made_with_room : (has : Bool) (act : HistoryAct) → has ≡ true → Makes act ≡ made_if has act
+made_with_room has act e = sym (ap (λ b. made_if b act) e)
+
+pub none_without_room : (has : Bool) (act : HistoryAct) → has ≡ false → NoRoom ≡ made_if has act
+none_without_room has act e = sym (ap (λ b. made_if b act) e)
+
+-- ---- which mark is made
+
+module _ (h all : List HistoryEntry) (is : h ≡ all) where
+  pub close_made : (size : ℕ) → is_close_due all ≡ true → room_for all size Close ≡ true → made_if (room_for all size Close) Close ≡ close_mark h
+  close_made size due room =
+      ap (λ b. made_if b Close) room ∙ sym (ap (λ b. let m : Mark = if b then Makes Close else NotDue in m) due) ∙ ap (λ (g : List HistoryEntry). close_mark g) (sym is)

@@ -1,0 +1,20 @@
+use Rattle.std.proofs.Common.{◌≡◌, true, sym, subst, ◌∙◌}
+use Rattle.gw_base.specs.History.{is_close_due}
+use Rattle.gateway_book.specs.Book.{IsLeft, size_of, value_of}
+use Rattle.gateway_book.specs.Calls.{marked_at}
+use Rattle.gateway_book.specs.FitHistoryLaws.{fit_is_within}
+use Rattle.gateway_book.specs.Followed.{all_entries}
+use Rattle.gateway_book.specs.Marks.{Mark}
+use Rattle.gateway_book.specs.Value.{history_of}
+use Rattle.gateway_book.proofs.MarkingLemmas.{close_made}
+use Rattle.gateway_book.proofs.TakingLemmas.{history_is}
+use Rattle.gateway_book.proofs.book.Book.close_if_due.Goals as goal
+
+pub returns-clause-left : goal.returns-clause-left
+returns-clause-left g c = λ told some.
+    let book = c.args.self.now in
+    let all = all_entries book.trail in
+    let due : is_close_due all ≡ true = sym (c.is_close_due.ensures told) ∙ c.if-not-is_close_due.false in
+    let room = c.a_due_close_has_room.ensures all (size_of book) (fit_is_within (size_of book) all (book.followed.fit told)) due in
+    subst (λ (m : Mark). IsLeft book c.mark.new.self (marked_at (value_of book) c.args.now c.args.who m) c.mark.result)
+    (close_made (history_of (value_of book)) all (history_is book.trail book.cuts c.requires.ready) (size_of book) due room) (c.mark.ensures.left told some)

@@ -1,0 +1,50 @@
+use Rattle.std.proofs.Common.{◌≡◌, ℕ, true, false, length, sym, ap, ◌∙◌}
+use Rattle.gw_base.specs.Entry.{act_view}
+use Rattle.gateway_book.specs.Adding.{entry_of}
+use Rattle.gateway_book.specs.Answered.{room_for}
+use Rattle.gateway_book.specs.Book.{size_of, value_of}
+use Rattle.gateway_book.specs.Calls.{marked_at}
+use Rattle.gateway_book.specs.Followed.{all_entries}
+use Rattle.gateway_book.specs.Marks.{Mark}
+use Rattle.gateway_book.specs.Value.{BookValue, history_of, recorded}
+use Rattle.gateway_book.specs.declared.outcome.Marked.TheVariants as marked
+use Rattle.gateway_book.proofs.MarkingLemmas.{made_with_room, none_without_room, put_is_recorded, room_of_mark, room_of_open}
+use Rattle.gateway_book.proofs.TakingLemmas.{history_is}
+use Rattle.gateway_book.proofs.book.Book.mark.Goals as goal
+
+pub returns-then-not-room-clause-left : goal.returns-then-not-room-clause-left
+returns-then-not-room-clause-left g c = λ told some.
+    let book = c.args.self.now in
+    let act = act_view c.args.act in
+    let moment = c.moment_after-moment.result in
+    let all = all_entries book.trail in
+    let room : room_for all (size_of book) act ≡ false =
+    sym (room_of_open book.trail (entry_of moment c.args.who act) c.requires.ready ∙ room_of_mark (size_of book) all c.args.now moment c.args.who act (c.moment_after-moment.ensures.after told))
+    ∙ sym (c.room.ensures.room told) ∙ c.if-not-room.true in
+    let made = none_without_room (room_for all (size_of book) act) act room in
+    record {
+      value = ap (λ (m : Mark). (marked_at (value_of book) c.args.now c.args.who m).value) made;
+      answer = ap (λ (m : Mark). (marked_at (value_of book) c.args.now c.args.who m).answer) made;
+    }
+
+pub returns-in-Ok-clause-left : goal.returns-in-Ok-clause-left
+returns-in-Ok-clause-left g c = λ told some.
+    let book = c.args.self.now in
+    let new = c.put.new.self in
+    let act = act_view c.args.act in
+    let moment = c.moment_after-moment.result in
+    let at = c.moment_after-moment.ensures.after told in
+    let all = all_entries book.trail in
+    let room : room_for all (size_of book) act ≡ true =
+    sym (room_of_open book.trail (entry_of moment c.args.who act) c.requires.ready ∙ room_of_mark (size_of book) all c.args.now moment c.args.who act at)
+    ∙ sym (c.room.ensures.room told) ∙ c.if-not-room.false in
+    let made = made_with_room (room_for all (size_of book) act) act room in
+    let value : value_of new ≡ recorded (value_of book) c.args.now c.args.who act =
+    c.in-Ok.ensures.ok ∙ put_is_recorded (value_of book) all c.args.now moment c.args.who act (history_is book.trail book.cuts c.requires.ready) at in
+    record {
+      value = value ∙ ap (λ (m : Mark). (marked_at (value_of book) c.args.now c.args.who m).value) made;
+      answer =
+          ap (λ (n : ℕ). marked.Made n new.cuts) (c.length.ensures.length told)
+          ∙ ap (λ (v : BookValue). marked.Made (length (history_of v)) v.cuts) value
+          ∙ ap (λ (m : Mark). (marked_at (value_of book) c.args.now c.args.who m).answer) made;
+    }
