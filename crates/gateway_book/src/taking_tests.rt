@@ -1,7 +1,7 @@
 // A book takes datagrams.
 ghost use Rattle.std.specs.Prelude.{◌≤◌};
 
-use crate::{Book, Outcome, Receipt, Settled, Setup, prepare};
+use crate::{Book, Marked, Outcome, Receipt, Settled, Setup, prepare};
 use area_disk::{Area, MemoryArea, Plan};
 use gw_base::{Addr, Caller, Moment};
 use std::alloc::Global;
@@ -45,11 +45,15 @@ fn opened(rt: &impl Abort, alloc: Global) -> Book<MemoryArea> {
     }
 }
 
-fn taken(rt: &impl Abort, book: &mut Book<MemoryArea>) -> Receipt {
-    let now = match Moment::of(5) {
-        Some(now) => now,
+fn moment(rt: &impl Abort, seconds: u64) -> Moment {
+    match Moment::of(seconds) {
+        Some(moment) => moment,
         None => panic!(rt; "no such moment"),
-    };
+    }
+}
+
+fn taken(rt: &impl Abort, book: &mut Book<MemoryArea>) -> Receipt {
+    let now = moment(rt, 5);
     match book.take(FROM, &prepare(&REQUEST), now, Caller::NONE) {
         Outcome::Answer(receipt) => receipt,
         _ => panic!(rt; "not answered"),
@@ -85,4 +89,23 @@ fn a_request_is_answered_and_waits(rt: HostRuntime) {
         book.settled(first.front, first.faults),
         Settled::Lost { faults: 2 }
     );
+    let now = moment(&rt, 5);
+    let made = book.tick(now, Caller::NONE);
+    assert_eq!(&rt;
+        made,
+        Marked::Made {
+            front: 3,
+            faults: 2
+        }
+    );
+    assert_eq!(&rt; book.tick(moment(&rt, 64), Caller::NONE), Marked::NotDue);
+    let made = book.close(now, Caller::NONE);
+    assert_eq!(&rt;
+        made,
+        Marked::Made {
+            front: 4,
+            faults: 2
+        }
+    );
+    assert_eq!(&rt; book.close(now, Caller::NONE), Marked::NotDue);
 }
