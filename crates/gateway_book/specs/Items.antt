@@ -1,6 +1,7 @@
 -- What the writer of files is told of a history, one after the other: the filed records, and the marks that close
 -- files. The items are numbered from 0 on in their order.
-use Rattle.std.specs.Prelude.{ℕ, List, [], ◌∷◌, map, take, drop}
+use Rattle.std.specs.Prelude.{ℕ, ◌<◌, ◌^◌, List, [], ◌∷◌, length, map, take, drop}
+use Rattle.gw_base.specs.CdrKind.{IsCdrKind}
 use Rattle.gw_base.specs.declared.history.HistoryAct.{HistoryAct}
 use Rattle.gw_base.specs.declared.history.HistoryAct.TheVariants as act
 use Rattle.gw_base.specs.declared.history.HistoryEntry.{HistoryEntry}
@@ -30,3 +31,10 @@ items_of h = along items_by [] h
 -- so many items from a number on, or all where there are fewer
 abbrev pub items_between : ℕ → ℕ → List HistoryEntry → List Item
 items_between from max h = take max (drop from (items_of h))
+
+-- What a writer of files asks of an item: a record has at most 65,535 octets, as many as the header of its CDR can
+-- count, and a kind that this header can say (3GPP TS 32.297, clause 6.1.2).
+abbrev pub IsWritable : Item → Type 0
+IsWritable (item.Part kind tag octets moment) = IsCdrKind kind × (length octets < 2 ^ 16)
+IsWritable (item.Tick moment) = Unit {0}
+IsWritable (item.Close moment) = Unit {0}

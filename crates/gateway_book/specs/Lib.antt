@@ -16,6 +16,7 @@ pub mod Once
 pub mod Opened
 pub mod Plain
 pub mod Preparing
+pub mod Read
 pub mod Recording
 pub mod Told
 pub mod Value

@@ -12,6 +12,7 @@ mod filing;
 mod fit;
 mod gathering;
 mod index;
+mod items;
 mod judge;
 pub mod laws;
 mod listed;
