@@ -39,10 +39,12 @@ pub mod Faults
 pub mod Judging
 pub mod Lookups
 pub mod Adding
+pub mod Cursor
 pub mod Followed
 pub mod Marking
 pub mod FollowedProps
 pub mod Gathering
+pub mod HeldCopies
 pub mod Nodes
 pub mod Numbers
 pub mod Sides

@@ -1,25 +1,43 @@
--- What a call of a book leaves that only reads its area.
-use Rattle.std.specs.Prelude.{◌≡◌, ◌≤◌, Result, Err, OnOk}
+-- What a call leaves that only reads an area: of a trail, and of a book.
+use Rattle.std.specs.Prelude.{◌≡◌, ℕ, ◌≤◌, Result, Err, OnOk}
 use Rattle.area_disk.specs.Disk.{Rose}
+use Rattle.area_disk.specs.MomentLaws.{OnlyNow}
 use Rattle.area_disk.specs.declared.area.Area.{Ghosts}
-use Rattle.gate_journal.specs.Moments.{Told}
-use Rattle.cgf_journal.specs.Trail.{is_closed, torn_stands}
+use Rattle.gate_journal.specs.Moments.{Kept, Told}
+use Rattle.cgf_journal.specs.Outcomes.{IsKept}
+use Rattle.cgf_journal.specs.Trail as trail
+use Rattle.cgf_journal.specs.declared.trail.Trail.{Trail}
 use Rattle.gateway_book.specs.Book.{Stays, area_of, value_of}
 use Rattle.gateway_book.specs.declared.book.Book.{Book}
 use Rattle.gateway_book.specs.declared.outcome.ItemsFault.{ItemsFault}
 use Rattle.gateway_book.specs.declared.outcome.ItemsFault.TheVariants.{Device}
 
+-- `Device` comes only where the count of faults rose in the call; it never falls.
+pub record ReadCause {R : Type 0} (before now : ℕ) (result : Result R ItemsFault) : Type 0 where
+  pub device : result ≡ Err Device → Rose before now
+  pub ok : OnOk result (now ≡ before)
+  pub later : before ≤ now
+
+-- A trail was read, or not even that, and is as before. That what a crash leaves stays where nothing is done is a law of
+-- each area.
+pub record IsRead {A : Type 0} {tells : Ghosts A} (old new : Trail A tells) : Type 0 where
+  pub kept : IsKept old new
+  pub torn_stands : trail.torn_stands new ≡ trail.torn_stands old
+  pub area : OnlyNow tells → Kept tells (trail.area_of old) (trail.area_of new)
+
+-- why the reading of a trail failed
+abbrev pub HasCauseOf : {A R : Type 0} {tells : Ghosts A} → Trail A tells → Trail A tells → Result R ItemsFault → Type 0
+HasCauseOf {tells = tells} old new result = ReadCause (tells.faults (trail.area_of old)) (tells.faults (trail.area_of new)) result
+
 module _ {A : Type 0} {tells : Ghosts A} (old new : Book A tells) where
   -- The book is as before, a broken one too: what an opening again will find stays.
   pub record IsUnchanged : Type 0 where
     pub value : Told tells → value_of new ≡ value_of old
-    pub broken : is_closed new.trail ≡ is_closed old.trail
+    pub broken : trail.is_closed new.trail ≡ trail.is_closed old.trail
     pub cuts : new.cuts ≡ old.cuts
-    pub torn_stands : torn_stands new.trail ≡ torn_stands old.trail
+    pub torn_stands : trail.torn_stands new.trail ≡ trail.torn_stands old.trail
     pub stays : Stays old new
 
-  -- `Device` comes only where the count of faults rose in the call; it never falls.
-  pub record HasReadCause {R : Type 0} (result : Result R ItemsFault) : Type 0 where
-    pub device : result ≡ Err Device → Rose (tells.faults (area_of old)) (tells.faults (area_of new))
-    pub ok : OnOk result (tells.faults (area_of new) ≡ tells.faults (area_of old))
-    pub later : tells.faults (area_of old) ≤ tells.faults (area_of new)
+  -- why the reading of a book failed
+  abbrev pub HasReadCause : {R : Type 0} → Result R ItemsFault → Type 0
+  HasReadCause result = ReadCause (tells.faults (area_of old)) (tells.faults (area_of new)) result

@@ -1,8 +1,9 @@
 //! Items gathered one after the other.
-ghost use Rattle.std.specs.Prelude.{◌≡◌, ◌==◌, [], ◌∷◌, OnOk};
+ghost use Rattle.std.specs.Prelude.{◌≡◌, ◌==◌, ◌<◌, [], ◌∷◌, All, OnOk, length};
 ghost use Rattle.gtpp_message.specs.Packet.{IsPacket};
 ghost use Rattle.gtpp_message.specs.Values.{packet_value};
 ghost use Rattle.gateway_book.specs.Gathering.{gathered, packet_items, record_item};
+ghost use Rattle.gateway_book.specs.Items.{IsWritable};
 
 use crate::filing::record_tag;
 use gtpp_message::Packet;
@@ -18,14 +19,19 @@ pub(crate) struct Gathering {
     /// For how many more there is room.
     room: usize,
     items: Vec<Item>,
+    alloc: Global,
 }
 
 impl Model for Gathering {
+    ghost use Rattle.std.specs.Prelude.{All};
     ghost use Rattle.gateway_book.specs.Gathering.{Gathered};
+    ghost use Rattle.gateway_book.specs.Items.{IsWritable};
 
     ghost Value = { Gathered };
 
     ghost view = { λ g. record { skip = g.skip; room = g.room; items = g.items.items } };
+
+    ghost invariant = { λ g. All IsWritable g.items.items };
 }
 
 impl Gathering {
@@ -37,7 +43,22 @@ impl Gathering {
             skip,
             room,
             items: Vec::new(alloc),
+            alloc,
         }
+    }
+
+    /// How many of the items that come are still left out.
+    pub(crate) fn skip(&self) -> u64
+        ensures { result ≡ self.now.skip }
+    {
+        self.skip
+    }
+
+    /// How many items there are.
+    pub(crate) fn count(&self) -> usize
+        ensures { result ≡ length self.now.items }
+    {
+        self.items.len()
     }
 
     /// Whether there is room for none more.
@@ -49,13 +70,15 @@ impl Gathering {
 
     /// The items.
     pub(crate) fn into_items(self) -> Vec<Item>
-        ensures { result.items ≡ self.items }
+        ensures items { result.items ≡ self.items }
+        ensures writable { All IsWritable result.items }
     {
         self.items
     }
 
     /// Gathers one item more.
     pub(crate) fn add(&mut self, item: Item) -> Result<(), NoMemory>
+        requires { IsWritable item }
         ensures { OnOk result (self.new ≡ gathered (item ∷ []) self.old) }
     {
         if self.skip > 0 {
@@ -71,12 +94,7 @@ impl Gathering {
 
     /// Gathers the items of a packet that is filed at a moment.
     #[tactic(auto, using(crate::proofs::GatheringLemmas::one_and_more, crate::proofs::GatheringLemmas::none_more))]
-    pub(crate) fn add_packet(
-        &mut self,
-        alloc: Global,
-        packet: Packet<'_>,
-        moment: Moment,
-    ) -> Result<(), NoMemory>
+    pub(crate) fn add_packet(&mut self, packet: Packet<'_>, moment: Moment) -> Result<(), NoMemory>
         requires { IsPacket (packet_value packet) }
         ensures { OnOk result (self.new ≡ gathered (packet_items moment (packet_value packet.entry)) self.old) }
     {
@@ -90,7 +108,7 @@ impl Gathering {
         };
         let mut records = packet.records();
         while let Some(octets) = records.next() {
-            self.add_record(alloc, format, version, octets, moment)?;
+            self.add_record(format, version, octets, moment)?;
         }
         Ok(())
     }
@@ -98,12 +116,12 @@ impl Gathering {
     /// Gathers the item of one record.
     fn add_record(
         &mut self,
-        alloc: Global,
         format: u8,
         version: u16,
         octets: &[u8],
         moment: Moment,
     ) -> Result<(), NoMemory>
+        requires { length octets.now < 65536 }
         ensures { OnOk result (self.new ≡ gathered (record_item moment format version octets.now ∷ []) self.old) }
     {
         if self.skip > 0 {
@@ -116,7 +134,7 @@ impl Gathering {
         self.add(Item::Part {
             kind: cdr_kind(format, version),
             tag: record_tag(format, octets),
-            octets: Octets::of(alloc, octets)?,
+            octets: Octets::of(self.alloc, octets)?,
             moment,
         })
     }

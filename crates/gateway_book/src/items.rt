@@ -5,6 +5,8 @@ ghost use Rattle.gateway_book.specs.Items.{IsWritable, items_between};
 
 use crate::ItemsFault;
 use crate::book::Book;
+use crate::cursor::{Cursor, gather};
+use crate::gathering::Gathering;
 use area_disk::Area;
 use gw_base::Item;
 use std::alloc::Global;
@@ -29,7 +31,9 @@ impl<A: Area> Book<A> {
         ensures area { Kept A.Area (area_of self.old) (area_of self.new) }
         ensures cause { HasReadCause self.old self.new result }
     {
-        let _ = (alloc, from, max);
-        Err(ItemsFault::NoMemory)
+        let mut cursor = Cursor::new(alloc);
+        let mut gathering = Gathering::new(alloc, from, max as usize);
+        gather(alloc, &mut self.trail, &mut cursor, &mut gathering)?;
+        Ok(gathering.into_items())
     }
 }

@@ -7,12 +7,17 @@ mod answering;
 mod book;
 mod case;
 mod commit;
+mod cursor;
 mod decision;
+mod entry_items;
 mod filing;
 mod fit;
 mod gathering;
+mod held_copies;
 mod index;
 mod items;
+#[cfg(test)]
+mod items_tests;
 mod judge;
 pub mod laws;
 mod listed;
@@ -31,6 +36,7 @@ mod plain;
 #[cfg(test)]
 mod plain_tests;
 mod preparing;
+mod reading;
 mod readying;
 mod states;
 mod taking;

@@ -1,0 +1,115 @@
+//! The items that an entry makes.
+ghost use Rattle.std.specs.Prelude.{◌≡◌, List, OnOk, map};
+ghost use Rattle.gate_journal.specs.Moments.{Told};
+ghost use Rattle.cgf_journal.specs.Trail.{firm_length};
+ghost use Rattle.gw_base.specs.Entry.{act_view, entry_view};
+ghost use Rattle.gw_base.specs.declared.history.HistoryEntry.{HistoryEntry};
+ghost use Rattle.gw_base.specs.declared.history.PacketKey.{PacketKey};
+ghost use Rattle.gateway_book.specs.Cursor.{AreHeldIn, NamesOnce};
+ghost use Rattle.gateway_book.specs.Filed.{records_of, released_by, released_records};
+ghost use Rattle.gateway_book.specs.Gathering.{gathered};
+ghost use Rattle.gateway_book.specs.HeldCopies.{AreBelow};
+ghost use Rattle.gateway_book.specs.Items.{items_by, part_of};
+ghost use Rattle.gateway_book.specs.Read.{HasCauseOf, IsRead};
+
+use crate::ItemsFault;
+use crate::gathering::Gathering;
+use crate::held_copies::HeldCopies;
+use crate::reading::{EntryBuffers, read_entry};
+use area_disk::Area;
+use cgf_journal::Trail;
+use gtpp_message::Packet;
+use gw_base::{Absolute, Act, Entry, Item, Moment, NoMemory, NodeId};
+
+// Gathers the items of a packet that is filed at a moment.
+fn add_packet(packet: &[u8], moment: Moment, into: &mut Gathering) -> Result<(), NoMemory>
+    ensures { (key : PacketKey) → OnOk result (into.new ≡
+        gathered (map part_of (records_of key moment packet.now)) into.old) }
+{
+    match Packet::of(packet) {
+        Some(packet) => into.add_packet(packet, moment),
+        None => Ok(()),
+    }
+}
+
+// Gathers the items of the copy that is held under a node's number, where one is, as it is released at a moment.
+fn add_copy<A: Area>(
+    trail: &mut Trail<A>,
+    copies: &HeldCopies,
+    held: &mut EntryBuffers,
+    node: NodeId,
+    number: Absolute,
+    moment: Moment,
+    into: &mut Gathering,
+) -> Result<(), ItemsFault>
+    requires { AreBelow (firm_length trail.old) copies.now }
+    ensures items { Told A.Area → (before : List HistoryEntry) → AreHeldIn trail.old copies.now before →
+        OnOk result (into.new ≡ gathered (map part_of (released_records before moment node number)) into.old) }
+    ensures read { IsRead trail.old trail.new }
+    ensures cause { HasCauseOf trail.old trail.new result }
+{
+    let Some(k) = copies.find(node, number) else {
+        return Ok(());
+    };
+    let entry = read_entry(trail, k, held)?;
+    match entry.act {
+        Act::Hold { packet, .. } => match add_packet(packet, moment, into) {
+            Ok(()) => Ok(()),
+            Err(NoMemory) => Err(ItemsFault::NoMemory),
+        },
+        _ => Ok(()),
+    }
+}
+
+// Gathers the items of the copies that are held under these numbers of a node, as they are released at a moment.
+fn add_copies<A: Area>(
+    trail: &mut Trail<A>,
+    copies: &HeldCopies,
+    held: &mut EntryBuffers,
+    node: NodeId,
+    numbers: &[Absolute],
+    moment: Moment,
+    into: &mut Gathering,
+) -> Result<(), ItemsFault>
+    requires { AreBelow (firm_length trail.old) copies.now }
+    ensures items { Told A.Area → (before : List HistoryEntry) → AreHeldIn trail.old copies.now before →
+        OnOk result (into.new ≡ gathered (map part_of (released_by before moment node numbers.now)) into.old) }
+    ensures read { IsRead trail.old trail.new }
+    ensures cause { HasCauseOf trail.old trail.new result }
+{
+    for number in numbers {
+        add_copy(trail, copies, held, node, *number, moment, into)?;
+    }
+    Ok(())
+}
+
+/// Gathers the items of an entry behind those whose held copies these are.
+pub(crate) fn add_items<A: Area>(
+    trail: &mut Trail<A>,
+    copies: &HeldCopies,
+    held: &mut EntryBuffers,
+    entry: &Entry<'_>,
+    into: &mut Gathering,
+) -> Result<(), ItemsFault>
+    requires { AreBelow (firm_length trail.old) copies.now }
+    ensures items { Told A.Area → (before : List HistoryEntry) → AreHeldIn trail.old copies.now before →
+        NamesOnce (act_view entry.now.act) →
+        OnOk result (into.new ≡ gathered (items_by before (entry_view entry.now)) into.old) }
+    ensures read { IsRead trail.old trail.new }
+    ensures cause { HasCauseOf trail.old trail.new result }
+{
+    let moment = entry.moment;
+    let added = match entry.act {
+        Act::File { packet, .. } => add_packet(packet, moment, into),
+        Act::Release { node, numbers } => {
+            return add_copies(trail, copies, held, node, numbers, moment, into);
+        }
+        Act::Tick => into.add(Item::Tick { moment }),
+        Act::Close => into.add(Item::Close { moment }),
+        _ => Ok(()),
+    };
+    match added {
+        Ok(()) => Ok(()),
+        Err(NoMemory) => Err(ItemsFault::NoMemory),
+    }
+}
