@@ -32,7 +32,7 @@ step_filed h place e before found new lt here front grown so_far =
 
 -- ---- the held packet, entry by entry
 
-held_packet-push : (node number : ℕ) (h : List HistoryEntry) (e : HistoryEntry)
+pub held_packet-push : (node number : ℕ) (h : List HistoryEntry) (e : HistoryEntry)
     → held_packet node number (h ++ e ∷ []) ≡ packet_after node number (held_packet node number h) e.act
 held_packet-push node number h e =
     ap (λ es. option_and_then (λ (x : HistoryEntry). packet_of_hold x.act) (last_naming node number es)) (after_last-push (λ (x : HistoryEntry). begins_epoch node x.act) h e)

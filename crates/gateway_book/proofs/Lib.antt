@@ -1,11 +1,14 @@
 pub mod AddingLemmas
 pub mod BookLemmas
 pub mod Committing
+pub mod CursorLemmas
 pub mod GatheringLemmas
 pub mod FilingLemmas
 pub mod FitLemmas
+pub mod HeldCopiesLemmas
 pub mod HeldCounts
 pub mod IndexLemmas
+pub mod ItemsLemmas
 pub mod JudgeLemmas
 pub mod ListsLemmas
 pub mod LookupLemmas
@@ -14,6 +17,7 @@ pub mod MarksLemmas
 pub mod NodesLemmas
 pub mod Openings
 pub mod PlainLemmas
+pub mod ReadLemmas
 pub mod RecordsLemmas
 pub mod StatesLemmas
 pub mod TakingLemmas

@@ -30,7 +30,7 @@ equal_keys key other same =
 pub same_itself : (key : PacketKey) → same_key key key ≡ true
 same_itself key = rw (eq-eqb key.node.0 key.node.0 refl, eq-eqb key.epoch key.epoch refl, eq-eqb key.number key.number refl) refl
 
-order_is : (a b : ℕ) → is_eq (nat_cmp a b) ≡ (a == b)
+pub order_is : (a b : ℕ) → is_eq (nat_cmp a b) ≡ (a == b)
 order_is a b = by_test (nat_lt a b) (a == b) refl refl
   where
     by_test : (less same : Bool) → nat_lt a b ≡ less → (a == b) ≡ same → is_eq (cond less Less (cond same Equal Greater)) ≡ same
@@ -39,7 +39,7 @@ order_is a b = by_test (nat_lt a b) (a == b) refl refl
     by_test false true l s = refl
     by_test false false l s = refl
 
-then_is : (o p : Ordering) → is_eq (ordering_then o p) ≡ (is_eq o && is_eq p)
+pub then_is : (o p : Ordering) → is_eq (ordering_then o p) ≡ (is_eq o && is_eq p)
 then_is Less p = refl
 then_is Equal p = refl
 then_is Greater p = refl

@@ -1,6 +1,7 @@
 -- Where the copies lie that a history holds, by the numbers of its entries, which count from 0.
-use Rattle.std.specs.Prelude.{◌≡◌, ℕ, ◌<◌, ◌==◌, ◌&&◌, nat_lt, if◌then◌else◌, List, Option, Some, None, option_and_then, slice_get}
+use Rattle.std.specs.Prelude.{◌≡◌, ℕ, ◌<◌, ◌==◌, ◌&&◌, nat_lt, if◌then◌else◌, Bool, List, Option, Some, None, option_and_then, slice_get}
 use Rattle.std.specs.BTreeMap.{BTreeMap, get}
+use Rattle.std.specs.List.{list_any}
 use Rattle.std.specs.Option.{ForSome}
 use Rattle.std.specs.Ordering.{nat_cmp, ordering_then}
 use Rattle.std.specs.declared.cmp.Ordering.{Ordering}
@@ -10,6 +11,7 @@ use Rattle.gw_base.specs.declared.history.HistoryAct.TheVariants.{Hold}
 use Rattle.gw_base.specs.declared.history.HistoryEntry.{HistoryEntry}
 use Rattle.gateway_book.specs.Filed.{held_packet, packet_of_hold}
 use Rattle.gateway_book.specs.declared.held_copies.CopyKey.{CopyKey}
+use Rattle.gateway_book.specs.declared.held_copies.HeldCopies.{HeldCopies}
 
 pub record CopyPlaces : Type 0 where
   -- the entry that holds a node's number, where no later one names the number
@@ -68,9 +70,17 @@ hold_in holds node number = get copy_order holds (record { node = node; number =
 abbrev pub path_in : BTreeMap ℕ ℕ → ℕ → Option ℕ
 path_in paths node = get nat_cmp paths node
 
+-- what is kept of all
+abbrev pub places_of : HeldCopies → CopyPlaces
+places_of copies = record { hold = hold_in copies.holds; path = path_in copies.paths }
+
 -- the copies with another entry at a node's number, or with none there
 abbrev pub with_hold : ℕ → ℕ → Option ℕ → (ℕ → ℕ → Option ℕ) → ℕ → ℕ → Option ℕ
 with_hold node number place hold n x = if (node == n) && (number == x) then place else hold n x
+
+-- the copies with none at these numbers of a node
+abbrev pub without_holds : ℕ → List ℕ → (ℕ → ℕ → Option ℕ) → ℕ → ℕ → Option ℕ
+without_holds node numbers hold n x = if (node == n) && list_any (λ y. y == x) numbers then None else hold n x
 
 -- the nodes' last Paths with another one of a node
 abbrev pub with_path : ℕ → ℕ → (ℕ → Option ℕ) → ℕ → Option ℕ

@@ -1,10 +1,10 @@
 //! How far the items of a history were told.
-ghost use Rattle.std.specs.Prelude.{◌≡◌, ◌≢◌, ◌<◌, OnOk, OnErr};
+ghost use Rattle.std.specs.Prelude.{◌≡◌, ◌<◌, ◌+◌, List, true, false, Ok, OnOk, OnErr};
 ghost use Rattle.gate_journal.specs.Moments.{Told};
-ghost use Rattle.cgf_journal.specs.Trail.{area_of, firm_entries, firm_length};
+ghost use Rattle.cgf_journal.specs.Trail.{firm_length};
 ghost use Rattle.gw_base.specs.Entry.{act_view};
-ghost use Rattle.gateway_book.specs.Cursor.{HasPassed, IsAt, IsBegun, IsWithin, gathered_at_last};
-ghost use Rattle.gateway_book.specs.FitHistory.{AllFit};
+ghost use Rattle.gw_base.specs.declared.history.HistoryEntry.{HistoryEntry};
+ghost use Rattle.gateway_book.specs.Cursor.{HasPassed, HasStayed, IsAt, IsBegun, IsWithin, StandsIn, gathered_at_last};
 ghost use Rattle.gateway_book.specs.Read.{HasCauseOf, IsRead};
 
 use crate::ItemsFault;
@@ -44,7 +44,7 @@ impl Cursor {
     fn pass(&mut self, act: &Act<'_>, items: u64) -> Result<(), NoMemory>
         requires { self.old.entry < 18446744073709551615 }
         ensures ok { OnOk result (HasPassed (act_view act.now) items self.old self.new) }
-        ensures err { OnErr result (self.new ≡ self.old) }
+        ensures err { OnErr result (HasStayed self.old self.new) }
     {
         self.copies.note(self.entry, act)?;
         self.entry += 1;
@@ -53,38 +53,40 @@ impl Cursor {
     }
 }
 
-// Gathers the items of the entry behind a cursor, and passes it, where there is room for more items then.
+// Gathers the items of the entry behind a cursor, and passes it, where there is room for more items then. It answers
+// whether it did.
 fn step<A: Area>(
     trail: &mut Trail<A>,
     cursor: &mut Cursor,
     entries: &mut EntryBuffers,
     held: &mut EntryBuffers,
     into: &mut Gathering,
-) -> Result<(), ItemsFault>
+) -> Result<bool, ItemsFault>
     requires within { IsWithin (firm_length trail.old) cursor.old }
     requires before { cursor.old.entry < firm_length trail.old }
-    requires fit { Told A.Area → AllFit (A.size (area_of trail.old)) (firm_entries trail.old) }
-    ensures gathered { Told A.Area → IsAt (firm_entries trail.old) cursor.old → OnOk result
-        (gathered_at_last (firm_entries trail.old) cursor.new.entry into.new ≡
-        gathered_at_last (firm_entries trail.old) cursor.old.entry into.old) }
-    ensures on { OnOk result (into.new.room ≢ 0 → cursor.old.entry < cursor.new.entry) }
+    ensures gathered { Told A.Area → (h : List HistoryEntry) → StandsIn trail.old h cursor.old → OnOk result
+        (gathered_at_last h cursor.new.entry into.new ≡ gathered_at_last h cursor.old.entry into.old) }
+    ensures passed { result ≡ Ok true → cursor.new.entry ≡ cursor.old.entry + 1 }
+    ensures full { result ≡ Ok false → into.new.room ≡ 0 }
     ensures within { IsWithin (firm_length trail.old) cursor.new }
-    ensures at { Told A.Area → IsAt (firm_entries trail.old) cursor.old →
-        IsAt (firm_entries trail.old) cursor.new }
+    ensures at { Told A.Area → (h : List HistoryEntry) → StandsIn trail.old h cursor.old → IsAt h cursor.new }
     ensures read { IsRead trail.old trail.new }
     ensures cause { HasCauseOf trail.old trail.new result }
 {
     let _firm = trail.firm();
-    let entry = read_entry(trail, cursor.entry, entries)?;
+    let entry = match read_entry(trail, cursor.entry, entries) {
+        Ok(entry) => entry,
+        Err(fault) => return Err(fault),
+    };
     let (skip, count) = (into.skip(), into.count());
     add_items(trail, &cursor.copies, held, &entry, into)?;
     if into.is_full() {
-        return Ok(());
+        return Ok(false);
     }
     let skipped = skip.saturating_sub(into.skip());
     let taken = into.count().saturating_sub(count) as u64;
     match cursor.pass(&entry.act, skipped.saturating_add(taken)) {
-        Ok(()) => Ok(()),
+        Ok(()) => Ok(true),
         Err(NoMemory) => Err(ItemsFault::NoMemory),
     }
 }
@@ -98,22 +100,19 @@ pub(crate) fn gather<A: Area>(
     into: &mut Gathering,
 ) -> Result<(), ItemsFault>
     requires within { IsWithin (firm_length trail.old) cursor.old }
-    requires fit { Told A.Area → AllFit (A.size (area_of trail.old)) (firm_entries trail.old) }
-    ensures gathered { Told A.Area → IsAt (firm_entries trail.old) cursor.old → OnOk result
-        (into.new.items ≡ gathered_at_last (firm_entries trail.old) cursor.old.entry into.old) }
+    ensures gathered { Told A.Area → (h : List HistoryEntry) → StandsIn trail.old h cursor.old → OnOk result
+        (into.new.items ≡ gathered_at_last h cursor.old.entry into.old) }
     ensures within { IsWithin (firm_length trail.old) cursor.new }
-    ensures at { Told A.Area → IsAt (firm_entries trail.old) cursor.old →
-        IsAt (firm_entries trail.old) cursor.new }
+    ensures at { Told A.Area → (h : List HistoryEntry) → StandsIn trail.old h cursor.old → IsAt h cursor.new }
     ensures read { IsRead trail.old trail.new }
     ensures cause { HasCauseOf trail.old trail.new result }
 {
     let mut entries = EntryBuffers::new(alloc);
     let mut held = EntryBuffers::new(alloc);
     while cursor.entry < trail.firm() {
-        if into.is_full() {
+        if !step(trail, cursor, &mut entries, &mut held, into)? {
             return Ok(());
         }
-        step(trail, cursor, &mut entries, &mut held, into)?;
     }
     Ok(())
 }

@@ -1,13 +1,11 @@
 //! Where the copies lie that a history holds.
-ghost use Rattle.std.specs.Prelude.{◌≡◌, ◌==◌, ◌&&◌, ℕ, if◌then◌else◌, Some, None, OnOk, OnErr};
-ghost use Rattle.std.specs.List.{list_any};
+ghost use Rattle.std.specs.Prelude.{◌≡◌, Some, None, OnOk, OnErr};
 ghost use Rattle.gw_base.specs.Entry.{act_view};
-ghost use Rattle.gateway_book.specs.HeldCopies.{copies_after, copy_at, hold_in, if_after, no_copies, path_in, with_hold, with_path};
+ghost use Rattle.gateway_book.specs.HeldCopies.{copies_after, copy_at, hold_in, if_after, no_copies, path_in, places_of, with_hold, with_path, without_holds};
 
 use gw_base::{Absolute, Act, NoMemory, NodeId};
 use std::alloc::Global;
 use std::collections::BTreeMap;
-use std::marker::Model;
 
 /// What a copy is found by: its node's address and its number.
 #[derive(Clone, Copy, Debug, PartialEq, Eq, PartialOrd, Ord)]
@@ -55,8 +53,7 @@ fn forget(holds: &mut BTreeMap<CopyKey, u64>, node: u32, number: Absolute)
 
 // Keeps none for these numbers of a node.
 fn forget_all(holds: &mut BTreeMap<CopyKey, u64>, node: u32, numbers: &[Absolute])
-    ensures { hold_in holds.new ≡ (λ (n : ℕ) (x : ℕ). if (node == n) && list_any (λ y. y == x) numbers.now
-        then None else hold_in holds.old n x) }
+    ensures { hold_in holds.new ≡ without_holds node numbers.now (hold_in holds.old) }
 {
     for number in numbers {
         forget(holds, node, *number);
@@ -94,18 +91,10 @@ pub(crate) struct HeldCopies {
     paths: BTreeMap<u32, u64>,
 }
 
-impl Model for HeldCopies {
-    ghost use Rattle.gateway_book.specs.HeldCopies.{CopyPlaces, hold_in, path_in};
-
-    ghost Value = { CopyPlaces };
-
-    ghost view = { λ c. record { hold = hold_in c.holds; path = path_in c.paths } };
-}
-
 impl HeldCopies {
     /// No copies, which take no memory.
     pub(crate) fn new(alloc: Global) -> HeldCopies
-        ensures { result ≡ no_copies }
+        ensures { places_of result ≡ no_copies }
     {
         HeldCopies {
             holds: BTreeMap::new(alloc),
@@ -115,7 +104,7 @@ impl HeldCopies {
 
     /// The entry that holds a node's number in the node's present epoch.
     pub(crate) fn find(&self, node: NodeId, number: Absolute) -> Option<u64>
-        ensures { result ≡ copy_at self.now node.0 number }
+        ensures { result ≡ copy_at (places_of self.now) node.0 number }
     {
         if_after(
             path_of(&self.paths, node.0),
@@ -125,8 +114,8 @@ impl HeldCopies {
 
     /// Takes in one more entry, the k-th. Without memory nothing changes.
     pub(crate) fn note(&mut self, k: u64, act: &Act<'_>) -> Result<(), NoMemory>
-        ensures ok { OnOk result (self.new ≡ copies_after k (act_view act.now) self.old) }
-        ensures err { OnErr result (self.new ≡ self.old) }
+        ensures ok { OnOk result (places_of self.new ≡ copies_after k (act_view act.now) (places_of self.old)) }
+        ensures err { OnErr result (places_of self.new ≡ places_of self.old) }
     {
         match *act {
             Act::Path { node, .. } => follow(&mut self.paths, node.0, k),

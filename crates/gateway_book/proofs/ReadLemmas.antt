@@ -1,0 +1,67 @@
+-- Reads of a trail, one after the other.
+use Rattle.std.proofs.Common.{◌≡◌, ℕ, ◌≤◌, List, [], ◌∷◌, Result, Ok, Err, refl, sym, subst, ◌∙◌, arith}
+use Rattle.std.specs.Prelude.{OnOk}
+use Rattle.std.proofs.lemmas.List.Concat.{flat_map-cons}
+use Rattle.std.proofs.lemmas.List.Elements.{All-head}
+use Rattle.area_disk.specs.MomentLaws.{kept_refl, kept_trans}
+use Rattle.entry_codec.specs.Content.{AreEntries}
+use Rattle.entry_codec.specs.Fault.{BeginsWith}
+use Rattle.entry_codec.specs.Spelling.{HasSpelling, spelling}
+use Rattle.gw_base.specs.declared.history.HistoryEntry.{HistoryEntry}
+use Rattle.area_disk.specs.declared.area.Area.{Ghosts}
+use Rattle.cgf_journal.specs.Outcomes.{IsKept}
+use Rattle.cgf_journal.specs.Trail.{area_of}
+use Rattle.cgf_journal.specs.declared.trail.Trail.{Trail}
+use Rattle.gateway_book.specs.Read.{HasCauseOf, IsRead, ReadCause}
+use Rattle.gateway_book.specs.declared.outcome.ItemsFault.{ItemsFault}
+
+module _ {A : Type 0} {tells : Ghosts A} where
+  same_kept : (t : Trail A tells) → IsKept t t
+  same_kept t = record {
+    size = refl;
+    header = refl;
+    closed = refl;
+    firm_entries = λ told. refl;
+    waiting = refl;
+    waiting_octets = refl;
+    firm_length = refl;
+    length = refl;
+    room = λ e. refl;
+    free = refl;
+    places = λ k place is. is;
+  }
+
+  kept_on : (a b c : Trail A tells) → IsKept a b → IsKept b c → IsKept a c
+  kept_on a b c one two = record {
+    size = two.size ∙ one.size;
+    header = two.header ∙ one.header;
+    closed = two.closed ∙ one.closed;
+    firm_entries = λ told. two.firm_entries told ∙ one.firm_entries told;
+    waiting = two.waiting ∙ one.waiting;
+    waiting_octets = two.waiting_octets ∙ one.waiting_octets;
+    firm_length = two.firm_length ∙ one.firm_length;
+    length = two.length ∙ one.length;
+    room = λ e. two.room e ∙ one.room e;
+    free = two.free ∙ one.free;
+    places = λ k place is. two.places k place (one.places k place is);
+  }
+
+  -- nothing was done
+  pub unread : (t : Trail A tells) → IsRead t t
+  unread t = record { kept = same_kept t; torn_stands = refl; area = λ only_now. kept_refl tells only_now (area_of t) }
+
+  -- one read after the other
+  pub read_on : (a b c : Trail A tells) → IsRead a b → IsRead b c → IsRead a c
+  read_on a b c one two = record {
+    kept = kept_on a b c one.kept two.kept;
+    torn_stands = two.torn_stands ∙ one.torn_stands;
+    area = λ only_now. kept_trans tells (area_of a) (area_of b) (area_of c) (one.area only_now) (two.area only_now);
+  }
+
+  -- after a read that succeeded the cause is the next one's
+  pub cause_on : {R : Type 0} (a b c : Trail A tells) (result : Result R ItemsFault) → tells.faults (area_of b) ≡ tells.faults (area_of a) → HasCauseOf b c result → HasCauseOf a c result
+  cause_on a b c result same cause = subst (λ (n : ℕ). ReadCause n (tells.faults (area_of c)) result) same cause
+
+-- what was read is the entry
+pub begins_with : (octets : List ℕ) (e : HistoryEntry) → AreEntries octets (e ∷ []) → BeginsWith octets e
+begins_with octets e are = (All-head HasSpelling e [] are.each, ([], are.spelling ∙ flat_map-cons spelling e []))
