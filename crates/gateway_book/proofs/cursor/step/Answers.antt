@@ -63,8 +63,8 @@ returns-in-Ok-pass-clause-at g c = λ told h stands.
     let skip_then = c.skip-skip.ensures in
     let count_now = c.count.ensures in
     let count_then = c.count-count.ensures in
-    let number = omega (arith, sum, skipped, taken, skip_now, skip_then, count_now, count_then) in
-    at_more h v cursor c.pass.new.self was.here into after _ stands.at c.requires.within.copies was.items (λ z. true≢false (sym (eq-eqb after.room 0 z) ∙ sym c.is_full.ensures ∙ c.if-is_full.false)) number c.in-Ok-pass.ensures.ok
+    at_more h v cursor c.pass.new.self was.here into after _ stands.at c.requires.within.copies was.items (λ z. true≢false (sym (eq-eqb after.room 0 z) ∙ sym c.is_full.ensures ∙ c.if-is_full.false))
+    (omega (arith, sum, skipped, taken, skip_now, skip_then, count_now, count_then)) c.in-Ok-pass.ensures.ok
 
 pub returns-in-Ok-pass-clause-read : goal.returns-in-Ok-pass-clause-read
 returns-in-Ok-pass-clause-read g c = read_on c.args.trail.now c.read_entry.new.trail c.add_items.new.trail c.read_entry.ensures.read c.add_items.ensures.read
