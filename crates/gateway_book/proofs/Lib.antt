@@ -1,5 +1,6 @@
 pub mod AddingLemmas
 pub mod BookLemmas
+pub mod Coming
 pub mod Committing
 pub mod GatheringLemmas
 pub mod FilingLemmas
@@ -7,11 +8,13 @@ pub mod FitLemmas
 pub mod HeldCounts
 pub mod IndexLemmas
 pub mod JudgeLemmas
+pub mod Leaving
 pub mod ListsLemmas
 pub mod LookupLemmas
 pub mod MarkingLemmas
 pub mod MarksLemmas
 pub mod NodesLemmas
+pub mod OpeningPlans
 pub mod Openings
 pub mod PlainLemmas
 pub mod RecordsLemmas

@@ -4,10 +4,14 @@
 
 mod adding;
 mod answering;
+mod armed;
 mod book;
 mod case;
 mod commit;
 mod decision;
+mod drill;
+#[cfg(test)]
+mod drill_tests;
 mod filing;
 mod fit;
 mod gathering;
