@@ -1,6 +1,5 @@
 pub mod AddingLemmas
 pub mod BookLemmas
-pub mod Coming
 pub mod Committing
 pub mod GatheringLemmas
 pub mod FilingLemmas
@@ -16,6 +15,7 @@ pub mod MarksLemmas
 pub mod NodesLemmas
 pub mod OpeningPlans
 pub mod Openings
+pub mod Ours
 pub mod PlainLemmas
 pub mod RecordsLemmas
 pub mod StatesLemmas

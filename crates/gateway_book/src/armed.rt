@@ -15,7 +15,7 @@ ghost use Rattle.gateway_book.specs.Value.{BookValue};
 ghost use Rattle.gateway_book.specs.declared.outcome.Outcome.TheVariants.{NoMemory};
 
 use crate::book::Book;
-use crate::laws::a_gateway_goes_as_armed;
+use crate::laws::{a_gateway_goes_as_armed, what_a_gateway_leaves};
 use crate::preparing::Prepared;
 use crate::{Broken, Outcome};
 use area_disk::Area;
@@ -58,5 +58,6 @@ fn given_up<A: Area>(book: Book<A>) -> A
         StandsFitFor header ((A.fate result).leaves outcome)
         (if v.is_broken && (at_last && is_new outcome) then v.firm ++ v.rest else v.firm) }
 {
+    what_a_gateway_leaves::<A>();
     book.into_area()
 }
