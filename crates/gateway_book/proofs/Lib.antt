@@ -10,12 +10,15 @@ pub mod HeldCounts
 pub mod IndexLemmas
 pub mod ItemsLemmas
 pub mod JudgeLemmas
+pub mod Leaving
 pub mod ListsLemmas
 pub mod LookupLemmas
 pub mod MarkingLemmas
 pub mod MarksLemmas
 pub mod NodesLemmas
+pub mod OpeningPlans
 pub mod Openings
+pub mod Ours
 pub mod PlainLemmas
 pub mod ReadLemmas
 pub mod RecordsLemmas

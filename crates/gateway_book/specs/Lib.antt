@@ -4,6 +4,7 @@ pub mod Answered
 pub mod Book
 pub mod Calls
 pub mod Cases
+pub mod Comes
 pub mod Decisions
 pub mod Filed
 pub mod Fit
@@ -13,12 +14,14 @@ pub mod Items
 pub mod Limits
 pub mod Marks
 pub mod Once
+pub mod OpenPlan
 pub mod Opened
 pub mod Plain
 pub mod Preparing
 pub mod Read
 pub mod Recording
 pub mod Told
+pub mod Up
 pub mod Value
 -- Laws of these, with their proofs.
 pub mod AnswerLaws
@@ -33,6 +36,7 @@ pub mod RoomAsked
 pub mod RoomLaws
 pub mod ShortLaws
 pub mod SizeLaws
+pub mod UpLaws
 -- Steps of proofs, and private clauses.
 pub mod Begun
 pub mod Faults

@@ -6,6 +6,7 @@ ghost use Rattle.gate_journal.specs.Moments.{Told};
 ghost use Rattle.cgf_journal.specs.Format.{StandsFor};
 ghost use Rattle.cgf_journal.specs.Trail.{IsAtRest, is_closed, left_by_stop};
 ghost use Rattle.gateway_book.specs.Calls.{commit_left, counts_of, settled_of};
+ghost use Rattle.gateway_book.specs.Comes.{asked_to_commit};
 ghost use Rattle.gateway_book.specs.Value.{after_commit};
 
 use crate::book::Book;
@@ -17,6 +18,7 @@ use gw_base::scan::held_keys_are_as_many_as_held_copies;
 
 impl<A: Area> Book<A> {
     ghost use Rattle.gateway_book.specs.Book.{CrashLeaves, HasCause, IsLeft, Stays, area_of, fortune_of, header_of, value_of};
+    ghost use Rattle.gateway_book.specs.Comes.{AsPlanned, LeavesFit};
 
     /// Makes the whole history firm, and answers its length. A broken book opens its journal again, with one call of
     /// the device; else it makes four calls where an entry waits, and none where none does.
@@ -30,6 +32,7 @@ impl<A: Area> Book<A> {
         ensures any_moment { CrashLeaves self.old self.new }
         ensures stays { Stays self.old self.new }
         ensures cause { HasCause self.old self.new }
+        ensures planned { AsPlanned self.old self.new (asked_to_commit (value_of self.old)) }
     {
         match self.firm_up() {
             Ok(()) => Ok(self.trail.firm()),
@@ -45,6 +48,7 @@ impl<A: Area> Book<A> {
         ensures any_moment { CrashLeaves self.old self.new }
         ensures stays { Stays self.old self.new }
         ensures faults { HasFaults (A.faults (area_of self.old)) (A.faults (area_of self.new)) result }
+        ensures planned { AsPlanned self.old self.new (asked_to_commit (value_of self.old)) }
     {
         if self.trail.is_closed() {
             return self.open_again();
@@ -94,7 +98,9 @@ impl<A: Area> Book<A> {
         ensures rests { IsAtRest self.trail }
         ensures stop { IsTrue A.tells_fate → Told A.Area → (outcome : Outcome3) →
             StandsFor (header_of self) ((A.fate (area_of self)).leaves outcome) (left_by_stop outcome self.trail) }
+        ensures leaves { LeavesFit self }
     {
+        let _closed = self.trail.is_closed();
         let Book {
             trail,
             index: _,

@@ -1,7 +1,13 @@
 //! Laws of the definitions that the book's calls cite. Each stands on a function that does nothing.
 
-ghost use Rattle.std.specs.Prelude.{◌≡◌, ◌≢◌, ◌≤◌, [], ◌∷◌, ◌++◌, ℕ, Bool, true, false, List, Option, None, length};
+ghost use Rattle.std.specs.Prelude.{◌≡◌, ◌≢◌, ◌≤◌, [], ◌∷◌, ◌++◌, ℕ, IsTrue, Bool, true, false, ◌&&◌, if◌then◌else◌, List, Option, None, Result, length};
+ghost use Rattle.area_disk.specs.Armed.{Armed};
+ghost use Rattle.area_disk.specs.Course.{IsTied};
+ghost use Rattle.area_disk.specs.declared.plan.Outcome3.{Outcome3};
 ghost use Rattle.entry_codec.specs.Room.{IsWithin};
+ghost use Rattle.gate_journal.specs.Format.{Starts, header};
+ghost use Rattle.gate_journal.specs.Moments.{Told};
+ghost use Rattle.gate_journal.specs.Planned.{is_new};
 ghost use Rattle.gtpp_message.specs.Message.{Cancel, Release, TransferResponse, TransferValue};
 ghost use Rattle.gw_base.specs.History.{is_close_due, last_moment};
 ghost use Rattle.gw_base.specs.Known.{known_nodes};
@@ -15,14 +21,26 @@ ghost use Rattle.gw_base.specs.declared.history.HistoryEntry.{HistoryEntry};
 ghost use Rattle.gw_base.specs.declared.history.PacketKey.{PacketKey};
 ghost use Rattle.gateway_book.specs.Answer.{Replies, answer_by};
 ghost use Rattle.gateway_book.specs.Answered.{answer_to, entry_by, room_for};
+ghost use Rattle.gateway_book.specs.Book.{IsLeft, Stays, area_of, fortune_of, value_of};
+ghost use Rattle.gateway_book.specs.Calls.{closed, commit_left, taken, ticked};
+ghost use Rattle.gateway_book.specs.Comes.{AsPlanned, LeavesFit, asked_to_commit, asked_to_ready, plan_of};
 ghost use Rattle.gateway_book.specs.Filed.{along, filed, filed_by};
 ghost use Rattle.gateway_book.specs.Fit.{IsFit, latest_moment};
 ghost use Rattle.gateway_book.specs.FitHistory.{AllFit};
 ghost use Rattle.gateway_book.specs.Items.{items_by, items_of};
 ghost use Rattle.gateway_book.specs.Limits.{most_nodes};
 ghost use Rattle.gateway_book.specs.Once.{times_filed};
+ghost use Rattle.gateway_book.specs.Opened.{IsNotOurs, IsOpened, StandsFitFor};
 ghost use Rattle.gateway_book.specs.Preparing.{IsWhole, PreparedValue, Request, prepared_of};
 ghost use Rattle.gateway_book.specs.Recording.{Accepts, HasRoomFor, IfRecords, IsWithinLimits, is_without_resources};
+ghost use Rattle.gateway_book.specs.Up.{HasLeft, IsCut, IsDown, IsUp, commit_sequel_of, fortune_by, ready_sequel_of};
+ghost use Rattle.gateway_book.specs.Value.{BookValue};
+ghost use Rattle.gateway_book.specs.declared.book.Book.{Book};
+ghost use Rattle.gateway_book.specs.declared.outcome.Broken.{Broken};
+ghost use Rattle.gateway_book.specs.declared.outcome.Marked.{Marked};
+ghost use Rattle.gateway_book.specs.declared.outcome.Outcome.{Outcome};
+
+use area_disk::Area;
 
 /// An answer records an act only where it accepts a request, or where it answers Node Alive: a
 /// request that is answered with another cause adds nothing.
@@ -107,3 +125,55 @@ pub fn filed_records_stay()
     ensures records { (h g : List HistoryEntry) → filed (h ++ g) ≡ filed h ++ along filed_by h g }
     ensures items { (h g : List HistoryEntry) → items_of (h ++ g) ≡ items_of h ++ along items_by h g }
 {}
+
+/// What is armed for the calls of the device decides what a call makes of a gateway that is up, and what it answers.
+pub fn a_gateway_goes_as_armed<A: Area>()
+    ensures commit { Told A.Area → IsTrue A.tells_fate → (header : List ℕ) (v : BookValue) (armed : Armed)
+        (at_last : Bool) (old new : Book A A.Area) (result : Result ℕ Broken) → IsUp header v armed at_last old →
+        IsLeft old new (commit_left (fortune_of old new) (value_of old)) result → Stays old new →
+        AsPlanned old new (asked_to_commit (value_of old)) → let sequel = commit_sequel_of armed at_last v in
+        HasLeft header sequel (commit_left (fortune_by at_last sequel) v) new result }
+    ensures take { Told A.Area → IsTrue A.tells_fate → (header : List ℕ) (v : BookValue) (armed : Armed)
+        (at_last : Bool) (old new : Book A A.Area) (result : Outcome) (from : Addr) (datagram : PreparedValue)
+        (size now : ℕ) (who : Caller) → IsUp header v armed at_last old →
+        IsLeft old new (taken (fortune_of old new) from datagram size now who (value_of old)) result → Stays old new →
+        AsPlanned old new (asked_to_ready (value_of old)) → let sequel = ready_sequel_of armed at_last v in
+        HasLeft header sequel (taken (fortune_by at_last sequel) from datagram size now who v) new result }
+    ensures tick { Told A.Area → IsTrue A.tells_fate → (header : List ℕ) (v : BookValue) (armed : Armed)
+        (at_last : Bool) (old new : Book A A.Area) (result : Marked) (open_time size now : ℕ) (who : Caller) →
+        IsUp header v armed at_last old →
+        IsLeft old new (ticked (fortune_of old new) open_time size now who (value_of old)) result → Stays old new →
+        AsPlanned old new (asked_to_ready (value_of old)) → let sequel = ready_sequel_of armed at_last v in
+        HasLeft header sequel (ticked (fortune_by at_last sequel) open_time size now who v) new result }
+    ensures close { Told A.Area → IsTrue A.tells_fate → (header : List ℕ) (v : BookValue) (armed : Armed)
+        (at_last : Bool) (old new : Book A A.Area) (result : Marked) (now : ℕ) (who : Caller) →
+        IsUp header v armed at_last old →
+        IsLeft old new (closed (fortune_of old new) now who (value_of old)) result → Stays old new →
+        AsPlanned old new (asked_to_ready (value_of old)) → let sequel = ready_sequel_of armed at_last v in
+        HasLeft header sequel (closed (fortune_by at_last sequel) now who v) new result }
+{}
+
+/// A gateway that was cut leaves the area of one that is down; one that is up, and is stopped between two calls, leaves
+/// the firm entries, and the torn ones where the stop keeps what was written and a commit's last call failed; and one
+/// that was opened is up.
+pub fn what_a_gateway_leaves<A: Area>()
+    ensures cut { Told A.Area → IsTrue A.tells_fate → (header : List ℕ) (book : Book A A.Area)
+        (h : List HistoryEntry) → LeavesFit book → IsCut header h book → IsDown A.Area header h (area_of book) }
+    ensures stop { Told A.Area → IsTrue A.tells_fate → (header : List ℕ) (book : Book A A.Area) (v : BookValue)
+        (armed : Armed) (at_last : Bool) → LeavesFit book → IsUp header v armed at_last book → (outcome : Outcome3) →
+        StandsFitFor header ((A.fate (area_of book)).leaves outcome)
+        (if v.is_broken && (at_last && is_new outcome) then v.firm ++ v.rest else v.firm) }
+    ensures opened { (header : List ℕ) (area : A) (open_time : ℕ) (book : Book A A.Area) (w : BookValue)
+        (armed : Armed) → IsOpened header area open_time book → value_of book ≡ w → IsTied armed (plan_of book) →
+        (w.is_broken ≡ false) × IsUp header w armed false book }
+{}
+
+/// An area that stands for a history of fit entries neither starts nor is another's: it is opened, and not refused.
+pub fn what_stands_is_ours()
+    ensures starts { (size address : ℕ) (octets : List ℕ) (h : List HistoryEntry) →
+        StandsFitFor (header size address 0) octets h → ¬ (Starts (header size address 0) octets) }
+    ensures ours { (size address : ℕ) (octets : List ℕ) (h : List HistoryEntry) (at : ℕ) →
+        StandsFitFor (header size address 0) octets h → ¬ (IsNotOurs (header size address 0) octets at) }
+{
+    cgf_journal::laws::what_stands_is_ours();
+}

@@ -4,11 +4,15 @@
 
 mod adding;
 mod answering;
+mod armed;
 mod book;
 mod case;
 mod commit;
 mod cursor;
 mod decision;
+mod drill;
+#[cfg(test)]
+mod drill_tests;
 mod entry_items;
 mod filing;
 mod fit;

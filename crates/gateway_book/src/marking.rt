@@ -10,6 +10,7 @@ ghost use Rattle.gw_base.specs.History.{is_close_due};
 ghost use Rattle.gw_base.specs.TickDue.{is_tick_due};
 ghost use Rattle.gateway_book.specs.Answered.{room_for};
 ghost use Rattle.gateway_book.specs.Calls.{closed, marked_at, ticked};
+ghost use Rattle.gateway_book.specs.Comes.{asked_to_ready};
 ghost use Rattle.gateway_book.specs.Fit.{IsFit};
 ghost use Rattle.gateway_book.specs.Followed.{all_entries};
 ghost use Rattle.gateway_book.specs.Index.{MayCome};
@@ -28,6 +29,7 @@ use gw_base::{Act, Caller, Entry, Moment, NoMemory};
 
 impl<A: Area> Book<A> {
     ghost use Rattle.gateway_book.specs.Book.{CrashLeaves, HasCause, IsLeft, Stays, fortune_of, open_time_of, size_of, value_of};
+    ghost use Rattle.gateway_book.specs.Comes.{AsPlanned};
 
     /// Records a Tick where one is due and there is room for it: where a file with records is open, and no Tick was
     /// made since the last Close, or the last one at least the open time ago. A broken book is opened again first, with
@@ -44,6 +46,7 @@ impl<A: Area> Book<A> {
         ensures any_moment { CrashLeaves self.old self.new }
         ensures stays { Stays self.old self.new }
         ensures cause { HasCause self.old self.new }
+        ensures planned { AsPlanned self.old self.new (asked_to_ready (value_of self.old)) }
     {
         match self.ready() {
             Ok(()) => self.tick_if_due(now, who),
@@ -65,6 +68,7 @@ impl<A: Area> Book<A> {
         ensures any_moment { CrashLeaves self.old self.new }
         ensures stays { Stays self.old self.new }
         ensures cause { HasCause self.old self.new }
+        ensures planned { AsPlanned self.old self.new (asked_to_ready (value_of self.old)) }
     {
         match self.ready() {
             Ok(()) => self.close_if_due(now, who),

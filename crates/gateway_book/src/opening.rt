@@ -1,5 +1,5 @@
 //! How a book is opened.
-ghost use Rattle.std.specs.Prelude.{◌≡◌, ◌≤◌, ℕ, true, false, [], List, IfErr, IfOk, OnOk, OnErr};
+ghost use Rattle.std.specs.Prelude.{◌≡◌, ◌≤◌, ℕ, IsTrue, true, false, [], List, IfErr, IfOk, OnOk, OnErr};
 ghost use Rattle.gate_journal.specs.Format.{Starts, header};
 ghost use Rattle.gate_journal.specs.Moments.{Told};
 ghost use Rattle.cgf_journal.specs.Trail.{area_of as trail_area, firm_entries, has_room_of, is_closed, waiting, waiting_octets};
@@ -10,6 +10,7 @@ ghost use Rattle.gateway_book.specs.Begun.{HasNoMore, HasOneMore, IsBegun, IsSta
 ghost use Rattle.gateway_book.specs.Faults.{book_fault};
 ghost use Rattle.gateway_book.specs.FitHistory.{AllFit};
 ghost use Rattle.gateway_book.specs.Judging.{IsJudging};
+ghost use Rattle.gateway_book.specs.OpenPlan.{OpensAsPlanned, is_memory};
 ghost use Rattle.gateway_book.specs.Opened.{FindsHistory, IsMadeAnew, IsNotOurs, IsOpened, IsRefused, OnArea, RefusesForeign, StandsFitFor};
 
 use crate::book::Book;
@@ -54,6 +55,8 @@ impl<A: Area> Book<A> {
         ensures foreign { Told A.Area → (at : ℕ) →
             IsNotOurs (header (A.size area) setup.address 0) (A.octets area) at → RefusesForeign area result at }
         ensures size { OnArea result (λ now. A.size now ≡ A.size area) }
+        ensures planned { IsTrue A.tells_fate → is_memory result ≡ false →
+            OpensAsPlanned area result (header (A.size area) setup.address 0) }
     {
         let Ok(mut judge) = FitJudge::new(alloc) else {
             return Err((BookFault::NoMemory, area));

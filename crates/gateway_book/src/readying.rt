@@ -1,9 +1,11 @@
 // What comes before a datagram is answered or a mark is made.
-ghost use Rattle.std.specs.Prelude.{◌≡◌, ◌≤◌, ◌+◌, true, false, if◌then◌else◌, OnOk, is_err};
+ghost use Rattle.std.specs.Prelude.{◌≡◌, ◌≢◌, ◌≤◌, ◌+◌, IsTrue, true, false, if◌then◌else◌, OnOk, is_err};
 ghost use Rattle.area_disk.specs.Disk.{HasCause as HasFaults};
+ghost use Rattle.area_disk.specs.declared.plan.Outcome3.TheVariants.{New};
 ghost use Rattle.gate_journal.specs.Moments.{Told};
 ghost use Rattle.gate_journal.specs.Format.{longest_batch};
-ghost use Rattle.cgf_journal.specs.Trail.{is_closed, torn_stands, waiting_octets};
+ghost use Rattle.cgf_journal.specs.Trail.{is_closed, stop_stands, torn_stands, waiting_octets};
+ghost use Rattle.gateway_book.specs.Comes.{asked_to_ready};
 ghost use Rattle.gateway_book.specs.Value.{committed, faulted, is_batch_full, most_for_one, readied, reopened};
 
 use crate::book::Book;
@@ -18,6 +20,7 @@ const LONGEST_BATCH: usize = 1_048_576;
 
 impl<A: Area> Book<A> {
     ghost use Rattle.gateway_book.specs.Book.{CrashLeaves, Stays, area_of, fortune_of, reopening_of, value_of};
+    ghost use Rattle.gateway_book.specs.Comes.{AsPlanned, CommitsAsPlanned, ReopensAsPlanned};
 
     /// Opens the journal of a broken book again: it makes one call of the device, and writes nothing. After `Device`
     /// the book is broken as before.
@@ -31,6 +34,8 @@ impl<A: Area> Book<A> {
         ensures any_moment { CrashLeaves self.old self.new }
         ensures stays { Stays self.old self.new }
         ensures faults { HasFaults (A.faults (area_of self.old)) (A.faults (area_of self.new)) result }
+        ensures planned { (IsTrue A.tells_fate → torn_stands self.old.trail ≡ stop_stands New self.old.trail) →
+            ReopensAsPlanned self.old self.new }
     {
         match self.trail.reopen() {
             Ok(stands) => {
@@ -56,6 +61,7 @@ impl<A: Area> Book<A> {
         ensures any_moment { CrashLeaves self.old self.new }
         ensures stays { Stays self.old self.new }
         ensures faults { HasFaults (A.faults (area_of self.old)) (A.faults (area_of self.new)) result }
+        ensures planned { waiting_octets self.old.trail ≢ 0 → CommitsAsPlanned self.old self.new }
     {
         match self.trail.commit() {
             Ok(_) => {
@@ -73,6 +79,7 @@ impl<A: Area> Book<A> {
     fn is_batch_full(&self) -> bool
         ensures full { result ≡ is_batch_full (value_of self.now) }
         ensures free { result ≡ false → waiting_octets self.now.trail + most_for_one ≤ longest_batch }
+        ensures some { result ≡ true → waiting_octets self.now.trail ≢ 0 }
     {
         LONGEST_BATCH - self.trail.waiting().octets.len() < MOST_FOR_ONE
     }
@@ -85,6 +92,7 @@ impl<A: Area> Book<A> {
         ensures any_moment { CrashLeaves self.old self.new }
         ensures stays { Stays self.old self.new }
         ensures faults { HasFaults (A.faults (area_of self.old)) (A.faults (area_of self.new)) result }
+        ensures planned { AsPlanned self.old self.new (asked_to_ready (value_of self.old)) }
     {
         if self.trail.is_closed() {
             return self.open_again();

@@ -10,6 +10,7 @@ ghost use Rattle.gateway_book.specs.Answer.{Says, decided, failure_answer};
 ghost use Rattle.gateway_book.specs.Answered.{answer_to};
 ghost use Rattle.gateway_book.specs.Calls.{left_by, outcome_at, taken};
 ghost use Rattle.gateway_book.specs.Cases.{case_value};
+ghost use Rattle.gateway_book.specs.Comes.{asked_to_ready};
 ghost use Rattle.gateway_book.specs.Fit.{latest_moment};
 ghost use Rattle.gateway_book.specs.Followed.{all_entries};
 ghost use Rattle.gateway_book.specs.Preparing.{IsShort, IsWhole, prepared_of};
@@ -30,6 +31,7 @@ use gw_base::{Addr, Caller, Moment, Short};
 
 impl<A: Area> Book<A> {
     ghost use Rattle.gateway_book.specs.Book.{CrashLeaves, HasCause, IsLeft, Stays, area_of, fortune_of, size_of, value_of};
+    ghost use Rattle.gateway_book.specs.Comes.{AsPlanned};
 
     /// Takes a datagram of this sender. A broken book is opened again first, with one call of the device; one of whose
     /// batch fewer than 270,000 octets are free commits first, with four. Then it answers, and adds what the answer
@@ -47,6 +49,7 @@ impl<A: Area> Book<A> {
         ensures any_moment { CrashLeaves self.old self.new }
         ensures stays { Stays self.old self.new }
         ensures cause { HasCause self.old self.new }
+        ensures planned { AsPlanned self.old self.new (asked_to_ready (value_of self.old)) }
     {
         let case = request.case();
         match self.ready() {

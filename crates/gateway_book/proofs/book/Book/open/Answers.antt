@@ -6,6 +6,7 @@ use Rattle.gate_journal.specs.declared.faults.OpenFault.{OpenFault}
 use Rattle.cgf_journal.specs.Format.{StandsFor}
 use Rattle.cgf_journal.specs.Trail.{firm_entries}
 use Rattle.gateway_book.specs.Faults.{book_fault}
+use Rattle.gateway_book.proofs.OpeningPlans.{opened_as_planned, refused_as_planned}
 use Rattle.gateway_book.proofs.Openings.{device_is, err_is, foreign_is, found_fit, if_ok_area, listed_as, not_ours_is, ok_is, on_area, unwritten_is}
 use Rattle.gateway_book.proofs.book.Book.open.Goals as goal
 
@@ -75,3 +76,12 @@ pub returns-in-Err-clause-foreign : goal.returns-in-Err-clause-foreign
 returns-in-Err-clause-foreign g c = λ told at foreign.
     let refused = c.in-Err.ensures.foreign told at foreign in
     record { place = foreign_is c.in-Err.fault at c.fault_of.result c.fault_of.ensures refused.place; moments = refused.moments }
+
+pub returns-in-Ok-open_judged-clause-planned : goal.returns-in-Ok-open_judged-clause-planned
+returns-in-Ok-open_judged-clause-planned g c = λ fate some.
+    opened_as_planned (header (g.A.Area.size c.args.area) c.args.setup.address 0) c.args.area c.in-Ok-open_judged.trail c.args.setup.open_time c.begin.result c.begin.ensures.ok c.begin.ensures.err some
+    (c.in-Ok-open_judged.ensures.planned fate refl)
+
+pub returns-in-Err-clause-planned : goal.returns-in-Err-clause-planned
+returns-in-Err-clause-planned g c = λ fate some.
+    refused_as_planned (header (g.A.Area.size c.args.area) c.args.setup.address 0) c.args.area c.in-Err.fault c.in-Err.area c.fault_of.result c.fault_of.ensures some (λ e. c.in-Err.ensures.planned fate e)

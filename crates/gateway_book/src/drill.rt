@@ -1,0 +1,42 @@
+//! A book on an area that is a `Drill`.
+ghost use Rattle.std.specs.Prelude.{◌≡◌, IsTrue};
+ghost use Rattle.area_disk.specs.Plan.{armed};
+ghost use Rattle.area_disk.specs.declared.plan.Outcome3.{Outcome3};
+ghost use Rattle.gate_journal.specs.Moments.{Leaves, Told};
+ghost use Rattle.cgf_journal.specs.Trail.{stop_stands, torn_stands};
+
+use crate::book::Book;
+use area_disk::{DrillArea, Plan};
+
+impl<A: DrillArea> Book<A> {
+    ghost use Rattle.gateway_book.specs.Book.{Stays, area_of, value_of};
+
+    /// Puts this plan in the place of the one before it. The calls of the device are counted anew from 1.
+    pub fn arm(&mut self, plan: Plan)
+        ensures plan { A.schedule (area_of self.new) ≡ armed plan (A.schedule (area_of self.old)) }
+        ensures kept_area { A.kept (area_of self.old) (area_of self.new) }
+        ensures value { Told A.Area → value_of self.new ≡ value_of self.old }
+        ensures stays { Stays self.old self.new }
+        ensures stop { IsTrue A.tells_fate → (outcome : Outcome3) →
+            stop_stands outcome self.new.trail ≡ stop_stands outcome self.old.trail }
+        ensures torn_stands { torn_stands self.new.trail ≡ torn_stands self.old.trail }
+        ensures crash { Leaves A.Area (area_of self.old) (area_of self.new) (A.may_leave (area_of self.old)) }
+        ensures faults { A.faults (area_of self.new) ≡ A.faults (area_of self.old) }
+    {
+        self.trail.arm(plan);
+    }
+
+    /// The number of counted calls of the device since the plan was armed.
+    pub fn calls(&self) -> u64
+        ensures { result ≡ (A.schedule (area_of self.now)).calls }
+    {
+        self.trail.calls()
+    }
+
+    /// Whether the device is stopped.
+    pub fn stopped(&self) -> bool
+        ensures { result ≡ (A.schedule (area_of self.now)).stopped }
+    {
+        self.trail.stopped()
+    }
+}
