@@ -25,13 +25,14 @@ files_from-append settings s n (x ∷ xs) ys =
     (files_from-append settings s (n + 1) xs ys
     ∙ ap (λ (m : ℕ). files_from settings s (n + 1) xs ++ files_from settings s m ys) (one_then n (length xs)))
 
-pub length-files_from : (settings : FileSettings) (s n : ℕ) (xs : List (ClosedRun (List ℕ))) → length (files_from settings s n xs) ≡ length xs
+pub length-files_from : (settings : FileSettings) (s n : ℕ) (xs : List (ClosedRun (List ℕ)))
+    → length (files_from settings s n xs) ≡ length xs
 length-files_from settings s n [] = refl
 length-files_from settings s n (x ∷ xs) = ap (λ (k : ℕ). suc k) (length-files_from settings s (n + 1) xs)
 
 -- ---- the files of one stream are all of it
 
-same_number : (s : ℕ) → (s == s) ≡ true
+pub same_number : (s : ℕ) → (s == s) ≡ true
 same_number s = grind (arith, nat_tests)
 
 other_number : (s t : ℕ) → t ≢ s → (t == s) ≡ false
@@ -42,7 +43,8 @@ pub in_stream-own : (settings : FileSettings) (s n k : ℕ) (xs : List (ClosedRu
 in_stream-own settings s n zero [] = refl
 in_stream-own settings s n (suc k) [] = refl
 in_stream-own settings s n zero (x ∷ xs) =
-    ap (λ (b : Bool). cond b (file_in settings s n x ∷ in_stream s (files_from settings s (n + 1) xs)) (in_stream s (files_from settings s (n + 1) xs))) (same_number s)
+    ap (λ (b : Bool). cond b (file_in settings s n x ∷ in_stream s (files_from settings s (n + 1) xs))
+    (in_stream s (files_from settings s (n + 1) xs))) (same_number s)
     ∙ ap (λ (files : List SealedFile). file_in settings s n x ∷ files) (in_stream-own settings s (n + 1) zero xs)
 in_stream-own settings s n (suc k) (x ∷ xs) = in_stream-own settings s (n + 1) k xs
 
@@ -51,24 +53,29 @@ pub in_stream-other : (settings : FileSettings) (s t n k : ℕ) (xs : List (Clos
 in_stream-other settings s t n zero [] h = refl
 in_stream-other settings s t n (suc k) [] h = refl
 in_stream-other settings s t n zero (x ∷ xs) h =
-    ap (λ (b : Bool). cond b (file_in settings t n x ∷ in_stream s (files_from settings t (n + 1) xs)) (in_stream s (files_from settings t (n + 1) xs))) (other_number s t h)
+    ap (λ (b : Bool). cond b (file_in settings t n x ∷ in_stream s (files_from settings t (n + 1) xs))
+    (in_stream s (files_from settings t (n + 1) xs))) (other_number s t h)
     ∙ in_stream-other settings s t (n + 1) zero xs h
 in_stream-other settings s t n (suc k) (x ∷ xs) h = in_stream-other settings s t (n + 1) k xs h
 
 -- ---- more items
 
 pub stream_items-append : (settings : Settings) (s : ℕ) (items more : List Item)
-    → stream_items settings.rules s (items ++ more) ≡ stream_items settings.rules s items ++ stream_items settings.rules s more
+    → stream_items settings.rules s (items ++ more) ≡ stream_items settings.rules s items
+    ++ stream_items settings.rules s more
 stream_items-append settings s items more = flat_map-append (stream_item settings.rules s) items more
 
 pub division-append : DivisionGoesOn → (settings : Settings) (s : ℕ) (items more : List Item)
-    → stream_division settings s (items ++ more) ≡ goes_on settings.limits (stream_division settings s items) (stream_items settings.rules s more)
+    → stream_division settings s (items ++ more) ≡ goes_on settings.limits (stream_division settings s items)
+    (stream_items settings.rules s more)
 division-append law settings s items more =
-    ap (λ (xs : List (stream.Item (List ℕ))). division_of settings.limits xs) (stream_items-append settings s items more)
+    ap (λ (xs : List (stream.Item (List ℕ))). division_of settings.limits xs)
+    (stream_items-append settings s items more)
     ∙ law settings.limits [] (stream_items settings.rules s items) (stream_items settings.rules s more)
 
 pub closed_of-append : DivisionGoesOn → (settings : Settings) (s : ℕ) (items more : List Item)
-    → closed_of settings s (items ++ more) ≡ closed_of settings s items + length (later_division settings s items more).closed
+    → closed_of settings s (items ++ more)
+    ≡ closed_of settings s items + length (later_division settings s items more).closed
 closed_of-append law settings s items more =
     ap (λ (d : Division (List ℕ)). length d.closed) (division-append law settings s items more)
     ∙ length-append (stream_division settings s items).closed (later_division settings s items more).closed
@@ -80,5 +87,8 @@ pub files-append : DivisionGoesOn → (settings : Settings) (s : ℕ) (items mor
     → stream_files settings s (items ++ more) ≡ stream_files settings s items ++ later_files settings s items more
 files-append law settings s items more =
     ap (λ (d : Division (List ℕ)). files_from settings.file s 1 d.closed) (division-append law settings s items more)
-    ∙ files_from-append settings.file s 1 (stream_division settings s items).closed (later_division settings s items more).closed
-    ∙ ap (λ (n : ℕ). stream_files settings s items ++ files_from settings.file s n (later_division settings s items more).closed) (one_more (closed_of settings s items))
+    ∙ files_from-append settings.file s 1 (stream_division settings s items).closed
+    (later_division settings s items more).closed
+    ∙ ap (λ (n : ℕ). stream_files settings s items
+    ++ files_from settings.file s n (later_division settings s items more).closed)
+    (one_more (closed_of settings s items))

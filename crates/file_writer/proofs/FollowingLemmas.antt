@@ -32,7 +32,8 @@ use Rattle.file_writer.proofs.WritingLemmas.{own_number}
 
 -- ---- calls that are the same where the shelf tells its files
 
-comes_same : {A : Type 0} (tells : Ghosts A) (xs ys : List Call) (ended : Ending) (tried : ℕ) (old new : A) → (IsTrue tells.tells_files → xs ≡ ys)
+comes_same : {A : Type 0} (tells : Ghosts A) (xs ys : List Call) (ended : Ending) (tried : ℕ) (old new : A)
+    → (IsTrue tells.tells_files → xs ≡ ys)
     → (came : Came) → Comes tells xs ended tried old new came → Comes tells ys ended tried old new came
 comes_same tells xs ys ended tried old new same (Ran a) c = record { runs = c.runs; is_armed = c.is_armed }
 comes_same tells xs ys ended tried old new same (FailedAt k) c = record {
@@ -45,10 +46,12 @@ comes_same tells xs ys ended tried old new same (StoppedAt k outcome) c = record
   fails = c.fails;
   number = c.number;
   stopped = c.stopped;
-  sealed = λ told. c.sealed told ∙ ap (λ (cs : List Call). tells.files old ++ seals (take (done_at k outcome) cs)) (same told);
+  sealed = λ told. c.sealed told ∙ ap (λ (cs : List Call). tells.files old ++ seals (take (done_at k outcome) cs))
+      (same told);
 }
 
-pub makes_same : {A : Type 0} (tells : Ghosts A) (xs ys : List Call) (ended : Ending) (old new : A) → length xs ≡ length ys → (IsTrue tells.tells_files → xs ≡ ys)
+pub makes_same : {A : Type 0} (tells : Ghosts A) (xs ys : List Call) (ended : Ending) (old new : A)
+    → length xs ≡ length ys → (IsTrue tells.tells_files → xs ≡ ys)
     → Makes tells xs ended old new → Makes tells ys ended old new
 makes_same tells xs ys ended old new long same made = record {
   tried = made.tried;
@@ -56,21 +59,26 @@ makes_same tells xs ys ended old new long same made = record {
   all = λ e. made.all e ∙ long;
   some = made.some;
   called = made.called;
-  sealed = λ told. subst (λ (cs : List Call). HasSealed cs ended made.tried (tells.files old) (tells.files new)) (same told) (made.sealed told);
+  sealed = λ told. subst (λ (cs : List Call). HasSealed cs ended made.tried (tells.files old) (tells.files new))
+      (same told) (made.sealed told);
   faults = made.faults;
   planned = λ told memory a armed.
       comes_same tells xs ys ended made.tried old new same (calls_under a (length ys))
-      (subst (λ (n : ℕ). Comes tells xs ended made.tried old new (calls_under a n)) long (made.planned told memory a armed));
+      (subst (λ (n : ℕ). Comes tells xs ended made.tried old new (calls_under a n)) long
+      (made.planned told memory a armed));
 }
 
 -- ---- closing
 
-long_if : (b : Bool) (f g : SealedFile) → length (if b then [] else Writes ∷ Writes ∷ Seals f ∷ []) ≡ length (if b then [] else Writes ∷ Writes ∷ Seals g ∷ [])
+long_if : (b : Bool) (f g : SealedFile) → length (if b then [] else Writes ∷ Writes ∷ Seals f ∷ [])
+    ≡ length (if b then [] else Writes ∷ Writes ∷ Seals g ∷ [])
 long_if true f g = refl
 long_if false f g = refl
 
-closing_long : (settings : FileSettings) (s : ℕ) (file : Progress) (u : Option UnsealedFile) (reason : Option ClosureReason) (run : List (Filed (List ℕ)))
-    → length (closing_of settings s file u reason) ≡ length (closing settings s file.sealed (file.closed + 1) reason run)
+closing_long : (settings : FileSettings) (s : ℕ) (file : Progress) (u : Option UnsealedFile)
+    (reason : Option ClosureReason) (run : List (Filed (List ℕ)))
+    → length (closing_of settings s file u reason)
+    ≡ length (closing settings s file.sealed (file.closed + 1) reason run)
 closing_long settings s file u None run = refl
 closing_long settings s file u (Some reason) run = long_if (nat_le (file.closed + 1) file.sealed) _ _
 
@@ -78,24 +86,31 @@ some_is : {A : Type 0} {a b : A} → Some a ≡ Some b → a ≡ b
 some_is e = cc
 
 abbrev file_by : FileSettings → FileName → ClosureReason → RunFacts → List ℕ → SealedFile
-file_by settings name reason facts octets = record { name = name; octets = header_octets (header_of facts name.sequence reason settings) ++ octets }
+file_by settings name reason facts octets =
+    record { name = name; octets = header_octets (header_of facts name.sequence reason settings) ++ octets }
 
-file_is : (settings : FileSettings) (name : FileName) (reason : ClosureReason) (growing : Option RunFacts) (run : List FiledRecord) (u : Option UnsealedFile)
+file_is : (settings : FileSettings) (name : FileName) (reason : ClosureReason) (growing : Option RunFacts)
+    (run : List FiledRecord) (u : Option UnsealedFile)
     → growing ≡ growing_of run → ClosesOpen (Some reason) growing → body_behind growing u ≡ run_octets run
-    → closed_file settings name reason growing u ≡ record { name = name; octets = file_octets run name.sequence reason settings }
+    → closed_file settings name reason growing u
+    ≡ record { name = name; octets = file_octets run name.sequence reason settings }
 file_is settings name reason None run u e opens body = absurd opens
 file_is settings name reason (Some facts) [] u e opens body = absurd (cc)
 file_is settings name reason (Some facts) (first ∷ later) u e opens body =
     ap (λ (octets : List ℕ). file_by settings name reason facts octets) body
     ∙ ap (λ (run : RunFacts). file_by settings name reason run (run_octets (first ∷ later))) (some_is e)
 
-same_if : (b : Bool) (growing : Option RunFacts) (octets : List ℕ) (u : Option UnsealedFile) (f g : SealedFile) → BodyWhere b growing octets u
-    → (body_behind growing u ≡ octets → f ≡ g) → (if b then [] else Writes ∷ Writes ∷ Seals f ∷ []) ≡ (if b then [] else Writes ∷ Writes ∷ Seals g ∷ [])
+same_if : (b : Bool) (growing : Option RunFacts) (octets : List ℕ) (u : Option UnsealedFile) (f g : SealedFile)
+    → BodyWhere b growing octets u
+    → (body_behind growing u ≡ octets → f ≡ g) → (if b then [] else Writes ∷ Writes ∷ Seals f ∷ [])
+    ≡ (if b then [] else Writes ∷ Writes ∷ Seals g ∷ [])
 same_if true growing octets u f g body same = refl
 same_if false growing octets u f g body same = ap (λ (file : SealedFile). Writes ∷ Writes ∷ Seals file ∷ []) (same body)
 
-closing_is : (settings : FileSettings) (s : ℕ) (file : Progress) (u : Option UnsealedFile) (reason : Option ClosureReason) (run : List (Filed (List ℕ)))
-    → file.growing ≡ growing_of (records_in run) → ClosesOpen reason file.growing → BodyWhere (is_sealed file) file.growing (run_octets (records_in run)) u
+closing_is : (settings : FileSettings) (s : ℕ) (file : Progress) (u : Option UnsealedFile)
+    (reason : Option ClosureReason) (run : List (Filed (List ℕ)))
+    → file.growing ≡ growing_of (records_in run) → ClosesOpen reason file.growing
+    → BodyWhere (is_sealed file) file.growing (run_octets (records_in run)) u
     → closing_of settings s file u reason ≡ closing settings s file.sealed (file.closed + 1) reason run
 closing_is settings s file u None run kept opens body = refl
 closing_is settings s file u (Some reason) run kept opens body =
@@ -103,8 +118,10 @@ closing_is settings s file u (Some reason) run kept opens body =
     (λ stands. file_is settings (name_in s file) reason file.growing (records_in run) u kept opens stands)
 
 -- the calls of a closing are those for the run
-pub makes_closing : {A : Type 0} (tells : Ghosts A) (settings : FileSettings) (s : ℕ) (run : List (Filed (List ℕ))) (file : Progress) (reason : Option ClosureReason) (ended : Ending) (old new : A)
-    → Follows tells s run file old → ClosesOpen reason file.growing → Makes tells (closing_of settings s file (tells.unsealed old s) reason) ended old new
+pub makes_closing : {A : Type 0} (tells : Ghosts A) (settings : FileSettings) (s : ℕ) (run : List (Filed (List ℕ)))
+    (file : Progress) (reason : Option ClosureReason) (ended : Ending) (old new : A)
+    → Follows tells s run file old → ClosesOpen reason file.growing
+    → Makes tells (closing_of settings s file (tells.unsealed old s) reason) ended old new
     → Makes tells (closing settings s file.sealed (file.closed + 1) reason run) ended old new
 makes_closing tells settings s run file reason ended old new follows opens made =
     makes_same tells _ _ ended old new (closing_long settings s file (tells.unsealed old s) reason run)
@@ -114,23 +131,30 @@ pub none_body : (b : Bool) (u : Option UnsealedFile) → BodyWhere b None [] u
 none_body true u = tt
 none_body false u = refl
 
-pub close_follows : {A : Type 0} (tells : Ghosts A) (s : ℕ) (run : List (Filed (List ℕ))) (file later : Progress) (reason : Option ClosureReason) (old new : A)
-    → Follows tells s run file old → later ≡ closed_progress reason file → (IsTrue tells.tells_files → StillOpen reason (tells.unsealed old s) (tells.unsealed new s))
+pub close_follows : {A : Type 0} (tells : Ghosts A) (s : ℕ) (run : List (Filed (List ℕ))) (file later : Progress)
+    (reason : Option ClosureReason) (old new : A)
+    → Follows tells s run file old → later ≡ closed_progress reason file
+    → (IsTrue tells.tells_files → StillOpen reason (tells.unsealed old s) (tells.unsealed new s))
     → Follows tells s (still reason run []) later new
-close_follows tells s run file later None old new follows e opens = subst (λ (f : Progress). Follows tells s run f new) (sym e) (record {
-  kept = follows.kept;
-  body = λ told. subst (λ (u : Option UnsealedFile). BodyWhere (is_sealed file) file.growing (run_octets (records_in run)) u) (sym (opens told)) (follows.body told);
-})
-close_follows tells s run file later (Some reason) old new follows e opens = subst (λ (f : Progress). Follows tells s [] f new) (sym e) (record {
-  kept = refl;
-  body = λ told. none_body (nat_le (file.closed + 1 + 1) file.sealed) (tells.unsealed new s);
-})
+close_follows tells s run file later None old new follows e opens =
+    subst (λ (f : Progress). Follows tells s run f new) (sym e) (record {
+      kept = follows.kept;
+      body = λ told. subst (λ (u : Option UnsealedFile). BodyWhere (is_sealed file) file.growing
+          (run_octets (records_in run)) u) (sym (opens told)) (follows.body told);
+    })
+close_follows tells s run file later (Some reason) old new follows e opens =
+    subst (λ (f : Progress). Follows tells s [] f new) (sym e) (record {
+      kept = refl;
+      body = λ told. none_body (nat_le (file.closed + 1 + 1) file.sealed) (tells.unsealed new s);
+    })
 
-pub closed_count : (reason : Option ClosureReason) (file later : Progress) → later ≡ closed_progress reason file → later.closed ≡ closed_by reason file.closed
+pub closed_count : (reason : Option ClosureReason) (file later : Progress) → later ≡ closed_progress reason file
+    → later.closed ≡ closed_by reason file.closed
 closed_count None file later e = ap (λ (f : Progress). f.closed) e
 closed_count (Some reason) file later e = ap (λ (f : Progress). f.closed) e
 
-pub closed_sealed : (reason : Option ClosureReason) (file later : Progress) → later ≡ closed_progress reason file → later.sealed ≡ file.sealed
+pub closed_sealed : (reason : Option ClosureReason) (file later : Progress) → later ≡ closed_progress reason file
+    → later.sealed ≡ file.sealed
 closed_sealed None file later e = ap (λ (f : Progress). f.sealed) e
 closed_sealed (Some reason) file later e = ap (λ (f : Progress). f.sealed) e
 
@@ -139,61 +163,81 @@ closed_sealed (Some reason) file later e = ap (λ (f : Progress). f.sealed) e
 -- the laws of what a header says of records
 pub record FactsLaws : Type 0 where
   pub first : (filed : FiledRecord) → facts_of (filed ∷ []) ≡ facts_of_one filed
-  pub more : (run : List FiledRecord) (last : FiledRecord) → run ≢ [] → facts_of (run ++ last ∷ []) ≡ facts_with (facts_of run) last
-  pub growth : (run : List FiledRecord) (last : FiledRecord) → run_octets (run ++ last ∷ []) ≡ run_octets run ++ cdr_octets last
+  pub more : (run : List FiledRecord) (last : FiledRecord) → run ≢ [] → facts_of (run ++ last ∷ [])
+      ≡ facts_with (facts_of run) last
+  pub growth : (run : List FiledRecord) (last : FiledRecord) → run_octets (run ++ last ∷ [])
+      ≡ run_octets run ++ cdr_octets last
 
-growing_grown : FactsLaws → (rs : List FiledRecord) (r : FiledRecord) → Some (grown_facts (growing_of rs) r) ≡ growing_of (rs ++ r ∷ [])
+growing_grown : FactsLaws → (rs : List FiledRecord) (r : FiledRecord) → Some (grown_facts (growing_of rs) r)
+    ≡ growing_of (rs ++ r ∷ [])
 growing_grown laws [] r = ap (λ (facts : RunFacts). Some facts) (sym (laws.first r))
 growing_grown laws (x ∷ xs) r = ap (λ (facts : RunFacts). Some facts) (sym (laws.more (x ∷ xs) r (λ e. absurd (cc))))
 
-grown_body : FactsLaws → (b : Bool) (name : FileName) (growing : Option RunFacts) (rs : List FiledRecord) (r : FiledRecord) (old new : Option UnsealedFile)
-    → BodyWhere b growing (run_octets rs) old → GrownWhere b name growing r old new → BodyWhere b (Some (grown_facts growing r)) (run_octets (rs ++ r ∷ [])) new
+grown_body : FactsLaws → (b : Bool) (name : FileName) (growing : Option RunFacts) (rs : List FiledRecord)
+    (r : FiledRecord) (old new : Option UnsealedFile)
+    → BodyWhere b growing (run_octets rs) old → GrownWhere b name growing r old new
+    → BodyWhere b (Some (grown_facts growing r)) (run_octets (rs ++ r ∷ [])) new
 grown_body laws true name growing rs r old new body has_grown = tt
 grown_body laws false name growing rs r old new body has_grown =
     has_grown.1 ∙ ap (λ (octets : List ℕ). octets ++ cdr_octets r) body ∙ sym (laws.growth rs r)
 
-pub append_follows : {A : Type 0} (tells : Ghosts A) (s : ℕ) (run : List (Filed (List ℕ))) (filed : Filed (List ℕ)) (file later : Progress) (old new : A) → FactsLaws
-    → Follows tells s run file old → later ≡ grown file (record_of filed) → (IsTrue tells.tells_files → IsGrown s file (record_of filed) (tells.unsealed old s) (tells.unsealed new s))
+pub append_follows : {A : Type 0} (tells : Ghosts A) (s : ℕ) (run : List (Filed (List ℕ))) (filed : Filed (List ℕ))
+    (file later : Progress) (old new : A) → FactsLaws
+    → Follows tells s run file old → later ≡ grown file (record_of filed)
+    → (IsTrue tells.tells_files → IsGrown s file (record_of filed) (tells.unsealed old s) (tells.unsealed new s))
     → Follows tells s (run ++ filed ∷ []) later new
 append_follows tells s run filed file later old new laws follows e has_grown =
-    let records : records_in (run ++ filed ∷ []) ≡ records_in run ++ record_of filed ∷ [] = map-append record_of run (filed ∷ []) in
+    let records : records_in (run ++ filed ∷ []) ≡ records_in run ++ record_of filed ∷ [] =
+    map-append record_of run (filed ∷ []) in
     subst (λ (f : Progress). Follows tells s (run ++ filed ∷ []) f new) (sym e) (record {
-      kept = ap (λ (g : Option RunFacts). Some (grown_facts g (record_of filed))) follows.kept ∙ growing_grown laws (records_in run) (record_of filed)
+      kept = ap (λ (g : Option RunFacts). Some (grown_facts g (record_of filed))) follows.kept
+          ∙ growing_grown laws (records_in run) (record_of filed)
           ∙ ap (λ (rs : List FiledRecord). growing_of rs) (sym records);
-      body = λ told. subst (λ (rs : List FiledRecord). BodyWhere (is_sealed file) (Some (grown_facts file.growing (record_of filed))) (run_octets rs) (tells.unsealed new s)) (sym records)
-          (grown_body laws (is_sealed file) (name_in s file) file.growing (records_in run) (record_of filed) (tells.unsealed old s) (tells.unsealed new s) (follows.body told) (has_grown told));
+      body = λ told. subst (λ (rs : List FiledRecord). BodyWhere (is_sealed file)
+          (Some (grown_facts file.growing (record_of filed))) (run_octets rs) (tells.unsealed new s)) (sym records)
+          (grown_body laws (is_sealed file) (name_in s file) file.growing (records_in run) (record_of filed)
+          (tells.unsealed old s) (tells.unsealed new s) (follows.body told) (has_grown told));
     })
 
-beginning_is : (growing : Option RunFacts) (run : List (Filed (List ℕ))) → growing ≡ growing_of (records_in run) → beginning_of growing ≡ beginning run
+beginning_is : (growing : Option RunFacts) (run : List (Filed (List ℕ))) → growing ≡ growing_of (records_in run)
+    → beginning_of growing ≡ beginning run
 beginning_is growing [] e = ap beginning_of e
 beginning_is growing (first ∷ later) e = ap beginning_of e
 
 -- the calls for a record are those for the run
-pub appending_is : {A : Type 0} (tells : Ghosts A) (s : ℕ) (run : List (Filed (List ℕ))) (filed : Filed (List ℕ)) (file : Progress) (shelf : A) → Follows tells s run file shelf
+pub appending_is : {A : Type 0} (tells : Ghosts A) (s : ℕ) (run : List (Filed (List ℕ))) (filed : Filed (List ℕ))
+    (file : Progress) (shelf : A) → Follows tells s run file shelf
     → appending_of file ≡ appending file.sealed (file.closed + 1) run (Record filed)
 appending_is tells s run filed file shelf follows =
-    ap (λ (calls : List Call). unless_sealed file.sealed (file.closed + 1) (calls ++ Writes ∷ Writes ∷ [])) (beginning_is file.growing run follows.kept)
+    ap (λ (calls : List Call). unless_sealed file.sealed (file.closed + 1) (calls ++ Writes ∷ Writes ∷ []))
+    (beginning_is file.growing run follows.kept)
 
 -- ---- what is sealed
 
-name_of_closed : (settings : FileSettings) (name : FileName) (reason : ClosureReason) (growing : Option RunFacts) (u : Option UnsealedFile) → (closed_file settings name reason growing u).name ≡ name
+name_of_closed : (settings : FileSettings) (name : FileName) (reason : ClosureReason) (growing : Option RunFacts)
+    (u : Option UnsealedFile) → (closed_file settings name reason growing u).name ≡ name
 name_of_closed settings name reason None u = refl
 name_of_closed settings name reason (Some run) u = refl
 
-greatest_if : (b : Bool) (s n : ℕ) (f : SealedFile) → number_in s f.name ≡ n → greatest_in s (seals (if b then [] else Writes ∷ Writes ∷ Seals f ∷ [])) ≤ n
+greatest_if : (b : Bool) (s n : ℕ) (f : SealedFile) → number_in s f.name ≡ n
+    → greatest_in s (seals (if b then [] else Writes ∷ Writes ∷ Seals f ∷ [])) ≤ n
 greatest_if true s n f e = omega arith
 greatest_if false s n f e = omega arith
 
-greatest_closing : (settings : FileSettings) (s : ℕ) (file : Progress) (u : Option UnsealedFile) (reason : Option ClosureReason) (files : List SealedFile)
+greatest_closing : (settings : FileSettings) (s : ℕ) (file : Progress) (u : Option UnsealedFile)
+    (reason : Option ClosureReason) (files : List SealedFile)
     → greatest_in s files ≤ max file.closed file.sealed
-    → greatest_in s (files ++ seals (closing_of settings s file u reason)) ≤ max (closed_progress reason file).closed (closed_progress reason file).sealed
+    → greatest_in s (files ++ seals (closing_of settings s file u reason))
+    ≤ max (closed_progress reason file).closed (closed_progress reason file).sealed
 greatest_closing settings s file u None files h = omega (arith, greatest_in-append s files [])
 greatest_closing settings s file u (Some reason) files h =
     let f : SealedFile = closed_file settings (name_in s file) reason file.growing u in
     omega (
       arith,
       greatest_in-append s files (seals (closing_of settings s file u (Some reason))),
-      greatest_if (is_sealed file) s (file.closed + 1) f (ap (λ (name : FileName). number_in s name) (name_of_closed settings (name_in s file) reason file.growing u) ∙ own_number s (file.closed + 1)),
+      greatest_if (is_sealed file) s (file.closed + 1) f
+          (ap (λ (name : FileName). number_in s name) (name_of_closed settings (name_in s file) reason file.growing u)
+          ∙ own_number s (file.closed + 1)),
     )
 
 other_number : (s t n : ℕ) → t ≢ s → number_in t (record { stream = s; sequence = n }) ≡ 0
@@ -202,7 +246,8 @@ other_number s t n h = ap (λ (b : Bool). if b then n else 0) (apart s t h)
     apart : (a b : ℕ) → b ≢ a → (a == b) ≡ false
     apart a b k = grind (arith, nat_tests)
 
-greatest_elsewhere : (settings : FileSettings) (s t : ℕ) (file : Progress) (u : Option UnsealedFile) (reason : Option ClosureReason) (files : List SealedFile) → t ≢ s
+greatest_elsewhere : (settings : FileSettings) (s t : ℕ) (file : Progress) (u : Option UnsealedFile)
+    (reason : Option ClosureReason) (files : List SealedFile) → t ≢ s
     → greatest_in t (files ++ seals (closing_of settings s file u reason)) ≡ greatest_in t files
 greatest_elsewhere settings s t file u None files h = omega (arith, greatest_in-append t files [])
 greatest_elsewhere settings s t file u (Some reason) files h =
@@ -210,10 +255,13 @@ greatest_elsewhere settings s t file u (Some reason) files h =
     omega (
       arith,
       greatest_in-append t files (seals (closing_of settings s file u (Some reason))),
-      greatest_if (is_sealed file) t 0 f (ap (λ (name : FileName). number_in t name) (name_of_closed settings (name_in s file) reason file.growing u) ∙ other_number s t (file.closed + 1) h),
+      greatest_if (is_sealed file) t 0 f
+          (ap (λ (name : FileName). number_in t name) (name_of_closed settings (name_in s file) reason file.growing u)
+          ∙ other_number s t (file.closed + 1) h),
     )
 
-seals_if : (b : Bool) (growing : Option RunFacts) → seals (if b then [] else beginning_of growing ++ Writes ∷ Writes ∷ []) ≡ []
+seals_if : (b : Bool) (growing : Option RunFacts)
+    → seals (if b then [] else beginning_of growing ++ Writes ∷ Writes ∷ []) ≡ []
 seals_if true growing = refl
 seals_if false None = refl
 seals_if false (Some run) = refl
@@ -224,98 +272,139 @@ ready_if : (b : Bool) (name : FileName) (u : Option UnsealedFile) → ReadyWhere
 ready_if true name u = tt
 ready_if false name u = tt
 
-close_ready : (reason : Option ClosureReason) (s : ℕ) (file : Progress) (old new : Option UnsealedFile) → IsReady s file old → StillOpen reason old new → IsReady s (closed_progress reason file) new
+close_ready : (reason : Option ClosureReason) (s : ℕ) (file : Progress) (old new : Option UnsealedFile)
+    → IsReady s file old → StillOpen reason old new → IsReady s (closed_progress reason file) new
 close_ready None s file old new ready opens = subst (λ (u : Option UnsealedFile). IsReady s file u) (sym opens) ready
-close_ready (Some reason) s file old new ready opens = ready_if (nat_le (file.closed + 1 + 1) file.sealed) (record { stream = s; sequence = file.closed + 1 + 1 }) new
+close_ready (Some reason) s file old new ready opens =
+    ready_if (nat_le (file.closed + 1 + 1) file.sealed) (record { stream = s; sequence = file.closed + 1 + 1 }) new
 
-pub close_up : {A : Type 0} (tells : Ghosts A) (settings : FileSettings) (s : ℕ) (file later : Progress) (reason : Option ClosureReason) (old new : A)
-    → IsUp tells s file old → later ≡ closed_progress reason file → (IsTrue tells.tells_files → StillOpen reason (tells.unsealed old s) (tells.unsealed new s))
+pub close_up : {A : Type 0} (tells : Ghosts A) (settings : FileSettings) (s : ℕ) (file later : Progress)
+    (reason : Option ClosureReason) (old new : A)
+    → IsUp tells s file old → later ≡ closed_progress reason file
+    → (IsTrue tells.tells_files → StillOpen reason (tells.unsealed old s) (tells.unsealed new s))
     → Makes tells (closing_of settings s file (tells.unsealed old s) reason) Went old new → IsUp tells s later new
-close_up tells settings s file later reason old new up e opens made = subst (λ (f : Progress). IsUp tells s f new) (sym e) (record {
-  fresh = λ told. subst (λ (files : List SealedFile). greatest_in s files ≤ max (closed_progress reason file).closed (closed_progress reason file).sealed)
-      (sym (all_sealed tells (closing_of settings s file (tells.unsealed old s) reason) [] old new made told))
-      (greatest_closing settings s file (tells.unsealed old s) reason (tells.files old) (up.fresh told));
-  ready = λ told. close_ready reason s file _ _ (up.ready told) (opens told);
-})
+close_up tells settings s file later reason old new up e opens made =
+    subst (λ (f : Progress). IsUp tells s f new) (sym e) (record {
+      fresh = λ told. subst (λ (files : List SealedFile). greatest_in s files
+          ≤ max (closed_progress reason file).closed (closed_progress reason file).sealed)
+          (sym (all_sealed tells (closing_of settings s file (tells.unsealed old s) reason) [] old new made told))
+          (greatest_closing settings s file (tells.unsealed old s) reason (tells.files old) (up.fresh told));
+      ready = λ told. close_ready reason s file _ _ (up.ready told) (opens told);
+    })
 
-grown_ready : (b : Bool) (name : FileName) (growing : Option RunFacts) (r : FiledRecord) (old new : Option UnsealedFile) → GrownWhere b name growing r old new
+grown_ready : (b : Bool) (name : FileName) (growing : Option RunFacts) (r : FiledRecord)
+    (old new : Option UnsealedFile) → GrownWhere b name growing r old new
     → ReadyWhere b name (Some (grown_facts growing r)) new
 grown_ready true name growing r old new h = tt
 grown_ready false name growing r old new h = h.0
 
-same_files : {A : Type 0} (tells : Ghosts A) (file : Progress) (old new : A) → Makes tells (appending_of file) Went old new → IsTrue tells.tells_files → tells.files new ≡ tells.files old
+same_files : {A : Type 0} (tells : Ghosts A) (file : Progress) (old new : A)
+    → Makes tells (appending_of file) Went old new → IsTrue tells.tells_files → tells.files new ≡ tells.files old
 same_files tells file old new made told =
     all_sealed tells (appending_of file) [] old new made told
-    ∙ ap (λ (files : List SealedFile). tells.files old ++ files) (seals_if (is_sealed file) file.growing) ∙ append-nil (tells.files old)
+    ∙ ap (λ (files : List SealedFile). tells.files old ++ files) (seals_if (is_sealed file) file.growing)
+    ∙ append-nil (tells.files old)
 
 pub append_up : {A : Type 0} (tells : Ghosts A) (s : ℕ) (file later : Progress) (r : FiledRecord) (old new : A)
-    → IsUp tells s file old → later ≡ grown file r → (IsTrue tells.tells_files → IsGrown s file r (tells.unsealed old s) (tells.unsealed new s))
+    → IsUp tells s file old → later ≡ grown file r
+    → (IsTrue tells.tells_files → IsGrown s file r (tells.unsealed old s) (tells.unsealed new s))
     → Makes tells (appending_of file) Went old new → IsUp tells s later new
-append_up tells s file later r old new up e has_grown made = subst (λ (f : Progress). IsUp tells s f new) (sym e) (record {
-  fresh = λ told. subst (λ (files : List SealedFile). greatest_in s files ≤ max file.closed file.sealed) (sym (same_files tells file old new made told)) (up.fresh told);
-  ready = λ told. grown_ready (is_sealed file) (name_in s file) file.growing r _ _ (has_grown told);
-})
+append_up tells s file later r old new up e has_grown made =
+    subst (λ (f : Progress). IsUp tells s f new) (sym e) (record {
+      fresh = λ told. subst (λ (files : List SealedFile). greatest_in s files ≤ max file.closed file.sealed)
+          (sym (same_files tells file old new made told)) (up.fresh told);
+      ready = λ told. grown_ready (is_sealed file) (name_in s file) file.growing r _ _ (has_grown told);
+    })
 
 -- ---- other streams stay
 
-pub close_stays : {A : Type 0} (tells : Ghosts A) (settings : FileSettings) (s t : ℕ) (file : Progress) (reason : Option ClosureReason) (old new : A) → t ≢ s
-    → IsTrue tells.tells_files → tells.unsealed new t ≡ tells.unsealed old t → Makes tells (closing_of settings s file (tells.unsealed old s) reason) Went old new → Stays tells t old new
+pub close_stays : {A : Type 0} (tells : Ghosts A) (settings : FileSettings) (s t : ℕ) (file : Progress)
+    (reason : Option ClosureReason) (old new : A) → t ≢ s
+    → IsTrue tells.tells_files → tells.unsealed new t ≡ tells.unsealed old t
+    → Makes tells (closing_of settings s file (tells.unsealed old s) reason) Went old new → Stays tells t old new
 close_stays tells settings s t file reason old new h told same made = record {
   unsealed = same;
-  greatest = ap (λ (files : List SealedFile). greatest_in t files) (all_sealed tells (closing_of settings s file (tells.unsealed old s) reason) [] old new made told)
+  greatest =
+      ap (λ (files : List SealedFile). greatest_in t files)
+      (all_sealed tells (closing_of settings s file (tells.unsealed old s) reason) [] old new made told)
       ∙ greatest_elsewhere settings s t file (tells.unsealed old s) reason (tells.files old) h;
 }
 
-pub append_stays : {A : Type 0} (tells : Ghosts A) (t : ℕ) (file : Progress) (old new : A) → IsTrue tells.tells_files → tells.unsealed new t ≡ tells.unsealed old t
+pub append_stays : {A : Type 0} (tells : Ghosts A) (t : ℕ) (file : Progress) (old new : A) → IsTrue tells.tells_files
+    → tells.unsealed new t ≡ tells.unsealed old t
     → Makes tells (appending_of file) Went old new → Stays tells t old new
-append_stays tells t file old new told same made = record { unsealed = same; greatest = ap (λ (files : List SealedFile). greatest_in t files) (same_files tells file old new made told) }
+append_stays tells t file old new told same made =
+    record {
+      unsealed = same;
+      greatest = ap (λ (files : List SealedFile). greatest_in t files) (same_files tells file old new made told);
+    }
 
-pub stays_then : {A : Type 0} (tells : Ghosts A) (t : ℕ) (old mid new : A) → Stays tells t old mid → Stays tells t mid new → Stays tells t old new
-stays_then tells t old mid new first next = record { unsealed = next.unsealed ∙ first.unsealed; greatest = next.greatest ∙ first.greatest }
+pub stays_then : {A : Type 0} (tells : Ghosts A) (t : ℕ) (old mid new : A) → Stays tells t old mid
+    → Stays tells t mid new → Stays tells t old new
+stays_then tells t old mid new first next = record {
+  unsealed = next.unsealed ∙ first.unsealed;
+  greatest = next.greatest ∙ first.greatest;
+}
 
 -- ---- what a cutter keeps
 
-pub pairs_closed : (reason : Option ClosureReason) (kept : Option OpenFile) (file later : Progress) → Pairs kept file.growing → later ≡ closed_progress reason file → Pairs (still reason kept None) later.growing
+pub pairs_closed : (reason : Option ClosureReason) (kept : Option OpenFile) (file later : Progress)
+    → Pairs kept file.growing → later ≡ closed_progress reason file → Pairs (still reason kept None) later.growing
 pairs_closed None kept file later pairs e = subst (λ (f : Progress). Pairs kept f.growing) (sym e) pairs
 pairs_closed (Some reason) kept file later pairs e = subst (λ (f : Progress). Pairs None f.growing) (sym e) tt
 
-pairs_with : (kept : Option OpenFile) (growing : Option RunFacts) (r : FiledRecord) → Pairs kept growing → IsCdrKind r.kind
+pairs_with : (kept : Option OpenFile) (growing : Option RunFacts) (r : FiledRecord) → Pairs kept growing
+    → IsCdrKind r.kind
     → Pairs (Some (with_record kept r.kind (length r.octets) r.moment)) (Some (grown_facts growing r))
 pairs_with None None r pairs kind = (refl, refl, kind)
 pairs_with None (Some run) r pairs kind = absurd pairs
 pairs_with (Some file) None r pairs kind = absurd pairs
-pairs_with (Some file) (Some run) r pairs kind = (more_octets file.octets run.octets (length r.octets) pairs.0, ap (λ (n : ℕ). n + 1) pairs.1, pairs.2)
+pairs_with (Some file) (Some run) r pairs kind = (
+  more_octets file.octets run.octets (length r.octets) pairs.0,
+  ap (λ (n : ℕ). n + 1) pairs.1,
+  pairs.2,
+)
   where
     more_octets : (a b n : ℕ) → a ≡ 52 + b → a + (4 + n) ≡ 52 + (b + (4 + n))
     more_octets a b n e = omega arith
 
-pub pairs_grown : (kept : Option OpenFile) (file later : Progress) (r : FiledRecord) → Pairs kept file.growing → IsCdrKind r.kind → later ≡ grown file r
+pub pairs_grown : (kept : Option OpenFile) (file later : Progress) (r : FiledRecord) → Pairs kept file.growing
+    → IsCdrKind r.kind → later ≡ grown file r
     → Pairs (Some (with_record kept r.kind (length r.octets) r.moment)) later.growing
-pairs_grown kept file later r pairs kind e = subst (λ (f : Progress). Pairs (Some (with_record kept r.kind (length r.octets) r.moment)) f.growing) (sym e) (pairs_with kept file.growing r pairs kind)
+pairs_grown kept file later r pairs kind e =
+    subst (λ (f : Progress). Pairs (Some (with_record kept r.kind (length r.octets) r.moment)) f.growing) (sym e)
+    (pairs_with kept file.growing r pairs kind)
 
 -- where a function ended, it has no answer
-pub no_answer : {T : Type 0} (q : Result T ShelfFault) (e : ShelfFault) (P : T → Type 0) → IsErr q × IsErrAnd q (λ x. x ≡ e) → IfOk q P
+pub no_answer : {T : Type 0} (q : Result T ShelfFault) (e : ShelfFault) (P : T → Type 0) → IsErr q
+    × IsErrAnd q (λ x. x ≡ e) → IfOk q P
 no_answer (Ok x) e P h = absurd h.1
 no_answer (Err x) e P h = tt
 
 -- ---- an item
 
 -- at a Tick or a Close, nothing is closed behind it
-pub mark_cuts_is : (limits : Limits) (file : Option OpenFile) (closes : Bool) (moment : ℕ) → item_cuts {P = List ℕ} limits file (mark_item closes moment) ≡ mark_cuts limits file closes moment
+pub mark_cuts_is : (limits : Limits) (file : Option OpenFile) (closes : Bool) (moment : ℕ)
+    → item_cuts {P = List ℕ} limits file (mark_item closes moment) ≡ mark_cuts limits file closes moment
 mark_cuts_is limits file true moment = refl
 mark_cuts_is limits file false moment = refl
 
-pub mark_file_is : (limits : Limits) (file : Option OpenFile) (closes : Bool) (moment : ℕ) → item_file {P = List ℕ} limits file (mark_item closes moment) ≡ mark_file limits file closes moment
+pub mark_file_is : (limits : Limits) (file : Option OpenFile) (closes : Bool) (moment : ℕ)
+    → item_file {P = List ℕ} limits file (mark_item closes moment) ≡ mark_file limits file closes moment
 mark_file_is limits file true moment = refl
 mark_file_is limits file false moment = refl
 
 abbrev pub only_before : Option ClosureReason → Cuts
 only_before reason = record { before = reason; after = None }
 
-pub mark_calls : (settings : FileSettings) (s sealed closed : ℕ) (reason : Option ClosureReason) (run : List (Filed (List ℕ))) (closes : Bool) (moment : ℕ)
-    → closing settings s sealed (closed + 1) reason run ≡ calls_at settings s sealed (only_before reason) closed run (mark_item closes moment)
-mark_calls settings s sealed closed reason run true moment = sym (append-nil (closing settings s sealed (closed + 1) reason run))
-mark_calls settings s sealed closed reason run false moment = sym (append-nil (closing settings s sealed (closed + 1) reason run))
+pub mark_calls : (settings : FileSettings) (s sealed closed : ℕ) (reason : Option ClosureReason)
+    (run : List (Filed (List ℕ))) (closes : Bool) (moment : ℕ)
+    → closing settings s sealed (closed + 1) reason run ≡ calls_at settings s sealed (only_before reason) closed run
+    (mark_item closes moment)
+mark_calls settings s sealed closed reason run true moment =
+    sym (append-nil (closing settings s sealed (closed + 1) reason run))
+mark_calls settings s sealed closed reason run false moment =
+    sym (append-nil (closing settings s sealed (closed + 1) reason run))
 
 pub mark_run : (reason : Option ClosureReason) (run : List (Filed (List ℕ))) (closes : Bool) (moment : ℕ)
     → still reason run [] ≡ run_after (only_before reason) run (mark_item closes moment)
@@ -330,23 +419,29 @@ closes_some None run = tt
 closes_some (Some reason) run = tt
 
 -- what isn't open isn't closed
-pub mark_closes : (limits : Limits) (kept : Option OpenFile) (closes : Bool) (moment : ℕ) (growing : Option RunFacts) (reason : Option ClosureReason)
+pub mark_closes : (limits : Limits) (kept : Option OpenFile) (closes : Bool) (moment : ℕ) (growing : Option RunFacts)
+    (reason : Option ClosureReason)
     → Pairs kept growing → reason ≡ mark_reason limits kept closes moment → ClosesOpen reason growing
-mark_closes limits None closes moment None reason pairs e = subst (λ (r : Option ClosureReason). ClosesOpen r None) (sym e) tt
+mark_closes limits None closes moment None reason pairs e =
+    subst (λ (r : Option ClosureReason). ClosesOpen r None) (sym e) tt
 mark_closes limits None closes moment (Some run) reason pairs e = absurd pairs
 mark_closes limits (Some file) closes moment None reason pairs e = absurd pairs
 mark_closes limits (Some file) closes moment (Some run) reason pairs e = closes_some reason run
 
-pub record_closes : (kept : Option OpenFile) (kind : CdrKind) (growing : Option RunFacts) (reason : Option ClosureReason)
+pub record_closes : (kept : Option OpenFile) (kind : CdrKind) (growing : Option RunFacts)
+    (reason : Option ClosureReason)
     → Pairs kept growing → reason ≡ kind_change kept kind → ClosesOpen reason growing
 record_closes None kind None reason pairs e = subst (λ (r : Option ClosureReason). ClosesOpen r None) (sym e) tt
 record_closes None kind (Some run) reason pairs e = absurd pairs
 record_closes (Some file) kind None reason pairs e = absurd pairs
 record_closes (Some file) kind (Some run) reason pairs e = closes_some reason run
 
-pub grown_closes : (file later : Progress) (r : FiledRecord) (reason : Option ClosureReason) → later ≡ grown file r → ClosesOpen reason later.growing
-grown_closes file later r reason e = subst (λ (f : Progress). ClosesOpen reason f.growing) (sym e) (closes_some reason (grown_facts file.growing r))
+pub grown_closes : (file later : Progress) (r : FiledRecord) (reason : Option ClosureReason) → later ≡ grown file r
+    → ClosesOpen reason later.growing
+grown_closes file later r reason e = subst (λ (f : Progress). ClosesOpen reason f.growing) (sym e)
+    (closes_some reason (grown_facts file.growing r))
 
-pub no_result : {T : Type 0} (q : Result T ShelfFault) (e : ShelfFault) (P : Type 0) → IsErr q × IsErrAnd q (λ x. x ≡ e) → OnOk q P
+pub no_result : {T : Type 0} (q : Result T ShelfFault) (e : ShelfFault) (P : Type 0) → IsErr q
+    × IsErrAnd q (λ x. x ≡ e) → OnOk q P
 no_result (Ok x) e P h = absurd h.1
 no_result (Err x) e P h = tt

@@ -2,6 +2,7 @@ pub mod FilesLemmas
 pub mod CallsLemmas
 pub mod StreamsLemmas
 pub mod HoldingLemmas
+pub mod RecoveringLemmas
 pub mod MakingLemmas
 pub mod WritingLemmas
 pub mod FollowingLemmas

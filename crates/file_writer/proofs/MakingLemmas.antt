@@ -29,24 +29,42 @@ pub record IsPlanned (failed : Bool) (old new : Schedule) : Type 0 where
   pub fails : failed ≡ is_failure (next_fate old)
   pub schedule : new ≡ after_call (next_fate old) old
 
-runs_on : (a : Armed) (old new : Schedule) (fate : Fate) → IsArmed a old → next_fate old ≡ fate → fate ≡ Runs → new ≡ after_call (next_fate old) old → IsArmed (after_one a) new
-runs_on a old new fate armed e runs h = subst (λ (s : Schedule). IsArmed (after_one a) s) (sym (h ∙ ap (λ (f : Fate). after_call f old) (e ∙ runs))) (armed_ran a old armed)
+runs_on : (a : Armed) (old new : Schedule) (fate : Fate) → IsArmed a old → next_fate old ≡ fate → fate ≡ Runs
+    → new ≡ after_call (next_fate old) old → IsArmed (after_one a) new
+runs_on a old new fate armed e runs h =
+    subst (λ (s : Schedule). IsArmed (after_one a) s) (sym (h ∙ ap (λ (f : Fate). after_call f old) (e ∙ runs)))
+    (armed_ran a old armed)
 
 -- a call that seals nothing
 pub unsealed_by : {old new : List SealedFile} → new ≡ old → new ≡ old ++ []
 unsealed_by {old} e = e ∙ sym (append-nil old)
 
-pub left_by_write : (fate : Fate) (old new : List SealedFile) → new ≡ old → new ≡ (if is_done fate then old ++ [] else old)
-left_by_write fate old new e = elim (is_done fate) as (λ b. new ≡ (if b then old ++ [] else old)) [ true ↦ unsealed_by e | false ↦ e ]
+pub left_by_write : (fate : Fate) (old new : List SealedFile) → new ≡ old
+    → new ≡ (if is_done fate then old ++ [] else old)
+left_by_write fate old new e = elim (is_done fate) as (λ b. new ≡ (if b then old ++ [] else old))
+    [ true ↦ unsealed_by e | false ↦ e ]
 
 module _ {A : Type 0} (tells : Ghosts A) (call : Call) (old new : A) where
   went_comes : IsPlanned false (tells.plan old) (tells.plan new) → (a : Armed) → IsArmed a (tells.plan old)
       → Comes tells (call ∷ []) Went 1 old new (calls_under a 1)
-  went_comes planned Nothing armed = record { runs = refl; is_armed = runs_on Nothing _ _ _ armed (armed_next Nothing _ armed) refl planned.schedule }
-  went_comes planned (Fail zero) armed = absurd (let e : false ≡ true = planned.fails ∙ ap is_failure (armed_next (Fail zero) _ armed) in cc)
-  went_comes planned (Fail (suc k)) armed = record { runs = refl; is_armed = runs_on (Fail (suc k)) _ _ _ armed (armed_next (Fail (suc k)) _ armed) refl planned.schedule }
-  went_comes planned (Stop zero outcome) armed = absurd (let e : false ≡ true = planned.fails ∙ ap is_failure (armed_next (Stop zero outcome) _ armed) in cc)
-  went_comes planned (Stop (suc k) outcome) armed = record { runs = refl; is_armed = runs_on (Stop (suc k) outcome) _ _ _ armed (armed_next (Stop (suc k) outcome) _ armed) refl planned.schedule }
+  went_comes planned Nothing armed =
+      record { runs = refl; is_armed = runs_on Nothing _ _ _ armed (armed_next Nothing _ armed) refl planned.schedule }
+  went_comes planned (Fail zero) armed = absurd (let e : false ≡ true = planned.fails
+      ∙ ap is_failure (armed_next (Fail zero) _ armed) in cc)
+  went_comes planned (Fail (suc k)) armed =
+      record {
+        runs = refl;
+        is_armed = runs_on (Fail (suc k)) _ _ _ armed (armed_next (Fail (suc k)) _ armed) refl
+            planned.schedule;
+      }
+  went_comes planned (Stop zero outcome) armed = absurd (let e : false ≡ true = planned.fails
+      ∙ ap is_failure (armed_next (Stop zero outcome) _ armed) in cc)
+  went_comes planned (Stop (suc k) outcome) armed =
+      record {
+        runs = refl;
+        is_armed = runs_on (Stop (suc k) outcome) _ _ _ armed (armed_next (Stop (suc k) outcome) _ armed) refl
+            planned.schedule;
+      }
 
   -- a call that ran
   pub one_went : (IsTrue tells.tells_calls → tells.calls new ≡ counted 1 (tells.calls old))
@@ -60,7 +78,13 @@ module _ {A : Type 0} (tells : Ghosts A) (call : Call) (old new : A) where
     all = λ e. refl;
     some = λ e. omega arith;
     called = called;
-    sealed = λ told. record { count = 1; at_most = omega arith; at_least = omega arith; each = λ e. refl; files = sealed told };
+    sealed = λ told. record {
+      count = 1;
+      at_most = omega arith;
+      at_least = omega arith;
+      each = λ e. refl;
+      files = sealed told;
+    };
     faults = record { later = faults; failed = λ e. absurd (cc) };
     planned = λ told memory. went_comes (planned told);
   }
@@ -72,7 +96,8 @@ module _ {A : Type 0} (tells : Ghosts A) (call : Call) (old new : A) where
   none_sealed : tells.files new ≡ tells.files old → tells.files new ≡ tells.files old ++ []
   none_sealed e = e ∙ sym (append-nil (tells.files old))
 
-  stopped_left : (outcome : Outcome3) → Left (Stops outcome) → tells.files new ≡ tells.files old ++ seals (take (done_at 1 outcome) (call ∷ []))
+  stopped_left : (outcome : Outcome3) → Left (Stops outcome)
+      → tells.files new ≡ tells.files old ++ seals (take (done_at 1 outcome) (call ∷ []))
   stopped_left Old left = none_sealed left
   stopped_left New left = left
   stopped_left Rot left = none_sealed left
@@ -81,35 +106,57 @@ module _ {A : Type 0} (tells : Ghosts A) (call : Call) (old new : A) where
   or_true true = refl
   or_true false = refl
 
-  failed_comes : IsPlanned true (tells.plan old) (tells.plan new) → (IsTrue tells.tells_files → Left (next_fate (tells.plan old)))
+  failed_comes : IsPlanned true (tells.plan old) (tells.plan new)
+      → (IsTrue tells.tells_files → Left (next_fate (tells.plan old)))
       → (a : Armed) → IsArmed a (tells.plan old) → Comes tells (call ∷ []) Failed 1 old new (calls_under a 1)
-  failed_comes planned left Nothing armed = absurd (let e : true ≡ false = planned.fails ∙ ap is_failure (armed_next Nothing _ armed) in cc)
+  failed_comes planned left Nothing armed = absurd (let e : true ≡ false = planned.fails
+      ∙ ap is_failure (armed_next Nothing _ armed) in cc)
   failed_comes planned left (Fail zero) armed =
       let e : next_fate (tells.plan old) ≡ Fails = armed_next (Fail zero) _ armed in
       record {
         fails = refl;
         number = refl;
-        is_armed = subst (λ (s : Schedule). IsArmed Nothing s) (sym (planned.schedule ∙ ap (λ (f : Fate). after_call f (tells.plan old)) e)) (armed_failed (tells.plan old) armed);
+        is_armed =
+            subst (λ (s : Schedule). IsArmed Nothing s)
+            (sym (planned.schedule ∙ ap (λ (f : Fate). after_call f (tells.plan old)) e))
+            (armed_failed (tells.plan old) armed);
         sealed = λ told. none_sealed (subst (λ (f : Fate). Left f) e (left told));
       }
-  failed_comes planned left (Fail (suc k)) armed = absurd (let e : true ≡ false = planned.fails ∙ ap is_failure (armed_next (Fail (suc k)) _ armed) in cc)
+  failed_comes planned left (Fail (suc k)) armed = absurd (let e : true ≡ false = planned.fails
+      ∙ ap is_failure (armed_next (Fail (suc k)) _ armed) in cc)
   failed_comes planned left (Stop zero outcome) armed =
       let e : next_fate (tells.plan old) ≡ Stops outcome = armed_next (Stop zero outcome) _ armed in
       record {
         fails = refl;
         number = refl;
-        stopped = ap (λ (s : Schedule). s.stopped) (planned.schedule ∙ ap (λ (f : Fate). after_call f (tells.plan old)) e) ∙ or_true (tells.plan old).stopped;
+        stopped = ap (λ (s : Schedule). s.stopped) (planned.schedule
+            ∙ ap (λ (f : Fate). after_call f (tells.plan old)) e) ∙ or_true (tells.plan old).stopped;
         sealed = λ told. stopped_left outcome (subst (λ (f : Fate). Left f) e (left told));
       }
-  failed_comes planned left (Stop (suc k) outcome) armed = absurd (let e : true ≡ false = planned.fails ∙ ap is_failure (armed_next (Stop (suc k) outcome) _ armed) in cc)
+  failed_comes planned left (Stop (suc k) outcome) armed = absurd (let e : true ≡ false = planned.fails
+      ∙ ap is_failure (armed_next (Stop (suc k) outcome) _ armed) in cc)
 
-  maybe_sealed : (tells.files new ≡ tells.files old) ⊎ (tells.files new ≡ tells.files old ++ seals (call ∷ [])) → HasSealed (call ∷ []) Failed 1 (tells.files old) (tells.files new)
-  maybe_sealed (inl e) = record { count = 0; at_most = omega arith; at_least = omega arith; each = λ f. absurd (cc); files = none_sealed e }
-  maybe_sealed (inr e) = record { count = 1; at_most = omega arith; at_least = omega arith; each = λ f. refl; files = e }
+  maybe_sealed : (tells.files new ≡ tells.files old) ⊎ (tells.files new ≡ tells.files old ++ seals (call ∷ []))
+      → HasSealed (call ∷ []) Failed 1 (tells.files old) (tells.files new)
+  maybe_sealed (inl e) = record {
+    count = 0;
+    at_most = omega arith;
+    at_least = omega arith;
+    each = λ f. absurd (cc);
+    files = none_sealed e;
+  }
+  maybe_sealed (inr e) = record {
+    count = 1;
+    at_most = omega arith;
+    at_least = omega arith;
+    each = λ f. refl;
+    files = e;
+  }
 
   -- a call that failed
   pub one_failed : (IsTrue tells.tells_calls → tells.calls new ≡ counted 1 (tells.calls old))
-      → (IsTrue tells.tells_files → (tells.files new ≡ tells.files old) ⊎ (tells.files new ≡ tells.files old ++ seals (call ∷ [])))
+      → (IsTrue tells.tells_files → (tells.files new ≡ tells.files old)
+      ⊎ (tells.files new ≡ tells.files old ++ seals (call ∷ [])))
       → tells.faults old ≤ tells.faults new → Rose (tells.faults old) (tells.faults new)
       → (IsTrue tells.tells_plan → IsPlanned true (tells.plan old) (tells.plan new))
       → (IsTrue tells.tells_plan → IsTrue tells.tells_files → Left (next_fate (tells.plan old)))
@@ -127,14 +174,21 @@ module _ {A : Type 0} (tells : Ghosts A) (call : Call) (old new : A) where
 
   -- no memory for it
   pub one_starved : (IsTrue tells.tells_calls → tells.calls new ≡ tells.calls old)
-      → tells.files new ≡ tells.files old → tells.faults old ≤ tells.faults new → Makes tells (call ∷ []) Starved old new
+      → tells.files new ≡ tells.files old → tells.faults old ≤ tells.faults new
+      → Makes tells (call ∷ []) Starved old new
   one_starved called same later = record {
     tried = 0;
     within = omega arith;
     all = λ e. absurd (cc);
     some = λ e. absurd (cc);
     called = called;
-    sealed = λ told. record { count = 0; at_most = omega arith; at_least = omega arith; each = λ e. refl; files = none_sealed same };
+    sealed = λ told. record {
+      count = 0;
+      at_most = omega arith;
+      at_least = omega arith;
+      each = λ e. refl;
+      files = none_sealed same;
+    };
     faults = record { later = later; failed = λ e. absurd (cc) };
     planned = λ told memory. absurd (cc);
   }
@@ -170,7 +224,8 @@ later_stopped zero k o = ap (λ (j : ℕ). StoppedAt j o) (plus_zero k)
 later_stopped (suc n) k o = ap one_later (later_stopped n k o) ∙ ap (λ (j : ℕ). StoppedAt j o) (plus_suc n k)
 
 -- what calls seal that are the first ones of a list, and some behind them
-seals_behind : (files before after : List SealedFile) (xs ys : List Call) (n : ℕ) → before ≡ files ++ seals xs → after ≡ before ++ seals (take n ys)
+seals_behind : (files before after : List SealedFile) (xs ys : List Call) (n : ℕ) → before ≡ files ++ seals xs
+    → after ≡ before ++ seals (take n ys)
     → after ≡ files ++ seals (take (length xs + n) (xs ++ ys))
 seals_behind files before after xs ys n e f =
     f ∙ ap (λ (fs : List SealedFile). fs ++ seals (take n ys)) e
@@ -197,46 +252,57 @@ take-length (x ∷ xs) = ap (λ (ys : List Call). x ∷ ys) (take-length xs)
 
 module _ {A : Type 0} (tells : Ghosts A) (xs ys : List Call) where
   -- the files after calls that all ran
-  pub all_sealed : (old new : A) → Makes tells xs Went old new → IsTrue tells.tells_files → tells.files new ≡ tells.files old ++ seals xs
+  pub all_sealed : (old new : A) → Makes tells xs Went old new → IsTrue tells.tells_files
+      → tells.files new ≡ tells.files old ++ seals xs
   all_sealed old new made told =
       (made.sealed told).files
       ∙ ap (λ (n : ℕ). tells.files old ++ seals (take n xs)) ((made.sealed told).each refl ∙ made.all refl)
       ∙ ap (λ (cs : List Call). tells.files old ++ seals cs) (take-length xs)
 
-  comes_behind : (ended : Ending) (tried : ℕ) (old mid new : A) → Makes tells xs Went old mid → (ended ≡ Failed → 1 ≤ tried) → (came : Came)
-      → Comes tells ys ended tried mid new came → Comes tells (xs ++ ys) ended (length xs + tried) old new (later_by (length xs) came)
+  comes_behind : (ended : Ending) (tried : ℕ) (old mid new : A) → Makes tells xs Went old mid
+      → (ended ≡ Failed → 1 ≤ tried) → (came : Came)
+      → Comes tells ys ended tried mid new came
+      → Comes tells (xs ++ ys) ended (length xs + tried) old new (later_by (length xs) came)
   comes_behind ended tried old mid new first some (Ran a) c =
-      subst (λ (came : Came). Comes tells (xs ++ ys) ended (length xs + tried) old new came) (sym (later_ran (length xs) a)) (record { runs = c.runs; is_armed = c.is_armed })
+      subst (λ (came : Came). Comes tells (xs ++ ys) ended (length xs + tried) old new came)
+      (sym (later_ran (length xs) a)) (record { runs = c.runs; is_armed = c.is_armed })
   comes_behind ended tried old mid new first some (FailedAt k) c =
-      subst (λ (came : Came). Comes tells (xs ++ ys) ended (length xs + tried) old new came) (sym (later_failed (length xs) k)) (record {
+      subst (λ (came : Came). Comes tells (xs ++ ys) ended (length xs + tried) old new came)
+      (sym (later_failed (length xs) k)) (record {
         fails = c.fails;
         number = ap (λ (n : ℕ). length xs + n) c.number;
         is_armed = c.is_armed;
         sealed = λ told. seals_behind _ _ _ xs ys (k - 1) (all_sealed old mid first told) (c.sealed told)
-            ∙ ap (λ (n : ℕ). tells.files old ++ seals (take n (xs ++ ys))) (less_one (length xs) k (subst (λ (n : ℕ). 1 ≤ n) c.number (some c.fails)));
+            ∙ ap (λ (n : ℕ). tells.files old ++ seals (take n (xs ++ ys)))
+            (less_one (length xs) k (subst (λ (n : ℕ). 1 ≤ n) c.number (some c.fails)));
       })
   comes_behind ended tried old mid new first some (StoppedAt k o) c =
-      subst (λ (came : Came). Comes tells (xs ++ ys) ended (length xs + tried) old new came) (sym (later_stopped (length xs) k o)) (record {
+      subst (λ (came : Came). Comes tells (xs ++ ys) ended (length xs + tried) old new came)
+      (sym (later_stopped (length xs) k o)) (record {
         fails = c.fails;
         number = ap (λ (n : ℕ). length xs + n) c.number;
         stopped = c.stopped;
         sealed = λ told. seals_behind _ _ _ xs ys (done_at k o) (all_sealed old mid first told) (c.sealed told)
-            ∙ ap (λ (n : ℕ). tells.files old ++ seals (take n (xs ++ ys))) (done_later (length xs) k o (subst (λ (n : ℕ). 1 ≤ n) c.number (some c.fails)));
+            ∙ ap (λ (n : ℕ). tells.files old ++ seals (take n (xs ++ ys)))
+            (done_later (length xs) k o (subst (λ (n : ℕ). 1 ≤ n) c.number (some c.fails)));
       })
 
   went_not_failed : (P : Type 0) → Went ≡ Failed → P
   went_not_failed P e = absurd (cc)
 
-  comes_then : (ended : Ending) (tried : ℕ) (old mid new : A) → Makes tells xs Went old mid → (ended ≡ Failed → 1 ≤ tried) → (came : Came)
+  comes_then : (ended : Ending) (tried : ℕ) (old mid new : A) → Makes tells xs Went old mid
+      → (ended ≡ Failed → 1 ≤ tried) → (came : Came)
       → Comes tells xs Went (length xs) old mid came
       → ((b : Armed) → IsArmed b (tells.plan mid) → Comes tells ys ended tried mid new (calls_under b (length ys)))
       → Comes tells (xs ++ ys) ended (length xs + tried) old new (then_calls (length xs) (length ys) came)
-  comes_then ended tried old mid new first some (Ran b) c next = comes_behind ended tried old mid new first some (calls_under b (length ys)) (next b c.is_armed)
+  comes_then ended tried old mid new first some (Ran b) c next =
+      comes_behind ended tried old mid new first some (calls_under b (length ys)) (next b c.is_armed)
   comes_then ended tried old mid new first some (FailedAt k) c next = went_not_failed _ c.fails
   comes_then ended tried old mid new first some (StoppedAt k o) c next = went_not_failed _ c.fails
 
   -- calls that all ran, and then others
-  pub makes_then : (ended : Ending) (old mid new : A) → Makes tells xs Went old mid → Makes tells ys ended mid new → Makes tells (xs ++ ys) ended old new
+  pub makes_then : (ended : Ending) (old mid new : A) → Makes tells xs Went old mid → Makes tells ys ended mid new
+      → Makes tells (xs ++ ys) ended old new
   makes_then ended old mid new first next =
       let long : length (xs ++ ys) ≡ length xs + length ys = length-append xs ys in
       record {
@@ -244,7 +310,10 @@ module _ {A : Type 0} (tells : Ghosts A) (xs ys : List Call) where
         within = omega (arith, next.within);
         all = λ e. ap (λ (n : ℕ). length xs + n) (next.all e) ∙ sym long;
         some = λ e. omega (arith, next.some e);
-        called = λ told. next.called told ∙ ap (calls_after next.tried) (first.called told ∙ ap (λ (n : ℕ). calls_after n (tells.calls old)) (first.all refl)) ∙ sym (after_both (length xs) next.tried (tells.calls old));
+        called = λ told. next.called told
+            ∙ ap (calls_after next.tried) (first.called told
+            ∙ ap (λ (n : ℕ). calls_after n (tells.calls old)) (first.all refl))
+            ∙ sym (after_both (length xs) next.tried (tells.calls old));
         sealed = λ told. let s = next.sealed told in record {
           count = length xs + s.count;
           at_most = omega (arith, s.at_most);
@@ -260,12 +329,14 @@ module _ {A : Type 0} (tells : Ghosts A) (xs ys : List Call) where
             subst (λ (came : Came). Comes tells (xs ++ ys) ended (length xs + next.tried) old new came)
             (sym (ap (λ (n : ℕ). calls_under a n) long ∙ calls_go_on a (length xs) (length ys)))
             (comes_then ended next.tried old mid new first next.some (calls_under a (length xs))
-            (subst (λ (n : ℕ). Comes tells xs Went n old mid (calls_under a (length xs))) (first.all refl) (first.planned told refl a armed))
+            (subst (λ (n : ℕ). Comes tells xs Went n old mid (calls_under a (length xs))) (first.all refl)
+            (first.planned told refl a armed))
             (λ b is_armed. next.planned told memory b is_armed));
       }
 
   -- ---- calls that didn't all run
-  first_of : (files after : List SealedFile) (n : ℕ) → n ≤ length xs → after ≡ files ++ seals (take n xs) → after ≡ files ++ seals (take n (xs ++ ys))
+  first_of : (files after : List SealedFile) (n : ℕ) → n ≤ length xs → after ≡ files ++ seals (take n xs)
+      → after ≡ files ++ seals (take n (xs ++ ys))
   first_of files after n h e = e ∙ ap (λ (cs : List Call). files ++ seals cs) (sym (take-append-le n xs ys h))
 
   within_one : (k tried : ℕ) → tried ≡ k → tried ≤ length xs → k - 1 ≤ length xs
@@ -278,7 +349,8 @@ module _ {A : Type 0} (tells : Ghosts A) (xs ys : List Call) where
   not_went P ended h e = absurd (h e)
 
   comes_first : (ended : Ending) (tried n : ℕ) (old new : A) → ended ≢ Went → tried ≤ length xs → (came : Came)
-      → Comes tells xs ended tried old new came → Comes tells (xs ++ ys) ended tried old new (then_calls (length xs) n came)
+      → Comes tells xs ended tried old new came
+      → Comes tells (xs ++ ys) ended tried old new (then_calls (length xs) n came)
   comes_first ended tried n old new stops within (Ran b) c = not_went _ ended stops c.runs
   comes_first ended tried n old new stops within (FailedAt k) c = record {
     fails = c.fails;
@@ -293,7 +365,8 @@ module _ {A : Type 0} (tells : Ghosts A) (xs ys : List Call) where
     sealed = λ told. first_of _ _ (done_at k o) (within_done k tried o c.number within) (c.sealed told);
   }
 
-  pub makes_stop : (ended : Ending) (old new : A) → ended ≢ Went → Makes tells xs ended old new → Makes tells (xs ++ ys) ended old new
+  pub makes_stop : (ended : Ending) (old new : A) → ended ≢ Went → Makes tells xs ended old new
+      → Makes tells (xs ++ ys) ended old new
   makes_stop ended old new stops first =
       let long : length (xs ++ ys) ≡ length xs + length ys = length-append xs ys in
       record {
@@ -313,7 +386,8 @@ module _ {A : Type 0} (tells : Ghosts A) (xs ys : List Call) where
         planned = λ told memory a armed.
             subst (λ (came : Came). Comes tells (xs ++ ys) ended first.tried old new came)
             (sym (ap (λ (n : ℕ). calls_under a n) long ∙ calls_go_on a (length xs) (length ys)))
-            (comes_first ended first.tried (length ys) old new stops first.within (calls_under a (length xs)) (first.planned told memory a armed));
+            (comes_first ended first.tried (length ys) old new stops first.within (calls_under a (length xs))
+            (first.planned told memory a armed));
       }
 
 -- no calls
@@ -324,7 +398,13 @@ makes_none tells here = record {
   all = λ e. refl;
   some = λ e. absurd (cc);
   called = λ told. refl;
-  sealed = λ told. record { count = 0; at_most = omega arith; at_least = omega arith; each = λ e. refl; files = sym (append-nil (tells.files here)) };
+  sealed = λ told. record {
+    count = 0;
+    at_most = omega arith;
+    at_least = omega arith;
+    each = λ e. refl;
+    files = sym (append-nil (tells.files here));
+  };
   faults = record { later = omega arith; failed = λ e. absurd (cc) };
   planned = λ told memory a armed. record { runs = refl; is_armed = armed };
 }
@@ -336,15 +416,19 @@ ending_err Device same = absurd (cc)
 ending_err NoMemory same = absurd (cc)
 
 -- the first calls didn't all run, and so the function ended
-pub stopped_at : {A U : Type 0} (tells : Ghosts A) (xs ys : List Call) (old new : A) (q : Result U ShelfFault) (e : ShelfFault)
-    → IsErr q × IsErrAnd q (λ x. x ≡ e) → Makes tells xs (ending_at e) old new → Makes tells (xs ++ ys) (ending_of q) old new
+pub stopped_at : {A U : Type 0} (tells : Ghosts A) (xs ys : List Call) (old new : A) (q : Result U ShelfFault)
+    (e : ShelfFault)
+    → IsErr q × IsErrAnd q (λ x. x ≡ e) → Makes tells xs (ending_at e) old new
+    → Makes tells (xs ++ ys) (ending_of q) old new
 stopped_at tells xs ys old new (Ok x) e h first = absurd h.1
 stopped_at tells xs ys old new (Err x) e h first =
     subst (λ (fault : ShelfFault). Makes tells (xs ++ ys) (ending_at fault) old new) (sym h.1)
     (makes_stop tells xs ys (ending_at e) old new (ending_err e) first)
 
 -- the last calls didn't all run, and so the function ended
-pub ended_at : {A U : Type 0} (tells : Ghosts A) (xs : List Call) (old new : A) (q : Result U ShelfFault) (e : ShelfFault)
+pub ended_at : {A U : Type 0} (tells : Ghosts A) (xs : List Call) (old new : A) (q : Result U ShelfFault)
+    (e : ShelfFault)
     → IsErr q × IsErrAnd q (λ x. x ≡ e) → Makes tells xs (ending_at e) old new → Makes tells xs (ending_of q) old new
 ended_at tells xs old new (Ok x) e h made = absurd h.1
-ended_at tells xs old new (Err x) e h made = subst (λ (fault : ShelfFault). Makes tells xs (ending_at fault) old new) (sym h.1) made
+ended_at tells xs old new (Err x) e h made = subst (λ (fault : ShelfFault). Makes tells xs (ending_at fault) old new)
+    (sym h.1) made

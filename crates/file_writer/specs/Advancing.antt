@@ -1,5 +1,5 @@
 -- What a writer's calls leave.
-use Rattle.std.specs.Prelude.{◌≡◌, ℕ, ◌<◌, IsTrue, List, [], ◌++◌, take, Result, OnOk}
+use Rattle.std.specs.Prelude.{◌≡◌, ℕ, ◌<◌, ◌≤◌, IsTrue, List, [], ◌++◌, take, Result, OnOk}
 use Rattle.cdr_shelf.specs.Files.{SealedFile, greatest_in}
 use Rattle.cdr_shelf.specs.declared.shelf.Shelf.{Ghosts}
 use Rattle.gw_base.specs.declared.item.Item.{Item}
@@ -12,11 +12,17 @@ use Rattle.file_writer.specs.declared.fault.ShelfFault.{ShelfFault}
 use Rattle.file_writer.specs.declared.writer.Writer.{Writer}
 
 -- A writer begins items anew at one with a number, before which so many files were closed of each stream.
-pub record HasRecovered {A : Type 0} (tells : Ghosts A) (closed : ℕ → ℕ) (item : ℕ) (old new : Writer A tells) : Type 0 where
+pub record HasRecovered {A : Type 0} (tells : Ghosts A) (closed : ℕ → ℕ) (item : ℕ) (old new : Writer A tells)
+    : Type 0 where
   pub at : IsAt new closed []
   pub first : first_of new ≡ item
   pub taken : taken_of new ≡ 0
-  pub sealed : IsTrue tells.tells_files → (s : ℕ) → s < stream_count → sealed_in new s ≡ greatest_in s (tells.files (shelf_of new))
+  pub sealed : IsTrue tells.tells_files → (s : ℕ) → s < stream_count
+      → sealed_in new s ≡ greatest_in s (tells.files (shelf_of new))
+  -- where the first files of those that some items are divided into stand, however many, it holds them
+  pub holds : IsTrue tells.tells_files → (stood : ℕ → List SealedFile) (all : List Item)
+      → ((s : ℕ) → s < stream_count → greatest_in s (stood s) ≤ closed s)
+      → IsBegun (settings_in new) closed stood all (tells.files (shelf_of new)) → Holds new closed stood all []
 
 module _ {A : Type 0} (tells : Ghosts A) (closed : ℕ → ℕ) (before items : List Item) (old new : Writer A tells) where
   -- the calls for the items
@@ -25,16 +31,19 @@ module _ {A : Type 0} (tells : Ghosts A) (closed : ℕ → ℕ) (before items : 
 
   -- After any number of calls each stream's sealed files are the first ones of those that all items are divided into.
   pub record KeepsFiles (stood : ℕ → List SealedFile) (all : List Item) : Type 0 where
-    pub at_any_moment : (k : ℕ) → IsBegun (settings_in old) closed stood all (tells.files (shelf_of old) ++ seals (take k calls))
+    pub at_any_moment : (k : ℕ)
+        → IsBegun (settings_in old) closed stood all (tells.files (shelf_of old) ++ seals (take k calls))
     pub now : (k : ℕ) × (tells.files (shelf_of new) ≡ tells.files (shelf_of old) ++ seals (take k calls))
 
-  -- A writer that took these items takes others: by their calls, and where they all ran it has taken them, and each file
-  -- that is closed stands.
+  -- A writer that took these items takes others: by their calls, and where they all ran it has taken them, and each
+  -- file that is closed stands.
   pub record Advances (result : Result ℕ ShelfFault) : Type 0 where
     pub makes : Makes tells calls (ending_of result) (shelf_of old) (shelf_of new)
     pub at : OnOk result (IsAt new closed (before ++ items))
     pub sealed : OnOk result ((s : ℕ) → s < stream_count → sealed_in new s ≡ sealed_in old s)
-    pub keeps : IsTrue tells.tells_files → (stood : ℕ → List SealedFile) (rest : List Item) → Holds old closed stood ((before ++ items) ++ rest) before
+    pub keeps : IsTrue tells.tells_files → (stood : ℕ → List SealedFile) (rest : List Item)
+        → Holds old closed stood ((before ++ items) ++ rest) before
         → KeepsFiles stood ((before ++ items) ++ rest)
-    pub holds : IsTrue tells.tells_files → (stood : ℕ → List SealedFile) (rest : List Item) → Holds old closed stood ((before ++ items) ++ rest) before
+    pub holds : IsTrue tells.tells_files → (stood : ℕ → List SealedFile) (rest : List Item)
+        → Holds old closed stood ((before ++ items) ++ rest) before
         → OnOk result (Holds new closed stood ((before ++ items) ++ rest) (before ++ items))

@@ -24,7 +24,8 @@ mark_told false moment = item.Tick moment
 
 -- Each stream can take an item.
 abbrev pub EachSafe : {A : Type 0} → Ghosts A → List Stream → A → Type 0
-EachSafe tells streams shelf = (s : ℕ) (d : Stream) → s < stream_count → IsSafe tells s (slice_index_or streams s d) shelf
+EachSafe tells streams shelf =
+    (s : ℕ) (d : Stream) → s < stream_count → IsSafe tells s (slice_index_or streams s d) shelf
 
 -- Each stream has at most so many files.
 abbrev pub EachBelow : ℕ → List Stream → Type 0
@@ -32,7 +33,8 @@ EachBelow most streams = (s : ℕ) (d : Stream) → s < stream_count → weight_
 
 -- A stream, of which so many files were closed before the first item and files up to a number were sealed, has taken
 -- these items.
-pub record StreamAt {A : Type 0} (tells : Ghosts A) (settings : Settings) (closed sealed : ℕ → ℕ) (items : List Item) (s : ℕ) (stream : Stream) (shelf : A) : Type 0 where
+pub record StreamAt {A : Type 0} (tells : Ghosts A) (settings : Settings) (closed sealed : ℕ → ℕ) (items : List Item)
+    (s : ℕ) (stream : Stream) (shelf : A) : Type 0 where
   pub behind : IsBehind tells s (stream_division settings s items).left_open stream shelf
   pub has_closed : stream.file.closed ≡ closed s + closed_of settings s items
   pub has_sealed : stream.file.sealed ≡ sealed s
@@ -40,7 +42,8 @@ pub record StreamAt {A : Type 0} (tells : Ghosts A) (settings : Settings) (close
 
 abbrev pub EachAt : {A : Type 0} → Ghosts A → Settings → (ℕ → ℕ) → (ℕ → ℕ) → (ℕ → List Item) → List Stream → A → Type 0
 EachAt tells settings closed sealed items streams shelf =
-    (s : ℕ) (d : Stream) → s < stream_count → StreamAt tells settings closed sealed (items s) s (slice_index_or streams s d) shelf
+    (s : ℕ) (d : Stream) → s < stream_count
+    → StreamAt tells settings closed sealed (items s) s (slice_index_or streams s d) shelf
 
 abbrev pub AllAt : {A : Type 0} → Ghosts A → Settings → (ℕ → ℕ) → (ℕ → ℕ) → List Item → List Stream → A → Type 0
 AllAt tells settings closed sealed items streams shelf = EachAt tells settings closed sealed (λ s. items) streams shelf
@@ -54,7 +57,8 @@ abbrev pub up_to : ℕ → List Item → Item → ℕ → List Item
 up_to n before item s = with_item (nat_lt s n) before item
 
 -- Calls are made, and where they all ran the streams have taken items.
-pub record Goes {A : Type 0} {T : Type 0} (tells : Ghosts A) (settings : Settings) (closed sealed : ℕ → ℕ) (calls : List Call) (items : ℕ → List Item)
+pub record Goes {A : Type 0} {T : Type 0} (tells : Ghosts A) (settings : Settings) (closed sealed : ℕ → ℕ)
+    (calls : List Call) (items : ℕ → List Item)
     (streams : List Stream) (old new : A) (result : Result T ShelfFault) : Type 0 where
   pub makes : Makes tells calls (ending_of result) old new
   pub at : OnOk result (EachAt tells settings closed sealed items streams new)
@@ -65,13 +69,16 @@ pub record GoesTo (rules : List Rule) (item : Item) (s : ℕ) (filed : Filed (Li
   pub others : (t : ℕ) → t ≢ s → stream_item rules t item ≡ []
 
 -- The first streams have taken an item, and the others haven't yet.
-pub record HasMarked {A : Type 0} (tells : Ghosts A) (file : FileSettings) (item : Item) (n : ℕ) (first streams : List Stream) (old new : A) : Type 0 where
+pub record HasMarked {A : Type 0} (tells : Ghosts A) (file : FileSettings) (item : Item) (n : ℕ)
+    (first streams : List Stream) (old new : A) : Type 0 where
   pub safe : EachSafe tells streams new
   pub few : EachBelow (2 ^ 32 - 2) streams
   pub sixteen : length streams ≡ stream_count
   pub below : (most : ℕ) → EachBelow most first → EachBelow most streams
-  pub takes : (settings : Settings) (closed sealed : ℕ → ℕ) (before : List Item) → settings.file ≡ file → AllAt tells settings closed sealed before first old
-      → Makes tells (calls_below n settings closed sealed before item) Went old new × EachAt tells settings closed sealed (up_to n before item) streams new
+  pub takes : (settings : Settings) (closed sealed : ℕ → ℕ) (before : List Item) → settings.file ≡ file
+      → AllAt tells settings closed sealed before first old
+      → Makes tells (calls_below n settings closed sealed before item) Went old new
+      × EachAt tells settings closed sealed (up_to n before item) streams new
 
 -- a record that is filed
 abbrev pub part_of : CdrKind → Option Tag → List ℕ → ℕ → Item
@@ -84,9 +91,12 @@ IsFit (item.Tick moment) = Unit {0}
 IsFit (item.Close moment) = Unit {0}
 
 -- So many items were taken.
-pub record HasTakenSome {A : Type 0} (tells : Ghosts A) (file : FileSettings) (rules : List Rule) (items : List Item) (n : ℕ) (first streams : List Stream) (old new : A) : Type 0 where
+pub record HasTakenSome {A : Type 0} (tells : Ghosts A) (file : FileSettings) (rules : List Rule) (items : List Item)
+    (n : ℕ) (first streams : List Stream) (old new : A) : Type 0 where
   pub safe : EachSafe tells streams new
   pub sixteen : length streams ≡ stream_count
   pub below : (most : ℕ) → EachBelow most first → EachBelow (most + n) streams
-  pub takes : (settings : Settings) (closed sealed : ℕ → ℕ) (before : List Item) → settings.file ≡ file → settings.rules ≡ rules → AllAt tells settings closed sealed before first old
-      → Makes tells (calls_of settings closed sealed before (take n items)) Went old new × AllAt tells settings closed sealed (before ++ take n items) streams new
+  pub takes : (settings : Settings) (closed sealed : ℕ → ℕ) (before : List Item) → settings.file ≡ file
+      → settings.rules ≡ rules → AllAt tells settings closed sealed before first old
+      → Makes tells (calls_of settings closed sealed before (take n items)) Went old new
+      × AllAt tells settings closed sealed (before ++ take n items) streams new

@@ -14,7 +14,8 @@ pub record IsAsked {A : Type 0} (tells : Ghosts A) (failed : Bool) (old new : A)
   pub calls : IsTrue tells.tells_calls → tells.calls new ≡ tells.calls old
   pub later : tells.faults old ≤ tells.faults new
   pub rose : failed ≡ true → Rose (tells.faults old) (tells.faults new)
-  pub planned : IsTrue tells.tells_plan → (a : Armed) → IsArmed a (tells.plan old) → (failed ≡ false) × IsArmed a (tells.plan new)
+  pub planned : IsTrue tells.tells_plan → (a : Armed) → IsArmed a (tells.plan old)
+      → (failed ≡ false) × IsArmed a (tells.plan new)
 
 -- A stream has no open file, and so many closed ones.
 pub record IsFreshStream (limits : Limits) (closed : ℕ) (stream : Stream) : Type 0 where
@@ -23,8 +24,10 @@ pub record IsFreshStream (limits : Limits) (closed : ℕ) (stream : Stream) : Ty
   pub has_closed : stream.file.closed ≡ closed
 
 -- So many streams are fresh, and know what is sealed.
-pub record HasAsked {A : Type 0} (tells : Ghosts A) (limits : Limits) (sequences : List ℕ) (n : ℕ) (streams : List Stream) (old new : A) : Type 0 where
+pub record HasAsked {A : Type 0} (tells : Ghosts A) (limits : Limits) (sequences : List ℕ) (n : ℕ)
+    (streams : List Stream) (old new : A) : Type 0 where
   pub asked : IsAsked tells false old new
   pub sixteen : length streams ≡ stream_count
   pub fresh : (s : ℕ) (d : Stream) → s < n → IsFreshStream limits (slice_index sequences s) (slice_index_or streams s d)
-  pub greatest : IsTrue tells.tells_files → (s : ℕ) (d : Stream) → s < n → (slice_index_or streams s d).file.sealed ≡ greatest_in s (tells.files old)
+  pub greatest : IsTrue tells.tells_files → (s : ℕ) (d : Stream) → s < n
+      → (slice_index_or streams s d).file.sealed ≡ greatest_in s (tells.files old)

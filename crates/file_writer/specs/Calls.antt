@@ -42,7 +42,8 @@ appending sealed sequence run (Close moment) = []
 abbrev pub closing : FileSettings → ℕ → ℕ → ℕ → Option ClosureReason → List (Filed (List ℕ)) → List Call
 closing settings s sealed sequence None run = []
 closing settings s sealed sequence (Some reason) run =
-    unless_sealed sealed sequence (Writes ∷ Writes ∷ Seals (file_in settings s sequence (record { run = run; reason = reason })) ∷ [])
+    unless_sealed sealed sequence
+    (Writes ∷ Writes ∷ Seals (file_in settings s sequence (record { run = run; reason = reason })) ∷ [])
 
 -- a number, and one more where a file was closed
 abbrev pub closed_by : Option ClosureReason → ℕ → ℕ
@@ -60,7 +61,8 @@ calls_from settings s sealed closed run [] = []
 calls_from settings s sealed closed run (item ∷ items) =
     let cuts = cuts_at settings.limits run item in
     calls_at settings.file s sealed cuts closed run item
-    ++ calls_from settings s sealed (closed_by cuts.after (closed_by cuts.before closed)) (run_after cuts run item) items
+    ++ calls_from settings s sealed (closed_by cuts.after (closed_by cuts.before closed))
+    (run_after cuts run item) items
 
 -- All streams, each of which had so many files closed before the first item, and has files sealed up to a number.
 
@@ -80,4 +82,5 @@ calls_below (suc s) settings closed sealed before item =
 abbrev pub calls_of : Settings → (ℕ → ℕ) → (ℕ → ℕ) → List Item → List Item → List Call
 calls_of settings closed sealed before [] = []
 calls_of settings closed sealed before (item ∷ items) =
-    calls_below stream_count settings closed sealed before item ++ calls_of settings closed sealed (before ++ item ∷ []) items
+    calls_below stream_count settings closed sealed before item
+    ++ calls_of settings closed sealed (before ++ item ∷ []) items

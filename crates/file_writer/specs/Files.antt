@@ -23,7 +23,8 @@ file_in settings s sequence closed = record {
 -- the files of closed runs, numbered one after the other
 abbrev pub files_from : FileSettings → ℕ → ℕ → List (ClosedRun (List ℕ)) → List SealedFile
 files_from settings s sequence [] = []
-files_from settings s sequence (closed ∷ later) = file_in settings s sequence closed ∷ files_from settings s (sequence + 1) later
+files_from settings s sequence (closed ∷ later) =
+    file_in settings s sequence closed ∷ files_from settings s (sequence + 1) later
 
 -- the files of a stream, numbered from 1
 abbrev pub stream_files : Settings → ℕ → List Item → List SealedFile

@@ -47,25 +47,33 @@ BodyWhere true growing octets u = Unit {0}
 BodyWhere false growing octets u = body_behind growing u ≡ octets
 
 -- What is kept, and the file on the shelf, are those of a run.
-pub record Follows {A : Type 0} (tells : Ghosts A) (s : ℕ) (run : List (Filed (List ℕ))) (file : Progress) (shelf : A) : Type 0 where
+pub record Follows {A : Type 0} (tells : Ghosts A) (s : ℕ) (run : List (Filed (List ℕ))) (file : Progress) (shelf : A)
+    : Type 0 where
   pub kept : file.growing ≡ growing_of (records_in run)
-  pub body : IsTrue tells.tells_files → BodyWhere (is_sealed file) file.growing (run_octets (records_in run)) (tells.unsealed shelf s)
+  pub body : IsTrue tells.tells_files
+      → BodyWhere (is_sealed file) file.growing (run_octets (records_in run)) (tells.unsealed shelf s)
 
-pub record IsBehind {A : Type 0} (tells : Ghosts A) (s : ℕ) (run : List (Filed (List ℕ))) (stream : Stream) (shelf : A) : Type 0 where
+pub record IsBehind {A : Type 0} (tells : Ghosts A) (s : ℕ) (run : List (Filed (List ℕ))) (stream : Stream) (shelf : A)
+    : Type 0 where
   pub cut : stream.cutter.file ≡ file_of run
   pub follows : Follows tells s run stream.file shelf
 
 -- A stream has taken an item: this is its run then, and so many files are closed.
-pub record HasTaken {A : Type 0} (tells : Ghosts A) (s : ℕ) (run : List (Filed (List ℕ))) (item : stream.Item (List ℕ)) (old new : Stream) (shelf : A) : Type 0 where
+pub record HasTaken {A : Type 0} (tells : Ghosts A) (s : ℕ) (run : List (Filed (List ℕ))) (item : stream.Item (List ℕ))
+    (old new : Stream) (shelf : A) : Type 0 where
   pub behind : IsBehind tells s (run_after (cuts_at old.cutter.limits run item) run item) new shelf
-  pub closed : new.file.closed ≡ closed_by (cuts_at old.cutter.limits run item).after (closed_by (cuts_at old.cutter.limits run item).before old.file.closed)
+  pub closed : new.file.closed
+      ≡ closed_by (cuts_at old.cutter.limits run item).after
+      (closed_by (cuts_at old.cutter.limits run item).before old.file.closed)
   pub sealed : new.file.sealed ≡ old.file.sealed
   pub limits : new.cutter.limits ≡ old.cutter.limits
 
 -- A stream takes an item by its calls.
-pub record Takes {A : Type 0} (tells : Ghosts A) (settings : FileSettings) (s : ℕ) (run : List (Filed (List ℕ))) (item : stream.Item (List ℕ))
+pub record Takes {A : Type 0} (tells : Ghosts A) (settings : FileSettings) (s : ℕ) (run : List (Filed (List ℕ)))
+    (item : stream.Item (List ℕ))
     (stream : Stream) (old new : A) (result : Result Stream ShelfFault) : Type 0 where
-  pub makes : Makes tells (calls_at settings s stream.file.sealed (cuts_at stream.cutter.limits run item) stream.file.closed run item) (ending_of result) old new
+  pub makes : Makes tells (calls_at settings s stream.file.sealed (cuts_at stream.cutter.limits run item)
+      stream.file.closed run item) (ending_of result) old new
   pub after : IfOk result (λ later. HasTaken tells s run item stream later new)
 
 -- a Close, or else a Tick

@@ -11,8 +11,10 @@ files_after settings closed s all = files_from settings.file s (closed s + 1) (s
 
 -- Of a stream stand the files that stood before, and so many of those that the items are divided into.
 abbrev pub HoldsOf : Settings → (ℕ → ℕ) → (ℕ → List SealedFile) → List Item → List SealedFile → ℕ → ℕ → Type 0
-HoldsOf settings closed before all sealed s n = in_stream s sealed ≡ before s ++ take n (files_after settings closed s all)
+HoldsOf settings closed before all sealed s n =
+    in_stream s sealed ≡ before s ++ take n (files_after settings closed s all)
 
 -- Of each stream stand the files that stood before, and the first ones of those that the items are divided into.
 abbrev pub IsBegun : Settings → (ℕ → ℕ) → (ℕ → List SealedFile) → List Item → List SealedFile → Type 0
-IsBegun settings closed before all sealed = (s : ℕ) → s < stream_count → (n : ℕ) × HoldsOf settings closed before all sealed s n
+IsBegun settings closed before all sealed =
+    (s : ℕ) → s < stream_count → (n : ℕ) × HoldsOf settings closed before all sealed s n

@@ -37,7 +37,8 @@ place_after settings items s n = nth_place s 1 (runs_of (stream_division setting
 abbrev pub place_of_item : Settings → List Item → ℕ → Option Item → Option FilePlace
 place_of_item settings items k None = None
 place_of_item settings items k (Some (item.Part kind tag octets moment)) =
-    let s = stream_of settings.rules tag kind.format in place_after settings items s (records_to settings s (take k items))
+    let s = stream_of settings.rules tag kind.format in
+    place_after settings items s (records_to settings s (take k items))
 place_of_item settings items k (Some (item.Tick moment)) = None
 place_of_item settings items k (Some (item.Close moment)) = None
 
@@ -56,7 +57,8 @@ record_at settings items place =
     in_run place.index (slice_get (runs_of (stream_division settings place.stream items)) (place.sequence - 1))
 
 -- the record that is the item with this number has a place, in the stream that the rules choose, and stands there
-pub record HasPlace (settings : Settings) (items : List Item) (k : ℕ) (kind : CdrKind) (tag : Option Tag) (octets : List ℕ) (moment : ℕ) : Type 0 where
+pub record HasPlace (settings : Settings) (items : List Item) (k : ℕ) (kind : CdrKind) (tag : Option Tag)
+    (octets : List ℕ) (moment : ℕ) : Type 0 where
   pub place : FilePlace
   pub found : place_in settings items k ≡ Some place
   pub stream : place.stream ≡ stream_of settings.rules tag kind.format

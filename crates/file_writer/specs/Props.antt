@@ -18,7 +18,8 @@ open_prop : (name : FileName) (n : ℕ) (u : Option UnsealedFile) → IsProp (Is
 open_prop name n None = hlevel props
 open_prop name n (Some f) = hlevel props
 
-pub ReadyWhere-prop : (b : Bool) (name : FileName) (growing : Option RunFacts) (u : Option UnsealedFile) → IsProp (ReadyWhere b name growing u)
+pub ReadyWhere-prop : (b : Bool) (name : FileName) (growing : Option RunFacts) (u : Option UnsealedFile)
+    → IsProp (ReadyWhere b name growing u)
 ReadyWhere-prop true name growing u = hlevel props
 ReadyWhere-prop false name None u = hlevel props
 ReadyWhere-prop false name (Some run) u = open_prop name run.octets u

@@ -6,7 +6,8 @@ use Rattle.file_rotate.specs.declared.limits.Limits.{Limits}
 use Rattle.file_writer.specs.AllStreams.{EachBelow, EachSafe}
 use Rattle.file_writer.specs.declared.stream.Stream.{Stream}
 
-pub record IsSound {A : Type 0} (tells : Ghosts A) (shelf : A) (limits : Limits) (streams : List Stream) (taken : ℕ) (is_broken : Bool) : Type 0 where
+pub record IsSound {A : Type 0} (tells : Ghosts A) (shelf : A) (limits : Limits) (streams : List Stream) (taken : ℕ)
+    (is_broken : Bool) : Type 0 where
   pub are_limits : AreLimits limits
   pub few : taken < 2 ^ 31
   pub safe : is_broken ≡ false → EachSafe tells streams shelf

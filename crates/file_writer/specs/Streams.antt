@@ -33,7 +33,8 @@ record_if false filed = []
 
 -- what a stream has of an item: a record that the rules send there, and every mark
 abbrev pub stream_item : List Rule → ℕ → Item → List (stream.Item (List ℕ))
-stream_item rules s (item.Part kind tag octets moment) = record_if (stream_of rules tag kind.format == s) (filed_record kind octets moment)
+stream_item rules s (item.Part kind tag octets moment) =
+    record_if (stream_of rules tag kind.format == s) (filed_record kind octets moment)
 stream_item rules s (item.Tick moment) = Tick moment ∷ []
 stream_item rules s (item.Close moment) = Close moment ∷ []
 

@@ -38,4 +38,5 @@ module _ {A : Type 0} {tells : Ghosts A} (writer : Writer A tells) where
   -- files that all items are divided into.
   abbrev pub Holds : (ℕ → ℕ) → (ℕ → List SealedFile) → List Item → List Item → Type 0
   Holds closed stood all items = (s : ℕ) → s < stream_count
-      → HoldsOf settings_in closed stood all (tells.files shelf_of) s (max (sealed_in s) (closed s + closed_of settings_in s items) - closed s)
+      → HoldsOf settings_in closed stood all (tells.files shelf_of) s
+      (max (sealed_in s) (closed s + closed_of settings_in s items) - closed s)

@@ -74,7 +74,8 @@ ClosesOpen (Some reason) (Some run) = Unit {0}
 abbrev pub closing_of : FileSettings → ℕ → Progress → Option UnsealedFile → Option ClosureReason → List Call
 closing_of settings s file u None = []
 closing_of settings s file u (Some reason) =
-    unless_sealed file.sealed (file.closed + 1) (Writes ∷ Writes ∷ Seals (closed_file settings (name_in s file) reason file.growing u) ∷ [])
+    unless_sealed file.sealed (file.closed + 1)
+    (Writes ∷ Writes ∷ Seals (closed_file settings (name_in s file) reason file.growing u) ∷ [])
 
 abbrev pub closed_progress : Option ClosureReason → Progress → Progress
 closed_progress None file = file
@@ -98,7 +99,11 @@ grown_facts None filed = facts_of_one filed
 grown_facts (Some run) filed = facts_with run filed
 
 abbrev pub grown : Progress → FiledRecord → Progress
-grown file filed = record { growing = Some (grown_facts file.growing filed); closed = file.closed; sealed = file.sealed }
+grown file filed = record {
+  growing = Some (grown_facts file.growing filed);
+  closed = file.closed;
+  sealed = file.sealed;
+}
 
 -- the octets behind the header so far: none where no file is open
 abbrev pub body_behind : Option RunFacts → Option UnsealedFile → List ℕ
@@ -137,7 +142,8 @@ IsBounded None = Unit {0}
 IsBounded (Some run) = IsCdrKind run.kind × (run.octets < 2 ^ 32 - 2 ^ 17) × (run.count < 2 ^ 32)
 
 -- A record more stands at the end of the file that is written.
-abbrev pub GrownWhere : Bool → FileName → Option RunFacts → FiledRecord → Option UnsealedFile → Option UnsealedFile → Type 0
+abbrev pub GrownWhere : Bool → FileName → Option RunFacts → FiledRecord → Option UnsealedFile → Option UnsealedFile
+    → Type 0
 GrownWhere true name growing filed old new = Unit {0}
 GrownWhere false name growing filed old new =
     IsOpenAt name (grown_facts growing filed).octets new × (body_of new ≡ body_behind growing old ++ cdr_octets filed)

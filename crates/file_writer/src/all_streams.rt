@@ -29,9 +29,11 @@ fn mark_one<F: Shelf>(
     requires few { EachBelow (2 ^ 32 - 2) streams.old }
     requires sixteen { length streams.old ≡ stream_count }
     requires within { s < stream_count }
-    ensures takes { (settings : Settings) (closed sealed : ℕ → ℕ) (before : List Item) → settings.file ≡ settings_of gateway.now →
+    ensures takes { (settings : Settings) (closed sealed : ℕ → ℕ) (before : List Item) →
+        settings.file ≡ settings_of gateway.now →
         EachAt F.Shelf settings closed sealed (up_to s before (mark_told closes moment)) streams.old shelf.old →
-        Goes F.Shelf settings closed sealed (stream_calls settings closed sealed before (mark_told closes moment ∷ []) s)
+        Goes F.Shelf settings closed sealed
+        (stream_calls settings closed sealed before (mark_told closes moment ∷ []) s)
         (up_to (s + 1) before (mark_told closes moment)) streams.new shelf.old shelf.new result }
     ensures safe { OnOk result (EachSafe F.Shelf streams.new shelf.new) }
     ensures below { (most : ℕ) → EachBelow most streams.old → OnOk result (EachBelow most streams.new) }
@@ -54,9 +56,11 @@ fn mark_all<F: Shelf>(
     requires safe { EachSafe F.Shelf streams.old shelf.old }
     requires few { EachBelow (2 ^ 32 - 2) streams.old }
     requires sixteen { length streams.old ≡ stream_count }
-    ensures takes { (settings : Settings) (closed sealed : ℕ → ℕ) (before : List Item) → settings.file ≡ settings_of gateway.now →
+    ensures takes { (settings : Settings) (closed sealed : ℕ → ℕ) (before : List Item) →
+        settings.file ≡ settings_of gateway.now →
         AllAt F.Shelf settings closed sealed before streams.old shelf.old →
-        Goes F.Shelf settings closed sealed (calls_below stream_count settings closed sealed before (mark_told closes moment))
+        Goes F.Shelf settings closed sealed
+        (calls_below stream_count settings closed sealed before (mark_told closes moment))
         (λ s. before ++ mark_told closes moment ∷ []) streams.new shelf.old shelf.new result }
     ensures safe { OnOk result (EachSafe F.Shelf streams.new shelf.new) }
     ensures below { (most : ℕ) → EachBelow most streams.old → OnOk result (EachBelow most streams.new) }
@@ -82,7 +86,8 @@ fn put_one<F: Shelf>(
     requires within { s < stream_count }
     requires kind { IsCdrKind next.kind }
     requires length { length next.octets.now < 2 ^ 16 }
-    ensures takes { (settings : Settings) (closed sealed : ℕ → ℕ) (before : List Item) (item : Item) → settings.file ≡ settings_of gateway.now →
+    ensures takes { (settings : Settings) (closed sealed : ℕ → ℕ) (before : List Item) (item : Item) →
+        settings.file ≡ settings_of gateway.now →
         GoesTo settings.rules item s (filed_record next.entry.kind next.entry.octets.now next.entry.moment) →
         AllAt F.Shelf settings closed sealed before streams.old shelf.old →
         Goes F.Shelf settings closed sealed (calls_below stream_count settings closed sealed before item)
@@ -119,7 +124,8 @@ fn take_item<F: Shelf>(
     requires few { EachBelow (2 ^ 32 - 2) streams.old }
     requires sixteen { length streams.old ≡ stream_count }
     requires fit { IsFit item.now }
-    ensures takes { (settings : Settings) (closed sealed : ℕ → ℕ) (before : List Item) → settings.file ≡ settings_of gateway.now →
+    ensures takes { (settings : Settings) (closed sealed : ℕ → ℕ) (before : List Item) →
+        settings.file ≡ settings_of gateway.now →
         settings.rules ≡ rules.now → AllAt F.Shelf settings closed sealed before streams.old shelf.old →
         Goes F.Shelf settings closed sealed (calls_below stream_count settings closed sealed before item.now)
         (λ s. before ++ item.now ∷ []) streams.new shelf.old shelf.new result }
@@ -160,11 +166,14 @@ fn put_by_rules<F: Shelf>(
     requires sixteen { length streams.old ≡ stream_count }
     requires kind { IsCdrKind next.kind }
     requires length { length next.octets.now < 2 ^ 16 }
-    ensures takes { (settings : Settings) (closed sealed : ℕ → ℕ) (before : List Item) → settings.file ≡ settings_of gateway.now →
+    ensures takes { (settings : Settings) (closed sealed : ℕ → ℕ) (before : List Item) →
+        settings.file ≡ settings_of gateway.now →
         settings.rules ≡ rules.now → AllAt F.Shelf settings closed sealed before streams.old shelf.old →
         Goes F.Shelf settings closed sealed
-        (calls_below stream_count settings closed sealed before (part_of next.entry.kind tag next.entry.octets.now next.entry.moment))
-        (λ s. before ++ part_of next.entry.kind tag next.entry.octets.now next.entry.moment ∷ []) streams.new shelf.old shelf.new result }
+        (calls_below stream_count settings closed sealed before
+        (part_of next.entry.kind tag next.entry.octets.now next.entry.moment))
+        (λ s. before ++ part_of next.entry.kind tag next.entry.octets.now next.entry.moment ∷ [])
+        streams.new shelf.old shelf.new result }
     ensures safe { OnOk result (EachSafe F.Shelf streams.new shelf.new) }
     ensures below { (most : ℕ) → EachBelow most streams.old → OnOk result (EachBelow (most + 1) streams.new) }
     ensures sixteen { length streams.new ≡ stream_count }
@@ -176,9 +185,6 @@ fn put_by_rules<F: Shelf>(
         moment,
     } = next;
     let s = rules.stream(tag, kind.format);
-    if s as usize >= streams.len() {
-        return Ok(());
-    }
     let next = NextRecord {
         kind,
         octets,
@@ -200,12 +206,14 @@ pub(crate) fn take_all<F: Shelf>(
     requires room { length items.now < 2 ^ 31 }
     requires sixteen { length streams.old ≡ stream_count }
     requires fit { All IsFit items.now }
-    ensures takes { (settings : Settings) (closed sealed : ℕ → ℕ) (before : List Item) → settings.file ≡ settings_of gateway.now →
+    ensures takes { (settings : Settings) (closed sealed : ℕ → ℕ) (before : List Item) →
+        settings.file ≡ settings_of gateway.now →
         settings.rules ≡ rules.now → AllAt F.Shelf settings closed sealed before streams.old shelf.old →
         Goes F.Shelf settings closed sealed (calls_of settings closed sealed before items.now)
         (λ s. before ++ items.now) streams.new shelf.old shelf.new result }
     ensures safe { OnOk result (EachSafe F.Shelf streams.new shelf.new) }
-    ensures below { (most : ℕ) → EachBelow most streams.old → OnOk result (EachBelow (most + length items.now) streams.new) }
+    ensures below { (most : ℕ) → EachBelow most streams.old →
+        OnOk result (EachBelow (most + length items.now) streams.new) }
     ensures sixteen { length streams.new ≡ stream_count }
 {
     for item in items {

@@ -20,7 +20,8 @@ fn fresh_stream<F: Shelf>(
 ) -> Result<Stream, ShelfFault>
     requires { AreLimits limits }
     ensures fresh { IfOk result (λ stream. IsFreshStream limits closed stream) }
-    ensures greatest { IsTrue F.tells_files → IfOk result (λ stream. stream.file.sealed ≡ greatest_in s (F.files shelf.old)) }
+    ensures greatest { IsTrue F.tells_files →
+        IfOk result (λ stream. stream.file.sealed ≡ greatest_in s (F.files shelf.old)) }
     ensures asked { IsAsked F.Shelf (is_err result) shelf.old shelf.new }
 {
     match shelf.sealed(s) {

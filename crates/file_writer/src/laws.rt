@@ -22,9 +22,11 @@ pub fn files_only_grow()
 
 /// What calls for items of a stream seal is what is closed, but for the files that are sealed already.
 pub fn calls_seal_what_is_closed()
-    ensures { (settings : Settings) (s sealed closed : ℕ) (run : List (Filed (List ℕ))) (items : List (stream.Item (List ℕ)))
+    ensures { (settings : Settings) (s sealed closed : ℕ) (run : List (Filed (List ℕ)))
+        (items : List (stream.Item (List ℕ)))
         → seals (calls_from settings s sealed closed run items)
-        ≡ drop (sealed - closed) (files_from settings.file s (closed + 1) (divided_from settings.limits run items).closed) }
+        ≡ drop (sealed - closed)
+        (files_from settings.file s (closed + 1) (divided_from settings.limits run items).closed) }
 {}
 
 /// What the calls for items that come in after others seal of a stream is what those items close, but for the files
@@ -32,7 +34,9 @@ pub fn calls_seal_what_is_closed()
 pub fn calls_seal_what_items_close()
     ensures { (settings : Settings) (closed sealed : ℕ → ℕ) (before items : List Item) (s : ℕ) → s < stream_count
         → in_stream s (seals (calls_of settings closed sealed before items))
-        ≡ drop (sealed s - (closed s + closed_of settings s before)) (files_from settings.file s (closed s + closed_of settings s before + 1) (later_division settings s before items).closed) }
+        ≡ drop (sealed s - (closed s + closed_of settings s before))
+        (files_from settings.file s (closed s + closed_of settings s before + 1)
+        (later_division settings s before items).closed) }
 {
     division_goes_on::<Octets>();
 }

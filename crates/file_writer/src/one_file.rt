@@ -26,7 +26,8 @@ pub(crate) fn begin_file<F: Shelf>(
     requires kind { IsCdrKind first.now.kind }
     ensures makes { Makes F.Shelf (Writes ∷ Writes ∷ []) (ending_of result) shelf.old shelf.new }
     ensures open { IsTrue F.tells_files → OnOk result (IsOpenAt name 0 (F.unsealed shelf.new name.stream)) }
-    ensures others { IsTrue F.tells_files → OnOk result (OthersStay name.stream (F.unsealed shelf.old) (F.unsealed shelf.new)) }
+    ensures others { IsTrue F.tells_files →
+        OnOk result (OthersStay name.stream (F.unsealed shelf.old) (F.unsealed shelf.new)) }
 {
     begin(shelf, name)?;
     let header = run_header(
@@ -77,9 +78,11 @@ pub(crate) fn close_file<F: Shelf>(
 ) -> Result<(), ShelfFault>
     requires open { IsTrue F.tells_files → IsOpenAt name run.octets (F.unsealed shelf.old name.stream) }
     requires kind { IsCdrKind run.kind }
-    ensures makes { let file = closed_file (settings_of gateway.now) name reason (Some run) (F.unsealed shelf.old name.stream) in
+    ensures makes { let file =
+        closed_file (settings_of gateway.now) name reason (Some run) (F.unsealed shelf.old name.stream) in
         Makes F.Shelf (Writes ∷ Writes ∷ Seals file ∷ []) (ending_of result) shelf.old shelf.new }
-    ensures others { IsTrue F.tells_files → OnOk result (OthersStay name.stream (F.unsealed shelf.old) (F.unsealed shelf.new)) }
+    ensures others { IsTrue F.tells_files →
+        OnOk result (OthersStay name.stream (F.unsealed shelf.old) (F.unsealed shelf.new)) }
 {
     let header = run_header(run, name.sequence, reason, gateway.offset, gateway.address);
     write(shelf, name.stream, 0, &header)?;

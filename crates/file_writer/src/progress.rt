@@ -80,7 +80,8 @@ fn end_of_file<F: Shelf>(
     ensures end { IfOk result (λ at. at ≡ 52 + body_length growing) }
     ensures stands { IsTrue F.tells_files → OnOk result (IsBegun name growing
         (F.unsealed shelf.old name.stream) (F.unsealed shelf.new name.stream)) }
-    ensures others { IsTrue F.tells_files → OnOk result (OthersStay name.stream (F.unsealed shelf.old) (F.unsealed shelf.new)) }
+    ensures others { IsTrue F.tells_files →
+        OnOk result (OthersStay name.stream (F.unsealed shelf.old) (F.unsealed shelf.new)) }
 {
     match growing {
         None => {
@@ -91,8 +92,8 @@ fn end_of_file<F: Shelf>(
     }
 }
 
-/// Appends a record to the open file of a stream, which it begins where none is open. A file that was sealed before gets
-/// no call.
+/// Appends a record to the open file of a stream, which it begins where none is open. A file that was sealed before
+/// gets no call.
 pub(crate) fn append<F: Shelf>(
     shelf: &mut F,
     gateway: &Gateway,
@@ -107,11 +108,13 @@ pub(crate) fn append<F: Shelf>(
     requires bounded { IsBounded file.growing }
     requires few { file.closed + 1 < 2 ^ 32 }
     ensures makes { Makes F.Shelf (appending_of file) (ending_of result) shelf.old shelf.new }
-    ensures grown { IfOk result (λ later. later ≡ grown file (filed_of next.entry.kind next.entry.octets.now next.entry.moment)) }
+    ensures grown { IfOk result (λ later.
+        later ≡ grown file (filed_of next.entry.kind next.entry.octets.now next.entry.moment)) }
     ensures stands { IsTrue F.tells_files → OnOk result (IsGrown stream file
         (filed_of next.entry.kind next.entry.octets.now next.entry.moment)
         (F.unsealed shelf.old stream) (F.unsealed shelf.new stream)) }
-    ensures others { IsTrue F.tells_files → OnOk result (OthersStay stream (F.unsealed shelf.old) (F.unsealed shelf.new)) }
+    ensures others { IsTrue F.tells_files →
+        OnOk result (OthersStay stream (F.unsealed shelf.old) (F.unsealed shelf.new)) }
 {
     let Progress {
         growing,
@@ -154,11 +157,14 @@ pub(crate) fn close<F: Shelf>(
     requires open { ClosesOpen reason file.growing }
     requires kind { HasKind file.growing }
     requires few { file.closed + 1 < 2 ^ 32 }
-    ensures makes { Makes F.Shelf (closing_of (settings_of gateway.now) stream file (F.unsealed shelf.old stream) reason)
+    ensures makes { Makes F.Shelf
+        (closing_of (settings_of gateway.now) stream file (F.unsealed shelf.old stream) reason)
         (ending_of result) shelf.old shelf.new }
     ensures closed { IfOk result (λ later. later ≡ closed_progress reason file) }
-    ensures still { IsTrue F.tells_files → OnOk result (StillOpen reason (F.unsealed shelf.old stream) (F.unsealed shelf.new stream)) }
-    ensures others { IsTrue F.tells_files → OnOk result (OthersStay stream (F.unsealed shelf.old) (F.unsealed shelf.new)) }
+    ensures still { IsTrue F.tells_files →
+        OnOk result (StillOpen reason (F.unsealed shelf.old stream) (F.unsealed shelf.new stream)) }
+    ensures others { IsTrue F.tells_files →
+        OnOk result (OthersStay stream (F.unsealed shelf.old) (F.unsealed shelf.new)) }
 {
     let Progress {
         growing,

@@ -54,7 +54,8 @@ pub(crate) fn put<F: Shelf>(
     requires few { weight_of stream.file + 1 < 2 ^ 32 }
     ensures takes { (run : List (Filed (List ℕ))) → IsBehind F.Shelf s run stream shelf.old →
         Takes F.Shelf (settings_of gateway.now) s run
-        (Record (filed_record next.entry.kind next.entry.octets.now next.entry.moment)) stream shelf.old shelf.new result }
+        (Record (filed_record next.entry.kind next.entry.octets.now next.entry.moment))
+        stream shelf.old shelf.new result }
     ensures safe { IfOk result (λ later. IsSafe F.Shelf s later shelf.new) }
     ensures few { IfOk result (λ later. weight_of later.file ≤ weight_of stream.file + 1) }
     ensures others { IsTrue F.tells_files → OnOk result ((t : ℕ) → t ≢ s → Stays F.Shelf t shelf.old shelf.new) }

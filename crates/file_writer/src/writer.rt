@@ -23,12 +23,12 @@ use route_filter::Rules;
 /// How many streams there are.
 const STREAMS: usize = 16;
 
-/// Writes items into CDR files on a shelf (3GPP TS 32.297, clause 6): a record goes to the stream of the first rule that
-/// matches it, and each stream is cut into files.
+/// Writes items into CDR files on a shelf (3GPP TS 32.297, clause 6): a record goes to the stream of the first rule
+/// that matches it, and each stream is cut into files.
 ///
-/// A writer is broken until it recovers, and after each fault: it then asks the shelf for the sealed files, and is given
-/// the items anew. A file that wasn't sealed is written anew from its first octet, and one that is sealed gets no call. A
-/// writer that is made takes no memory.
+/// A writer is broken until it recovers, and after each fault: it then asks the shelf for the sealed files, and is
+/// given the items anew. A file that wasn't sealed is written anew from its first octet, and one that is sealed gets
+/// no call. A writer that is made takes no memory.
 #[derive(Drop)]
 pub struct Writer<F: Shelf> {
     pub(crate) shelf: F,
@@ -138,16 +138,17 @@ impl<F: Shelf> Writer<F> {
 
     /// Takes the next items, and answers how many were taken in all: the number at which the next call's items begin.
     ///
-    /// Each record has at most 65,535 octets and a kind that `cdr_kind` gives, and fewer than 2^31 items are taken since it
-    /// recovered. It makes the calls of `specs/Calls.antt`, one after the other. After `Device` or `NoMemory` the writer is
-    /// broken.
+    /// Each record has at most 65,535 octets and a kind that `cdr_kind` gives, and fewer than 2^31 items are taken since
+    /// it recovered. It makes the calls of `specs/Calls.antt`, one after the other. After `Device` or `NoMemory` the
+    /// writer is broken.
     pub fn advance(&mut self, items: &[Item]) -> Result<u64, ShelfFault>
         requires ready { is_broken self.old ≡ false }
         requires few { taken_of self.old + length items.now < 2 ^ 31 }
         requires fit { All IsFit items.now }
         ensures broken { is_broken self.new ≡ is_err result }
         ensures settings { settings_in self.new ≡ settings_in self.old }
-        ensures count { IfOk result (λ n. (n ≡ min (first_of self.old + (taken_of self.old + length items.now)) (2 ^ 64 - 1))
+        ensures count { IfOk result (λ n.
+            (n ≡ min (first_of self.old + (taken_of self.old + length items.now)) (2 ^ 64 - 1))
             × (first_of self.new ≡ first_of self.old) × (taken_of self.new ≡ taken_of self.old + length items.now)) }
         ensures moves { (closed : ℕ → ℕ) (before : List Item) → IsAt self.old closed before →
             Advances F.Shelf closed before items.now self.old self.new result }

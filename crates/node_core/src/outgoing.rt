@@ -1,6 +1,6 @@
 //! The datagrams of a tick.
 
-ghost use Rattle.std.specs.Prelude.{◌≡◌, ◌≤◌, IfOk, length, map};
+ghost use Rattle.std.specs.Prelude.{◌≡◌, ◌≤◌, ◌+◌, IfOk, length, map};
 ghost use Rattle.gtpp_message.specs.Message.{TransferRequest};
 ghost use Rattle.gtpp_message.specs.Values.{message_value, packet_value};
 ghost use Rattle.gtpp_message.specs.Writing.{body_octets, written};
@@ -18,8 +18,12 @@ use gtpp_message::{Message, Packet, Transfer, write};
 use gw_base::{Buffer, NoMemory, Octets};
 use std::alloc::Global;
 
-/// The most octets of a datagram.
-const DATAGRAM_OCTETS: usize = 65_507;
+/// Room for the octets of a message that sends no packet.
+const SHORT_OCTETS: usize = 64;
+
+/// How many octets a request has before the value of its packet: the header, the command, and type and
+/// length of the packet's element.
+const BEFORE_VALUE: usize = 11;
 
 impl Node {
     /// The datagrams of these sendings.
@@ -61,7 +65,7 @@ impl Node {
                 let message = Message::NodeAliveRequest {
                     address: Some(&address),
                 };
-                message_octets(alloc, u64::from(number), &message)
+                message_octets(alloc, SHORT_OCTETS, u64::from(number), &message)
             }
             Sending::Data {
                 packet,
@@ -70,16 +74,22 @@ impl Node {
                 ..
             } => {
                 let packet = self.packet_numbered(packet);
+                let room = BEFORE_VALUE + value_length(&packet);
                 let body = if is_plain {
                     Transfer::Send(packet)
                 } else {
                     Transfer::Possible(packet)
                 };
-                message_octets(alloc, number, &Message::TransferRequest { body })
+                message_octets(alloc, room, number, &Message::TransferRequest { body })
             }
             Sending::Test { number, .. } => {
                 let body = Transfer::Possible(Packet::Empty);
-                message_octets(alloc, number, &Message::TransferRequest { body })
+                message_octets(
+                    alloc,
+                    SHORT_OCTETS,
+                    number,
+                    &Message::TransferRequest { body },
+                )
             }
             Sending::Command {
                 named,
@@ -115,15 +125,36 @@ fn order_octets(alloc: Global, number: u64, order: Order, named: u64) -> Result<
         Order::Release => Transfer::Release(numbers),
         Order::Cancel => Transfer::Cancel(numbers),
     };
-    message_octets(alloc, number, &Message::TransferRequest { body })
+    message_octets(
+        alloc,
+        SHORT_OCTETS,
+        number,
+        &Message::TransferRequest { body },
+    )
 }
 
-/// The octets of a message with the last 16 bits of this number.
-fn message_octets(alloc: Global, number: u64, message: &Message<'_>) -> Result<Octets, NoMemory>
-    requires { length (body_octets (message_value message.now)) ≤ 65501 }
+/// How many octets the value of a packet has.
+fn value_length(packet: &Packet<'_>) -> usize
+    ensures { result ≡ length (packet_octets (packet_value packet.now)) }
+{
+    match packet {
+        Packet::Full { value, .. } => value.len(),
+        Packet::Empty => 0,
+    }
+}
+
+/// The octets of a message with the last 16 bits of this number, where they have so much room.
+fn message_octets(
+    alloc: Global,
+    room: usize,
+    number: u64,
+    message: &Message<'_>,
+) -> Result<Octets, NoMemory>
+    requires room { length (body_octets (message_value message.now)) + 6 ≤ room }
+    requires short { length (body_octets (message_value message.now)) ≤ 65501 }
     ensures { IfOk result (λ octets. octets ≡ written (wire number) (message_value message.now)) }
 {
-    let mut buffer = Buffer::with(alloc, DATAGRAM_OCTETS)?;
+    let mut buffer = Buffer::with(alloc, room)?;
     if let Err(_full) = write((number % 65_536) as u16, message, &mut buffer) {
         unreachable!()
     }

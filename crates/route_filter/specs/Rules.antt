@@ -1,5 +1,6 @@
 -- Rules that say which stream a record's CDR file belongs to. Their form is this project's own.
-use Rattle.std.specs.Prelude.{◌≡◌, ℕ, ◌<◌, ◌==◌, ◌&&◌, Bool, true, false, min, if◌then◌else◌, List, [], ◌∷◌, ◌++◌, length, find, Option, Some, None, option_map, option_and_then, Result, Ok, Err, codes}
+use Rattle.std.specs.Prelude.{◌≡◌, ℕ, ◌<◌, ◌≤◌, ◌==◌, ◌&&◌, Bool, true, false, min, if◌then◌else◌, List, [], ◌∷◌, ◌++◌, length, find, Option, Some, None, option_map, option_and_then, Result, Ok, Err, codes}
+use Rattle.std.specs.List.{All}
 use Rattle.std.specs.Option.{option_map_or}
 use Rattle.std.specs.Str.{bytes_eq}
 use Rattle.gw_base.specs.declared.tag.Tag.{Tag}
@@ -55,6 +56,11 @@ rule_of line = rule_said (words_of line)
 -- the most rules that there may be
 abbrev pub most_rules : ℕ
 most_rules = 256
+
+-- Rules that can be kept: not too many, each for one of the streams.
+pub record AreRules (rules : List Rule) : Type 0 where
+  pub most : length rules ≤ most_rules
+  pub streams : All (λ (rule : Rule). rule.stream ≤ last_stream) rules
 
 -- The rule that a line says was added after the others, which there was room for.
 pub record AddsRule (line : List ℕ) (old new : List Rule) : Type 0 where

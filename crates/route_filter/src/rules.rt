@@ -1,5 +1,5 @@
-ghost use Rattle.std.specs.Prelude.{◌≡◌, [], length, find, None, OnOk, OnErr, IsSome};
-ghost use Rattle.route_filter.specs.Rules.{AddsRule, matches, most_rules, rule_of, stream_of};
+ghost use Rattle.std.specs.Prelude.{◌≡◌, ◌≤◌, [], All, length, find, None, OnOk, OnErr, IfSome, IsSome};
+ghost use Rattle.route_filter.specs.Rules.{AddsRule, last_stream, matches, most_rules, rule_of, stream_of};
 
 use crate::rule::Rule;
 use gw_base::{NoMemory, Tag};
@@ -28,7 +28,7 @@ impl From<NoMemory> for RuleFault {
     }
 }
 
-/// At most 256 rules, in order.
+/// At most 256 rules, in order, each for one of the streams.
 #[derive(Drop)]
 pub struct Rules {
     rules: Vec<Rule>,
@@ -36,15 +36,15 @@ pub struct Rules {
 }
 
 impl Model for Rules {
-    ghost use Rattle.std.specs.Prelude.{List, length, ◌≤◌};
-    ghost use Rattle.route_filter.specs.Rules.{most_rules};
+    ghost use Rattle.std.specs.Prelude.{List};
+    ghost use Rattle.route_filter.specs.Rules.{AreRules};
     ghost use Rattle.route_filter.specs.declared.rule.Rule.{Rule};
 
     ghost Value = { List Rule };
 
     ghost view = { λ r. r.rules.items };
 
-    ghost invariant = { λ r. length r.rules.items ≤ most_rules };
+    ghost invariant = { λ r. AreRules r.rules.items };
 }
 
 impl Rules {
@@ -85,7 +85,8 @@ impl Rules {
     /// The stream of a record with this outer tag of a packet of this format: that of the first rule that matches it,
     /// and 0 where none does. It takes no memory.
     pub fn stream(&self, tag: Option<Tag>, format: u8) -> u8
-        ensures { result ≡ stream_of self.now tag format }
+        ensures stream { result ≡ stream_of self.now tag format }
+        ensures within { result ≤ last_stream }
     {
         match first_match(&self.rules, tag, format) {
             Some(rule) => rule.stream,
@@ -96,7 +97,9 @@ impl Rules {
 
 /// The first rule that matches a record with this tag of a packet of this format.
 fn first_match(rules: &[Rule], tag: Option<Tag>, format: u8) -> Option<Rule>
-    ensures { result ≡ find (λ rule. matches rule tag format) rules.now }
+    requires { All (λ rule. rule.stream ≤ last_stream) rules.now }
+    ensures first { result ≡ find (λ rule. matches rule tag format) rules.now }
+    ensures stream { IfSome result (λ rule. rule.stream ≤ last_stream) }
 {
     rules.iter().copied().find(|rule| rule.matches(tag, format))
 }

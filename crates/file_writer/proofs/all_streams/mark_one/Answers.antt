@@ -20,19 +20,29 @@ returns-clause-takes g c = λ settings closed sealed before same each.
     let law = c.division_goes_on.ensures in
     let goes = mark_stream_item settings.rules s c.args.closes c.args.moment in
     let at : StreamAt g.F.Shelf settings closed sealed before s stream c.args.shelf.now =
-    subst (λ (st : Stream). StreamAt g.F.Shelf settings closed sealed before s st c.args.shelf.now) (sym c.index-streams-s.is)
-    (subst (λ (items : List Item). StreamAt g.F.Shelf settings closed sealed items s (slice_index_or c.args.streams.now s stream) c.args.shelf.now) (up_to_here s before item) (each s stream c.requires.within)) in
+    subst (λ (st : Stream). StreamAt g.F.Shelf settings closed sealed before s st c.args.shelf.now)
+    (sym c.index-streams-s.is)
+    (subst (λ (items : List Item). StreamAt g.F.Shelf settings closed sealed items s
+    (slice_index_or c.args.streams.now s stream) c.args.shelf.now) (up_to_here s before item)
+    (each s stream c.requires.within)) in
     let run = (stream_division settings s before).left_open in
     let taken = c.in_ok-streams.ensures.takes run at.behind in
-    let calls = ap (λ (fs : FileSettings). calls_at fs s stream.file.sealed (cuts_at stream.cutter.limits run x) stream.file.closed run x) (sym same)
+    let calls =
+    ap (λ (fs : FileSettings). calls_at fs s stream.file.sealed (cuts_at stream.cutter.limits run x)
+    stream.file.closed run x) (sym same)
     ∙ calls_are law g.F.Shelf settings closed sealed before item s x stream c.args.shelf.now goes at in
     record {
       makes = subst (λ (cs : List Call). Makes g.F.Shelf cs Went c.args.shelf.now c.mark.new.shelf) calls taken.makes;
-      at = each_set (λ (t : ℕ) (st : Stream). StreamAt g.F.Shelf settings closed sealed (up_to (s + 1) before item t) t st c.mark.new.shelf) c.args.streams.now s c.in_ok-streams.field-0
+      at = each_set (λ (t : ℕ) (st : Stream). StreamAt g.F.Shelf settings closed sealed (up_to (s + 1) before item t) t
+          st c.mark.new.shelf) c.args.streams.now s c.in_ok-streams.field-0
           (subst (λ (n : ℕ). s < n) (sym c.requires.sixteen) c.requires.within)
-          (subst (λ (items : List Item). StreamAt g.F.Shelf settings closed sealed items s c.in_ok-streams.field-0 c.mark.new.shelf) (sym (up_to_next s before item))
-          (taken_at law g.F.Shelf settings closed sealed before item s x stream c.in_ok-streams.field-0 _ _ goes at taken.after))
+          (subst (λ (items : List Item). StreamAt g.F.Shelf settings closed sealed items s c.in_ok-streams.field-0
+          c.mark.new.shelf) (sym (up_to_next s before item))
+          (taken_at law g.F.Shelf settings closed sealed before item s x stream c.in_ok-streams.field-0 _ _ goes at
+          taken.after))
           (λ t d other h.
-          subst (λ (items : List Item). StreamAt g.F.Shelf settings closed sealed items t (slice_index_or c.args.streams.now t d) c.mark.new.shelf) (up_to_other s before item t other)
-          (at_stays g.F.Shelf settings closed sealed (up_to s before item t) t _ _ _ (λ told. c.in_ok-streams.ensures.others told t other) (each t d h)));
+          subst (λ (items : List Item). StreamAt g.F.Shelf settings closed sealed items t
+          (slice_index_or c.args.streams.now t d) c.mark.new.shelf) (up_to_other s before item t other)
+          (at_stays g.F.Shelf settings closed sealed (up_to s before item t) t _ _ _
+          (λ told. c.in_ok-streams.ensures.others told t other) (each t d h)));
     }

@@ -19,16 +19,23 @@ returns-in_err-streams-clause-takes g c = λ settings closed sealed before item 
     let x = Record (filed_record c.args.next.kind c.args.next.octets.now c.args.next.moment) in
     let stream : Stream = c.index-streams-s.result in
     let at : StreamAt g.F.Shelf settings closed sealed before s stream c.args.shelf.now =
-    subst (λ (st : Stream). StreamAt g.F.Shelf settings closed sealed before s st c.args.shelf.now) (sym c.index-streams-s.is) (each s stream c.requires.within) in
+    subst (λ (st : Stream). StreamAt g.F.Shelf settings closed sealed before s st c.args.shelf.now)
+    (sym c.index-streams-s.is) (each s stream c.requires.within) in
     let run = (stream_division settings s before).left_open in
     let taken = c.in_err-streams.ensures.takes run at.behind in
     let law = c.division_goes_on.ensures in
-    let calls = ap (λ (fs : FileSettings). calls_at fs s stream.file.sealed (cuts_at stream.cutter.limits run x) stream.file.closed run x) (sym same)
+    let calls =
+    ap (λ (fs : FileSettings). calls_at fs s stream.file.sealed (cuts_at stream.cutter.limits run x)
+    stream.file.closed run x) (sym same)
     ∙ calls_are law g.F.Shelf settings closed sealed before item s x stream c.args.shelf.now goes.here at
-    ∙ sym ((only_one settings closed sealed before item stream_count s (λ t other. no_calls law g.F.Shelf settings closed sealed before item t (goes.others t other))).1 c.requires.within) in
+    ∙ sym ((only_one settings closed sealed before item stream_count s
+    (λ t other. no_calls law g.F.Shelf settings closed sealed before item t (goes.others t other))).1
+    c.requires.within) in
     record {
-      makes = ended_at g.F.Shelf (calls_below stream_count settings closed sealed before item) _ _ _ _ c.from_residual.ensures
-          (subst (λ (cs : List Call). Makes g.F.Shelf cs (ending_at c.in_err-streams.field-0.0) c.args.shelf.now c.put.new.shelf) calls taken.makes);
+      makes = ended_at g.F.Shelf (calls_below stream_count settings closed sealed before item) _ _ _ _
+          c.from_residual.ensures
+          (subst (λ (cs : List Call). Makes g.F.Shelf cs (ending_at c.in_err-streams.field-0.0) c.args.shelf.now
+          c.put.new.shelf) calls taken.makes);
       at = no_result c.from_residual.result c.in_err-streams.field-0.0 _ c.from_residual.ensures;
     }
 
@@ -38,26 +45,37 @@ returns-clause-takes g c = λ settings closed sealed before item same goes each.
     let x = Record (filed_record c.args.next.kind c.args.next.octets.now c.args.next.moment) in
     let stream : Stream = c.index-streams-s.result in
     let at : StreamAt g.F.Shelf settings closed sealed before s stream c.args.shelf.now =
-    subst (λ (st : Stream). StreamAt g.F.Shelf settings closed sealed before s st c.args.shelf.now) (sym c.index-streams-s.is) (each s stream c.requires.within) in
+    subst (λ (st : Stream). StreamAt g.F.Shelf settings closed sealed before s st c.args.shelf.now)
+    (sym c.index-streams-s.is) (each s stream c.requires.within) in
     let run = (stream_division settings s before).left_open in
     let taken = c.in_ok-streams.ensures.takes run at.behind in
     let law = c.division_goes_on.ensures in
-    let calls = ap (λ (fs : FileSettings). calls_at fs s stream.file.sealed (cuts_at stream.cutter.limits run x) stream.file.closed run x) (sym same)
+    let calls =
+    ap (λ (fs : FileSettings). calls_at fs s stream.file.sealed (cuts_at stream.cutter.limits run x)
+    stream.file.closed run x) (sym same)
     ∙ calls_are law g.F.Shelf settings closed sealed before item s x stream c.args.shelf.now goes.here at
-    ∙ sym ((only_one settings closed sealed before item stream_count s (λ t other. no_calls law g.F.Shelf settings closed sealed before item t (goes.others t other))).1 c.requires.within) in
+    ∙ sym ((only_one settings closed sealed before item stream_count s
+    (λ t other. no_calls law g.F.Shelf settings closed sealed before item t (goes.others t other))).1
+    c.requires.within) in
     record {
       makes = subst (λ (cs : List Call). Makes g.F.Shelf cs Went c.args.shelf.now c.put.new.shelf) calls taken.makes;
-      at = each_set (λ (t : ℕ) (st : Stream). StreamAt g.F.Shelf settings closed sealed (before ++ item ∷ []) t st c.put.new.shelf) c.args.streams.now s c.in_ok-streams.field-0
+      at = each_set (λ (t : ℕ) (st : Stream). StreamAt g.F.Shelf settings closed sealed (before ++ item ∷ []) t st
+          c.put.new.shelf) c.args.streams.now s c.in_ok-streams.field-0
           (subst (λ (n : ℕ). s < n) (sym c.requires.sixteen) c.requires.within)
-          (taken_at law g.F.Shelf settings closed sealed before item s x stream c.in_ok-streams.field-0 _ _ goes.here at taken.after)
+          (taken_at law g.F.Shelf settings closed sealed before item s x stream c.in_ok-streams.field-0 _ _ goes.here
+          at taken.after)
           (λ t d other h.
-          not_taken law g.F.Shelf settings closed sealed before item t (slice_index_or c.args.streams.now t d) c.put.new.shelf (goes.others t other)
-          (at_stays g.F.Shelf settings closed sealed before t _ _ _ (λ told. c.in_ok-streams.ensures.others told t other) (each t d h)));
+          not_taken law g.F.Shelf settings closed sealed before item t (slice_index_or c.args.streams.now t d)
+          c.put.new.shelf (goes.others t other)
+          (at_stays g.F.Shelf settings closed sealed before t _ _ _
+          (λ told. c.in_ok-streams.ensures.others told t other) (each t d h)));
     }
 
 pub returns-clause-safe : goal.returns-clause-safe
 returns-clause-safe g c =
-    each_set (λ (t : ℕ) (st : Stream). IsSafe g.F.Shelf t st c.put.new.shelf) c.args.streams.now c.args.s c.in_ok-streams.field-0
+    each_set (λ (t : ℕ) (st : Stream). IsSafe g.F.Shelf t st c.put.new.shelf) c.args.streams.now c.args.s
+    c.in_ok-streams.field-0
     (subst (λ (n : ℕ). c.args.s < n) (sym c.requires.sixteen) c.requires.within)
     c.in_ok-streams.ensures.safe
-    (λ t d other h. safe_stays g.F.Shelf t _ _ _ (λ told. c.in_ok-streams.ensures.others told t other) (c.requires.safe t d h))
+    (λ t d other h. safe_stays g.F.Shelf t _ _ _ (λ told. c.in_ok-streams.ensures.others told t other)
+    (c.requires.safe t d h))

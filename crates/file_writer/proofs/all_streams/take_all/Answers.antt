@@ -12,7 +12,8 @@ use Rattle.file_writer.proofs.all_streams.take_all.Goals as goal
 
 pub take_item-requires-clause-few : goal.take_item-requires-clause-few
 take_item-requires-clause-few g c κs within = λ s d h.
-    let below = c.loop-item.invariant.below (2 ^ 32 - 2 - length c.args.items.now) c.requires.few s d h in omega (arith, c.requires.room)
+    let below = c.loop-item.invariant.below (2 ^ 32 - 2 - length c.args.items.now) c.requires.few s d h in omega
+    (arith, c.requires.room)
 
 pub returns-in_err-take_item-clause-takes : goal.returns-in_err-take_item-clause-takes
 returns-in_err-take_item-clause-takes g c = λ settings closed sealed before same rules at.
@@ -22,13 +23,20 @@ returns-in_err-take_item-clause-takes g c = λ settings closed sealed before sam
     let prev = c.loop-item.invariant.takes settings closed sealed before same rules at in
     let next = c.in_err-take_item.ensures.takes settings closed sealed (before ++ take i items) same rules prev.1 in
     let more : take (i + 1) items ≡ take i items ++ x ∷ [] = take_next items i x (omega arith) c.item-item.is in
-    let made = makes_then g.F.Shelf (calls_of settings closed sealed before (take i items)) (calls_below stream_count settings closed sealed (before ++ take i items) x) _ _ _ _ prev.0 next.makes in
-    let calls = calls-one settings closed sealed before (take i items) x ∙ ap (λ (xs : List Item). calls_of settings closed sealed before xs) (sym more) in
-    let whole = sym (calls-append settings closed sealed before (take (i + 1) items) (drop (i + 1) items)) ∙ ap (λ (xs : List Item). calls_of settings closed sealed before xs) (take-append-drop (i + 1) items) in
+    let made = makes_then g.F.Shelf (calls_of settings closed sealed before (take i items))
+    (calls_below stream_count settings closed sealed (before ++ take i items) x) _ _ _ _ prev.0 next.makes in
+    let calls = calls-one settings closed sealed before (take i items) x
+    ∙ ap (λ (xs : List Item). calls_of settings closed sealed before xs) (sym more) in
+    let whole = sym (calls-append settings closed sealed before (take (i + 1) items) (drop (i + 1) items))
+    ∙ ap (λ (xs : List Item). calls_of settings closed sealed before xs) (take-append-drop (i + 1) items) in
     record {
-      makes = subst (λ (cs : List Call). Makes g.F.Shelf cs (ending_of c.from_residual.result) c.args.shelf.now c.take_item.new.shelf) whole
-          (stopped_at g.F.Shelf (calls_of settings closed sealed before (take (i + 1) items)) (calls_of settings closed sealed (before ++ take (i + 1) items) (drop (i + 1) items)) _ _ _ _ c.from_residual.ensures
-          (subst (λ (cs : List Call). Makes g.F.Shelf cs (ending_at c.in_err-take_item.field-0.0) c.args.shelf.now c.take_item.new.shelf) calls made));
+      makes = subst (λ (cs : List Call). Makes g.F.Shelf cs (ending_of c.from_residual.result) c.args.shelf.now
+          c.take_item.new.shelf) whole
+          (stopped_at g.F.Shelf (calls_of settings closed sealed before (take (i + 1) items))
+          (calls_of settings closed sealed (before ++ take (i + 1) items) (drop (i + 1) items)) _ _ _ _
+          c.from_residual.ensures
+          (subst (λ (cs : List Call). Makes g.F.Shelf cs (ending_at c.in_err-take_item.field-0.0) c.args.shelf.now
+          c.take_item.new.shelf) calls made));
       at = no_result c.from_residual.result c.in_err-take_item.field-0.0 _ c.from_residual.ensures;
     }
 
@@ -48,10 +56,15 @@ loop-item-preserved g c =
           let prev = inv.takes settings closed sealed before same rules at in
           let next = e.takes settings closed sealed (before ++ take i items) same rules prev.1 in (
             subst (λ (cs : List Call). Makes g.F.Shelf cs Went c.args.shelf.now c.take_item.new.shelf)
-                (calls-one settings closed sealed before (take i items) x ∙ ap (λ (xs : List Item). calls_of settings closed sealed before xs) (sym more))
-                (makes_then g.F.Shelf (calls_of settings closed sealed before (take i items)) (calls_below stream_count settings closed sealed (before ++ take i items) x) _ _ _ _ prev.0 next.makes),
-            subst (λ (xs : List Item). AllAt g.F.Shelf settings closed sealed xs c.take_item.new.streams c.take_item.new.shelf)
-                (append_assoc before (take i items) (x ∷ []) ∙ ap (λ (xs : List Item). before ++ xs) (sym more)) next.at,
+                (calls-one settings closed sealed before (take i items) x
+                ∙ ap (λ (xs : List Item). calls_of settings closed sealed before xs) (sym more))
+                (makes_then g.F.Shelf (calls_of settings closed sealed before (take i items))
+                (calls_below stream_count settings closed sealed (before ++ take i items) x) _ _ _ _ prev.0
+                next.makes),
+            subst (λ (xs : List Item). AllAt g.F.Shelf settings closed sealed xs c.take_item.new.streams
+                c.take_item.new.shelf)
+                (append_assoc before (take i items) (x ∷ []) ∙ ap (λ (xs : List Item). before ++ xs) (sym more))
+                next.at,
           );
     }
 
@@ -61,8 +74,10 @@ returns-clause-takes g c = λ settings closed sealed before same rules at.
     let all = c.loop-item.invariant.takes settings closed sealed before same rules at in
     let whole : take c.loop-item.item-index items ≡ items = take_whole items c.loop-item.item-index (omega arith) in
     record {
-      makes = subst (λ (xs : List Item). Makes g.F.Shelf (calls_of settings closed sealed before xs) Went c.args.shelf.now c.loop-item.shelf) whole all.0;
-      at = subst (λ (xs : List Item). AllAt g.F.Shelf settings closed sealed (before ++ xs) c.loop-item.streams c.loop-item.shelf) whole all.1;
+      makes = subst (λ (xs : List Item). Makes g.F.Shelf (calls_of settings closed sealed before xs) Went
+          c.args.shelf.now c.loop-item.shelf) whole all.0;
+      at = subst (λ (xs : List Item). AllAt g.F.Shelf settings closed sealed (before ++ xs) c.loop-item.streams
+          c.loop-item.shelf) whole all.1;
     }
 
 pub returns-clause-below : goal.returns-clause-below

@@ -13,5 +13,6 @@ returns-in-Err-clause-asked g c =
       calls = e.calls;
       later = e.cause.later;
       rose = λ h. e.cause.failed;
-      planned = λ told a armed. not_both ((e.planned told).fails ∙ reads_run (g.F.Shelf.plan c.args.shelf.now) (armed_reads_run a (g.F.Shelf.plan c.args.shelf.now) armed));
+      planned = λ told a armed. not_both ((e.planned told).fails
+          ∙ reads_run (g.F.Shelf.plan c.args.shelf.now) (armed_reads_run a (g.F.Shelf.plan c.args.shelf.now) armed));
     }

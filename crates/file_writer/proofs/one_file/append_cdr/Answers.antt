@@ -8,22 +8,32 @@ use Rattle.file_writer.proofs.WritingLemmas.{has_longer, on_ok, takes_end, writt
 use Rattle.file_writer.proofs.one_file.append_cdr.Goals as goal
 
 pub returns-in_err-write-clause-makes : goal.returns-in_err-write-clause-makes
-returns-in_err-write-clause-makes g c = stopped_at g.F.Shelf (Writes ∷ []) (Writes ∷ []) _ _ _ _ c.from_residual.ensures c.in_err-write.ensures.makes
+returns-in_err-write-clause-makes g c =
+    stopped_at g.F.Shelf (Writes ∷ []) (Writes ∷ []) _ _ _ _ c.from_residual.ensures c.in_err-write.ensures.makes
 
 pub write-requires-2-after_bounds : goal.write-requires-2-after_bounds
 write-requires-2-after_bounds g c κs within = λ told.
-    let long : length c.write_cdr-header.result ≡ 4 = ap (λ (xs : List ℕ). length xs) c.write_cdr-header.ensures ∙ length-cdr_header_octets _ in
-    takes_end _ _ (has_longer c.args.at c.cdr_header_length.result c.write_cdr-header.result (g.F.Shelf.unsealed c.args.shelf.now c.args.stream) _ (long ∙ sym c.cdr_header_length.ensures) (c.requires.end told) (c.in_ok-write.ensures.written told).here)
+    let long : length c.write_cdr-header.result ≡ 4 = ap (λ (xs : List ℕ). length xs) c.write_cdr-header.ensures
+    ∙ length-cdr_header_octets _ in
+    takes_end _ _ (has_longer c.args.at c.cdr_header_length.result c.write_cdr-header.result
+    (g.F.Shelf.unsealed c.args.shelf.now c.args.stream) _ (long ∙ sym c.cdr_header_length.ensures)
+    (c.requires.end told) (c.in_ok-write.ensures.written told).here)
 
 pub returns-clause-makes : goal.returns-clause-makes
-returns-clause-makes g c = makes_then g.F.Shelf (Writes ∷ []) (Writes ∷ []) _ _ _ _ c.in_ok-write.ensures.makes c.write-2.ensures.makes
+returns-clause-makes g c = makes_then g.F.Shelf (Writes ∷ []) (Writes ∷ []) _ _ _ _ c.in_ok-write.ensures.makes
+    c.write-2.ensures.makes
 
 pub returns-clause-appended : goal.returns-clause-appended
 returns-clause-appended g c = λ told.
-    let long : length c.write_cdr-header.result ≡ 4 = ap (λ (xs : List ℕ). length xs) c.write_cdr-header.ensures ∙ length-cdr_header_octets _ in
-    let steps : List ℕ → Type 0 = λ xs. StepsAt c.args.stream (appended (xs ++ c.args.octets.now)) (g.F.Shelf.unsealed c.args.shelf.now) (g.F.Shelf.unsealed c.write-2.new.shelf) in
+    let long : length c.write_cdr-header.result ≡ 4 = ap (λ (xs : List ℕ). length xs) c.write_cdr-header.ensures
+    ∙ length-cdr_header_octets _ in
+    let steps : List ℕ
+    → Type 0 = λ xs. StepsAt c.args.stream (appended (xs ++ c.args.octets.now))
+    (g.F.Shelf.unsealed c.args.shelf.now) (g.F.Shelf.unsealed c.write-2.new.shelf) in
     on_ok c.write-2.result
     (λ second. subst steps c.write_cdr-header.ensures
-    (written_both c.args.at c.cdr_header_length.result c.write_cdr-header.result c.args.octets.now (g.F.Shelf.unsealed c.args.shelf.now) (g.F.Shelf.unsealed c.write.new.shelf) (g.F.Shelf.unsealed c.write-2.new.shelf) c.args.stream
+    (written_both c.args.at c.cdr_header_length.result c.write_cdr-header.result c.args.octets.now
+    (g.F.Shelf.unsealed c.args.shelf.now) (g.F.Shelf.unsealed c.write.new.shelf)
+    (g.F.Shelf.unsealed c.write-2.new.shelf) c.args.stream
     (long ∙ sym c.cdr_header_length.ensures) (c.requires.end told) (c.in_ok-write.ensures.written told) second))
     (c.write-2.ensures.written told)

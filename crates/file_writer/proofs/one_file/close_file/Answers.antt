@@ -9,7 +9,8 @@ use Rattle.file_writer.proofs.MakingLemmas.{makes_then, stopped_at}
 use Rattle.file_writer.proofs.one_file.close_file.Goals as goal
 
 pub returns-in_err-write-clause-makes : goal.returns-in_err-write-clause-makes
-returns-in_err-write-clause-makes g c = stopped_at g.F.Shelf (Writes ∷ []) (Writes ∷ Seals _ ∷ []) _ _ _ _ c.from_residual.ensures c.in_err-write.ensures.makes
+returns-in_err-write-clause-makes g c = stopped_at g.F.Shelf (Writes ∷ []) (Writes ∷ Seals _ ∷ []) _ _ _ _
+    c.from_residual.ensures c.in_err-write.ensures.makes
 
 pub returns-in_err-sync-clause-makes : goal.returns-in_err-sync-clause-makes
 returns-in_err-sync-clause-makes g c =
@@ -19,9 +20,11 @@ returns-in_err-sync-clause-makes g c =
 pub returns-clause-makes : goal.returns-clause-makes
 returns-clause-makes g c =
     let long : length c.run_header-header.result ≡ 52 = search rules in
-    let header : List ℕ = header_octets (header_of c.args.run c.args.name.sequence c.args.reason (settings_of c.args.gateway.now)) in
+    let header : List ℕ =
+    header_octets (header_of c.args.run c.args.name.sequence c.args.reason (settings_of c.args.gateway.now)) in
     let u : Option UnsealedFile = g.F.Shelf.unsealed c.args.shelf.now c.args.name.stream in
-    makes_then g.F.Shelf (Writes ∷ Writes ∷ []) (Seals (record { name = c.args.name; octets = header ++ body_of u }) ∷ []) _ _ _ _
+    makes_then g.F.Shelf (Writes ∷ Writes ∷ []) (Seals (record { name = c.args.name; octets = header ++ body_of u }) ∷
+    []) _ _ _ _
     (makes_then g.F.Shelf (Writes ∷ []) (Writes ∷ []) _ _ _ _ c.in_ok-write.ensures.makes c.in_ok-sync.ensures.makes)
     (c.seal.ensures.makes _ (λ told.
     sealed_of c.args.name c.args.run.octets c.run_header-header.result u _ _ (c.requires.open told) long

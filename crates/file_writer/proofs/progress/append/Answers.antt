@@ -9,23 +9,27 @@ use Rattle.file_writer.proofs.WritingLemmas.{grown_at, is_fresh, makes_unsealed,
 use Rattle.file_writer.proofs.progress.append.Goals as goal
 
 pub end_of_file-requires-clause-fresh : goal.end_of_file-requires-clause-fresh
-end_of_file-requires-clause-fresh g c κs within = λ told. is_fresh c.args.stream c.args.file.closed c.args.file.sealed _ (c.requires.fresh told) c.if-sequence-sealed.false
+end_of_file-requires-clause-fresh g c κs within = λ told. is_fresh c.args.stream c.args.file.closed c.args.file.sealed
+    _ (c.requires.fresh told) c.if-sequence-sealed.false
 
 pub returns-in_err-at-clause-makes : goal.returns-in_err-at-clause-makes
 returns-in_err-at-clause-makes g c =
     makes_unsealed g.F.Shelf c.args.file.closed c.args.file.sealed _ _ _ _ c.if-sequence-sealed.false
-    (stopped_at g.F.Shelf (beginning_of c.args.file.growing) (Writes ∷ Writes ∷ []) _ _ _ _ c.from_residual.ensures c.in_err-at.ensures.makes)
+    (stopped_at g.F.Shelf (beginning_of c.args.file.growing) (Writes ∷ Writes ∷ []) _ _ _ _ c.from_residual.ensures
+    c.in_err-at.ensures.makes)
 
 pub returns-in_err-append_cdr-clause-makes : goal.returns-in_err-append_cdr-clause-makes
 returns-in_err-append_cdr-clause-makes g c =
     makes_unsealed g.F.Shelf c.args.file.closed c.args.file.sealed _ _ _ _ c.if-sequence-sealed.false
     (makes_then g.F.Shelf (beginning_of c.args.file.growing) (Writes ∷ Writes ∷ []) _ _ _ _ c.in_ok-at.ensures.makes
-    (ended_at g.F.Shelf (Writes ∷ Writes ∷ []) _ _ _ _ c.from_residual-in_err-append_cdr.ensures c.in_err-append_cdr.ensures.makes))
+    (ended_at g.F.Shelf (Writes ∷ Writes ∷ []) _ _ _ _ c.from_residual-in_err-append_cdr.ensures
+    c.in_err-append_cdr.ensures.makes))
 
 pub returns-clause-makes : goal.returns-clause-makes
 returns-clause-makes g c =
     makes_unsealed g.F.Shelf c.args.file.closed c.args.file.sealed _ _ _ _ c.if-sequence-sealed.false
-    (makes_then g.F.Shelf (beginning_of c.args.file.growing) (Writes ∷ Writes ∷ []) _ _ _ _ c.in_ok-at.ensures.makes c.in_ok-append_cdr.ensures.makes)
+    (makes_then g.F.Shelf (beginning_of c.args.file.growing) (Writes ∷ Writes ∷ []) _ _ _ _ c.in_ok-at.ensures.makes
+    c.in_ok-append_cdr.ensures.makes)
 
 pub returns-clause-stands : goal.returns-clause-stands
 returns-clause-stands g c = λ told.
@@ -34,5 +38,6 @@ returns-clause-stands g c = λ told.
     let old : Option UnsealedFile = g.F.Shelf.unsealed c.args.shelf.now c.args.stream in
     let new : Option UnsealedFile = g.F.Shelf.unsealed c.append_cdr.new.shelf c.args.stream in
     let begun = c.in_ok-at.ensures.stands told in
-    subst (λ (b : Bool). GrownWhere b name c.args.file.growing filed old new) (sym (not_sealed c.args.file.closed c.args.file.sealed c.if-sequence-sealed.false))
+    subst (λ (b : Bool). GrownWhere b name c.args.file.growing filed old new)
+    (sym (not_sealed c.args.file.closed c.args.file.sealed c.if-sequence-sealed.false))
     (grown_at name c.args.file.growing filed old _ new begun.0 begun.1 (c.in_ok-append_cdr.ensures.appended told).here)

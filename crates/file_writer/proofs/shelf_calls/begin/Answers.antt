@@ -14,7 +14,8 @@ returns-in-Ok-clause-makes g c =
 pub returns-in-Err-Failed-clause-makes : goal.returns-in-Err-Failed-clause-makes
 returns-in-Err-Failed-clause-makes g c =
     let e = c.in-Err-Failed.ensures {u = tt} in
-    let m : is_memory {T = Unit {0}} (Err c.in-Err-Failed.field-0) ≡ false = ap (λ (stop : ShelfStop). is_memory {T = Unit {0}} (Err stop)) c.in-Err-Failed.field-0-is in
+    let m : is_memory {T = Unit {0}} (Err c.in-Err-Failed.field-0) ≡ false =
+    ap (λ (stop : ShelfStop). is_memory {T = Unit {0}} (Err stop)) c.in-Err-Failed.field-0-is in
     one_failed g.F.Shelf Writes _ _ (λ told. e.calls told m) (λ told. inl e.files) e.cause.later (e.cause.failed m)
     (λ told. let p = e.planned told m in record { fails = p.fails; schedule = p.schedule })
     (λ planned told. left_by_write _ _ _ e.files)

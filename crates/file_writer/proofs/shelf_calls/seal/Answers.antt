@@ -10,10 +10,12 @@ pub returns-in-Ok-clause-makes : goal.returns-in-Ok-clause-makes
 returns-in-Ok-clause-makes g c = λ file as_file.
     let e = c.in-Ok.ensures {u = tt} in
     one_went g.F.Shelf (Seals file) _ _ (λ told. e.calls told)
-    (λ told. e.sealed told ∙ ap (λ (files : List SealedFile). g.F.Shelf.files c.args.shelf.now ++ files) (as_file told)) e.cause.later
+    (λ told. e.sealed told ∙ ap (λ (files : List SealedFile). g.F.Shelf.files c.args.shelf.now ++ files)
+    (as_file told)) e.cause.later
     (λ told. let p = e.planned told in record { fails = p.fails; schedule = p.schedule })
 
-maybe_file : (new old files : List SealedFile) (file : SealedFile) → files ≡ file ∷ [] → (new ≡ old) ⊎ (new ≡ old ++ files) → (new ≡ old) ⊎ (new ≡ old ++ file ∷ [])
+maybe_file : (new old files : List SealedFile) (file : SealedFile) → files ≡ file ∷ [] → (new ≡ old)
+    ⊎ (new ≡ old ++ files) → (new ≡ old) ⊎ (new ≡ old ++ file ∷ [])
 maybe_file new old files file e (inl h) = inl h
 maybe_file new old files file e (inr h) = inr (h ∙ ap (λ (fs : List SealedFile). old ++ fs) e)
 
@@ -21,6 +23,9 @@ pub returns-in-Err-clause-makes : goal.returns-in-Err-clause-makes
 returns-in-Err-clause-makes g c = λ file as_file.
     let e = c.in-Err.ensures {u = tt} in
     let files : List SealedFile = g.F.Shelf.files c.args.shelf.now in
-    one_failed g.F.Shelf (Seals file) _ _ (λ told. e.calls told) (λ told. maybe_file _ files _ file (as_file told) (e.any_moment told)) e.cause.later e.cause.failed
+    one_failed g.F.Shelf (Seals file) _ _ (λ told. e.calls told)
+    (λ told. maybe_file _ files _ file (as_file told) (e.any_moment told)) e.cause.later e.cause.failed
     (λ told. let p = e.planned told in record { fails = p.fails; schedule = p.schedule })
-    (λ planned told. (e.leaves told planned).files ∙ ap (λ (fs : List SealedFile). if is_done (next_fate (g.F.Shelf.plan c.args.shelf.now)) then files ++ fs else files) (as_file told))
+    (λ planned told. (e.leaves told planned).files
+    ∙ ap (λ (fs : List SealedFile). if is_done (next_fate (g.F.Shelf.plan c.args.shelf.now)) then files
+    ++ fs else files) (as_file told))

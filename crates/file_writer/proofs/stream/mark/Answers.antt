@@ -20,20 +20,27 @@ returns-in_err-file-clause-takes g c = λ run behind.
     let item = mark_item c.args.closes c.args.moment in
     let settings = settings_of c.args.gateway.now in
     let reason : Option ClosureReason = c.reason_of.result in
-    let is_reason : reason ≡ mark_reason stream.cutter.limits stream.cutter.file c.args.closes c.args.moment = c.reason_of.ensures _ (ap (λ (cut : Cut). cut.before) c.mark-cut.ensures.cut) in
+    let is_reason : reason ≡ mark_reason stream.cutter.limits stream.cutter.file c.args.closes c.args.moment =
+    c.reason_of.ensures _ (ap (λ (cut : Cut). cut.before) c.mark-cut.ensures.cut) in
     let cuts : only_before reason ≡ cuts_at stream.cutter.limits run item =
     ap only_before is_reason
     ∙ ap (λ (kept : Option OpenFile). mark_cuts stream.cutter.limits kept c.args.closes c.args.moment) behind.cut
     ∙ sym (mark_cuts_is stream.cutter.limits (file_of run) c.args.closes c.args.moment)
     ∙ c.cutter_keeps_the_run.ensures.cuts stream.cutter.limits run item in
-    let closes : ClosesOpen reason stream.file.growing = mark_closes stream.cutter.limits stream.cutter.file c.args.closes c.args.moment stream.file.growing reason c.requires.safe.pairs is_reason in
-    let calls : closing settings c.args.s stream.file.sealed (stream.file.closed + 1) reason run ≡ calls_at settings c.args.s stream.file.sealed (cuts_at stream.cutter.limits run item) stream.file.closed run item =
+    let closes : ClosesOpen reason stream.file.growing =
+    mark_closes stream.cutter.limits stream.cutter.file c.args.closes c.args.moment stream.file.growing reason
+    c.requires.safe.pairs is_reason in
+    let calls : closing settings c.args.s stream.file.sealed (stream.file.closed + 1) reason run
+    ≡ calls_at settings c.args.s stream.file.sealed (cuts_at stream.cutter.limits run item) stream.file.closed run
+    item =
     mark_calls settings c.args.s stream.file.sealed stream.file.closed reason run c.args.closes c.args.moment
     ∙ ap (λ (at : Cuts). calls_at settings c.args.s stream.file.sealed at stream.file.closed run item) cuts in
     record {
-      makes = subst (λ (cs : List Call). Makes g.F.Shelf cs (ending_of c.from_residual.result) c.args.shelf.now c.close.new.shelf) calls
+      makes = subst (λ (cs : List Call). Makes g.F.Shelf cs (ending_of c.from_residual.result) c.args.shelf.now
+          c.close.new.shelf) calls
           (makes_closing g.F.Shelf settings c.args.s run stream.file reason _ _ _ behind.follows closes
-          (ended_at g.F.Shelf (closing_of settings c.args.s stream.file (g.F.Shelf.unsealed c.args.shelf.now c.args.s) reason) _ _ _ _ c.from_residual.ensures c.in_err-file.ensures.makes));
+          (ended_at g.F.Shelf (closing_of settings c.args.s stream.file (g.F.Shelf.unsealed c.args.shelf.now c.args.s)
+          reason) _ _ _ _ c.from_residual.ensures c.in_err-file.ensures.makes));
       after = no_answer _ _ _ c.from_residual.ensures;
     }
 
@@ -43,14 +50,19 @@ returns-clause-takes g c = λ run behind.
     let item = mark_item c.args.closes c.args.moment in
     let settings = settings_of c.args.gateway.now in
     let reason : Option ClosureReason = c.reason_of.result in
-    let is_reason : reason ≡ mark_reason stream.cutter.limits stream.cutter.file c.args.closes c.args.moment = c.reason_of.ensures _ (ap (λ (cut : Cut). cut.before) c.mark-cut.ensures.cut) in
+    let is_reason : reason ≡ mark_reason stream.cutter.limits stream.cutter.file c.args.closes c.args.moment =
+    c.reason_of.ensures _ (ap (λ (cut : Cut). cut.before) c.mark-cut.ensures.cut) in
     let cuts : only_before reason ≡ cuts_at stream.cutter.limits run item =
     ap only_before is_reason
     ∙ ap (λ (kept : Option OpenFile). mark_cuts stream.cutter.limits kept c.args.closes c.args.moment) behind.cut
     ∙ sym (mark_cuts_is stream.cutter.limits (file_of run) c.args.closes c.args.moment)
     ∙ c.cutter_keeps_the_run.ensures.cuts stream.cutter.limits run item in
-    let closes : ClosesOpen reason stream.file.growing = mark_closes stream.cutter.limits stream.cutter.file c.args.closes c.args.moment stream.file.growing reason c.requires.safe.pairs is_reason in
-    let calls : closing settings c.args.s stream.file.sealed (stream.file.closed + 1) reason run ≡ calls_at settings c.args.s stream.file.sealed (cuts_at stream.cutter.limits run item) stream.file.closed run item =
+    let closes : ClosesOpen reason stream.file.growing =
+    mark_closes stream.cutter.limits stream.cutter.file c.args.closes c.args.moment stream.file.growing reason
+    c.requires.safe.pairs is_reason in
+    let calls : closing settings c.args.s stream.file.sealed (stream.file.closed + 1) reason run
+    ≡ calls_at settings c.args.s stream.file.sealed (cuts_at stream.cutter.limits run item) stream.file.closed run
+    item =
     mark_calls settings c.args.s stream.file.sealed stream.file.closed reason run c.args.closes c.args.moment
     ∙ ap (λ (at : Cuts). calls_at settings c.args.s stream.file.sealed at stream.file.closed run item) cuts in
     let file = c.in_ok-file.file in
@@ -58,15 +70,19 @@ returns-clause-takes g c = λ run behind.
     mark_run reason run c.args.closes c.args.moment ∙ ap (λ (at : Cuts). run_after at run item) cuts in
     record {
       makes = subst (λ (cs : List Call). Makes g.F.Shelf cs Went c.args.shelf.now c.close.new.shelf) calls
-          (makes_closing g.F.Shelf settings c.args.s run stream.file reason _ _ _ behind.follows closes c.in_ok-file.ensures.makes);
+          (makes_closing g.F.Shelf settings c.args.s run stream.file reason _ _ _ behind.follows closes
+          c.in_ok-file.ensures.makes);
       after = record {
         behind = record {
           cut = ap (λ (kept : Cutting). kept.file) c.mark-cut.ensures.kept
-              ∙ ap (λ (kept : Option OpenFile). mark_file stream.cutter.limits kept c.args.closes c.args.moment) behind.cut
+              ∙ ap (λ (kept : Option OpenFile). mark_file stream.cutter.limits kept c.args.closes c.args.moment)
+              behind.cut
               ∙ sym (mark_file_is stream.cutter.limits (file_of run) c.args.closes c.args.moment)
               ∙ c.cutter_keeps_the_run.ensures.kept stream.cutter.limits run item;
-          follows = subst (λ (rest : List (Filed (List ℕ))). Follows g.F.Shelf c.args.s rest file c.close.new.shelf) run_is
-              (close_follows g.F.Shelf c.args.s run stream.file file reason _ _ behind.follows c.in_ok-file.ensures.closed c.in_ok-file.ensures.still);
+          follows = subst (λ (rest : List (Filed (List ℕ))). Follows g.F.Shelf c.args.s rest file c.close.new.shelf)
+              run_is
+              (close_follows g.F.Shelf c.args.s run stream.file file reason _ _ behind.follows
+              c.in_ok-file.ensures.closed c.in_ok-file.ensures.still);
         };
         closed = closed_count reason stream.file file c.in_ok-file.ensures.closed
             ∙ ap (λ (at : Cuts). closed_by at.after (closed_by at.before stream.file.closed)) cuts;
@@ -80,15 +96,21 @@ returns-clause-safe g c =
     let stream = c.args.stream in
     let file = c.in_ok-file.file in
     let reason : Option ClosureReason = c.reason_of.result in
-    let is_reason : reason ≡ mark_reason stream.cutter.limits stream.cutter.file c.args.closes c.args.moment = c.reason_of.ensures _ (ap (λ (cut : Cut). cut.before) c.mark-cut.ensures.cut) in
+    let is_reason : reason ≡ mark_reason stream.cutter.limits stream.cutter.file c.args.closes c.args.moment =
+    c.reason_of.ensures _ (ap (λ (cut : Cut). cut.before) c.mark-cut.ensures.cut) in
     record {
-      limits = subst (λ (limits : Limits). AreLimits limits) (sym (ap (λ (kept : Cutting). kept.limits) c.mark-cut.ensures.kept)) c.requires.safe.limits;
+      limits =
+          subst (λ (limits : Limits). AreLimits limits)
+          (sym (ap (λ (kept : Cutting). kept.limits) c.mark-cut.ensures.kept)) c.requires.safe.limits;
       pairs = subst (λ (kept : Option OpenFile). Pairs kept file.growing)
-          (ap (λ (r : Option ClosureReason). still r stream.cutter.file None) is_reason ∙ sym (ap (λ (kept : Cutting). kept.file) c.mark-cut.ensures.kept))
+          (ap (λ (r : Option ClosureReason). still r stream.cutter.file None) is_reason
+          ∙ sym (ap (λ (kept : Cutting). kept.file) c.mark-cut.ensures.kept))
           (pairs_closed reason stream.cutter.file stream.file file c.requires.safe.pairs c.in_ok-file.ensures.closed);
-      up = close_up g.F.Shelf (settings_of c.args.gateway.now) c.args.s stream.file file reason _ _ c.requires.safe.up c.in_ok-file.ensures.closed c.in_ok-file.ensures.still c.in_ok-file.ensures.makes;
+      up = close_up g.F.Shelf (settings_of c.args.gateway.now) c.args.s stream.file file reason _ _ c.requires.safe.up
+          c.in_ok-file.ensures.closed c.in_ok-file.ensures.still c.in_ok-file.ensures.makes;
     }
 
 pub returns-clause-others : goal.returns-clause-others
 returns-clause-others g c = λ told t other.
-    close_stays g.F.Shelf (settings_of c.args.gateway.now) c.args.s t c.args.stream.file c.reason_of.result _ _ other told (c.in_ok-file.ensures.others told t other) c.in_ok-file.ensures.makes
+    close_stays g.F.Shelf (settings_of c.args.gateway.now) c.args.s t c.args.stream.file c.reason_of.result _ _ other
+    told (c.in_ok-file.ensures.others told t other) c.in_ok-file.ensures.makes

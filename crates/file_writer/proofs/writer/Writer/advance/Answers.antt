@@ -15,11 +15,13 @@ returns-in_err-take_all-clause-moves g c = λ closed before at.
     let fault = c.in_err-take_all.field-0.0 in
     let made = goes.makes in
     record {
-      makes = ended_at g.F.Shelf (calls_of (settings_in w) closed (sealed_in w) before items) _ _ _ _ c.from_residual.ensures made;
+      makes = ended_at g.F.Shelf (calls_of (settings_in w) closed (sealed_in w) before items) _ _ _ _
+          c.from_residual.ensures made;
       at = no_result c.from_residual.result fault _ c.from_residual.ensures;
       sealed = no_result c.from_residual.result fault _ c.from_residual.ensures;
       keeps = λ told stood rest holds. record {
-        at_any_moment = begun law (settings_in w) closed (sealed_in w) stood before items rest (g.F.Shelf.files w.shelf) holds;
+        at_any_moment = begun law (settings_in w) closed (sealed_in w) stood before items rest
+            (g.F.Shelf.files w.shelf) holds;
         now = ((made.sealed told).count, (made.sealed told).files);
       };
       holds = λ told stood rest holds. no_result c.from_residual.result fault _ c.from_residual.ensures;
@@ -43,16 +45,20 @@ returns-clause-moves g c = λ closed before at.
     let calls : List Call = calls_of (settings_in w) closed (sealed_in w) before items in
     let goes = c.in_ok-take_all.ensures.takes (settings_in w) closed (sealed_in w) before refl refl at in
     let made = goes.makes in
-    let same = sealed_same g.F.Shelf (settings_in w) closed (sealed_in w) (before ++ items) c.take_all.new.streams c.take_all.new.shelf c.in_ok-take_all.ensures.sixteen goes.at in
+    let same = sealed_same g.F.Shelf (settings_in w) closed (sealed_in w) (before ++ items) c.take_all.new.streams
+    c.take_all.new.shelf c.in_ok-take_all.ensures.sixteen goes.at in
     record {
       makes = made;
-      at = at_self g.F.Shelf (settings_in w) closed (sealed_in w) (before ++ items) c.take_all.new.streams c.take_all.new.shelf c.in_ok-take_all.ensures.sixteen goes.at;
+      at = at_self g.F.Shelf (settings_in w) closed (sealed_in w) (before ++ items) c.take_all.new.streams
+          c.take_all.new.shelf c.in_ok-take_all.ensures.sixteen goes.at;
       sealed = same;
       keeps = λ told stood rest holds. record {
-        at_any_moment = begun law (settings_in w) closed (sealed_in w) stood before items rest (g.F.Shelf.files w.shelf) holds;
+        at_any_moment = begun law (settings_in w) closed (sealed_in w) stood before items rest
+            (g.F.Shelf.files w.shelf) holds;
         now = ((made.sealed told).count, (made.sealed told).files);
       };
       holds = λ told stood rest holds.
-          all_stand law (settings_in w) closed (sealed_in w) _ stood before items rest (g.F.Shelf.files w.shelf) _ holds same
+          all_stand law (settings_in w) closed (sealed_in w) _ stood before items rest (g.F.Shelf.files w.shelf) _
+          holds same
           (all_sealed g.F.Shelf calls calls _ _ made told);
     }

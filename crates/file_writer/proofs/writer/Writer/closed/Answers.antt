@@ -8,7 +8,8 @@ loop-s-preserved g c =
     let inv = c.loop-s.invariant in
     let long : length c.args.self.now.streams ≡ 16 = search rules in (
       length-set c.loop-s.closed c.loop-s.s _ ∙ inv.0,
-      one_closed c.loop-s.closed c.args.self.now.streams c.loop-s.s c.index-self-s.result (omega arith) (omega arith) inv.1,
+      one_closed c.loop-s.closed c.args.self.now.streams c.loop-s.s c.index-self-s.result (omega arith) (omega arith)
+          inv.1,
     )
 
 pub returns : goal.returns
