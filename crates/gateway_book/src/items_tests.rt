@@ -104,7 +104,7 @@ enum Told {
     Close(u64),
 }
 
-fn told(rt: &impl Abort, item: &Item) -> Told {
+fn item_told(rt: &impl Abort, item: &Item) -> Told {
     match item {
         Item::Part {
             kind,
@@ -161,7 +161,7 @@ fn ask(
     assert!(rt; end <= all.len());
     assert_eq!(rt; items.len(), end - first, "{from} {max}");
     for (k, item) in items.iter().enumerate() {
-        assert_eq!(rt; told(rt, item), all[first + k], "{from} {max} {k}");
+        assert_eq!(rt; item_told(rt, item), all[first + k], "{from} {max} {k}");
     }
     Ok(())
 }
