@@ -1,0 +1,1 @@
+-- What public clauses cite.
