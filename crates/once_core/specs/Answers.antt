@@ -82,12 +82,12 @@ abbrev pub recorded_where : Bool → ℕ → HistoryAct → Gateway → Moved
 recorded_where is_due now act g =
     if is_due then still (record g { book = recorded g.book now no_caller act }) else still g
 
-abbrev pub ticking : Rules → ℕ → Gateway → Moved
-ticking rules now g =
+abbrev pub making_tick : Rules → ℕ → Gateway → Moved
+making_tick rules now g =
     let h = history_of g.book in recorded_where (is_tick_due rules.open_time now h && rules.room h Tick) now Tick g
 
-abbrev pub closing : ℕ → Gateway → Moved
-closing now g = recorded_where (is_close_due (history_of g.book)) now Close g
+abbrev pub making_close : ℕ → Gateway → Moved
+making_close now g = recorded_where (is_close_due (history_of g.book)) now Close g
 
 abbrev pub marked : Rules → Fortune → (Gateway → Moved) → Gateway → Moved
 marked rules f mark g = followed (readying rules f g) (if_broken still mark)

@@ -1,5 +1,5 @@
 -- How a world begins, and the settings of it by default.
-use Rattle.std.specs.Prelude.{ℕ, suc, zero, List, [], ◌∷◌}
+use Rattle.std.specs.Prelude.{ℕ, suc, zero, false, List, [], ◌∷◌}
 use Rattle.gateway_book.specs.Answered.{room_for}
 use Rattle.gateway_book.specs.Value.{committed, is_batch_full, standing_for}
 use Rattle.node_core.specs.Log.{LogEntry, Began}

@@ -10,3 +10,4 @@ pub mod Beginning
 pub mod CopyKeys
 pub mod Once
 pub mod FilePlaces
+pub mod Worked

@@ -1,6 +1,6 @@
 -- Each record of each packet is filed once: no more than once over all gateways and all copies of the packet, and just
 -- once where the packet's node has resolved it. A copy that is held, or cancelled, files none.
-use Rattle.std.specs.Prelude.{◌≡◌, ◌⊎◌, ◌≤◌, ◌<◌, ℕ, ◌==◌, Bool, IsTrue, List, [], length, Option, Some, All, Contains, slice_get, sum_by}
+use Rattle.std.specs.Prelude.{◌≡◌, ◌⊎◌, ◌≤◌, ◌<◌, ℕ, true, List, [], length, Option, Some, All, Contains, slice_get, sum_by}
 use Rattle.std.specs.Option.{option_map_or}
 use Rattle.gw_base.specs.History.{state_of}
 use Rattle.gw_base.specs.declared.history.HistoryEntry.{HistoryEntry}
@@ -14,7 +14,7 @@ use Rattle.node_core.specs.Packets.{is_resolved}
 use Rattle.node_core.specs.declared.copy.PacketCopy.{PacketCopy}
 use Rattle.once_core.specs.CopyKeys.{Followed, all_followed, key_in}
 use Rattle.once_core.specs.Gateway.{Gateway}
-use Rattle.once_core.specs.World.{World}
+use Rattle.once_core.specs.World.{World, log_at}
 
 -- the firm part of the history of the gateway in this place
 abbrev pub firm_in : World → ℕ → List HistoryEntry
@@ -35,7 +35,7 @@ times_of_packet w node packet index = sum_by (times_of_copy w node packet.start 
 
 -- the node in this place followed the packet, in any of its starts
 abbrev pub IsFollowed : World → ℕ → Followed → Type 0
-IsFollowed w node packet = option_map_or (λ log. Contains (all_followed log) packet) (slice_get w.nodes node) Empty
+IsFollowed w node packet = Contains (all_followed (log_at w node)) packet
 
 -- a copy of a packet has this key at its gateway
 pub record IsKeyOf (w : World) (node : ℕ) (packet : Followed) (copy : PacketCopy) (key : PacketKey) : Type 0 where

@@ -5,11 +5,10 @@ use Rattle.gateway_book.specs.Answered.{no_caller}
 use Rattle.gateway_book.specs.Value.{Fortune, Reopening, Whole}
 use Rattle.node_core.specs.Log.{LogEntry, runs}
 use Rattle.node_core.specs.Reached.{Halt, Start}
-use Rattle.once_core.specs.Answers.{closing, delivered, marked, redirected}
-use Rattle.once_core.specs.Answers as gateway
+use Rattle.once_core.specs.Answers.{delivered, making_close, making_tick, marked, redirected}
 use Rattle.once_core.specs.Expired.{starts_in}
 use Rattle.once_core.specs.Gateway.{Gateway, Moved, Rules, committing, cut, opened, still}
-use Rattle.once_core.specs.World.{Called, World, called, delivered_to_node, submitting, ticking}
+use Rattle.once_core.specs.World.{Called, World, called, delivered_to_node, log_at, submitting, ticking}
 use Rattle.once_core.specs.declared.event.Event.{Event}
 use Rattle.once_core.specs.declared.event.Event.TheVariants as event
 use Rattle.once_core.specs.declared.event.WorldKind.{WorldKind}
@@ -42,7 +41,7 @@ abbrev pub no_node : World → ℕ → Option WorldKind
 no_node w number = refusing (is_none_of (length w.nodes) number) NoNode
 
 abbrev pub log_in : World → ℕ → List LogEntry
-log_in w number = option_map_or (λ log. log) (slice_get w.nodes (number - 1)) []
+log_in w number = log_at w (number - 1)
 
 -- the node isn't there, or is halted
 abbrev pub no_running_node : World → ℕ → Option WorldKind
@@ -115,8 +114,8 @@ turn_by rules w t (event.Start node) = at_node w (node - 1) (called (length w.ga
 turn_by rules w t (event.Redirect gateway cause to) =
     at_gateway w (gateway - 1) (redirected (gateway - 1) cause (option_map (λ number. number - 1) to))
 turn_by rules w t (event.Moment now) = record w { now = now }
-turn_by rules w t (event.Mark gateway) = at_gateway w (gateway - 1) (marked rules t.fortune (gateway.ticking rules w.now))
-turn_by rules w t (event.Close gateway) = at_gateway w (gateway - 1) (marked rules t.fortune (closing w.now))
+turn_by rules w t (event.Mark gateway) = at_gateway w (gateway - 1) (marked rules t.fortune (making_tick rules w.now))
+turn_by rules w t (event.Close gateway) = at_gateway w (gateway - 1) (marked rules t.fortune (making_close w.now))
 
 -- the world after a turn: as it was, where it doesn't allow the event
 abbrev pub unless_refused : Option WorldKind → World → World → World

@@ -1,5 +1,5 @@
 -- A world of gateways and nodes, and its nodes.
-use Rattle.std.specs.Prelude.{ℕ, true, false, not, ◌&&◌, ◌||◌, Bool, if◌then◌else◌, List, [], ◌∷◌, map, Option, Some, None, option_and_then}
+use Rattle.std.specs.Prelude.{ℕ, true, false, not, ◌&&◌, ◌||◌, Bool, if◌then◌else◌, List, [], ◌∷◌, map, Option, Some, None, option_and_then, slice_get}
 use Rattle.std.specs.Option.{option_map_or}
 use Rattle.gtpp_message.specs.Packet.{PacketForm, packet_of}
 use Rattle.gtpp_message.specs.PacketWriting.{with_record}
@@ -25,6 +25,10 @@ pub record World : Type 0 where
   pub nodes : List (List LogEntry)
   pub now : ℕ
   pub messages : List Message
+
+-- the log of the node in this place
+abbrev pub log_at : World → ℕ → List LogEntry
+log_at w place = option_map_or (λ log. log) (slice_get w.nodes place) []
 
 -- A node after it was called, and the messages that it sent.
 pub record Called : Type 0 where

@@ -9,6 +9,8 @@ mod event;
 mod message;
 #[cfg(test)]
 mod tests;
+#[cfg(test)]
+mod worked_tests;
 
 pub use event::{Event, Stepped, WorldKind};
 pub use message::{Message, Waiting};
