@@ -1,1 +1,6 @@
 -- What public clauses cite.
+pub mod Epochs
+pub mod Following
+pub mod Happenings
+pub mod OncePlaced
+pub mod Scenes

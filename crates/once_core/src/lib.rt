@@ -8,3 +8,6 @@
 //!     world.step(&Event::Tick { node: 1 });
 //!     world.step(&Event::Deliver { message: 1 });
 #![tactic(auto)]
+
+
+pub mod once_laws;
