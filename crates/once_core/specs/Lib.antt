@@ -3,4 +3,5 @@ pub mod Epochs
 pub mod Following
 pub mod Happenings
 pub mod OncePlaced
+pub mod Resting
 pub mod Scenes
