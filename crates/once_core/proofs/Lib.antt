@@ -1,1 +1,5 @@
 -- Steps of proofs.
+pub mod EachLemmas
+pub mod EpochLemmas
+pub mod FiledLemmas
+pub mod CountLemmas

@@ -1,4 +1,4 @@
--- What public clauses cite.
+-- What public clauses cite: a world of gateways and nodes with the octets of their messages.
 pub mod Addresses
 pub mod Messages
 pub mod Gateway
@@ -7,7 +7,14 @@ pub mod Answers
 pub mod World
 pub mod Turn
 pub mod Beginning
-pub mod CopyKeys
+pub mod Followed
 pub mod Once
 pub mod FilePlaces
 pub mod Worked
+-- The same by what the messages mean.
+pub mod Epochs
+pub mod Following
+pub mod Happenings
+pub mod OncePlaced
+pub mod Resting
+pub mod Scenes

@@ -7,8 +7,7 @@
 
 mod event;
 mod message;
-#[cfg(test)]
-mod tests;
+pub mod once_laws;
 #[cfg(test)]
 mod worked_tests;
 
