@@ -3,3 +3,6 @@ pub mod EachLemmas
 pub mod EpochLemmas
 pub mod FiledLemmas
 pub mod CountLemmas
+pub mod ForwardLemmas
+pub mod AnswerLemmas
+pub mod SceneLemmas
