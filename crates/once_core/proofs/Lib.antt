@@ -6,3 +6,4 @@ pub mod CountLemmas
 pub mod ForwardLemmas
 pub mod AnswerLemmas
 pub mod SceneLemmas
+pub mod MoveLemmas

@@ -38,12 +38,12 @@ in_cons x y xs is = by is.0 is.1 is.2
 pub in_none : {A : Type 0} (y : A) → Contains [] y → ⊥
 in_none y is = absurd (omega (arith, is.1))
 
-get_contains : {A : Type 0} (xs : List A) (k : ℕ) (x : A) → slice_get xs k ≡ Some x → Contains xs x
+pub get_contains : {A : Type 0} (xs : List A) (k : ℕ) (x : A) → slice_get xs k ≡ Some x → Contains xs x
 get_contains [] k x e = absurd (cc)
 get_contains (y ∷ xs) zero x e = let same : y ≡ x = cc in (0, omega arith, same)
 get_contains (y ∷ xs) (suc k) x e = in_tail y x xs (get_contains xs k x e)
 
-filtered : {A : Type 0} (p : A → Bool) (xs : List A) (x : A) → Contains (filter p xs) x → Contains xs x
+pub filtered : {A : Type 0} (p : A → Bool) (xs : List A) (x : A) → Contains (filter p xs) x → Contains xs x
 filtered p [] x is = is
 filtered {A} p (y ∷ xs) x is = by (p y) is (λ c. filtered p xs x c)
   where
@@ -51,14 +51,14 @@ filtered {A} p (y ∷ xs) x is = by (p y) is (λ c. filtered p xs x c)
     by true is rest = ⊎_elim (λ e. subst (Contains (y ∷ xs)) e (in_head y xs)) (λ c. in_tail y x xs (rest c)) (in_cons y x (filter p xs) is)
     by false is rest = in_tail y x xs (rest is)
 
-mapped : (ws : List Waiting) (l : Letter) → Contains (map (λ w. w.letter) ws) l → (w : Waiting) × Contains ws w × (w.letter ≡ l)
+pub mapped : (ws : List Waiting) (l : Letter) → Contains (map (λ w. w.letter) ws) l → (w : Waiting) × Contains ws w × (w.letter ≡ l)
 mapped [] l is = absurd (in_none l is)
 mapped (w ∷ ws) l is = ⊎_elim
     (λ e. (w, in_head w ws, e))
     (λ c. let there = mapped ws l c in (there.0, in_tail w there.0 ws there.1, there.2))
     (in_cons w.letter l (map (λ v. v.letter) ws) is)
 
-at_same : {A : Type 0} (k : ℕ) (x : A) (f : ℕ → A) → at k x f k ≡ x
+pub at_same : {A : Type 0} (k : ℕ) (x : A) (f : ℕ → A) → at k x f k ≡ x
 at_same k x f = ap (λ (b : Bool). if b then x else f k) (eq-eqb k k refl)
 
 -- ---- more messages
@@ -67,12 +67,12 @@ answer_on : (letters more : List Letter) → Grows letters more → (h : List Hi
     → IsAnswerTo letters h letter cause → IsAnswerTo more h letter cause
 answer_on letters more grows h letter cause is = record { request = is.request; asked = grows (record letter { says = Asks is.request }) is.asked; tells = is.tells }
 
-told_on : (letters more : List Letter) → Grows letters more → (h : List HistoryEntry) (letter : Letter) (says : Meaning) → IsTold letters h letter says → IsTold more h letter says
+pub told_on : (letters more : List Letter) → Grows letters more → (h : List HistoryEntry) (letter : Letter) (says : Meaning) → IsTold letters h letter says → IsTold more h letter says
 told_on letters more grows h letter (Asks request) told = tt
 told_on letters more grows h letter (Answers cause) told = λ telling. answer_on letters more grows h letter cause (told telling)
 told_on letters more grows h letter Else told = tt
 
-told_later : (letters : List Letter) (gateway : ℕ) (h g : List HistoryEntry) (letter : Letter) (says : Meaning) → Rests letters gateway (h ++ g)
+pub told_later : (letters : List Letter) (gateway : ℕ) (h g : List HistoryEntry) (letter : Letter) (says : Meaning) → Rests letters gateway (h ++ g)
     → IsTold letters h letter says → IsTold letters (h ++ g) letter says
 told_later letters gateway h g letter (Asks request) rests told = tt
 told_later letters gateway h g letter (Answers cause) rests told = λ telling.
@@ -80,11 +80,11 @@ told_later letters gateway h g letter (Answers cause) rests told = λ telling.
     record { request = is.request; asked = is.asked; tells = tells_on letters gateway h g letter is.request cause rests is.tells }
 told_later letters gateway h g letter Else rests told = tt
 
-waits_on : (letters more : List Letter) → Grows letters more → (gateway : ℕ) (h : List HistoryEntry) (letter : Letter) → Waits letters gateway h letter → Waits more gateway h letter
+pub waits_on : (letters more : List Letter) → Grows letters more → (gateway : ℕ) (h : List HistoryEntry) (letter : Letter) → Waits letters gateway h letter → Waits more gateway h letter
 waits_on letters more grows gateway h letter is =
     record { gateway_is = is.gateway_is; answers = is.answers; told = told_on letters more grows h letter letter.says is.told }
 
-post_on : (letters more : List Letter) → Grows letters more → (gateway : ℕ) (post : Post) → PostHolds letters gateway post → PostHolds more gateway post
+pub post_on : (letters more : List Letter) → Grows letters more → (gateway : ℕ) (post : Post) → PostHolds letters gateway post → PostHolds more gateway post
 post_on letters more grows gateway post holds = record {
   rests = rests_on letters more grows gateway (history post) holds.rests;
   waits = λ w kept. waits_on letters more grows gateway (history post) w.letter (holds.waits w kept);
@@ -127,7 +127,7 @@ sent_on deeds node deed letter (Asks request) is = deeds_on deeds node deed lett
 sent_on deeds node deed letter (Answers cause) is = tt
 sent_on deeds node deed letter Else is = tt
 
-sending : (scene : Scene) (letter : Letter) (is : Bool) → is_request letter.says ≡ is → SceneHolds scene → SceneHolds (after_sending is letter scene)
+pub sending : (scene : Scene) (letter : Letter) (is : Bool) → is_request letter.says ≡ is → SceneHolds scene → SceneHolds (after_sending is letter scene)
 sending scene letter false isnt holds = holds
 sending scene letter true is holds = record {
   posts = λ gateway. post_on scene.letters (scene.letters ++ letter ∷ []) (with_more scene.letters letter) gateway (scene.posts gateway) (holds.posts gateway);
@@ -156,7 +156,7 @@ sending scene letter true is holds = record {
     apart : (l : Letter) → Sent letter ≡ Heard l → ⊥
     apart l e = absurd (cc)
 
-adding : (scene : Scene) (letter : Letter) (is : Bool) → is_idle letter.says ≡ is → SceneHolds scene → SceneHolds (after_adding is letter scene)
+pub adding : (scene : Scene) (letter : Letter) (is : Bool) → is_idle letter.says ≡ is → SceneHolds scene → SceneHolds (after_adding is letter scene)
 adding scene letter false isnt holds = holds
 adding scene letter true is holds = record {
   posts = λ gateway. post_on scene.letters (scene.letters ++ letter ∷ []) (with_more scene.letters letter) gateway (scene.posts gateway) (holds.posts gateway);
@@ -175,7 +175,7 @@ adding scene letter true is holds = record {
     not_asked (Answers cause) e = tt
     not_asked Else e = tt
 
-hearing : (scene : Scene) (letter : Letter) (is : Bool) → Contains scene.letters letter → SceneHolds scene → SceneHolds (after_hearing is letter scene)
+pub hearing : (scene : Scene) (letter : Letter) (is : Bool) → Contains scene.letters letter → SceneHolds scene → SceneHolds (after_hearing is letter scene)
 hearing scene letter false kept holds = holds
 hearing scene letter true kept holds = record {
   posts = holds.posts;
