@@ -7,3 +7,5 @@ pub mod ForwardLemmas
 pub mod AnswerLemmas
 pub mod SceneLemmas
 pub mod MoveLemmas
+pub mod RoleLemmas
+pub mod KnownLemmas
