@@ -227,3 +227,66 @@ module _ (scene : Scene) (holds : SceneHolds scene) (node start : ℕ) (values :
       let telling : is_telling of.cause ≡ true = ap is_telling at.1 in
       (by_test_answer packet plain of.cause of.port at.0 is (answered plain.gateway of.port plain.number of.cause of.numbers of.heard of.named telling)).0 at.1)
       (filed_by of.port of.cause (ap (λ (b : Bool). told of.port b of.cause) (sym first) ∙ of.tells ∙ filed))
+
+  -- ---- a copy whose release is answered is released
+
+  by_release_answer : (packet : PacketState) (copy : PacketCopy) (command : Command) (cause : ℕ) (port : Port) → is_fulfilled cause ≡ true → IsCopyOf packets packet copy
+      → copy.command ≡ Some command → command.order ≡ order.Release → IsAnswered copy.gateway port command.number cause → IsState (firm copy.gateway) node start copy.number state.Released
+  by_release_answer packet copy command cause port fulfilled is e release answer = by answer.request answer.may answer.tells
+    where
+      mixed : HasCopyAt packets copy.gateway command.number → ⊥
+      mixed at =
+          not_both copy.gateway command.number packets (follows.roles copy.gateway command.number) at.packet packet at.copy copy command
+          (record { kept = at.kept; among = at.among }) is at.gateway_is at.number_is refl e refl
+
+      by_order : (which : Order) (named : ℕ) (answered_before : Bool)
+          → IsCommandSent packets copy.gateway named (record { order = which; number = command.number; is_answered = answered_before })
+          → Tells (firm copy.gateway) (letter_of copy.gateway port command.number (Answers cause)) (Orders which named) cause → IsState (firm copy.gateway) node start copy.number state.Released
+      by_order which named answered_before sent tells =
+          let other : Command = record { order = which; number = command.number; is_answered = answered_before } in
+          let same : copy ≡ sent.at.copy =
+          (same_user copy.gateway command.number packets (follows.roles copy.gateway command.number) packet sent.at.packet copy sent.at.copy is
+          (record { kept = sent.at.kept; among = sent.at.among }) (command_use copy.gateway command.number copy command refl e refl)
+          (command_use copy.gateway command.number sent.at.copy other sent.at.gateway_is sent.sent refl)).1 in
+          let both : Some command ≡ Some other = sym e ∙ ap (λ (c : PacketCopy). c.command) same ∙ sent.sent in
+          let one : command ≡ other = cc in
+          let is_release : which ≡ order.Release = sym (ap (λ (c : Command). c.order) one) ∙ release in
+          let number_is : named ≡ copy.number = sym sent.at.number_is ∙ ap (λ (c : PacketCopy). c.number) (sym same) in
+          let told : Tells (firm copy.gateway) (letter_of copy.gateway port command.number (Answers cause)) (Orders order.Release named) cause =
+          subst (λ (o : Order). Tells (firm copy.gateway) (letter_of copy.gateway port command.number (Answers cause)) (Orders o named) cause) is_release tells in
+          subst (λ (n : ℕ). IsState (firm copy.gateway) node start n state.Released) number_is (told fulfilled)
+
+      by : (request : Request) → MaySend packets values (letter_of copy.gateway port command.number (Asks request)) (Asks request)
+          → Tells (firm copy.gateway) (letter_of copy.gateway port command.number (Answers cause)) request cause → IsState (firm copy.gateway) node start copy.number state.Released
+      by (Sends true octets) may tells = absurd (mixed may.1.at)
+      by (Sends false octets) may tells = absurd (mixed may.1.at)
+      by Tests may tells = absurd (mixed may.1)
+      by (Orders which named) may tells = by_order which named may.1 may.2 tells
+
+  pub is_released_there : (packet : PacketState) (copy : PacketCopy) → IsCopyOf packets packet copy → is_released copy ≡ true → IsState (firm copy.gateway) node start copy.number state.Released
+  is_released_there packet copy is released = by copy.command refl released (rests_of packet copy is).command
+    where
+      by_command : (command : Command) → copy.command ≡ Some command → (which : Order) → command.order ≡ which → (is_release which && command.is_answered) ≡ true
+          → (command.is_answered ≡ true → IsFulfilled (heard_in start (scene.deeds node)) copy.gateway command.number) → IsState (firm copy.gateway) node start copy.number state.Released
+      by_command command e order.Release release told rests =
+          let of = rests told in
+          by_release_answer packet copy command of.cause of.port of.tells is e release
+          (answered copy.gateway of.port command.number of.cause of.numbers of.heard of.named (fulfilled_tells of.cause of.tells))
+      by_command command e order.Cancel cancel told rests = absurd (false≢true told)
+
+      by : (there : Option Command) → copy.command ≡ there
+          → (option_map_or (λ (command : Command). is_release command.order) there false && option_map_or (λ (command : Command). command.is_answered) there false) ≡ true
+          → IfSome there (λ (command : Command). command.is_answered ≡ true → IsFulfilled (heard_in start (scene.deeds node)) copy.gateway command.number)
+          → IsState (firm copy.gateway) node start copy.number state.Released
+      by None e released rests = absurd (false≢true released)
+      by (Some command) e released rests = by_command command e command.order refl released rests
+
+  -- ---- a copy that is chosen
+
+  pub choice_of : (packet : PacketState) (copy : PacketCopy) → IsCopyOf packets packet copy → is_chosen copy ≡ true → IsChoice packet.copies copy.gateway copy.number
+  choice_of packet copy is chosen =
+      All-contains (λ (c : PacketCopy). is_chosen c ≡ true → IsChoice packet.copies c.gateway c.number) packet.copies copy
+      (All-contains ReleasesChoice packets packet follows.choice is.kept) is.among chosen
+
+  pub plain_first : (packet : PacketState) → Contains packets packet → IsPlainFirst packet.copies
+  plain_first packet kept = All-contains (λ (p : PacketState). IsPlainFirst p.copies) packets packet follows.plain kept

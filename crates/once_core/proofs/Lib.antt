@@ -9,3 +9,4 @@ pub mod SceneLemmas
 pub mod MoveLemmas
 pub mod RoleLemmas
 pub mod KnownLemmas
+pub mod OnceLemmas
