@@ -1,7 +1,7 @@
 -- Each record stands once among what all gateways filed.
-use Rattle.std.proofs.Common.{◌≡◌, ◌⊎◌, inl, inr, ⊎_elim, ℕ, ◌+◌, ◌<◌, ◌≤◌, ◌==◌, ◌&&◌, ◌||◌, nat_lt, Bool, true, false, if◌then◌else◌, List, [], ◌∷◌, ◌++◌, Option, Some, None, All, Contains, sum_by, refl, sym, ap, subst, ◌∙◌, arith, eq-zero-or-pos, le_antisymm}
+use Rattle.std.proofs.Common.{◌≡◌, ◌⊎◌, inl, inr, ⊎_elim, ℕ, ◌+◌, ◌<◌, ◌≤◌, ◌==◌, ◌&&◌, ◌||◌, nat_lt, Bool, true, false, if◌then◌else◌, List, [], ◌∷◌, ◌++◌, Option, Some, None, All, Contains, sum_by, get_or, refl, sym, ap, subst, ◌∙◌, arith}
 use Rattle.std.proofs.lemmas.Bool.{eq-eqb, eqb-true, false≢true, lt-ltb}
-use Rattle.std.proofs.lemmas.List.Elements.{All-contains, All-from_recursion, All-contains_itself, All-weaker}
+use Rattle.std.proofs.lemmas.List.Elements.{Contains-get_or}
 use Rattle.std.specs.List.{list_any}
 use Rattle.std.specs.Option.{option_map_or}
 use Rattle.gateway_book.specs.Filed.{filed}
@@ -265,3 +265,85 @@ module _ (scene : Scene) (holds : SceneHolds scene) (node start : ℕ) (values :
       let has = sum_has (λ (c : PacketCopy). placed c index) packet.copies copy is.among in
       let most = at_most packet is.kept index in
       omega (arith, has, most, one)
+
+  filed_verdict : (v : Verdict) → is_filed v ≡ true → v ≡ verdict.Filed
+  filed_verdict verdict.Unknown e = absurd (false≢true e)
+  filed_verdict verdict.Filed e = refl
+  filed_verdict verdict.Sealed e = absurd (false≢true e)
+  filed_verdict verdict.Held e = absurd (false≢true e)
+
+  any_released : (copies : List PacketCopy) → list_any is_released copies ≡ true → (copy : PacketCopy) × Contains copies copy × (is_released copy ≡ true)
+  any_released [] e = absurd (false≢true e)
+  any_released (first ∷ copies) e = by (is_released first) refl e (λ f. any_released copies f)
+    where
+      by : (b : Bool) → is_released first ≡ b → (b || list_any is_released copies) ≡ true
+          → (list_any is_released copies ≡ true → (copy : PacketCopy) × Contains copies copy × (is_released copy ≡ true))
+          → (copy : PacketCopy) × Contains (first ∷ copies) copy × (is_released copy ≡ true)
+      by true is e later = (first, in_head first copies, is)
+      by false is e later = let there = later e in (there.0, in_tail first there.0 copies there.1, there.2)
+
+  resolved : (packet : PacketState) → Contains packets packet → is_resolved packet.copies ≡ true → (index : ℕ) → index < record_count (values packet.number)
+      → places_of firm_of node start packet.copies index ≡ 1
+  resolved packet kept is index inside = by packet.copies refl is
+    where
+      by_release : (copy : PacketCopy) → Contains packet.copies copy → is_released copy ≡ true → places_of firm_of node start packet.copies index ≡ 1
+      by_release copy among released =
+          let of : IsCopyOf packets packet copy = record { kept = kept; among = among } in
+          resolved_once packet copy index of
+          (placed_by_state packet copy index state.Released of (is_released_there scene holds node start values packets follows packet copy of released) (inr refl) inside)
+
+      by_plain : (plain : PacketCopy) (duplicates : List PacketCopy) → packet.copies ≡ plain ∷ duplicates → plain.verdict ≡ verdict.Filed → places_of firm_of node start packet.copies index ≡ 1
+      by_plain plain duplicates whole filed_plain =
+          let of : IsCopyOf packets packet plain = record { kept = kept; among = subst (λ cs. Contains cs plain) (sym whole) (in_head plain duplicates) } in
+          resolved_once packet plain index of
+          (placed_by_state packet plain index state.Filed of
+          (is_filed_there scene holds node start values packets follows packet plain of
+          (first_is_plain packet.copies plain duplicates whole (plain_first scene holds node start values packets follows packet kept)) filed_plain)
+          (inl refl) inside)
+
+      by_either : (plain : PacketCopy) (duplicates : List PacketCopy) → packet.copies ≡ plain ∷ duplicates → (b : Bool) → is_filed plain.verdict ≡ b
+          → (b || list_any is_released duplicates) ≡ true → places_of firm_of node start packet.copies index ≡ 1
+      by_either plain duplicates whole true filed_plain e = by_plain plain duplicates whole (filed_verdict plain.verdict filed_plain)
+      by_either plain duplicates whole false unfiled e =
+          let there = any_released duplicates e in
+          by_release there.0 (subst (λ cs. Contains cs there.0) (sym whole) (in_tail plain there.0 duplicates there.1)) there.2
+
+      by : (copies : List PacketCopy) → packet.copies ≡ copies → is_resolved copies ≡ true → places_of firm_of node start packet.copies index ≡ 1
+      by [] whole e = absurd (false≢true e)
+      by (plain ∷ duplicates) whole e = by_either plain duplicates whole (is_filed plain.verdict) refl e
+
+  -- ---- a copy that is held or cancelled
+
+  rejected : (copy : PacketCopy) → is_rejected (state_with node start copy.number (firm_of copy.gateway)) ≡ true → (index : ℕ) → placed copy index ≡ 0
+  rejected copy is index = by (epoch_with node start (firm_of copy.gateway)) refl is
+    where
+      by_state : (epoch : ℕ) (s : KeyState) → is_rejected s ≡ true
+          → Counted scene.letters copy.gateway (key_in node copy.number epoch) index (firm_of copy.gateway) s
+          → times_filed (key_in node copy.number epoch) index (filed (firm_of copy.gateway)) ≡ 0
+      by_state epoch state.Held e so_far = so_far.1
+      by_state epoch state.Cancelled e so_far = so_far
+      by_state epoch state.Fresh e so_far = absurd (false≢true e)
+      by_state epoch state.Filed e so_far = absurd (false≢true e)
+      by_state epoch state.Sealed e so_far = absurd (false≢true e)
+      by_state epoch state.Released e so_far = absurd (false≢true e)
+
+      by : (there : Option ℕ) → epoch_with node start (firm_of copy.gateway) ≡ there
+          → is_rejected (option_map_or (λ epoch. state_of (key_in node copy.number epoch) (firm_of copy.gateway)) there state.Fresh) ≡ true → placed copy index ≡ 0
+      by None none e = absurd (false≢true e)
+      by (Some epoch) begun e =
+          ap (λ (o : Option ℕ). option_map_or (λ k. times_filed (key_in node copy.number k) index (filed (firm_of copy.gateway))) o 0) begun
+          ∙ by_state epoch (state_of (key_in node copy.number epoch) (firm_of copy.gateway)) e
+          (counted scene.letters copy.gateway (key_in node copy.number epoch) index (firm_of copy.gateway) (rests copy.gateway))
+
+  pub is_once : (packet : PacketState) → Contains packets packet → IsOnce firm_of node start (values packet.number) packet
+  is_once packet kept = record {
+    resolved = resolved packet kept;
+    at_most = at_most packet kept;
+    rejected = λ k d lt. rejected (get_or packet.copies k d);
+  }
+
+pub each_is_placed_once : (happenings : List Happening) (node start : ℕ) (values : ℕ → List ℕ) (packets : List PacketState)
+    → Follows ((scene_after happenings).deeds node) start values packets
+    → All (λ packet. IsOnce (λ gateway. ((scene_after happenings).posts gateway).firm) node start (values packet.number) packet) packets
+each_is_placed_once happenings node start values packets follows =
+    λ k d lt. is_once (scene_after happenings) (holds_always happenings) node start values packets follows (get_or packets k d) (Contains-get_or packets k d lt)
