@@ -1,4 +1,17 @@
--- What public clauses cite.
+-- What public clauses cite: a world of gateways and nodes with the octets of their messages.
+pub mod Addresses
+pub mod Messages
+pub mod Gateway
+pub mod Expired
+pub mod Answers
+pub mod World
+pub mod Turn
+pub mod Beginning
+pub mod Followed
+pub mod Once
+pub mod FilePlaces
+pub mod Worked
+-- The same by what the messages mean.
 pub mod Epochs
 pub mod Following
 pub mod Happenings
