@@ -58,23 +58,23 @@ module _ (letters : List Letter) (gateway : ℕ) (key : PacketKey) where
   held_at h = option_and_then (λ e. packet_of_hold e.act) (last_naming key.node.0 key.number (epoch_entries key.node.0 key.epoch h))
 
   -- whether the entry of a node names the key
-  abbrev named : List HistoryEntry → NodeId → Bool → Bool
+  abbrev pub named : List HistoryEntry → NodeId → Bool → Bool
   named h n b = (epoch_of key.node.0 h == key.epoch) && ((n.0 == key.node.0) && b)
 
   -- what it means that it does
-  record IsHere (h : List HistoryEntry) (n : NodeId) (b : Bool) : Type 0 where
-    node : n.0 ≡ key.node.0
-    epoch : epoch_of n.0 h ≡ key.epoch
-    test : b ≡ true
+  pub record IsHere (h : List HistoryEntry) (n : NodeId) (b : Bool) : Type 0 where
+    pub node : n.0 ≡ key.node.0
+    pub epoch : epoch_of n.0 h ≡ key.epoch
+    pub test : b ≡ true
 
-  is_here : (h : List HistoryEntry) (n : NodeId) (b : Bool) → named h n b ≡ true → IsHere h n b
+  pub is_here : (h : List HistoryEntry) (n : NodeId) (b : Bool) → named h n b ≡ true → IsHere h n b
   is_here h n b e =
       let outer = and_parts (epoch_of key.node.0 h == key.epoch) ((n.0 == key.node.0) && b) e in
       let inner = and_parts (n.0 == key.node.0) b outer.1 in
       let node = eqb-true n.0 key.node.0 inner.0 in
       record { node = node; epoch = ap (λ (m : ℕ). epoch_of m h) node ∙ eqb-true (epoch_of key.node.0 h) key.epoch outer.0; test = inner.1 }
 
-  state_here : (h : List HistoryEntry) (n : NodeId) (b : Bool) → IsHere h n b → state_of key h ≡ present_state n.0 key.number h
+  pub state_here : (h : List HistoryEntry) (n : NodeId) (b : Bool) → IsHere h n b → state_of key h ≡ present_state n.0 key.number h
   state_here h n b is =
       ap (λ (k : ℕ). state_by (last_naming key.node.0 key.number (epoch_entries key.node.0 k h))) (sym is.epoch ∙ ap (λ (m : ℕ). epoch_of m h) is.node)
       ∙ present_state_is key.node key.number h ∙ ap (λ (m : ℕ). present_state m key.number h) (sym is.node)
@@ -212,7 +212,7 @@ module _ (letters : List Letter) (gateway : ℕ) (key : PacketKey) where
         (ap (λ (y : ℕ). held_packet n.0 y h) (eqb-true x key.number is.test) ∙ held_here h n (x == key.number) is ∙ held)
         ∙ times_of_packet key index (present_key h n x) moment octets (same_here h n x ∙ named)
 
-    any_one : (xs : List ℕ) (x : ℕ) → xs ≡ x ∷ [] → list_any (λ y. y == key.number) xs ≡ (x == key.number)
+    pub any_one : (xs : List ℕ) (x : ℕ) → xs ≡ x ∷ [] → list_any (λ y. y == key.number) xs ≡ (x == key.number)
     any_one xs x alone = ap (λ (ys : List ℕ). list_any (λ y. y == key.number) ys) alone ∙ or_none (x == key.number)
       where
         or_none : (b : Bool) → (b || false) ≡ b

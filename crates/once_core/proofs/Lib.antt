@@ -5,3 +5,10 @@ pub mod FiledLemmas
 pub mod CountLemmas
 pub mod GrowingLemmas
 pub mod StopLemmas
+pub mod ForwardLemmas
+pub mod AnswerLemmas
+pub mod SceneLemmas
+pub mod MoveLemmas
+pub mod RoleLemmas
+pub mod KnownLemmas
+pub mod OnceLemmas

@@ -12,7 +12,8 @@ use Rattle.node_core.specs.Copies.{is_filing, is_fulfilled}
 use Rattle.node_core.specs.declared.copy.Order.TheVariants as order
 use Rattle.node_core.specs.declared.port.Port.{Port}
 use Rattle.once_core.specs.Epochs.{EachBehind, epoch_with, key_in}
-use Rattle.once_core.specs.Happenings.{Asks, Letter, Orders, Request, Sends, Tests}
+use Rattle.once_core.specs.Happenings.{Answers, Asks, Deed, Else, Heard, Letter, Meaning, Orders, Post, Request, Scene, Sends, Sent, Tests, Waiting, history}
+use Rattle.once_core.specs.Scenes.{is_answer, is_telling}
 
 -- a request of a node in a start to a gateway is among these messages
 pub record IsAsked (letters : List Letter) (node start gateway number : ℕ) (request : Request) : Type 0 where
@@ -64,3 +65,40 @@ Tells h letter Tests cause =
     × (cause ≡ ACCEPTED → IsState h letter.node letter.start letter.number Sealed)
 Tells h letter (Orders order.Release named) cause = is_fulfilled cause ≡ true → IsState h letter.node letter.start named Released
 Tells h letter (Orders order.Cancel named) cause = Unit {0}
+
+-- the request that an answer answers, which is among the messages, and what the answer means of it
+pub record IsAnswerTo (letters : List Letter) (h : List HistoryEntry) (letter : Letter) (cause : ℕ) : Type 0 where
+  pub request : Request
+  pub asked : Contains letters (record letter { says = Asks request })
+  pub tells : Tells h letter request cause
+
+-- an answer that tells a node something of a copy means it in this history
+abbrev pub IsTold : List Letter → List HistoryEntry → Letter → Meaning → Type 0
+IsTold letters h letter (Asks request) = Unit {0}
+IsTold letters h letter (Answers cause) = is_telling cause ≡ true → IsAnswerTo letters h letter cause
+IsTold letters h letter Else = Unit {0}
+
+-- a request was sent by its node
+abbrev pub IsSent : (ℕ → List Deed) → Letter → Meaning → Type 0
+IsSent deeds letter (Asks request) = Contains (deeds letter.node) (Sent letter)
+IsSent deeds letter (Answers cause) = Unit {0}
+IsSent deeds letter Else = Unit {0}
+
+-- an answer that waits is the gateway's, and means what it says in the whole history
+pub record Waits (letters : List Letter) (gateway : ℕ) (h : List HistoryEntry) (letter : Letter) : Type 0 where
+  pub gateway_is : letter.gateway ≡ gateway
+  pub answers : is_answer letter.says ≡ true
+  pub told : IsTold letters h letter letter.says
+
+pub record PostHolds (letters : List Letter) (gateway : ℕ) (post : Post) : Type 0 where
+  pub rests : Rests letters gateway (history post)
+  pub waits : (w : Waiting) → Contains post.waiting w → Waits letters gateway (history post) w.letter
+
+-- What holds of all gateways and nodes, whatever happened: each entry keeps to the table and rests on a message; each
+-- answer that was sent means what it says in the firm part of its gateway's history, and one that waits in all of it; each
+-- request was sent by its node; and what a node heard was sent.
+pub record SceneHolds (scene : Scene) : Type 0 where
+  pub posts : (gateway : ℕ) → PostHolds scene.letters gateway (scene.posts gateway)
+  pub told : (letter : Letter) → Contains scene.letters letter → IsTold scene.letters (scene.posts letter.gateway).firm letter letter.says
+  pub sent : (letter : Letter) → Contains scene.letters letter → IsSent scene.deeds letter letter.says
+  pub heard : (node : ℕ) (letter : Letter) → Contains (scene.deeds node) (Heard letter) → (letter.node ≡ node) × Contains scene.letters letter

@@ -1,0 +1,191 @@
+-- Whatever happens next, what holds goes on.
+use Rattle.std.proofs.Common.{◌≡◌, ◌⊎◌, inl, inr, ⊎_elim, ℕ, zero, suc, ◌+◌, ◌<◌, ◌≤◌, ◌==◌, nat_le, nat_lt, not, Bool, true, false, cond, if◌then◌else◌, List, [], ◌∷◌, ◌++◌, length, length-append, map, filter, take, drop, take-append-drop, slice_get, slice_index_or, Option, Some, None, Contains, refl, sym, ap, subst, ◌∙◌, arith, append_assoc}
+use Rattle.std.proofs.lemmas.Bool.{and_parts, eqb-true, eq-eqb, false≢true, leb-true}
+use Rattle.std.proofs.lemmas.List.{append-nil}
+use Rattle.std.proofs.lemmas.List.Elements.{Contains-append_cases, Contains-append_left, Contains-push, Contains-push_cases}
+use Rattle.gw_base.specs.Starts.{start_of}
+use Rattle.gw_base.specs.declared.address.NodeId.{NodeId}
+use Rattle.gw_base.specs.declared.history.Caller.{Caller}
+use Rattle.gw_base.specs.declared.history.HistoryAct.{HistoryAct}
+use Rattle.gw_base.specs.declared.history.HistoryAct.TheVariants as act
+use Rattle.gw_base.specs.declared.history.HistoryEntry.{HistoryEntry}
+use Rattle.gateway_book.specs.Answer.{Given}
+use Rattle.gateway_book.specs.Answered.{act_given, entry_by, with_act}
+use Rattle.once_core.specs.Epochs.{EachBehind}
+use Rattle.once_core.specs.Happenings.{Adds, Answers, Asks, Closes, Comes, Deed, Else, Firms, Happening, Heard, Hears, Keeps, Letter, Meaning, Note, Notes, Opens, Post, Request, Scene, Sends, Sent, Starts, Ticks, Waiting, act_noted, cause_of, given, history, is_timely, reply}
+use Rattle.once_core.specs.Resting.{IsAnswerTo, IsSent, IsTold, PostHolds, Rests, RestsBy, SceneHolds, Tells, Waits}
+use Rattle.once_core.specs.Scenes.{Settled, after_adding, after_coming, after_hearing, after_sending, answering, at, coming, firming, happened, happened_all, is_answer, is_idle, is_request, is_telling, keeping, nothing_yet, noting, noting_if, opening, scene_after, waiting_for, with_one}
+use Rattle.once_core.proofs.AnswerLemmas.{IsSound, answer_is_sound}
+use Rattle.once_core.proofs.CountLemmas.{starts_rise}
+use Rattle.once_core.proofs.EachLemmas.{each_front, each_more}
+use Rattle.once_core.proofs.ForwardLemmas.{Grows, rests_on, tells_on}
+
+-- ---- lists
+
+pub in_head : {A : Type 0} (x : A) (xs : List A) → Contains (x ∷ xs) x
+in_head x xs = (0, omega arith, refl)
+
+pub in_tail : {A : Type 0} (x y : A) (xs : List A) → Contains xs y → Contains (x ∷ xs) y
+in_tail x y xs is = (suc is.0, omega (arith, is.1), is.2)
+
+pub in_cons : {A : Type 0} (x y : A) (xs : List A) → Contains (x ∷ xs) y → (x ≡ y) ⊎ Contains xs y
+in_cons x y xs is = by is.0 is.1 is.2
+  where
+    by : (k : ℕ) → k < length (x ∷ xs) → slice_index_or (x ∷ xs) k y ≡ y → (x ≡ y) ⊎ Contains xs y
+    by zero lt e = inl e
+    by (suc k) lt e = inr (k, omega (arith, lt), e)
+
+pub in_none : {A : Type 0} (y : A) → Contains [] y → ⊥
+in_none y is = absurd (omega (arith, is.1))
+
+pub get_contains : {A : Type 0} (xs : List A) (k : ℕ) (x : A) → slice_get xs k ≡ Some x → Contains xs x
+get_contains [] k x e = absurd (cc)
+get_contains (y ∷ xs) zero x e = let same : y ≡ x = cc in (0, omega arith, same)
+get_contains (y ∷ xs) (suc k) x e = in_tail y x xs (get_contains xs k x e)
+
+pub filtered : {A : Type 0} (p : A → Bool) (xs : List A) (x : A) → Contains (filter p xs) x → Contains xs x
+filtered p [] x is = is
+filtered {A} p (y ∷ xs) x is = by (p y) is (λ c. filtered p xs x c)
+  where
+    by : (b : Bool) → Contains (cond b (y ∷ filter p xs) (filter p xs)) x → (Contains (filter p xs) x → Contains xs x) → Contains (y ∷ xs) x
+    by true is rest = ⊎_elim (λ e. subst (Contains (y ∷ xs)) e (in_head y xs)) (λ c. in_tail y x xs (rest c)) (in_cons y x (filter p xs) is)
+    by false is rest = in_tail y x xs (rest is)
+
+pub mapped : (ws : List Waiting) (l : Letter) → Contains (map (λ w. w.letter) ws) l → (w : Waiting) × Contains ws w × (w.letter ≡ l)
+mapped [] l is = absurd (in_none l is)
+mapped (w ∷ ws) l is = ⊎_elim
+    (λ e. (w, in_head w ws, e))
+    (λ c. let there = mapped ws l c in (there.0, in_tail w there.0 ws there.1, there.2))
+    (in_cons w.letter l (map (λ v. v.letter) ws) is)
+
+pub at_same : {A : Type 0} (k : ℕ) (x : A) (f : ℕ → A) → at k x f k ≡ x
+at_same k x f = ap (λ (b : Bool). if b then x else f k) (eq-eqb k k refl)
+
+-- ---- more messages
+
+answer_on : (letters more : List Letter) → Grows letters more → (h : List HistoryEntry) (letter : Letter) (cause : ℕ)
+    → IsAnswerTo letters h letter cause → IsAnswerTo more h letter cause
+answer_on letters more grows h letter cause is = record { request = is.request; asked = grows (record letter { says = Asks is.request }) is.asked; tells = is.tells }
+
+pub told_on : (letters more : List Letter) → Grows letters more → (h : List HistoryEntry) (letter : Letter) (says : Meaning) → IsTold letters h letter says → IsTold more h letter says
+told_on letters more grows h letter (Asks request) told = tt
+told_on letters more grows h letter (Answers cause) told = λ telling. answer_on letters more grows h letter cause (told telling)
+told_on letters more grows h letter Else told = tt
+
+pub told_later : (letters : List Letter) (gateway : ℕ) (h g : List HistoryEntry) (letter : Letter) (says : Meaning) → Rests letters gateway (h ++ g)
+    → IsTold letters h letter says → IsTold letters (h ++ g) letter says
+told_later letters gateway h g letter (Asks request) rests told = tt
+told_later letters gateway h g letter (Answers cause) rests told = λ telling.
+    let is = told telling in
+    record { request = is.request; asked = is.asked; tells = tells_on letters gateway h g letter is.request cause rests is.tells }
+told_later letters gateway h g letter Else rests told = tt
+
+pub waits_on : (letters more : List Letter) → Grows letters more → (gateway : ℕ) (h : List HistoryEntry) (letter : Letter) → Waits letters gateway h letter → Waits more gateway h letter
+waits_on letters more grows gateway h letter is =
+    record { gateway_is = is.gateway_is; answers = is.answers; told = told_on letters more grows h letter letter.says is.told }
+
+pub post_on : (letters more : List Letter) → Grows letters more → (gateway : ℕ) (post : Post) → PostHolds letters gateway post → PostHolds more gateway post
+post_on letters more grows gateway post holds = record {
+  rests = rests_on letters more grows gateway (history post) holds.rests;
+  waits = λ w kept. waits_on letters more grows gateway (history post) w.letter (holds.waits w kept);
+}
+
+-- ---- messages and deeds alone
+
+with_more : (letters : List Letter) (letter : Letter) → Grows letters (letters ++ letter ∷ [])
+with_more letters letter l is = Contains-append_left letters (letter ∷ []) l is
+
+-- what is told, where a message comes to the others
+told_more : (scene : Scene) (letter : Letter) → SceneHolds scene → IsTold (scene.letters ++ letter ∷ []) (scene.posts letter.gateway).firm letter letter.says
+    → (l : Letter) → Contains (scene.letters ++ letter ∷ []) l → IsTold (scene.letters ++ letter ∷ []) (scene.posts l.gateway).firm l l.says
+told_more scene letter holds new l is = ⊎_elim
+    (λ old. told_on scene.letters (scene.letters ++ letter ∷ []) (with_more scene.letters letter) (scene.posts l.gateway).firm l l.says (holds.told l old))
+    (λ e. subst (λ (m : Letter). IsTold (scene.letters ++ letter ∷ []) (scene.posts m.gateway).firm m m.says) e new)
+    (Contains-push_cases scene.letters letter l is)
+
+-- a node's list with one deed more has those before
+deeds_on : (deeds : ℕ → List Deed) (node : ℕ) (deed : Deed) (other : ℕ) (old : Deed) → Contains (deeds other) old → Contains (at node (deeds node ++ deed ∷ []) deeds other) old
+deeds_on deeds node deed other old is = by (other == node) refl
+  where
+    by : (b : Bool) → (other == node) ≡ b → Contains (if b then deeds node ++ deed ∷ [] else deeds other) old
+    by true e = Contains-append_left (deeds node) (deed ∷ []) old (subst (λ (n : ℕ). Contains (deeds n) old) (eqb-true other node e) is)
+    by false e = is
+
+-- and no other but that one
+deeds_back : (deeds : ℕ → List Deed) (node : ℕ) (deed : Deed) (other : ℕ) (any : Deed) → Contains (at node (deeds node ++ deed ∷ []) deeds other) any
+    → Contains (deeds other) any ⊎ ((deed ≡ any) × (node ≡ other))
+deeds_back deeds node deed other any is = by (other == node) refl is
+  where
+    by : (b : Bool) → (other == node) ≡ b → Contains (if b then deeds node ++ deed ∷ [] else deeds other) any → Contains (deeds other) any ⊎ ((deed ≡ any) × (node ≡ other))
+    by true e is =
+        let same = eqb-true other node e in
+        ⊎_elim (λ old. inl (subst (λ (n : ℕ). Contains (deeds n) any) (sym same) old)) (λ new. inr (new, sym same)) (Contains-push_cases (deeds node) deed any is)
+    by false e is = inl is
+
+sent_on : (deeds : ℕ → List Deed) (node : ℕ) (deed : Deed) (letter : Letter) (says : Meaning) → IsSent deeds letter says → IsSent (at node (deeds node ++ deed ∷ []) deeds) letter says
+sent_on deeds node deed letter (Asks request) is = deeds_on deeds node deed letter.node (Sent letter) is
+sent_on deeds node deed letter (Answers cause) is = tt
+sent_on deeds node deed letter Else is = tt
+
+pub sending : (scene : Scene) (letter : Letter) (is : Bool) → is_request letter.says ≡ is → SceneHolds scene → SceneHolds (after_sending is letter scene)
+sending scene letter false isnt holds = holds
+sending scene letter true is holds = record {
+  posts = λ gateway. post_on scene.letters (scene.letters ++ letter ∷ []) (with_more scene.letters letter) gateway (scene.posts gateway) (holds.posts gateway);
+  told = told_more scene letter holds (asks_only letter.says is);
+  sent = λ l kept. ⊎_elim
+      (λ old. sent_on scene.deeds letter.node (Sent letter) l l.says (holds.sent l old))
+      (λ e. subst (λ (m : Letter). IsSent (at letter.node (scene.deeds letter.node ++ Sent letter ∷ []) scene.deeds) m m.says) e (sent_new letter.says))
+      (Contains-push_cases scene.letters letter l kept);
+  heard = λ node l kept. ⊎_elim
+      (λ old. let there = holds.heard node l old in (there.0, with_more scene.letters letter l there.1))
+      (λ new. absurd (apart l new.0))
+      (deeds_back scene.deeds letter.node (Sent letter) node (Heard l) kept);
+}
+  where
+    asks_only : (says : Meaning) → is_request says ≡ true → IsTold (scene.letters ++ letter ∷ []) (scene.posts letter.gateway).firm letter says
+    asks_only (Asks request) e = tt
+    asks_only (Answers cause) e = absurd (false≢true e)
+    asks_only Else e = tt
+
+    sent_new : (says : Meaning) → IsSent (at letter.node (scene.deeds letter.node ++ Sent letter ∷ []) scene.deeds) letter says
+    sent_new (Asks request) =
+        subst (λ ds. Contains ds (Sent letter)) (sym (at_same letter.node (scene.deeds letter.node ++ Sent letter ∷ []) scene.deeds)) (Contains-push (scene.deeds letter.node) (Sent letter))
+    sent_new (Answers cause) = tt
+    sent_new Else = tt
+
+    apart : (l : Letter) → Sent letter ≡ Heard l → ⊥
+    apart l e = absurd (cc)
+
+pub adding : (scene : Scene) (letter : Letter) (is : Bool) → is_idle letter.says ≡ is → SceneHolds scene → SceneHolds (after_adding is letter scene)
+adding scene letter false isnt holds = holds
+adding scene letter true is holds = record {
+  posts = λ gateway. post_on scene.letters (scene.letters ++ letter ∷ []) (with_more scene.letters letter) gateway (scene.posts gateway) (holds.posts gateway);
+  told = told_more scene letter holds (idle letter.says is);
+  sent = λ l kept. ⊎_elim (λ old. holds.sent l old) (λ e. subst (λ (m : Letter). IsSent scene.deeds m m.says) e (not_asked letter.says is)) (Contains-push_cases scene.letters letter l kept);
+  heard = λ node l kept. let there = holds.heard node l kept in (there.0, with_more scene.letters letter l there.1);
+}
+  where
+    idle : (says : Meaning) → is_idle says ≡ true → IsTold (scene.letters ++ letter ∷ []) (scene.posts letter.gateway).firm letter says
+    idle (Asks request) e = tt
+    idle (Answers cause) e = λ telling. absurd (false≢true (ap not (sym telling) ∙ e))
+    idle Else e = tt
+
+    not_asked : (says : Meaning) → is_idle says ≡ true → IsSent scene.deeds letter says
+    not_asked (Asks request) e = absurd (false≢true e)
+    not_asked (Answers cause) e = tt
+    not_asked Else e = tt
+
+pub hearing : (scene : Scene) (letter : Letter) (is : Bool) → Contains scene.letters letter → SceneHolds scene → SceneHolds (after_hearing is letter scene)
+hearing scene letter false kept holds = holds
+hearing scene letter true kept holds = record {
+  posts = holds.posts;
+  told = holds.told;
+  sent = λ l is. sent_on scene.deeds letter.node (Heard letter) l l.says (holds.sent l is);
+  heard = λ node l is. ⊎_elim
+      (λ old. holds.heard node l old)
+      (λ new. let same : letter ≡ l = the_letter l new.0 in (ap (λ (m : Letter). m.node) (sym same) ∙ new.1, subst (Contains scene.letters) same kept))
+      (deeds_back scene.deeds letter.node (Heard letter) node (Heard l) is);
+}
+  where
+    the_letter : (l : Letter) → Heard letter ≡ Heard l → letter ≡ l
+    the_letter l e = ap (λ (d : Deed). elim d [ Sent m ↦ letter | Heard m ↦ m ]) e
