@@ -11,6 +11,7 @@ pub mod Followed
 pub mod Once
 pub mod FilePlaces
 pub mod Growing
+pub mod Admitted
 pub mod Worked
 -- The same by what the messages mean.
 pub mod Epochs

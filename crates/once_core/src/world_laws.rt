@@ -6,6 +6,10 @@ ghost use Rattle.file_writer.specs.Streams.{Settings};
 ghost use Rattle.gateway_book.specs.Filed.{filed};
 ghost use Rattle.gateway_book.specs.Items.{items_of};
 ghost use Rattle.gateway_book.specs.Value.{BookValue, Gone, Refused, Whole, faulted, history_of, reopened, standing_for};
+ghost use Rattle.gw_base.specs.History.{state_of};
+ghost use Rattle.gw_base.specs.declared.history.PacketKey.{PacketKey};
+ghost use Rattle.once_core.specs.Admitted.{AllAdmitted, moves_on};
+ghost use Rattle.once_core.specs.Beginning.{world_of};
 ghost use Rattle.once_core.specs.Gateway.{Gateway, Rules, cut};
 ghost use Rattle.once_core.specs.Growing.{GoesOn, HoldSame};
 ghost use Rattle.once_core.specs.Once.{firm_in};
@@ -28,6 +32,18 @@ pub fn places_stay()
         place_in settings (items_of (firm_in (turns rules w later) place)) k ≡ Some at }
 {
     file_writer::places::a_place_stays();
+}
+
+/// Each entry of a firm part keeps to the table of answers: what it files, holds or seals was fresh,
+/// and what it releases or cancels was held. So the states of keys only move forward.
+pub fn histories_keep_to_the_table()
+    ensures entries { (rules : Rules) (gateways nodes : ℕ) (all : List Turn) (place : ℕ) →
+        AllAdmitted (firm_in (turns rules (world_of rules gateways nodes) all) place) }
+    ensures states { (rules : Rules) (gateways nodes : ℕ) (first later : List Turn) (place : ℕ) (key : PacketKey) →
+        moves_on (state_of key (firm_in (turns rules (world_of rules gateways nodes) first) place))
+        (state_of key (firm_in (turns rules (turns rules (world_of rules gateways nodes) first) later) place)) ≡ true }
+{
+    gateway_book::laws::what_is_prepared_is_whole();
 }
 
 /// A commit that fails, with an opening again, leaves what a stop leaves with an opening that
