@@ -50,11 +50,11 @@ module _ (letters : List Letter) (gateway : ℕ) (key : PacketKey) where
     pub begun : epoch_with key.node.0 start h ≡ Some key.epoch
     pub asked : IsAsked letters key.node.0 start gateway number request
 
-  backed_stays : (h g : List HistoryEntry) (number : ℕ) (request : Request) → IsBacked h number request → IsBacked (h ++ g) number request
+  pub backed_stays : (h g : List HistoryEntry) (number : ℕ) (request : Request) → IsBacked h number request → IsBacked (h ++ g) number request
   backed_stays h g number request is = record { start = is.start; begun = epoch_stays key.node.0 is.start key.epoch h g is.begun; asked = is.asked }
 
   -- the packet of the last entry that names the key, where this is a Hold
-  abbrev held_at : List HistoryEntry → Option (List ℕ)
+  abbrev pub held_at : List HistoryEntry → Option (List ℕ)
   held_at h = option_and_then (λ e. packet_of_hold e.act) (last_naming key.node.0 key.number (epoch_entries key.node.0 key.epoch h))
 
   -- whether the entry of a node names the key
@@ -79,7 +79,7 @@ module _ (letters : List Letter) (gateway : ℕ) (key : PacketKey) where
       ap (λ (k : ℕ). state_by (last_naming key.node.0 key.number (epoch_entries key.node.0 k h))) (sym is.epoch ∙ ap (λ (m : ℕ). epoch_of m h) is.node)
       ∙ present_state_is key.node key.number h ∙ ap (λ (m : ℕ). present_state m key.number h) (sym is.node)
 
-  held_here : (h : List HistoryEntry) (n : NodeId) (b : Bool) → IsHere h n b → held_packet n.0 key.number h ≡ held_at h
+  pub held_here : (h : List HistoryEntry) (n : NodeId) (b : Bool) → IsHere h n b → held_packet n.0 key.number h ≡ held_at h
   held_here h n b is =
       ap (λ (m : ℕ). held_packet m key.number h) is.node
       ∙ ap (λ (es : List HistoryEntry). option_and_then (λ e. packet_of_hold e.act) (last_naming key.node.0 key.number es)) (sym (present_entries_are key.node.0 h))
@@ -99,7 +99,7 @@ module _ (letters : List Letter) (gateway : ℕ) (key : PacketKey) where
   }
 
   -- the present key of the node is the key, or not
-  same_here : (h : List HistoryEntry) (n : NodeId) (x : ℕ) → same_key (present_key h n x) key ≡ named h n (x == key.number)
+  pub same_here : (h : List HistoryEntry) (n : NodeId) (x : ℕ) → same_key (present_key h n x) key ≡ named h n (x == key.number)
   same_here h n x = by_test (n.0 == key.node.0) refl
     where
       by_test : (same : Bool) → (n.0 == key.node.0) ≡ same
@@ -171,11 +171,11 @@ module _ (letters : List Letter) (gateway : ℕ) (key : PacketKey) where
         by_test false isnt = unnamed_step h e (same ∙ isnt) (elsewhere isnt) so_far
 
     -- the state of a number that is named here
-    fresh_here : (h : List HistoryEntry) (n : NodeId) (x : ℕ) (s : KeyState) → IsHere h n (x == key.number) → present_state n.0 x h ≡ s → Counted h (state_of key h) → Counted h s
+    pub fresh_here : (h : List HistoryEntry) (n : NodeId) (x : ℕ) (s : KeyState) → IsHere h n (x == key.number) → present_state n.0 x h ≡ s → Counted h (state_of key h) → Counted h s
     fresh_here h n x s is state so_far =
         subst (Counted h) (state_here h n (x == key.number) is ∙ ap (λ (y : ℕ). present_state n.0 y h) (sym (eqb-true x key.number is.test)) ∙ state) so_far
 
-    backed_at : (h : List HistoryEntry) (e : HistoryEntry) (n : NodeId) (x : ℕ) (request : Request) → StartsRise h → IsHere h n (x == key.number)
+    pub backed_at : (h : List HistoryEntry) (e : HistoryEntry) (n : NodeId) (x : ℕ) (request : Request) → StartsRise h → IsHere h n (x == key.number)
         → IsAsked letters n.0 (start_of n.0 h) gateway x request → IsBacked (h ++ e ∷ []) key.number request
     backed_at h e n x request rise is asked =
         backed_stays h (e ∷ []) key.number request

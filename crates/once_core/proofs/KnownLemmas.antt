@@ -28,7 +28,7 @@ use Rattle.once_core.specs.Happenings.{Answers, Asks, Deed, Else, Heard, Letter,
 use Rattle.once_core.specs.Resting.{IsAnswerTo, IsState, SceneHolds, Tells}
 use Rattle.once_core.specs.Scenes.{is_telling}
 use Rattle.once_core.proofs.RoleLemmas.{IsCopyOf, command_use, first_is_plain, not_both, own_use, plain_is_first, same_user}
-use Rattle.once_core.proofs.SceneLemmas.{in_cons, in_head, in_none, in_tail}
+use Rattle.once_core.proofs.ListLemmas.{in_cons, in_head, in_none, in_tail}
 
 -- ---- what was heard is a message
 

@@ -21,7 +21,8 @@ use Rattle.once_core.proofs.AnswerLemmas.{IsSound, answer_is_sound}
 use Rattle.once_core.proofs.CountLemmas.{starts_rise}
 use Rattle.once_core.proofs.EachLemmas.{each_front, each_more}
 use Rattle.once_core.proofs.ForwardLemmas.{Grows, rests_on, tells_on}
-use Rattle.once_core.proofs.SceneLemmas.{adding, at_same, filtered, get_contains, hearing, in_none, mapped, post_on, sending, told_later, told_on, waits_on}
+use Rattle.once_core.proofs.ListLemmas.{filtered, get_contains, in_none}
+use Rattle.once_core.proofs.SceneLemmas.{adding, at_same, hearing, mapped, post_on, sending, told_later, told_on, waits_on}
 
 -- ---- a gateway's move
 
@@ -321,7 +322,7 @@ holds_on scene (Keeps gateway keep) holds =
     quietly scene gateway (keeping keep (scene.posts gateway)) holds (kept_back scene.letters gateway keep (scene.posts gateway) (holds.posts gateway)) [] (sym (append-nil (scene.posts gateway).firm))
 holds_on scene (Adds letter) holds = adding scene letter (is_idle letter.says) refl holds
 
-holds_yet : SceneHolds nothing_yet
+pub holds_yet : SceneHolds nothing_yet
 holds_yet = record {
   posts = λ gateway. record { rests = tt; waits = λ w kept. absurd (in_none w kept) };
   told = λ letter kept. absurd (in_none letter kept);

@@ -7,7 +7,7 @@ use Rattle.node_core.specs.Packets.{PacketState}
 use Rattle.node_core.specs.Roles.{IsPlainFirst, use_of, uses, uses_by_command, uses_by_copies, uses_by_copy}
 use Rattle.node_core.specs.declared.copy.Command.{Command}
 use Rattle.node_core.specs.declared.copy.PacketCopy.{PacketCopy}
-use Rattle.once_core.proofs.SceneLemmas.{in_cons, in_head, in_none, in_tail}
+use Rattle.once_core.proofs.ListLemmas.{in_cons, in_head, in_none, in_tail}
 
 -- ---- how often a copy uses a number
 
