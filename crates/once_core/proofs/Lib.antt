@@ -5,6 +5,11 @@ pub mod EpochLemmas
 pub mod FiledLemmas
 pub mod CountLemmas
 pub mod ContentLemmas
+pub mod GrowingLemmas
+pub mod StopLemmas
+pub mod StateLemmas
+pub mod AdmittedLemmas
+pub mod TableLemmas
 pub mod ForwardLemmas
 pub mod AnswerLemmas
 pub mod SceneLemmas

@@ -10,6 +10,8 @@ pub mod Beginning
 pub mod Followed
 pub mod Once
 pub mod FilePlaces
+pub mod Growing
+pub mod Admitted
 pub mod Worked
 -- The same by what the messages mean.
 pub mod Epochs

@@ -19,14 +19,16 @@ octets_sent w = map (λ m. m.octets) w.messages
 abbrev pub entries : World → List (ℕ × ℕ)
 entries w = map (λ (g : Gateway). (length g.book.firm, length g.book.rest)) w.gateways
 
--- a node is alive at two gateways
-abbrev pub made_alive : List Event
-made_alive =
-    ev.Tick 1 ∷ ev.Deliver 1 ∷ ev.Deliver 2 ∷ ev.Deliver 3 ∷ ev.Deliver 4 ∷ ev.Deliver 5 ∷ ev.Deliver 6
-    ∷ ev.Commit 1 ∷ ev.Commit 2 ∷ ev.Deliver 7 ∷ ev.Deliver 8 ∷ []
+abbrev pub one_asked : World
+one_asked = after 1 1 (ev.Tick 1 ∷ ev.Deliver 1 ∷ [])
 
+-- a node is alive at its one gateway
+abbrev pub made_alive : List Event
+made_alive = ev.Tick 1 ∷ ev.Deliver 1 ∷ ev.Deliver 2 ∷ ev.Deliver 3 ∷ ev.Commit 1 ∷ ev.Deliver 4 ∷ []
+
+-- 0x0600 is release 3, version 0
 abbrev pub a_packet : List ℕ
 a_packet = 1 ∷ 1 ∷ 6 ∷ 0 ∷ 0 ∷ 5 ∷ 0xA0 ∷ 3 ∷ 0x80 ∷ 1 ∷ 5 ∷ []
 
 abbrev pub plain_copy_answered : World
-plain_copy_answered = after 2 1 (made_alive ++ ev.Submit 1 a_packet ∷ ev.Tick 1 ∷ ev.Deliver 9 ∷ ev.Commit 1 ∷ [])
+plain_copy_answered = after 1 1 (made_alive ++ ev.Submit 1 a_packet ∷ ev.Tick 1 ∷ ev.Deliver 5 ∷ ev.Commit 1 ∷ [])

@@ -8,6 +8,7 @@
 mod event;
 mod message;
 pub mod once_laws;
+pub mod world_laws;
 #[cfg(test)]
 mod worked_tests;
 
