@@ -1,6 +1,6 @@
 -- What is filed under a key is the record with its index of a packet that was sent with the key's number.
-use Rattle.std.proofs.Common.{◌≡◌, ◌⊎◌, ⊎_elim, ℕ, ◌+◌, ◌==◌, ◌&&◌, ◌||◌, Bool, true, false, List, [], ◌∷◌, ◌++◌, Option, Some, None, Contains, slice_get, refl, sym, ap, subst, ◌∙◌}
-use Rattle.std.proofs.lemmas.Bool.{and_parts, eqb-true, eq-eqb, false≢true}
+use Rattle.std.proofs.Common.{◌≡◌, ⊎_elim, ℕ, ◌==◌, Bool, true, false, List, [], ◌∷◌, ◌++◌, Option, Some, None, Contains, slice_get, refl, sym, ap, subst, ◌∙◌}
+use Rattle.std.proofs.lemmas.Bool.{eqb-true}
 use Rattle.std.proofs.lemmas.List.{append-nil}
 use Rattle.std.proofs.lemmas.List.Elements.{Contains-append_cases}
 use Rattle.std.specs.Option.{option_map_or}
@@ -13,15 +13,15 @@ use Rattle.gw_base.specs.declared.history.HistoryAct.TheVariants as act
 use Rattle.gw_base.specs.declared.history.HistoryEntry.{HistoryEntry}
 use Rattle.gw_base.specs.declared.history.PacketKey.{PacketKey}
 use Rattle.gw_base.specs.declared.key_state.KeyState.TheVariants.{Held}
-use Rattle.gateway_book.specs.Filed.{along, filed, filed_by, filed_by_act, held_packet, present_key, records_of, released_by, released_records}
+use Rattle.gateway_book.specs.Filed.{filed, filed_by, filed_by_act, held_packet, present_key, records_of, released_by, released_records}
 use Rattle.gateway_book.specs.FiledLaws.{along-append}
 use Rattle.gateway_book.specs.Once.{same_key}
 use Rattle.gateway_book.specs.declared.filing.FiledRecord.{FiledRecord}
-use Rattle.once_core.specs.Epochs.{EachBehind, StartsRise}
+use Rattle.once_core.specs.Epochs.{StartsRise}
 use Rattle.once_core.specs.Happenings.{Letter, Sends}
 use Rattle.once_core.specs.OncePlaced.{records_within}
-use Rattle.once_core.specs.Resting.{IsAsked, Rests, RestsBy}
-use Rattle.once_core.proofs.CountLemmas.{Counted, IsBacked, IsHere, backed_at, backed_stays, counted, fresh_here, held_at, held_here, is_here, named, same_here, starts_rise}
+use Rattle.once_core.specs.Resting.{Rests, RestsBy}
+use Rattle.once_core.proofs.CountLemmas.{Counted, IsBacked, IsHere, backed_at, backed_stays, counted, fresh_here, held_here, is_here, same_here, starts_rise}
 use Rattle.once_core.proofs.EachLemmas.{by_each}
 use Rattle.once_core.proofs.FiledLemmas.{record_within}
 use Rattle.once_core.proofs.ListLemmas.{in_none}

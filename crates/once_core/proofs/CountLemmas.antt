@@ -1,14 +1,13 @@
 -- What was filed under a key, by its state.
-use Rattle.std.proofs.Common.{◌≡◌, ◌⊎◌, ℕ, zero, suc, ◌+◌, ◌<◌, ◌≤◌, ◌==◌, ◌&&◌, ◌||◌, Bool, true, false, cond, if◌then◌else◌, List, [], ◌∷◌, ◌++◌, Option, Some, None, option_and_then, refl, sym, ap, subst, ◌∙◌, arith}
-use Rattle.std.proofs.lemmas.Bool.{and_parts, and_right, eqb-true, eq-eqb, false≢true}
+use Rattle.std.proofs.Common.{◌≡◌, ℕ, zero, suc, ◌+◌, ◌==◌, ◌&&◌, ◌||◌, Bool, true, false, if◌then◌else◌, List, [], ◌∷◌, ◌++◌, Option, Some, None, option_and_then, refl, sym, ap, subst, ◌∙◌, arith}
+use Rattle.std.proofs.lemmas.Bool.{and_parts, and_right, eqb-true}
 use Rattle.std.proofs.lemmas.List.{append-nil}
 use Rattle.std.specs.List.{list_any}
 use Rattle.std.specs.Option.{option_map_or}
 use Rattle.gw_base.specs.EntryLaws.{key_naming-append, present_entries_are, present_state_is, state_of-append}
-use Rattle.gw_base.specs.History.{begins_epoch, epoch_entries, epoch_of, given_state, last_naming, names, present_entries, present_state, state_by, state_of}
+use Rattle.gw_base.specs.History.{epoch_entries, epoch_of, given_state, last_naming, names, present_state, state_by, state_of}
 use Rattle.gw_base.specs.Lists.{once}
 use Rattle.gw_base.specs.Starts.{start_of}
-use Rattle.gw_base.specs.View.{state_after}
 use Rattle.gw_base.specs.declared.address.NodeId.{NodeId}
 use Rattle.gw_base.specs.declared.history.Caller.{Caller}
 use Rattle.gw_base.specs.declared.history.HistoryAct.{HistoryAct}
@@ -18,12 +17,12 @@ use Rattle.gw_base.specs.declared.history.PacketKey.{PacketKey}
 use Rattle.gw_base.specs.declared.key_state.KeyState.{KeyState}
 use Rattle.gw_base.specs.declared.key_state.KeyState.TheVariants.{Fresh, Filed, Sealed, Held, Released, Cancelled}
 use Rattle.node_core.specs.declared.copy.Order.TheVariants as order
-use Rattle.gateway_book.specs.Filed.{along, filed, filed_by, filed_by_act, held_packet, packet_of_hold, present_key, records_of, released_by, released_records}
+use Rattle.gateway_book.specs.Filed.{filed, filed_by, filed_by_act, held_packet, packet_of_hold, present_key, records_of, released_by, released_records}
 use Rattle.gateway_book.specs.FiledLaws.{along-append}
 use Rattle.gateway_book.specs.Once.{same_key, times_filed}
-use Rattle.once_core.specs.Epochs.{EachBehind, RisesBy, StartsRise, epoch_with, key_in}
+use Rattle.once_core.specs.Epochs.{RisesBy, StartsRise, epoch_with}
 use Rattle.once_core.specs.Happenings.{Letter, Orders, Request, Sends}
-use Rattle.once_core.specs.Resting.{IsAsked, IsReleased, NamesHeld, Rests, RestsBy}
+use Rattle.once_core.specs.Resting.{IsAsked, Rests, RestsBy}
 use Rattle.once_core.proofs.EachLemmas.{by_each, each_also}
 use Rattle.once_core.proofs.EpochLemmas.{epoch_stays, present_epoch}
 use Rattle.once_core.proofs.FiledLemmas.{none_of_packet, times-append, times_of_packet, within}
@@ -231,8 +230,8 @@ module _ (letters : List Letter) (gateway : ℕ) (key : PacketKey) where
         (λ named is. (
           packet,
           grown h e ∙ (let before : times h ≡ 0 = fresh_here h n x Fresh is rests.0 so_far in
-          let more = times_of_packet key index (present_key h n x) moment packet (same_here h n x ∙ named) in
-          omega (arith, before, more)),
+              let more = times_of_packet key index (present_key h n x) moment packet (same_here h n x ∙ named) in
+              omega (arith, before, more)),
           backed_at h e n x (Sends true packet) rise is rests.1,
         ))
         (λ isnt. none_of_packet key index (present_key h n x) moment packet (same_here h n x ∙ isnt))
@@ -268,15 +267,14 @@ module _ (letters : List Letter) (gateway : ℕ) (key : PacketKey) where
         (λ named is.
         let held = fresh_here h n x Held is rests.names.held so_far in
         let before : times h ≡ 0 = held.1 in
-        let more = one_released h moment n xs x rests.names.alone ∙ released_this h moment n x held.0 named is held.2 in
-        (
+        let more = one_released h moment n xs x rests.names.alone ∙ released_this h moment n x held.0 named is held.2 in (
           held.0,
           grown h e ∙ omega (arith, before, more),
           backed_stays h (e ∷ []) key.number (Sends false held.0) held.3,
           rests.own,
           backed_stays h (e ∷ []) rests.own (Orders order.Release key.number)
-          (backed_here h n (x == key.number) rests.own (Orders order.Release key.number) rise is
-          (subst (λ (y : ℕ). IsAsked letters n.0 (start_of n.0 h) gateway rests.own (Orders order.Release y)) (eqb-true x key.number is.test) rests.asked)),
+              (backed_here h n (x == key.number) rests.own (Orders order.Release key.number) rise is
+              (subst (λ (y : ℕ). IsAsked letters n.0 (start_of n.0 h) gateway rests.own (Orders order.Release y)) (eqb-true x key.number is.test) rests.asked)),
         ))
         (λ isnt. one_released h moment n xs x rests.names.alone ∙ released_other h moment n x isnt)
         so_far

@@ -1,6 +1,6 @@
 -- Each record stands once among what all gateways filed.
-use Rattle.std.proofs.Common.{◌≡◌, ◌⊎◌, inl, inr, ⊎_elim, ℕ, ◌+◌, ◌<◌, ◌≤◌, ◌==◌, ◌&&◌, ◌||◌, nat_lt, Bool, true, false, if◌then◌else◌, List, [], ◌∷◌, ◌++◌, Option, Some, None, All, Contains, sum_by, get_or, slice_get, refl, sym, ap, subst, ◌∙◌, arith}
-use Rattle.std.proofs.lemmas.Bool.{eq-eqb, eqb-true, false≢true, lt-ltb}
+use Rattle.std.proofs.Common.{◌≡◌, ◌⊎◌, inl, inr, ⊎_elim, ℕ, ◌<◌, ◌≤◌, ◌||◌, nat_lt, Bool, true, false, List, [], ◌∷◌, Option, Some, None, All, Contains, get_or, slice_get, refl, sym, ap, subst, ◌∙◌, arith}
+use Rattle.std.proofs.lemmas.Bool.{false≢true, lt-ltb}
 use Rattle.std.proofs.lemmas.List.Elements.{Contains-get_or}
 use Rattle.std.specs.List.{list_any}
 use Rattle.std.specs.Option.{option_map_or}
@@ -13,15 +13,14 @@ use Rattle.gw_base.specs.declared.key_state.KeyState.TheVariants as state
 use Rattle.node_core.specs.Choosing.{IsChoice}
 use Rattle.node_core.specs.Copies.{is_chosen, is_filed, is_release, is_released}
 use Rattle.node_core.specs.Packets.{PacketState, chosen, is_resolved}
-use Rattle.node_core.specs.Roles.{IsPlainFirst}
 use Rattle.node_core.specs.declared.copy.Command.{Command}
 use Rattle.node_core.specs.declared.copy.Order.TheVariants as order
 use Rattle.node_core.specs.declared.copy.PacketCopy.{PacketCopy}
 use Rattle.node_core.specs.declared.copy.Verdict.{Verdict}
 use Rattle.node_core.specs.declared.copy.Verdict.TheVariants as verdict
 use Rattle.once_core.specs.Epochs.{epoch_with, key_in, state_with, times_with}
-use Rattle.once_core.specs.Following.{Follows, HasCopyAt, IsCommandSent, IsCopySent, MaySend}
-use Rattle.once_core.specs.Happenings.{Asks, Happening, Letter, Orders, Request, Scene, Sends, history}
+use Rattle.once_core.specs.Following.{Follows, HasCopyAt, MaySend}
+use Rattle.once_core.specs.Happenings.{Asks, Happening, Orders, Request, Scene, Sends}
 use Rattle.once_core.specs.OncePlaced.{IsFiledUnder, IsOnce, is_rejected, places_of, record_count, records_within}
 use Rattle.gateway_book.specs.declared.filing.FiledRecord.{FiledRecord}
 use Rattle.once_core.proofs.ContentLemmas.{brought}
@@ -31,10 +30,10 @@ use Rattle.once_core.proofs.CountLemmas.{Counted, IsBacked, counted}
 use Rattle.once_core.proofs.EachLemmas.{each_front}
 use Rattle.once_core.proofs.EpochLemmas.{start_is_one}
 use Rattle.once_core.proofs.FiledLemmas.{one_if, within}
-use Rattle.once_core.proofs.KnownLemmas.{choice_of, firm, is_filed_there, is_released_there, is_sealed, may_send, plain_first, the_copy}
+use Rattle.once_core.proofs.KnownLemmas.{choice_of, is_filed_there, is_released_there, is_sealed, may_send, plain_first, the_copy}
 use Rattle.once_core.proofs.MoveLemmas.{holds_always}
 use Rattle.once_core.proofs.RoleLemmas.{IsCopyOf, copies_once, first_is_plain, own_use, plain_is_first, same_user, sum_has, sum_one}
-use Rattle.once_core.proofs.ListLemmas.{in_cons, in_head, in_none, in_tail}
+use Rattle.once_core.proofs.ListLemmas.{in_head, in_none, in_tail}
 
 -- a number has one state
 state_is_one : (h : List HistoryEntry) (node start number : ℕ) (a b : KeyState) → IsState h node start number a → IsState h node start number b → a ≡ b

@@ -41,9 +41,12 @@ pub record IsFiledUnder (h : List HistoryEntry) (node start number : ℕ) (filin
 -- Each record of a packet that is resolved was filed once; each record of any packet at most once; none of a copy that is
 -- held or cancelled; and what was filed for a copy is the packet's record with that index.
 pub record IsOnce (histories : ℕ → List HistoryEntry) (node start : ℕ) (octets : List ℕ) (packet : PacketState) : Type 0 where
-  pub resolved : is_resolved packet.copies ≡ true → (index : ℕ) → index < record_count octets → places_of histories node start packet.copies index ≡ 1
+  pub resolved : is_resolved packet.copies ≡ true → (index : ℕ) → index < record_count octets →
+      places_of histories node start packet.copies index ≡ 1
   pub at_most : (index : ℕ) → places_of histories node start packet.copies index ≤ 1
-  pub rejected : All (λ (copy : PacketCopy). is_rejected (state_with node start copy.number (histories copy.gateway)) ≡ true
-      → (index : ℕ) → times_with node start copy.number index (histories copy.gateway) ≡ 0) packet.copies
-  pub content : All (λ (copy : PacketCopy). (filing : FiledRecord) → IsFiledUnder (histories copy.gateway) node start copy.number filing
-      → slice_get (records_within octets) filing.index ≡ Some filing.octets) packet.copies
+  pub rejected : All (λ (copy : PacketCopy).
+      is_rejected (state_with node start copy.number (histories copy.gateway)) ≡ true → (index : ℕ) →
+      times_with node start copy.number index (histories copy.gateway) ≡ 0) packet.copies
+  pub content : All (λ (copy : PacketCopy). (filing : FiledRecord) →
+      IsFiledUnder (histories copy.gateway) node start copy.number filing →
+      slice_get (records_within octets) filing.index ≡ Some filing.octets) packet.copies

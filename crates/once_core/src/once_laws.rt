@@ -19,7 +19,8 @@ ghost use Rattle.once_core.specs.Scenes.{happened, nothing_yet, scene_after};
 pub fn each_record_is_placed_once()
     ensures { (happenings : List Happening) (node start : ℕ) (values : ℕ → List ℕ) (packets : List PacketState) →
         Follows ((scene_after happenings).deeds node) start values packets →
-        All (λ packet. IsOnce (λ gateway. ((scene_after happenings).posts gateway).firm) node start (values packet.number) packet)
+        All (λ packet.
+        IsOnce (λ gateway. ((scene_after happenings).posts gateway).firm) node start (values packet.number) packet)
         packets }
 {}
 
