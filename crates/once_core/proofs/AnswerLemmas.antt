@@ -1,11 +1,10 @@
 -- What a gateway records for a timely request rests on it, and its answer tells the state.
-use Rattle.std.proofs.Common.{◌≡◌, ℕ, ◌+◌, ◌%◌, ◌==◌, ◌&&◌, ◌||◌, Bool, true, false, cond, if◌then◌else◌, List, [], ◌∷◌, ◌++◌, map, Option, Some, None, Contains, refl, sym, ap, subst, ◌∙◌}
+use Rattle.std.proofs.Common.{◌≡◌, ℕ, ◌%◌, ◌==◌, ◌&&◌, ◌||◌, Bool, true, false, cond, if◌then◌else◌, List, [], ◌∷◌, ◌++◌, Option, Some, None, Contains, refl, sym, ap, subst, ◌∙◌}
 use Rattle.std.proofs.lemmas.Bool.{and_parts, and_from, or_left, eqb-true, eq-eqb, false≢true}
-use Rattle.std.specs.Option.{option_map}
 use Rattle.gw_base.specs.History.{names, present_state, top_of}
 use Rattle.gw_base.specs.Lists.{once}
 use Rattle.gw_base.specs.Nearest.{nearest}
-use Rattle.gw_base.specs.Observed.{Observed, observed}
+use Rattle.gw_base.specs.Observed.{observed}
 use Rattle.gw_base.specs.Starts.{start_of}
 use Rattle.gw_base.specs.declared.address.NodeId.{NodeId}
 use Rattle.gw_base.specs.declared.cause.TheConstants.{ACCEPTED, ALREADY_FULFILLED, DUPLICATE_ALREADY_FULFILLED, NO_RESOURCES, NOT_FULFILLED, NUMBERS_INCORRECT}
@@ -22,8 +21,8 @@ use Rattle.transfer_cmd.specs.Lists.{is_held, verdict_cause, verdict_of}
 use Rattle.transfer_cmd.specs.Table.{answer_cause, state_given}
 use Rattle.transfer_cmd.specs.declared.decision.Ask.TheVariants as ask
 use Rattle.once_core.specs.Epochs.{StartsRise}
-use Rattle.once_core.specs.Happenings.{Asks, Letter, Orders, Request, Sends, Tests, about, answer_of, cause_of, given, is_timely, node_at}
-use Rattle.once_core.specs.Resting.{IsAsked, IsReleased, IsState, NamesHeld, RestsBy, Tells}
+use Rattle.once_core.specs.Happenings.{Asks, Letter, Orders, Request, Sends, Tests, about, cause_of, given, is_timely, node_at}
+use Rattle.once_core.specs.Resting.{IsAsked, IsState, RestsBy, Tells}
 use Rattle.once_core.proofs.ForwardLemmas.{state_given_now, state_now}
 
 -- what an answer records rests on the request, and what it says tells the state behind it
@@ -84,7 +83,7 @@ module _ (letters : List Letter) (h : List HistoryEntry) (letter : Letter) (rise
   module _ (room : HistoryAct → Bool) (number : ℕ) (kept : Contains letters letter) where
     send_table : (packet : List ℕ) (s : KeyState) → present_state letter.node letter.number h ≡ s → letter.says ≡ Asks (Sends true packet)
         → IsSound letters h letter (Sends true packet)
-          (tabled (observed h node) room number (answer_cause ask.Send s) (recorded_as ask.Send node letter.number packet (state_given ask.Send s)))
+        (tabled (observed h node) room number (answer_cause ask.Send s) (recorded_as ask.Send node letter.number packet (state_given ask.Send s)))
     send_table packet Fresh is says =
         recorded room (Sends true packet) number (act.File node letter.number packet) (is, asked (Sends true packet) kept says)
         (λ now who filing. let e = entry_by h now who (act.File node letter.number packet) in
@@ -98,7 +97,7 @@ module _ (letters : List Letter) (h : List HistoryEntry) (letter : Letter) (rise
 
     possible_table : (packet : List ℕ) (s : KeyState) → present_state letter.node letter.number h ≡ s → letter.says ≡ Asks (Sends false packet)
         → IsSound letters h letter (Sends false packet)
-          (tabled (observed h node) room number (answer_cause ask.Possible s) (recorded_as ask.Possible node letter.number packet (state_given ask.Possible s)))
+        (tabled (observed h node) room number (answer_cause ask.Possible s) (recorded_as ask.Possible node letter.number packet (state_given ask.Possible s)))
     possible_table packet Fresh is says =
         recorded room (Sends false packet) number (act.Hold node letter.number packet) (is, asked (Sends false packet) kept says) (λ now who. tt) tt
     possible_table packet Filed is says = silent (Sends false packet) number ALREADY_FULFILLED tt
@@ -141,7 +140,7 @@ module _ (letters : List Letter) (h : List HistoryEntry) (letter : Letter) (rise
 
     release_table : (named : ℕ) (s : KeyState) → present_state letter.node named h ≡ s → letter.says ≡ Asks (Orders order.Release named)
         → IsSound letters h letter (Orders order.Release named)
-          (tabled (observed h node) room number (verdict_cause (verdict_of true (s ∷ []))) (changes (verdict_of true (s ∷ [])) true node (one_held s named)))
+        (tabled (observed h node) room number (verdict_cause (verdict_of true (s ∷ []))) (changes (verdict_of true (s ∷ [])) true node (one_held s named)))
     release_table named Held is says =
         recorded room (Orders order.Release named) number (act.Release node (named ∷ []))
         (record {
@@ -160,7 +159,7 @@ module _ (letters : List Letter) (h : List HistoryEntry) (letter : Letter) (rise
 
     cancel_table : (named : ℕ) (s : KeyState) → present_state letter.node named h ≡ s
         → IsSound letters h letter (Orders order.Cancel named)
-          (tabled (observed h node) room number (verdict_cause (verdict_of false (s ∷ []))) (changes (verdict_of false (s ∷ [])) false node (one_held s named)))
+        (tabled (observed h node) room number (verdict_cause (verdict_of false (s ∷ []))) (changes (verdict_of false (s ∷ [])) false node (one_held s named)))
     cancel_table named Held is =
         recorded room (Orders order.Cancel named) number (act.Cancel node (named ∷ [])) (record { number = named; alone = refl; held = is }) (λ now who. tt) tt
     cancel_table named Released is = silent (Orders order.Cancel named) number NUMBERS_INCORRECT tt

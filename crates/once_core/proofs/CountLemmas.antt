@@ -1,14 +1,13 @@
 -- What was filed under a key, by its state.
-use Rattle.std.proofs.Common.{◌≡◌, ◌⊎◌, ℕ, zero, suc, ◌+◌, ◌<◌, ◌≤◌, ◌==◌, ◌&&◌, ◌||◌, Bool, true, false, cond, if◌then◌else◌, List, [], ◌∷◌, ◌++◌, Option, Some, None, option_and_then, refl, sym, ap, subst, ◌∙◌, arith}
-use Rattle.std.proofs.lemmas.Bool.{and_parts, and_right, eqb-true, eq-eqb, false≢true}
+use Rattle.std.proofs.Common.{◌≡◌, ℕ, zero, suc, ◌+◌, ◌==◌, ◌&&◌, ◌||◌, Bool, true, false, if◌then◌else◌, List, [], ◌∷◌, ◌++◌, Option, Some, None, option_and_then, refl, sym, ap, subst, ◌∙◌, arith}
+use Rattle.std.proofs.lemmas.Bool.{and_parts, and_right, eqb-true}
 use Rattle.std.proofs.lemmas.List.{append-nil}
 use Rattle.std.specs.List.{list_any}
 use Rattle.std.specs.Option.{option_map_or}
 use Rattle.gw_base.specs.EntryLaws.{key_naming-append, present_entries_are, present_state_is, state_of-append}
-use Rattle.gw_base.specs.History.{begins_epoch, epoch_entries, epoch_of, given_state, last_naming, names, present_entries, present_state, state_by, state_of}
+use Rattle.gw_base.specs.History.{epoch_entries, epoch_of, given_state, last_naming, names, present_state, state_by, state_of}
 use Rattle.gw_base.specs.Lists.{once}
 use Rattle.gw_base.specs.Starts.{start_of}
-use Rattle.gw_base.specs.View.{state_after}
 use Rattle.gw_base.specs.declared.address.NodeId.{NodeId}
 use Rattle.gw_base.specs.declared.history.Caller.{Caller}
 use Rattle.gw_base.specs.declared.history.HistoryAct.{HistoryAct}
@@ -18,12 +17,12 @@ use Rattle.gw_base.specs.declared.history.PacketKey.{PacketKey}
 use Rattle.gw_base.specs.declared.key_state.KeyState.{KeyState}
 use Rattle.gw_base.specs.declared.key_state.KeyState.TheVariants.{Fresh, Filed, Sealed, Held, Released, Cancelled}
 use Rattle.node_core.specs.declared.copy.Order.TheVariants as order
-use Rattle.gateway_book.specs.Filed.{along, filed, filed_by, filed_by_act, held_packet, packet_of_hold, present_key, records_of, released_by, released_records}
+use Rattle.gateway_book.specs.Filed.{filed, filed_by, filed_by_act, held_packet, packet_of_hold, present_key, records_of, released_by, released_records}
 use Rattle.gateway_book.specs.FiledLaws.{along-append}
 use Rattle.gateway_book.specs.Once.{same_key, times_filed}
-use Rattle.once_core.specs.Epochs.{EachBehind, RisesBy, StartsRise, epoch_with, key_in}
+use Rattle.once_core.specs.Epochs.{RisesBy, StartsRise, epoch_with}
 use Rattle.once_core.specs.Happenings.{Letter, Orders, Request, Sends}
-use Rattle.once_core.specs.Resting.{IsAsked, IsReleased, NamesHeld, Rests, RestsBy}
+use Rattle.once_core.specs.Resting.{IsAsked, Rests, RestsBy}
 use Rattle.once_core.proofs.EachLemmas.{by_each, each_also}
 use Rattle.once_core.proofs.EpochLemmas.{epoch_stays, present_epoch}
 use Rattle.once_core.proofs.FiledLemmas.{none_of_packet, times-append, times_of_packet, within}
@@ -50,11 +49,11 @@ module _ (letters : List Letter) (gateway : ℕ) (key : PacketKey) where
     pub begun : epoch_with key.node.0 start h ≡ Some key.epoch
     pub asked : IsAsked letters key.node.0 start gateway number request
 
-  backed_stays : (h g : List HistoryEntry) (number : ℕ) (request : Request) → IsBacked h number request → IsBacked (h ++ g) number request
+  pub backed_stays : (h g : List HistoryEntry) (number : ℕ) (request : Request) → IsBacked h number request → IsBacked (h ++ g) number request
   backed_stays h g number request is = record { start = is.start; begun = epoch_stays key.node.0 is.start key.epoch h g is.begun; asked = is.asked }
 
   -- the packet of the last entry that names the key, where this is a Hold
-  abbrev held_at : List HistoryEntry → Option (List ℕ)
+  abbrev pub held_at : List HistoryEntry → Option (List ℕ)
   held_at h = option_and_then (λ e. packet_of_hold e.act) (last_naming key.node.0 key.number (epoch_entries key.node.0 key.epoch h))
 
   -- whether the entry of a node names the key
@@ -79,7 +78,7 @@ module _ (letters : List Letter) (gateway : ℕ) (key : PacketKey) where
       ap (λ (k : ℕ). state_by (last_naming key.node.0 key.number (epoch_entries key.node.0 k h))) (sym is.epoch ∙ ap (λ (m : ℕ). epoch_of m h) is.node)
       ∙ present_state_is key.node key.number h ∙ ap (λ (m : ℕ). present_state m key.number h) (sym is.node)
 
-  held_here : (h : List HistoryEntry) (n : NodeId) (b : Bool) → IsHere h n b → held_packet n.0 key.number h ≡ held_at h
+  pub held_here : (h : List HistoryEntry) (n : NodeId) (b : Bool) → IsHere h n b → held_packet n.0 key.number h ≡ held_at h
   held_here h n b is =
       ap (λ (m : ℕ). held_packet m key.number h) is.node
       ∙ ap (λ (es : List HistoryEntry). option_and_then (λ e. packet_of_hold e.act) (last_naming key.node.0 key.number es)) (sym (present_entries_are key.node.0 h))
@@ -99,7 +98,7 @@ module _ (letters : List Letter) (gateway : ℕ) (key : PacketKey) where
   }
 
   -- the present key of the node is the key, or not
-  same_here : (h : List HistoryEntry) (n : NodeId) (x : ℕ) → same_key (present_key h n x) key ≡ named h n (x == key.number)
+  pub same_here : (h : List HistoryEntry) (n : NodeId) (x : ℕ) → same_key (present_key h n x) key ≡ named h n (x == key.number)
   same_here h n x = by_test (n.0 == key.node.0) refl
     where
       by_test : (same : Bool) → (n.0 == key.node.0) ≡ same
@@ -171,11 +170,11 @@ module _ (letters : List Letter) (gateway : ℕ) (key : PacketKey) where
         by_test false isnt = unnamed_step h e (same ∙ isnt) (elsewhere isnt) so_far
 
     -- the state of a number that is named here
-    fresh_here : (h : List HistoryEntry) (n : NodeId) (x : ℕ) (s : KeyState) → IsHere h n (x == key.number) → present_state n.0 x h ≡ s → Counted h (state_of key h) → Counted h s
+    pub fresh_here : (h : List HistoryEntry) (n : NodeId) (x : ℕ) (s : KeyState) → IsHere h n (x == key.number) → present_state n.0 x h ≡ s → Counted h (state_of key h) → Counted h s
     fresh_here h n x s is state so_far =
         subst (Counted h) (state_here h n (x == key.number) is ∙ ap (λ (y : ℕ). present_state n.0 y h) (sym (eqb-true x key.number is.test)) ∙ state) so_far
 
-    backed_at : (h : List HistoryEntry) (e : HistoryEntry) (n : NodeId) (x : ℕ) (request : Request) → StartsRise h → IsHere h n (x == key.number)
+    pub backed_at : (h : List HistoryEntry) (e : HistoryEntry) (n : NodeId) (x : ℕ) (request : Request) → StartsRise h → IsHere h n (x == key.number)
         → IsAsked letters n.0 (start_of n.0 h) gateway x request → IsBacked (h ++ e ∷ []) key.number request
     backed_at h e n x request rise is asked =
         backed_stays h (e ∷ []) key.number request
@@ -231,8 +230,8 @@ module _ (letters : List Letter) (gateway : ℕ) (key : PacketKey) where
         (λ named is. (
           packet,
           grown h e ∙ (let before : times h ≡ 0 = fresh_here h n x Fresh is rests.0 so_far in
-          let more = times_of_packet key index (present_key h n x) moment packet (same_here h n x ∙ named) in
-          omega (arith, before, more)),
+              let more = times_of_packet key index (present_key h n x) moment packet (same_here h n x ∙ named) in
+              omega (arith, before, more)),
           backed_at h e n x (Sends true packet) rise is rests.1,
         ))
         (λ isnt. none_of_packet key index (present_key h n x) moment packet (same_here h n x ∙ isnt))
@@ -268,15 +267,14 @@ module _ (letters : List Letter) (gateway : ℕ) (key : PacketKey) where
         (λ named is.
         let held = fresh_here h n x Held is rests.names.held so_far in
         let before : times h ≡ 0 = held.1 in
-        let more = one_released h moment n xs x rests.names.alone ∙ released_this h moment n x held.0 named is held.2 in
-        (
+        let more = one_released h moment n xs x rests.names.alone ∙ released_this h moment n x held.0 named is held.2 in (
           held.0,
           grown h e ∙ omega (arith, before, more),
           backed_stays h (e ∷ []) key.number (Sends false held.0) held.3,
           rests.own,
           backed_stays h (e ∷ []) rests.own (Orders order.Release key.number)
-          (backed_here h n (x == key.number) rests.own (Orders order.Release key.number) rise is
-          (subst (λ (y : ℕ). IsAsked letters n.0 (start_of n.0 h) gateway rests.own (Orders order.Release y)) (eqb-true x key.number is.test) rests.asked)),
+              (backed_here h n (x == key.number) rests.own (Orders order.Release key.number) rise is
+              (subst (λ (y : ℕ). IsAsked letters n.0 (start_of n.0 h) gateway rests.own (Orders order.Release y)) (eqb-true x key.number is.test) rests.asked)),
         ))
         (λ isnt. one_released h moment n xs x rests.names.alone ∙ released_other h moment n x isnt)
         so_far

@@ -1,5 +1,5 @@
 -- What holds of each entry of a history behind those before it.
-use Rattle.std.proofs.Common.{◌≡◌, List, [], ◌∷◌, ◌++◌, sym, subst, append_assoc}
+use Rattle.std.proofs.Common.{List, [], ◌∷◌, ◌++◌, sym, subst, append_assoc}
 use Rattle.std.proofs.lemmas.List.{append-nil}
 use Rattle.gw_base.specs.ListLaws.{by_last}
 use Rattle.gw_base.specs.declared.history.HistoryEntry.{HistoryEntry}

@@ -6,14 +6,13 @@ use Rattle.std.proofs.lemmas.List.Elements.{filter_map-append}
 use Rattle.std.specs.List.{cons_option, enumerate_from}
 use Rattle.gw_base.specs.EntryLaws.{epoch_of-append, opening_of-append}
 use Rattle.gw_base.specs.History.{begins_epoch, epoch_of}
-use Rattle.gw_base.specs.ListLaws.{by_last}
-use Rattle.gw_base.specs.Starts.{opening_after, opening_by, opening_of, openings_of, start_by, start_of, starts_of}
+use Rattle.gw_base.specs.Starts.{opening_after, opening_by, opening_of, openings_of, start_by, start_of}
 use Rattle.gw_base.specs.declared.address.NodeId.{NodeId}
 use Rattle.gw_base.specs.declared.history.HistoryAct.{HistoryAct}
 use Rattle.gw_base.specs.declared.history.HistoryAct.TheVariants.{Start, Path, File, Hold, Seal, Release, Cancel, Tick, Close}
 use Rattle.gw_base.specs.declared.history.HistoryEntry.{HistoryEntry}
 use Rattle.gw_base.specs.declared.history.Opening.{Opening}
-use Rattle.once_core.specs.Epochs.{EachBehind, RisesBy, StartsRise, epoch_with}
+use Rattle.once_core.specs.Epochs.{RisesBy, StartsRise, epoch_with}
 use Rattle.once_core.proofs.EachLemmas.{by_each}
 
 -- ---- the first place of a number
@@ -149,9 +148,9 @@ by_entry node h e = by_act e.act refl
           omega (arith, at, same);
     })
     by_path n port counter false is act = inr (stays
-      (ap (opening_by node) act ∙ ap (λ (b : Bool). if b then Some (record { port = port; counter = counter }) else None) is)
-      (ap (opening_after node (opening_of node h)) act ∙ ap (λ (b : Bool). if b then Some (record { port = port; counter = counter }) else opening_of node h) is)
-      (ap (begins_epoch node) act ∙ is))
+        (ap (opening_by node) act ∙ ap (λ (b : Bool). if b then Some (record { port = port; counter = counter }) else None) is)
+        (ap (opening_after node (opening_of node h)) act ∙ ap (λ (b : Bool). if b then Some (record { port = port; counter = counter }) else opening_of node h) is)
+        (ap (begins_epoch node) act ∙ is))
 
     by_act : (a : HistoryAct) → e.act ≡ a → Begins node h e ⊎ Stays node h e
     by_act (Path n port counter) act = by_path n port counter (n.0 == node) refl act

@@ -1,7 +1,6 @@
 -- How often a record is filed under a key, by the key's state.
-use Rattle.std.proofs.Common.{◌≡◌, ℕ, ◌+◌, ◌<◌, ◌≤◌, ◌==◌, ◌&&◌, ◌||◌, nat_lt, Bool, true, false, cond, if◌then◌else◌, length, List, [], ◌∷◌, ◌++◌, Option, Some, None, option_and_then, refl, sym, ap, subst, ◌∙◌, arith}
-use Rattle.std.proofs.lemmas.Bool.{and_parts, and_right, eqb-true, eq-eqb, false≢true, ne_eqb, le-ltb, lt-ltb}
-use Rattle.std.proofs.lemmas.List.{append-nil}
+use Rattle.std.proofs.Common.{◌≡◌, ⊎_elim, ℕ, suc, ◌+◌, ◌-◌, ◌<◌, ◌≤◌, ◌==◌, ◌&&◌, nat_lt, slice_get, Contains, Bool, true, false, cond, length, List, [], ◌∷◌, ◌++◌, Option, Some, None, refl, sym, ap, ◌∙◌, arith}
+use Rattle.std.proofs.lemmas.Bool.{and_right, eqb-true, eq-eqb, false≢true, ne_eqb, le-ltb, lt-ltb}
 use Rattle.std.proofs.lemmas.List.Sums.{sum_by-append, sum_by-cons}
 use Rattle.std.specs.Option.{option_map_or}
 use Rattle.gtpp_message.specs.Packet.{PacketForm, packet_of}
@@ -9,7 +8,8 @@ use Rattle.gw_base.specs.declared.history.PacketKey.{PacketKey}
 use Rattle.gateway_book.specs.Filed.{filed_record, records_from, records_in, records_of}
 use Rattle.gateway_book.specs.Once.{is_record_of, same_key, times_filed}
 use Rattle.gateway_book.specs.declared.filing.FiledRecord.{FiledRecord}
-use Rattle.once_core.specs.OncePlaced.{record_count}
+use Rattle.once_core.specs.OncePlaced.{record_count, records_within}
+use Rattle.once_core.proofs.ListLemmas.{in_cons, in_none}
 
 -- one, where the test passes
 abbrev pub one_if : Bool → ℕ
@@ -82,3 +82,32 @@ module _ (key : PacketKey) (index : ℕ) where
       by_form : (form : Option PacketForm) → times_filed key index (records_in k moment form) ≡ 0
       by_form None = refl
       by_form (Some form) = none_elsewhere k moment form.format form.version 0 form.records apart
+
+-- ---- the octets of records
+
+pub numbered_records : (k : PacketKey) (moment format version j : ℕ) (records : List (List ℕ)) (r : FiledRecord)
+    → Contains (records_from k moment format version j records) r → (j ≤ r.index) × (slice_get records (r.index - j) ≡ Some r.octets) × (r.key ≡ k)
+numbered_records k moment format version j [] r is = absurd (in_none r is)
+numbered_records k moment format version j (octets ∷ records) r is = ⊎_elim
+    (λ e.
+    let index : j ≡ r.index = ap (λ (x : FiledRecord). x.index) e in
+    let none : r.index - j ≡ 0 = omega (arith, index) in
+    (omega (arith, index), ap (λ (n : ℕ). slice_get (octets ∷ records) n) none ∙ ap (λ (x : FiledRecord). Some x.octets) e, ap (λ (x : FiledRecord). x.key) (sym e)))
+    (λ later.
+    let there = numbered_records k moment format version (j + 1) records r later in
+    let more : r.index - j ≡ suc (r.index - (j + 1)) = omega (arith, there.0) in
+    (omega (arith, there.0), ap (λ (n : ℕ). slice_get (octets ∷ records) n) more ∙ there.1, there.2))
+    (in_cons (filed_record k moment format version (j, octets)) r (records_from k moment format version (j + 1) records) is)
+
+-- a record of a packet is the one with its index
+pub record_within : (k : PacketKey) (moment : ℕ) (octets : List ℕ) (r : FiledRecord) → Contains (records_of k moment octets) r
+    → (slice_get (records_within octets) r.index ≡ Some r.octets) × (r.key ≡ k)
+record_within k moment octets r is = by_form (packet_of octets) is
+  where
+    by_form : (form : Option PacketForm) → Contains (records_in k moment form) r
+        → (slice_get (option_map_or (λ form. form.records) form []) r.index ≡ Some r.octets) × (r.key ≡ k)
+    by_form None is = absurd (in_none r is)
+    by_form (Some form) is =
+        let there = numbered_records k moment form.format form.version 0 form.records r is in
+        let whole : r.index - 0 ≡ r.index = omega arith in
+        (ap (λ (n : ℕ). slice_get form.records n) (sym whole) ∙ there.1, there.2)

@@ -1,7 +1,6 @@
 -- States that end stay, and what an answer tells stays true.
-use Rattle.std.proofs.Common.{◌≡◌, ℕ, ◌+◌, ◌<◌, ◌==◌, ◌&&◌, ◌||◌, Bool, true, false, if◌then◌else◌, List, [], ◌∷◌, ◌++◌, Option, Some, None, Contains, refl, sym, ap, subst, ◌∙◌}
+use Rattle.std.proofs.Common.{◌≡◌, ℕ, ◌==◌, ◌&&◌, Bool, true, false, if◌then◌else◌, List, [], ◌∷◌, ◌++◌, Contains, refl, sym, ap, ◌∙◌}
 use Rattle.std.proofs.lemmas.Bool.{and_parts, and_from, eqb-true, eq-eqb, false≢true}
-use Rattle.std.specs.List.{list_any}
 use Rattle.gw_base.specs.EntryLaws.{present_state_is, state_of-append}
 use Rattle.gw_base.specs.History.{epoch_of, given_state, names, present_state, state_of}
 use Rattle.gw_base.specs.Starts.{start_of}
@@ -13,9 +12,9 @@ use Rattle.gw_base.specs.declared.history.PacketKey.{PacketKey}
 use Rattle.gw_base.specs.declared.key_state.KeyState.{KeyState}
 use Rattle.gw_base.specs.declared.key_state.KeyState.TheVariants.{Fresh, Filed, Sealed, Held, Released, Cancelled}
 use Rattle.node_core.specs.declared.copy.Order.TheVariants as order
-use Rattle.once_core.specs.Epochs.{EachBehind, StartsRise, epoch_with, key_in}
+use Rattle.once_core.specs.Epochs.{StartsRise, key_in}
 use Rattle.once_core.specs.Happenings.{Asks, Letter, Orders, Request, Sends, Tests}
-use Rattle.once_core.specs.Resting.{IsAsked, IsReleased, IsState, NamesHeld, Rests, RestsBy, Tells}
+use Rattle.once_core.specs.Resting.{IsAsked, IsState, Rests, RestsBy, Tells}
 use Rattle.once_core.proofs.CountLemmas.{IsHere, any_one, is_here, state_here}
 use Rattle.once_core.proofs.EachLemmas.{by_each_from, each_also}
 use Rattle.once_core.proofs.EpochLemmas.{epoch_stays, present_epoch}

@@ -1,34 +1,31 @@
 -- What a node knows is so in the firm parts of the gateways' histories.
-use Rattle.std.proofs.Common.{◌≡◌, ◌⊎◌, inl, inr, ⊎_elim, ℕ, ◌+◌, ◌<◌, ◌≤◌, ◌==◌, ◌&&◌, ◌||◌, Bool, true, false, if◌then◌else◌, List, [], ◌∷◌, ◌++◌, Option, Some, None, IfSome, All, Contains, refl, sym, ap, subst, ◌∙◌}
-use Rattle.std.proofs.lemmas.Bool.{eq-eqb, eqb-true, false≢true, or_left}
+use Rattle.std.proofs.Common.{◌≡◌, ◌⊎◌, inl, inr, ⊎_elim, ℕ, ◌==◌, ◌&&◌, ◌||◌, Bool, true, false, if◌then◌else◌, List, [], ◌∷◌, Option, Some, None, IfSome, Contains, refl, sym, ap, subst, ◌∙◌}
+use Rattle.std.proofs.lemmas.Bool.{eqb-true, false≢true}
 use Rattle.std.proofs.lemmas.List.Elements.{All-contains, Contains-append_cases}
-use Rattle.std.specs.List.{list_any}
 use Rattle.std.specs.Option.{option_map_or}
 use Rattle.gw_base.specs.declared.cause.TheConstants.{ACCEPTED, ALREADY_FULFILLED, DUPLICATE_ALREADY_FULFILLED}
 use Rattle.gw_base.specs.declared.history.HistoryEntry.{HistoryEntry}
-use Rattle.gw_base.specs.declared.key_state.KeyState.{KeyState}
 use Rattle.gw_base.specs.declared.key_state.KeyState.TheVariants as state
 use Rattle.node_core.specs.Choosing.{IsChoice, ReleasesChoice}
-use Rattle.node_core.specs.Copies.{is_answered, is_chosen, is_filed, is_filing, is_fulfilled, is_release, is_released, is_unknown, names, told}
+use Rattle.node_core.specs.Copies.{is_chosen, is_filing, is_fulfilled, is_release, is_released, is_unknown, names, told}
 use Rattle.node_core.specs.Log as log
 use Rattle.node_core.specs.Log.{LogEntry, Responds}
 use Rattle.node_core.specs.Packets.{PacketState}
-use Rattle.node_core.specs.Resting.{AllRestOn, IsFulfilled, IsTold, RestsOn}
-use Rattle.node_core.specs.Roles.{IsPlainFirst, uses}
+use Rattle.node_core.specs.Resting.{AllRestOn, IsFulfilled, RestsOn}
+use Rattle.node_core.specs.Roles.{IsPlainFirst}
 use Rattle.node_core.specs.declared.copy.Command.{Command}
 use Rattle.node_core.specs.declared.copy.Order.{Order}
 use Rattle.node_core.specs.declared.copy.Order.TheVariants as order
 use Rattle.node_core.specs.declared.copy.PacketCopy.{PacketCopy}
-use Rattle.node_core.specs.declared.copy.Verdict.{Verdict}
 use Rattle.node_core.specs.declared.copy.Verdict.TheVariants as verdict
 use Rattle.node_core.specs.declared.port.Port.{Port}
 use Rattle.node_core.specs.declared.port.Port.TheVariants.{First, Second}
-use Rattle.once_core.specs.Following.{Follows, HasCopyAt, IsCommandSent, IsCopySent, MaySend, entries_by, entries_of, heard_in}
+use Rattle.once_core.specs.Following.{Follows, HasCopyAt, IsCommandSent, MaySend, entries_by, entries_of, heard_in}
 use Rattle.once_core.specs.Happenings.{Answers, Asks, Deed, Else, Heard, Letter, Meaning, Orders, Request, Scene, Sends, Sent, Tests}
-use Rattle.once_core.specs.Resting.{IsAnswerTo, IsState, SceneHolds, Tells}
+use Rattle.once_core.specs.Resting.{IsState, SceneHolds, Tells}
 use Rattle.once_core.specs.Scenes.{is_telling}
-use Rattle.once_core.proofs.RoleLemmas.{IsCopyOf, command_use, first_is_plain, not_both, own_use, plain_is_first, same_user}
-use Rattle.once_core.proofs.SceneLemmas.{in_cons, in_head, in_none, in_tail}
+use Rattle.once_core.proofs.RoleLemmas.{IsCopyOf, command_use, not_both, own_use, same_user}
+use Rattle.once_core.proofs.ListLemmas.{in_cons, in_head, in_none, in_tail}
 
 -- ---- what was heard is a message
 

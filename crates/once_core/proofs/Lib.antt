@@ -1,8 +1,10 @@
 -- Steps of proofs.
+pub mod ListLemmas
 pub mod EachLemmas
 pub mod EpochLemmas
 pub mod FiledLemmas
 pub mod CountLemmas
+pub mod ContentLemmas
 pub mod GrowingLemmas
 pub mod StopLemmas
 pub mod StateLemmas

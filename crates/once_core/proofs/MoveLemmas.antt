@@ -1,8 +1,8 @@
 -- What holds goes on with each move of a gateway, and so with whatever happens.
-use Rattle.std.proofs.Common.{◌≡◌, ◌⊎◌, inl, inr, ⊎_elim, ℕ, zero, suc, ◌+◌, ◌<◌, ◌≤◌, ◌==◌, nat_le, nat_lt, not, Bool, true, false, cond, if◌then◌else◌, List, [], ◌∷◌, ◌++◌, length, length-append, map, filter, take, drop, take-append-drop, slice_get, Option, Some, None, Contains, refl, sym, ap, subst, ◌∙◌, arith, append_assoc}
-use Rattle.std.proofs.lemmas.Bool.{and_parts, eqb-true, eq-eqb, false≢true, leb-true, ltb-true}
+use Rattle.std.proofs.Common.{◌≡◌, ◌⊎◌, inl, ⊎_elim, ℕ, ◌+◌, ◌≤◌, ◌==◌, nat_le, nat_lt, not, Bool, true, false, if◌then◌else◌, List, [], ◌∷◌, ◌++◌, length, length-append, filter, take, drop, take-append-drop, slice_get, Option, Some, None, Contains, refl, sym, ap, subst, ◌∙◌, arith, append_assoc}
+use Rattle.std.proofs.lemmas.Bool.{eqb-true, false≢true, leb-true, ltb-true}
 use Rattle.std.proofs.lemmas.List.{append-nil}
-use Rattle.std.proofs.lemmas.List.Elements.{Contains-append_cases, Contains-append_left, Contains-push, Contains-push_cases}
+use Rattle.std.proofs.lemmas.List.Elements.{Contains-append_cases, Contains-append_left, Contains-push_cases}
 use Rattle.gw_base.specs.Starts.{start_of}
 use Rattle.gw_base.specs.declared.address.NodeId.{NodeId}
 use Rattle.gw_base.specs.declared.history.Caller.{Caller}
@@ -12,16 +12,16 @@ use Rattle.gw_base.specs.declared.history.HistoryEntry.{HistoryEntry}
 use Rattle.gateway_book.specs.Answer.{Given}
 use Rattle.gateway_book.specs.Answered.{act_given, entry_by, with_act}
 use Rattle.node_core.specs.declared.copy.Order.TheVariants as order
-use Rattle.once_core.specs.Epochs.{EachBehind}
 use Rattle.once_core.specs.Happenings.{Adds, Answers, Asks, Closes, Comes, Else, Firms, Happening, Hears, Keeps, Letter, Meaning, Note, Notes, Opens, Orders, Post, Request, Scene, Sends, Starts, Tests, Ticks, Waiting, act_noted, cause_of, given, history, is_timely, reply}
-use Rattle.once_core.specs.Resting.{IsAnswerTo, IsSent, IsTold, PostHolds, Rests, RestsBy, SceneHolds, Tells, Waits}
+use Rattle.once_core.specs.Resting.{IsSent, IsTold, PostHolds, Rests, RestsBy, SceneHolds, Tells, Waits}
 use Rattle.once_core.specs.Scenes.{Settled, after_coming, after_hearing, answering, at, coming, firming, happened, happened_all, is_answer, is_idle, is_request, keeping, nothing_yet, noting, noting_if, opening, scene_after, waiting_for, with_one}
 use Rattle.once_core.specs.Happenings as happens
 use Rattle.once_core.proofs.AnswerLemmas.{IsSound, answer_is_sound}
 use Rattle.once_core.proofs.CountLemmas.{starts_rise}
 use Rattle.once_core.proofs.EachLemmas.{each_front, each_more}
-use Rattle.once_core.proofs.ForwardLemmas.{Grows, rests_on, tells_on}
-use Rattle.once_core.proofs.SceneLemmas.{adding, at_same, filtered, get_contains, hearing, in_none, mapped, post_on, sending, told_later, told_on, waits_on}
+use Rattle.once_core.proofs.ForwardLemmas.{Grows, rests_on}
+use Rattle.once_core.proofs.ListLemmas.{filtered, get_contains, in_none}
+use Rattle.once_core.proofs.SceneLemmas.{adding, at_same, hearing, mapped, post_on, sending, told_later, told_on, waits_on}
 
 -- ---- a gateway's move
 
@@ -321,7 +321,7 @@ holds_on scene (Keeps gateway keep) holds =
     quietly scene gateway (keeping keep (scene.posts gateway)) holds (kept_back scene.letters gateway keep (scene.posts gateway) (holds.posts gateway)) [] (sym (append-nil (scene.posts gateway).firm))
 holds_on scene (Adds letter) holds = adding scene letter (is_idle letter.says) refl holds
 
-holds_yet : SceneHolds nothing_yet
+pub holds_yet : SceneHolds nothing_yet
 holds_yet = record {
   posts = λ gateway. record { rests = tt; waits = λ w kept. absurd (in_none w kept) };
   told = λ letter kept. absurd (in_none letter kept);

@@ -1,6 +1,6 @@
 -- Each record stands once among what all gateways filed.
-use Rattle.std.proofs.Common.{◌≡◌, ◌⊎◌, inl, inr, ⊎_elim, ℕ, ◌+◌, ◌<◌, ◌≤◌, ◌==◌, ◌&&◌, ◌||◌, nat_lt, Bool, true, false, if◌then◌else◌, List, [], ◌∷◌, ◌++◌, Option, Some, None, All, Contains, sum_by, get_or, refl, sym, ap, subst, ◌∙◌, arith}
-use Rattle.std.proofs.lemmas.Bool.{eq-eqb, eqb-true, false≢true, lt-ltb}
+use Rattle.std.proofs.Common.{◌≡◌, ◌⊎◌, inl, inr, ⊎_elim, ℕ, ◌<◌, ◌≤◌, ◌||◌, nat_lt, Bool, true, false, List, [], ◌∷◌, Option, Some, None, All, Contains, get_or, slice_get, refl, sym, ap, subst, ◌∙◌, arith}
+use Rattle.std.proofs.lemmas.Bool.{false≢true, lt-ltb}
 use Rattle.std.proofs.lemmas.List.Elements.{Contains-get_or}
 use Rattle.std.specs.List.{list_any}
 use Rattle.std.specs.Option.{option_map_or}
@@ -13,26 +13,27 @@ use Rattle.gw_base.specs.declared.key_state.KeyState.TheVariants as state
 use Rattle.node_core.specs.Choosing.{IsChoice}
 use Rattle.node_core.specs.Copies.{is_chosen, is_filed, is_release, is_released}
 use Rattle.node_core.specs.Packets.{PacketState, chosen, is_resolved}
-use Rattle.node_core.specs.Roles.{IsPlainFirst}
 use Rattle.node_core.specs.declared.copy.Command.{Command}
 use Rattle.node_core.specs.declared.copy.Order.TheVariants as order
 use Rattle.node_core.specs.declared.copy.PacketCopy.{PacketCopy}
 use Rattle.node_core.specs.declared.copy.Verdict.{Verdict}
 use Rattle.node_core.specs.declared.copy.Verdict.TheVariants as verdict
 use Rattle.once_core.specs.Epochs.{epoch_with, key_in, state_with, times_with}
-use Rattle.once_core.specs.Following.{Follows, HasCopyAt, IsCommandSent, IsCopySent, MaySend}
-use Rattle.once_core.specs.Happenings.{Asks, Happening, Letter, Orders, Request, Scene, Sends, history}
-use Rattle.once_core.specs.OncePlaced.{IsOnce, is_rejected, places_of, record_count}
+use Rattle.once_core.specs.Following.{Follows, HasCopyAt, MaySend}
+use Rattle.once_core.specs.Happenings.{Asks, Happening, Orders, Request, Scene, Sends}
+use Rattle.once_core.specs.OncePlaced.{IsFiledUnder, IsOnce, is_rejected, places_of, record_count, records_within}
+use Rattle.gateway_book.specs.declared.filing.FiledRecord.{FiledRecord}
+use Rattle.once_core.proofs.ContentLemmas.{brought}
 use Rattle.once_core.specs.Resting.{IsAsked, IsState, Rests, RestsBy, SceneHolds}
 use Rattle.once_core.specs.Scenes.{scene_after}
 use Rattle.once_core.proofs.CountLemmas.{Counted, IsBacked, counted}
 use Rattle.once_core.proofs.EachLemmas.{each_front}
 use Rattle.once_core.proofs.EpochLemmas.{start_is_one}
 use Rattle.once_core.proofs.FiledLemmas.{one_if, within}
-use Rattle.once_core.proofs.KnownLemmas.{choice_of, firm, is_filed_there, is_released_there, is_sealed, may_send, plain_first, the_copy}
+use Rattle.once_core.proofs.KnownLemmas.{choice_of, is_filed_there, is_released_there, is_sealed, may_send, plain_first, the_copy}
 use Rattle.once_core.proofs.MoveLemmas.{holds_always}
 use Rattle.once_core.proofs.RoleLemmas.{IsCopyOf, copies_once, first_is_plain, own_use, plain_is_first, same_user, sum_has, sum_one}
-use Rattle.once_core.proofs.SceneLemmas.{in_cons, in_head, in_none, in_tail}
+use Rattle.once_core.proofs.ListLemmas.{in_head, in_none, in_tail}
 
 -- a number has one state
 state_is_one : (h : List HistoryEntry) (node start number : ℕ) (a b : KeyState) → IsState h node start number a → IsState h node start number b → a ≡ b
@@ -335,15 +336,31 @@ module _ (scene : Scene) (holds : SceneHolds scene) (node start : ℕ) (values :
           ∙ by_state epoch (state_of (key_in node copy.number epoch) (firm_of copy.gateway)) e
           (counted scene.letters copy.gateway (key_in node copy.number epoch) index (firm_of copy.gateway) (rests copy.gateway))
 
+  -- ---- what was filed for a copy
+
+  content : (packet : PacketState) (copy : PacketCopy) (filing : FiledRecord) → IsCopyOf packets packet copy → IsFiledUnder (firm_of copy.gateway) node start copy.number filing
+      → slice_get (records_within (values packet.number)) filing.index ≡ Some filing.octets
+  content packet copy filing is under =
+      let of = brought scene.letters copy.gateway (key_in node copy.number under.epoch) (firm_of copy.gateway) (rests copy.gateway) filing under.kept under.key_is in
+      let copy_is = sent_copy packet copy of.plain of.octets is (asked_here copy.gateway copy.number under.epoch (Sends of.plain of.octets) copy.number under.begun of.backed) in
+      ap (λ (os : List ℕ). slice_get (records_within os) filing.index) copy_is.1 ∙ of.at
+
   pub is_once : (packet : PacketState) → Contains packets packet → IsOnce firm_of node start (values packet.number) packet
   is_once packet kept = record {
     resolved = resolved packet kept;
     at_most = at_most packet kept;
     rejected = λ k d lt. rejected (get_or packet.copies k d);
+    content = λ k d lt filing under.
+        content packet (get_or packet.copies k d) filing (record { kept = kept; among = Contains-get_or packet.copies k d lt }) under;
   }
+
+pub each_of_scene : (scene : Scene) (node start : ℕ) (values : ℕ → List ℕ) (packets : List PacketState) → SceneHolds scene → Follows (scene.deeds node) start values packets
+    → All (λ packet. IsOnce (λ gateway. (scene.posts gateway).firm) node start (values packet.number) packet) packets
+each_of_scene scene node start values packets holds follows =
+    λ k d lt. is_once scene holds node start values packets follows (get_or packets k d) (Contains-get_or packets k d lt)
 
 pub each_is_placed_once : (happenings : List Happening) (node start : ℕ) (values : ℕ → List ℕ) (packets : List PacketState)
     → Follows ((scene_after happenings).deeds node) start values packets
     → All (λ packet. IsOnce (λ gateway. ((scene_after happenings).posts gateway).firm) node start (values packet.number) packet) packets
 each_is_placed_once happenings node start values packets follows =
-    λ k d lt. is_once (scene_after happenings) (holds_always happenings) node start values packets follows (get_or packets k d) (Contains-get_or packets k d lt)
+    each_of_scene (scene_after happenings) node start values packets (holds_always happenings) follows

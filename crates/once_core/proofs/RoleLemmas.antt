@@ -1,5 +1,5 @@
 -- Each request number of a gateway has one role: two copies that use it are one.
-use Rattle.std.proofs.Common.{◌≡◌, ◌⊎◌, ⊎_elim, ℕ, ◌+◌, ◌<◌, ◌≤◌, ◌==◌, Bool, true, false, if◌then◌else◌, List, [], ◌∷◌, Option, Some, None, All, Contains, sum_by, refl, sym, ap, subst, ◌∙◌, arith, eq-zero-or-pos}
+use Rattle.std.proofs.Common.{◌≡◌, ⊎_elim, ℕ, ◌+◌, ◌≤◌, Bool, true, false, if◌then◌else◌, List, [], ◌∷◌, Option, Some, Contains, sum_by, refl, sym, ap, subst, ◌∙◌, arith, eq-zero-or-pos}
 use Rattle.std.proofs.lemmas.Bool.{eq-eqb, false≢true}
 use Rattle.std.proofs.lemmas.List.Elements.{All-contains}
 use Rattle.std.proofs.lemmas.List.Sums.{sum_by-cons}
@@ -7,7 +7,7 @@ use Rattle.node_core.specs.Packets.{PacketState}
 use Rattle.node_core.specs.Roles.{IsPlainFirst, use_of, uses, uses_by_command, uses_by_copies, uses_by_copy}
 use Rattle.node_core.specs.declared.copy.Command.{Command}
 use Rattle.node_core.specs.declared.copy.PacketCopy.{PacketCopy}
-use Rattle.once_core.proofs.SceneLemmas.{in_cons, in_head, in_none, in_tail}
+use Rattle.once_core.proofs.ListLemmas.{in_cons, in_head, in_none, in_tail}
 
 -- ---- how often a copy uses a number
 

@@ -1,55 +1,15 @@
 -- Whatever happens next, what holds goes on.
-use Rattle.std.proofs.Common.{◌≡◌, ◌⊎◌, inl, inr, ⊎_elim, ℕ, zero, suc, ◌+◌, ◌<◌, ◌≤◌, ◌==◌, nat_le, nat_lt, not, Bool, true, false, cond, if◌then◌else◌, List, [], ◌∷◌, ◌++◌, length, length-append, map, filter, take, drop, take-append-drop, slice_get, slice_index_or, Option, Some, None, Contains, refl, sym, ap, subst, ◌∙◌, arith, append_assoc}
-use Rattle.std.proofs.lemmas.Bool.{and_parts, eqb-true, eq-eqb, false≢true, leb-true}
-use Rattle.std.proofs.lemmas.List.{append-nil}
-use Rattle.std.proofs.lemmas.List.Elements.{Contains-append_cases, Contains-append_left, Contains-push, Contains-push_cases}
-use Rattle.gw_base.specs.Starts.{start_of}
-use Rattle.gw_base.specs.declared.address.NodeId.{NodeId}
-use Rattle.gw_base.specs.declared.history.Caller.{Caller}
-use Rattle.gw_base.specs.declared.history.HistoryAct.{HistoryAct}
-use Rattle.gw_base.specs.declared.history.HistoryAct.TheVariants as act
+use Rattle.std.proofs.Common.{◌≡◌, ◌⊎◌, inl, inr, ⊎_elim, ℕ, ◌==◌, not, Bool, true, false, if◌then◌else◌, List, [], ◌∷◌, ◌++◌, map, Contains, refl, sym, ap, subst, ◌∙◌}
+use Rattle.std.proofs.lemmas.Bool.{eqb-true, eq-eqb, false≢true}
+use Rattle.std.proofs.lemmas.List.Elements.{Contains-append_left, Contains-push, Contains-push_cases}
 use Rattle.gw_base.specs.declared.history.HistoryEntry.{HistoryEntry}
-use Rattle.gateway_book.specs.Answer.{Given}
-use Rattle.gateway_book.specs.Answered.{act_given, entry_by, with_act}
-use Rattle.once_core.specs.Epochs.{EachBehind}
-use Rattle.once_core.specs.Happenings.{Adds, Answers, Asks, Closes, Comes, Deed, Else, Firms, Happening, Heard, Hears, Keeps, Letter, Meaning, Note, Notes, Opens, Post, Request, Scene, Sends, Sent, Starts, Ticks, Waiting, act_noted, cause_of, given, history, is_timely, reply}
-use Rattle.once_core.specs.Resting.{IsAnswerTo, IsSent, IsTold, PostHolds, Rests, RestsBy, SceneHolds, Tells, Waits}
-use Rattle.once_core.specs.Scenes.{Settled, after_adding, after_coming, after_hearing, after_sending, answering, at, coming, firming, happened, happened_all, is_answer, is_idle, is_request, is_telling, keeping, nothing_yet, noting, noting_if, opening, scene_after, waiting_for, with_one}
-use Rattle.once_core.proofs.AnswerLemmas.{IsSound, answer_is_sound}
-use Rattle.once_core.proofs.CountLemmas.{starts_rise}
-use Rattle.once_core.proofs.EachLemmas.{each_front, each_more}
+use Rattle.once_core.specs.Happenings.{Answers, Asks, Deed, Else, Heard, Letter, Meaning, Post, Scene, Sent, Waiting, history}
+use Rattle.once_core.specs.Resting.{IsAnswerTo, IsSent, IsTold, PostHolds, Rests, SceneHolds, Waits}
+use Rattle.once_core.specs.Scenes.{after_adding, after_hearing, after_sending, at, is_idle, is_request}
 use Rattle.once_core.proofs.ForwardLemmas.{Grows, rests_on, tells_on}
+use Rattle.once_core.proofs.ListLemmas.{in_cons, in_head, in_none, in_tail}
 
 -- ---- lists
-
-pub in_head : {A : Type 0} (x : A) (xs : List A) → Contains (x ∷ xs) x
-in_head x xs = (0, omega arith, refl)
-
-pub in_tail : {A : Type 0} (x y : A) (xs : List A) → Contains xs y → Contains (x ∷ xs) y
-in_tail x y xs is = (suc is.0, omega (arith, is.1), is.2)
-
-pub in_cons : {A : Type 0} (x y : A) (xs : List A) → Contains (x ∷ xs) y → (x ≡ y) ⊎ Contains xs y
-in_cons x y xs is = by is.0 is.1 is.2
-  where
-    by : (k : ℕ) → k < length (x ∷ xs) → slice_index_or (x ∷ xs) k y ≡ y → (x ≡ y) ⊎ Contains xs y
-    by zero lt e = inl e
-    by (suc k) lt e = inr (k, omega (arith, lt), e)
-
-pub in_none : {A : Type 0} (y : A) → Contains [] y → ⊥
-in_none y is = absurd (omega (arith, is.1))
-
-pub get_contains : {A : Type 0} (xs : List A) (k : ℕ) (x : A) → slice_get xs k ≡ Some x → Contains xs x
-get_contains [] k x e = absurd (cc)
-get_contains (y ∷ xs) zero x e = let same : y ≡ x = cc in (0, omega arith, same)
-get_contains (y ∷ xs) (suc k) x e = in_tail y x xs (get_contains xs k x e)
-
-pub filtered : {A : Type 0} (p : A → Bool) (xs : List A) (x : A) → Contains (filter p xs) x → Contains xs x
-filtered p [] x is = is
-filtered {A} p (y ∷ xs) x is = by (p y) is (λ c. filtered p xs x c)
-  where
-    by : (b : Bool) → Contains (cond b (y ∷ filter p xs) (filter p xs)) x → (Contains (filter p xs) x → Contains xs x) → Contains (y ∷ xs) x
-    by true is rest = ⊎_elim (λ e. subst (Contains (y ∷ xs)) e (in_head y xs)) (λ c. in_tail y x xs (rest c)) (in_cons y x (filter p xs) is)
-    by false is rest = in_tail y x xs (rest is)
 
 pub mapped : (ws : List Waiting) (l : Letter) → Contains (map (λ w. w.letter) ws) l → (w : Waiting) × Contains ws w × (w.letter ≡ l)
 mapped [] l is = absurd (in_none l is)

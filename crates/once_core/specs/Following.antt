@@ -35,7 +35,8 @@ pub record HasCopyAt (packets : List PacketState) (gateway number : ℕ) : Type 
   pub number_is : copy.number ≡ number
 
 -- a copy that is sent, plain or not as the request says, with the packet's octets
-pub record IsCopySent (packets : List PacketState) (values : ℕ → List ℕ) (gateway number : ℕ) (is_plain : Bool) (octets : List ℕ) : Type 0 where
+pub record IsCopySent (packets : List PacketState) (values : ℕ → List ℕ) (gateway number : ℕ) (is_plain : Bool)
+    (octets : List ℕ) : Type 0 where
   pub at : HasCopyAt packets gateway number
   pub plain : at.copy.is_plain ≡ is_plain
   pub packet : values at.packet.number ≡ octets
@@ -64,4 +65,5 @@ pub record Follows (deeds : List Deed) (start : ℕ) (values : ℕ → List ℕ)
   pub plain : All (λ packet. IsPlainFirst packet.copies) packets
   pub choice : All ReleasesChoice packets
   pub rests : All (AllRestOn (heard_in start deeds)) packets
-  pub sends : (letter : Letter) → Contains deeds (did.Sent letter) → letter.start ≡ start → MaySend packets values letter letter.says
+  pub sends : (letter : Letter) → Contains deeds (did.Sent letter) → letter.start ≡ start →
+      MaySend packets values letter letter.says

@@ -1,19 +1,17 @@
 -- Gateways, serving nodes and all messages ever sent, by what the messages mean: whole numbers, and no octets. What
 -- happens next is anything that the network, the devices and the nodes may do.
-use Rattle.std.specs.Prelude.{ℕ, ◌%◌, ◌==◌, ◌&&◌, not, nat_le, nat_lt, Bool, true, false, if◌then◌else◌, List, [], ◌∷◌, ◌++◌, length, map, take, filter, Option, Some, None, slice_get}
+use Rattle.std.specs.Prelude.{ℕ, ◌%◌, ◌==◌, ◌&&◌, Bool, true, false, List, [], ◌∷◌, ◌++◌}
 use Rattle.gtpp_message.specs.Message.{MessageValue, TransferResponse}
 use Rattle.gw_base.specs.Nearest.{nearest}
 use Rattle.gw_base.specs.Observed.{Observed, observed}
 use Rattle.gw_base.specs.Starts.{start_of}
 use Rattle.gw_base.specs.History.{top_of}
 use Rattle.gw_base.specs.declared.address.NodeId.{NodeId}
-use Rattle.gw_base.specs.declared.cause.TheConstants.{ACCEPTED, ALREADY_FULFILLED, DUPLICATE_ALREADY_FULFILLED}
 use Rattle.gw_base.specs.declared.history.Caller.{Caller}
 use Rattle.gw_base.specs.declared.history.HistoryAct.{HistoryAct}
 use Rattle.gw_base.specs.declared.history.HistoryAct.TheVariants as act
 use Rattle.gw_base.specs.declared.history.HistoryEntry.{HistoryEntry}
 use Rattle.gateway_book.specs.Answer.{Given, Drops, Replies, listed, sent}
-use Rattle.gateway_book.specs.Answered.{act_given, entry_by}
 use Rattle.node_core.specs.declared.copy.Order.{Order}
 use Rattle.node_core.specs.declared.copy.Order.TheVariants.{Release, Cancel}
 use Rattle.node_core.specs.declared.port.Port.{Port}

@@ -18,7 +18,8 @@ use Rattle.once_core.specs.Scenes.{is_answer, is_telling}
 -- a request of a node in a start to a gateway is among these messages
 pub record IsAsked (letters : List Letter) (node start gateway number : ℕ) (request : Request) : Type 0 where
   pub port : Port
-  pub kept : Contains letters (record { node = node; start = start; gateway = gateway; port = port; number = number; says = Asks request })
+  pub kept : Contains letters
+      (record { node = node; start = start; gateway = gateway; port = port; number = number; says = Asks request })
 
 -- a list names one number, which is held
 pub record NamesHeld (node : ℕ) (before : List HistoryEntry) (numbers : List ℕ) : Type 0 where
@@ -58,12 +59,14 @@ pub record IsState (h : List HistoryEntry) (node start number : ℕ) (state : Ke
 -- what an answer of this cause to a request means: of a plain copy that it is filed; of a test the same, or that the number
 -- is sealed; of a release that the copy is released. All else is of no use here.
 abbrev pub Tells : List HistoryEntry → Letter → Request → ℕ → Type 0
-Tells h letter (Sends true packet) cause = is_filing cause ≡ true → IsState h letter.node letter.start letter.number Filed
+Tells h letter (Sends true packet) cause =
+    is_filing cause ≡ true → IsState h letter.node letter.start letter.number Filed
 Tells h letter (Sends false packet) cause = Unit {0}
 Tells h letter Tests cause =
     (cause ≡ ALREADY_FULFILLED → IsState h letter.node letter.start letter.number Filed)
     × (cause ≡ ACCEPTED → IsState h letter.node letter.start letter.number Sealed)
-Tells h letter (Orders order.Release named) cause = is_fulfilled cause ≡ true → IsState h letter.node letter.start named Released
+Tells h letter (Orders order.Release named) cause =
+    is_fulfilled cause ≡ true → IsState h letter.node letter.start named Released
 Tells h letter (Orders order.Cancel named) cause = Unit {0}
 
 -- the request that an answer answers, which is among the messages, and what the answer means of it
@@ -99,6 +102,8 @@ pub record PostHolds (letters : List Letter) (gateway : ℕ) (post : Post) : Typ
 -- request was sent by its node; and what a node heard was sent.
 pub record SceneHolds (scene : Scene) : Type 0 where
   pub posts : (gateway : ℕ) → PostHolds scene.letters gateway (scene.posts gateway)
-  pub told : (letter : Letter) → Contains scene.letters letter → IsTold scene.letters (scene.posts letter.gateway).firm letter letter.says
+  pub told : (letter : Letter) → Contains scene.letters letter →
+      IsTold scene.letters (scene.posts letter.gateway).firm letter letter.says
   pub sent : (letter : Letter) → Contains scene.letters letter → IsSent scene.deeds letter letter.says
-  pub heard : (node : ℕ) (letter : Letter) → Contains (scene.deeds node) (Heard letter) → (letter.node ≡ node) × Contains scene.letters letter
+  pub heard : (node : ℕ) (letter : Letter) → Contains (scene.deeds node) (Heard letter) →
+      (letter.node ≡ node) × Contains scene.letters letter

@@ -5,10 +5,9 @@ use Rattle.gw_base.specs.declared.cause.TheConstants.{ACCEPTED, ALREADY_FULFILLE
 use Rattle.gw_base.specs.declared.history.Caller.{Caller}
 use Rattle.gw_base.specs.declared.history.HistoryAct.{HistoryAct}
 use Rattle.gw_base.specs.declared.history.HistoryAct.TheVariants as act
-use Rattle.gw_base.specs.declared.history.HistoryEntry.{HistoryEntry}
 use Rattle.gateway_book.specs.Answer.{Given}
 use Rattle.gateway_book.specs.Answered.{act_given, entry_by}
-use Rattle.once_core.specs.Happenings.{Asks, Answers, Else, Happening, Sends, Hears, Comes, Opens, Notes, Firms, Keeps, Adds, Letter, Meaning, Deed, Sent, Heard, Note, Post, Request, Scene, Waiting, act_noted, given, history, is_timely, reply}
+use Rattle.once_core.specs.Happenings.{Asks, Answers, Else, Happening, Sends, Hears, Comes, Opens, Notes, Firms, Keeps, Adds, Letter, Meaning, Deed, Sent, Heard, Post, Request, Scene, act_noted, given, history, is_timely, reply}
 
 -- the cause tells a node something of a copy
 abbrev pub is_telling : ℕ → Bool
@@ -132,7 +131,8 @@ happened scene (Comes k room now who) =
     with_one (slice_get scene.letters k) (λ letter. after_coming room now who letter letter.says) scene
 happened scene (Opens gateway node port counter now who) =
     with_post gateway
-    (opening now who (act.Path node port counter) (nat_lt (start_of node.0 (history (scene.posts gateway))) counter) (scene.posts gateway))
+    (opening now who (act.Path node port counter)
+    (nat_lt (start_of node.0 (history (scene.posts gateway))) counter) (scene.posts gateway))
     scene
 happened scene (Notes gateway note now who) = with_post gateway (noting now who (act_noted note) (scene.posts gateway)) scene
 happened scene (Firms gateway) = with_settled gateway (firming (scene.posts gateway)) scene
