@@ -128,8 +128,10 @@ module _ (key : PacketKey) (index : ℕ) where
       where
         shift : (k : ℕ) → n + suc k ≡ n + 1 + k
         shift k = omega arith
+
         none_more : (m : ℕ) → m + 0 ≡ m
         none_more m = omega arith
+
         by_test : (b : Bool) → is_some (place_in settings (items_of h) (n + 0)) ≡ true
             → length (filter_map place_at (enumerate_from (n + 1) ss)) ≡ sources_of_record ss
             → length (cons_option (place_where b settings h n) (filter_map place_at (enumerate_from (n + 1) ss))) ≡ cond b 1 0 + sources_of_record ss
@@ -138,6 +140,7 @@ module _ (key : PacketKey) (index : ℕ) where
             (subst (λ (m : ℕ). is_some (place_in settings (items_of h) m) ≡ true) (none_more n) is)
             ∙ ap (λ (m : ℕ). 1 + m) rest
         by_test false is rest = omega (arith, rest)
+
         by_source : (o : Option FiledRecord) → ((r : FiledRecord) → o ≡ Some r → is_some (place_in settings (items_of h) (n + 0)) ≡ true)
             → length (filter_map place_at (enumerate_from (n + 1) ss)) ≡ sources_of_record ss
             → length (cons_option (place_where (is_source key index o) settings h n) (filter_map place_at (enumerate_from (n + 1) ss)))
@@ -147,7 +150,7 @@ module _ (key : PacketKey) (index : ℕ) where
 
     -- every record item has a place
     pub one_for_each : ((items : List Item) (k : ℕ) (kind : CdrKind) (tag : Option Tag) (octets : List ℕ) (moment : ℕ)
-            → slice_get items k ≡ Some (item.Part kind tag octets moment) → HasPlace settings items k kind tag octets moment)
+        → slice_get items k ≡ Some (item.Part kind tag octets moment) → HasPlace settings items k kind tag octets moment)
         → length (file_places settings key index h) ≡ times_filed key index (filed h)
     one_for_each has =
         placed 0 (sources_of h)

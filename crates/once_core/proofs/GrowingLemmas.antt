@@ -62,9 +62,11 @@ book_grows f v = by_test v.is_broken
     by_finding Whole = on_with v.firm v.rest
     by_finding Gone = on v.firm
     by_finding Refused = on v.firm
+
     by_failing : (fails : Bool) → GoesOn v.firm (if fails then faulted v else committed v).firm
     by_failing true = on v.firm
     by_failing false = on_with v.firm v.rest
+
     by_test : (b : Bool) → GoesOn v.firm (if b then reopened v f.reopening else tried f v).firm
     by_test true = by_finding f.reopening
     by_test false = by_failing f.fails
@@ -152,6 +154,7 @@ opened_grows rules g =
     by_breaking : (b : Bool) → GoesOn g.book.firm (if b then g.book.firm else g.book.firm ++ g.book.rest)
     by_breaking true = on g.book.firm
     by_breaking false = on_with g.book.firm g.book.rest
+
     by_room : (b : Bool) → GoesOn (history_of g.book)
         (if b then recorded (standing_for (history_of g.book)) 0 no_caller Start else standing_for (history_of g.book)).firm
     by_room true = on (history_of g.book)

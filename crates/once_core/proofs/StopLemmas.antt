@@ -1,6 +1,5 @@
 -- What a failed commit leaves, and what a stop leaves.
-use Rattle.std.proofs.Common.{◌≡◌, ℕ, ◌+◌, ◌-◌, Bool, true, false, if◌then◌else◌, List, [], ◌∷◌, ◌++◌, length, take, refl, sym, ap, subst, ◌∙◌, append-nil, length-append, take_all, arith}
-use Rattle.std.proofs.lemmas.Bool.{false≢true}
+use Rattle.std.proofs.Common.{◌≡◌, ℕ, ◌-◌, Bool, true, false, if◌then◌else◌, List, [], ◌++◌, length, take, refl, sym, ap, ◌∙◌, append-nil, length-append, take_all, arith}
 use Rattle.gateway_book.specs.Value.{BookValue, Gone, Whole, faulted, history_of, reopened, standing_for}
 use Rattle.gw_base.specs.declared.history.HistoryEntry.{HistoryEntry}
 use Rattle.once_core.specs.Gateway.{Gateway, cut, entries_left}
@@ -28,8 +27,8 @@ pub kept_whole : (g : Gateway) (keeps : Bool) → g.book.is_broken ≡ false
     → HoldSame (reopened (faulted g.book) Whole) (standing_for (history_of (cut (length (history_of g.book)) keeps g).book))
 kept_whole g keeps e = record {
   firm = ap (λ (xs : List HistoryEntry). g.book.firm ++ xs) (sym (left_is g.book (length (history_of g.book)) keeps e
-    ∙ ap (λ (h : List HistoryEntry). take (length h - length g.book.firm) g.book.rest) (history_is g.book e)
-    ∙ all_left g.book.firm g.book.rest));
+      ∙ ap (λ (h : List HistoryEntry). take (length h - length g.book.firm) g.book.rest) (history_is g.book e)
+      ∙ all_left g.book.firm g.book.rest));
   rest = refl;
   broken = refl;
 }
@@ -38,7 +37,7 @@ pub kept_firm : (g : Gateway) (keeps : Bool) → g.book.is_broken ≡ false
     → HoldSame (reopened (faulted g.book) Gone) (standing_for (history_of (cut (length g.book.firm) keeps g).book))
 kept_firm g keeps e = record {
   firm = sym (append-nil g.book.firm) ∙ ap (λ (xs : List HistoryEntry). g.book.firm ++ xs) (sym (left_is g.book (length g.book.firm) keeps e
-    ∙ none_left g.book.firm g.book.rest));
+      ∙ none_left g.book.firm g.book.rest));
   rest = refl;
   broken = refl;
 }

@@ -75,9 +75,11 @@ book_keeps f v keeps = by_test v.is_broken
     by_finding Whole = alone (v.firm ++ v.rest) keeps
     by_finding Gone = alone v.firm (firm_keeps v keeps)
     by_finding Refused = keeps
+
     by_failing : (fails : Bool) → Keeps (if fails then faulted v else committed v)
     by_failing true = keeps
     by_failing false = alone (v.firm ++ v.rest) keeps
+
     by_test : (b : Bool) → Keeps (if b then reopened v f.reopening else tried f v)
     by_test true = by_finding f.reopening
     by_test false = by_failing f.fails
@@ -141,6 +143,7 @@ left_keeps keep keeps_torn v keeps = by_test v.is_broken keeps_torn
     part = each_front IsAdmitted [] (v.firm ++ take (keep - length v.firm) v.rest) (drop (keep - length v.firm) v.rest)
         (subst AllAdmitted (sym (append_assoc v.firm (take (keep - length v.firm) v.rest) (drop (keep - length v.firm) v.rest)
         ∙ ap (λ (xs : List HistoryEntry). v.firm ++ xs) (take-append-drop (keep - length v.firm) v.rest))) keeps)
+
     by_test : (broken torn : Bool) → AllAdmitted (v.firm ++ (if broken then (if torn then v.rest else []) else take (keep - length v.firm) v.rest))
     by_test true true = keeps
     by_test true false = alone v.firm (firm_keeps v keeps)
@@ -215,9 +218,11 @@ module _ (whole : (octets : List ℕ) → IsWhole (prepared_of octets)) where
       running = expired_keeps m (λ g. followed (readying rules f g) (if_broken (failed m) (answered rules now m)))
           (λ g sound. followed_keeps (readying rules f) (if_broken (failed m) (answered rules now m)) (readying_keeps rules f)
           (broken_keeps (failed m) (answered rules now m) (failed_keeps m) (answered_keeps rules now m)) g)
+
       reopening : KeepsOn (delivered_broken rules now f m)
       reopening = followed_keeps (readying rules f) (if_broken still (unless_expired m (answered rules now m))) (readying_keeps rules f)
           (broken_keeps still (unless_expired m (answered rules now m)) still_keeps (expired_keeps m (answered rules now m) (answered_keeps rules now m)))
+
       by_test : (b : Bool) → Keeps (if b then still g else if_broken (delivered_broken rules now f m) (delivered_running rules now f m) g).gateway.book
       by_test true = keeps
       by_test false = broken_keeps (delivered_broken rules now f m) (delivered_running rules now f m) reopening running g keeps
@@ -273,6 +278,7 @@ first_keeps rules gateways nodes = each gateways
   where
     first : Keeps (first_gateway rules).book
     first = alone ((with_start rules (standing_for [])).firm ++ (with_start rules (standing_for [])).rest) (begun_keeps rules [] tt)
+
     each : (n q : ℕ) → AllAdmitted (all_at (times_of n (first_gateway rules)) q)
     each zero q = tt
     each (suc n) zero = first

@@ -1,5 +1,5 @@
 -- What gateways and nodes make of a message that reaches them, and of what else is asked of them.
-use Rattle.std.specs.Prelude.{ℕ, ◌%◌, ◌+◌, ◌&&◌, Bool, false, if◌then◌else◌, List, [], ◌∷◌, ◌++◌, length, map, Option, Some, None, option_map}
+use Rattle.std.specs.Prelude.{ℕ, ◌%◌, ◌+◌, ◌&&◌, Bool, false, if◌then◌else◌, List, [], ◌∷◌, ◌++◌, length, map, Option, None, option_map}
 use Rattle.byteorder.specs.Endian.{big_bytes}
 use Rattle.gtpp_message.specs.Message.{RedirectionRequest}
 use Rattle.gtpp_message.specs.Writing.{written}
@@ -15,7 +15,7 @@ use Rattle.gateway_book.specs.Answer.{Decided, Silent, Says, answer_by, decided,
 use Rattle.gateway_book.specs.Answered.{no_caller}
 use Rattle.gateway_book.specs.Preparing.{prepared_of}
 use Rattle.gateway_book.specs.Told.{paths_of}
-use Rattle.gateway_book.specs.Value.{BookValue, Fortune, history_of, recorded, recorded_if}
+use Rattle.gateway_book.specs.Value.{Fortune, history_of, recorded, recorded_if}
 use Rattle.once_core.specs.Addresses.{gateway_address, node_address, node_at, node_id, port_at}
 use Rattle.once_core.specs.Expired.{is_expired}
 use Rattle.once_core.specs.Gateway.{Gateway, Moved, Rules, followed, readying, settling, still}
@@ -105,7 +105,7 @@ redirecting gateway cause to g path = record {
   number = g.redirects % 65536;
   named = None;
   octets = written (g.redirects % 65536)
-    (RedirectionRequest cause (option_map (λ other. big_bytes 4 (gateway_address other).ip) to));
+      (RedirectionRequest cause (option_map (λ other. big_bytes 4 (gateway_address other).ip) to));
 }
 
 -- the requests to all nodes with a path, under one number

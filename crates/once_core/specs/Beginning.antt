@@ -2,7 +2,7 @@
 use Rattle.std.specs.Prelude.{ℕ, suc, zero, false, List, [], ◌∷◌}
 use Rattle.gateway_book.specs.Answered.{room_for}
 use Rattle.gateway_book.specs.Value.{committed, is_batch_full, standing_for}
-use Rattle.node_core.specs.Log.{LogEntry, Began}
+use Rattle.node_core.specs.Log.{Began}
 use Rattle.once_core.specs.Gateway.{Gateway, Rules, with_start}
 use Rattle.once_core.specs.World.{World}
 

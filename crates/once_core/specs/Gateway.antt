@@ -1,10 +1,10 @@
 -- A gateway of a world, and how it moves: by commits and openings again, by stopping and opening.
-use Rattle.std.specs.Prelude.{ℕ, Bool, true, false, not, nat_le, ◌||◌, ◌-◌, if◌then◌else◌, List, [], ◌∷◌, ◌++◌, length, map, take, filter}
+use Rattle.std.specs.Prelude.{ℕ, Bool, true, false, not, nat_le, ◌||◌, ◌-◌, if◌then◌else◌, List, [], ◌++◌, length, map, take, filter}
 use Rattle.gw_base.specs.declared.history.HistoryAct.{HistoryAct}
 use Rattle.gw_base.specs.declared.history.HistoryAct.TheVariants.{Start}
 use Rattle.gw_base.specs.declared.history.HistoryEntry.{HistoryEntry}
 use Rattle.gateway_book.specs.Answered.{no_caller}
-use Rattle.gateway_book.specs.Value.{BookValue, Fortune, faulted, history_of, recorded, reopened, standing_for, tried}
+use Rattle.gateway_book.specs.Value.{BookValue, Fortune, history_of, recorded, reopened, standing_for, tried}
 use Rattle.once_core.specs.Messages.{failing, is_response}
 use Rattle.once_core.specs.declared.message.Message.{Message}
 use Rattle.once_core.specs.declared.message.Waiting.{Waiting}

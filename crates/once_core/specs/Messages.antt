@@ -1,5 +1,5 @@
 -- Messages: what kind one is, and what answers it.
-use Rattle.std.specs.Prelude.{ℕ, Bool, false, not, ◌==◌, ◌%◌, List, [], ◌∷◌, Option, None, slice_get, unwrap_or}
+use Rattle.std.specs.Prelude.{ℕ, Bool, false, not, ◌==◌, ◌%◌, List, [], ◌∷◌, None, slice_get, unwrap_or}
 use Rattle.std.specs.Option.{option_map_or}
 use Rattle.gtpp_message.specs.Message.{TransferResponse}
 use Rattle.gtpp_message.specs.Writing.{written}

@@ -1,5 +1,5 @@
 -- Whether each record of each packet is filed once, over all gateways and all copies of the packet.
-use Rattle.std.specs.Prelude.{◌≡◌, ℕ, true, List, [], Option, Some, Contains, slice_get}
+use Rattle.std.specs.Prelude.{◌≡◌, ℕ, true, List, [], Some, Contains, slice_get}
 use Rattle.std.specs.Option.{option_map_or}
 use Rattle.gw_base.specs.declared.history.HistoryEntry.{HistoryEntry}
 use Rattle.gateway_book.specs.Filed.{filed}
@@ -35,6 +35,6 @@ pub record IsFiledFor (h : List HistoryEntry) (node : ℕ) (packet : Followed) (
 -- packet's record with that index.
 pub record Once (w : World) : Type 0 where
   pub placed : (node : ℕ) (packet : Followed) → IsFollowed w node packet →
-    IsOnce (firm_in w) (node_ip node) packet.start (value_octets packet.form) packet.state
+      IsOnce (firm_in w) (node_ip node) packet.start (value_octets packet.form) packet.state
   pub octets : (node : ℕ) (packet : Followed) (copy : PacketCopy) (filing : FiledRecord) → IsFollowed w node packet →
-    IsFiledFor (firm_in w copy.gateway) node packet copy filing → slice_get packet.form.records filing.index ≡ Some filing.octets
+      IsFiledFor (firm_in w copy.gateway) node packet copy filing → slice_get packet.form.records filing.index ≡ Some filing.octets

@@ -1,6 +1,6 @@
 -- Worked values: what a world comes to by some events, and what is seen of it.
-use Rattle.std.specs.Prelude.{ℕ, Bool, true, false, List, [], ◌∷◌, ◌++◌, length, map, None}
-use Rattle.gateway_book.specs.Value.{Gone, Whole}
+use Rattle.std.specs.Prelude.{ℕ, Bool, true, List, [], ◌∷◌, ◌++◌, length, map, None}
+use Rattle.gateway_book.specs.Value.{Gone}
 use Rattle.node_core.specs.Packets.{is_resolved}
 use Rattle.once_core.specs.Addresses.{node_ip}
 use Rattle.once_core.specs.Beginning.{default_rules, world_of}
@@ -11,7 +11,7 @@ use Rattle.once_core.specs.OncePlaced.{places_of}
 use Rattle.once_core.specs.Turn.{Turn, calm, turns}
 use Rattle.once_core.specs.World.{World, log_at}
 use Rattle.once_core.specs.declared.event.Event.{Event}
-use Rattle.once_core.specs.declared.event.Event.TheVariants.{Submit, Tick, Deliver, Commit, Open, Halt, Start, Redirect, Moment, Mark, Close}
+use Rattle.once_core.specs.declared.event.Event.TheVariants.{Submit, Tick, Deliver, Commit, Halt, Start, Redirect, Moment}
 
 -- a world of so many gateways and one node after these turns, or these events with which no device fails
 abbrev pub after_turns : ℕ → List Turn → World

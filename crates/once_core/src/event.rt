@@ -4,21 +4,39 @@ use gw_base::{Moment, Octets};
 #[derive(Debug, Drop)]
 pub enum Event {
     /// A node is given a packet, by the octets of its value.
-    Submit { node: u8, packet: Octets },
+    Submit {
+        node: u8,
+        packet: Octets,
+    },
     /// A node sends what is due.
-    Tick { node: u8 },
+    Tick {
+        node: u8,
+    },
     /// A message that was sent before reaches its receiver, for the first time or again.
-    Deliver { message: u64 },
+    Deliver {
+        message: u64,
+    },
     /// A gateway makes its history firm.
-    Commit { gateway: u8 },
+    Commit {
+        gateway: u8,
+    },
     /// A gateway stops; so many of its entries are left, and the firm ones in any case.
-    Cut { gateway: u8, keep: u64 },
+    Cut {
+        gateway: u8,
+        keep: u64,
+    },
     /// A gateway that stopped begins to run again.
-    Open { gateway: u8 },
+    Open {
+        gateway: u8,
+    },
     /// A node stops.
-    Halt { node: u8 },
+    Halt {
+        node: u8,
+    },
     /// A node that stopped starts again.
-    Start { node: u8 },
+    Start {
+        node: u8,
+    },
     /// A gateway asks all nodes that it has a path to to send elsewhere, to another gateway where
     /// that is given.
     Redirect {
@@ -27,11 +45,17 @@ pub enum Event {
         to: Option<u8>,
     },
     /// The clock of all gateways moves.
-    Moment { now: Moment },
+    Moment {
+        now: Moment,
+    },
     /// A gateway closes files that have been open for long, where a mark is due.
-    Mark { gateway: u8 },
+    Mark {
+        gateway: u8,
+    },
     /// A gateway closes all files, where that is due.
-    Close { gateway: u8 },
+    Close {
+        gateway: u8,
+    },
 }
 
 /// Why a world doesn't allow an event. Where several hold, the first of them counts.

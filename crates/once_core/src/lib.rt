@@ -11,9 +11,9 @@
 mod event;
 mod message;
 pub mod once_laws;
-pub mod world_laws;
 #[cfg(test)]
 mod worked_tests;
+pub mod world_laws;
 
 pub use event::{Event, Stepped, WorldKind};
 pub use message::{Message, Waiting};
