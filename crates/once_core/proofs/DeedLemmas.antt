@@ -1,25 +1,22 @@
 -- What a node knows at the end of a start follows what it did in it.
-use Rattle.std.proofs.Common.{◌≡◌, ◌≢◌, ◌⊎◌, inl, inr, ⊎_elim, ℕ, zero, suc, ◌+◌, ◌<◌, ◌≤◌, ◌==◌, ◌||◌, Bool, true, false, if◌then◌else◌, List, [], ◌∷◌, ◌++◌, length, map, Option, Some, None, IfSome, All, AllPairs, Contains, get_or, refl, sym, ap, subst, ◌∙◌, arith, append_assoc}
-use Rattle.std.proofs.lemmas.Bool.{eq-eqb, eqb-true, false≢true, ne_eqb}
-use Rattle.std.proofs.lemmas.List.{append-nil}
-use Rattle.std.proofs.lemmas.List.Elements.{All-contains, Contains-append_left, Contains-append_right, Contains-get_or}
+use Rattle.std.proofs.Common.{◌≡◌, ⊎_elim, ℕ, ◌+◌, ◌==◌, ◌||◌, Bool, true, false, if◌then◌else◌, List, [], ◌∷◌, ◌++◌, map, Option, Some, None, IfSome, All, Contains, get_or, refl, sym, ap, subst, ◌∙◌, arith, append_assoc}
+use Rattle.std.proofs.lemmas.Bool.{eq-eqb, eqb-true, false≢true}
+use Rattle.std.proofs.lemmas.List.Elements.{Contains-append_left, Contains-append_right}
 use Rattle.std.proofs.lemmas.List.Sums.{sum_by-cons}
-use Rattle.std.specs.List.{flat_map, list_any}
-use Rattle.node_core.specs.Copies.{is_unknown, names}
+use Rattle.std.specs.List.{flat_map}
+use Rattle.node_core.specs.Copies.{names}
 use Rattle.node_core.specs.Log as log
 use Rattle.node_core.specs.Log.{LogEntry, NodeSetup, Responds, Saying, packets_of, runs}
-use Rattle.node_core.specs.Packets.{PacketState}
-use Rattle.node_core.specs.Resting.{AllRestOn, IsFulfilled, IsTold, RestsOn, since_start}
+use Rattle.node_core.specs.Resting.{AllRestOn, IsFulfilled, RestsOn, since_start}
 use Rattle.node_core.specs.declared.copy.Command.{Command}
 use Rattle.node_core.specs.declared.copy.PacketCopy.{PacketCopy}
 use Rattle.node_core.specs.declared.port.Port.{Port}
-use Rattle.node_core.specs.declared.sending.Sending.{Sending}
 use Rattle.once_core.specs.Deeds.{asked_by, deeds_of, letter_of, told_by}
 use Rattle.once_core.specs.Expired.{begins, starts_in}
-use Rattle.once_core.specs.Following.{entries_by, entries_of, heard_in}
+use Rattle.once_core.specs.Following.{entries_of, heard_in}
 use Rattle.once_core.specs.Happenings as did
 use Rattle.once_core.specs.Happenings.{Answers, Deed, Letter}
-use Rattle.once_core.proofs.ListLemmas.{in_cons, in_head, in_none, in_tail}
+use Rattle.once_core.proofs.ListLemmas.{in_cons, in_head, in_none}
 
 -- ---- what was heard is among the deeds
 

@@ -1,23 +1,23 @@
 -- What a node knows in a start, by the laws of nodes.
-use Rattle.std.proofs.Common.{◌≡◌, ◌≢◌, ◌⊎◌, inl, inr, ⊎_elim, ℕ, suc, min, ◌+◌, ◌-◌, ◌%◌, ◌<◌, ◌≤◌, ◌==◌, Bool, true, false, if◌then◌else◌, List, [], ◌∷◌, ◌++◌, length, length-set, map, Option, Some, None, All, Contains, get_or, slice_get, slice_set, refl, sym, ap, subst, ◌∙◌, arith}
+use Rattle.std.proofs.Common.{◌≡◌, ◌≢◌, ◌⊎◌, inl, inr, ⊎_elim, ℕ, suc, min, ◌+◌, ◌%◌, ◌<◌, ◌≤◌, Bool, true, false, if◌then◌else◌, List, [], ◌∷◌, length, length-set, map, Option, Some, None, All, Contains, slice_get, slice_set, refl, ap, ◌∙◌, arith}
 use Rattle.std.proofs.lemmas.Bool.{cases_lt, ne_eqb}
-use Rattle.std.proofs.lemmas.List.Elements.{All-contains, Contains-get_or}
+use Rattle.std.proofs.lemmas.List.Elements.{All-contains}
 use Rattle.std.specs.Option.{option_map_or}
 use Rattle.gw_base.specs.declared.address.Addr.{Addr}
 use Rattle.node_core.specs.Choosing.{ReleasesChoice}
 use Rattle.node_core.specs.Log.{LogEntry, Began, Halted, Submitted, Appointed, Ticked, Heard, NodeSetup, packets_of, peers_of}
 use Rattle.node_core.specs.Packets.{PacketState}
-use Rattle.node_core.specs.Peers.{all_drawn, at_place, drawn, end_of_numbers, next_number, number_drawn, path_drawn, peer_anew}
+use Rattle.node_core.specs.Peers.{all_drawn, at_place, drawn, end_of_numbers, next_number, number_drawn, peer_anew}
 use Rattle.node_core.specs.Reached.{NodeCall, log_of, reached}
 use Rattle.node_core.specs.Resting.{AllRestOn, since_start}
-use Rattle.node_core.specs.Roles.{HasOneRole, IsPlainFirst, IsRising, IsSingle, uses, uses_by_command, uses_by_copies, uses_by_copy, use_of}
+use Rattle.node_core.specs.Roles.{HasOneRole, IsRising, IsSingle, uses, uses_by_command, uses_by_copies, uses_by_copy, use_of}
 use Rattle.node_core.specs.declared.copy.PacketCopy.{PacketCopy}
 use Rattle.node_core.specs.declared.peer.Peer.{Peer}
 use Rattle.node_core.specs.declared.sending.Sending.{Sending}
 use Rattle.node_core.specs.declared.sending.Sending.TheVariants as send
 use Rattle.once_core.specs.Deeds.{deeds_of}
 use Rattle.once_core.specs.Expired.{starts_in}
-use Rattle.once_core.specs.Following.{Knows, heard_in}
+use Rattle.once_core.specs.Following.{Knows}
 use Rattle.once_core.proofs.DeedLemmas.{all_rest}
 use Rattle.once_core.proofs.ListLemmas.{in_head, in_tail}
 

@@ -1,5 +1,8 @@
-//! Laws of every list of happenings at gateways and nodes. Each stands on a function that does
-//! nothing.
+//! Laws of every list of happenings at gateways and nodes, where messages are what they mean. Each
+//! stands on a function that does nothing.
+//!
+//! Not proved yet: that each request in the log of a node is of one of its copies, as `Follows` asks,
+//! and that a world with octets is such a list of happenings.
 
 ghost use Rattle.std.specs.Prelude.{◌≡◌, ◌≤◌, ◌++◌, ℕ, All, List, Some, length};
 ghost use Rattle.gw_base.specs.History.{epoch_of};
