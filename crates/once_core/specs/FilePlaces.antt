@@ -35,6 +35,6 @@ place_where true settings h k = place_in settings (items_of h) k
 place_where false settings h k = None
 
 -- The places, each a stream, a file of it and an index there, at which that record stands in the files of a history.
-abbrev pub places_of : Settings → PacketKey → ℕ → List HistoryEntry → List FilePlace
-places_of settings key index h =
+abbrev pub file_places : Settings → PacketKey → ℕ → List HistoryEntry → List FilePlace
+file_places settings key index h =
     filter_map (λ item. place_where (is_source key index item.1) settings h item.0) (enumerate_from 0 (sources_of h))

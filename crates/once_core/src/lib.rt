@@ -2,7 +2,10 @@
 //! message, and whether each record is filed once (3GPP TS 32.295, clause 5.2).
 //!
 //! The model is `World` of `specs/World.antt`: what every gateway and every node holds, and all
-//! messages ever sent. `specs/Turn.antt` says what an event makes of it.
+//! messages ever sent. `specs/Turn.antt` says what an event makes of it, and `specs/Once.antt` what
+//! filing once means. The contract is that of the laws, which hold for all settings and whatever
+//! happens: `world_laws` of worlds with the octets of their messages, `once_laws` of what messages
+//! mean. That `Once` holds of every world isn't proved yet, and no call plays events yet.
 #![tactic(auto)]
 
 mod event;

@@ -5,11 +5,14 @@ ghost use Rattle.file_writer.specs.Places.{FilePlace, place_in};
 ghost use Rattle.file_writer.specs.Streams.{Settings};
 ghost use Rattle.gateway_book.specs.Filed.{filed};
 ghost use Rattle.gateway_book.specs.Items.{items_of};
+ghost use Rattle.gateway_book.specs.Once.{times_filed};
 ghost use Rattle.gateway_book.specs.Value.{BookValue, Gone, Refused, Whole, faulted, history_of, reopened, standing_for};
 ghost use Rattle.gw_base.specs.History.{state_of};
+ghost use Rattle.gw_base.specs.declared.history.HistoryEntry.{HistoryEntry};
 ghost use Rattle.gw_base.specs.declared.history.PacketKey.{PacketKey};
 ghost use Rattle.once_core.specs.Admitted.{AllAdmitted, moves_on};
 ghost use Rattle.once_core.specs.Beginning.{world_of};
+ghost use Rattle.once_core.specs.FilePlaces.{file_places};
 ghost use Rattle.once_core.specs.Gateway.{Gateway, Rules, cut};
 ghost use Rattle.once_core.specs.Growing.{GoesOn, HoldSame};
 ghost use Rattle.once_core.specs.Once.{firm_in};
@@ -32,6 +35,15 @@ pub fn places_stay()
         place_in settings (items_of (firm_in (turns rules w later) place)) k ≡ Some at }
 {
     file_writer::places::a_place_stays();
+}
+
+/// A record stands in the files of a history at as many places as it was filed times: each filed
+/// record has one place.
+pub fn each_filed_record_has_one_place()
+    ensures { (settings : Settings) (key : PacketKey) (index : ℕ) (h : List HistoryEntry) →
+        length (file_places settings key index h) ≡ times_filed key index (filed h) }
+{
+    file_writer::places::each_record_has_one_place();
 }
 
 /// Each entry of a firm part keeps to the table of answers: what it files, holds or seals was fresh,
