@@ -18,3 +18,6 @@ pub mod MoveLemmas
 pub mod RoleLemmas
 pub mod KnownLemmas
 pub mod OnceLemmas
+pub mod StoryLemmas
+pub mod DeedLemmas
+pub mod NodeLemmas

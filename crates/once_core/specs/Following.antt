@@ -67,3 +67,10 @@ pub record Follows (deeds : List Deed) (start : ℕ) (values : ℕ → List ℕ)
   pub rests : All (AllRestOn (heard_in start deeds)) packets
   pub sends : (letter : Letter) → Contains deeds (did.Sent letter) → letter.start ≡ start →
       MaySend packets values letter letter.says
+
+-- the same of what the node knows, but for what it sent
+pub record Knows (deeds : List Deed) (start : ℕ) (packets : List PacketState) : Type 0 where
+  pub roles : (gateway number : ℕ) → uses gateway number packets ≤ 1
+  pub plain : All (λ packet. IsPlainFirst packet.copies) packets
+  pub choice : All ReleasesChoice packets
+  pub rests : All (AllRestOn (heard_in start deeds)) packets

@@ -15,8 +15,10 @@ pub mod Admitted
 pub mod Worked
 -- The same by what the messages mean.
 pub mod Epochs
+pub mod Deeds
 pub mod Following
 pub mod Happenings
 pub mod OncePlaced
 pub mod Resting
 pub mod Scenes
+pub mod Story
