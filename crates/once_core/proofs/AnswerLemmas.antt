@@ -1,0 +1,209 @@
+-- What a gateway records for a timely request rests on it, and its answer tells the state.
+use Rattle.std.proofs.Common.{◌≡◌, ℕ, ◌%◌, ◌==◌, ◌&&◌, ◌||◌, Bool, true, false, cond, if◌then◌else◌, List, [], ◌∷◌, ◌++◌, Option, Some, None, Contains, refl, sym, ap, subst, ◌∙◌}
+use Rattle.std.proofs.lemmas.Bool.{and_parts, and_from, or_left, eqb-true, eq-eqb, false≢true}
+use Rattle.gw_base.specs.History.{names, present_state, top_of}
+use Rattle.gw_base.specs.Lists.{once}
+use Rattle.gw_base.specs.Nearest.{nearest}
+use Rattle.gw_base.specs.Observed.{observed}
+use Rattle.gw_base.specs.Starts.{start_of}
+use Rattle.gw_base.specs.declared.address.NodeId.{NodeId}
+use Rattle.gw_base.specs.declared.cause.TheConstants.{ACCEPTED, ALREADY_FULFILLED, DUPLICATE_ALREADY_FULFILLED, NO_RESOURCES, NOT_FULFILLED, NUMBERS_INCORRECT}
+use Rattle.gw_base.specs.declared.history.Caller.{Caller}
+use Rattle.gw_base.specs.declared.history.HistoryAct.{HistoryAct}
+use Rattle.gw_base.specs.declared.history.HistoryAct.TheVariants as act
+use Rattle.gw_base.specs.declared.history.HistoryEntry.{HistoryEntry}
+use Rattle.gw_base.specs.declared.key_state.KeyState.{KeyState}
+use Rattle.gw_base.specs.declared.key_state.KeyState.TheVariants.{Fresh, Filed, Sealed, Held, Released, Cancelled}
+use Rattle.gateway_book.specs.Answer.{Given, changes, may_record, recorded_as, recording, responding, tabled}
+use Rattle.gateway_book.specs.Answered.{act_given, entry_by, with_act}
+use Rattle.node_core.specs.declared.copy.Order.TheVariants as order
+use Rattle.transfer_cmd.specs.Lists.{is_held, verdict_cause, verdict_of}
+use Rattle.transfer_cmd.specs.Table.{answer_cause, state_given}
+use Rattle.transfer_cmd.specs.declared.decision.Ask.TheVariants as ask
+use Rattle.once_core.specs.Epochs.{StartsRise}
+use Rattle.once_core.specs.Happenings.{Asks, Letter, Orders, Request, Sends, Tests, about, cause_of, given, is_timely, node_at}
+use Rattle.once_core.specs.Resting.{IsAsked, IsState, RestsBy, Tells}
+use Rattle.once_core.proofs.ForwardLemmas.{state_given_now, state_now}
+
+-- what an answer records rests on the request, and what it says tells the state behind it
+pub record IsSound (letters : List Letter) (h : List HistoryEntry) (letter : Letter) (request : Request) (answer : Given) : Type 0 where
+  pub rests : (a : HistoryAct) → act_given answer ≡ Some a → RestsBy letters letter.gateway h a
+  pub tells : (now : ℕ) (who : Caller) → Tells (with_act h now who (act_given answer)) letter request (cause_of answer)
+
+some_act : (a b : HistoryAct) → Some a ≡ Some b → a ≡ b
+some_act a b e = ap (λ (o : Option HistoryAct). elim o [ None ↦ a | Some c ↦ c ]) e
+
+no_act : (a : HistoryAct) → None ≡ Some a → ⊥
+no_act a e = absurd (cc)
+
+module _ (letters : List Letter) (h : List HistoryEntry) (letter : Letter) (rise : StartsRise h) (present : letter.start ≡ start_of letter.node h) where
+  abbrev node : NodeId
+  node = node_at letter.node
+
+  -- an answer that records nothing
+  silent : (request : Request) (number cause : ℕ) → Tells h letter request cause → IsSound letters h letter request (responding number cause None)
+  silent request number cause told = record { rests = λ a e. absurd (no_act a e); tells = λ now who. told }
+
+  -- one that records an act, or has no room for it
+  recorded : (room : HistoryAct → Bool) (request : Request) (number : ℕ) (a : HistoryAct) → RestsBy letters letter.gateway h a
+      → ((now : ℕ) (who : Caller) → Tells (h ++ entry_by h now who a ∷ []) letter request ACCEPTED) → Tells h letter request NO_RESOURCES
+      → IsSound letters h letter request (recording (observed h node) room number ACCEPTED a)
+  recorded room request number a rests told without = by_test (may_record (observed h node) room a)
+    where
+      by_test : (b : Bool) → IsSound letters h letter request (if b then responding number ACCEPTED (Some a) else responding number NO_RESOURCES None)
+      by_test true = record { rests = λ c e. subst (RestsBy letters letter.gateway h) (some_act a c e) rests; tells = told }
+      by_test false = silent request number NO_RESOURCES without
+
+  -- the state now, and after an entry that names a number
+  now_is : (number : ℕ) (s : KeyState) → present_state letter.node number h ≡ s → IsState h letter.node letter.start number s
+  now_is number s is = subst (λ (t : ℕ). IsState h letter.node t number s) (sym present) (state_now h letter.node number s rise is)
+
+  then_is : (e : HistoryEntry) (number : ℕ) (s : KeyState) → names letter.node number e.act ≡ true → (s' : KeyState) → s' ≡ s
+      → IsState (h ++ e ∷ []) letter.node (start_of letter.node h) number s' → IsState (h ++ e ∷ []) letter.node letter.start number s
+  then_is e number s named s' same is =
+      subst (λ (t : ℕ). IsState (h ++ e ∷ []) letter.node t number s) (sym present) (subst (IsState (h ++ e ∷ []) letter.node (start_of letter.node h) number) same is)
+
+  abbrev named_here : ℕ → Bool
+  named_here number = (letter.node == letter.node) && (number == number)
+
+  names_it : (number : ℕ) → ((letter.node == letter.node) && (number == number)) ≡ true
+  names_it number = and_from (letter.node == letter.node) (number == number) (eq-eqb letter.node letter.node refl) (eq-eqb number number refl)
+
+  names_one : (number : ℕ) → ((letter.node == letter.node) && ((number == number) || false)) ≡ true
+  names_one number =
+      and_from (letter.node == letter.node) ((number == number) || false) (eq-eqb letter.node letter.node refl) (or_left (number == number) false (eq-eqb number number refl))
+
+  -- the request is among the messages
+  asked : (request : Request) → Contains letters letter → letter.says ≡ Asks request → IsAsked letters letter.node (start_of letter.node h) letter.gateway letter.number request
+  asked request kept says = record {
+    port = letter.port;
+    kept = subst (Contains letters) (λ i. record letter { start = present i; says = says i }) kept;
+  }
+
+  module _ (room : HistoryAct → Bool) (number : ℕ) (kept : Contains letters letter) where
+    send_table : (packet : List ℕ) (s : KeyState) → present_state letter.node letter.number h ≡ s → letter.says ≡ Asks (Sends true packet)
+        → IsSound letters h letter (Sends true packet)
+        (tabled (observed h node) room number (answer_cause ask.Send s) (recorded_as ask.Send node letter.number packet (state_given ask.Send s)))
+    send_table packet Fresh is says =
+        recorded room (Sends true packet) number (act.File node letter.number packet) (is, asked (Sends true packet) kept says)
+        (λ now who filing. let e = entry_by h now who (act.File node letter.number packet) in
+        then_is e letter.number Filed (names_it letter.number) Filed refl (state_given_now h e letter.node letter.number rise (names_it letter.number)))
+        (λ filing. absurd (false≢true filing))
+    send_table packet Filed is says = silent (Sends true packet) number ALREADY_FULFILLED (λ filing. now_is letter.number Filed is)
+    send_table packet Sealed is says = silent (Sends true packet) number NOT_FULFILLED (λ filing. absurd (false≢true filing))
+    send_table packet Held is says = silent (Sends true packet) number DUPLICATE_ALREADY_FULFILLED (λ filing. absurd (false≢true filing))
+    send_table packet Released is says = silent (Sends true packet) number DUPLICATE_ALREADY_FULFILLED (λ filing. absurd (false≢true filing))
+    send_table packet Cancelled is says = silent (Sends true packet) number DUPLICATE_ALREADY_FULFILLED (λ filing. absurd (false≢true filing))
+
+    possible_table : (packet : List ℕ) (s : KeyState) → present_state letter.node letter.number h ≡ s → letter.says ≡ Asks (Sends false packet)
+        → IsSound letters h letter (Sends false packet)
+        (tabled (observed h node) room number (answer_cause ask.Possible s) (recorded_as ask.Possible node letter.number packet (state_given ask.Possible s)))
+    possible_table packet Fresh is says =
+        recorded room (Sends false packet) number (act.Hold node letter.number packet) (is, asked (Sends false packet) kept says) (λ now who. tt) tt
+    possible_table packet Filed is says = silent (Sends false packet) number ALREADY_FULFILLED tt
+    possible_table packet Sealed is says = silent (Sends false packet) number NOT_FULFILLED tt
+    possible_table packet Held is says = silent (Sends false packet) number DUPLICATE_ALREADY_FULFILLED tt
+    possible_table packet Released is says = silent (Sends false packet) number DUPLICATE_ALREADY_FULFILLED tt
+    possible_table packet Cancelled is says = silent (Sends false packet) number DUPLICATE_ALREADY_FULFILLED tt
+
+    abbrev cause_is : ℕ → ℕ → Bool
+    cause_is a b = a == b
+
+    apart : (a b : ℕ) → (a == b) ≡ false → a ≡ b → ⊥
+    apart a b other e = false≢true (sym other ∙ eq-eqb a b e)
+
+    test_table : (packet : List ℕ) (s : KeyState) → present_state letter.node letter.number h ≡ s → letter.says ≡ Asks Tests
+        → IsSound letters h letter Tests (tabled (observed h node) room number (answer_cause ask.Empty s) (recorded_as ask.Empty node letter.number packet (state_given ask.Empty s)))
+    test_table packet Fresh is says =
+        recorded room Tests number (act.Seal node letter.number) is
+        (λ now who. let e = entry_by h now who (act.Seal node letter.number) in (
+          λ c. absurd (apart ACCEPTED ALREADY_FULFILLED refl c),
+          λ c. then_is e letter.number Sealed (names_it letter.number) Sealed refl (state_given_now h e letter.node letter.number rise (names_it letter.number)),
+        ))
+        (λ c. absurd (apart NO_RESOURCES ALREADY_FULFILLED refl c), λ c. absurd (apart NO_RESOURCES ACCEPTED refl c))
+    test_table packet Filed is says =
+        silent Tests number ALREADY_FULFILLED (λ c. now_is letter.number Filed is, λ c. absurd (apart ALREADY_FULFILLED ACCEPTED refl c))
+    test_table packet Sealed is says = silent Tests number ACCEPTED (λ c. absurd (apart ACCEPTED ALREADY_FULFILLED refl c), λ c. now_is letter.number Sealed is)
+    test_table packet Held is says =
+        silent Tests number DUPLICATE_ALREADY_FULFILLED
+        (λ c. absurd (apart DUPLICATE_ALREADY_FULFILLED ALREADY_FULFILLED refl c), λ c. absurd (apart DUPLICATE_ALREADY_FULFILLED ACCEPTED refl c))
+    test_table packet Released is says =
+        silent Tests number DUPLICATE_ALREADY_FULFILLED
+        (λ c. absurd (apart DUPLICATE_ALREADY_FULFILLED ALREADY_FULFILLED refl c), λ c. absurd (apart DUPLICATE_ALREADY_FULFILLED ACCEPTED refl c))
+    test_table packet Cancelled is says =
+        silent Tests number DUPLICATE_ALREADY_FULFILLED
+        (λ c. absurd (apart DUPLICATE_ALREADY_FULFILLED ALREADY_FULFILLED refl c), λ c. absurd (apart DUPLICATE_ALREADY_FULFILLED ACCEPTED refl c))
+
+    -- a list of one number
+    abbrev one_held : KeyState → ℕ → List ℕ
+    one_held s named = once (λ x y. x == y) (cond (is_held s) (named ∷ []) [])
+
+    release_table : (named : ℕ) (s : KeyState) → present_state letter.node named h ≡ s → letter.says ≡ Asks (Orders order.Release named)
+        → IsSound letters h letter (Orders order.Release named)
+        (tabled (observed h node) room number (verdict_cause (verdict_of true (s ∷ []))) (changes (verdict_of true (s ∷ [])) true node (one_held s named)))
+    release_table named Held is says =
+        recorded room (Orders order.Release named) number (act.Release node (named ∷ []))
+        (record {
+          names = record { number = named; alone = refl; held = is };
+          own = letter.number;
+          asked = asked (Orders order.Release named) kept says;
+        })
+        (λ now who fulfilled. let e = entry_by h now who (act.Release node (named ∷ [])) in
+        then_is e named Released (names_one named) Released refl (state_given_now h e letter.node named rise (names_one named)))
+        (λ fulfilled. absurd (false≢true fulfilled))
+    release_table named Released is says = silent (Orders order.Release named) number DUPLICATE_ALREADY_FULFILLED (λ fulfilled. now_is named Released is)
+    release_table named Fresh is says = silent (Orders order.Release named) number NUMBERS_INCORRECT (λ fulfilled. absurd (false≢true fulfilled))
+    release_table named Filed is says = silent (Orders order.Release named) number NUMBERS_INCORRECT (λ fulfilled. absurd (false≢true fulfilled))
+    release_table named Sealed is says = silent (Orders order.Release named) number NUMBERS_INCORRECT (λ fulfilled. absurd (false≢true fulfilled))
+    release_table named Cancelled is says = silent (Orders order.Release named) number NUMBERS_INCORRECT (λ fulfilled. absurd (false≢true fulfilled))
+
+    cancel_table : (named : ℕ) (s : KeyState) → present_state letter.node named h ≡ s
+        → IsSound letters h letter (Orders order.Cancel named)
+        (tabled (observed h node) room number (verdict_cause (verdict_of false (s ∷ []))) (changes (verdict_of false (s ∷ [])) false node (one_held s named)))
+    cancel_table named Held is =
+        recorded room (Orders order.Cancel named) number (act.Cancel node (named ∷ [])) (record { number = named; alone = refl; held = is }) (λ now who. tt) tt
+    cancel_table named Released is = silent (Orders order.Cancel named) number NUMBERS_INCORRECT tt
+    cancel_table named Fresh is = silent (Orders order.Cancel named) number NUMBERS_INCORRECT tt
+    cancel_table named Filed is = silent (Orders order.Cancel named) number NUMBERS_INCORRECT tt
+    cancel_table named Sealed is = silent (Orders order.Cancel named) number NUMBERS_INCORRECT tt
+    cancel_table named Cancelled is = silent (Orders order.Cancel named) number DUPLICATE_ALREADY_FULFILLED tt
+
+-- the answer to a timely request
+pub answer_is_sound : (letters : List Letter) (h : List HistoryEntry) (letter : Letter) (request : Request) (room : HistoryAct → Bool) → StartsRise h
+    → Contains letters letter → letter.says ≡ Asks request → is_timely h letter request ≡ true → IsSound letters h letter request (given h room letter request)
+answer_is_sound letters h letter request room rise kept says timely =
+    let parts = and_parts (letter.start == start_of letter.node h) (nearest (top_of letter.node h) (about request letter.number % 65536) == about request letter.number) timely in
+    by_request request says
+    (eqb-true letter.start (start_of letter.node h) parts.0)
+    (eqb-true (nearest (top_of letter.node h) (about request letter.number % 65536)) (about request letter.number) parts.1)
+  where
+    by_request : (asks : Request) → letter.says ≡ Asks asks → letter.start ≡ start_of letter.node h
+        → nearest (top_of letter.node h) (about asks letter.number % 65536) ≡ about asks letter.number
+        → IsSound letters h letter asks (given h room letter asks)
+    by_request (Sends true packet) says present meant =
+        subst
+        (λ (m : ℕ). IsSound letters h letter (Sends true packet)
+        (tabled (observed h (node_at letter.node)) room (letter.number % 65536) (answer_cause ask.Send (present_state letter.node m h)) (recorded_as ask.Send (node_at letter.node) m packet (state_given ask.Send (present_state letter.node m h)))))
+        (sym meant) (send_table letters h letter rise present room (letter.number % 65536) kept packet (present_state letter.node letter.number h) refl says)
+    by_request (Sends false packet) says present meant =
+        subst
+        (λ (m : ℕ). IsSound letters h letter (Sends false packet)
+        (tabled (observed h (node_at letter.node)) room (letter.number % 65536) (answer_cause ask.Possible (present_state letter.node m h)) (recorded_as ask.Possible (node_at letter.node) m packet (state_given ask.Possible (present_state letter.node m h)))))
+        (sym meant) (possible_table letters h letter rise present room (letter.number % 65536) kept packet (present_state letter.node letter.number h) refl says)
+    by_request Tests says present meant =
+        subst
+        (λ (m : ℕ). IsSound letters h letter Tests
+        (tabled (observed h (node_at letter.node)) room (letter.number % 65536) (answer_cause ask.Empty (present_state letter.node m h)) (recorded_as ask.Empty (node_at letter.node) m [] (state_given ask.Empty (present_state letter.node m h)))))
+        (sym meant) (test_table letters h letter rise present room (letter.number % 65536) kept [] (present_state letter.node letter.number h) refl says)
+    by_request (Orders order.Release named) says present meant =
+        subst
+        (λ (m : ℕ). IsSound letters h letter (Orders order.Release named)
+        (tabled (observed h (node_at letter.node)) room (letter.number % 65536) (verdict_cause (verdict_of true (present_state letter.node m h ∷ [])))
+        (changes (verdict_of true (present_state letter.node m h ∷ [])) true (node_at letter.node) (once (λ x y. x == y) (cond (is_held (present_state letter.node m h)) (m ∷ []) [])))))
+        (sym meant) (release_table letters h letter rise present room (letter.number % 65536) kept named (present_state letter.node named h) refl says)
+    by_request (Orders order.Cancel named) says present meant =
+        subst
+        (λ (m : ℕ). IsSound letters h letter (Orders order.Cancel named)
+        (tabled (observed h (node_at letter.node)) room (letter.number % 65536) (verdict_cause (verdict_of false (present_state letter.node m h ∷ [])))
+        (changes (verdict_of false (present_state letter.node m h ∷ [])) false (node_at letter.node) (once (λ x y. x == y) (cond (is_held (present_state letter.node m h)) (m ∷ []) [])))))
+        (sym meant) (cancel_table letters h letter rise present room (letter.number % 65536) kept named (present_state letter.node named h) refl)

@@ -1,0 +1,106 @@
+-- What is filed under a key is the record with its index of a packet that was sent with the key's number.
+use Rattle.std.proofs.Common.{◌≡◌, ⊎_elim, ℕ, ◌==◌, Bool, true, false, List, [], ◌∷◌, ◌++◌, Option, Some, None, Contains, slice_get, refl, sym, ap, subst, ◌∙◌}
+use Rattle.std.proofs.lemmas.Bool.{eqb-true}
+use Rattle.std.proofs.lemmas.List.{append-nil}
+use Rattle.std.proofs.lemmas.List.Elements.{Contains-append_cases}
+use Rattle.std.specs.Option.{option_map_or}
+use Rattle.gw_base.specs.History.{present_state, state_of}
+use Rattle.gw_base.specs.Lists.{once}
+use Rattle.gw_base.specs.declared.address.NodeId.{NodeId}
+use Rattle.gw_base.specs.declared.history.Caller.{Caller}
+use Rattle.gw_base.specs.declared.history.HistoryAct.{HistoryAct}
+use Rattle.gw_base.specs.declared.history.HistoryAct.TheVariants as act
+use Rattle.gw_base.specs.declared.history.HistoryEntry.{HistoryEntry}
+use Rattle.gw_base.specs.declared.history.PacketKey.{PacketKey}
+use Rattle.gw_base.specs.declared.key_state.KeyState.TheVariants.{Held}
+use Rattle.gateway_book.specs.Filed.{filed, filed_by, filed_by_act, held_packet, present_key, records_of, released_by, released_records}
+use Rattle.gateway_book.specs.FiledLaws.{along-append}
+use Rattle.gateway_book.specs.Once.{same_key}
+use Rattle.gateway_book.specs.declared.filing.FiledRecord.{FiledRecord}
+use Rattle.once_core.specs.Epochs.{StartsRise}
+use Rattle.once_core.specs.Happenings.{Letter, Sends}
+use Rattle.once_core.specs.OncePlaced.{records_within}
+use Rattle.once_core.specs.Resting.{Rests, RestsBy}
+use Rattle.once_core.proofs.CountLemmas.{Counted, IsBacked, IsHere, backed_at, backed_stays, counted, fresh_here, held_here, is_here, same_here, starts_rise}
+use Rattle.once_core.proofs.EachLemmas.{by_each}
+use Rattle.once_core.proofs.FiledLemmas.{record_within}
+use Rattle.once_core.proofs.ListLemmas.{in_none}
+
+module _ (letters : List Letter) (gateway : ℕ) (key : PacketKey) where
+  -- the request that brought a record
+  pub record IsBrought (h : List HistoryEntry) (filing : FiledRecord) : Type 0 where
+    pub plain : Bool
+    pub octets : List ℕ
+    pub backed : IsBacked letters gateway key h key.number (Sends plain octets)
+    pub at : slice_get (records_within octets) filing.index ≡ Some filing.octets
+
+  brought_stays : (h g : List HistoryEntry) (filing : FiledRecord) → IsBrought h filing → IsBrought (h ++ g) filing
+  brought_stays h g filing is =
+      record { plain = is.plain; octets = is.octets; backed = backed_stays letters gateway key h g key.number (Sends is.plain is.octets) is.backed; at = is.at }
+
+  abbrev Brings : List HistoryEntry → List FiledRecord → Type 0
+  Brings h filings = (filing : FiledRecord) → Contains filings filing → same_key filing.key key ≡ true → IsBrought h filing
+
+  abbrev entry : ℕ → Caller → HistoryAct → HistoryEntry
+  entry moment who a = record { moment = moment; caller = who; act = a }
+
+  -- the key of a record of a packet is the key that it was filed under
+  key_here : (h : List HistoryEntry) (n : NodeId) (x : ℕ) (filing : FiledRecord) → filing.key ≡ present_key h n x → same_key filing.key key ≡ true
+      → IsHere letters gateway key h n (x == key.number)
+  key_here h n x filing of same =
+      is_here letters gateway key h n (x == key.number) (sym (same_here letters gateway key h n x) ∙ ap (λ (k : PacketKey). same_key k key) (sym of) ∙ same)
+
+  by_release : (h : List HistoryEntry) (moment : ℕ) (who : Caller) (n : NodeId) (xs : List ℕ) (x : ℕ) → StartsRise h → xs ≡ x ∷ [] → present_state n.0 x h ≡ Held
+      → Counted letters gateway key 0 h (state_of key h)
+      → Brings (h ++ entry moment who (act.Release n xs) ∷ []) (released_by h moment n (once (λ y z. y == z) xs))
+  by_release h moment who n xs x rise alone held so_far filing kept same =
+      by_packet (held_packet n.0 x h) refl
+      (subst (λ rs. Contains rs filing) (ap (λ ys. released_by h moment n (once (λ y z. y == z) ys)) alone ∙ append-nil (released_records h moment n x)) kept)
+    where
+      by_packet : (packet : Option (List ℕ)) → held_packet n.0 x h ≡ packet → Contains (option_map_or (records_of (present_key h n x) moment) packet []) filing
+          → IsBrought (h ++ entry moment who (act.Release n xs) ∷ []) filing
+      by_packet None none kept = absurd (in_none filing kept)
+      by_packet (Some octets) some kept =
+          let there = record_within (present_key h n x) moment octets filing kept in
+          let is = key_here h n x filing there.1 same in
+          let as_held = fresh_here letters gateway key 0 h n x Held is held so_far in
+          let both : Some as_held.0 ≡ Some octets =
+          sym as_held.2 ∙ sym (held_here letters gateway key h n (x == key.number) is) ∙ ap (λ (y : ℕ). held_packet n.0 y h) (sym (eqb-true x key.number is.test)) ∙ some in
+          let octets_are : as_held.0 ≡ octets = cc in
+          record {
+            plain = false;
+            octets = as_held.0;
+            backed = backed_stays letters gateway key h (entry moment who (act.Release n xs) ∷ []) key.number (Sends false as_held.0) as_held.3;
+            at = ap (λ (os : List ℕ). slice_get (records_within os) filing.index) octets_are ∙ there.0;
+          }
+
+  by_act : (h : List HistoryEntry) (moment : ℕ) (who : Caller) (a : HistoryAct) → StartsRise h → RestsBy letters gateway h a → Counted letters gateway key 0 h (state_of key h)
+      → Brings (h ++ entry moment who a ∷ []) (filed_by_act h moment a)
+  by_act h moment who (act.File n x packet) rise rests so_far filing kept same =
+      let there = record_within (present_key h n x) moment packet filing kept in
+      let is = key_here h n x filing there.1 same in
+      record {
+        plain = true;
+        octets = packet;
+        backed = backed_at letters gateway key 0 h (entry moment who (act.File n x packet)) n x (Sends true packet) rise is rests.1;
+        at = there.0;
+      }
+  by_act h moment who (act.Release n xs) rise rests so_far filing kept same =
+      by_release h moment who n xs rests.names.number rise rests.names.alone rests.names.held so_far filing kept same
+  by_act h moment who (act.Hold n x packet) rise rests so_far filing kept same = absurd (in_none filing kept)
+  by_act h moment who (act.Seal n x) rise rests so_far filing kept same = absurd (in_none filing kept)
+  by_act h moment who (act.Cancel n xs) rise rests so_far filing kept same = absurd (in_none filing kept)
+  by_act h moment who act.Start rise rests so_far filing kept same = absurd (in_none filing kept)
+  by_act h moment who (act.Path n port counter) rise rests so_far filing kept same = absurd (in_none filing kept)
+  by_act h moment who act.Tick rise rests so_far filing kept same = absurd (in_none filing kept)
+  by_act h moment who act.Close rise rests so_far filing kept same = absurd (in_none filing kept)
+
+  pub brought : (h : List HistoryEntry) → Rests letters gateway h → Brings h (filed h)
+  brought =
+      by_each (λ before e. RestsBy letters gateway before e.act) (λ h. Brings h (filed h))
+      (λ filing kept same. absurd (in_none filing kept))
+      (λ h e all rests so_far filing kept same. ⊎_elim
+      (λ old. brought_stays h (e ∷ []) filing (so_far filing old same))
+      (λ new. by_act h e.moment e.caller e.act (starts_rise letters gateway h all) rests (counted letters gateway key 0 h all) filing new same)
+      (Contains-append_cases (filed h) (filed_by h e) filing
+      (subst (λ rs. Contains rs filing) (along-append filed_by [] h (e ∷ []) ∙ ap (λ rs. filed h ++ rs) (append-nil (filed_by h e))) kept)))

@@ -1,0 +1,226 @@
+-- Where a node's starts rise, the start of an epoch tells the epoch.
+use Rattle.std.proofs.Common.{◌≡◌, ◌⊎◌, inl, inr, ⊎_elim, ℕ, ◌+◌, ◌<◌, ◌≤◌, ◌==◌, Bool, true, false, cond, if◌then◌else◌, List, [], ◌∷◌, ◌++◌, length, length-append, map, find, option_map, Option, Some, None, refl, sym, ap, subst, ◌∙◌, arith}
+use Rattle.std.proofs.lemmas.Bool.{eqb-true, eq-eqb}
+use Rattle.std.proofs.lemmas.List.{append-nil}
+use Rattle.std.proofs.lemmas.List.Elements.{filter_map-append}
+use Rattle.std.specs.List.{cons_option, enumerate_from}
+use Rattle.gw_base.specs.EntryLaws.{epoch_of-append, opening_of-append}
+use Rattle.gw_base.specs.History.{begins_epoch, epoch_of}
+use Rattle.gw_base.specs.Starts.{opening_after, opening_by, opening_of, openings_of, start_by, start_of}
+use Rattle.gw_base.specs.declared.address.NodeId.{NodeId}
+use Rattle.gw_base.specs.declared.history.HistoryAct.{HistoryAct}
+use Rattle.gw_base.specs.declared.history.HistoryAct.TheVariants.{Start, Path, File, Hold, Seal, Release, Cancel, Tick, Close}
+use Rattle.gw_base.specs.declared.history.HistoryEntry.{HistoryEntry}
+use Rattle.gw_base.specs.declared.history.Opening.{Opening}
+use Rattle.once_core.specs.Epochs.{RisesBy, StartsRise, epoch_with}
+use Rattle.once_core.proofs.EachLemmas.{by_each}
+
+-- ---- the first place of a number
+
+-- the first place of a number in a list, counted from k
+abbrev first_at : ℕ → ℕ → List ℕ → Option ℕ
+first_at k s xs = option_map (λ placed. placed.0) (find (λ placed. placed.1 == s) (enumerate_from k xs))
+
+unsome : ℕ → Option ℕ → ℕ
+unsome d None = d
+unsome d (Some n) = n
+
+some_is : (a b : ℕ) → Some a ≡ Some b → a ≡ b
+some_is a b e = ap (λ (o : Option ℕ). elim o [ None ↦ a | Some n ↦ n ]) e
+
+is_some_of : Option ℕ → Bool
+is_some_of None = false
+is_some_of (Some n) = true
+
+not_some : (b : ℕ) → None ≡ Some b → ⊥
+not_some b e = absurd (cc)
+
+first_cons : (b : Bool) (k : ℕ) (x : ℕ) (rest : Option (ℕ × ℕ)) → Option ℕ
+first_cons b k x rest = option_map (λ placed. placed.0) (cond b (Some (k, x)) rest)
+
+found_low : (k s j : ℕ) (xs : List ℕ) → first_at k s xs ≡ Some j → k ≤ j
+found_low k s j [] e = absurd (not_some j e)
+found_low k s j (x ∷ xs) e = by_test (x == s) (λ f. found_low (k + 1) s j xs f) e
+  where
+    by_test : (b : Bool) → (first_at (k + 1) s xs ≡ Some j → k + 1 ≤ j) → option_map (λ placed. placed.0) (cond b (Some (k, x)) (find (λ placed. placed.1 == s) (enumerate_from (k + 1) xs))) ≡ Some j → k ≤ j
+    by_test true low e = omega (arith, some_is k j e)
+    by_test false low e = omega (arith, low e)
+
+pub found_stays : (k s j : ℕ) (xs ys : List ℕ) → first_at k s xs ≡ Some j → first_at k s (xs ++ ys) ≡ Some j
+found_stays k s j [] ys e = absurd (not_some j e)
+found_stays k s j (x ∷ xs) ys e = by_test (x == s) (λ f. found_stays (k + 1) s j xs ys f) e
+  where
+    by_test : (b : Bool) → (first_at (k + 1) s xs ≡ Some j → first_at (k + 1) s (xs ++ ys) ≡ Some j) → option_map (λ placed. placed.0) (cond b (Some (k, x)) (find (λ placed. placed.1 == s) (enumerate_from (k + 1) xs))) ≡ Some j
+        → option_map (λ placed. placed.0) (cond b (Some (k, x)) (find (λ placed. placed.1 == s) (enumerate_from (k + 1) (xs ++ ys)))) ≡ Some j
+    by_test true rest e = e
+    by_test false rest e = rest e
+
+found_last : (k s y : ℕ) (xs : List ℕ) → first_at k s xs ≡ None → first_at k s (xs ++ y ∷ []) ≡ (if y == s then Some (k + length xs) else None)
+found_last k s y [] e = by_test (y == s)
+  where
+    by_test : (b : Bool) → option_map (λ (placed : ℕ × ℕ). placed.0) (cond b (Some (k, y)) None) ≡ (if b then Some (k + 0) else None)
+    by_test true = ap (λ (n : ℕ). Some n) (omega arith)
+    by_test false = refl
+found_last k s y (x ∷ xs) e = by_test (x == s) (λ f. found_last (k + 1) s y xs f) e
+  where
+    by_test : (b : Bool) → (first_at (k + 1) s xs ≡ None → first_at (k + 1) s (xs ++ y ∷ []) ≡ (if y == s then Some ((k + 1) + length xs) else None))
+        → option_map (λ placed. placed.0) (cond b (Some (k, x)) (find (λ placed. placed.1 == s) (enumerate_from (k + 1) xs))) ≡ None
+        → option_map (λ placed. placed.0) (cond b (Some (k, x)) (find (λ placed. placed.1 == s) (enumerate_from (k + 1) (xs ++ y ∷ [])))) ≡ (if y == s then Some (k + length (x ∷ xs)) else None)
+    by_test true rest e = absurd (not_some k (sym e))
+    by_test false rest e =
+        let longer : (k + 1) + length xs ≡ k + length (x ∷ xs) = omega arith in
+        rest e ∙ ap (λ (n : ℕ). if y == s then Some n else None) longer
+
+found_one : (k s t j : ℕ) (xs : List ℕ) → first_at k s xs ≡ Some j → first_at k t xs ≡ Some j → s ≡ t
+found_one k s t j [] e f = absurd (not_some j e)
+found_one k s t j (x ∷ xs) e f = by_tests (x == s) (x == t) (λ p q. found_one (k + 1) s t j xs p q) refl refl e f
+  where
+    by_tests : (b c : Bool) → (first_at (k + 1) s xs ≡ Some j → first_at (k + 1) t xs ≡ Some j → s ≡ t) → (x == s) ≡ b → (x == t) ≡ c
+        → option_map (λ placed. placed.0) (cond b (Some (k, x)) (find (λ placed. placed.1 == s) (enumerate_from (k + 1) xs))) ≡ Some j
+        → option_map (λ placed. placed.0) (cond c (Some (k, x)) (find (λ placed. placed.1 == t) (enumerate_from (k + 1) xs))) ≡ Some j → s ≡ t
+    by_tests true true rest p q e f = sym (eqb-true x s p) ∙ eqb-true x t q
+    by_tests true false rest p q e f = let low = found_low (k + 1) t j xs f in absurd (omega (arith, low, some_is k j e))
+    by_tests false true rest p q e f = let low = found_low (k + 1) s j xs e in absurd (omega (arith, low, some_is k j f))
+    by_tests false false rest p q e f = rest e f
+
+-- ---- the starts of a history
+
+abbrev counters : ℕ → List HistoryEntry → List ℕ
+counters node h = 0 ∷ map (λ (o : Opening). o.counter) (openings_of node h)
+
+map_more : (os ps : List Opening) → map (λ (o : Opening). o.counter) (os ++ ps) ≡ map (λ (o : Opening). o.counter) os ++ map (λ (o : Opening). o.counter) ps
+map_more [] ps = refl
+map_more (o ∷ os) ps = ap (λ (xs : List ℕ). o.counter ∷ xs) (map_more os ps)
+
+counters_more : (node : ℕ) (h g : List HistoryEntry) → counters node (h ++ g) ≡ counters node h ++ map (λ (o : Opening). o.counter) (openings_of node g)
+counters_more node h g =
+    ap (λ (os : List Opening). 0 ∷ map (λ (o : Opening). o.counter) os) (filter_map-append (λ (d : HistoryEntry). opening_by node d.act) h g)
+    ∙ ap (λ (xs : List ℕ). 0 ∷ xs) (map_more (openings_of node h) (openings_of node g))
+
+pub epoch_stays : (node start epoch : ℕ) (h g : List HistoryEntry) → epoch_with node start h ≡ Some epoch → epoch_with node start (h ++ g) ≡ Some epoch
+epoch_stays node start epoch h g e =
+    ap (first_at 0 start) (counters_more node h g)
+    ∙ found_stays 0 start epoch (counters node h) (map (λ (o : Opening). o.counter) (openings_of node g)) e
+
+pub start_is_one : (node start other epoch : ℕ) (h : List HistoryEntry) → epoch_with node start h ≡ Some epoch → epoch_with node other h ≡ Some epoch → start ≡ other
+start_is_one node start other epoch h e f = found_one 0 start other epoch (counters node h) e f
+
+-- what an entry makes of a node's starts: nothing, or it begins an epoch with a start
+record Begins (node : ℕ) (h : List HistoryEntry) (e : HistoryEntry) : Type 0 where
+  counter : ℕ
+  counters_are : counters node (h ++ e ∷ []) ≡ counters node h ++ counter ∷ []
+  start_is : start_of node (h ++ e ∷ []) ≡ counter
+  epoch_is : epoch_of node (h ++ e ∷ []) ≡ epoch_of node h + 1
+  rises : RisesBy h e.act → start_of node h < counter
+
+record Stays (node : ℕ) (h : List HistoryEntry) (e : HistoryEntry) : Type 0 where
+  counters_are : counters node (h ++ e ∷ []) ≡ counters node h
+  start_is : start_of node (h ++ e ∷ []) ≡ start_of node h
+  epoch_is : epoch_of node (h ++ e ∷ []) ≡ epoch_of node h
+
+by_entry : (node : ℕ) (h : List HistoryEntry) (e : HistoryEntry) → Begins node h e ⊎ Stays node h e
+by_entry node h e = by_act e.act refl
+  where
+    stays : opening_by node e.act ≡ None → opening_after node (opening_of node h) e.act ≡ opening_of node h → begins_epoch node e.act ≡ false → Stays node h e
+    stays none same begins = record {
+      counters_are =
+          counters_more node h (e ∷ [])
+          ∙ ap (λ (o : Option Opening). counters node h ++ map (λ (p : Opening). p.counter) (cons_option o [])) none
+          ∙ append-nil (counters node h);
+      start_is = ap start_by (opening_of-append node h e ∙ same);
+      epoch_is = epoch_of-append node h e ∙ ap (λ (b : Bool). epoch_of node h + (if b then 1 else 0)) begins ∙ omega arith;
+    }
+
+    by_path : (n : NodeId) (port counter : ℕ) (b : Bool) → (n.0 == node) ≡ b → e.act ≡ Path n port counter → Begins node h e ⊎ Stays node h e
+    by_path n port counter true is act = inl (record {
+      counter = counter;
+      counters_are =
+          counters_more node h (e ∷ [])
+          ∙ ap (λ (a : HistoryAct). counters node h ++ map (λ (p : Opening). p.counter) (cons_option (opening_by node a) [])) act
+          ∙ ap (λ (b : Bool). counters node h ++ map (λ (p : Opening). p.counter) (cons_option (if b then Some (record { port = port; counter = counter }) else None) [])) is;
+      start_is =
+          ap start_by (opening_of-append node h e ∙ ap (opening_after node (opening_of node h)) act
+          ∙ ap (λ (b : Bool). if b then Some (record { port = port; counter = counter }) else opening_of node h) is);
+      epoch_is = epoch_of-append node h e ∙ ap (λ (a : HistoryAct). epoch_of node h + (if begins_epoch node a then 1 else 0)) act ∙ ap (λ (b : Bool). epoch_of node h + (if b then 1 else 0)) is;
+      rises = λ rising.
+          let at : start_of n.0 h < counter = subst (RisesBy h) act rising in
+          let same : start_of n.0 h ≡ start_of node h = ap (λ (m : ℕ). start_of m h) (eqb-true n.0 node is) in
+          omega (arith, at, same);
+    })
+    by_path n port counter false is act = inr (stays
+        (ap (opening_by node) act ∙ ap (λ (b : Bool). if b then Some (record { port = port; counter = counter }) else None) is)
+        (ap (opening_after node (opening_of node h)) act ∙ ap (λ (b : Bool). if b then Some (record { port = port; counter = counter }) else opening_of node h) is)
+        (ap (begins_epoch node) act ∙ is))
+
+    by_act : (a : HistoryAct) → e.act ≡ a → Begins node h e ⊎ Stays node h e
+    by_act (Path n port counter) act = by_path n port counter (n.0 == node) refl act
+    by_act Start act = inr (stays (ap (opening_by node) act) (ap (opening_after node (opening_of node h)) act) (ap (begins_epoch node) act))
+    by_act (File n x packet) act = inr (stays (ap (opening_by node) act) (ap (opening_after node (opening_of node h)) act) (ap (begins_epoch node) act))
+    by_act (Hold n x packet) act = inr (stays (ap (opening_by node) act) (ap (opening_after node (opening_of node h)) act) (ap (begins_epoch node) act))
+    by_act (Seal n x) act = inr (stays (ap (opening_by node) act) (ap (opening_after node (opening_of node h)) act) (ap (begins_epoch node) act))
+    by_act (Release n xs) act = inr (stays (ap (opening_by node) act) (ap (opening_after node (opening_of node h)) act) (ap (begins_epoch node) act))
+    by_act (Cancel n xs) act = inr (stays (ap (opening_by node) act) (ap (opening_after node (opening_of node h)) act) (ap (begins_epoch node) act))
+    by_act Tick act = inr (stays (ap (opening_by node) act) (ap (opening_after node (opening_of node h)) act) (ap (begins_epoch node) act))
+    by_act Close act = inr (stays (ap (opening_by node) act) (ap (opening_after node (opening_of node h)) act) (ap (begins_epoch node) act))
+
+-- the present epoch has the greatest start
+record IsLast (node : ℕ) (h : List HistoryEntry) : Type 0 where
+  size : length (counters node h) ≡ epoch_of node h + 1
+  bound : (s j : ℕ) → first_at 0 s (counters node h) ≡ Some j → s ≤ start_of node h
+  present : first_at 0 (start_of node h) (counters node h) ≡ Some (epoch_of node h)
+
+last_goes_on : (node : ℕ) (h : List HistoryEntry) (e : HistoryEntry) → RisesBy h e.act → IsLast node h → IsLast node (h ++ e ∷ [])
+last_goes_on node h e rising last = ⊎_elim begun stayed (by_entry node h e)
+  where
+    stayed : Stays node h e → IsLast node (h ++ e ∷ [])
+    stayed is = record {
+      size = ap (λ (xs : List ℕ). length xs) is.counters_are ∙ last.size ∙ ap (λ (n : ℕ). n + 1) (sym is.epoch_is);
+      bound = λ s j found. let low = last.bound s j (ap (first_at 0 s) (sym is.counters_are) ∙ found) in omega (arith, low, is.start_is);
+      present =
+          ap (λ (xs : List ℕ). first_at 0 (start_of node (h ++ e ∷ [])) xs) is.counters_are
+          ∙ ap (λ (s : ℕ). first_at 0 s (counters node h)) is.start_is
+          ∙ last.present ∙ ap (λ (n : ℕ). Some n) (sym is.epoch_is);
+    }
+
+    begun : Begins node h e → IsLast node (h ++ e ∷ [])
+    begun is =
+        let above = is.rises rising in
+        record {
+          size = ap (λ (xs : List ℕ). length xs) is.counters_are ∙ length-append (counters node h) (is.counter ∷ []) ∙ omega (arith, last.size, is.epoch_is);
+          bound = λ s j found. by_found above s j (first_at 0 s (counters node h)) refl (ap (first_at 0 s) (sym is.counters_are) ∙ found);
+          present =
+              ap (λ (xs : List ℕ). first_at 0 (start_of node (h ++ e ∷ [])) xs) is.counters_are
+              ∙ ap (λ (s : ℕ). first_at 0 s (counters node h ++ is.counter ∷ [])) is.start_is
+              ∙ by_new above (first_at 0 is.counter (counters node h)) refl;
+        }
+      where
+        by_found : start_of node h < is.counter → (s j : ℕ) (o : Option ℕ) → first_at 0 s (counters node h) ≡ o
+            → first_at 0 s (counters node h ++ is.counter ∷ []) ≡ Some j → s ≤ start_of node (h ++ e ∷ [])
+        by_found above s j (Some i) there found = let low = last.bound s i there in omega (arith, low, above, is.start_is)
+        by_found above s j None none found = by_test (is.counter == s) refl (sym (found_last 0 s is.counter (counters node h) none) ∙ found)
+          where
+            by_test : (b : Bool) → (is.counter == s) ≡ b → (if b then Some (0 + length (counters node h)) else None) ≡ Some j → s ≤ start_of node (h ++ e ∷ [])
+            by_test true same found = omega (arith, eqb-true is.counter s same, is.start_is)
+            by_test false same found = absurd (not_some j found)
+
+        by_new : start_of node h < is.counter → (o : Option ℕ) → first_at 0 is.counter (counters node h) ≡ o
+            → first_at 0 is.counter (counters node h ++ is.counter ∷ []) ≡ Some (epoch_of node (h ++ e ∷ []))
+        by_new above (Some i) there = let low = last.bound is.counter i there in absurd (omega (arith, low, above))
+        by_new above None none =
+            found_last 0 is.counter is.counter (counters node h) none
+            ∙ ap (λ (b : Bool). if b then Some (0 + length (counters node h)) else None) (eq-eqb is.counter is.counter refl)
+            ∙ ap (λ (n : ℕ). Some n) (omega (arith, last.size, is.epoch_is))
+
+is_last : (node : ℕ) (h : List HistoryEntry) → StartsRise h → IsLast node h
+is_last node =
+    by_each (λ before e. RisesBy before e.act) (IsLast node)
+    (record { size = refl; bound = λ s j found. at_first s j (0 == s) refl found; present = refl })
+    (λ h e before rising last. last_goes_on node h e rising last)
+  where
+    at_first : (s j : ℕ) (b : Bool) → (0 == s) ≡ b → option_map (λ (placed : ℕ × ℕ). placed.0) (cond b (Some (0, 0)) None) ≡ Some j → s ≤ 0
+    at_first s j true same found = omega (arith, eqb-true 0 s same)
+    at_first s j false same found = absurd (not_some j found)
+
+-- a node's present epoch is the one with its present start
+pub present_epoch : (node : ℕ) (h : List HistoryEntry) → StartsRise h → epoch_with node (start_of node h) h ≡ Some (epoch_of node h)
+present_epoch node h rise = (is_last node h rise).present

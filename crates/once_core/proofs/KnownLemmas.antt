@@ -1,0 +1,289 @@
+-- What a node knows is so in the firm parts of the gateways' histories.
+use Rattle.std.proofs.Common.{◌≡◌, ◌⊎◌, inl, inr, ⊎_elim, ℕ, ◌==◌, ◌&&◌, ◌||◌, Bool, true, false, if◌then◌else◌, List, [], ◌∷◌, Option, Some, None, IfSome, Contains, refl, sym, ap, subst, ◌∙◌}
+use Rattle.std.proofs.lemmas.Bool.{eqb-true, false≢true}
+use Rattle.std.proofs.lemmas.List.Elements.{All-contains, Contains-append_cases}
+use Rattle.std.specs.Option.{option_map_or}
+use Rattle.gw_base.specs.declared.cause.TheConstants.{ACCEPTED, ALREADY_FULFILLED, DUPLICATE_ALREADY_FULFILLED}
+use Rattle.gw_base.specs.declared.history.HistoryEntry.{HistoryEntry}
+use Rattle.gw_base.specs.declared.key_state.KeyState.TheVariants as state
+use Rattle.node_core.specs.Choosing.{IsChoice, ReleasesChoice}
+use Rattle.node_core.specs.Copies.{is_chosen, is_filing, is_fulfilled, is_release, is_released, is_unknown, names, told}
+use Rattle.node_core.specs.Log as log
+use Rattle.node_core.specs.Log.{LogEntry, Responds}
+use Rattle.node_core.specs.Packets.{PacketState}
+use Rattle.node_core.specs.Resting.{AllRestOn, IsFulfilled, RestsOn}
+use Rattle.node_core.specs.Roles.{IsPlainFirst}
+use Rattle.node_core.specs.declared.copy.Command.{Command}
+use Rattle.node_core.specs.declared.copy.Order.{Order}
+use Rattle.node_core.specs.declared.copy.Order.TheVariants as order
+use Rattle.node_core.specs.declared.copy.PacketCopy.{PacketCopy}
+use Rattle.node_core.specs.declared.copy.Verdict.TheVariants as verdict
+use Rattle.node_core.specs.declared.port.Port.{Port}
+use Rattle.node_core.specs.declared.port.Port.TheVariants.{First, Second}
+use Rattle.once_core.specs.Following.{Follows, HasCopyAt, IsCommandSent, MaySend, entries_by, entries_of, heard_in}
+use Rattle.once_core.specs.Happenings.{Answers, Asks, Deed, Else, Heard, Letter, Meaning, Orders, Request, Scene, Sends, Sent, Tests}
+use Rattle.once_core.specs.Resting.{IsState, SceneHolds, Tells}
+use Rattle.once_core.specs.Scenes.{is_telling}
+use Rattle.once_core.proofs.RoleLemmas.{IsCopyOf, command_use, not_both, own_use, same_user}
+use Rattle.once_core.proofs.ListLemmas.{in_cons, in_head, in_none, in_tail}
+
+-- ---- what was heard is a message
+
+-- a message of this node and start that answers with this cause
+pub record WasHeard (deeds : List Deed) (start : ℕ) (port : Port) (gateway cause number : ℕ) : Type 0 where
+  pub node : ℕ
+  pub kept : Contains deeds (Heard (record { node = node; start = start; gateway = gateway; port = port; number = number; says = Answers cause }))
+
+named_one : (y x : ℕ) → ((y == x) || false) ≡ true → y ≡ x
+named_one y x e = by (y == x) refl e
+  where
+    by : (b : Bool) → (y == x) ≡ b → (b || false) ≡ true → y ≡ x
+    by true is e = eqb-true y x is
+    by false is e = absurd (false≢true e)
+
+by_letter : (deeds : List Deed) (start : ℕ) (letter : Letter) (port : Port) (gateway cause number : ℕ) (numbers : List ℕ) → Contains deeds (Heard letter) → letter.start ≡ start
+    → names numbers number ≡ true → (says : Meaning) → letter.says ≡ says
+    → Contains (entries_by letter says) (log.Heard port gateway (Responds cause numbers)) → WasHeard deeds start port gateway cause number
+by_letter deeds start letter port gateway cause number numbers kept of_start named (Asks request) says is = absurd (in_none (log.Heard port gateway (Responds cause numbers)) is)
+by_letter deeds start letter port gateway cause number numbers kept of_start named Else says is = absurd (in_none (log.Heard port gateway (Responds cause numbers)) is)
+by_letter deeds start letter port gateway cause number numbers kept of_start named (Answers said) says is = ⊎_elim
+    (λ same.
+    let port_is : letter.port ≡ port = cc in
+    let gateway_is : letter.gateway ≡ gateway = cc in
+    let cause_is : said ≡ cause = cc in
+    let numbers_are : letter.number ∷ [] ≡ numbers = cc in
+    let number_is : letter.number ≡ number = named_one letter.number number (ap (λ (ns : List ℕ). names ns number) numbers_are ∙ named) in
+    let says_is : letter.says ≡ Answers cause = says ∙ ap Answers cause_is in
+    record {
+      node = letter.node;
+      kept = subst (λ (l : Letter). Contains deeds (Heard l))
+          (λ i. record { node = letter.node; start = of_start i; gateway = gateway_is i; port = port_is i; number = number_is i; says = says_is i }) kept;
+    })
+    (λ none. absurd (in_none (log.Heard port gateway (Responds cause numbers)) none))
+    (in_cons (log.Heard letter.port letter.gateway (Responds said (letter.number ∷ []))) (log.Heard port gateway (Responds cause numbers)) [] is)
+
+heard_one : (deeds : List Deed) (start : ℕ) (letter : Letter) (port : Port) (gateway cause number : ℕ) (numbers : List ℕ) → Contains deeds (Heard letter)
+    → names numbers number ≡ true → Contains (entries_of start (Heard letter)) (log.Heard port gateway (Responds cause numbers)) → WasHeard deeds start port gateway cause number
+heard_one deeds start letter port gateway cause number numbers kept named is = by (letter.start == start) refl is
+  where
+    by : (b : Bool) → (letter.start == start) ≡ b → Contains (if b then entries_by letter letter.says else []) (log.Heard port gateway (Responds cause numbers))
+        → WasHeard deeds start port gateway cause number
+    by true e is = by_letter deeds start letter port gateway cause number numbers kept (eqb-true letter.start start e) named letter.says refl is
+    by false e is = absurd (in_none (log.Heard port gateway (Responds cause numbers)) is)
+
+heard_among : (all deeds : List Deed) (start : ℕ) (port : Port) (gateway cause number : ℕ) (numbers : List ℕ) → ((deed : Deed) → Contains deeds deed → Contains all deed)
+    → names numbers number ≡ true → Contains (heard_in start deeds) (log.Heard port gateway (Responds cause numbers)) → WasHeard all start port gateway cause number
+heard_among all [] start port gateway cause number numbers within named is = absurd (in_none (log.Heard port gateway (Responds cause numbers)) is)
+heard_among all (Sent letter ∷ deeds) start port gateway cause number numbers within named is =
+    heard_among all deeds start port gateway cause number numbers (λ deed later. within deed (in_tail (Sent letter) deed deeds later)) named is
+heard_among all (Heard letter ∷ deeds) start port gateway cause number numbers within named is = ⊎_elim
+    (λ here. heard_one all start letter port gateway cause number numbers (within (Heard letter) (in_head (Heard letter) deeds)) named here)
+    (λ later. heard_among all deeds start port gateway cause number numbers (λ deed there. within deed (in_tail (Heard letter) deed deeds there)) named later)
+    (Contains-append_cases (entries_of start (Heard letter)) (heard_in start deeds) (log.Heard port gateway (Responds cause numbers)) is)
+
+-- ---- verdicts by port and cause
+
+sealed_by : (port : Port) (cause : ℕ) → told port true cause ≡ verdict.Sealed → (port ≡ Second) × (cause ≡ ACCEPTED)
+sealed_by First cause e = by (is_filing cause) e
+  where
+    by : (b : Bool) → (if b then verdict.Filed else verdict.Unknown) ≡ verdict.Sealed → (First ≡ Second) × (cause ≡ ACCEPTED)
+    by true e = absurd (cc)
+    by false e = absurd (cc)
+sealed_by Second cause e = by (cause == ALREADY_FULFILLED) (cause == ACCEPTED) refl e
+  where
+    by : (b c : Bool) → (cause == ACCEPTED) ≡ c → (if b then verdict.Filed else if c then verdict.Sealed else verdict.Unknown) ≡ verdict.Sealed → (Second ≡ Second) × (cause ≡ ACCEPTED)
+    by true c is e = absurd (cc)
+    by false true is e = (refl, eqb-true cause ACCEPTED is)
+    by false false is e = absurd (cc)
+
+filed_by : (port : Port) (cause : ℕ) → told port true cause ≡ verdict.Filed → ((port ≡ First) × (is_filing cause ≡ true)) ⊎ ((port ≡ Second) × (cause ≡ ALREADY_FULFILLED))
+filed_by First cause e = by (is_filing cause) refl e
+  where
+    by : (b : Bool) → is_filing cause ≡ b → (if b then verdict.Filed else verdict.Unknown) ≡ verdict.Filed
+        → ((First ≡ First) × (is_filing cause ≡ true)) ⊎ ((First ≡ Second) × (cause ≡ ALREADY_FULFILLED))
+    by true is e = inl (refl, is)
+    by false is e = absurd (cc)
+filed_by Second cause e = by (cause == ALREADY_FULFILLED) (cause == ACCEPTED) refl e
+  where
+    by : (b c : Bool) → (cause == ALREADY_FULFILLED) ≡ b → (if b then verdict.Filed else if c then verdict.Sealed else verdict.Unknown) ≡ verdict.Filed
+        → ((Second ≡ First) × (is_filing cause ≡ true)) ⊎ ((Second ≡ Second) × (cause ≡ ALREADY_FULFILLED))
+    by true c is e = inr (refl, eqb-true cause ALREADY_FULFILLED is)
+    by false true is e = absurd (cc)
+    by false false is e = absurd (cc)
+
+or_three_first : (a b c : Bool) → (a || b) ≡ true → (a || b || c) ≡ true
+or_three_first true b c e = refl
+or_three_first false true c e = refl
+or_three_first false false c e = absurd (false≢true e)
+
+or_three_ends : (a b c : Bool) → (a || c) ≡ true → (a || b || c) ≡ true
+or_three_ends true b c e = refl
+or_three_ends false true c e = refl
+or_three_ends false false c e = e
+
+filing_tells : (cause : ℕ) → is_filing cause ≡ true → is_telling cause ≡ true
+filing_tells cause e = or_three_first (cause == ACCEPTED) (cause == ALREADY_FULFILLED) (cause == DUPLICATE_ALREADY_FULFILLED) e
+
+fulfilled_tells : (cause : ℕ) → is_fulfilled cause ≡ true → is_telling cause ≡ true
+fulfilled_tells cause e = or_three_ends (cause == ACCEPTED) (cause == ALREADY_FULFILLED) (cause == DUPLICATE_ALREADY_FULFILLED) e
+
+not_first : Second ≡ First → ⊥
+not_first e = absurd (cc)
+
+module _ (scene : Scene) (holds : SceneHolds scene) (node start : ℕ) (values : ℕ → List ℕ) (packets : List PacketState) (follows : Follows (scene.deeds node) start values packets) where
+  abbrev pub firm : ℕ → List HistoryEntry
+  firm gateway = (scene.posts gateway).firm
+
+  abbrev letter_of : ℕ → Port → ℕ → Meaning → Letter
+  letter_of gateway port number says = record { node = node; start = start; gateway = gateway; port = port; number = number; says = says }
+
+  -- a request of this node and start among the messages is one that it may send
+  pub may_send : (gateway : ℕ) (port : Port) (number : ℕ) (request : Request) → Contains scene.letters (letter_of gateway port number (Asks request))
+      → MaySend packets values (letter_of gateway port number (Asks request)) (Asks request)
+  may_send gateway port number request kept =
+      follows.sends (letter_of gateway port number (Asks request)) (holds.sent (letter_of gateway port number (Asks request)) kept) refl
+
+  -- the request that was answered so, and what the answer means
+  record IsAnswered (gateway : ℕ) (port : Port) (number cause : ℕ) : Type 0 where
+    request : Request
+    may : MaySend packets values (letter_of gateway port number (Asks request)) (Asks request)
+    tells : Tells (firm gateway) (letter_of gateway port number (Answers cause)) request cause
+
+  answered : (gateway : ℕ) (port : Port) (number cause : ℕ) (numbers : List ℕ) → Contains (heard_in start (scene.deeds node)) (log.Heard port gateway (Responds cause numbers))
+      → names numbers number ≡ true → is_telling cause ≡ true → IsAnswered gateway port number cause
+  answered gateway port number cause numbers heard named telling =
+      let was = heard_among (scene.deeds node) (scene.deeds node) start port gateway cause number numbers (λ deed there. there) named heard in
+      let there = holds.heard node (record { node = was.node; start = start; gateway = gateway; port = port; number = number; says = Answers cause }) was.kept in
+      let kept : Contains scene.letters (letter_of gateway port number (Answers cause)) =
+      subst (λ (n : ℕ). Contains scene.letters (record { node = n; start = start; gateway = gateway; port = port; number = number; says = Answers cause })) there.0 there.1 in
+      let is = holds.told (letter_of gateway port number (Answers cause)) kept telling in
+      record { request = is.request; may = may_send gateway port number is.request is.asked; tells = is.tells }
+
+  rests_of : (packet : PacketState) (copy : PacketCopy) → IsCopyOf packets packet copy → RestsOn (heard_in start (scene.deeds node)) copy
+  rests_of packet copy is =
+      All-contains (RestsOn (heard_in start (scene.deeds node))) packet.copies copy
+      (All-contains (AllRestOn (heard_in start (scene.deeds node))) packets packet follows.rests is.kept) is.among
+
+  -- the number of a copy isn't that of a release or a cancel
+  no_command : (packet : PacketState) (copy : PacketCopy) (named : ℕ) (command : Command) → IsCopyOf packets packet copy → IsCommandSent packets copy.gateway named command → command.number ≡ copy.number → ⊥
+  no_command packet copy named command is sent same =
+      not_both copy.gateway copy.number packets (follows.roles copy.gateway copy.number) packet sent.at.packet copy sent.at.copy command is
+      (record { kept = sent.at.kept; among = sent.at.among }) refl refl sent.at.gateway_is sent.sent same
+
+  -- the copy at a gateway with a number is the one
+  pub the_copy : (packet : PacketState) (copy : PacketCopy) → IsCopyOf packets packet copy → (at : HasCopyAt packets copy.gateway copy.number) → (packet ≡ at.packet) × (copy ≡ at.copy)
+  the_copy packet copy is at =
+      same_user copy.gateway copy.number packets (follows.roles copy.gateway copy.number) packet at.packet copy at.copy is (record { kept = at.kept; among = at.among })
+      (own_use copy.gateway copy.number copy refl refl) (own_use copy.gateway copy.number at.copy at.gateway_is at.number_is)
+
+  -- ---- a plain copy that is known to be sealed, or filed, is so
+
+  by_test_answer : (packet : PacketState) (plain : PacketCopy) (cause : ℕ) (port : Port) → port ≡ Second → IsCopyOf packets packet plain → IsAnswered plain.gateway port plain.number cause
+      → (cause ≡ ALREADY_FULFILLED → IsState (firm plain.gateway) node start plain.number state.Filed) × (cause ≡ ACCEPTED → IsState (firm plain.gateway) node start plain.number state.Sealed)
+  by_test_answer packet plain cause port second is answer = by answer.request answer.may answer.tells
+    where
+      by : (request : Request) → MaySend packets values (letter_of plain.gateway port plain.number (Asks request)) (Asks request)
+          → Tells (firm plain.gateway) (letter_of plain.gateway port plain.number (Answers cause)) request cause
+          → (cause ≡ ALREADY_FULFILLED → IsState (firm plain.gateway) node start plain.number state.Filed) × (cause ≡ ACCEPTED → IsState (firm plain.gateway) node start plain.number state.Sealed)
+      by (Sends true octets) may tells = absurd (not_first (sym second ∙ may.0))
+      by (Sends false octets) may tells = absurd (not_first (sym second ∙ may.0))
+      by Tests may tells = tells
+      by (Orders which named) may tells = absurd (no_command packet plain named (record { order = which; number = plain.number; is_answered = may.1 }) is may.2 refl)
+
+  pub is_sealed : (packet : PacketState) (plain : PacketCopy) → IsCopyOf packets packet plain → plain.is_plain ≡ true → plain.verdict ≡ verdict.Sealed
+      → IsState (firm plain.gateway) node start plain.number state.Sealed
+  is_sealed packet plain is first sealed =
+      let of = (rests_of packet plain is).verdict (ap is_unknown sealed) in
+      let by = sealed_by of.port of.cause (ap (λ (b : Bool). told of.port b of.cause) (sym first) ∙ of.tells ∙ sealed) in
+      let telling : is_telling of.cause ≡ true = ap is_telling by.1 in
+      let answer = answered plain.gateway of.port plain.number of.cause of.numbers of.heard of.named telling in
+      (by_test_answer packet plain of.cause of.port by.0 is answer).1 by.1
+
+  by_first_answer : (packet : PacketState) (plain : PacketCopy) (cause : ℕ) (port : Port) → port ≡ First → is_filing cause ≡ true → IsCopyOf packets packet plain → plain.is_plain ≡ true
+      → IsAnswered plain.gateway port plain.number cause → IsState (firm plain.gateway) node start plain.number state.Filed
+  by_first_answer packet plain cause port first filing is plainly answer = by answer.request answer.may answer.tells
+    where
+      by : (request : Request) → MaySend packets values (letter_of plain.gateway port plain.number (Asks request)) (Asks request)
+          → Tells (firm plain.gateway) (letter_of plain.gateway port plain.number (Answers cause)) request cause → IsState (firm plain.gateway) node start plain.number state.Filed
+      by (Sends true octets) may tells = tells filing
+      by (Sends false octets) may tells =
+          let same = (the_copy packet plain is may.1.at).1 in
+          absurd (false≢true (sym may.1.plain ∙ ap (λ (c : PacketCopy). c.is_plain) (sym same) ∙ plainly))
+      by Tests may tells = absurd (not_first (sym may.0 ∙ first))
+      by (Orders which named) may tells = absurd (not_first (sym may.0 ∙ first))
+
+  pub is_filed_there : (packet : PacketState) (plain : PacketCopy) → IsCopyOf packets packet plain → plain.is_plain ≡ true → plain.verdict ≡ verdict.Filed
+      → IsState (firm plain.gateway) node start plain.number state.Filed
+  is_filed_there packet plain is first filed =
+      let of = (rests_of packet plain is).verdict (ap is_unknown filed) in
+      ⊎_elim
+      (λ at.
+      by_first_answer packet plain of.cause of.port at.0 at.1 is first
+      (answered plain.gateway of.port plain.number of.cause of.numbers of.heard of.named (filing_tells of.cause at.1)))
+      (λ at.
+      let telling : is_telling of.cause ≡ true = ap is_telling at.1 in
+      (by_test_answer packet plain of.cause of.port at.0 is (answered plain.gateway of.port plain.number of.cause of.numbers of.heard of.named telling)).0 at.1)
+      (filed_by of.port of.cause (ap (λ (b : Bool). told of.port b of.cause) (sym first) ∙ of.tells ∙ filed))
+
+  -- ---- a copy whose release is answered is released
+
+  by_release_answer : (packet : PacketState) (copy : PacketCopy) (command : Command) (cause : ℕ) (port : Port) → is_fulfilled cause ≡ true → IsCopyOf packets packet copy
+      → copy.command ≡ Some command → command.order ≡ order.Release → IsAnswered copy.gateway port command.number cause → IsState (firm copy.gateway) node start copy.number state.Released
+  by_release_answer packet copy command cause port fulfilled is e release answer = by answer.request answer.may answer.tells
+    where
+      mixed : HasCopyAt packets copy.gateway command.number → ⊥
+      mixed at =
+          not_both copy.gateway command.number packets (follows.roles copy.gateway command.number) at.packet packet at.copy copy command
+          (record { kept = at.kept; among = at.among }) is at.gateway_is at.number_is refl e refl
+
+      by_order : (which : Order) (named : ℕ) (answered_before : Bool)
+          → IsCommandSent packets copy.gateway named (record { order = which; number = command.number; is_answered = answered_before })
+          → Tells (firm copy.gateway) (letter_of copy.gateway port command.number (Answers cause)) (Orders which named) cause → IsState (firm copy.gateway) node start copy.number state.Released
+      by_order which named answered_before sent tells =
+          let other : Command = record { order = which; number = command.number; is_answered = answered_before } in
+          let same : copy ≡ sent.at.copy =
+          (same_user copy.gateway command.number packets (follows.roles copy.gateway command.number) packet sent.at.packet copy sent.at.copy is
+          (record { kept = sent.at.kept; among = sent.at.among }) (command_use copy.gateway command.number copy command refl e refl)
+          (command_use copy.gateway command.number sent.at.copy other sent.at.gateway_is sent.sent refl)).1 in
+          let both : Some command ≡ Some other = sym e ∙ ap (λ (c : PacketCopy). c.command) same ∙ sent.sent in
+          let one : command ≡ other = cc in
+          let is_release : which ≡ order.Release = sym (ap (λ (c : Command). c.order) one) ∙ release in
+          let number_is : named ≡ copy.number = sym sent.at.number_is ∙ ap (λ (c : PacketCopy). c.number) (sym same) in
+          let told : Tells (firm copy.gateway) (letter_of copy.gateway port command.number (Answers cause)) (Orders order.Release named) cause =
+          subst (λ (o : Order). Tells (firm copy.gateway) (letter_of copy.gateway port command.number (Answers cause)) (Orders o named) cause) is_release tells in
+          subst (λ (n : ℕ). IsState (firm copy.gateway) node start n state.Released) number_is (told fulfilled)
+
+      by : (request : Request) → MaySend packets values (letter_of copy.gateway port command.number (Asks request)) (Asks request)
+          → Tells (firm copy.gateway) (letter_of copy.gateway port command.number (Answers cause)) request cause → IsState (firm copy.gateway) node start copy.number state.Released
+      by (Sends true octets) may tells = absurd (mixed may.1.at)
+      by (Sends false octets) may tells = absurd (mixed may.1.at)
+      by Tests may tells = absurd (mixed may.1)
+      by (Orders which named) may tells = by_order which named may.1 may.2 tells
+
+  pub is_released_there : (packet : PacketState) (copy : PacketCopy) → IsCopyOf packets packet copy → is_released copy ≡ true → IsState (firm copy.gateway) node start copy.number state.Released
+  is_released_there packet copy is released = by copy.command refl released (rests_of packet copy is).command
+    where
+      by_command : (command : Command) → copy.command ≡ Some command → (which : Order) → command.order ≡ which → (is_release which && command.is_answered) ≡ true
+          → (command.is_answered ≡ true → IsFulfilled (heard_in start (scene.deeds node)) copy.gateway command.number) → IsState (firm copy.gateway) node start copy.number state.Released
+      by_command command e order.Release release told rests =
+          let of = rests told in
+          by_release_answer packet copy command of.cause of.port of.tells is e release
+          (answered copy.gateway of.port command.number of.cause of.numbers of.heard of.named (fulfilled_tells of.cause of.tells))
+      by_command command e order.Cancel cancel told rests = absurd (false≢true told)
+
+      by : (there : Option Command) → copy.command ≡ there
+          → (option_map_or (λ (command : Command). is_release command.order) there false && option_map_or (λ (command : Command). command.is_answered) there false) ≡ true
+          → IfSome there (λ (command : Command). command.is_answered ≡ true → IsFulfilled (heard_in start (scene.deeds node)) copy.gateway command.number)
+          → IsState (firm copy.gateway) node start copy.number state.Released
+      by None e released rests = absurd (false≢true released)
+      by (Some command) e released rests = by_command command e command.order refl released rests
+
+  -- ---- a copy that is chosen
+
+  pub choice_of : (packet : PacketState) (copy : PacketCopy) → IsCopyOf packets packet copy → is_chosen copy ≡ true → IsChoice packet.copies copy.gateway copy.number
+  choice_of packet copy is chosen =
+      All-contains (λ (c : PacketCopy). is_chosen c ≡ true → IsChoice packet.copies c.gateway c.number) packet.copies copy
+      (All-contains ReleasesChoice packets packet follows.choice is.kept) is.among chosen
+
+  pub plain_first : (packet : PacketState) → Contains packets packet → IsPlainFirst packet.copies
+  plain_first packet kept = All-contains (λ (p : PacketState). IsPlainFirst p.copies) packets packet follows.plain kept

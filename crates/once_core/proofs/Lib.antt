@@ -1,0 +1,23 @@
+-- Steps of proofs.
+pub mod ListLemmas
+pub mod EachLemmas
+pub mod EpochLemmas
+pub mod FiledLemmas
+pub mod CountLemmas
+pub mod ContentLemmas
+pub mod GrowingLemmas
+pub mod StopLemmas
+pub mod StateLemmas
+pub mod AdmittedLemmas
+pub mod TableLemmas
+pub mod FilePlaceLemmas
+pub mod ForwardLemmas
+pub mod AnswerLemmas
+pub mod SceneLemmas
+pub mod MoveLemmas
+pub mod RoleLemmas
+pub mod KnownLemmas
+pub mod OnceLemmas
+pub mod StoryLemmas
+pub mod DeedLemmas
+pub mod NodeLemmas

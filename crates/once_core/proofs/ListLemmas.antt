@@ -1,0 +1,31 @@
+-- Elements of lists.
+use Rattle.std.proofs.Common.{◌≡◌, ◌⊎◌, inl, inr, ⊎_elim, ℕ, zero, suc, ◌<◌, Bool, true, false, cond, List, [], ◌∷◌, length, filter, slice_get, slice_index_or, Some, Contains, refl, subst, arith}
+
+pub in_head : {A : Type 0} (x : A) (xs : List A) → Contains (x ∷ xs) x
+in_head x xs = (0, omega arith, refl)
+
+pub in_tail : {A : Type 0} (x y : A) (xs : List A) → Contains xs y → Contains (x ∷ xs) y
+in_tail x y xs is = (suc is.0, omega (arith, is.1), is.2)
+
+pub in_cons : {A : Type 0} (x y : A) (xs : List A) → Contains (x ∷ xs) y → (x ≡ y) ⊎ Contains xs y
+in_cons x y xs is = by is.0 is.1 is.2
+  where
+    by : (k : ℕ) → k < length (x ∷ xs) → slice_index_or (x ∷ xs) k y ≡ y → (x ≡ y) ⊎ Contains xs y
+    by zero lt e = inl e
+    by (suc k) lt e = inr (k, omega (arith, lt), e)
+
+pub in_none : {A : Type 0} (y : A) → Contains [] y → ⊥
+in_none y is = absurd (omega (arith, is.1))
+
+pub get_contains : {A : Type 0} (xs : List A) (k : ℕ) (x : A) → slice_get xs k ≡ Some x → Contains xs x
+get_contains [] k x e = absurd (cc)
+get_contains (y ∷ xs) zero x e = let same : y ≡ x = cc in (0, omega arith, same)
+get_contains (y ∷ xs) (suc k) x e = in_tail y x xs (get_contains xs k x e)
+
+pub filtered : {A : Type 0} (p : A → Bool) (xs : List A) (x : A) → Contains (filter p xs) x → Contains xs x
+filtered p [] x is = is
+filtered {A} p (y ∷ xs) x is = by (p y) is (λ c. filtered p xs x c)
+  where
+    by : (b : Bool) → Contains (cond b (y ∷ filter p xs) (filter p xs)) x → (Contains (filter p xs) x → Contains xs x) → Contains (y ∷ xs) x
+    by true is rest = ⊎_elim (λ e. subst (Contains (y ∷ xs)) e (in_head y xs)) (λ c. in_tail y x xs (rest c)) (in_cons y x (filter p xs) is)
+    by false is rest = in_tail y x xs (rest is)

@@ -1,0 +1,73 @@
+-- The story meets the premise.
+use Rattle.std.proofs.Common.{◌≡◌, ⊎_elim, ℕ, ◌+◌, ◌≤◌, ◌==◌, Bool, true, false, if◌then◌else◌, List, [], ◌∷◌, None, Contains, refl, subst, arith}
+use Rattle.std.proofs.lemmas.Bool.{false≢true}
+use Rattle.std.proofs.lemmas.List.Elements.{All-cons, All-nil}
+use Rattle.node_core.specs.Choosing.{IsChoice, ReleasesChoice}
+use Rattle.node_core.specs.Copies.{is_chosen}
+use Rattle.node_core.specs.Packets.{PacketState}
+use Rattle.node_core.specs.Resting.{AllRestOn, RestsOn}
+use Rattle.node_core.specs.Roles.{IsPlainFirst, uses}
+use Rattle.node_core.specs.declared.copy.PacketCopy.{PacketCopy}
+use Rattle.node_core.specs.declared.copy.Verdict.TheVariants.{Filed}
+use Rattle.node_core.specs.declared.port.Port.TheVariants.{First}
+use Rattle.once_core.specs.Following.{Follows, MaySend, heard_in}
+use Rattle.once_core.specs.Happenings.{Answers, Deed, Heard, Letter, Sent}
+use Rattle.once_core.specs.Scenes.{scene_after}
+use Rattle.once_core.specs.Story.{first_letter, one_known, one_packet, one_story}
+use Rattle.once_core.proofs.ListLemmas.{in_cons, in_head, in_none}
+
+abbrev deeds : List Deed
+deeds = Sent first_letter ∷ Heard (record first_letter { says = Answers 128 }) ∷ []
+
+deeds_are : (scene_after one_story).deeds 5 ≡ deeds
+deeds_are = refl
+
+abbrev copy_is : PacketCopy
+copy_is = record { gateway = 0; number = 65536; is_plain = true; verdict = Filed; command = None }
+
+abbrev packet_is : PacketState
+packet_is = record { number = 1; copies = copy_is ∷ [] }
+
+single_role : (gateway number : ℕ) → uses gateway number one_known ≤ 1
+single_role gateway number = by (0 == gateway) (65536 == number)
+  where
+    by : (b c : Bool) → (if b then (if c then 1 else 0) + 0 else 0) + 0 + 0 ≤ 1
+    by true true = omega arith
+    by true false = omega arith
+    by false c = omega arith
+
+may : (letter : Letter) → Contains deeds (Sent letter) → MaySend one_known (λ number. one_packet) letter letter.says
+may letter is = ⊎_elim
+    (λ e.
+    let same : first_letter ≡ letter = cc in
+    subst (λ (l : Letter). MaySend one_known (λ number. one_packet) l l.says) same (
+      refl,
+      record {
+        at = record { packet = packet_is; kept = in_head packet_is []; copy = copy_is; among = in_head copy_is []; gateway_is = refl; number_is = refl };
+        plain = refl;
+        packet = refl;
+      },
+    ))
+    (λ later. ⊎_elim (λ e. absurd (cc)) (λ none. absurd (in_none (Sent letter) none)) (in_cons (Heard (record first_letter { says = Answers 128 })) (Sent letter) [] later))
+    (in_cons (Sent first_letter) (Sent letter) (Heard (record first_letter { says = Answers 128 }) ∷ []) is)
+
+pub follows : Follows ((scene_after one_story).deeds 5) 1 (λ number. one_packet) one_known
+follows = record {
+  roles = single_role;
+  plain = All-cons (λ (p : PacketState). IsPlainFirst p.copies) packet_is [] (refl, All-nil (λ (c : PacketCopy). c.is_plain ≡ false)) (All-nil (λ (p : PacketState). IsPlainFirst p.copies));
+  choice =
+      All-cons ReleasesChoice packet_is []
+      (All-cons (λ (c : PacketCopy). is_chosen c ≡ true → IsChoice packet_is.copies c.gateway c.number) copy_is [] (λ chosen. absurd (false≢true chosen))
+      (All-nil (λ (c : PacketCopy). is_chosen c ≡ true → IsChoice packet_is.copies c.gateway c.number)))
+      (All-nil ReleasesChoice);
+  rests =
+      All-cons (AllRestOn (heard_in 1 deeds)) packet_is []
+      (All-cons (RestsOn (heard_in 1 deeds)) copy_is []
+      (record {
+        verdict = λ known. record { port = First; cause = 128; numbers = 65536 ∷ []; heard = in_head _ []; named = refl; tells = refl };
+        command = tt;
+      })
+      (All-nil (RestsOn (heard_in 1 deeds))))
+      (All-nil (AllRestOn (heard_in 1 deeds)));
+  sends = λ letter is start. may letter is;
+}

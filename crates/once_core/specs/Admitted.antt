@@ -1,0 +1,34 @@
+-- Histories that keep to the table of answers.
+use Rattle.std.specs.Prelude.{◌≡◌, Bool, true, false, List, []}
+use Rattle.gw_base.specs.Observed.{observed}
+use Rattle.gw_base.specs.declared.history.HistoryEntry.{HistoryEntry}
+use Rattle.gw_base.specs.declared.key_state.KeyState.{KeyState}
+use Rattle.gw_base.specs.declared.key_state.KeyState.TheVariants.{Fresh, Filed, Sealed, Held, Released, Cancelled}
+use Rattle.gateway_book.specs.Fit.{is_act_fit}
+use Rattle.once_core.specs.Epochs.{EachBehind}
+
+-- the act of an entry is fit behind these entries: what it files, holds or seals was fresh, and what it releases or
+-- cancels was held
+abbrev pub IsAdmitted : List HistoryEntry → HistoryEntry → Type 0
+IsAdmitted before e = is_act_fit (observed before) e.act ≡ true
+
+-- so is the act of each entry of a history, behind those before it
+abbrev pub AllAdmitted : List HistoryEntry → Type 0
+AllAdmitted h = EachBehind IsAdmitted [] h
+
+-- A key's state moves forward: a fresh one gets any state, a held one may be released or cancelled, and each other stays.
+abbrev pub moves_on : KeyState → KeyState → Bool
+moves_on Fresh Fresh = true
+moves_on Fresh Filed = true
+moves_on Fresh Sealed = true
+moves_on Fresh Held = true
+moves_on Fresh Released = true
+moves_on Fresh Cancelled = true
+moves_on Held Held = true
+moves_on Held Released = true
+moves_on Held Cancelled = true
+moves_on Filed Filed = true
+moves_on Sealed Sealed = true
+moves_on Released Released = true
+moves_on Cancelled Cancelled = true
+moves_on before after = false

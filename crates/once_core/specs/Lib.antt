@@ -1,0 +1,24 @@
+-- What public clauses cite: a world of gateways and nodes with the octets of their messages.
+pub mod Addresses
+pub mod Messages
+pub mod Gateway
+pub mod Expired
+pub mod Answers
+pub mod World
+pub mod Turn
+pub mod Beginning
+pub mod Followed
+pub mod Once
+pub mod FilePlaces
+pub mod Growing
+pub mod Admitted
+pub mod Worked
+-- The same by what the messages mean.
+pub mod Epochs
+pub mod Deeds
+pub mod Following
+pub mod Happenings
+pub mod OncePlaced
+pub mod Resting
+pub mod Scenes
+pub mod Story

@@ -1,0 +1,40 @@
+-- Whether each record of each packet is filed once, over all gateways and all copies of the packet.
+use Rattle.std.specs.Prelude.{◌≡◌, ℕ, true, List, [], Some, Contains, slice_get}
+use Rattle.std.specs.Option.{option_map_or}
+use Rattle.gw_base.specs.declared.history.HistoryEntry.{HistoryEntry}
+use Rattle.gateway_book.specs.Filed.{filed}
+use Rattle.gateway_book.specs.Once.{is_record_of}
+use Rattle.gateway_book.specs.declared.filing.FiledRecord.{FiledRecord}
+use Rattle.node_core.specs.Drafts.{value_octets}
+use Rattle.node_core.specs.declared.copy.PacketCopy.{PacketCopy}
+use Rattle.once_core.specs.Addresses.{node_ip}
+use Rattle.once_core.specs.Epochs.{epoch_with, key_in}
+use Rattle.once_core.specs.Followed.{Followed, all_followed}
+use Rattle.once_core.specs.Gateway.{Gateway}
+use Rattle.once_core.specs.OncePlaced.{IsOnce}
+use Rattle.once_core.specs.World.{World, log_at}
+
+-- the firm part of the history of the gateway in this place
+abbrev pub firm_in : World → ℕ → List HistoryEntry
+firm_in w place = option_map_or (λ (g : Gateway). g.book.firm) (slice_get w.gateways place) []
+
+-- the node in this place followed the packet, in any of its starts
+abbrev pub IsFollowed : World → ℕ → Followed → Type 0
+IsFollowed w node packet = Contains (all_followed (log_at w node)) packet
+
+-- what a gateway filed under the key of a copy of a packet, which the node in this place sent in a start
+pub record IsFiledFor (h : List HistoryEntry) (node : ℕ) (packet : Followed) (copy : PacketCopy) (filing : FiledRecord) : Type 0 where
+  pub copy_is : Contains packet.state.copies copy
+  pub epoch : ℕ
+  pub begun : epoch_with (node_ip node) packet.start h ≡ Some epoch
+  pub kept : Contains (filed h) filing
+  pub key_is : is_record_of (key_in (node_ip node) copy.number epoch) filing.index filing ≡ true
+
+-- Of each packet that was ever resolved each record is filed exactly once, and of any other packet each record at most
+-- once. For a copy that is held, a stranded one too, or was cancelled nothing is filed. What is filed for a copy is its
+-- packet's record with that index.
+pub record Once (w : World) : Type 0 where
+  pub placed : (node : ℕ) (packet : Followed) → IsFollowed w node packet →
+      IsOnce (firm_in w) (node_ip node) packet.start (value_octets packet.form) packet.state
+  pub octets : (node : ℕ) (packet : Followed) (copy : PacketCopy) (filing : FiledRecord) → IsFollowed w node packet →
+      IsFiledFor (firm_in w copy.gateway) node packet copy filing → slice_get packet.form.records filing.index ≡ Some filing.octets

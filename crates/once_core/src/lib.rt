@@ -1,0 +1,19 @@
+//! Gateways and serving nodes with a network between them that may lose, repeat and delay every
+//! message, and whether each record is filed once (3GPP TS 32.295, clause 5.2).
+//!
+//! The model is `World` of `specs/World.antt`: what every gateway and every node holds, and all
+//! messages ever sent. `specs/Turn.antt` says what an event makes of it, and `specs/Once.antt` what
+//! filing once means. The contract is that of the laws, which hold for all settings and whatever
+//! happens: `world_laws` of worlds with the octets of their messages, `once_laws` of what messages
+//! mean. That `Once` holds of every world isn't proved yet, and no call plays events yet.
+#![tactic(auto)]
+
+mod event;
+mod message;
+pub mod once_laws;
+#[cfg(test)]
+mod worked_tests;
+pub mod world_laws;
+
+pub use event::{Event, Stepped, WorldKind};
+pub use message::{Message, Waiting};

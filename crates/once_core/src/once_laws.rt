@@ -1,0 +1,80 @@
+//! Laws of every list of happenings at gateways and nodes, where messages are what they mean. Each
+//! stands on a function that does nothing.
+//!
+//! Not proved yet: that each request in the log of a node is of one of its copies, as `Follows` asks,
+//! and that a world with octets is such a list of happenings.
+
+ghost use Rattle.std.specs.Prelude.{◌≡◌, ◌≤◌, ◌++◌, ℕ, All, List, Some, length};
+ghost use Rattle.gw_base.specs.History.{epoch_of};
+ghost use Rattle.gw_base.specs.Starts.{start_of};
+ghost use Rattle.gw_base.specs.declared.history.HistoryEntry.{HistoryEntry};
+ghost use Rattle.node_core.specs.Log.{NodeSetup};
+ghost use Rattle.node_core.specs.Packets.{PacketState};
+ghost use Rattle.node_core.specs.Reached.{NodeCall, log_of, reached};
+ghost use Rattle.once_core.specs.Deeds.{deeds_of};
+ghost use Rattle.once_core.specs.Epochs.{StartsRise, epoch_with};
+ghost use Rattle.once_core.specs.Expired.{starts_in};
+ghost use Rattle.once_core.specs.Following.{Follows, Knows};
+ghost use Rattle.once_core.specs.Happenings.{Happening, Scene};
+ghost use Rattle.once_core.specs.OncePlaced.{IsOnce};
+ghost use Rattle.once_core.specs.Resting.{SceneHolds};
+ghost use Rattle.once_core.specs.Scenes.{happened, nothing_yet, scene_after};
+ghost use Rattle.once_core.specs.Story.{one_known, one_packet, one_story, times_of_one};
+
+/// Whatever happens: where a node followed the procedure in a start, each record of each packet of
+/// that start that it resolved was filed once by all gateways together, each record of any other at
+/// most once, and no record of a copy that is held or cancelled.
+pub fn each_record_is_placed_once()
+    ensures { (happenings : List Happening) (node start : ℕ) (values : ℕ → List ℕ) (packets : List PacketState) →
+        Follows ((scene_after happenings).deeds node) start values packets →
+        All (λ packet.
+        IsOnce (λ gateway. ((scene_after happenings).posts gateway).firm) node start (values packet.number) packet)
+        packets }
+{}
+
+/// What holds of gateways, nodes and messages: nothing was done at the beginning, and it goes on with
+/// whatever happens next.
+pub fn what_holds_goes_on()
+    ensures begins { SceneHolds nothing_yet }
+    ensures on { (scene : Scene) (next : Happening) → SceneHolds scene → SceneHolds (happened scene next) }
+    ensures always { (happenings : List Happening) → SceneHolds (scene_after happenings) }
+{}
+
+/// Where that holds, each record stands as often as it should.
+pub fn what_holds_places_each_record_once()
+    ensures { (scene : Scene) (node start : ℕ) (values : ℕ → List ℕ) (packets : List PacketState) → SceneHolds scene →
+        Follows (scene.deeds node) start values packets →
+        All (λ packet. IsOnce (λ gateway. (scene.posts gateway).firm) node start (values packet.number) packet) packets }
+{}
+
+/// An epoch of a node is told by its start: the epoch with a start stays when entries follow, no two
+/// starts have one epoch, and where a node's starts rise its present epoch is the one with its present
+/// start.
+pub fn epochs_are_told_by_their_starts()
+    ensures stays { (node start epoch : ℕ) (h more : List HistoryEntry) → epoch_with node start h ≡ Some epoch →
+        epoch_with node start (h ++ more) ≡ Some epoch }
+    ensures one { (node start other epoch : ℕ) (h : List HistoryEntry) → epoch_with node start h ≡ Some epoch →
+        epoch_with node other h ≡ Some epoch → start ≡ other }
+    ensures present { (node : ℕ) (h : List HistoryEntry) → StartsRise h →
+        epoch_with node (start_of node h) h ≡ Some (epoch_of node h) }
+{}
+
+/// At every moment of a node's log, what the node knows of the packets of its present start is what
+/// the law asks: each request number has one role, the first copy of a packet alone is plain, a
+/// released copy is the chosen one, and all knowledge rests on answers that it heard in this start.
+pub fn a_node_knows_what_it_was_told()
+    ensures { (setup : NodeSetup) (calls : List NodeCall) (node : ℕ) (values : ℕ → List ℕ) → 1 ≤ length setup.gateways →
+        Knows (deeds_of node values (log_of setup calls)) (starts_in (log_of setup calls)) (reached setup calls).packets }
+{
+    node_core::laws::knowledge_rests_on_responses();
+    node_core::laws::released_copies_are_chosen();
+    node_core::laws::a_gateway_gets_one_copy();
+    node_core::laws::each_number_has_one_role();
+}
+
+/// The premise can be met: in a story of one packet, which comes to a gateway, is filed and
+/// answered, the node follows the procedure, and the packet's record is filed once.
+pub fn a_node_may_follow_the_procedure()
+    ensures follows { Follows ((scene_after one_story).deeds 5) 1 (λ number. one_packet) one_known }
+    ensures placed { times_of_one ≡ 1 }
+{}

@@ -1,0 +1,77 @@
+//! Laws of worlds. Each holds for all settings, and stands on a function that does nothing.
+
+ghost use Rattle.std.specs.Prelude.{◌≡◌, ℕ, Bool, true, false, List, Some, length};
+ghost use Rattle.file_writer.specs.Places.{FilePlace, place_in};
+ghost use Rattle.file_writer.specs.Streams.{Settings};
+ghost use Rattle.gateway_book.specs.Filed.{filed};
+ghost use Rattle.gateway_book.specs.Items.{items_of};
+ghost use Rattle.gateway_book.specs.Once.{times_filed};
+ghost use Rattle.gateway_book.specs.Value.{BookValue, Gone, Refused, Whole, faulted, history_of, reopened, standing_for};
+ghost use Rattle.gw_base.specs.History.{state_of};
+ghost use Rattle.gw_base.specs.declared.history.HistoryEntry.{HistoryEntry};
+ghost use Rattle.gw_base.specs.declared.history.PacketKey.{PacketKey};
+ghost use Rattle.once_core.specs.Admitted.{AllAdmitted, moves_on};
+ghost use Rattle.once_core.specs.Beginning.{world_of};
+ghost use Rattle.once_core.specs.FilePlaces.{file_places};
+ghost use Rattle.once_core.specs.Gateway.{Gateway, Rules, cut};
+ghost use Rattle.once_core.specs.Growing.{GoesOn, HoldSame};
+ghost use Rattle.once_core.specs.Once.{firm_in};
+ghost use Rattle.once_core.specs.Turn.{Turn, turns};
+ghost use Rattle.once_core.specs.World.{World};
+
+/// What is firm stays so in any turns, whatever devices do: the firm part of each gateway's history
+/// only grows, and so do the records that it files.
+pub fn firm_parts_only_grow()
+    ensures entries { (rules : Rules) (w : World) (later : List Turn) (place : ℕ) →
+        GoesOn (firm_in w place) (firm_in (turns rules w later) place) }
+    ensures filed { (rules : Rules) (w : World) (later : List Turn) (place : ℕ) →
+        GoesOn (filed (firm_in w place)) (filed (firm_in (turns rules w later) place)) }
+{}
+
+/// The place of a record in the files of a firm part stays.
+pub fn places_stay()
+    ensures { (rules : Rules) (w : World) (later : List Turn) (place k : ℕ) (settings : Settings) (at : FilePlace) →
+        place_in settings (items_of (firm_in w place)) k ≡ Some at →
+        place_in settings (items_of (firm_in (turns rules w later) place)) k ≡ Some at }
+{
+    file_writer::places::a_place_stays();
+}
+
+/// A record stands in the files of a history at as many places as it was filed times: each filed
+/// record has one place.
+pub fn each_filed_record_has_one_place()
+    ensures { (settings : Settings) (key : PacketKey) (index : ℕ) (h : List HistoryEntry) →
+        length (file_places settings key index h) ≡ times_filed key index (filed h) }
+{
+    file_writer::places::each_record_has_one_place();
+}
+
+/// Each entry of a firm part keeps to the table of answers: what it files, holds or seals was fresh,
+/// and what it releases or cancels was held. So the states of keys only move forward.
+pub fn histories_keep_to_the_table()
+    ensures entries { (rules : Rules) (gateways nodes : ℕ) (all : List Turn) (place : ℕ) →
+        AllAdmitted (firm_in (turns rules (world_of rules gateways nodes) all) place) }
+    ensures states { (rules : Rules) (gateways nodes : ℕ) (first later : List Turn) (place : ℕ) (key : PacketKey) →
+        moves_on (state_of key (firm_in (turns rules (world_of rules gateways nodes) first) place))
+        (state_of key (firm_in (turns rules (turns rules (world_of rules gateways nodes) first) later) place)) ≡ true }
+{
+    gateway_book::laws::what_is_prepared_is_whole();
+}
+
+/// A commit that fails, with an opening again, leaves what a stop leaves with an opening that
+/// records no Start: one that finds the torn entries whole is a stop that keeps all, and one that
+/// finds them gone keeps the firm ones alone. An opening again that fails leaves the same choice,
+/// and so does a stop in between.
+pub fn a_failed_commit_is_a_stop()
+    ensures whole { (g : Gateway) (keeps_torn : Bool) → g.book.is_broken ≡ false →
+        HoldSame (reopened (faulted g.book) Whole)
+        (standing_for (history_of (cut (length (history_of g.book)) keeps_torn g).book)) }
+    ensures gone { (g : Gateway) (keeps_torn : Bool) → g.book.is_broken ≡ false →
+        HoldSame (reopened (faulted g.book) Gone)
+        (standing_for (history_of (cut (length g.book.firm) keeps_torn g).book)) }
+    ensures refused { (book : BookValue) → HoldSame (reopened (faulted book) Refused) (faulted book) }
+    ensures kept { (g : Gateway) (keep : ℕ) → g.book.is_broken ≡ true →
+        HoldSame (reopened g.book Whole) (standing_for (history_of (cut keep true g).book)) }
+    ensures dropped { (g : Gateway) (keep : ℕ) → g.book.is_broken ≡ true →
+        HoldSame (reopened g.book Gone) (standing_for (history_of (cut keep false g).book)) }
+{}
