@@ -226,51 +226,83 @@ fn a_stop_at_each_call_leaves_the_same_files_in_the_end(rt: HostRuntime) -> Resu
 }
 
 /// Rules that send a record of format 1 to the stream with the number of its tag.
-const RULES: [&str; 4] = ["rule 80 1 0", "rule 81 1 1", "rule 82 1 2", "rule 8F 1 15"];
+const RULES: [&str; 16] = [
+    "rule 80 1 0",
+    "rule 81 1 1",
+    "rule 82 1 2",
+    "rule 83 1 3",
+    "rule 84 1 4",
+    "rule 85 1 5",
+    "rule 86 1 6",
+    "rule 87 1 7",
+    "rule 88 1 8",
+    "rule 89 1 9",
+    "rule 8A 1 10",
+    "rule 8B 1 11",
+    "rule 8C 1 12",
+    "rule 8D 1 13",
+    "rule 8E 1 14",
+    "rule 8F 1 15",
+];
+
+fn rules(alloc: Global) -> Result<Rules, Fail> {
+    let mut rules = Rules::none(alloc);
+    for line in RULES {
+        rules.add(line).map_err(|_| "no rule")?;
+    }
+    Ok(rules)
+}
+
+/// A record for each stream, the last stream's first, and a Tick at which all their files are due.
+fn a_record_for_each(alloc: Global) -> Result<Vec<Item>, Fail>
+    ensures fit { IfOk result (λ items. All IsFit items.items) }
+    ensures few { IfOk result (λ items. length items.items < 2 ^ 31) }
+{
+    let mut items = Vec::new(alloc);
+    for n in 0..16u8 {
+        let tag = Tag {
+            class: 2,
+            constructed: false,
+            number: u32::from(15 - n),
+        };
+        let item = part(alloc, Some(tag), RELEASE_3, &[0x8F - n, 0], 1_709_164_800)?;
+        items.push(item).map_err(|_| "no memory")?;
+    }
+    let moment = moment(1_709_164_860)?;
+    items.push(Item::Tick { moment }).map_err(|_| "no memory")?;
+    Ok(items)
+}
 
 #[test]
 fn streams_close_at_one_mark_in_order_of_number(rt: HostRuntime) -> Result<(), Fail> {
     let alloc = rt.alloc();
     let utc = Offset16::of(0).ok_or("an offset past the last")?;
-    let tag = |number| {
-        Some(Tag {
-            class: 2,
-            constructed: false,
-            number,
-        })
-    };
-    let items = [
-        part(alloc, tag(15), RELEASE_3, &[0x8F, 0], 1_709_164_800)?,
-        part(alloc, tag(2), RELEASE_3, &[0x82, 0], 1_709_164_800)?,
-        part(alloc, tag(1), RELEASE_3, &[0x81, 0], 1_709_164_800)?,
-        part(alloc, tag(0), RELEASE_3, &[0x80, 0], 1_709_164_800)?,
-        Item::Tick {
-            moment: moment(1_709_164_860)?,
-        },
-    ];
-    // Four calls begin each file, and three close it: the seal of the second file stops.
-    let plan = Plan {
-        fail: Vec::new(alloc),
-        read_fail: Vec::new(alloc),
-        stop: Some(Stop {
-            call: 16 + 3 * 2,
+    let items = a_record_for_each(alloc)?;
+    for last in 0..16u8 {
+        // Four calls begin each file, and three close it: the seal of this stream's file stops.
+        let stop = Stop {
+            call: 64 + 3 * (u64::from(last) + 1),
             outcome: Outcome3::New,
-        }),
-    };
-    let mut rules = Rules::none(alloc);
-    for line in RULES {
-        rules.add(line).map_err(|_| "no rule")?;
-    }
-    let shelf = MemoryShelf::new(alloc, plan)?;
-    let (mut shelf, answer) = write(shelf, rules, limits(1000, 9), utc, &items);
-    assert_eq!(rt; answer, Err(ShelfFault::Device));
-    shelf.revive();
-    for (stream, is_sealed) in [(0, true), (1, true), (2, false), (15, false)] {
-        let name = FileName {
-            stream,
-            sequence: 1,
         };
-        assert!(rt; shelf.file(name).is_some() == is_sealed, "{stream}");
+        let plan = Plan {
+            fail: Vec::new(alloc),
+            read_fail: Vec::new(alloc),
+            stop: Some(stop),
+        };
+        let shelf = MemoryShelf::new(alloc, plan)?;
+        let (mut shelf, answer) = write(shelf, rules(alloc)?, limits(1000, 9), utc, &items);
+        assert_eq!(rt; answer, Err(ShelfFault::Device), "{last}");
+        shelf.revive();
+        for stream in 0..16u8 {
+            let name = FileName {
+                stream,
+                sequence: 1,
+            };
+            assert!(rt;
+                shelf.file(name).is_some() == (stream <= last),
+                "{last} {stream}"
+            );
+        }
     }
     Ok(())
 }
