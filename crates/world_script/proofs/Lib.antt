@@ -1,3 +1,4 @@
 pub mod ArityLemmas
+pub mod RecordLemmas
 pub mod ScriptLemmas
 pub mod TextLemmas
