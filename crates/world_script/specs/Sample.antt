@@ -1,5 +1,5 @@
 -- The script that a number gives: nodes submit packets, messages are lost and repeated, and gateways stop.
-use Rattle.std.specs.Prelude.{ℕ, zero, suc, ◌+◌, ◌-◌, ◌*◌, ◌/◌, ◌%◌, ◌^◌, min, not, ◌==◌, Bool, false, nat_le, if◌then◌else◌, List, [], ◌∷◌, ◌++◌, map, filter, Option, Some, None}
+use Rattle.std.specs.Prelude.{ℕ, zero, suc, ◌+◌, ◌-◌, ◌*◌, ◌/◌, ◌%◌, ◌^◌, min, not, ◌==◌, Bool, false, nat_lt, if◌then◌else◌, List, [], ◌∷◌, ◌++◌, map, filter, Option, Some, None}
 use Rattle.std.specs.List.{flat_map, range_with_len}
 use Rattle.std.specs.Option.{option_map_or}
 use Rattle.rand_core.specs.Pcg32Seed.{pcg32_seed}
@@ -61,7 +61,7 @@ wild_rounds e stopped g = times 6 (λ n. wild_round e stopped (word g (2 * n)) (
 
 -- one BER value: the number of the packet in four octets, and that of the record
 abbrev pub record_octets : ℕ → ℕ → List ℕ
-record_octets packet n = 0x85 ∷ 5 ∷ packet / 2 ^ 24 ∷ packet / 2 ^ 16 % 256 ∷ packet / 2 ^ 8 % 256 ∷ packet % 256 ∷ n ∷ []
+record_octets packet n = 0x85 ∷ 5 ∷ packet / 2 ^ 24 % 256 ∷ packet / 2 ^ 16 % 256 ∷ packet / 2 ^ 8 % 256 ∷ packet % 256 ∷ n ∷ []
 
 -- a packet has from one record to five, of format 1 and version 0600
 abbrev pub submitted : ℕ → ℕ → Line
@@ -77,17 +77,18 @@ packets_of e first = flat_map (λ node. packets_from e node (first + 4 * (node -
 
 -- Blocks, which are counted from 0.
 
--- where there are two gateways or more, one is stopped during the wild rounds, as the first word says
+-- a gateway is stopped during the wild rounds
+abbrev pub stopped_during : Extent → ℕ → Lcg → List Line
+stopped_during e gateway g = line.Stop gateway ∷ wild_rounds e (Some gateway) g ++ line.Open gateway ∷ []
+
+-- where there are two gateways or more, the first word says which is stopped
 abbrev pub stormy : Extent → Lcg → List Line
 stormy e g =
-    if nat_le 2 e.gateways then
-        let stopped = 1 + word g 0 % e.gateways in
-        line.Stop stopped ∷ wild_rounds e (Some stopped) (after_words 1 g) ++ line.Open stopped ∷ []
-    else wild_rounds e None g
+    if nat_lt e.gateways 2 then wild_rounds e None g else stopped_during e (1 + word g 0 % e.gateways) (after_words 1 g)
 
 -- the words of a block
 abbrev pub words_of_block : Extent → ℕ
-words_of_block e = if nat_le 2 e.gateways then 13 else 12
+words_of_block e = if nat_lt e.gateways 2 then 12 else 13
 
 -- the files of each gateway are closed where they are open for long, and written
 abbrev pub writes : ℕ → List Line

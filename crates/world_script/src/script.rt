@@ -37,6 +37,20 @@ impl Script {
         read(alloc, text, ScriptKind::Feed)
     }
 
+    /// A script of these lines.
+    pub(crate) fn from_lines(lines: Vec<Line>) -> Script
+        ensures { result ≡ lines.items }
+    {
+        Script { lines }
+    }
+
+    /// All lines, in order.
+    pub(crate) fn lines(&self) -> &[Line]
+        ensures { result.now ≡ self.now }
+    {
+        &self.lines
+    }
+
     /// The line at this place of the text, counted from 0; `None` exactly where there are no more.
     pub fn line(&self, k: usize) -> Option<&Line>
         ensures { option_copied result ≡ slice_get self.now k }
