@@ -1,4 +1,5 @@
 pub mod ArityLemmas
+pub mod PrintLemmas
 pub mod RecordLemmas
 pub mod SampleLemmas
 pub mod ScriptLemmas

@@ -27,10 +27,13 @@ offset_text (pos minutes) = 43 ∷ hours_text minutes
 offset_text (negsuc n) = 45 ∷ hours_text (suc n)
 
 -- four numbers with a dot between two, a colon and the port
+abbrev pub pair_text : ℕ → ℕ → List ℕ
+pair_text first second = decimal first ++ 46 ∷ decimal second
+
 abbrev pub address_text : Addr → List ℕ
 address_text a =
-    decimal (a.ip / 16777216) ++ codes "." ++ decimal (a.ip / 65536 % 256) ++ codes "." ++ decimal (a.ip / 256 % 256)
-    ++ codes "." ++ decimal (a.ip % 256) ++ codes ":" ++ decimal a.port
+    pair_text (a.ip / 16777216) (a.ip / 65536 % 256) ++ codes "." ++ pair_text (a.ip / 256 % 256) (a.ip % 256)
+    ++ 58 ∷ decimal a.port
 
 abbrev pub version_text : ℕ → List ℕ
 version_text version = encode_upper (version / 256 ∷ version % 256 ∷ [])

@@ -1,5 +1,5 @@
 -- The script that a number gives: nodes submit packets, messages are lost and repeated, and gateways stop.
-use Rattle.std.specs.Prelude.{ℕ, zero, suc, ◌+◌, ◌-◌, ◌*◌, ◌/◌, ◌%◌, ◌^◌, min, not, ◌==◌, Bool, false, nat_lt, if◌then◌else◌, List, [], ◌∷◌, ◌++◌, map, filter, Option, Some, None}
+use Rattle.std.specs.Prelude.{ℕ, zero, suc, ◌+◌, ◌-◌, ◌*◌, ◌/◌, ◌%◌, min, not, ◌==◌, Bool, false, nat_lt, if◌then◌else◌, List, [], ◌∷◌, ◌++◌, map, filter, Option, Some, None}
 use Rattle.std.specs.List.{flat_map, range_with_len}
 use Rattle.std.specs.Option.{option_map_or}
 use Rattle.rand_core.specs.Pcg32Seed.{pcg32_seed}
@@ -12,16 +12,16 @@ use Rattle.world_script.specs.declared.extent.Extent.{Extent}
 -- Words of the generator Pcg32.
 
 -- the generator of a seed
-abbrev pub seeded : ℕ → Lcg
+unfoldable pub seeded : ℕ → Lcg
 seeded seed = pcg32_of_seed (pcg32_seed 16 seed)
 
 -- the generator after so many words
-abbrev pub after_words : ℕ → Lcg → Lcg
+unfoldable pub after_words : ℕ → Lcg → Lcg
 after_words zero g = g
 after_words (suc n) g = (pcg32 (after_words n g)).1
 
 -- the n-th word from here on, counted from 0
-abbrev pub word : Lcg → ℕ → ℕ
+unfoldable pub word : Lcg → ℕ → ℕ
 word g n = (pcg32 (after_words n g)).0
 
 -- Rounds.
@@ -54,26 +54,26 @@ abbrev pub wild_round : Extent → Option ℕ → ℕ → ℕ → List Line
 wild_round e stopped first second = ticks e.nodes ++ line.Mix first ∷ commits e.gateways stopped ++ line.Mix second ∷ []
 
 -- six wild rounds, with the words from here on
-abbrev pub wild_rounds : Extent → Option ℕ → Lcg → List Line
+unfoldable pub wild_rounds : Extent → Option ℕ → Lcg → List Line
 wild_rounds e stopped g = times 6 (λ n. wild_round e stopped (word g (2 * n)) (word g (2 * n + 1)))
 
 -- Packets, which are counted from 0 in the order of their lines.
 
 -- one BER value: the number of the packet in four octets, and that of the record
 abbrev pub record_octets : ℕ → ℕ → List ℕ
-record_octets packet n = 0x85 ∷ 5 ∷ packet / 2 ^ 24 % 256 ∷ packet / 2 ^ 16 % 256 ∷ packet / 2 ^ 8 % 256 ∷ packet % 256 ∷ n ∷ []
+record_octets packet n = 0x85 ∷ 5 ∷ packet / 16777216 ∷ packet / 65536 % 256 ∷ packet / 256 % 256 ∷ packet % 256 ∷ n ∷ []
 
 -- a packet has from one record to five, of format 1 and version 0600
 abbrev pub submitted : ℕ → ℕ → Line
 submitted node packet = line.Submit node 1 0x0600 (map (record_octets packet) (range_with_len 0 (1 + packet % 5)))
 
 -- up to four packets of a node, from this one on
-abbrev pub packets_from : Extent → ℕ → ℕ → List Line
+unfoldable pub packets_from : Extent → ℕ → ℕ → List Line
 packets_from e node first = map (submitted node) (range_with_len first (min 4 (e.packets - first)))
 
 -- up to four packets of each node, the first of all in the order of the nodes
-abbrev pub packets_of : Extent → ℕ → List Line
-packets_of e first = flat_map (λ node. packets_from e node (first + 4 * (node - 1))) (numbers e.nodes)
+unfoldable pub packets_of : Extent → ℕ → List Line
+packets_of e first = flat_map (λ n. packets_from e (n + 1) (first + 4 * n)) (range_with_len 0 e.nodes)
 
 -- Blocks, which are counted from 0.
 
@@ -82,7 +82,7 @@ abbrev pub stopped_during : Extent → ℕ → Lcg → List Line
 stopped_during e gateway g = line.Stop gateway ∷ wild_rounds e (Some gateway) g ++ line.Open gateway ∷ []
 
 -- where there are two gateways or more, the first word says which is stopped
-abbrev pub stormy : Extent → Lcg → List Line
+unfoldable pub stormy : Extent → Lcg → List Line
 stormy e g =
     if nat_lt e.gateways 2 then wild_rounds e None g else stopped_during e (1 + word g 0 % e.gateways) (after_words 1 g)
 
@@ -102,7 +102,7 @@ abbrev pub block_time : ℕ
 block_time = 60
 
 -- a block, with the words from here on
-abbrev pub block : Extent → ℕ → Lcg → List Line
+unfoldable pub block : Extent → ℕ → Lcg → List Line
 block e n g =
     packets_of e (4 * e.nodes * n) ++ stormy e g ++ times 12 (λ _. calm_round e)
     ++ line.At (first_moment + block_time * (n + 1)) ∷ writes e.gateways

@@ -3,7 +3,7 @@
 ghost use Rattle.std.specs.Prelude.{◌≡◌, ◌<◌, ◌≤◌, ◌++◌, ◌∷◌, [], map, codes, IfOk, OnOk};
 ghost use Rattle.std.specs.Fmt.{decimal};
 ghost use Rattle.hex.specs.Hex.{encode_upper};
-ghost use Rattle.world_script.specs.Printing.{address_text, gateway_text, hours_text, line_text, lines_text, mode_text, offset_text, one_number, printed, redirect_text, two_digits_text, two_numbers, version_text, words_text};
+ghost use Rattle.world_script.specs.Printing.{address_text, fitted, gateway_text, hours_text, line_text, lines_text, mode_text, offset_text, one_number, pair_text, printed, redirect_text, two_digits_text, two_numbers, version_text, words_text};
 
 use crate::kind::ScriptKind;
 use crate::line::Line;
@@ -17,18 +17,35 @@ const MOST_TEXT: usize = 16_777_216;
 
 /// The text of a script of this kind, a line feed after each line. Comments are left out, and so is
 /// the last line feed where the text would be too long by it.
+#[tactic(auto, using(crate::proofs::PrintLemmas::lines_more))]
 pub fn print(alloc: Global, script: &Script, kind: ScriptKind) -> Result<Octets, NoMemory>
     ensures text { IfOk result (λ text. text ≡ printed kind script.now) }
 {
     let mut text = Vec::new(alloc);
     for line in script.lines() {
-        append_line(alloc, &mut text, kind, line)?;
-        text.push(b'\n')?;
+        append_ended(alloc, &mut text, kind, line)?;
     }
-    if text.len() > MOST_TEXT {
-        text.pop();
-    }
+    fit(&mut text);
     Ok(Octets::from_vec(text))
+}
+
+/// Leaves out the last line feed where a text would be too long by it.
+fn fit(text: &mut Vec<u8>)
+    ensures { text.new.items ≡ fitted text.old.items }
+{
+    let length = text.len();
+    if length > MOST_TEXT {
+        text.truncate(length - 1);
+    }
+}
+
+/// Appends a line and its line feed.
+fn append_ended(alloc: Global, text: &mut Vec<u8>, kind: ScriptKind, line: &Line) -> Result<(), NoMemory>
+    ensures { OnOk result (text.new.items ≡ text.old.items ++ line_text kind line.now ++ 10 ∷ []) }
+{
+    append_line(alloc, text, kind, line)?;
+    text.push(b'\n')?;
+    Ok(())
 }
 
 /// Appends what a line says, without a line feed.
@@ -163,16 +180,32 @@ fn append_datagram(
 }
 
 /// An address and its port, as a word.
+#[tactic(auto, using(crate::proofs::SampleLemmas::five_parts))]
 fn append_address(alloc: Global, text: &mut Vec<u8>, from: Addr) -> Result<(), NoMemory>
     ensures { OnOk result (text.new.items ≡ text.old.items ++ 32 ∷ address_text from) }
 {
-    let a = from.ip / 16_777_216;
-    let b = from.ip / 65_536 % 256;
-    let c = from.ip / 256 % 256;
-    let d = from.ip % 256;
-    let port = from.port;
-    let word = format!(in alloc; "{a}.{b}.{c}.{d}:{port}")?;
-    append_word(text, word.as_bytes())
+    text.push(b' ')?;
+    append_pair(alloc, text, from.ip / 16_777_216, from.ip / 65_536 % 256)?;
+    text.push(b'.')?;
+    append_pair(alloc, text, from.ip / 256 % 256, from.ip % 256)?;
+    append_port(alloc, text, from.port)
+}
+
+/// Two numbers and a dot between them.
+fn append_pair(alloc: Global, text: &mut Vec<u8>, first: u32, second: u32) -> Result<(), NoMemory>
+    ensures { OnOk result (text.new.items ≡ text.old.items ++ pair_text first second) }
+{
+    let word = format!(in alloc; "{first}.{second}")?;
+    append(text, word.as_bytes())
+}
+
+/// A port after a colon.
+fn append_port(alloc: Global, text: &mut Vec<u8>, port: u16) -> Result<(), NoMemory>
+    ensures { OnOk result (text.new.items ≡ text.old.items ++ 58 ∷ decimal port) }
+{
+    text.push(b':')?;
+    let word = format!(in alloc; "{port}")?;
+    append(text, word.as_bytes())
 }
 
 /// `submit N FORMAT VERSION HEX..`
@@ -193,6 +226,7 @@ fn append_packet(
 }
 
 /// Records in hexadecimal, each as a word.
+#[tactic(auto, using(crate::proofs::PrintLemmas::words_more))]
 fn append_records(alloc: Global, text: &mut Vec<u8>, records: &[Octets]) -> Result<(), NoMemory>
     ensures { OnOk result (text.new.items ≡ text.old.items ++ words_text (map encode_upper records.now)) }
 {

@@ -1,8 +1,8 @@
 //! The script that a number gives.
 
-ghost use Rattle.std.specs.Prelude.{◌≡◌, ◌≤◌, ◌<◌, ◌*◌, ◌+◌, ◌%◌, ◌++◌, [], ◌∷◌, ℕ, List, map, Some, None, IfOk, OnOk};
+ghost use Rattle.std.specs.Prelude.{◌≡◌, if◌then◌else◌, ◌≤◌, ◌<◌, ◌*◌, ◌+◌, ◌%◌, ◌++◌, [], ◌∷◌, ℕ, List, map, Some, None, IfOk, OnOk};
 ghost use Rattle.std.specs.List.{range_with_len};
-ghost use Rattle.world_script.specs.Sample.{after_words, block, blocks, calm_round, commits, opening, packets_from, packets_of, record_octets, runs, sample_of, stormy, submitted, ticks, times, wild_round, wild_rounds, words_of_block, writes};
+ghost use Rattle.world_script.specs.Sample.{after_words, block, blocks, calm_round, commits, opening, packets_from, packets_of, record_octets, runs, sample_of, stopped_during, stormy, submitted, ticks, times, wild_round, wild_rounds, words_of_block, writes};
 
 use crate::extent::Extent;
 use crate::line::Line;
@@ -82,7 +82,6 @@ fn blocks(extent: Extent) -> u32
     (extent.packets + (most - 1)) / most
 }
 
-#[tactic(auto, using(crate::proofs::SampleLemmas::flat_range, crate::proofs::SampleLemmas::words_append))]
 fn push_blocks(alloc: Global, lines: &mut Vec<Line>, extent: Extent, rng: &mut Pcg32) -> Result<(), NoMemory>
     requires nodes { (1 ≤ extent.nodes) × (extent.nodes ≤ 16) }
     requires gateways { (1 ≤ extent.gateways) × (extent.gateways ≤ 8) }
@@ -96,6 +95,7 @@ fn push_blocks(alloc: Global, lines: &mut Vec<Line>, extent: Extent, rng: &mut P
     Ok(())
 }
 
+#[tactic(auto, using(crate::proofs::SampleLemmas::block_parts), unfolding(crate::specs::Sample::block))]
 fn push_block(alloc: Global, lines: &mut Vec<Line>, extent: Extent, n: u32, rng: &mut Pcg32) -> Result<(), NoMemory>
     requires nodes { (1 ≤ extent.nodes) × (extent.nodes ≤ 16) }
     requires gateways { (1 ≤ extent.gateways) × (extent.gateways ≤ 8) }
@@ -112,7 +112,7 @@ fn push_block(alloc: Global, lines: &mut Vec<Line>, extent: Extent, n: u32, rng:
 }
 
 /// Up to four packets of each node, the first of all with this number.
-#[tactic(auto, using(crate::proofs::SampleLemmas::flat_range))]
+#[tactic(auto, unfolding(crate::specs::Sample::packets_of))]
 fn push_packets(alloc: Global, lines: &mut Vec<Line>, extent: Extent, first: u32) -> Result<(), NoMemory>
     requires nodes { extent.nodes ≤ 16 }
     requires first { first ≤ 400000 }
@@ -125,7 +125,7 @@ fn push_packets(alloc: Global, lines: &mut Vec<Line>, extent: Extent, first: u32
 }
 
 /// Up to four packets of a node, from this one on.
-#[tactic(auto, using(crate::proofs::SampleLemmas::map_range))]
+#[tactic(auto, unfolding(crate::specs::Sample::packets_from))]
 fn push_packets_of(
     alloc: Global,
     lines: &mut Vec<Line>,
@@ -151,27 +151,36 @@ fn push_packets_of(
 }
 
 /// The records of a packet.
-#[tactic(auto, using(crate::proofs::SampleLemmas::map_range))]
 fn records(alloc: Global, packet: u32) -> Result<Records, NoMemory>
     ensures { IfOk result (λ records. records ≡ map (record_octets packet) (range_with_len 0 (1 + packet % 5))) }
 {
     let mut records = Vec::new(alloc);
     for number in 0..1 + packet % 5 {
-        let octets = [
-            0x85,
-            5,
-            (packet >> 24) as u8,
-            (packet >> 16) as u8,
-            (packet >> 8) as u8,
-            packet as u8,
-            number as u8,
-        ];
-        records.push(Octets::of(alloc, &octets)?)?;
+        let record = record(alloc, packet, number)?;
+        records.push(record)?;
     }
     Ok(Records::from_vec(records))
 }
 
+/// A record: one BER value with the numbers of its packet and its own.
+fn record(alloc: Global, packet: u32, number: u32) -> Result<Octets, NoMemory>
+    requires { number < 256 }
+    ensures { IfOk result (λ octets. octets ≡ record_octets packet number) }
+{
+    let octets = [
+        0x85,
+        5,
+        (packet / 16_777_216) as u8,
+        (packet / 65_536 % 256) as u8,
+        (packet / 256 % 256) as u8,
+        (packet % 256) as u8,
+        number as u8,
+    ];
+    Octets::of(alloc, &octets)
+}
+
 /// The wild rounds of a block, during which one gateway of several is stopped.
+#[tactic(auto, using(crate::proofs::SampleLemmas::stormy_stopped, crate::proofs::SampleLemmas::stormy_words), unfolding(crate::specs::Sample::stormy))]
 fn push_stormy(lines: &mut Vec<Line>, extent: Extent, rng: &mut Pcg32) -> Result<(), NoMemory>
     ensures lines { OnOk result (lines.new.items ≡ lines.old.items ++ stormy extent rng.old) }
     ensures words { OnOk result (rng.new ≡ after_words (words_of_block extent) rng.old) }
@@ -180,13 +189,21 @@ fn push_stormy(lines: &mut Vec<Line>, extent: Extent, rng: &mut Pcg32) -> Result
         return push_wild_rounds(lines, extent, None, rng);
     }
     let gateway = 1 + u64::from(rng.next_word()) % u64::from(extent.gateways);
+    push_stopped(lines, extent, gateway, rng)
+}
+
+/// Wild rounds during which this gateway is stopped.
+fn push_stopped(lines: &mut Vec<Line>, extent: Extent, gateway: u64, rng: &mut Pcg32) -> Result<(), NoMemory>
+    ensures lines { OnOk result (lines.new.items ≡ lines.old.items ++ stopped_during extent gateway rng.old) }
+    ensures words { OnOk result (rng.new ≡ after_words 12 rng.old) }
+{
     lines.push(Line::Stop { gateway })?;
     push_wild_rounds(lines, extent, Some(gateway), rng)?;
     lines.push(Line::Open { gateway })?;
     Ok(())
 }
 
-#[tactic(auto, using(crate::proofs::SampleLemmas::flat_range))]
+#[tactic(auto, unfolding(crate::specs::Sample::wild_rounds))]
 fn push_wild_rounds(lines: &mut Vec<Line>, extent: Extent, stopped: Option<u64>, rng: &mut Pcg32) -> Result<(), NoMemory>
     ensures lines { OnOk result (lines.new.items ≡ lines.old.items ++ wild_rounds extent stopped rng.old) }
     ensures words { OnOk result (rng.new ≡ after_words 12 rng.old) }
@@ -219,7 +236,6 @@ fn push_wild_round(
     Ok(())
 }
 
-#[tactic(auto, using(crate::proofs::SampleLemmas::flat_range))]
 fn push_calm_rounds(lines: &mut Vec<Line>, extent: Extent, count: u32) -> Result<(), NoMemory>
     ensures { OnOk result (lines.new.items ≡ lines.old.items ++ times count (λ _. calm_round extent)) }
 {
@@ -239,7 +255,6 @@ fn push_calm_round(lines: &mut Vec<Line>, extent: Extent) -> Result<(), NoMemory
     Ok(())
 }
 
-#[tactic(auto, using(crate::proofs::SampleLemmas::map_range))]
 fn push_ticks(lines: &mut Vec<Line>, nodes: u8) -> Result<(), NoMemory>
     ensures { OnOk result (lines.new.items ≡ lines.old.items ++ ticks nodes) }
 {
@@ -250,16 +265,21 @@ fn push_ticks(lines: &mut Vec<Line>, nodes: u8) -> Result<(), NoMemory>
 }
 
 /// A commit of each gateway that runs, where this one is stopped.
-#[tactic(auto, using(crate::proofs::SampleLemmas::filter_range))]
 fn push_commits(lines: &mut Vec<Line>, gateways: u8, stopped: Option<u64>) -> Result<(), NoMemory>
     ensures { OnOk result (lines.new.items ≡ lines.old.items ++ commits gateways stopped) }
 {
     for gateway in 0..u64::from(gateways) {
-        if runs(stopped, gateway + 1) {
-            lines.push(Line::Commit {
-                gateway: gateway + 1,
-            })?;
-        }
+        push_commit(lines, gateway + 1, stopped)?;
+    }
+    Ok(())
+}
+
+/// A commit of a gateway, where it runs.
+fn push_commit(lines: &mut Vec<Line>, gateway: u64, stopped: Option<u64>) -> Result<(), NoMemory>
+    ensures { OnOk result (lines.new.items ≡ lines.old.items ++ (if runs stopped gateway then Line.Commit gateway ∷ [] else [])) }
+{
+    if runs(stopped, gateway) {
+        lines.push(Line::Commit { gateway })?;
     }
     Ok(())
 }
@@ -274,17 +294,19 @@ fn runs(stopped: Option<u64>, gateway: u64) -> bool
     }
 }
 
-#[tactic(auto, using(crate::proofs::SampleLemmas::flat_range))]
 fn push_writes(lines: &mut Vec<Line>, gateways: u8) -> Result<(), NoMemory>
     ensures { OnOk result (lines.new.items ≡ lines.old.items ++ writes gateways) }
 {
     for gateway in 0..u64::from(gateways) {
-        lines.push(Line::Mark {
-            gateway: gateway + 1,
-        })?;
-        lines.push(Line::Write {
-            gateway: gateway + 1,
-        })?;
+        push_write(lines, gateway + 1)?;
     }
+    Ok(())
+}
+
+fn push_write(lines: &mut Vec<Line>, gateway: u64) -> Result<(), NoMemory>
+    ensures { OnOk result (lines.new.items ≡ lines.old.items ++ Line.Mark gateway ∷ Line.Write gateway ∷ []) }
+{
+    lines.push(Line::Mark { gateway })?;
+    lines.push(Line::Write { gateway })?;
     Ok(())
 }
