@@ -1,11 +1,13 @@
 -- Lemmas on samples: lists that grow by one number at their end.
-use Rattle.std.proofs.Common.{◌≡◌, ℕ, zero, suc, ◌+◌, ◌*◌, ◌%◌, nat_lt, Bool, true, false, if◌then◌else◌, Option, List, [], ◌∷◌, ◌++◌, map, filter, refl, ap, sym, ◌∙◌, arith, append_assoc, append-nil}
+use Rattle.std.proofs.Common.{◌≡◌, ℕ, zero, suc, ◌+◌, ◌*◌, ◌%◌, ◌≤◌, nat_lt, Bool, true, false, if◌then◌else◌, Option, List, [], ◌∷◌, ◌++◌, map, filter, refl, ap, sym, ◌∙◌, arith, append_assoc, append-nil}
 use Rattle.std.specs.List.{flat_map, range_with_len}
+use Rattle.rand_core.specs.Pcg32Seed.{pcg32_seed}
 use Rattle.rand_pcg.specs.Lcg.{Lcg}
-use Rattle.rand_pcg.specs.Pcg.{pcg32}
-use Rattle.world_script.specs.Sample.{after_words, block, stopped_during, stormy, wild_round, word, words_of_block}
+use Rattle.rand_pcg.specs.Pcg.{pcg32, pcg32_of_seed}
+use Rattle.world_script.specs.Sample.{after_words, block, blocks, opening, sample_of, seeded, stopped_during, times, stormy, wild_round, word, words_of_block}
 use Rattle.world_script.specs.declared.extent.Extent.{Extent}
 use Rattle.world_script.specs.declared.line.Line.{Line}
+use Rattle.world_script.specs.declared.line.Line.TheVariants as line
 
 pub range-snoc : (a n : ℕ) → range_with_len a (suc n) ≡ range_with_len a n ++ (a + n) ∷ []
 range-snoc a zero = ap (λ (m : ℕ). m ∷ []) (omega arith)
@@ -134,26 +136,29 @@ block_step e g before after n old now new so_far drawn lines grown =
     step_product : (d n : ℕ) → d * n + d ≡ d * (n + 1)
     step_product d n = grind arith
 
+not_less : (n : ℕ) → 2 ≤ n → nat_lt n 2 ≡ false
+not_less n h = grind (arith, h)
+
 -- where a gateway is stopped
 storm : (e : Extent) (g : Lcg) → nat_lt e.gateways 2 ≡ false → stormy e g ≡ stopped_during e (1 + word g 0 % e.gateways) (after_words 1 g)
 unfolding stormy
 storm e g h = rw h refl
 
-pub stormy_stopped : (e : Extent) (g after : Lcg) (drawn : ℕ) (old new : List Line) → nat_lt e.gateways 2 ≡ false → (drawn, after) ≡ pcg32 g →
+pub stormy_stopped : (e : Extent) (g after : Lcg) (drawn : ℕ) (old new : List Line) → 2 ≤ e.gateways → (drawn, after) ≡ pcg32 g →
     new ≡ old ++ stopped_during e (1 + drawn % e.gateways) after → new ≡ old ++ stormy e g
 stormy_stopped e g after drawn old new h drawing grown =
     let d = first_drawn g after drawn drawing in
     grown ∙ ap (λ (w : ℕ). old ++ stopped_during e (1 + w % e.gateways) after) d.0
-    ∙ ap (λ (s : Lcg). old ++ stopped_during e (1 + word g 0 % e.gateways) s) d.1 ∙ ap (λ l. old ++ l) (sym (storm e g h))
+    ∙ ap (λ (s : Lcg). old ++ stopped_during e (1 + word g 0 % e.gateways) s) d.1 ∙ ap (λ l. old ++ l) (sym (storm e g (not_less e.gateways h)))
 
 thirteen : (e : Extent) → nat_lt e.gateways 2 ≡ false → 1 + 12 ≡ words_of_block e
 thirteen e h = rw h refl
 
-pub stormy_words : (e : Extent) (g middle after : Lcg) (drawn : ℕ) → nat_lt e.gateways 2 ≡ false → (drawn, middle) ≡ pcg32 g →
+pub stormy_words : (e : Extent) (g middle after : Lcg) (drawn : ℕ) → 2 ≤ e.gateways → (drawn, middle) ≡ pcg32 g →
     after ≡ after_words 12 middle → after ≡ after_words (words_of_block e) g
 stormy_words e g middle after drawn h drawing later =
     later ∙ ap (λ (s : Lcg). after_words 12 s) (first_drawn g middle drawn drawing).1
-    ∙ words_append 1 12 g ∙ ap (λ (n : ℕ). after_words n g) (thirteen e h)
+    ∙ words_append 1 12 g ∙ ap (λ (n : ℕ). after_words n g) (thirteen e (not_less e.gateways h))
 
 -- Part after part.
 
@@ -169,3 +174,11 @@ pub block_parts : (l0 l1 l2 l3 l4 l5 a b c e : List Line) (d : Line) → l1 ≡ 
     l5 ≡ l0 ++ (a ++ b ++ c ++ d ∷ e)
 block_parts l0 l1 l2 l3 l4 l5 a b c e d p q r s t =
     five_parts l0 l1 l2 l3 l4 l5 a b c (d ∷ []) e p q r s t ∙ ap (λ l. l0 ++ l) (append_assoc (a ++ b ++ c) (d ∷ []) e)
+
+pub sample_parts : (seed : ℕ) (e : Extent) (g : Lcg) (l0 l1 l2 l3 : List Line) → g ≡ pcg32_of_seed (pcg32_seed 16 seed) → l0 ≡ [] →
+    l1 ≡ l0 ++ opening e → l2 ≡ l1 ++ times (blocks e) (λ n. block e n (after_words (words_of_block e * n) g)) → l3 ≡ l2 ++ line.End ∷ [] →
+    l3 ≡ sample_of seed e
+unfolding seeded
+sample_parts seed e g l0 l1 l2 l3 start none p q r =
+    r ∙ ap (λ l. l ++ line.End ∷ []) (q ∙ ap (λ l. l ++ times (blocks e) (λ n. block e n (after_words (words_of_block e * n) g))) (p ∙ ap (λ l. l ++ opening e) none)
+    ∙ ap (λ (h : Lcg). opening e ++ times (blocks e) (λ n. block e n (after_words (words_of_block e * n) h))) start)

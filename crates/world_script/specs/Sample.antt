@@ -113,7 +113,7 @@ blocks e = (e.packets + (4 * e.nodes - 1)) / (4 * e.nodes)
 
 -- The script.
 
-abbrev pub opening : Extent → List Line
+unfoldable pub opening : Extent → List Line
 opening e = line.Gateways e.gateways ∷ line.Nodes e.nodes ∷ line.At first_moment ∷ times 4 (λ _. calm_round e)
 
 abbrev pub sample_of : ℕ → Extent → List Line

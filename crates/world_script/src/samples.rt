@@ -47,6 +47,7 @@ pub fn sample(
     Ok(Script::from_lines(lines))
 }
 
+#[tactic(auto, unfolding(crate::specs::Sample::opening))]
 fn push_opening(lines: &mut Vec<Line>, extent: Extent) -> Result<(), NoMemory>
     ensures { OnOk result (lines.new.items ≡ lines.old.items ++ opening extent) }
 {
@@ -180,7 +181,7 @@ fn record(alloc: Global, packet: u32, number: u32) -> Result<Octets, NoMemory>
 }
 
 /// The wild rounds of a block, during which one gateway of several is stopped.
-#[tactic(auto, using(crate::proofs::SampleLemmas::stormy_stopped, crate::proofs::SampleLemmas::stormy_words), unfolding(crate::specs::Sample::stormy))]
+#[tactic(auto, unfolding(crate::specs::Sample::stormy))]
 fn push_stormy(lines: &mut Vec<Line>, extent: Extent, rng: &mut Pcg32) -> Result<(), NoMemory>
     ensures lines { OnOk result (lines.new.items ≡ lines.old.items ++ stormy extent rng.old) }
     ensures words { OnOk result (rng.new ≡ after_words (words_of_block extent) rng.old) }
@@ -188,8 +189,9 @@ fn push_stormy(lines: &mut Vec<Line>, extent: Extent, rng: &mut Pcg32) -> Result
     if extent.gateways < 2 {
         return push_wild_rounds(lines, extent, None, rng);
     }
-    let gateway = 1 + u64::from(rng.next_word()) % u64::from(extent.gateways);
-    push_stopped(lines, extent, gateway, rng)
+    let gateway = 1 + rng.next_word() as u64 % extent.gateways as u64;
+    push_stopped(lines, extent, gateway, rng)?;
+    Ok(())
 }
 
 /// Wild rounds during which this gateway is stopped.
