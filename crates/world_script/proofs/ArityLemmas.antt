@@ -1,5 +1,5 @@
 -- Lines with too few or too many words.
-use Rattle.std.proofs.Common.{◌≡◌, ◌≢◌, ◌==◌, false, ℕ, ◌<◌, ◌≤◌, List, [], ◌∷◌, length, map, drop, Result, Ok, Err, refl, sym, ap, ◌∙◌, get_or, subst, arith}
+use Rattle.std.proofs.Common.{◌≡◌, ◌≢◌, ◌==◌, false, ℕ, ◌<◌, ◌≤◌, List, [], ◌∷◌, length, map, drop, Result, Err, refl, sym, ap, ◌∙◌, get_or, subst, arith}
 use Rattle.std.specs.Borrow.{Bor}
 use Rattle.world_script.specs.Outcome.{Says}
 use Rattle.world_script.specs.Saying.{arm_on, arm_said, datagram_said, fail_on, fail_said, in_said, limit_on, limit_said, packet_said, redirect_on, redirect_said, redirect_to, rule_said, ruled, submit_said}

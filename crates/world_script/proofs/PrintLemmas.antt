@@ -26,8 +26,8 @@ pub words_more : (records : List (List ℕ)) (i : ℕ) (r : List ℕ) (old now n
     new ≡ old ++ words_text (map encode_upper (take (i + 1) records))
 words_more records i r old now new h here so_far grown =
     more (λ (x : List ℕ). 32 ∷ encode_upper x) records i r old now new h
-      (so_far ∙ ap (λ l. old ++ l) (flat-map encode_upper (λ word. 32 ∷ word) (take i records)))
-      (grown ∙ ap (λ (x : List ℕ). now ++ 32 ∷ encode_upper x) here)
+    (so_far ∙ ap (λ l. old ++ l) (flat-map encode_upper (λ word. 32 ∷ word) (take i records)))
+    (grown ∙ ap (λ (x : List ℕ). now ++ 32 ∷ encode_upper x) here)
     ∙ ap (λ l. old ++ l) (sym (flat-map encode_upper (λ word. 32 ∷ word) (take (i + 1) records)))
 
 pub lines_more : (of : ScriptKind) (lines : List Line) (i : ℕ) (said : Line) (now new : List ℕ) → i < length lines → said ≡ get_or lines i said →

@@ -63,7 +63,7 @@ filter_range f p a n m old now new is so_far grown =
     ∙ ap (λ xs. xs ++ (if p (a + n) then f (a + n) ∷ [] else [])) so_far
     ∙ append_assoc old (map f (filter p (range_with_len a n))) (if p (a + n) then f (a + n) ∷ [] else [])
     ∙ ap (λ xs. old ++ xs) (ap (λ xs. map f (filter p (range_with_len a n)) ++ xs) (sym (filter_one f p (a + n) (p (a + n)) refl))
-      ∙ sym (filter-snoc f p (range_with_len a n) (a + n)) ∙ ap (λ (ns : List ℕ). map f (filter p ns)) (sym (range-snoc a n)))
+    ∙ sym (filter-snoc f p (range_with_len a n) (a + n)) ∙ ap (λ (ns : List ℕ). map f (filter p ns)) (sym (range-snoc a n)))
     ∙ ap (λ (m : ℕ). old ++ map f (filter p (range_with_len a m))) (sym next)
 
 -- Words.
@@ -130,7 +130,7 @@ block_step e g before after n old now new so_far drawn lines grown =
     grown ∙ ap (λ (h : Lcg). now ++ block e n h) so_far in (
       flat_range (λ n. block e n (after_words (words_of_block e * n) g)) 0 n n old now new (omega arith) lines round,
       drawn ∙ ap (λ (h : Lcg). after_words (words_of_block e) h) so_far
-      ∙ words_append (words_of_block e * n) (words_of_block e) g ∙ ap (λ (m : ℕ). after_words m g) same,
+          ∙ words_append (words_of_block e * n) (words_of_block e) g ∙ ap (λ (m : ℕ). after_words m g) same,
     )
   where
     step_product : (d n : ℕ) → d * n + d ≡ d * (n + 1)

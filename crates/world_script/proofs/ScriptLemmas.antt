@@ -4,7 +4,7 @@ use Rattle.std.proofs.lemmas.List.Folds.{list_any-append}
 use Rattle.std.proofs.lemmas.List.Sums.{fold-append}
 use Rattle.std.specs.List.{list_any}
 use Rattle.world_script.specs.Outcome.{progress_after}
-use Rattle.world_script.specs.Script.{Refusal, ended_by, is_action_line, is_end_line, is_rule_line, onward, progress_of, reading_of, script_after, script_in}
+use Rattle.world_script.specs.Script.{ended_by, is_action_line, is_end_line, is_rule_line, onward, progress_of, reading_of, script_after, script_in}
 use Rattle.world_script.specs.Text.{RawLine, line_size}
 use Rattle.world_script.specs.declared.fault.InputKind.{InputKind}
 use Rattle.world_script.specs.declared.fault.InputKind.TheVariants.{NoEnd}
@@ -57,7 +57,7 @@ here_is : (of : ScriptKind) (progress : Progress) (lines : List Line) (rest raws
 here_is of progress lines rest raws raw reading follows here e =
     ap (script_after of progress.size lines) here
     ∙ ap (λ r. onward (length lines + 1) r (λ said. script_after of (progress.size + line_size raw) (lines ++ said ∷ []) raws))
-        (ap (λ (p : Progress). reading_of p raw) (sym follows) ∙ e)
+    (ap (λ (p : Progress). reading_of p raw) (sym follows) ∙ e)
 
 -- it is read
 pub line_read : (of : ScriptKind) (text : List ℕ) (progress next : Progress) (lines more : List Line) (rest raws : List RawLine) (raw : RawLine) (said : Line) (size : ℕ) →

@@ -40,7 +40,12 @@ fn fit(text: &mut Vec<u8>)
 }
 
 /// Appends a line and its line feed.
-fn append_ended(alloc: Global, text: &mut Vec<u8>, kind: ScriptKind, line: &Line) -> Result<(), NoMemory>
+fn append_ended(
+    alloc: Global,
+    text: &mut Vec<u8>,
+    kind: ScriptKind,
+    line: &Line,
+) -> Result<(), NoMemory>
     ensures { OnOk result (text.new.items ≡ text.old.items ++ line_text kind line.now ++ 10 ∷ []) }
 {
     append_line(alloc, text, kind, line)?;
@@ -60,7 +65,12 @@ fn append_line(
     match line {
         Line::Blank => Ok(()),
         Line::Reserve { length } => append_one(alloc, text, b"reserve", *length),
-        Line::LimitRecords { count } => append_one(alloc, text, b"limit records", u64::from(*count)),
+        Line::LimitRecords { count } => append_one(
+            alloc,
+            text,
+            b"limit records",
+            u64::from(*count),
+        ),
         Line::LimitSize { size } => append_one(alloc, text, b"limit size", u64::from(*size)),
         Line::LimitOpen { seconds } => append_one(alloc, text, b"limit open", *seconds),
         Line::Offset { minutes } => append_offset(text, *minutes),
@@ -86,7 +96,9 @@ fn append_line(
         Line::Mix { seed } => append_one(alloc, text, b"mix", *seed),
         Line::Commit { gateway } => append_one(alloc, text, b"commit", *gateway),
         Line::Write { gateway } => append_one(alloc, text, b"write", *gateway),
-        Line::Redirect { gateway, cause, to } => append_redirect(alloc, text, *gateway, *cause, *to),
+        Line::Redirect { gateway, cause, to } => append_redirect(
+            alloc, text, *gateway, *cause, *to,
+        ),
         Line::Stop { gateway } => append_one(alloc, text, b"stop", *gateway),
         Line::Open { gateway } => append_one(alloc, text, b"open", *gateway),
         Line::Arm {

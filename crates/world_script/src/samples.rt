@@ -83,7 +83,12 @@ fn blocks(extent: Extent) -> u32
     (extent.packets + (most - 1)) / most
 }
 
-fn push_blocks(alloc: Global, lines: &mut Vec<Line>, extent: Extent, rng: &mut Pcg32) -> Result<(), NoMemory>
+fn push_blocks(
+    alloc: Global,
+    lines: &mut Vec<Line>,
+    extent: Extent,
+    rng: &mut Pcg32,
+) -> Result<(), NoMemory>
     requires nodes { (1 ≤ extent.nodes) × (extent.nodes ≤ 16) }
     requires gateways { (1 ≤ extent.gateways) × (extent.gateways ≤ 8) }
     requires packets { extent.packets ≤ 20000 }
@@ -97,7 +102,13 @@ fn push_blocks(alloc: Global, lines: &mut Vec<Line>, extent: Extent, rng: &mut P
 }
 
 #[tactic(auto, using(crate::proofs::SampleLemmas::block_parts), unfolding(crate::specs::Sample::block))]
-fn push_block(alloc: Global, lines: &mut Vec<Line>, extent: Extent, n: u32, rng: &mut Pcg32) -> Result<(), NoMemory>
+fn push_block(
+    alloc: Global,
+    lines: &mut Vec<Line>,
+    extent: Extent,
+    n: u32,
+    rng: &mut Pcg32,
+) -> Result<(), NoMemory>
     requires nodes { (1 ≤ extent.nodes) × (extent.nodes ≤ 16) }
     requires gateways { (1 ≤ extent.gateways) × (extent.gateways ≤ 8) }
     requires packets { extent.packets ≤ 20000 }
@@ -114,7 +125,12 @@ fn push_block(alloc: Global, lines: &mut Vec<Line>, extent: Extent, n: u32, rng:
 
 /// Up to four packets of each node, the first of all with this number.
 #[tactic(auto, unfolding(crate::specs::Sample::packets_of))]
-fn push_packets(alloc: Global, lines: &mut Vec<Line>, extent: Extent, first: u32) -> Result<(), NoMemory>
+fn push_packets(
+    alloc: Global,
+    lines: &mut Vec<Line>,
+    extent: Extent,
+    first: u32,
+) -> Result<(), NoMemory>
     requires nodes { extent.nodes ≤ 16 }
     requires first { first ≤ 400000 }
     ensures { OnOk result (lines.new.items ≡ lines.old.items ++ packets_of extent first) }
@@ -195,7 +211,12 @@ fn push_stormy(lines: &mut Vec<Line>, extent: Extent, rng: &mut Pcg32) -> Result
 }
 
 /// Wild rounds during which this gateway is stopped.
-fn push_stopped(lines: &mut Vec<Line>, extent: Extent, gateway: u64, rng: &mut Pcg32) -> Result<(), NoMemory>
+fn push_stopped(
+    lines: &mut Vec<Line>,
+    extent: Extent,
+    gateway: u64,
+    rng: &mut Pcg32,
+) -> Result<(), NoMemory>
     ensures lines { OnOk result (lines.new.items ≡ lines.old.items ++ stopped_during extent gateway rng.old) }
     ensures words { OnOk result (rng.new ≡ after_words 12 rng.old) }
 {
@@ -206,7 +227,12 @@ fn push_stopped(lines: &mut Vec<Line>, extent: Extent, gateway: u64, rng: &mut P
 }
 
 #[tactic(auto, unfolding(crate::specs::Sample::wild_rounds))]
-fn push_wild_rounds(lines: &mut Vec<Line>, extent: Extent, stopped: Option<u64>, rng: &mut Pcg32) -> Result<(), NoMemory>
+fn push_wild_rounds(
+    lines: &mut Vec<Line>,
+    extent: Extent,
+    stopped: Option<u64>,
+    rng: &mut Pcg32,
+) -> Result<(), NoMemory>
     ensures lines { OnOk result (lines.new.items ≡ lines.old.items ++ wild_rounds extent stopped rng.old) }
     ensures words { OnOk result (rng.new ≡ after_words 12 rng.old) }
 {

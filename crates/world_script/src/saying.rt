@@ -27,25 +27,53 @@ pub fn said_by(
         Keyword::Rule => return rule(alloc, rules, content, words),
         Keyword::Submit => return submit(alloc, words),
         Keyword::At => at(words)?,
-        Keyword::Mark => Line::Mark { gateway: one_gateway(kind, words)? },
-        Keyword::Close => Line::Close { gateway: one_gateway(kind, words)? },
+        Keyword::Mark => Line::Mark {
+            gateway: one_gateway(kind, words)?,
+        },
+        Keyword::Close => Line::Close {
+            gateway: one_gateway(kind, words)?,
+        },
         Keyword::End => word(Line::End, words)?,
-        Keyword::Reserve => Line::Reserve { length: one_between(100, 268_435_456, words)? },
+        Keyword::Reserve => Line::Reserve {
+            length: one_between(100, 268_435_456, words)?,
+        },
         Keyword::Limit => limit(words)?,
         Keyword::Offset => offset_line(words)?,
-        Keyword::Gateways => Line::Gateways { count: one_between(1, 8, words)? as u8 },
-        Keyword::Nodes => Line::Nodes { count: one_between(1, 16, words)? as u8 },
-        Keyword::Tick => Line::Tick { node: one_number(words)? },
-        Keyword::Halt => Line::Halt { node: one_number(words)? },
-        Keyword::Start => Line::Start { node: one_number(words)? },
-        Keyword::Deliver => Line::Deliver { message: one_number(words)? },
+        Keyword::Gateways => Line::Gateways {
+            count: one_between(1, 8, words)? as u8,
+        },
+        Keyword::Nodes => Line::Nodes {
+            count: one_between(1, 16, words)? as u8,
+        },
+        Keyword::Tick => Line::Tick {
+            node: one_number(words)?,
+        },
+        Keyword::Halt => Line::Halt {
+            node: one_number(words)?,
+        },
+        Keyword::Start => Line::Start {
+            node: one_number(words)?,
+        },
+        Keyword::Deliver => Line::Deliver {
+            message: one_number(words)?,
+        },
         Keyword::Flow => word(Line::Flow, words)?,
-        Keyword::Mix => Line::Mix { seed: one_number(words)? },
-        Keyword::Commit => Line::Commit { gateway: one_number(words)? },
-        Keyword::Write => Line::Write { gateway: one_number(words)? },
+        Keyword::Mix => Line::Mix {
+            seed: one_number(words)?,
+        },
+        Keyword::Commit => Line::Commit {
+            gateway: one_number(words)?,
+        },
+        Keyword::Write => Line::Write {
+            gateway: one_number(words)?,
+        },
         Keyword::Redirect => redirect(words)?,
-        Keyword::Stop => Line::Stop { gateway: one_number(words)? },
-        Keyword::Open => Line::Open { gateway: one_number(words)? },
+        Keyword::Stop => Line::Stop {
+            gateway: one_number(words)?,
+        },
+        Keyword::Open => Line::Open {
+            gateway: one_number(words)?,
+        },
         Keyword::Arm => arm(words)?,
         Keyword::Fail => fail(words)?,
         Keyword::Settle => word(Line::Settle, words)?,

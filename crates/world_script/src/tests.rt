@@ -229,9 +229,17 @@ fn every_line_of_a_replay_is_read_and_printed(rt: HostRuntime) -> Result<(), Fai
     for (text, wanted) in changed {
         assert_prints(&rt, rt.alloc(), text.as_bytes(), wanted.as_bytes())?;
     }
-    let feed = read(rt.alloc(), b"in 1.2.3.4:5 ab CD\nmark\nclose\nend", ScriptKind::Feed).map_err(|_| "refused")?;
+    let feed = read(
+        rt.alloc(),
+        b"in 1.2.3.4:5 ab CD\nmark\nclose\nend",
+        ScriptKind::Feed,
+    )
+    .map_err(|_| "refused")?;
     let printed = print(rt.alloc(), &feed, ScriptKind::Feed)?;
-    assert_eq!(rt; printed.octets(), b"in 1.2.3.4:5 ABCD\nmark\nclose\nend\n".as_slice());
+    assert_eq!(rt;
+        printed.octets(),
+        b"in 1.2.3.4:5 ABCD\nmark\nclose\nend\n".as_slice()
+    );
     Ok(())
 }
 
@@ -240,15 +248,41 @@ fn what_lines_of_a_replay_say(rt: HostRuntime) -> Result<(), Fail> {
     let text = b"gateways 2\nsubmit 9 1 0602 a0 B1b2\narm 1 3 old\nredirect 1 60 2\nmark 2\nend";
     let script = replay(rt.alloc(), text)?;
     assert!(rt; matches!(script.line(0), Some(Line::Gateways { count: 2 })));
-    if let Some(Line::Submit { node: 9, format: 1, version: 0x0602, records }) = script.line(1) {
+    if let Some(
+        Line::Submit {
+            node: 9,
+            format: 1,
+            version: 0x0602,
+            records,
+        },
+    ) = script.line(1)
+    {
         assert_eq!(rt; records.records().len(), 2);
         assert_eq!(rt; records.records()[0].octets(), [0xA0].as_slice());
         assert_eq!(rt; records.records()[1].octets(), [0xB1, 0xB2].as_slice());
     } else {
         assert!(rt; false, "no packet");
     }
-    assert!(rt; matches!(script.line(2), Some(Line::Arm { gateway: 1, call: 3, mode: Mode::Old })));
-    assert!(rt; matches!(script.line(3), Some(Line::Redirect { gateway: 1, cause: 60, to: Some(2) })));
+    assert!(rt;
+        matches!(
+            script.line(2),
+            Some(Line::Arm {
+                gateway: 1,
+                call: 3,
+                mode: Mode::Old
+            })
+        )
+    );
+    assert!(rt;
+        matches!(
+            script.line(3),
+            Some(Line::Redirect {
+                gateway: 1,
+                cause: 60,
+                to: Some(2)
+            })
+        )
+    );
     assert!(rt; matches!(script.line(4), Some(Line::Mark { gateway: 2 })));
     Ok(())
 }

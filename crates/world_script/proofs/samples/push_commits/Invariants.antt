@@ -1,4 +1,4 @@
-use Rattle.std.proofs.Common.{◌≡◌, ◌+◌, ◌++◌, map, filter}
+use Rattle.std.proofs.Common.{◌≡◌, ◌++◌, map, filter}
 use Rattle.std.specs.List.{range_with_len}
 use Rattle.world_script.specs.declared.line.Line.TheVariants as line
 use Rattle.world_script.specs.Sample.{runs}

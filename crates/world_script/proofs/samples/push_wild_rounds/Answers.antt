@@ -8,5 +8,5 @@ loop-n-init c = record { lines = sym (append-nil c.args.lines.now.items); words 
 pub loop-n-preserved : goal.loop-n-preserved
 loop-n-preserved c =
     let step = wild_step c.args.extent c.args.stopped c.args.rng.now c.loop-n.rng _ _ c.loop-n._n _ _ c.args.lines.now.items c.loop-n.lines.items _
-      c.loop-n.invariant.words c.next_word-first.ensures c.next_word-second.ensures c.loop-n.invariant.lines c.in_ok-push_wild_round.ensures in
+    c.loop-n.invariant.words c.next_word-first.ensures c.next_word-second.ensures c.loop-n.invariant.lines c.in_ok-push_wild_round.ensures in
     record { lines = step.0; words = step.1 }
