@@ -1,6 +1,7 @@
 #!/bin/bash
 # How long scripts of 16 MiB and CDR files of 64 MiB take to be read: scripts of comments, of the shortest lines, of rules
-# and of datagrams; files of CDRs of 65,535 octets and of 60. It builds a small program beside a copy of the crates that it
+# and of datagrams; files of CDRs of 65,535 octets and of 60; how long a replay of 10 MB takes, and how long samples take
+# to be made. It builds a small program beside a copy of the crates that it
 # stands on, which proves what isn't proved yet. Run it at the top of the repository. Each line is the milliseconds of
 # taking the octets in, and then those of reading them.
 cd "$(dirname "$0")/.." || exit 1
@@ -32,26 +33,29 @@ for crate in gw_base ber_frame route_filter world_script cdr_file; do
 done >"$work/crates.txt"
 echo 'reading_bench: world_script cdr_file' >>"$work/crates.txt"
 cat >"$work/crates/reading_bench/src/main.rt" <<'END'
-//! Reads the standard input as a script, or as a CDR file where a word is given.
+//! Reads the standard input as the script of a feed, with one word as a CDR file, with two as a replay; with three and
+//! with four it makes a small and a large sample.
 #![tactic(auto)]
 
 use cdr_file::read;
 use std::io::Read;
 use std::time::Instant;
 use std::{env, io};
-use world_script::Script;
+use world_script::{Script, ScriptKind, sample};
 
 fn main(rt: HostRuntime) -> io::Result<()> {
-    let is_file = env::args(&rt)?.count() > 1;
+    let words = env::args(&rt)?.count();
     let begun = Instant::now(&rt)?;
     let mut octets = Vec::new(rt.alloc());
     rt.stdin().read_to_end(&mut octets)?;
     print!(rt; "{:6} ms ", begun.elapsed(&rt)?.as_millis())?;
     let begun = Instant::now(&rt)?;
-    let is_read = if is_file {
-        read(rt.alloc(), &octets).is_ok()
-    } else {
-        Script::read(rt.alloc(), &octets).is_ok()
+    let is_read = match words {
+        2 => read(rt.alloc(), &octets).is_ok(),
+        3 => world_script::read(rt.alloc(), &octets, ScriptKind::Replay).is_ok(),
+        4 => sample(rt.alloc(), 7, 4, 3, 2_000).is_ok(),
+        5 => sample(rt.alloc(), 7, 1, 8, 20_000).is_ok(),
+        _ => Script::read(rt.alloc(), &octets).is_ok(),
     };
     let word = if is_read { "read" } else { "refused" };
     println!(rt; "{:6} ms {word}", begun.elapsed(&rt)?.as_millis())?;
@@ -71,3 +75,8 @@ script 'in 1.1.1.1:1 00' | timed 'a script of short datagrams'
     sed '$d' | (cat; echo end) | timed 'a script of rules and long datagrams'
 file 1024 65535 | timed 'a file of CDRs of 65,535 octets' file
 file 1048575 60 | timed 'a file of CDRs of 60 octets' file
+MOST=10485760
+script 'submit 1 1 0600 A003800105' | timed 'a replay of packets, 10 MB' as replay
+script 'tick 1' | timed 'a replay of ticks, 10 MB' as replay
+timed 'sample 7 4 3 2000' a small sample </dev/null
+timed 'sample 7 1 8 20000' a very large sample </dev/null

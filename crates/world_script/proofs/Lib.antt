@@ -1,3 +1,6 @@
 pub mod ArityLemmas
+pub mod PrintLemmas
+pub mod RecordLemmas
+pub mod SampleLemmas
 pub mod ScriptLemmas
 pub mod TextLemmas

@@ -1,38 +1,23 @@
--- What the lines of a feed script say.
-use Rattle.std.specs.Prelude.{ℕ, Bool, true, false, ◌&&◌, nat_lt, if◌then◌else◌, List, [], ◌∷◌, Option, Some, None, option_map, is_some, Result, Ok, Err, codes}
+-- What the lines of a script say.
+use Rattle.std.specs.Prelude.{ℕ, ◌&&◌, nat_lt, if◌then◌else◌, List, [], ◌∷◌, Option, Some, None, is_some, Result, Ok, Err, codes}
+use Rattle.std.specs.Option.{ok_or}
 use Rattle.std.specs.Str.{bytes_eq}
-use Rattle.gw_base.specs.declared.address.Addr.{Addr}
 use Rattle.route_filter.specs.Rules.{most_rules, rule_of}
 use Rattle.route_filter.specs.Words.{number_up_to, octets_of}
-use Rattle.world_script.specs.Values.{address_of, number_between, offset_of}
+use Rattle.world_script.specs.Values.{address_of, mode_of, number_between, number_of, offset_of, records_of, version_of}
 use Rattle.world_script.specs.declared.keyword.Keyword.{Keyword}
 use Rattle.world_script.specs.declared.keyword.Keyword.TheVariants as keyword
+use Rattle.world_script.specs.declared.kind.ScriptKind.{ScriptKind}
+use Rattle.world_script.specs.declared.kind.ScriptKind.TheVariants as script
 use Rattle.world_script.specs.declared.line.Line.{Line}
 use Rattle.world_script.specs.declared.line.Line.TheVariants as line
 use Rattle.world_script.specs.declared.fault.InputKind.{InputKind}
 use Rattle.world_script.specs.declared.fault.InputKind.TheVariants as kind
 
--- the form of a line whose first word is this one
-abbrev pub keyword_of : List ℕ → Option Keyword
-keyword_of word =
-    if bytes_eq word (codes "at") then Some keyword.At
-    else if bytes_eq word (codes "in") then Some keyword.In
-    else if bytes_eq word (codes "mark") then Some keyword.Mark
-    else if bytes_eq word (codes "close") then Some keyword.Close
-    else if bytes_eq word (codes "end") then Some keyword.End
-    else if bytes_eq word (codes "reserve") then Some keyword.Reserve
-    else if bytes_eq word (codes "limit") then Some keyword.Limit
-    else if bytes_eq word (codes "offset") then Some keyword.Offset
-    else if bytes_eq word (codes "rule") then Some keyword.Rule
-    else None
-
--- whether lines of this form are settings
-abbrev pub is_setting : Keyword → Bool
-is_setting keyword.Reserve = true
-is_setting keyword.Limit = true
-is_setting keyword.Offset = true
-is_setting keyword.Rule = true
-is_setting _ = false
+-- the next word is in its form and range, or the line is refused for it
+abbrev pub read_then : {A : Type 0} → InputKind → Option A → (A → Result Line InputKind) → Result Line InputKind
+read_then refusal None later = Err refusal
+read_then refusal (Some x) later = later x
 
 -- the line of a word that is in its form and range, else this kind of refusal
 abbrev pub read_or : {A : Type 0} → InputKind → (A → Line) → Option A → Result Line InputKind
@@ -45,25 +30,45 @@ last_moment = 4102444799
 
 -- The words after the first, for each form of line. A fault is that of the first faulty word.
 
+-- a line that is one word
+abbrev pub word_said : Line → List (List ℕ) → Result Line InputKind
+word_said said [] = Ok said
+word_said said (word ∷ words) = Err kind.Arity
+
+-- the line of what is said, else its refusal
+abbrev pub said_as : {A : Type 0} → (A → Line) → Result A InputKind → Result Line InputKind
+said_as of (Err refusal) = Err refusal
+said_as of (Ok x) = Ok (of x)
+
+-- one number: a gateway, a node, a message or a seed
+abbrev pub one_number : List (List ℕ) → Result ℕ InputKind
+one_number (number ∷ []) = ok_or (number_of number) kind.Number
+one_number _ = Err kind.Arity
+
+-- one number in a range
+abbrev pub one_between : ℕ → ℕ → List (List ℕ) → Result ℕ InputKind
+one_between least most (number ∷ []) = ok_or (number_between least most number) kind.Number
+one_between least most _ = Err kind.Arity
+
+-- a feed has one gateway and doesn't name it, in a replay one number says which
+abbrev pub one_gateway : ScriptKind → List (List ℕ) → Result ℕ InputKind
+one_gateway script.Feed [] = Ok 1
+one_gateway script.Feed (word ∷ words) = Err kind.Arity
+one_gateway script.Replay words = one_number words
+
 -- `at N`
 abbrev pub at_said : List (List ℕ) → Result Line InputKind
 at_said (seconds ∷ []) = read_or kind.Number line.At (number_up_to last_moment seconds)
 at_said _ = Err kind.Arity
 
--- `in IP:PORT HEX..`
-abbrev pub datagram_said : Option Addr → Option (List ℕ) → Result Line InputKind
-datagram_said None octets = Err kind.Number
-datagram_said (Some from) None = Err kind.Hex
-datagram_said (Some from) (Some octets) = Ok (line.Datagram from octets)
+-- `in IP:PORT HEX..`: the octets of all words, joined
+abbrev pub datagram_said : List ℕ → List (List ℕ) → Result Line InputKind
+datagram_said from words =
+    read_then kind.Number (address_of from) (λ sender. read_or kind.Hex (line.Datagram sender) (octets_of words))
 
 abbrev pub in_said : List (List ℕ) → Result Line InputKind
-in_said (from ∷ word ∷ words) = datagram_said (address_of from) (octets_of (word ∷ words))
+in_said (from ∷ word ∷ words) = datagram_said from (word ∷ words)
 in_said _ = Err kind.Arity
-
--- `reserve N`
-abbrev pub reserve_said : List (List ℕ) → Result Line InputKind
-reserve_said (length ∷ []) = read_or kind.Number line.Reserve (number_between 100 268435456 length)
-reserve_said _ = Err kind.Arity
 
 -- `limit records N`, `limit size N`, `limit open N`
 abbrev pub limit_on : List ℕ → List ℕ → Result Line InputKind
@@ -91,19 +96,81 @@ abbrev pub rule_said : ℕ → List ℕ → List (List ℕ) → Result Line Inpu
 rule_said rules content (tag ∷ format ∷ stream ∷ []) = ruled rules content
 rule_said rules content _ = Err kind.Arity
 
--- a line that is one word
-abbrev pub word_said : Line → List (List ℕ) → Result Line InputKind
-word_said said [] = Ok said
-word_said said (word ∷ words) = Err kind.Arity
+-- `submit N FORMAT VERSION HEX..`: a record in each word
+abbrev pub packet_said : List ℕ → List ℕ → List ℕ → List (List ℕ) → Result Line InputKind
+packet_said node format version words =
+    read_then kind.Number (number_of node) (λ node. read_then kind.Number (number_up_to 255 format) (λ format.
+    read_then kind.Hex (version_of version) (λ version. read_or kind.Hex (line.Submit node format version) (records_of words))))
+
+abbrev pub submit_said : List (List ℕ) → Result Line InputKind
+submit_said (node ∷ format ∷ version ∷ word ∷ words) = packet_said node format version (word ∷ words)
+submit_said _ = Err kind.Arity
+
+-- `redirect G CAUSE`, `redirect G CAUSE H`: a cause of a request, 59 to 63
+abbrev pub redirect_on : List ℕ → List ℕ → Result Line InputKind
+redirect_on gateway cause =
+    read_then kind.Number (number_of gateway) (λ gateway.
+    read_or kind.Number (λ cause. line.Redirect gateway cause None) (number_between 59 63 cause))
+
+abbrev pub redirect_to : List ℕ → List ℕ → List ℕ → Result Line InputKind
+redirect_to gateway cause to =
+    read_then kind.Number (number_of gateway) (λ gateway. read_then kind.Number (number_between 59 63 cause) (λ cause.
+    read_or kind.Number (λ to. line.Redirect gateway cause (Some to)) (number_of to)))
+
+abbrev pub redirect_said : List (List ℕ) → Result Line InputKind
+redirect_said (gateway ∷ cause ∷ []) = redirect_on gateway cause
+redirect_said (gateway ∷ cause ∷ to ∷ []) = redirect_to gateway cause to
+redirect_said _ = Err kind.Arity
+
+-- which call from now on, from 1
+abbrev pub call_of : List ℕ → Option ℕ
+call_of word = number_between 1 18446744073709551615 word
+
+-- `arm G K MODE`: the mode `rot` isn't built yet
+abbrev pub arm_on : List ℕ → List ℕ → List ℕ → Result Line InputKind
+arm_on gateway call mode =
+    if bytes_eq mode (codes "rot") then Err kind.NotBuilt
+    else read_then kind.Number (number_of gateway) (λ gateway. read_then kind.Number (call_of call) (λ call.
+    read_or kind.Number (line.Arm gateway call) (mode_of mode)))
+
+abbrev pub arm_said : List (List ℕ) → Result Line InputKind
+arm_said (gateway ∷ call ∷ mode ∷ []) = arm_on gateway call mode
+arm_said _ = Err kind.Arity
+
+-- `fail G K`
+abbrev pub fail_on : List ℕ → List ℕ → Result Line InputKind
+fail_on gateway call =
+    read_then kind.Number (number_of gateway) (λ gateway. read_or kind.Number (line.Fail gateway) (call_of call))
+
+abbrev pub fail_said : List (List ℕ) → Result Line InputKind
+fail_said (gateway ∷ call ∷ []) = fail_on gateway call
+fail_said _ = Err kind.Arity
 
 -- what a line of this form says, by its words after the first, where so many rules stand before it
-abbrev pub said_by : Keyword → ℕ → List ℕ → List (List ℕ) → Result Line InputKind
-said_by keyword.At rules content words = at_said words
-said_by keyword.In rules content words = in_said words
-said_by keyword.Mark rules content words = word_said (line.Mark 1) words
-said_by keyword.Close rules content words = word_said (line.Close 1) words
-said_by keyword.End rules content words = word_said line.End words
-said_by keyword.Reserve rules content words = reserve_said words
-said_by keyword.Limit rules content words = limit_said words
-said_by keyword.Offset rules content words = offset_said words
-said_by keyword.Rule rules content words = rule_said rules content words
+abbrev pub said_by : ScriptKind → Keyword → ℕ → List ℕ → List (List ℕ) → Result Line InputKind
+said_by of keyword.At rules content words = at_said words
+said_by of keyword.In rules content words = in_said words
+said_by of keyword.Mark rules content words = said_as line.Mark (one_gateway of words)
+said_by of keyword.Close rules content words = said_as line.Close (one_gateway of words)
+said_by of keyword.End rules content words = word_said line.End words
+said_by of keyword.Reserve rules content words = said_as line.Reserve (one_between 100 268435456 words)
+said_by of keyword.Limit rules content words = limit_said words
+said_by of keyword.Offset rules content words = offset_said words
+said_by of keyword.Rule rules content words = rule_said rules content words
+said_by of keyword.Gateways rules content words = said_as line.Gateways (one_between 1 8 words)
+said_by of keyword.Nodes rules content words = said_as line.Nodes (one_between 1 16 words)
+said_by of keyword.Submit rules content words = submit_said words
+said_by of keyword.Tick rules content words = said_as line.Tick (one_number words)
+said_by of keyword.Halt rules content words = said_as line.Halt (one_number words)
+said_by of keyword.Start rules content words = said_as line.Start (one_number words)
+said_by of keyword.Deliver rules content words = said_as line.Deliver (one_number words)
+said_by of keyword.Flow rules content words = word_said line.Flow words
+said_by of keyword.Mix rules content words = said_as line.Mix (one_number words)
+said_by of keyword.Commit rules content words = said_as line.Commit (one_number words)
+said_by of keyword.Write rules content words = said_as line.Write (one_number words)
+said_by of keyword.Redirect rules content words = redirect_said words
+said_by of keyword.Stop rules content words = said_as line.Stop (one_number words)
+said_by of keyword.Open rules content words = said_as line.Open (one_number words)
+said_by of keyword.Arm rules content words = arm_said words
+said_by of keyword.Fail rules content words = fail_said words
+said_by of keyword.Settle rules content words = word_said line.Settle words

@@ -1,12 +1,13 @@
 -- Which lines a script may have, and the first line that is refused.
-use Rattle.std.specs.Prelude.{ℕ, ◌+◌, ◌&&◌, Bool, true, false, not, nat_lt, if◌then◌else◌, List, [], ◌∷◌, ◌++◌, length, count_by, Option, Some, None, option_and_then, Result, Ok, Err}
+use Rattle.std.specs.Prelude.{◌≡◌, ℕ, ◌+◌, ◌&&◌, ◌||◌, not, Bool, true, false, nat_lt, if◌then◌else◌, List, [], ◌∷◌, ◌++◌, length, count_by, Result, Ok, Err}
 use Rattle.std.specs.List.{list_any}
-use Rattle.std.specs.Option.{option_map_or}
 use Rattle.route_filter.specs.Words.{words_of}
-use Rattle.world_script.specs.Saying.{is_setting, keyword_of, said_by}
-use Rattle.world_script.specs.Text.{RawLine, is_blank, is_printable, line_content, line_size, raw_lines, size_of}
+use Rattle.world_script.specs.Forms.{is_setting, keyword_of}
+use Rattle.world_script.specs.Saying.{said_by}
+use Rattle.world_script.specs.Text.{RawLine, is_blank, is_printable, line_content, line_size, raw_lines}
 use Rattle.world_script.specs.declared.keyword.Keyword.{Keyword}
-use Rattle.world_script.specs.declared.keyword.Keyword.TheVariants as keyword
+use Rattle.world_script.specs.declared.kind.ScriptKind.{ScriptKind}
+use Rattle.world_script.specs.declared.kind.ScriptKind.TheVariants.{Feed}
 use Rattle.world_script.specs.declared.progress.Progress.{Progress}
 use Rattle.world_script.specs.declared.line.Line.{Line}
 use Rattle.world_script.specs.declared.line.Line.TheVariants as line
@@ -19,50 +20,43 @@ most_text = 16777216
 
 -- What stands before a line.
 
-abbrev pub first_keyword : List (List ℕ) → Option Keyword
-first_keyword [] = None
-first_keyword (word ∷ words) = keyword_of word
+abbrev pub is_end_line : Line → Bool
+is_end_line line.End = true
+is_end_line _ = false
 
--- the form of a content, where it isn't blank and its first word is one of a script's
-abbrev pub form_of : List ℕ → Option Keyword
-form_of content = if is_blank content then None else first_keyword (words_of content)
+abbrev pub is_rule_line : Line → Bool
+is_rule_line (line.Rule text) = true
+is_rule_line _ = false
 
--- whether a line has a form with this property
-abbrev pub has_form : (Keyword → Bool) → RawLine → Bool
-has_form property raw = option_map_or property (form_of (line_content raw)) false
+abbrev pub is_setting_line : Line → Bool
+is_setting_line (line.Reserve length) = true
+is_setting_line (line.LimitRecords count) = true
+is_setting_line (line.LimitSize size) = true
+is_setting_line (line.LimitOpen seconds) = true
+is_setting_line (line.Offset minutes) = true
+is_setting_line (line.Rule text) = true
+is_setting_line (line.Gateways count) = true
+is_setting_line (line.Nodes count) = true
+is_setting_line _ = false
 
-abbrev pub is_end : Keyword → Bool
-is_end keyword.End = true
-is_end _ = false
+abbrev pub is_blank_line : Line → Bool
+is_blank_line line.Blank = true
+is_blank_line _ = false
 
-abbrev pub is_rule : Keyword → Bool
-is_rule keyword.Rule = true
-is_rule _ = false
-
-abbrev pub is_action : Keyword → Bool
-is_action form = not (is_setting form)
-
--- an `end` stands among these lines
-abbrev pub have_end : List RawLine → Bool
-have_end lines = list_any (has_form is_end) lines
-
--- a line that is no setting stands among these lines; empty lines and comments don't count
-abbrev pub have_action : List RawLine → Bool
-have_action lines = list_any (has_form is_action) lines
-
--- how many rules stand among these lines
-abbrev pub rules_in : List RawLine → ℕ
-rules_in lines = count_by (has_form is_rule) lines
+-- a line that is no setting; empty lines and comments don't count
+abbrev pub is_action_line : Line → Bool
+is_action_line said = not (is_setting_line said || is_blank_line said)
 
 -- what of the lines before one decides what it may say: their octets, the number of the next line, whether an `end` and
 -- whether another line than a setting stands among them, and how many rules do
-abbrev pub progress_of : List RawLine → Progress
-progress_of before = record {
-  size = size_of before;
+abbrev pub progress_of : ScriptKind → ℕ → List Line → Progress
+progress_of of size before = record {
+  kind = of;
+  size = size;
   place = length before + 1;
-  has_end = have_end before;
-  has_action = have_action before;
-  rules = rules_in before;
+  has_end = list_any is_end_line before;
+  has_action = list_any is_action_line before;
+  rules = count_by is_rule_line before;
 }
 
 -- One line: the first test that fails decides.
@@ -72,16 +66,16 @@ abbrev pub formed : Progress → Keyword → List ℕ → List (List ℕ) → Re
 formed before form content words =
     if before.has_end then Err After
     else if is_setting form && before.has_action then Err Late
-    else said_by form before.rules content words
+    else said_by before.kind form before.rules content words
 
 -- by its words: the first one says the form
-abbrev pub keyed : Progress → Option Keyword → List ℕ → List (List ℕ) → Result Line InputKind
-keyed before None content words = Err Word
-keyed before (Some form) content words = formed before form content words
+abbrev pub keyed : Progress → Result Keyword InputKind → List ℕ → List (List ℕ) → Result Line InputKind
+keyed before (Err refusal) content words = Err refusal
+keyed before (Ok form) content words = formed before form content words
 
 abbrev pub worded : Progress → List ℕ → List (List ℕ) → Result Line InputKind
 worded before content [] = Err Word
-worded before content (word ∷ words) = keyed before (keyword_of word) content words
+worded before content (word ∷ words) = keyed before (keyword_of before.kind word) content words
 
 -- by its content: an empty line or a comment may stand anywhere and hold any octets
 abbrev pub contented : Progress → List ℕ → Result Line InputKind
@@ -102,22 +96,31 @@ pub record Refusal : Type 0 where
   pub place : ℕ
   pub kind : InputKind
 
--- a line in front of the others, or the refusal of the line with this number
-abbrev pub with_line : ℕ → Result Line InputKind → Result (List Line) Refusal → Result (List Line) Refusal
-with_line place (Err kind) later = Err (record { place = place; kind = kind })
-with_line place (Ok said) (Err refusal) = Err refusal
-with_line place (Ok said) (Ok lines) = Ok (said ∷ lines)
-
 -- no line is left: where no `end` came, the line after the last is refused
-abbrev pub ended_by : Progress → Result (List Line) Refusal
-ended_by before = if before.has_end then Ok [] else Err (record { place = before.place; kind = NoEnd })
+abbrev pub ended_by : Progress → List Line → Result (List Line) Refusal
+ended_by p said = if p.has_end then Ok said else Err (record { place = p.place; kind = NoEnd })
 
--- what the later lines say, after these
-abbrev pub script_after : List RawLine → List RawLine → Result (List Line) Refusal
-script_after before [] = ended_by (progress_of before)
-script_after before (raw ∷ later) =
-    with_line (length before + 1) (reading_of (progress_of before) raw) (script_after (before ++ raw ∷ []) later)
+-- the later lines, where this one isn't refused
+abbrev pub onward : ℕ → Result Line InputKind → (Line → Result (List Line) Refusal) → Result (List Line) Refusal
+onward place (Err kind) later = Err (record { place = place; kind = kind })
+onward place (Ok said) later = later said
 
--- the lines of a script, or the first that is refused
+-- all lines, where these of so many octets stand before those that are left
+abbrev pub script_after : ScriptKind → ℕ → List Line → List RawLine → Result (List Line) Refusal
+script_after of size before [] = ended_by (progress_of of size before) before
+script_after of size before (raw ∷ later) =
+    onward (length before + 1) (reading_of (progress_of of size before) raw)
+    (λ said. script_after of (size + line_size raw) (before ++ said ∷ []) later)
+
+-- the lines of a script of this kind, or the first that is refused
+abbrev pub script_in : ScriptKind → List ℕ → Result (List Line) Refusal
+script_in of text = script_after of 0 [] (raw_lines text)
+
+-- the lines of the script of a feed
 abbrev pub script_of : List ℕ → Result (List Line) Refusal
-script_of text = script_after [] (raw_lines text)
+script_of text = script_in Feed text
+
+-- These lines are a script of this kind: a text has them.
+pub record IsScript (of : ScriptKind) (lines : List Line) : Type 0 where
+  pub text : List ℕ
+  pub reads : script_in of text ≡ Ok lines

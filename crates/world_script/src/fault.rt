@@ -7,15 +7,17 @@ pub enum InputKind {
     TooLong,
     /// The first word isn't one of a script's, or an octet isn't a printable one of ASCII.
     Word,
+    /// The line is of a form that isn't built yet; so is one of the mode `rot`, but that is tested after `Arity`.
+    NotBuilt,
     /// It stands after `end`.
     After,
     /// A setting stands after another line.
     Late,
     /// It has too few or too many words.
     Arity,
-    /// A word isn't a number, an address, an offset or a limit in its form and range.
+    /// A word isn't a number, an address, an offset, a limit or a mode in its form and range.
     Number,
-    /// A word isn't whole octets in hexadecimal.
+    /// A word isn't whole octets in hexadecimal, or isn't two where it is a version.
     Hex,
     /// The line is no rule, or the 257th.
     Rule,
@@ -49,5 +51,16 @@ impl From<NoMemory> for LineFault {
 
     fn from(_: NoMemory) -> Self {
         LineFault::NoMemory
+    }
+}
+
+impl From<InputKind> for LineFault {
+    ghost use Rattle.std.specs.Prelude.{◌≡◌};
+    ghost use Rattle.world_script.specs.declared.fault.LineFault.TheVariants as fault;
+
+    ghost from_gives = { λ kind e. e ≡ fault.Refused kind };
+
+    fn from(kind: InputKind) -> Self {
+        LineFault::Refused(kind)
     }
 }

@@ -1,11 +1,11 @@
-ghost use Rattle.std.specs.Prelude.{◌≡◌, ◌+◌, ◌<◌, ◌^◌, map, false};
-ghost use Rattle.std.specs.Option.{option_map_or};
-ghost use Rattle.world_script.specs.Outcome.{Finds, Says, progress_after};
-ghost use Rattle.world_script.specs.Script.{form_of, formed, is_action, is_end, is_rule, reading_of};
+ghost use Rattle.std.specs.Prelude.{◌≡◌, ◌+◌, ◌<◌, ◌^◌, [], map};
+ghost use Rattle.world_script.specs.Outcome.{Says, progress_after};
+ghost use Rattle.world_script.specs.Script.{formed, is_action_line, is_end_line, is_rule_line, is_setting_line, progress_of, reading_of};
 ghost use Rattle.world_script.specs.Text.{lent_line, line_content, line_size};
 
 use crate::fault::{InputKind, LineFault};
 use crate::keyword::Keyword;
+use crate::kind::ScriptKind;
 use crate::line::Line;
 use crate::saying::said_by;
 use crate::text::{TextLine, is_blank, is_printable};
@@ -18,6 +18,8 @@ const MOST_TEXT: usize = 16_777_216;
 /// What of the lines before one decides what it may say.
 #[derive(Clone, Copy, Debug, PartialEq, Eq)]
 pub struct Progress {
+    /// The kind of the script.
+    pub kind: ScriptKind,
     /// How many octets they have.
     pub size: usize,
     /// The number of the next line, from 1.
@@ -30,53 +32,49 @@ pub struct Progress {
     pub rules: usize,
 }
 
-/// A line that was read, and its form, where it isn't blank.
-#[derive(Debug, Drop)]
-pub struct Found {
-    pub line: Line,
-    pub form: Option<Keyword>,
-}
-
 impl Progress {
     /// Before the first line.
-    pub const NONE: Progress = Progress {
-        size: 0,
-        place: 1,
-        has_end: false,
-        has_action: false,
-        rules: 0,
-    };
+    pub fn begin(kind: ScriptKind) -> Progress
+        ensures { result ≡ progress_of kind 0 [] }
+    {
+        Progress {
+            kind,
+            size: 0,
+            place: 1,
+            has_end: false,
+            has_action: false,
+            rules: 0,
+        }
+    }
 
-    /// After one more line of this form and so many octets.
-    pub fn after(self, form: Option<Keyword>, size: usize) -> Progress
+    /// After one more line, of so many octets.
+    pub fn after(self, line: &Line, size: usize) -> Progress
         requires size { self.size + size < 2 ^ 64 }
         requires place { self.place + 1 < 2 ^ 64 }
         requires rules { self.rules + 1 < 2 ^ 64 }
-        ensures { result ≡ progress_after self form size }
+        ensures { result ≡ progress_after self line.now size }
     {
         Progress {
+            kind: self.kind,
             size: self.size + size,
             place: self.place + 1,
-            has_end: self.has_end || is_end(form),
-            has_action: self.has_action || is_action(form),
-            rules: self.rules + usize::from(is_rule(form)),
+            has_end: self.has_end || is_end(line),
+            has_action: self.has_action || is_action(line),
+            rules: self.rules + usize::from(is_rule(line)),
         }
     }
 
     /// What the next line says.
-    pub fn read(self, alloc: Global, line: &TextLine<'_>) -> Result<Found, LineFault>
+    pub fn read(self, alloc: Global, line: &TextLine<'_>) -> Result<Line, LineFault>
         requires { self.size + line_size (lent_line line.now) < 2 ^ 64 }
-        ensures { Finds (reading_of self (lent_line line.now)) (form_of (line_content (lent_line line.now))) result }
+        ensures { Says (reading_of self (lent_line line.now)) result }
     {
         if self.size + line.size() > MOST_TEXT {
             return Err(LineFault::Refused(InputKind::TooLong));
         }
         let content = line.content();
         if is_blank(content) {
-            return Ok(Found {
-                line: Line::Blank,
-                form: None,
-            });
+            return Ok(Line::Blank);
         }
         if !is_printable(content) {
             return Err(LineFault::Refused(InputKind::Word));
@@ -85,14 +83,10 @@ impl Progress {
         let Some((first, rest)) = words.split_first() else {
             return Err(LineFault::Refused(InputKind::Word));
         };
-        let Some(form) = Keyword::of(first) else {
-            return Err(LineFault::Refused(InputKind::Word));
-        };
-        let line = self.formed(alloc, form, content, rest)?;
-        Ok(Found {
-            line,
-            form: Some(form),
-        })
+        match Keyword::of(self.kind, first) {
+            Ok(form) => self.formed(alloc, form, content, rest),
+            Err(kind) => Err(LineFault::Refused(kind)),
+        }
     }
 
     /// What a line of this form says, by its words after the first.
@@ -111,28 +105,41 @@ impl Progress {
         if form.is_setting() && self.has_action {
             return Err(LineFault::Refused(InputKind::Late));
         }
-        said_by(alloc, form, self.rules, content, words)
+        said_by(alloc, self.kind, form, self.rules, content, words)
     }
 }
 
-fn is_end(form: Option<Keyword>) -> bool
-    ensures { result ≡ option_map_or is_end form false }
+fn is_end(line: &Line) -> bool
+    ensures { result ≡ is_end_line line.now }
 {
-    matches!(form, Some(Keyword::End))
+    matches!(line, Line::End)
 }
 
-fn is_rule(form: Option<Keyword>) -> bool
-    ensures { result ≡ option_map_or is_rule form false }
+fn is_rule(line: &Line) -> bool
+    ensures { result ≡ is_rule_line line.now }
 {
-    matches!(form, Some(Keyword::Rule))
+    matches!(line, Line::Rule { .. })
 }
 
-/// Whether it is the form of another line than a setting.
-fn is_action(form: Option<Keyword>) -> bool
-    ensures { result ≡ option_map_or is_action form false }
+fn is_setting(line: &Line) -> bool
+    ensures { result ≡ is_setting_line line.now }
 {
-    match form {
-        Some(form) => !form.is_setting(),
-        None => false,
-    }
+    matches!(
+        line,
+        Line::Reserve { .. }
+            | Line::LimitRecords { .. }
+            | Line::LimitSize { .. }
+            | Line::LimitOpen { .. }
+            | Line::Offset { .. }
+            | Line::Rule { .. }
+            | Line::Gateways { .. }
+            | Line::Nodes { .. }
+    )
+}
+
+/// Whether it is another line than a setting, empty lines and comments aside.
+fn is_action(line: &Line) -> bool
+    ensures { result ≡ is_action_line line.now }
+{
+    !(is_setting(line) || matches!(line, Line::Blank))
 }

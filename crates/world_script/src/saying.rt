@@ -1,13 +1,12 @@
-ghost use Rattle.std.specs.Prelude.{◌≡◌, map};
+ghost use Rattle.std.specs.Prelude.{◌≡◌, ◌≤◌, map, IfOk};
 ghost use Rattle.world_script.specs.Outcome.{Says};
-ghost use Rattle.route_filter.specs.Words.{octets_of};
-ghost use Rattle.world_script.specs.Values.{address_of};
-ghost use Rattle.world_script.specs.Saying.{at_said, datagram_said, in_said, limit_on, limit_said, offset_said, reserve_said, rule_said, ruled, said_by, word_said};
+ghost use Rattle.world_script.specs.Saying.{arm_on, arm_said, at_said, datagram_said, fail_on, fail_said, in_said, limit_on, limit_said, offset_said, one_between, one_gateway, one_number, packet_said, redirect_on, redirect_said, redirect_to, rule_said, ruled, said_by, submit_said, word_said};
 
 use crate::fault::{InputKind, LineFault};
 use crate::keyword::Keyword;
+use crate::kind::ScriptKind;
 use crate::line::Line;
-use crate::values::{address, number_between, offset};
+use crate::values::{address, any_number, mode, number_between, offset, records, version};
 use gw_base::{Moment, Octets};
 use route_filter::{Rule, Rules, number, octets};
 use std::alloc::Global;
@@ -15,28 +14,71 @@ use std::alloc::Global;
 /// What a line of this form says, by its words after the first, where so many rules stand before it.
 pub fn said_by(
     alloc: Global,
+    kind: ScriptKind,
     form: Keyword,
     rules: usize,
     content: &[u8],
     words: &[&[u8]],
 ) -> Result<Line, LineFault>
-    ensures { Says (said_by form rules content.now (map (λ word. word.now) words.now)) result }
+    ensures { Says (said_by kind form rules content.now (map (λ word. word.now) words.now)) result }
 {
     let said = match form {
         Keyword::In => return datagram(alloc, words),
         Keyword::Rule => return rule(alloc, rules, content, words),
-        Keyword::At => at(words),
-        Keyword::Mark => word(Line::Mark { gateway: 1 }, words),
-        Keyword::Close => word(Line::Close { gateway: 1 }, words),
-        Keyword::End => word(Line::End, words),
-        Keyword::Reserve => reserve(words),
-        Keyword::Limit => limit(words),
-        Keyword::Offset => offset_line(words),
+        Keyword::Submit => return submit(alloc, words),
+        Keyword::At => at(words)?,
+        Keyword::Mark => Line::Mark {
+            gateway: one_gateway(kind, words)?,
+        },
+        Keyword::Close => Line::Close {
+            gateway: one_gateway(kind, words)?,
+        },
+        Keyword::End => word(Line::End, words)?,
+        Keyword::Reserve => Line::Reserve {
+            length: one_between(100, 268_435_456, words)?,
+        },
+        Keyword::Limit => limit(words)?,
+        Keyword::Offset => offset_line(words)?,
+        Keyword::Gateways => Line::Gateways {
+            count: one_between(1, 8, words)? as u8,
+        },
+        Keyword::Nodes => Line::Nodes {
+            count: one_between(1, 16, words)? as u8,
+        },
+        Keyword::Tick => Line::Tick {
+            node: one_number(words)?,
+        },
+        Keyword::Halt => Line::Halt {
+            node: one_number(words)?,
+        },
+        Keyword::Start => Line::Start {
+            node: one_number(words)?,
+        },
+        Keyword::Deliver => Line::Deliver {
+            message: one_number(words)?,
+        },
+        Keyword::Flow => word(Line::Flow, words)?,
+        Keyword::Mix => Line::Mix {
+            seed: one_number(words)?,
+        },
+        Keyword::Commit => Line::Commit {
+            gateway: one_number(words)?,
+        },
+        Keyword::Write => Line::Write {
+            gateway: one_number(words)?,
+        },
+        Keyword::Redirect => redirect(words)?,
+        Keyword::Stop => Line::Stop {
+            gateway: one_number(words)?,
+        },
+        Keyword::Open => Line::Open {
+            gateway: one_number(words)?,
+        },
+        Keyword::Arm => arm(words)?,
+        Keyword::Fail => fail(words)?,
+        Keyword::Settle => word(Line::Settle, words)?,
     };
-    match said {
-        Ok(line) => Ok(line),
-        Err(kind) => Err(LineFault::Refused(kind)),
-    }
+    Ok(said)
 }
 
 /// A line that is one word.
@@ -45,6 +87,44 @@ fn word(said: Line, words: &[&[u8]]) -> Result<Line, InputKind>
 {
     if words.is_empty() {
         Ok(said)
+    } else {
+        Err(InputKind::Arity)
+    }
+}
+
+/// One number: a gateway, a node, a message or a seed.
+fn one_number(words: &[&[u8]]) -> Result<u64, InputKind>
+    ensures { result ≡ one_number (map (λ word. word.now) words.now) }
+{
+    let &[word] = words else {
+        return Err(InputKind::Arity);
+    };
+    any_number(word).ok_or(InputKind::Number)
+}
+
+/// One number from `least` to `most`.
+fn one_between(least: u64, most: u64, words: &[&[u8]]) -> Result<u64, InputKind>
+    ensures value { result ≡ one_between least most (map (λ word. word.now) words.now) }
+    ensures within { IfOk result (λ number. number ≤ most) }
+{
+    let &[word] = words else {
+        return Err(InputKind::Arity);
+    };
+    match number_between(least, most, word) {
+        Some(number) => Ok(number),
+        None => Err(InputKind::Number),
+    }
+}
+
+/// A feed has one gateway and doesn't name it; in a replay one number says which.
+fn one_gateway(kind: ScriptKind, words: &[&[u8]]) -> Result<u64, InputKind>
+    ensures { result ≡ one_gateway kind (map (λ word. word.now) words.now) }
+{
+    if kind == ScriptKind::Replay {
+        return one_number(words);
+    }
+    if words.is_empty() {
+        Ok(1)
     } else {
         Err(InputKind::Arity)
     }
@@ -81,7 +161,7 @@ fn datagram(alloc: Global, words: &[&[u8]]) -> Result<Line, LineFault>
 
 /// A datagram that comes from this address and has these octets.
 fn datagram_from(alloc: Global, from: &[u8], words: &[&[u8]]) -> Result<Line, LineFault>
-    ensures { Says (datagram_said (address_of from.now) (octets_of (map (λ word. word.now) words.now))) result }
+    ensures { Says (datagram_said from.now (map (λ word. word.now) words.now)) result }
 {
     let Some(from) = address(from) else {
         return Err(LineFault::Refused(InputKind::Number));
@@ -93,17 +173,46 @@ fn datagram_from(alloc: Global, from: &[u8], words: &[&[u8]]) -> Result<Line, Li
     Ok(Line::Datagram { from, octets })
 }
 
-/// `reserve N`
-fn reserve(words: &[&[u8]]) -> Result<Line, InputKind>
-    ensures { result ≡ reserve_said (map (λ word. word.now) words.now) }
+/// `submit N FORMAT VERSION HEX..`
+#[tactic(auto, using(crate::proofs::ArityLemmas::submit_few))]
+fn submit(alloc: Global, words: &[&[u8]]) -> Result<Line, LineFault>
+    ensures { Says (submit_said (map (λ word. word.now) words.now)) result }
 {
-    let &[length] = words else {
-        return Err(InputKind::Arity);
-    };
-    match number_between(100, 268_435_456, length) {
-        Some(length) => Ok(Line::Reserve { length }),
-        None => Err(InputKind::Number),
+    if words.len() < 4 {
+        return Err(LineFault::Refused(InputKind::Arity));
     }
+    let (_, rest) = words.split_at(3);
+    packet(alloc, words[0], words[1], words[2], rest)
+}
+
+/// A packet that a node submits, by the words that say it.
+fn packet(
+    alloc: Global,
+    node: &[u8],
+    format: &[u8],
+    form_version: &[u8],
+    words: &[&[u8]],
+) -> Result<Line, LineFault>
+    ensures { Says (packet_said node.now format.now form_version.now (map (λ word. word.now) words.now)) result }
+{
+    let Some(node) = any_number(node) else {
+        return Err(LineFault::Refused(InputKind::Number));
+    };
+    let Some(format) = number(format, 255) else {
+        return Err(LineFault::Refused(InputKind::Number));
+    };
+    let Some(version) = version(alloc, form_version)? else {
+        return Err(LineFault::Refused(InputKind::Hex));
+    };
+    let Some(records) = records(alloc, words)? else {
+        return Err(LineFault::Refused(InputKind::Hex));
+    };
+    Ok(Line::Submit {
+        node,
+        format: format as u8,
+        version,
+        records,
+    })
 }
 
 /// `limit records N`, `limit size N`, `limit open N`
@@ -152,6 +261,99 @@ fn offset_line(words: &[&[u8]]) -> Result<Line, InputKind>
     };
     match offset(word) {
         Some(minutes) => Ok(Line::Offset { minutes }),
+        None => Err(InputKind::Number),
+    }
+}
+
+/// `redirect G CAUSE`, `redirect G CAUSE H`
+#[tactic(auto, using(crate::proofs::ArityLemmas::redirect_other, crate::proofs::ArityLemmas::redirect_two, crate::proofs::ArityLemmas::redirect_three))]
+fn redirect(words: &[&[u8]]) -> Result<Line, InputKind>
+    ensures { result ≡ redirect_said (map (λ word. word.now) words.now) }
+{
+    if words.len() == 2 {
+        return redirect_on(words[0], words[1]);
+    }
+    if words.len() == 3 {
+        return redirect_to(words[0], words[1], words[2]);
+    }
+    Err(InputKind::Arity)
+}
+
+fn redirect_on(gateway: &[u8], cause: &[u8]) -> Result<Line, InputKind>
+    ensures { result ≡ redirect_on gateway.now cause.now }
+{
+    let gateway = any_number(gateway).ok_or(InputKind::Number)?;
+    match number_between(59, 63, cause) {
+        Some(cause) => Ok(Line::Redirect {
+            gateway,
+            cause: cause as u8,
+            to: None,
+        }),
+        None => Err(InputKind::Number),
+    }
+}
+
+fn redirect_to(gateway: &[u8], cause: &[u8], to: &[u8]) -> Result<Line, InputKind>
+    ensures { result ≡ redirect_to gateway.now cause.now to.now }
+{
+    let gateway = any_number(gateway).ok_or(InputKind::Number)?;
+    let cause = number_between(59, 63, cause).ok_or(InputKind::Number)?;
+    match any_number(to) {
+        Some(to) => Ok(Line::Redirect {
+            gateway,
+            cause: cause as u8,
+            to: Some(to),
+        }),
+        None => Err(InputKind::Number),
+    }
+}
+
+/// `arm G K MODE`
+#[tactic(auto, using(crate::proofs::ArityLemmas::arm_other, crate::proofs::ArityLemmas::arm_three))]
+fn arm(words: &[&[u8]]) -> Result<Line, InputKind>
+    ensures { result ≡ arm_said (map (λ word. word.now) words.now) }
+{
+    if words.len() != 3 {
+        return Err(InputKind::Arity);
+    }
+    arm_on(words[0], words[1], words[2])
+}
+
+fn arm_on(gateway: &[u8], call: &[u8], left: &[u8]) -> Result<Line, InputKind>
+    ensures { result ≡ arm_on gateway.now call.now left.now }
+{
+    if left == b"rot".as_slice() {
+        return Err(InputKind::NotBuilt);
+    }
+    let gateway = any_number(gateway).ok_or(InputKind::Number)?;
+    let call = number_between(1, u64::MAX, call).ok_or(InputKind::Number)?;
+    match mode(left) {
+        Some(mode) => Ok(Line::Arm {
+            gateway,
+            call,
+            mode,
+        }),
+        None => Err(InputKind::Number),
+    }
+}
+
+/// `fail G K`
+#[tactic(auto, using(crate::proofs::ArityLemmas::fail_other, crate::proofs::ArityLemmas::fail_two))]
+fn fail(words: &[&[u8]]) -> Result<Line, InputKind>
+    ensures { result ≡ fail_said (map (λ word. word.now) words.now) }
+{
+    if words.len() != 2 {
+        return Err(InputKind::Arity);
+    }
+    fail_on(words[0], words[1])
+}
+
+fn fail_on(gateway: &[u8], call: &[u8]) -> Result<Line, InputKind>
+    ensures { result ≡ fail_on gateway.now call.now }
+{
+    let gateway = any_number(gateway).ok_or(InputKind::Number)?;
+    match number_between(1, u64::MAX, call) {
+        Some(call) => Ok(Line::Fail { gateway, call }),
         None => Err(InputKind::Number),
     }
 }

@@ -1,8 +1,11 @@
-ghost use Rattle.std.specs.Prelude.{◌≡◌, ◌<◌, ◌≤◌, IfSome};
-ghost use Rattle.world_script.specs.Values.{address_of, ip_of, number_between, offset_of, signed, two_digits};
+ghost use Rattle.std.specs.Prelude.{◌≡◌, ◌<◌, ◌≤◌, ◌++◌, map, option_map, IfOk, IfSome, OnOk, is_some, unwrap_or};
+ghost use Rattle.world_script.specs.Values.{address_of, ip_of, mode_of, number_between, number_of, offset_of, records_of, signed, two_digits, version_of};
 
-use gw_base::Addr;
-use route_filter::{cut, number};
+use crate::mode::Mode;
+use crate::records::Records;
+use gw_base::{Addr, NoMemory, Octets};
+use route_filter::{cut, decoded, number};
+use std::alloc::Global;
 
 /// The number that a word says in decimal, where it is from `least` to `most`.
 pub fn number_between(least: u64, most: u64, word: &[u8]) -> Option<u64>
@@ -10,6 +13,13 @@ pub fn number_between(least: u64, most: u64, word: &[u8]) -> Option<u64>
 {
     let number = number(word, most)?;
     if least <= number { Some(number) } else { None }
+}
+
+/// The number that a word says in decimal, where 64 bits hold it.
+pub fn any_number(word: &[u8]) -> Option<u64>
+    ensures { result ≡ number_of word.now }
+{
+    number(word, u64::MAX)
 }
 
 /// The IPv4 address and port that a word says.
@@ -72,5 +82,46 @@ fn signed(sign: u8, number: u16) -> Option<i16>
         b'+' => Some(number),
         b'-' => Some(-number),
         _ => None,
+    }
+}
+
+/// The format version that a word says: two octets in hexadecimal.
+pub fn version(alloc: Global, word: &[u8]) -> Result<Option<u16>, NoMemory>
+    ensures { IfOk result (λ version. version ≡ version_of word.now) }
+{
+    let Some(octets) = decoded(alloc, word)? else {
+        return Ok(None);
+    };
+    match octets.as_slice() {
+        [high, low] => Ok(Some(u16::from(*high) * 256 + u16::from(*low))),
+        _ => Ok(None),
+    }
+}
+
+/// The records that words say in hexadecimal, one in each; `None` where a word isn't whole octets.
+#[tactic(auto, using(crate::proofs::RecordLemmas::records_step, crate::proofs::RecordLemmas::records_none))]
+pub fn records(alloc: Global, words: &[&[u8]]) -> Result<Option<Records>, NoMemory>
+    ensures { IfOk result (λ records. records ≡ records_of (map (λ word. word.now) words.now)) }
+{
+    let mut records = Vec::new(alloc);
+    for word in words {
+        match decoded(alloc, word)? {
+            Some(octets) => records.push(Octets::from_vec(octets))?,
+            None => return Ok(None),
+        }
+    }
+    Ok(Some(Records::from_vec(records)))
+}
+
+/// The mode that a word says.
+pub fn mode(word: &[u8]) -> Option<Mode>
+    ensures { result ≡ mode_of word.now }
+{
+    if word == b"old".as_slice() {
+        Some(Mode::Old)
+    } else if word == b"new".as_slice() {
+        Some(Mode::New)
+    } else {
+        None
     }
 }

@@ -1,0 +1,7 @@
+use Rattle.std.proofs.Common.{◌≡◌, ◌++◌, map, take}
+use Rattle.hex.specs.Hex.{encode_upper}
+use Rattle.world_script.specs.Printing.{words_text}
+use Rattle.world_script.proofs.printing.append_records.Given as goal
+
+abbrev pub invariant-loop-record : goal.invariant-loop-record
+invariant-loop-record l = l.text.items ≡ l.initial.text.items ++ words_text (map encode_upper (take l.record-index l.records))

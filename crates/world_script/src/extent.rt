@@ -1,0 +1,10 @@
+/// How many nodes and gateways a sample has, and how many packets are submitted in it.
+#[derive(Clone, Copy, Debug, PartialEq, Eq)]
+pub struct Extent {
+    /// From 1 to 16.
+    pub nodes: u8,
+    /// From 1 to 8.
+    pub gateways: u8,
+    /// From 1 to 20,000.
+    pub packets: u32,
+}

@@ -1,0 +1,8 @@
+/// The kinds of script.
+#[derive(Clone, Copy, Debug, PartialEq, Eq)]
+pub enum ScriptKind {
+    /// What befalls one gateway.
+    Feed,
+    /// What befalls gateways, nodes and the messages between them.
+    Replay,
+}
