@@ -342,24 +342,35 @@ fn weighed(text: &[u8]) -> u32 {
     sum
 }
 
-/// Samples, with how many lines and octets they have and their sum, as a program in another language draws them.
+/// A sample has so many lines and octets, and this sum of its octets, and reads as it is printed.
+fn assert_sample(
+    rt: &impl Abort,
+    alloc: Global,
+    script: &Script,
+    lines: usize,
+    octets: usize,
+    sum: u32,
+) -> Result<(), Fail> {
+    assert!(rt; script.line(lines).is_none());
+    let text = print(alloc, script, ScriptKind::Replay)?;
+    assert_eq!(rt; text.octets().len(), octets);
+    assert_eq!(rt; weighed(text.octets()), sum);
+    assert_prints(rt, alloc, text.octets(), text.octets())
+}
+
+/// What is wanted of each sample was drawn by a program in another language.
 #[test]
 fn samples_are_those_of_the_generator(rt: HostRuntime) -> Result<(), Fail> {
-    let wanted = [
-        (7, 4, 3, 20, 390, 4_128, 619_781_674),
-        (0, 1, 1, 1, 96, 782, 23_522_268),
-        (u64::MAX, 16, 8, 100, 1_170, 14_624, 3_127_906_237),
-        (42, 1, 2, 9, 306, 2_946, 321_236_408),
-        (7, 4, 3, 2_000, 22_665, 285_540, 1_817_644_535),
-    ];
-    for (seed, nodes, gateways, packets, lines, octets, sum) in wanted {
-        let script = sample(rt.alloc(), seed, nodes, gateways, packets)?;
-        assert!(rt; script.line(lines - 1).is_some());
-        assert!(rt; script.line(lines).is_none());
-        let text = print(rt.alloc(), &script, ScriptKind::Replay)?;
-        assert_eq!(rt; text.octets().len(), octets);
-        assert_eq!(rt; weighed(text.octets()), sum);
-        assert_prints(&rt, rt.alloc(), text.octets(), text.octets())?;
-    }
-    Ok(())
+    let script = sample(rt.alloc(), 7, 4, 3, 20)?;
+    assert!(rt; matches!(script.line(389), Some(Line::End)));
+    assert_sample(&rt, rt.alloc(), &script, 390, 4_128, 619_781_674)?;
+    let script = sample(rt.alloc(), 0, 1, 1, 1)?;
+    assert_sample(&rt, rt.alloc(), &script, 96, 782, 23_522_268)?;
+    let script = sample(rt.alloc(), u64::MAX, 16, 8, 100)?;
+    assert_sample(&rt, rt.alloc(), &script, 1_170, 14_624, 3_127_906_237)?;
+    let script = sample(rt.alloc(), 42, 1, 2, 9)?;
+    assert_sample(&rt, rt.alloc(), &script, 306, 2_946, 321_236_408)?;
+    let script = sample(rt.alloc(), 7, 4, 3, 2_000)?;
+    assert!(rt; matches!(script.line(22_664), Some(Line::End)));
+    assert_sample(&rt, rt.alloc(), &script, 22_665, 285_540, 1_817_644_535)
 }
