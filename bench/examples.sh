@@ -35,7 +35,7 @@ compare() {
         echo "$story: as it should be"
         return
     fi
-    echo "$story: differs, with status $status in the place of $wanted"
+    echo "$story: differs; status $status, wanted $wanted"
     diff "$name.out" "$work/out" | cut -c 1-160
     diff "$error" "$work/err"
     failed=1
