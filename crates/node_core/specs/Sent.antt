@@ -28,8 +28,8 @@ pub record IsCommandOf (copy : PacketCopy) (order : Order) (number : ℕ) : Type
   pub order_is : command.order ≡ order
   pub number_is : command.number ≡ number
 
--- a request is of a copy of the packet that it is of: it sends the copy, plain as the copy is; tests it; or is the release
--- or the cancel that was sent for it
+-- a request is of a copy of the packet that it is of: it sends the copy, plain as the copy is; tests it; or is the
+-- release or the cancel that was sent for it
 abbrev pub IsSent : List PacketState → Sending → Type 0
 IsSent packets (send.Probe gateway number) = Unit {0}
 IsSent packets (send.Data packet gateway number is_plain is_new) =

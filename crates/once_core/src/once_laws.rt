@@ -75,7 +75,8 @@ pub fn a_node_knows_what_it_was_told()
 /// Whatever is called of a node, it follows the procedure in each of its starts, by what it knows of
 /// the packets of that start: in the present one as they are, and in another as they stood at its end.
 pub fn a_node_follows_the_procedure()
-    ensures { (setup : NodeSetup) (calls : List NodeCall) (node start : ℕ) (values : ℕ → List ℕ) → 1 ≤ length setup.gateways →
+    ensures { (setup : NodeSetup) (calls : List NodeCall) (node start : ℕ) (values : ℕ → List ℕ) →
+        1 ≤ length setup.gateways →
         Follows (deeds_of node values (log_of setup calls)) start values (packets_in start (log_of setup calls)) }
 {
     a_node_knows_what_it_was_told();
