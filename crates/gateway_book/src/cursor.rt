@@ -5,7 +5,7 @@ ghost use Rattle.cgf_journal.specs.Trail.{firm_length};
 ghost use Rattle.gw_base.specs.Entry.{act_view};
 ghost use Rattle.gw_base.specs.declared.history.HistoryEntry.{HistoryEntry};
 ghost use Rattle.gateway_book.specs.Cursor.{HasPassed, HasStayed, IsAt, IsBegun, IsWithin, StandsIn, gathered_at_last};
-ghost use Rattle.gateway_book.specs.Read.{HasCauseOf, IsRead};
+ghost use Rattle.gateway_book.specs.Read.{HasCauseOf, IsRead, RunsOn};
 
 use crate::ItemsFault;
 use crate::entry_items::add_items;
@@ -72,6 +72,7 @@ fn step<A: Area>(
     ensures at { Told A.Area → (h : List HistoryEntry) → StandsIn trail.old h cursor.old → IsAt h cursor.new }
     ensures read { IsRead trail.old trail.new }
     ensures cause { HasCauseOf trail.old trail.new result }
+    ensures runs { RunsOn trail.old result }
 {
     let _firm = trail.firm();
     let entry = match read_entry(trail, cursor.entry, entries) {
@@ -106,6 +107,7 @@ pub(crate) fn gather<A: Area>(
     ensures at { Told A.Area → (h : List HistoryEntry) → StandsIn trail.old h cursor.old → IsAt h cursor.new }
     ensures read { IsRead trail.old trail.new }
     ensures cause { HasCauseOf trail.old trail.new result }
+    ensures runs { RunsOn trail.old result }
 {
     let mut entries = EntryBuffers::new(alloc);
     let mut held = EntryBuffers::new(alloc);

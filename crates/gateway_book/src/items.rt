@@ -1,5 +1,5 @@
 // What a writer of files is told of a book.
-ghost use Rattle.std.specs.Prelude.{◌≡◌, IfOk, All};
+ghost use Rattle.std.specs.Prelude.{◌≡◌, IsTrue, IfOk, All};
 ghost use Rattle.gate_journal.specs.Moments.{Kept, Told};
 ghost use Rattle.gateway_book.specs.Items.{IsWritable, items_between};
 
@@ -13,7 +13,7 @@ use std::alloc::Global;
 
 impl<A: Area> Book<A> {
     ghost use Rattle.gateway_book.specs.Book.{area_of, value_of};
-    ghost use Rattle.gateway_book.specs.Read.{HasReadCause, IsUnchanged};
+    ghost use Rattle.gateway_book.specs.Read.{HasReadCause, IsUnchanged, ReadsAsPlanned};
 
     /// The firm records and marks from number `from` on, `max` of them, or all where there are fewer: each record that
     /// the firm entries file, and each Tick and Close among them, in their order and numbered from 0 on. An item keeps
@@ -30,6 +30,7 @@ impl<A: Area> Book<A> {
         // what is planned goes on.
         ensures area { Kept A.Area (area_of self.old) (area_of self.new) }
         ensures cause { HasReadCause self.old self.new result }
+        ensures planned { IsTrue A.tells_fate → ReadsAsPlanned self.old self.new result }
     {
         let mut cursor = Cursor::new(alloc);
         let mut gathering = Gathering::new(alloc, from, max as usize);
