@@ -140,39 +140,25 @@ const ALL: [Expected; 9] = [
     Expected::Record(13, 98),
 ];
 
-/// Asks for items from a number on, at most so many, and is given so many, from a place in the list above on.
-#[derive(Clone, Copy, Debug, PartialEq, Eq)]
-struct Question {
-    from: u64,
-    max: u32,
-    count: usize,
-    first: usize,
-}
-
-const fn question(from: u64, max: u32, count: usize, first: usize) -> Question {
-    Question {
-        from,
-        max,
-        count,
-        first,
-    }
-}
+/// What is asked for, and what is given: items from a number on, at most so many; how many they are, and where they begin in
+/// the list above.
+type Question = (u64, u32, usize, usize);
 
 fn ask(
     rt: &impl Abort,
     alloc: Global,
     book: &mut Book<MemoryArea>,
-    asked: Question,
+    (from, max, count, first): Question,
 ) -> Result<(), Fail> {
-    let items = book.items(alloc, asked.from, asked.max)?;
-    assert_eq!(rt; items.len(), asked.count, "{asked:?}");
+    let items = book.items(alloc, from, max)?;
+    assert_eq!(rt; items.len(), count, "{from} {max}");
     let mut expected = ALL.iter();
-    for _ in 0..asked.first {
+    for _ in 0..first {
         expected.next();
     }
     for item in items.iter() {
         match expected.next() {
-            Some(expected) => assert_eq!(rt; told(rt, item), *expected, "{asked:?}"),
+            Some(expected) => assert_eq!(rt; told(rt, item), *expected, "{from} {max}"),
             None => panic!(rt; "one item more"),
         }
     }
@@ -181,28 +167,28 @@ fn ask(
 
 /// What is asked for where the first batch is firm.
 const FIRST: [Question; 12] = [
-    question(0, 100, 7, 0),
-    question(0, 0, 0, 0),
-    question(0, 1, 1, 0),
-    question(1, 1, 1, 1),
-    question(1, 2, 2, 1),
-    question(3, 3, 3, 3),
-    question(0, 7, 7, 0),
-    question(6, 1, 1, 6),
-    question(6, 5, 1, 6),
-    question(7, 5, 0, 7),
-    question(u64::MAX, u32::MAX, 0, 7),
-    question(2, u32::MAX, 5, 2),
+    (0, 100, 7, 0),
+    (0, 0, 0, 0),
+    (0, 1, 1, 0),
+    (1, 1, 1, 1),
+    (1, 2, 2, 1),
+    (3, 3, 3, 3),
+    (0, 7, 7, 0),
+    (6, 1, 1, 6),
+    (6, 5, 1, 6),
+    (7, 5, 0, 7),
+    (u64::MAX, u32::MAX, 0, 7),
+    (2, u32::MAX, 5, 2),
 ];
 
 /// What is asked for where all are.
 const LAST: [Question; 6] = [
-    question(0, 2, 2, 0),
-    question(2, 4, 4, 2),
-    question(6, 2, 2, 6),
-    question(8, 2, 1, 8),
-    question(9, 2, 0, 9),
-    question(0, 100, 9, 0),
+    (0, 2, 2, 0),
+    (2, 4, 4, 2),
+    (6, 2, 2, 6),
+    (8, 2, 1, 8),
+    (9, 2, 0, 9),
+    (0, 100, 9, 0),
 ];
 
 #[test]
@@ -210,7 +196,7 @@ fn the_firm_records_and_marks_are_told_in_order(rt: HostRuntime) -> Result<(), F
     let alloc = rt.alloc();
     let area = area(&rt, alloc);
     let mut book = opened(&rt, alloc, area);
-    ask(&rt, alloc, &mut book, question(0, 100, 0, 0))?;
+    ask(&rt, alloc, &mut book, (0, 100, 0, 0))?;
     send(&rt, &mut book, &two_records(1, 0, 5, 6), 10);
     send(&rt, &mut book, &one_record(2, 1, 7), 20);
     send(&rt, &mut book, &two_records(2, 2, 8, 9), 20);
@@ -235,7 +221,7 @@ fn the_firm_records_and_marks_are_told_in_order(rt: HostRuntime) -> Result<(), F
         }
     );
     send(&rt, &mut book, &listing(4, 0xF9, 7, 3), 96);
-    ask(&rt, alloc, &mut book, question(0, 100, 0, 0))?;
+    ask(&rt, alloc, &mut book, (0, 100, 0, 0))?;
     assert!(&rt; book.commit().is_ok());
     send(&rt, &mut book, &one_record(1, 8, 12), 97);
     for asked in FIRST {
@@ -253,5 +239,5 @@ fn the_firm_records_and_marks_are_told_in_order(rt: HostRuntime) -> Result<(), F
         ask(&rt, alloc, &mut book, asked)?;
     }
     let mut again = opened(&rt, alloc, book.into_area());
-    ask(&rt, alloc, &mut again, question(0, 100, 9, 0))
+    ask(&rt, alloc, &mut again, (0, 100, 9, 0))
 }
