@@ -110,6 +110,7 @@ impl<A: Area> Book<A> {
             scratch: _,
             open_time: _,
             cuts: _,
+            cursor: _,
         } = self;
         trail.into_area()
     }
