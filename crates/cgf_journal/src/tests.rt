@@ -2,7 +2,7 @@
 ghost use Rattle.std.specs.Prelude.{◌≡◌, ◌≤◌, false, IfOk};
 ghost use Rattle.cgf_journal.specs.Trail.{is_closed};
 
-use super::*;
+use crate::{Device, Judge, OpenFault, Trail};
 use area_disk::{Area, Drill, MemoryArea, Outcome3, Plan, Stop};
 use entry_codec::read;
 use gate_journal::Journal;

@@ -11,6 +11,8 @@ mod commit;
 mod cursor;
 mod decision;
 mod drill;
+#[cfg(test)]
+mod drill_tests;
 mod entry_items;
 mod filing;
 mod fit;
@@ -18,6 +20,8 @@ mod gathering;
 mod held_copies;
 mod index;
 mod items;
+#[cfg(test)]
+mod items_tests;
 mod judge;
 pub mod laws;
 mod listed;
