@@ -11,8 +11,6 @@ mod commit;
 mod cursor;
 mod decision;
 mod drill;
-#[cfg(test)]
-mod drill_tests;
 mod entry_items;
 mod filing;
 mod fit;
@@ -20,8 +18,6 @@ mod gathering;
 mod held_copies;
 mod index;
 mod items;
-#[cfg(test)]
-mod items_tests;
 mod judge;
 pub mod laws;
 mod listed;
@@ -33,24 +29,16 @@ mod nodes;
 mod observe;
 mod observed;
 mod opening;
-#[cfg(test)]
-mod opening_tests;
 mod outcome;
 mod plain;
-#[cfg(test)]
-mod plain_tests;
 mod preparing;
 mod reading;
 mod readying;
 mod states;
 mod taking;
-#[cfg(test)]
-mod taking_tests;
 mod told;
 mod totals;
 mod wire_marks;
-#[cfg(test)]
-mod worked_tests;
 
 pub use book::Book;
 pub use filing::{FiledRecord, filed};

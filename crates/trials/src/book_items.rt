@@ -1,8 +1,8 @@
 // What a book's history makes for a writer of files.
 ghost use Rattle.std.specs.Prelude.{◌≤◌};
 
-use crate::{Book, Marked, Outcome, Setup, prepare};
 use area_disk::{Area, MemoryArea, Plan};
+use gateway_book::{Book, Marked, Outcome, Setup, prepare};
 use gw_base::{Addr, Caller, CdrKind, Item, Moment};
 use std::alloc::Global;
 use std::process::Abort;

@@ -1,8 +1,8 @@
 // A book whose device fails or stops at each of its calls.
 ghost use Rattle.std.specs.Prelude.{◌≤◌};
 
-use crate::{Book, BookFault, Outcome, Receipt, Settled, Setup, prepare};
 use area_disk::{Area, Drill, Fate, MemoryArea, Outcome3, Plan, Stop};
+use gateway_book::{Book, BookFault, Outcome, Receipt, Settled, Setup, prepare};
 use gtpp_message::Why;
 use gw_base::{Addr, Caller, Moment};
 use std::alloc::{AllocError, Global};
