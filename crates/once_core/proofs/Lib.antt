@@ -21,3 +21,11 @@ pub mod OnceLemmas
 pub mod StoryLemmas
 pub mod DeedLemmas
 pub mod NodeLemmas
+pub mod MeaningLemmas
+pub mod WaitingLemmas
+pub mod PlayLemmas
+pub mod CommitPlays
+pub mod ReplyPlays
+pub mod RequestPlays
+pub mod PathPlays
+pub mod DeliverPlays

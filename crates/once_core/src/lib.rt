@@ -11,6 +11,7 @@
 mod event;
 mod message;
 pub mod once_laws;
+pub mod shown_laws;
 #[cfg(test)]
 mod worked_tests;
 pub mod world_laws;

@@ -1,0 +1,13 @@
+use Rattle.std.proofs.Common.{refl}
+use Rattle.once_core.proofs.MeaningLemmas.{meaning_is}
+use Rattle.once_core.proofs.WaitingLemmas.{passed}
+use Rattle.once_core.proofs.PlayLemmas.{still_plays}
+use Rattle.once_core.proofs.CommitPlays.{committing_plays}
+use Rattle.once_core.proofs.DeliverPlays.{ready_plays}
+use Rattle.once_core.proofs.PathPlays.{other_plays}
+use Rattle.once_core.proofs.RequestPlays.{prepared_request}
+use Rattle.once_core.proofs.ReplyPlays.{noted_plays}
+use Rattle.once_core.proofs.shown_laws.wip.Goals as goal
+
+pub returns : goal.returns
+returns c = λ n. refl
