@@ -29,3 +29,4 @@ pub mod ReplyPlays
 pub mod RequestPlays
 pub mod PathPlays
 pub mod DeliverPlays
+pub mod RedirectPlays

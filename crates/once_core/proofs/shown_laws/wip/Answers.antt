@@ -3,6 +3,7 @@ use Rattle.once_core.proofs.MeaningLemmas.{meaning_is}
 use Rattle.once_core.proofs.WaitingLemmas.{passed}
 use Rattle.once_core.proofs.PlayLemmas.{still_plays}
 use Rattle.once_core.proofs.CommitPlays.{committing_plays}
+use Rattle.once_core.proofs.RedirectPlays.{redirected_plays}
 use Rattle.once_core.proofs.DeliverPlays.{ready_plays}
 use Rattle.once_core.proofs.PathPlays.{other_plays}
 use Rattle.once_core.proofs.RequestPlays.{prepared_request}
