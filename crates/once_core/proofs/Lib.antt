@@ -30,3 +30,7 @@ pub mod RequestPlays
 pub mod PathPlays
 pub mod DeliverPlays
 pub mod RedirectPlays
+pub mod FormLemmas
+pub mod LogLemmas
+pub mod NumberLemmas
+pub mod NodePlays

@@ -3,6 +3,10 @@ use Rattle.once_core.proofs.MeaningLemmas.{meaning_is}
 use Rattle.once_core.proofs.WaitingLemmas.{passed}
 use Rattle.once_core.proofs.PlayLemmas.{still_plays}
 use Rattle.once_core.proofs.CommitPlays.{committing_plays}
+use Rattle.once_core.proofs.NodePlays.{quiet_node}
+use Rattle.once_core.proofs.FormLemmas.{value_read}
+use Rattle.once_core.proofs.LogLemmas.{counter_is}
+use Rattle.once_core.proofs.NumberLemmas.{ever}
 use Rattle.once_core.proofs.RedirectPlays.{redirected_plays}
 use Rattle.once_core.proofs.DeliverPlays.{ready_plays}
 use Rattle.once_core.proofs.PathPlays.{other_plays}
