@@ -34,3 +34,5 @@ pub mod FormLemmas
 pub mod LogLemmas
 pub mod NumberLemmas
 pub mod NodePlays
+pub mod SentPlays
+pub mod SendingPlays

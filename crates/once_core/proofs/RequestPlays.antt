@@ -87,11 +87,11 @@ asked_responds o room node number (Cancel numbers) = tabled_responds o room numb
 
 -- ---- a request that isn't expired is timely
 
-both_false : (a b : Bool) → (a || b) ≡ false → (a ≡ false) × (b ≡ false)
+pub both_false : (a b : Bool) → (a || b) ≡ false → (a ≡ false) × (b ≡ false)
 both_false true b e = absurd (false≢true (sym e))
 both_false false b e = (refl, e)
 
-not_false : (a : Bool) → not a ≡ false → a ≡ true
+pub not_false : (a : Bool) → not a ≡ false → a ≡ true
 not_false true e = refl
 not_false false e = absurd (false≢true (sym e))
 
@@ -112,7 +112,7 @@ timely m h number body e is fresh =
 -- ---- it comes
 
 -- a message stands at a place among all messages
-place_in : (letters : List Letter) (l : Letter) → Contains letters l → (k : ℕ) × (slice_get letters k ≡ Some l)
+pub place_in : (letters : List Letter) (l : Letter) → Contains letters l → (k : ℕ) × (slice_get letters k ≡ Some l)
 place_in letters l is = (is.0, slice_get-get_or letters is.0 l is.1 ∙ ap (λ (x : Letter). Some x) is.2)
 
 module _ (back : ReadsBack) (roles : RolesRead) (rules : Rules) (now : ℕ) (m : world.Message) (g : Gateway) (scene : Scene) (stands : Stands m.gateway scene g)
