@@ -36,3 +36,6 @@ pub mod NumberLemmas
 pub mod NodePlays
 pub mod SentPlays
 pub mod SendingPlays
+pub mod FollowLemmas
+pub mod FollowSentLemmas
+pub mod FollowKnownLemmas
