@@ -39,3 +39,6 @@ pub mod SendingPlays
 pub mod FollowLemmas
 pub mod FollowSentLemmas
 pub mod FollowKnownLemmas
+pub mod TickPlays
+pub mod HearPlays
+pub mod WorldPlays

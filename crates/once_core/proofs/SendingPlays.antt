@@ -1,5 +1,5 @@
 -- What the octets of a node's sending mean is what the node asks with it.
-use Rattle.std.proofs.Common.{◌≡◌, ℕ, suc, ◌+◌, ◌-◌, ◌<◌, ◌≤◌, ◌%◌, Bool, true, false, List, [], ◌∷◌, ◌++◌, length, map, Option, Some, None, All, Contains, slice_get, refl, sym, ap, subst, ◌∙◌, arith, append-nil}
+use Rattle.std.proofs.Common.{◌≡◌, ℕ, suc, ◌+◌, ◌-◌, ◌<◌, ◌≤◌, ◌%◌, Bool, true, false, if◌then◌else◌, List, [], ◌∷◌, ◌++◌, length, map, Option, Some, None, All, Contains, slice_get, refl, sym, ap, subst, ◌∙◌, arith, append-nil}
 use Rattle.std.specs.List.{flat_map}
 use Rattle.std.specs.Option.{option_map_or}
 use Rattle.std.proofs.lemmas.Bool.{false≢true}
@@ -216,7 +216,7 @@ module _ (gateways place : ℕ) (log : List LogEntry) (rightly : NodeRightly gat
     command_plays packet gateway named number o is_new there =
         let m = sent (send.Command packet gateway named number o is_new) in
         let asked = did.letter_of (node_ip place) (starts_in before_tick) gateway Second number (Asks (Orders o named)) in
-        let ordered = (may values (send.Command packet gateway named number o is_new) asked there (in_head asked []) refl).1.1 in
+        let ordered = (may values (send.Command packet gateway named number o is_new) asked there (in_head asked []) refl).2 in
         let range = in_range gateway named ordered.at in
         record {
           said = said_by_node m refl (record {

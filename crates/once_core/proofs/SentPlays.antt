@@ -85,16 +85,16 @@ module _ (node : ℕ) where
       (λ later. sent_new ls (with_letter m (with_deed node (Sent m) scene)) l later)
       (in_cons m l ls is)
 
-pub by_one : {P : Letter → Type 0} (only l : Letter) → Contains (only ∷ []) l → P only → P l
-by_one {P} only l is holds = ⊎_elim (λ e. subst P e holds) (λ none. absurd (in_none l none)) (in_cons only l [] is)
+pub by_one : (P : Letter → Type 0) (only l : Letter) → Contains (only ∷ []) l → P only → P l
+by_one P only l is holds = ⊎_elim (λ e. subst P e holds) (λ none. absurd (in_none l none)) (in_cons only l [] is)
 
 -- what a node asks are requests of its own
 pub asks : (node start : ℕ) (values : ℕ → List ℕ) (s : Sending) (l : Letter) → Contains (asked_by node start values s) l → (is_request l.says ≡ true) × (l.node ≡ node)
 asks node start values (send.Probe gateway number) l is = absurd (in_none l is)
 asks node start values (send.Data packet gateway number is_plain is_new) l is =
-    by_one (letter_of node start gateway First number (Asks (Sends is_plain (values packet)))) l is (refl, refl)
-asks node start values (send.Test packet gateway number) l is = by_one (letter_of node start gateway Second number (Asks Tests)) l is (refl, refl)
-asks node start values (send.Command packet gateway named number order is_new) l is = by_one (letter_of node start gateway Second number (Asks (Orders order named))) l is (refl, refl)
+    by_one (λ (k : Letter). (is_request k.says ≡ true) × (k.node ≡ node)) (letter_of node start gateway First number (Asks (Sends is_plain (values packet)))) l is (refl, refl)
+asks node start values (send.Test packet gateway number) l is = by_one (λ (k : Letter). (is_request k.says ≡ true) × (k.node ≡ node)) (letter_of node start gateway Second number (Asks Tests)) l is (refl, refl)
+asks node start values (send.Command packet gateway named number order is_new) l is = by_one (λ (k : Letter). (is_request k.says ≡ true) × (k.node ≡ node)) (letter_of node start gateway Second number (Asks (Orders order named))) l is (refl, refl)
 
 -- ---- what the laws of nodes say
 

@@ -3,6 +3,9 @@ use Rattle.once_core.proofs.MeaningLemmas.{meaning_is}
 use Rattle.once_core.proofs.WaitingLemmas.{passed}
 use Rattle.once_core.proofs.PlayLemmas.{still_plays}
 use Rattle.once_core.proofs.CommitPlays.{committing_plays}
+use Rattle.once_core.proofs.TickPlays.{tick_plays}
+use Rattle.once_core.proofs.HearPlays.{hear_plays}
+use Rattle.once_core.proofs.WorldPlays.{gateway_made}
 use Rattle.once_core.proofs.SendingPlays.{tick_is}
 use Rattle.once_core.proofs.NodePlays.{quiet_node}
 use Rattle.once_core.proofs.FormLemmas.{value_read}
