@@ -42,3 +42,4 @@ pub mod FollowKnownLemmas
 pub mod TickPlays
 pub mod HearPlays
 pub mod WorldPlays
+pub mod TurnPlays
