@@ -66,7 +66,7 @@ settled_said g said m is =
 
 module _ (gateway : ℕ) (scene : Scene) (g : Gateway) (stands : Stands gateway scene g) where
   -- all becomes firm
-  firm_plays : (cuts : ℕ) → Plays gateway scene (settling (record g { book = whole_book g.book cuts false }))
+  pub firm_plays : (cuts : ℕ) → Plays gateway scene (settling (record g { book = whole_book g.book cuts false }))
   firm_plays cuts = record {
     later = Firms gateway ∷ [];
     after = with_settled gateway (firming (scene.posts gateway)) scene;

@@ -43,3 +43,5 @@ pub mod TickPlays
 pub mod HearPlays
 pub mod WorldPlays
 pub mod TurnPlays
+pub mod FirstPlays
+pub mod SubmittedLemmas

@@ -21,12 +21,12 @@ use Rattle.once_core.proofs.PlayLemmas.{Plays, Rightly, Stands, happened_more}
 
 -- ---- one place of a list
 
-get_set : {A : Type 0} (xs : List A) (p : ℕ) (x y : A) → slice_get xs p ≡ Some y → slice_get (slice_set xs p x) p ≡ Some x
+pub get_set : {A : Type 0} (xs : List A) (p : ℕ) (x y : A) → slice_get xs p ≡ Some y → slice_get (slice_set xs p x) p ≡ Some x
 get_set [] p x y e = absurd (cc)
 get_set (z ∷ xs) zero x y e = refl
 get_set (z ∷ xs) (suc p) x y e = get_set xs p x y e
 
-get_other : {A : Type 0} (xs : List A) (p q : ℕ) (x : A) → q ≢ p → slice_get (slice_set xs p x) q ≡ slice_get xs q
+pub get_other : {A : Type 0} (xs : List A) (p q : ℕ) (x : A) → q ≢ p → slice_get (slice_set xs p x) q ≡ slice_get xs q
 get_other [] p q x apart = refl
 get_other (z ∷ xs) zero zero x apart = absurd (apart refl)
 get_other (z ∷ xs) zero (suc q) x apart = refl

@@ -3,6 +3,8 @@ use Rattle.once_core.proofs.MeaningLemmas.{meaning_is}
 use Rattle.once_core.proofs.WaitingLemmas.{passed}
 use Rattle.once_core.proofs.PlayLemmas.{still_plays}
 use Rattle.once_core.proofs.CommitPlays.{committing_plays}
+use Rattle.once_core.proofs.FirstPlays.{first_made}
+use Rattle.once_core.proofs.SubmittedLemmas.{turns_forms}
 use Rattle.once_core.proofs.TurnPlays.{turn_made}
 use Rattle.once_core.proofs.TickPlays.{tick_plays}
 use Rattle.once_core.proofs.HearPlays.{hear_plays}
