@@ -45,3 +45,4 @@ pub mod WorldPlays
 pub mod TurnPlays
 pub mod FirstPlays
 pub mod SubmittedLemmas
+pub mod WorldOnceLemmas
