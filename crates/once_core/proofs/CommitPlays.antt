@@ -1,28 +1,22 @@
 -- Commits, openings again, stops, openings and marks of a gateway are happenings.
-use Rattle.std.proofs.Common.{◌≡◌, ◌⊎◌, ⊎_elim, ℕ, ◌+◌, ◌-◌, ◌≤◌, ◌==◌, nat_le, not, Bool, true, false, ◌||◌, if◌then◌else◌, List, [], ◌∷◌, ◌++◌, length, map, filter, take, Contains, refl, sym, ap, subst, ◌∙◌, arith, append-nil}
+use Rattle.std.proofs.Common.{◌≡◌, ℕ, ◌-◌, nat_le, not, Bool, true, false, ◌||◌, if◌then◌else◌, List, [], ◌∷◌, ◌++◌, length, map, filter, take, Contains, refl, sym, ap, subst, ◌∙◌, arith}
 use Rattle.std.proofs.lemmas.Bool.{false≢true}
 use Rattle.std.proofs.lemmas.List.{take_all}
 use Rattle.std.proofs.lemmas.List.Elements.{Contains-append_right}
-use Rattle.gw_base.specs.declared.cause.TheConstants.{SYSTEM_FAILURE}
-use Rattle.gw_base.specs.declared.history.HistoryAct.{HistoryAct}
-use Rattle.gw_base.specs.declared.history.HistoryAct.TheVariants as act
 use Rattle.gw_base.specs.declared.history.HistoryEntry.{HistoryEntry}
-use Rattle.gtpp_message.specs.Message.{TransferResponse}
-use Rattle.gateway_book.specs.Answered.{entry_by, no_caller}
-use Rattle.gateway_book.specs.Value.{BookValue, Fortune, Gone, Refused, Reopening, Whole, committed, faulted, history_of, recorded, reopened, standing_for, tried}
-use Rattle.once_core.specs.Answers.{if_broken, marked, recorded_where}
-use Rattle.once_core.specs.Gateway.{Gateway, Moved, Rules, book_committing, committing, cut, entries_left, followed, giving_up, is_reached, opened, readying, settling, still, with_book, with_start}
+use Rattle.gateway_book.specs.Value.{BookValue, Fortune, Gone, Refused, Reopening, Whole, committed, faulted, reopened, tried}
+use Rattle.once_core.specs.Gateway.{Gateway, Rules, committing, cut, giving_up, is_reached, readying, settling, still, with_book}
 use Rattle.once_core.specs.Happenings.{Answers, Closes, Firms, Happening, Keeps, Letter, Meaning, Note, Notes, Post, Scene, Starts, Ticks, act_noted, history}
 use Rattle.once_core.specs.Happenings as did
-use Rattle.once_core.specs.Meaning.{letter_of, meaning_of, speaks}
+use Rattle.once_core.specs.Meaning.{letter_of, meaning_of}
 use Rattle.once_core.specs.Messages.{failing, is_response}
-use Rattle.once_core.specs.Scenes.{at, firming, happened, happened_all, is_idle, keeping, noting, with_post, with_settled}
+use Rattle.once_core.specs.Scenes.{firming, is_idle, keeping, with_post, with_settled}
 use Rattle.once_core.specs.Shown.{post_of, waiting_letters}
 use Rattle.once_core.specs.declared.message.Message.{Message}
 use Rattle.once_core.specs.declared.message.Waiting.{Waiting}
 use Rattle.once_core.proofs.ListLemmas.{filtered, in_none}
 use Rattle.once_core.proofs.MeaningLemmas.{GatewaySaid, ReadsBack, Said, failing_means, failing_said, said_by_gateway}
-use Rattle.once_core.proofs.PlayLemmas.{Plays, Rightly, Stands, adds, followed_plays, goes_on_at, letters_go, post_goes, same_at, settled_goes, stands_after, still_plays, with_letters}
+use Rattle.once_core.proofs.PlayLemmas.{Plays, Rightly, Stands, adds, goes_on_at, letters_go, post_goes, same_at, settled_goes, still_plays, with_letters}
 use Rattle.once_core.proofs.SceneLemmas.{at_same}
 use Rattle.once_core.proofs.WaitingLemmas.{in_map, letters_passing, of_map, passed, sent_letters}
 

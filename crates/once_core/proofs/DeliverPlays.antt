@@ -1,21 +1,19 @@
 -- What a gateway makes of a message that reaches it, of a mark and of an opening, is what happens in a scene.
-use Rattle.std.proofs.Common.{◌≡◌, ℕ, ◌%◌, ◌==◌, ◌&&◌, ◌||◌, ◌⊎◌, inl, inr, not, Bool, true, false, if◌then◌else◌, List, [], ◌∷◌, ◌++◌, length, map, Option, Some, None, Contains, refl, sym, ap, subst, ◌∙◌, arith, append-nil}
-use Rattle.std.specs.Prelude.{option_map}
+use Rattle.std.proofs.Common.{◌≡◌, ℕ, ◌%◌, ◌&&◌, ◌||◌, inl, inr, not, Bool, true, false, if◌then◌else◌, List, [], ◌∷◌, ◌++◌, length, Contains, refl, sym, ap, subst, ◌∙◌, arith, append-nil}
 use Rattle.std.proofs.lemmas.Bool.{false≢true}
 use Rattle.std.proofs.lemmas.List.{take_all}
-use Rattle.std.proofs.lemmas.List.Elements.{Contains-push_cases, Contains-append_right}
+use Rattle.std.proofs.lemmas.List.Elements.{Contains-append_right}
 use Rattle.gw_base.specs.History.{is_close_due}
 use Rattle.gw_base.specs.TickDue.{is_tick_due}
 use Rattle.gw_base.specs.declared.cause.TheConstants.{CDR_DECODING_ERROR, SYSTEM_FAILURE}
-use Rattle.gw_base.specs.declared.history.HistoryAct.{HistoryAct}
 use Rattle.gw_base.specs.declared.history.HistoryAct.TheVariants as act
 use Rattle.gw_base.specs.declared.history.HistoryEntry.{HistoryEntry}
-use Rattle.gtpp_message.specs.Message.{MessageValue, TransferValue, EchoRequest, EchoResponse, VersionNotSupported, NodeAliveRequest, NodeAliveResponse, RedirectionRequest, RedirectionResponse, TransferRequest, TransferResponse}
+use Rattle.gtpp_message.specs.Message.{MessageValue, EchoRequest, EchoResponse, VersionNotSupported, NodeAliveRequest, NodeAliveResponse, RedirectionRequest, RedirectionResponse, TransferRequest, TransferResponse}
 use Rattle.gtpp_message.specs.Reading.{Message}
 use Rattle.gtpp_message.specs.Role.{for_role}
 use Rattle.gtpp_message.specs.Writing.{written}
 use Rattle.gtpp_message.specs.declared.role.Role.TheVariants as role
-use Rattle.gateway_book.specs.Answer.{Decided, Silent, Says, decided, failure_answer}
+use Rattle.gateway_book.specs.Answer.{decided, failure_answer}
 use Rattle.gateway_book.specs.Answered.{no_caller}
 use Rattle.gateway_book.specs.Preparing as of
 use Rattle.gateway_book.specs.Preparing.{PreparedValue, framed, sends_values}
@@ -26,19 +24,18 @@ use Rattle.once_core.specs.Expired.{is_expired}
 use Rattle.once_core.specs.Gateway.{Gateway, Moved, Rules, committing, followed, giving_up, opened, readying, settling, still, with_book}
 use Rattle.once_core.specs.Happenings.{Answers, Closes, Firms, Happening, Keeps, Letter, Note, Notes, Post, Scene, Starts, Ticks, act_noted}
 use Rattle.once_core.specs.Happenings as did
-use Rattle.once_core.specs.Meaning.{is_spoken, letter_of, meaning_in, meaning_of, speaks}
-use Rattle.once_core.specs.Messages.{about, answering}
-use Rattle.once_core.specs.Scenes.{firming, happened, happened_all, is_idle, keeping, with_post, with_settled}
-use Rattle.once_core.specs.Shown.{post_of, waiting_letters}
+use Rattle.once_core.specs.Meaning.{is_spoken, letter_of, meaning_of, speaks}
+use Rattle.once_core.specs.Messages.{answering}
+use Rattle.once_core.specs.Scenes.{firming, is_idle, keeping, with_post, with_settled}
+use Rattle.once_core.specs.Shown.{post_of}
 use Rattle.once_core.specs.declared.message.Message as world
-use Rattle.once_core.specs.declared.message.Waiting.{Waiting}
 use Rattle.once_core.proofs.CommitPlays.{readying_plays}
 use Rattle.once_core.proofs.ListLemmas.{in_cons, in_head, in_none}
-use Rattle.once_core.proofs.MeaningLemmas.{FromNode, IsAbout, IsWritten, NodeSaid, ReadsBack, Responds, Said, meaning_is, responds_means, responds_said, role_read_of, said_by_gateway}
+use Rattle.once_core.proofs.MeaningLemmas.{FromNode, IsWritten, NodeSaid, ReadsBack, Responds, Said, meaning_is, responds_means, responds_said, role_read_of, said_by_gateway}
 use Rattle.once_core.proofs.PathPlays.{Other, other_plays}
-use Rattle.once_core.proofs.PlayLemmas.{GoesOnAt, Plays, Rightly, Stands, adds, followed_plays, goes_on_at, letters_go, post_goes, same_at, settled_goes, stands_after, still_plays, with_letters}
+use Rattle.once_core.proofs.PlayLemmas.{GoesOnAt, Plays, Stands, adds, followed_plays, goes_on_at, letters_go, post_goes, settled_goes, stands_after, still_plays, with_letters}
 use Rattle.once_core.proofs.ReplyPlays.{noted_plays, whole_history}
-use Rattle.once_core.proofs.RequestPlays.{prepared_request, request_plays}
+use Rattle.once_core.proofs.RequestPlays.{request_plays}
 use Rattle.once_core.proofs.SceneLemmas.{at_same}
 
 -- ---- moves that come first

@@ -1,5 +1,5 @@
 -- How a world begins is what happens in a scene: each gateway notes its start.
-use Rattle.std.proofs.Common.{◌≡◌, ◌⊎◌, ⊎_elim, ℕ, zero, suc, ◌<◌, ◌≤◌, ◌==◌, Bool, true, false, if◌then◌else◌, List, [], ◌∷◌, ◌++◌, length, Option, Some, None, Contains, slice_get, refl, sym, ap, subst, ◌∙◌, arith}
+use Rattle.std.proofs.Common.{◌≡◌, ⊎_elim, ℕ, zero, suc, ◌<◌, ◌≤◌, Bool, true, false, if◌then◌else◌, List, [], ◌∷◌, ◌++◌, length, Option, Some, None, Contains, slice_get, refl, sym, ap, subst, ◌∙◌, arith}
 use Rattle.std.specs.Option.{option_map_or}
 use Rattle.std.proofs.lemmas.Bool.{cases_lt, ne_eqb}
 use Rattle.gw_base.specs.declared.history.HistoryAct.TheVariants as act
@@ -10,10 +10,9 @@ use Rattle.once_core.specs.Addresses.{node_ip}
 use Rattle.once_core.specs.Beginning.{first_gateway, times_of, world_of}
 use Rattle.once_core.specs.Deeds.{deeds_of}
 use Rattle.once_core.specs.Gateway.{Gateway, Rules, settling, still}
-use Rattle.once_core.specs.Happenings.{Deed, Happening, Notes, Post, Scene, Starts}
+use Rattle.once_core.specs.Happenings.{Happening, Notes, Post, Scene, Starts}
 use Rattle.once_core.specs.Scenes.{happened_all, nothing_yet, scene_after}
 use Rattle.once_core.specs.Shown.{post_of}
-use Rattle.once_core.specs.World.{World}
 use Rattle.once_core.proofs.CommitPlays.{firm_plays, whole_book}
 use Rattle.once_core.proofs.ListLemmas.{in_none}
 use Rattle.once_core.proofs.LogLemmas.{counts_first}

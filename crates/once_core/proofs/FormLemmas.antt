@@ -1,17 +1,16 @@
 -- What a draft is can be sent, and is read back as it was submitted.
-use Rattle.std.proofs.Common.{◌≡◌, ◌≢◌, ◌↔◌, ℕ, suc, ◌+◌, ◌*◌, ◌/◌, ◌%◌, ◌<◌, ◌≤◌, ◌==◌, ◌&&◌, not, nat_lt, Bool, true, false, if◌then◌else◌, List, [], ◌∷◌, ◌++◌, length, length-append, Option, Some, None, Ok, Err, Result, is_ok, refl, sym, ap, subst, ◌∙◌, arith, append_assoc, append-nil}
+use Rattle.std.proofs.Common.{◌≡◌, ◌↔◌, ℕ, ◌+◌, ◌*◌, ◌/◌, ◌%◌, ◌≤◌, ◌==◌, ◌&&◌, not, nat_lt, Bool, true, false, if◌then◌else◌, List, [], ◌∷◌, ◌++◌, length, Option, Some, None, Ok, Err, Result, is_ok, refl, sym, ap, subst, ◌∙◌, arith, append_assoc, append-nil}
 use Rattle.std.specs.Prelude.{option_map, option_and_then}
 use Rattle.std.specs.List.{flat_map, list_all}
 use Rattle.std.proofs.lemmas.Bool.{and_parts, false≢true, ltb-false, ne_eqb}
 use Rattle.gw_base.specs.declared.tag.Tag.{Tag}
 use Rattle.ber_frame.specs.Checked.{checked, is_one_value}
 use Rattle.ber_frame.specs.declared.fault.BerFault.{BerFault}
-use Rattle.gtpp_message.specs.Packet.{PacketForm, PacketValue, Full, SpellRecords, packet_of, records_at}
+use Rattle.gtpp_message.specs.Packet.{PacketForm, Full, SpellRecords, packet_of, records_at}
 use Rattle.gtpp_message.specs.PacketWriting.{record_octets, value_of, with_record}
 use Rattle.gateway_book.specs.Preparing.{has_values}
 use Rattle.node_core.specs.Drafts.{addition_fault, ber_fault_of, ber_refusal, is_without_records, most_datagram_octets, most_records, packet_anew, packet_of_form, packet_of_records, request_length, value_octets, value_octets_of}
-use Rattle.node_core.specs.declared.fault.DraftFault.{DraftFault}
-use Rattle.node_core.specs.declared.fault.DraftFault.TheVariants.{Count, TooBig, Ber}
+use Rattle.node_core.specs.declared.fault.DraftFault.TheVariants.{Count, TooBig}
 use Rattle.once_core.specs.World.{draft_of, is_draft, is_fault_free, takes_all}
 
 -- what the law of packets says: records are read where octets spell them
@@ -32,12 +31,11 @@ halves n = omega arith
 
 records_spell : (records : List (List ℕ)) → SpellRecords records (flat_map record_octets records)
 records_spell [] = refl
-records_spell (first ∷ records) =
-    (
-      flat_map record_octets records,
-      record { high = length first / 256; low = length first % 256; stated = halves (length first); whole = refl },
-      records_spell records,
-    )
+records_spell (first ∷ records) = (
+  flat_map record_octets records,
+  record { high = length first / 256; low = length first % 256; stated = halves (length first); whole = refl },
+  records_spell records,
+)
 
 pub value_read : RecordsSpelled → (form : PacketForm) → 1 ≤ length form.records → packet_of (value_of form) ≡ Some form
 value_read law form some =

@@ -1,28 +1,24 @@
 -- What a node hears is what happens in a scene.
-use Rattle.std.proofs.Common.{◌≡◌, ℕ, ◌%◌, ◌≤◌, ◌==◌, ◌&&◌, ◌||◌, ◌⊎◌, inl, inr, not, Bool, true, false, if◌then◌else◌, List, [], ◌∷◌, ◌++◌, length, map, Option, Some, None, Contains, slice_get, refl, sym, ap, subst, ◌∙◌, arith, append-nil}
-use Rattle.std.specs.Prelude.{option_map}
+use Rattle.std.proofs.Common.{◌≡◌, ℕ, ◌%◌, ◌≤◌, ◌==◌, ◌&&◌, ◌||◌, inl, inr, not, Bool, true, false, if◌then◌else◌, List, [], ◌∷◌, ◌++◌, map, Option, Some, None, Contains, refl, sym, ap, subst, ◌∙◌, arith, append-nil}
 use Rattle.std.specs.Option.{option_map_or}
-use Rattle.std.proofs.lemmas.Bool.{eqb-true, false≢true}
+use Rattle.std.proofs.lemmas.Bool.{eqb-true}
 use Rattle.gtpp_message.specs.Message.{MessageValue, EchoRequest, EchoResponse, VersionNotSupported, NodeAliveRequest, NodeAliveResponse, RedirectionRequest, RedirectionResponse, TransferRequest, TransferResponse}
 use Rattle.gtpp_message.specs.Packet.{PacketForm}
 use Rattle.gtpp_message.specs.Reading.{Message, ReadingValue}
-use Rattle.gtpp_message.specs.Role.{for_role, role_reading}
-use Rattle.gtpp_message.specs.Writing.{body_octets, written}
+use Rattle.gtpp_message.specs.Role.{for_role}
+use Rattle.gtpp_message.specs.Writing.{written}
 use Rattle.gtpp_message.specs.declared.message_types.TheConstants.{TRANSFER_RESPONSE}
-use Rattle.gtpp_message.specs.declared.reading.Why.{Why}
 use Rattle.gtpp_message.specs.declared.role.Role.TheVariants as role
 use Rattle.gateway_book.specs.PreparingLaws.{RolesRead}
 use Rattle.gw_base.specs.Nearest.{nearest}
 use Rattle.gw_base.specs.declared.cause.TheConstants.{ACCEPTED}
-use Rattle.path_mgmt.specs.declared.event.PathEvent.{PathEvent}
-use Rattle.path_mgmt.specs.declared.event.PathEvent.TheVariants.{EchoAsked, EchoTold, AliveAsked, AliveTold}
-use Rattle.node_core.specs.Hearing.{Dropped, Says, Taken, entries_from, heard_entries, heeding, heeds, heeds_from, saying_entries, taken, taken_entries, taken_of, taken_of_message}
-use Rattle.node_core.specs.Log.{LogEntry, Heard, Saying, Path, Redirects, Responds, Other, counter_of, runs}
+use Rattle.path_mgmt.specs.declared.event.PathEvent.TheVariants.{EchoAsked, EchoTold, AliveTold}
+use Rattle.node_core.specs.Hearing.{Dropped, Says, Taken, entries_from, heard_entries, heeding, heeds, heeds_from, saying_entries, taken, taken_entries, taken_of}
+use Rattle.node_core.specs.Log.{LogEntry, Heard, Saying, Path, Redirects, Responds, Other, runs}
 use Rattle.node_core.specs.Moving.{appointing, moved_by}
 use Rattle.node_core.specs.Peers.{last_number, place_of}
 use Rattle.node_core.specs.Reached as call
 use Rattle.node_core.specs.Value.{NodeValue, logged}
-use Rattle.node_core.specs.declared.port.Port.{Port}
 use Rattle.once_core.specs.Addresses.{gateway_address, node_ip}
 use Rattle.once_core.specs.Deeds.{deeds_of, told_by}
 use Rattle.once_core.specs.Deeds as did
@@ -31,14 +27,14 @@ use Rattle.once_core.specs.Happenings.{Answers, Deed, Hears, Letter, Meaning, Sc
 use Rattle.once_core.specs.Happenings as happens
 use Rattle.once_core.specs.Meaning.{is_spoken, letter_of, meaning_in, meaning_of, speaks}
 use Rattle.once_core.specs.Messages.{about, answering, is_response}
-use Rattle.once_core.specs.Scenes.{after_hearing, happened, happened_all, is_answer, with_deed, with_one}
+use Rattle.once_core.specs.Scenes.{after_hearing, is_answer, with_deed, with_one}
 use Rattle.once_core.specs.Shown.{forms_ever}
 use Rattle.once_core.specs.World.{Called, answers_of, delivered_to_node, hearing, log_after, node_value}
 use Rattle.once_core.specs.declared.message.Message as world
 use Rattle.once_core.proofs.FormLemmas.{GoodForm}
 use Rattle.once_core.proofs.ListLemmas.{in_cons, in_none}
 use Rattle.once_core.proofs.LogLemmas.{counter_is, place_is, starts_same}
-use Rattle.once_core.proofs.MeaningLemmas.{FromGateway, FromNode, GatewaySaid, IsWritten, NodeSaid, ReadsBack, Said, meaning_is, role_read_of, said_by_node, type_of}
+use Rattle.once_core.proofs.MeaningLemmas.{FromGateway, FromNode, GatewaySaid, IsWritten, ReadsBack, Said, meaning_is, role_read_of, said_by_node, type_of}
 use Rattle.once_core.proofs.NodePlays.{NodePlays, NodeRightly, after_call, appointed_deeds, appointed_ever, appointed_starts, quiet_node}
 use Rattle.once_core.proofs.RequestPlays.{both_false, not_false, place_in}
 use Rattle.once_core.proofs.SceneLemmas.{at_same}
@@ -83,7 +79,6 @@ module _ (gateways : ℕ) (m : world.Message) (log : List LogEntry) (rightly : N
 
   module _ (back : ReadsBack) (roles : RolesRead) (from : m.to_gateway ≡ false) (said : GatewaySaid m) (values : ℕ → List ℕ) (scene : Scene)
       (deeds : scene.deeds (node_ip m.node) ≡ deeds_of (node_ip m.node) values log) (there : speaks m ≡ true → Contains scene.letters (letter_of m)) where
-
     abbrev value : NodeValue
     value = node_value gateways m.node log
 
@@ -122,8 +117,7 @@ module _ (gateways : ℕ) (m : world.Message) (log : List LogEntry) (rightly : N
           → (octets : List ℕ) → Some (written number message) ≡ Some octets → Said (answering m octets) × (speaks (answering m octets) ≡ false)
       reply_fine number message w fits silent octets e =
           let same : written number message ≡ octets = ap (λ (o : Option (List ℕ)). elim o [ None ↦ written number message | Some x ↦ x ]) e in
-          subst (λ (x : List ℕ). Said (answering m x) × (speaks (answering m x) ≡ false)) same
-          (
+          subst (λ (x : List ℕ). Said (answering m x) × (speaks (answering m x) ≡ false)) same (
             said_by_node (answering m (written number message)) (ap not from) (record { started = started; path = number; message = message; written = w; fits = fits }),
             ap is_spoken (meaning_is back (answering m (written number message)) number message w) ∙ silent,
           )

@@ -1,5 +1,5 @@
 -- The log of a node of a world: its starts, and where its gateways are.
-use Rattle.std.proofs.Common.{◌≡◌, ◌⊎◌, ℕ, zero, suc, min, ◌+◌, ◌-◌, ◌*◌, ◌/◌, ◌%◌, ◌<◌, ◌≤◌, ◌==◌, Bool, true, false, if◌then◌else◌, List, [], ◌∷◌, ◌++◌, length, map, Option, Some, None, slice_get, slice_set, get_or, refl, sym, ap, subst, ◌∙◌, arith}
+use Rattle.std.proofs.Common.{◌≡◌, ℕ, zero, suc, min, ◌+◌, ◌-◌, ◌%◌, ◌<◌, ◌≤◌, Bool, true, false, if◌then◌else◌, List, [], ◌∷◌, length, map, Option, Some, None, slice_get, slice_set, get_or, refl, sym, ap, ◌∙◌, arith}
 use Rattle.std.specs.Prelude.{option_map}
 use Rattle.std.specs.Option.{option_map_or}
 use Rattle.std.proofs.lemmas.Bool.{eqb-true}
@@ -11,7 +11,7 @@ use Rattle.path_mgmt.specs.NodePath.{PathsOfNode, node_after}
 use Rattle.path_mgmt.specs.declared.event.PathEvent.{PathEvent}
 use Rattle.path_mgmt.specs.declared.event.PathEvent.TheVariants.{EchoAsked, EchoTold, AliveAsked, AliveTold}
 use Rattle.node_core.specs.Log.{LogEntry, Began, Halted, Submitted, Appointed, Ticked, Heard, Saying, Path, Redirects, Responds, Other, counter_of, has_entries, paths_hearing, paths_of, peers_of, restarted}
-use Rattle.node_core.specs.Peers.{address_at, all_drawn, at_place, drawn, end_of_numbers, has_ip, number_drawn, path_drawn, peer_anew, place_of}
+use Rattle.node_core.specs.Peers.{address_at, all_drawn, at_place, drawn, end_of_numbers, has_ip, number_drawn, peer_anew, place_of}
 use Rattle.node_core.specs.Value.{logged}
 use Rattle.node_core.specs.declared.peer.Peer.{Peer}
 use Rattle.node_core.specs.declared.sending.Sending.{Sending}
@@ -153,9 +153,6 @@ length_of_map f [] = refl
 length_of_map f (x ∷ xs) = let rest = length_of_map f xs in omega (arith, rest)
 
 module _ (gateways : ℕ) (log : List LogEntry) where
-  peers : List Peer
-  peers = peers_of (addresses_from 0 gateways) log
-
   there : (place : ℕ) → place < gateways → option_map (λ (peer : Peer). peer.address) (slice_get (peers_of (addresses_from 0 gateways) log) place) ≡ Some (gateway_address place)
   there place lt =
       sym (slice_get-map (λ (peer : Peer). peer.address) (peers_of (addresses_from 0 gateways) log) place)

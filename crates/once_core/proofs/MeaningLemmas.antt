@@ -1,6 +1,5 @@
 -- What the messages of a world say, and what they mean.
-use Rattle.std.proofs.Common.{◌≡◌, ℕ, ◌+◌, ◌%◌, ◌==◌, ◌≤◌, Bool, true, false, not, if◌then◌else◌, List, [], ◌∷◌, ◌++◌, length, Option, Some, None, slice_get, refl, sym, ap, subst, ◌∙◌, arith, append-nil}
-use Rattle.std.specs.Option.{option_map_or}
+use Rattle.std.proofs.Common.{◌≡◌, ℕ, ◌%◌, ◌≤◌, true, false, List, [], ◌∷◌, ◌++◌, length, Some, slice_get, refl, sym, ap, subst, ◌∙◌, arith, append-nil}
 use Rattle.gw_base.specs.declared.cause.TheConstants.{SYSTEM_FAILURE}
 use Rattle.gtpp_message.specs.Message.{MessageValue, TransferValue, EchoRequest, EchoResponse, VersionNotSupported, NodeAliveRequest, NodeAliveResponse, RedirectionRequest, RedirectionResponse, TransferRequest, TransferResponse, Send, Possible, Cancel, Release}
 use Rattle.gtpp_message.specs.Reading.{Message, reading}
@@ -10,7 +9,7 @@ use Rattle.gtpp_message.specs.declared.role.Role.{Role}
 use Rattle.gateway_book.specs.Preparing.{sends_values}
 use Rattle.gateway_book.specs.PreparingLaws.{RolesRead}
 use Rattle.once_core.specs.Happenings.{Answers}
-use Rattle.once_core.specs.Meaning.{meaning_by, meaning_in, meaning_of, speaks}
+use Rattle.once_core.specs.Meaning.{meaning_by, meaning_in, meaning_of}
 use Rattle.once_core.specs.Messages.{about, failing}
 use Rattle.once_core.specs.declared.message.Message as sent
 
@@ -101,11 +100,8 @@ said_by_gateway m e said = record { node = λ is. absurd (cc); gateway = λ isnt
 
 -- ---- responses
 
-pub response_short : (cause number : ℕ) → length (body_octets (TransferResponse cause (number ∷ []))) ≤ 65535
+response_short : (cause number : ℕ) → length (body_octets (TransferResponse cause (number ∷ []))) ≤ 65535
 response_short cause number = omega arith
-
-pub response_written : (number cause : ℕ) → IsWritten (written number (TransferResponse cause (number ∷ []))) number (TransferResponse cause (number ∷ []))
-response_written number cause = record { is = refl; sendable = tt; short = response_short cause number }
 
 -- the response of this cause to the request that a message was
 pub record Responds (m : sent.Message) (cause : ℕ) : Type 0 where

@@ -1,13 +1,13 @@
 -- What a node of a world does is what happens in a scene: what is submitted, a halt and a start are nothing there.
-use Rattle.std.proofs.Common.{◌≡◌, ⊎_elim, ℕ, suc, ◌≤◌, ◌==◌, nat_lt, Bool, true, false, if◌then◌else◌, List, [], ◌∷◌, ◌++◌, Option, Some, None, Contains, refl, sym, ap, subst, ◌∙◌, arith}
+use Rattle.std.proofs.Common.{◌≡◌, ⊎_elim, ℕ, suc, ◌≤◌, ◌==◌, nat_lt, Bool, true, false, if◌then◌else◌, List, [], ◌∷◌, Option, Some, None, Contains, refl, sym, ap, subst, ◌∙◌, arith}
 use Rattle.std.proofs.lemmas.List.Elements.{Contains-push_cases}
 use Rattle.gtpp_message.specs.Packet.{PacketForm}
-use Rattle.node_core.specs.Log.{LogEntry, Began, Halted, Submitted, Appointed, forms_of, packets_of, runs, submitted}
+use Rattle.node_core.specs.Log.{LogEntry, Began, Halted, Submitted, Appointed, forms_of, runs, submitted}
 use Rattle.node_core.specs.Moving.{appointing}
 use Rattle.node_core.specs.Reached.{NodeCall, call_entries, log_of, most_submissions, submit_entries}
 use Rattle.node_core.specs.Reached as call
 use Rattle.node_core.specs.Submitting.{refusal}
-use Rattle.node_core.specs.Value.{NodeValue, logged}
+use Rattle.node_core.specs.Value.{logged}
 use Rattle.node_core.specs.declared.fault.SubmitFault.{SubmitFault}
 use Rattle.once_core.specs.Addresses.{node_ip, setup_of}
 use Rattle.once_core.specs.Deeds.{deeds_of}

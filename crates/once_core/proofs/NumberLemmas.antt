@@ -1,8 +1,8 @@
 -- The packets of a node bear the numbers by which they were submitted.
-use Rattle.std.proofs.Common.{◌≡◌, ◌⊎◌, ⊎_elim, ℕ, zero, suc, ◌+◌, ◌-◌, ◌<◌, ◌≤◌, ◌==◌, Bool, true, false, cond, if◌then◌else◌, List, [], ◌∷◌, ◌++◌, length, length-append, map, filter, zip, Option, Some, None, Contains, slice_get, refl, sym, ap, subst, ◌∙◌, arith, append_assoc, append-nil}
+use Rattle.std.proofs.Common.{◌≡◌, ⊎_elim, ℕ, zero, suc, ◌+◌, ◌-◌, ◌<◌, ◌≤◌, ◌==◌, Bool, true, false, if◌then◌else◌, List, [], ◌∷◌, ◌++◌, length, length-append, map, filter, zip, Option, Some, Contains, slice_get, refl, sym, ap, subst, ◌∙◌, arith, append_assoc, append-nil}
 use Rattle.std.specs.Option.{option_map_or}
-use Rattle.std.proofs.lemmas.Bool.{eq-eqb, eqb-true}
-use Rattle.std.proofs.lemmas.List.Elements.{Contains-append_cases, Contains-append_left, Contains-append_right}
+use Rattle.std.proofs.lemmas.Bool.{eqb-true}
+use Rattle.std.proofs.lemmas.List.Elements.{Contains-append_cases}
 use Rattle.gtpp_message.specs.Packet.{PacketForm}
 use Rattle.node_core.specs.Drafts.{value_octets}
 use Rattle.node_core.specs.Log.{LogEntry, Began, Halted, Submitted, Appointed, Ticked, Heard, Saying, Path, Redirects, Responds, Other, forms_of, packets_hearing, packets_of, runs, submitted}
@@ -112,9 +112,6 @@ after_keeps sending p = by (is_of p.number sending)
 all_keep : (sendings : List Sending) (p : PacketState) → (packet_after_all sendings p).number ≡ p.number
 all_keep [] p = refl
 all_keep (sending ∷ sendings) p = all_keep sendings (packet_after sending p) ∙ after_keeps sending p
-
-new_start : (log : List LogEntry) → Ever log → Numbered (length (forms_ever log)) [] []
-new_start log is = tt
 
 began : (log : List LogEntry) → Ever log → (submitted log ≡ length (forms_ever log) + 0)
 began log is =

@@ -1,10 +1,9 @@
 -- What a gateway answers to a message that is no request: it may learn of a start of the node, and answers nothing that
 -- tells of a copy.
-use Rattle.std.proofs.Common.{◌≡◌, ◌≢◌, ◌⊎◌, inl, inr, ℕ, ◌+◌, ◌<◌, ◌≤◌, ◌%◌, ◌==◌, ◌&&◌, ◌||◌, nat_lt, not, Bool, true, false, if◌then◌else◌, List, [], ◌∷◌, ◌++◌, length, Option, Some, None, refl, sym, ap, subst, ◌∙◌, arith}
+use Rattle.std.proofs.Common.{◌≡◌, ◌≢◌, ℕ, ◌≤◌, ◌==◌, ◌&&◌, ◌||◌, nat_lt, not, Bool, true, false, if◌then◌else◌, List, length, Option, Some, None, refl, sym, ap, subst, ◌∙◌, arith}
 use Rattle.std.specs.Prelude.{option_map}
-use Rattle.std.specs.Option.{option_map_or}
 use Rattle.std.proofs.lemmas.Bool.{eqb-false, false≢true, lt-ltb, ltb-false}
-use Rattle.gw_base.specs.Observed.{Observed, observed}
+use Rattle.gw_base.specs.Observed.{observed}
 use Rattle.gw_base.specs.Starts.{opening_of, start_by, start_of}
 use Rattle.gw_base.specs.declared.history.HistoryAct.{HistoryAct}
 use Rattle.gw_base.specs.declared.history.HistoryAct.TheVariants as act
@@ -20,9 +19,9 @@ use Rattle.gtpp_message.specs.declared.role.Role.TheVariants as role
 use Rattle.path_mgmt.specs.GatewayPath.{opened_by}
 use Rattle.path_mgmt.specs.declared.event.PathEvent.{PathEvent}
 use Rattle.path_mgmt.specs.declared.event.PathEvent.TheVariants.{EchoAsked, EchoTold, AliveAsked, AliveTold}
-use Rattle.gateway_book.specs.Answer.{Decided, Given, Drops, Replies, Silent, Says, answer_by, decided, failure_answer, may_record, opening_epoch, replying}
+use Rattle.gateway_book.specs.Answer.{Given, Drops, answer_by, decided, may_record, opening_epoch, replying}
 use Rattle.gateway_book.specs.Answered.{no_caller}
-use Rattle.gateway_book.specs.Preparing.{Path, PreparedValue, framed, prepared_of}
+use Rattle.gateway_book.specs.Preparing.{Path, PreparedValue, framed}
 use Rattle.gateway_book.specs.PreparingLaws.{RolesRead}
 use Rattle.gateway_book.specs.Value.{history_of}
 use Rattle.once_core.specs.Addresses.{node_address, node_id, node_ip, port_number}
@@ -30,15 +29,15 @@ use Rattle.once_core.specs.Answers as out
 use Rattle.once_core.specs.Answers.{acting, answered}
 use Rattle.once_core.specs.Expired.{is_expired, is_expired_request, present_start}
 use Rattle.once_core.specs.Gateway.{Gateway, Rules, still}
-use Rattle.once_core.specs.Happenings.{Else, Opens, Post, Scene, history, node_at}
-use Rattle.once_core.specs.Meaning.{is_spoken, meaning_of, speaks}
+use Rattle.once_core.specs.Happenings.{Opens, Post, Scene, history, node_at}
+use Rattle.once_core.specs.Meaning.{is_spoken, speaks}
 use Rattle.once_core.specs.Messages.{answering, is_request}
-use Rattle.once_core.specs.Scenes.{noting, opening, with_post}
+use Rattle.once_core.specs.Scenes.{opening, with_post}
 use Rattle.once_core.specs.Shown.{post_of}
 use Rattle.once_core.specs.declared.message.Message as world
 use Rattle.once_core.proofs.MeaningLemmas.{FromGateway, FromNode, GatewaySaid, IsWritten, ReadsBack, meaning_is, role_read_of}
 use Rattle.once_core.proofs.PlayLemmas.{Plays, Rightly, Stands, followed_plays, still_plays}
-use Rattle.once_core.proofs.ReplyPlays.{noted, noted_plays, noted_rightly, quiet_plays, whole_history}
+use Rattle.once_core.proofs.ReplyPlays.{noted, noted_plays, quiet_plays, whole_history}
 
 -- ---- a message of path management means nothing here
 
@@ -118,7 +117,6 @@ Other (RedirectionResponse cause) = Unit {0}
 
 module _ (back : ReadsBack) (roles : RolesRead) (rules : Rules) (now : ℕ) (m : world.Message) (g : Gateway) (scene : Scene) (stands : Stands m.gateway scene g)
     (sound : g.book.is_broken ≡ false) (to : m.to_gateway ≡ true) where
-
   abbrev acts : Given → Type 0
   acts given = Plays m.gateway scene (acting now g m (decided given))
 

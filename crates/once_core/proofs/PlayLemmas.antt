@@ -1,6 +1,6 @@
 -- What a gateway of a world does is what happens in a scene: what the happenings at one gateway leave as it is.
-use Rattle.std.proofs.Common.{◌≡◌, ◌⊎◌, ⊎_elim, ℕ, ◌==◌, Bool, true, false, if◌then◌else◌, List, [], ◌∷◌, ◌++◌, map, Contains, refl, sym, ap, subst, ◌∙◌, append_assoc, append-nil}
-use Rattle.std.proofs.lemmas.List.Elements.{Contains-append_cases, Contains-append_left, Contains-append_right}
+use Rattle.std.proofs.Common.{◌≡◌, ⊎_elim, ℕ, ◌==◌, Bool, true, false, if◌then◌else◌, List, [], ◌∷◌, ◌++◌, map, Contains, refl, sym, ap, ◌∙◌, append_assoc, append-nil}
+use Rattle.std.proofs.lemmas.List.Elements.{Contains-append_cases, Contains-append_left}
 use Rattle.once_core.specs.Gateway.{Gateway, Moved, followed, is_reached, still}
 use Rattle.once_core.specs.Happenings.{Adds, Happening, Letter, Post, Scene}
 use Rattle.once_core.specs.Meaning.{letter_of, speaks}
@@ -10,7 +10,6 @@ use Rattle.once_core.specs.declared.message.Message.{Message}
 use Rattle.once_core.specs.declared.message.Waiting.{Waiting}
 use Rattle.once_core.proofs.ListLemmas.{in_head, in_none, in_tail}
 use Rattle.once_core.proofs.MeaningLemmas.{GatewaySaid, Said}
-use Rattle.once_core.proofs.SceneLemmas.{at_same}
 
 -- ---- a gateway of a world
 

@@ -1,12 +1,12 @@
 -- A redirection asks nodes and tells them nothing of a copy: nothing happens in a scene.
-use Rattle.std.proofs.Common.{◌≡◌, ℕ, ◌%◌, ◌≤◌, Bool, true, false, List, [], length, map, Option, Some, None, IsTrue, refl, sym, ap, subst, ◌∙◌, arith}
+use Rattle.std.proofs.Common.{◌≡◌, ℕ, ◌%◌, ◌≤◌, false, List, [], length, Option, Some, None, IsTrue, refl, sym, ap, subst, ◌∙◌, arith}
 use Rattle.std.specs.Prelude.{option_map}
 use Rattle.std.proofs.lemmas.Bool.{false≢true}
 use Rattle.byteorder.specs.Endian.{big_bytes}
 use Rattle.gw_base.specs.declared.address.Addr.{Addr}
 use Rattle.gtpp_message.specs.Message.{RedirectionRequest}
 use Rattle.gtpp_message.specs.Reading.{is_address}
-use Rattle.gtpp_message.specs.Writing.{body_octets, written}
+use Rattle.gtpp_message.specs.Writing.{body_octets}
 use Rattle.gateway_book.specs.Told.{paths_of}
 use Rattle.gateway_book.specs.Value.{history_of}
 use Rattle.once_core.specs.Addresses.{gateway_address}
@@ -14,8 +14,7 @@ use Rattle.once_core.specs.Answers.{redirected, redirecting}
 use Rattle.once_core.specs.Gateway.{Gateway}
 use Rattle.once_core.specs.Happenings.{Scene}
 use Rattle.once_core.specs.Meaning.{is_spoken, speaks}
-use Rattle.once_core.specs.declared.message.Message as world
-use Rattle.once_core.proofs.MeaningLemmas.{GatewaySaid, IsWritten, ReadsBack, Said, meaning_is, said_by_gateway}
+use Rattle.once_core.proofs.MeaningLemmas.{IsWritten, ReadsBack, Said, meaning_is, said_by_gateway}
 use Rattle.once_core.proofs.PlayLemmas.{Plays, Stands, same_at}
 use Rattle.once_core.proofs.WaitingLemmas.{of_map}
 

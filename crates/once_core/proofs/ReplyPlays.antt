@@ -8,7 +8,7 @@ use Rattle.gateway_book.specs.Answered.{entry_by, no_caller}
 use Rattle.gateway_book.specs.Value.{BookValue, history_of, recorded}
 use Rattle.once_core.specs.Answers as world
 use Rattle.once_core.specs.Answers.{replying}
-use Rattle.once_core.specs.Gateway.{Gateway, is_reached, settling, still}
+use Rattle.once_core.specs.Gateway.{Gateway, is_reached, still}
 use Rattle.once_core.specs.Happenings.{Happening, Letter, Post, Scene, history}
 use Rattle.once_core.specs.Happenings as did
 use Rattle.once_core.specs.Meaning.{letter_of, speaks}
@@ -18,7 +18,7 @@ use Rattle.once_core.specs.declared.message.Message.{Message}
 use Rattle.once_core.specs.declared.message.Waiting.{Waiting}
 use Rattle.once_core.proofs.CommitPlays.{settled_rightly, settled_said}
 use Rattle.once_core.proofs.ListLemmas.{in_cons, in_none}
-use Rattle.once_core.proofs.MeaningLemmas.{GatewaySaid, Said}
+use Rattle.once_core.proofs.MeaningLemmas.{GatewaySaid}
 use Rattle.once_core.proofs.PlayLemmas.{Plays, Rightly, Stands, post_goes, same_at, settled_goes}
 use Rattle.once_core.proofs.SceneLemmas.{at_same}
 use Rattle.once_core.proofs.WaitingLemmas.{all_pass, letters_append, none_pass}
@@ -53,9 +53,6 @@ noted_plays gateway scene g stands sound now a next is = record {
 -- ---- an answer waits or is sent
 
 module _ (g : Gateway) (m : Message) (rightly : Rightly g) where
-  last : Waiting
-  last = world.waiting_for g m
-
   pub kept : (b : Bool) → is_reached g.book (world.waiting_for g m) ≡ b
       → filter (λ w. not (is_reached g.book w)) (g.waiting ++ world.waiting_for g m ∷ []) ≡ g.waiting ++ cond b [] (world.waiting_for g m ∷ [])
   kept b e =
@@ -94,9 +91,6 @@ module _ (g : Gateway) (m : Message) (rightly : Rightly g) where
       by false e = absurd (in_none other (is_answer_sent other is false e))
 
   module _ (gateway : ℕ) (scene : Scene) (sound : g.book.is_broken ≡ false) (from : m.to_gateway ≡ false) (said : GatewaySaid m) where
-    replied : Gateway
-    replied = record g { waiting = g.waiting ++ world.waiting_for g m ∷ [] }
-
     -- one that means nothing here: nothing happens
     pub quiet_plays : scene.posts gateway ≡ post_of g → speaks m ≡ false → Plays gateway scene (replying g m)
     quiet_plays stands silent = record {

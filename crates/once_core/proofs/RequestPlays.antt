@@ -1,5 +1,5 @@
 -- What a gateway answers to a request that is timely is what a coming request is in a scene.
-use Rattle.std.proofs.Common.{◌≡◌, ℕ, ◌%◌, ◌==◌, ◌&&◌, ◌||◌, not, nat_lt, Bool, true, false, if◌then◌else◌, List, [], ◌∷◌, ◌++◌, length, Option, Some, None, Contains, slice_get, refl, sym, ap, subst, ◌∙◌}
+use Rattle.std.proofs.Common.{◌≡◌, ℕ, ◌%◌, ◌==◌, ◌&&◌, ◌||◌, not, nat_lt, Bool, true, false, if◌then◌else◌, List, [], ◌∷◌, ◌++◌, Option, Some, None, Contains, slice_get, refl, sym, ap, subst, ◌∙◌}
 use Rattle.std.specs.Option.{option_map_or}
 use Rattle.std.proofs.lemmas.Bool.{and_from, false≢true}
 use Rattle.std.proofs.lemmas.Option.{slice_get-get_or}
@@ -11,19 +11,16 @@ use Rattle.gw_base.specs.declared.address.NodeId.{NodeId}
 use Rattle.gw_base.specs.declared.cause.TheConstants.{CDR_DECODING_ERROR, NO_RESOURCES}
 use Rattle.gw_base.specs.declared.history.HistoryAct.{HistoryAct}
 use Rattle.gw_base.specs.declared.history.HistoryEntry.{HistoryEntry}
-use Rattle.gtpp_message.specs.Message.{MessageValue, TransferRequest, TransferResponse, TransferValue, Send, Possible, Cancel, Release}
+use Rattle.gtpp_message.specs.Message.{TransferRequest, TransferResponse, TransferValue, Send, Possible, Cancel, Release}
 use Rattle.gtpp_message.specs.Packet.{Empty, Full}
-use Rattle.gtpp_message.specs.Reading.{Message}
-use Rattle.gtpp_message.specs.Role.{for_role}
 use Rattle.gtpp_message.specs.Writing.{written}
 use Rattle.gtpp_message.specs.declared.message_types.TheConstants.{TRANSFER_REQUEST}
 use Rattle.gtpp_message.specs.declared.role.Role.TheVariants as role
-use Rattle.gateway_book.specs.Answer.{Given, Says, answer_by, asked_by, decided, listed, may_record, recording, responding, sent, tabled}
+use Rattle.gateway_book.specs.Answer.{Given, Says, answer_by, asked_by, decided, listed, may_record, responding, tabled}
 use Rattle.gateway_book.specs.Answered.{entry_by, no_caller}
 use Rattle.gateway_book.specs.Preparing.{PreparedValue, Refused, Request, framed, prepared_of, sends_values}
 use Rattle.gateway_book.specs.PreparingLaws.{RolesRead}
 use Rattle.gateway_book.specs.Value.{history_of, recorded_if}
-use Rattle.node_core.specs.declared.copy.Order.TheVariants as order
 use Rattle.once_core.specs.Addresses.{node_address, node_id, node_ip}
 use Rattle.once_core.specs.Answers.{acting, answer_at, answered, replying}
 use Rattle.once_core.specs.Expired.{is_expired, is_expired_request, present_start, taken_for}
@@ -36,7 +33,7 @@ use Rattle.once_core.specs.Scenes.{Settled, after_coming, coming, happened, happ
 use Rattle.once_core.specs.Scenes as scenes
 use Rattle.once_core.specs.Shown.{post_of, waiting_letters}
 use Rattle.once_core.specs.declared.message.Message as world
-use Rattle.once_core.proofs.MeaningLemmas.{FromNode, IsAbout, IsWritten, ReadsBack, Responds, meaning_is, responds_means, responds_said, role_read_of, type_of}
+use Rattle.once_core.proofs.MeaningLemmas.{IsAbout, IsWritten, ReadsBack, meaning_is, responds_means, responds_said, role_read_of, type_of}
 use Rattle.once_core.proofs.PlayLemmas.{Plays, Stands}
 use Rattle.once_core.proofs.ReplyPlays.{answer_plays, noted, noted_rightly, whole_history}
 
@@ -117,15 +114,11 @@ place_in letters l is = (is.0, slice_get-get_or letters is.0 l is.1 ∙ ap (λ (
 
 module _ (back : ReadsBack) (roles : RolesRead) (rules : Rules) (now : ℕ) (m : world.Message) (g : Gateway) (scene : Scene) (stands : Stands m.gateway scene g)
     (sound : g.book.is_broken ≡ false) (to : m.to_gateway ≡ true) where
-
   abbrev node : NodeId
   node = node_at (node_ip m.node)
 
   module _ (body : TransferValue) (w : IsWritten m.octets (m.number % 65536) (TransferRequest body)) (values : sends_values body ≡ true) (is : IsAbout m body)
       (fresh : is_expired (history_of g.book) m ≡ false) (there : Contains scene.letters (letter_of m)) where
-    h : List HistoryEntry
-    h = history_of g.book
-
     -- the response, by the table
     responds_with : IsResponse (m.number % 65536) (asked_by (observed (history_of g.book) node) (rules.room (history_of g.book)) node (m.number % 65536) body)
     responds_with = asked_responds (observed (history_of g.book) node) (rules.room (history_of g.book)) node (m.number % 65536) body
@@ -152,16 +145,10 @@ module _ (back : ReadsBack) (roles : RolesRead) (rules : Rules) (now : ℕ) (m :
         answer : world.Message
         answer = answering m octets
 
-        letter : Letter
-        letter = letter_of m
-
         means : meaning_of (answering m octets) ≡ Answers cause
         means = responds_means back (answering m octets) cause (record { octets = refl })
 
         -- the happening
-        k : ℕ
-        k = (place_in scene.letters (letter_of m) there).0
-
         comes : Happening
         comes = Comes (place_in scene.letters (letter_of m) there).0 (rules.room (history_of g.book)) now no_caller
 

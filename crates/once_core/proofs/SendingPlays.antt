@@ -1,16 +1,16 @@
 -- What the octets of a node's sending mean is what the node asks with it.
-use Rattle.std.proofs.Common.{◌≡◌, ℕ, suc, ◌+◌, ◌-◌, ◌<◌, ◌≤◌, ◌%◌, Bool, true, false, if◌then◌else◌, List, [], ◌∷◌, ◌++◌, length, map, Option, Some, None, All, Contains, slice_get, refl, sym, ap, subst, ◌∙◌, arith, append-nil}
+use Rattle.std.proofs.Common.{◌≡◌, ℕ, suc, ◌+◌, ◌-◌, ◌<◌, ◌≤◌, Bool, true, false, if◌then◌else◌, List, [], ◌∷◌, ◌++◌, length, map, Option, Some, None, All, Contains, slice_get, refl, sym, ap, subst, ◌∙◌, arith, append-nil}
 use Rattle.std.specs.List.{flat_map}
 use Rattle.std.specs.Option.{option_map_or}
 use Rattle.std.proofs.lemmas.Bool.{false≢true}
 use Rattle.std.proofs.lemmas.List.Elements.{All-contains, Contains-append_right}
 use Rattle.byteorder.specs.Endian.{big_bytes}
-use Rattle.gtpp_message.specs.Message.{MessageValue, NodeAliveRequest, TransferRequest, TransferValue, Send, Possible, Cancel, Release}
+use Rattle.gtpp_message.specs.Message.{NodeAliveRequest, TransferRequest, Possible}
 use Rattle.gtpp_message.specs.Packet.{PacketForm, PacketValue, Empty, Full}
 use Rattle.gtpp_message.specs.PacketWriting.{value_of}
 use Rattle.gtpp_message.specs.Writing.{body_octets, written}
 use Rattle.gateway_book.specs.Preparing.{sends_values}
-use Rattle.node_core.specs.Drafts.{packet_of_form, value_octets}
+use Rattle.node_core.specs.Drafts.{packet_of_form}
 use Rattle.node_core.specs.Log.{LogEntry, Ticked, forms_of, packets_of, peers_of, runs, submitted}
 use Rattle.node_core.specs.Moving.{appointing, moved_at_tick}
 use Rattle.node_core.specs.Octets.{order_of, outgoing, packet_numbered, transfer_of, wire}
@@ -20,10 +20,9 @@ use Rattle.node_core.specs.Reached.{NodeCall, log_of}
 use Rattle.node_core.specs.Reached as call
 use Rattle.node_core.specs.Roles.{IsRising, IsSingle}
 use Rattle.node_core.specs.Ticks.{due, tick_entries}
-use Rattle.node_core.specs.Value.{NodeValue, logged}
+use Rattle.node_core.specs.Value.{logged}
 use Rattle.node_core.specs.declared.copy.Order.{Order}
 use Rattle.node_core.specs.declared.copy.Order.TheVariants as order
-use Rattle.node_core.specs.declared.copy.PacketCopy.{PacketCopy}
 use Rattle.node_core.specs.declared.port.Port.TheVariants.{First, Second}
 use Rattle.node_core.specs.declared.port.Port.{Port}
 use Rattle.node_core.specs.declared.sending.Sending.{Sending}
@@ -42,10 +41,10 @@ use Rattle.once_core.specs.World.{log_after, message_of, node_value}
 use Rattle.once_core.specs.declared.message.Message.{Message}
 use Rattle.once_core.proofs.FormLemmas.{GoodForm, packet_is, value_octets_are}
 use Rattle.once_core.proofs.ListLemmas.{get_contains, in_head}
-use Rattle.once_core.proofs.LogLemmas.{Counts, gateway_is, size, starts_same}
-use Rattle.once_core.proofs.MeaningLemmas.{IsAbout, IsWritten, NodeSaid, ReadsBack, Said, meaning_is, said_by_node}
-use Rattle.once_core.proofs.NodePlays.{NodeRightly, appointed_deeds, appointed_ever, appointed_forms, appointed_runs, appointed_starts, appointed_submitted}
-use Rattle.once_core.proofs.NumberLemmas.{Ever, Values, ever, ever_at, numbered_in, present_packet}
+use Rattle.once_core.proofs.LogLemmas.{gateway_is, size, starts_same}
+use Rattle.once_core.proofs.MeaningLemmas.{IsAbout, IsWritten, ReadsBack, Said, meaning_is, said_by_node}
+use Rattle.once_core.proofs.NodePlays.{NodeRightly, appointed_ever, appointed_forms, appointed_runs, appointed_starts, appointed_submitted}
+use Rattle.once_core.proofs.NumberLemmas.{Values, ever, ever_at, numbered_in, present_packet}
 use Rattle.once_core.proofs.SentPlays.{NodesFollow, OneCopyEach, in_flat, sent_deed}
 use Rattle.once_core.proofs.WaitingLemmas.{in_map}
 
@@ -67,7 +66,6 @@ probe_short address = omega arith
 
 module _ (gateways place : ℕ) (log : List LogEntry) (rightly : NodeRightly gateways place log) (some : 1 ≤ gateways) (running : runs log ≡ true)
     (follow : NodesFollow) (one_each : OneCopyEach) (many : length (addresses_from 0 gateways) ≡ gateways) where
-
   abbrev pub before_tick : List LogEntry
   before_tick = logged (appointing (moved_at_tick (node_value gateways place log))) log
 

@@ -1,5 +1,5 @@
 -- What was submitted to the nodes of a world stays in each turn.
-use Rattle.std.proofs.Common.{◌≡◌, ℕ, ◌-◌, ◌==◌, ◌||◌, not, Bool, true, false, if◌then◌else◌, List, [], ◌∷◌, length, Option, Some, None, slice_get, slice_set, refl, sym, ap, subst, ◌∙◌}
+use Rattle.std.proofs.Common.{◌≡◌, ℕ, ◌-◌, ◌==◌, ◌||◌, not, Bool, true, false, if◌then◌else◌, List, [], ◌∷◌, length, Option, Some, None, slice_get, refl, sym, ap, subst}
 use Rattle.std.specs.Prelude.{option_map}
 use Rattle.std.specs.Option.{option_map_or}
 use Rattle.std.proofs.lemmas.Bool.{eqb-true, eqb-false}
@@ -14,7 +14,7 @@ use Rattle.once_core.specs.Gateway.{Gateway, Moved, Rules, committing, cut, open
 use Rattle.once_core.specs.Growing.{GoesOn}
 use Rattle.once_core.specs.Shown.{forms_ever}
 use Rattle.once_core.specs.Turn.{Turn, at_gateway, at_node, delivering, gateway_moved, node_called, refusal_of, turn, turn_by, turns, unless_refused}
-use Rattle.once_core.specs.World.{Called, World, called, delivered_to_node, draft_of, hearing, log_after, log_at, node_value, submitting, submitting_form, ticking}
+use Rattle.once_core.specs.World.{Called, World, called, delivered_to_node, draft_of, hearing, log_at, node_value, submitting, submitting_form, ticking}
 use Rattle.once_core.specs.declared.event.Event.{Event}
 use Rattle.once_core.specs.declared.event.Event.TheVariants as event
 use Rattle.once_core.specs.declared.event.WorldKind.{WorldKind}

@@ -1,5 +1,5 @@
 -- A tick of a node is what happens in a scene.
-use Rattle.std.proofs.Common.{◌≡◌, ℕ, ◌≤◌, Bool, true, List, [], ◌∷◌, ◌++◌, length, map, Contains, refl, sym, ap, subst, ◌∙◌, arith}
+use Rattle.std.proofs.Common.{◌≡◌, ℕ, ◌≤◌, true, List, ◌++◌, length, map, Contains, refl, sym, ap, subst, ◌∙◌, arith}
 use Rattle.std.specs.List.{flat_map}
 use Rattle.gtpp_message.specs.Packet.{PacketForm}
 use Rattle.node_core.specs.Log.{LogEntry, Ticked, runs}
@@ -15,9 +15,8 @@ use Rattle.once_core.specs.Happenings.{Deed, Letter, Scene}
 use Rattle.once_core.specs.Meaning.{letter_of, speaks}
 use Rattle.once_core.specs.Scenes.{is_request}
 use Rattle.once_core.specs.Shown.{forms_ever}
-use Rattle.once_core.specs.World.{log_after, message_of, node_value, ticking}
+use Rattle.once_core.specs.World.{message_of, node_value, ticking}
 use Rattle.once_core.specs.declared.message.Message.{Message}
-use Rattle.once_core.proofs.FormLemmas.{GoodForm}
 use Rattle.once_core.proofs.LogLemmas.{starts_same}
 use Rattle.once_core.proofs.MeaningLemmas.{ReadsBack, Said}
 use Rattle.once_core.proofs.NodePlays.{NodePlays, NodeRightly, after_call, appointed_deeds, appointed_ever}
@@ -28,7 +27,6 @@ use Rattle.once_core.proofs.WaitingLemmas.{of_map}
 
 module _ (gateways place : ℕ) (log : List LogEntry) (rightly : NodeRightly gateways place log) (some : 1 ≤ gateways) (running : runs log ≡ true)
     (follow : NodesFollow) (one_each : OneCopyEach) (many : length (addresses_from 0 gateways) ≡ gateways) where
-
   abbrev behind : List LogEntry
   behind = after_tick gateways place log rightly some running follow one_each many
 

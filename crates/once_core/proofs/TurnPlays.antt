@@ -1,5 +1,5 @@
 -- Each turn of a world is what happens in a scene.
-use Rattle.std.proofs.Common.{◌≡◌, ℕ, suc, ◌-◌, ◌≤◌, not, nat_le, nat_lt, Bool, true, false, if◌then◌else◌, List, [], ◌∷◌, length, Option, Some, None, Contains, slice_get, refl, sym, ap, subst, ◌∙◌, arith}
+use Rattle.std.proofs.Common.{◌≡◌, ℕ, suc, ◌-◌, ◌≤◌, not, nat_le, Bool, true, false, if◌then◌else◌, List, length, Option, Some, None, Contains, slice_get, refl, sym, ap, subst, ◌∙◌, arith}
 use Rattle.std.specs.Prelude.{option_map}
 use Rattle.std.specs.Option.{option_map_or, option_or}
 use Rattle.std.proofs.lemmas.Bool.{leb-false}
@@ -7,11 +7,9 @@ use Rattle.gateway_book.specs.PreparingLaws.{RolesRead}
 use Rattle.gateway_book.specs.Value.{Fortune}
 use Rattle.node_core.specs.Log.{LogEntry, runs}
 use Rattle.node_core.specs.Reached as call
-use Rattle.once_core.specs.Addresses.{addresses_from}
 use Rattle.once_core.specs.Answers.{delivered, making_close, making_tick, marked, redirected}
 use Rattle.once_core.specs.Expired.{starts_in}
-use Rattle.once_core.specs.Gateway.{Gateway, Rules, committing, cut, opened, still}
-use Rattle.once_core.specs.Meaning.{letter_of, speaks}
+use Rattle.once_core.specs.Gateway.{Rules, committing, cut, opened, still}
 use Rattle.once_core.specs.Shown.{forms_ever}
 use Rattle.once_core.specs.Turn.{Turn, at_gateway, at_node, delivering, log_in, most_starts, no_node, refusal_of, refusing, turn, turn_by, unless_refused}
 use Rattle.once_core.specs.World.{World, called, delivered_to_node, log_at, submitting, ticking}
@@ -32,7 +30,7 @@ use Rattle.once_core.proofs.NumberLemmas.{Values}
 use Rattle.once_core.proofs.RedirectPlays.{redirected_plays}
 use Rattle.once_core.proofs.SentPlays.{NodesFollow, OneCopyEach}
 use Rattle.once_core.proofs.TickPlays.{tick_plays, tick_rightly}
-use Rattle.once_core.proofs.WorldPlays.{Made, Sound, gateway_made, log_is, node_made}
+use Rattle.once_core.proofs.WorldPlays.{Made, gateway_made, log_is, node_made}
 
 -- what the laws of messages and of nodes say
 pub record Laws : Type 0 where

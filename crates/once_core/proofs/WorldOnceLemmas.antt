@@ -1,10 +1,9 @@
 -- Each world is made by happenings, and so it files each record once.
-use Rattle.std.proofs.Common.{◌≡◌, ⊎_elim, ℕ, ◌-◌, ◌≤◌, ◌==◌, ◌&&◌, Bool, true, false, cond, List, [], ◌∷◌, length, filter, map, Option, Some, None, All, Contains, slice_get, refl, sym, ap, subst, ◌∙◌, arith}
+use Rattle.std.proofs.Common.{◌≡◌, ⊎_elim, ℕ, ◌-◌, ◌≤◌, ◌==◌, Bool, true, false, cond, List, [], ◌∷◌, length, filter, Option, Some, None, Contains, slice_get, refl, sym, ap, subst, ◌∙◌, arith}
 use Rattle.std.specs.Option.{option_map_or}
-use Rattle.std.proofs.lemmas.Bool.{and_parts, eq-eqb, false≢true}
+use Rattle.std.proofs.lemmas.Bool.{and_parts, eq-eqb}
 use Rattle.std.proofs.lemmas.List.Elements.{All-contains}
-use Rattle.gtpp_message.specs.Packet.{PacketForm, packet_of}
-use Rattle.gtpp_message.specs.PacketWriting.{value_of}
+use Rattle.gtpp_message.specs.Packet.{PacketForm}
 use Rattle.gw_base.specs.declared.history.HistoryEntry.{HistoryEntry}
 use Rattle.gateway_book.specs.Once.{same_key}
 use Rattle.gateway_book.specs.declared.filing.FiledRecord.{FiledRecord}
@@ -13,7 +12,7 @@ use Rattle.node_core.specs.Log.{LogEntry}
 use Rattle.node_core.specs.Packets.{PacketState}
 use Rattle.node_core.specs.Reached.{log_of}
 use Rattle.node_core.specs.declared.copy.PacketCopy.{PacketCopy}
-use Rattle.once_core.specs.Addresses.{addresses_from, node_ip, setup_of}
+use Rattle.once_core.specs.Addresses.{node_ip, setup_of}
 use Rattle.once_core.specs.Beginning.{world_of}
 use Rattle.once_core.specs.Deeds.{deeds_of}
 use Rattle.once_core.specs.Epochs.{key_in}
@@ -31,7 +30,6 @@ use Rattle.once_core.proofs.FirstPlays.{first_made}
 use Rattle.once_core.proofs.FormLemmas.{GoodForm, value_octets_are}
 use Rattle.once_core.proofs.ListLemmas.{get_contains, in_cons, in_head, in_none, in_tail}
 use Rattle.once_core.proofs.LogLemmas.{as_many}
-use Rattle.once_core.proofs.NodePlays.{NodeRightly}
 use Rattle.once_core.proofs.NumberLemmas.{Values, all_followed_at, values_are, values_before}
 use Rattle.once_core.proofs.OnceLemmas.{each_is_placed_once}
 use Rattle.once_core.proofs.SubmittedLemmas.{turns_forms}

@@ -1,17 +1,16 @@
 -- A world goes on with a gateway's move and with a node's call.
-use Rattle.std.proofs.Common.{◌≡◌, ◌≢◌, ◌⊎◌, ⊎_elim, ℕ, zero, suc, ◌≤◌, ◌==◌, Bool, true, false, if◌then◌else◌, List, [], ◌∷◌, ◌++◌, length, length-set, Option, Some, None, Contains, slice_get, slice_set, refl, sym, ap, subst, ◌∙◌, arith}
+use Rattle.std.proofs.Common.{◌≡◌, ◌≢◌, ⊎_elim, ℕ, zero, suc, ◌≤◌, ◌==◌, Bool, true, false, List, [], ◌∷◌, ◌++◌, length, length-set, Option, Some, None, Contains, slice_get, slice_set, refl, sym, ap, subst, ◌∙◌, arith}
 use Rattle.std.specs.Option.{option_map_or}
 use Rattle.std.proofs.lemmas.Bool.{eqb-true, eqb-false, ne_eqb}
 use Rattle.std.proofs.lemmas.List.Elements.{Contains-append_cases}
-use Rattle.gtpp_message.specs.Packet.{PacketForm}
 use Rattle.node_core.specs.Log.{LogEntry}
 use Rattle.once_core.specs.Addresses.{node_ip}
 use Rattle.once_core.specs.Deeds.{deeds_of}
 use Rattle.once_core.specs.Gateway.{Gateway, Moved}
 use Rattle.once_core.specs.Happenings.{Happening, Post, Scene}
-use Rattle.once_core.specs.Meaning.{letter_of, speaks}
+use Rattle.once_core.specs.Meaning.{letter_of}
 use Rattle.once_core.specs.Scenes.{happened_all, nothing_yet, scene_after}
-use Rattle.once_core.specs.Shown.{Shows, forms_ever, post_at, post_of}
+use Rattle.once_core.specs.Shown.{Shows, post_at, post_of}
 use Rattle.once_core.specs.Turn.{at_gateway, at_node, gateway_moved, node_called}
 use Rattle.once_core.specs.World.{Called, World, log_at}
 use Rattle.once_core.specs.declared.message.Message.{Message}
@@ -108,7 +107,6 @@ module _ (values : ℕ → ℕ → List ℕ) (w : World) (made : Made values w) 
 
   module _ (log : List LogEntry) (there : slice_get w.nodes place ≡ Some log) (call : Called) (plays : NodePlays (node_ip place) (values place) made.scene call)
       (rightly : NodeRightly (length w.gateways) place call.log) where
-
     deeds_on : (q : ℕ) (b : Bool) → (q == place) ≡ b → plays.after.deeds (node_ip q) ≡ deeds_of (node_ip q) (values q) (log_at (node_called w place call) q)
     deeds_on q true e =
         let same = eqb-true q place e in

@@ -1,6 +1,6 @@
 -- What a message with octets means: a request of a node, the answer of a gateway to one, or anything else, by what is read
 -- of its octets at either end.
-use Rattle.std.specs.Prelude.{ℕ, Bool, true, false, List}
+use Rattle.std.specs.Prelude.{ℕ, Bool, true, false}
 use Rattle.gtpp_message.specs.Message.{MessageValue, TransferValue, EchoRequest, EchoResponse, VersionNotSupported, NodeAliveRequest, NodeAliveResponse, RedirectionRequest, RedirectionResponse, TransferRequest, TransferResponse, Send, Possible, Cancel, Release}
 use Rattle.gtpp_message.specs.Packet.{PacketValue, Empty, Full}
 use Rattle.gtpp_message.specs.Reading.{ReadingValue, Drop, Message, OtherVersion, Refused, reading}

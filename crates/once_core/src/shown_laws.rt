@@ -8,7 +8,6 @@ ghost use Rattle.once_core.specs.Beginning.{world_of};
 ghost use Rattle.once_core.specs.Gateway.{Rules};
 ghost use Rattle.once_core.specs.Meaning.{meaning_in, meaning_of};
 ghost use Rattle.once_core.specs.Messages.{about};
-ghost use Rattle.once_core.specs.Once.{Once};
 ghost use Rattle.once_core.specs.Shown.{IsMade};
 ghost use Rattle.once_core.specs.Turn.{Turn, turns};
 ghost use Rattle.once_core.specs.declared.message.Message.{Message};
@@ -29,20 +28,6 @@ pub fn what_is_sent_is_meant()
 pub fn each_world_is_made_by_happenings()
     ensures { (rules : Rules) (gateways nodes : ℕ) (all : List Turn) → 1 ≤ gateways →
         IsMade (turns rules (world_of rules gateways nodes) all) }
-{
-    gtpp_message::laws::written_is_read_back();
-    gtpp_message::laws::a_role_reads_what_is_read();
-    gtpp_message::laws::records_are_spelled();
-    node_core::laws::a_gateway_gets_one_copy();
-    a_node_follows_the_procedure();
-}
-
-/// Whatever happens in a world of at least one gateway, each record of each packet that its node
-/// ever resolved is filed once by all gateways together, each record of any other packet at most
-/// once, and no record of a copy that is held or cancelled.
-pub fn each_world_files_each_record_once()
-    ensures { (rules : Rules) (gateways nodes : ℕ) (all : List Turn) → 1 ≤ gateways →
-        Once (turns rules (world_of rules gateways nodes) all) }
 {
     gtpp_message::laws::written_is_read_back();
     gtpp_message::laws::a_role_reads_what_is_read();
