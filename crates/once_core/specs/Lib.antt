@@ -22,3 +22,6 @@ pub mod OncePlaced
 pub mod Resting
 pub mod Scenes
 pub mod Story
+-- What a world is by what its messages mean.
+pub mod Meaning
+pub mod Shown

@@ -4,13 +4,15 @@
 //! The model is `World` of `specs/World.antt`: what every gateway and every node holds, and all
 //! messages ever sent. `specs/Turn.antt` says what an event makes of it, and `specs/Once.antt` what
 //! filing once means. The contract is that of the laws, which hold for all settings and whatever
-//! happens: `world_laws` of worlds with the octets of their messages, `once_laws` of what messages
-//! mean. That `Once` holds of every world isn't proved yet, and no call plays events yet.
+//! happens: `world_laws` of worlds with the octets of their messages, first of all that each record is
+//! filed once; `once_laws` of what messages mean; and `shown_laws` of how a world is what happens where
+//! messages are what they mean. No call plays events yet.
 #![tactic(auto)]
 
 mod event;
 mod message;
 pub mod once_laws;
+pub mod shown_laws;
 #[cfg(test)]
 mod worked_tests;
 pub mod world_laws;

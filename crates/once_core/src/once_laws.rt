@@ -1,7 +1,6 @@
 //! Laws of every list of happenings at gateways and nodes, where messages are what they mean. Each
-//! stands on a function that does nothing.
-//!
-//! Not proved yet: that a world with octets is such a list of happenings.
+//! stands on a function that does nothing. A world with octets is such a list of happenings:
+//! [`shown_laws`](crate::shown_laws).
 
 ghost use Rattle.std.specs.Prelude.{◌≡◌, ◌≤◌, ◌++◌, ℕ, All, List, Some, length};
 ghost use Rattle.gw_base.specs.History.{epoch_of};

@@ -1,6 +1,6 @@
 //! Laws of worlds. Each holds for all settings, and stands on a function that does nothing.
 
-ghost use Rattle.std.specs.Prelude.{◌≡◌, ℕ, Bool, true, false, List, Some, length};
+ghost use Rattle.std.specs.Prelude.{◌≡◌, ◌≤◌, ℕ, Bool, true, false, List, Some, length};
 ghost use Rattle.file_writer.specs.Places.{FilePlace, place_in};
 ghost use Rattle.file_writer.specs.Streams.{Settings};
 ghost use Rattle.gateway_book.specs.Filed.{filed};
@@ -15,9 +15,26 @@ ghost use Rattle.once_core.specs.Beginning.{world_of};
 ghost use Rattle.once_core.specs.FilePlaces.{file_places};
 ghost use Rattle.once_core.specs.Gateway.{Gateway, Rules, cut};
 ghost use Rattle.once_core.specs.Growing.{GoesOn, HoldSame};
-ghost use Rattle.once_core.specs.Once.{firm_in};
+ghost use Rattle.once_core.specs.Once.{Once, firm_in};
 ghost use Rattle.once_core.specs.Turn.{Turn, turns};
 ghost use Rattle.once_core.specs.World.{World};
+
+use crate::once_laws::a_node_follows_the_procedure;
+
+/// Whatever happens in a world of at least one gateway, each record of each packet that its node
+/// ever resolved is filed once by all gateways together, and each record of any other packet at most
+/// once. None is filed of a copy that is held, a stranded one too, or was cancelled, and what is filed
+/// for a copy is its packet's record.
+pub fn each_record_is_filed_once()
+    ensures { (rules : Rules) (gateways nodes : ℕ) (all : List Turn) → 1 ≤ gateways →
+        Once (turns rules (world_of rules gateways nodes) all) }
+{
+    gtpp_message::laws::written_is_read_back();
+    gtpp_message::laws::a_role_reads_what_is_read();
+    gtpp_message::laws::records_are_spelled();
+    node_core::laws::a_gateway_gets_one_copy();
+    a_node_follows_the_procedure();
+}
 
 /// What is firm stays so in any turns, whatever devices do: the firm part of each gateway's history
 /// only grows, and so do the records that it files.

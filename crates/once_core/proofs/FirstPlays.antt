@@ -1,0 +1,146 @@
+-- How a world begins is what happens in a scene: each gateway notes its start.
+use Rattle.std.proofs.Common.{◌≡◌, ⊎_elim, ℕ, zero, suc, ◌<◌, ◌≤◌, Bool, true, false, if◌then◌else◌, List, [], ◌∷◌, ◌++◌, length, Option, Some, None, Contains, slice_get, refl, sym, ap, subst, ◌∙◌, arith}
+use Rattle.std.specs.Option.{option_map_or}
+use Rattle.std.proofs.lemmas.Bool.{cases_lt, ne_eqb}
+use Rattle.gw_base.specs.declared.history.HistoryAct.TheVariants as act
+use Rattle.gateway_book.specs.Answered.{no_caller}
+use Rattle.gateway_book.specs.Value.{committed, history_of, recorded, standing_for}
+use Rattle.node_core.specs.Log.{LogEntry, Began}
+use Rattle.once_core.specs.Addresses.{node_ip}
+use Rattle.once_core.specs.Beginning.{first_gateway, times_of, world_of}
+use Rattle.once_core.specs.Deeds.{deeds_of}
+use Rattle.once_core.specs.Gateway.{Gateway, Rules, settling, still}
+use Rattle.once_core.specs.Happenings.{Happening, Notes, Post, Scene, Starts}
+use Rattle.once_core.specs.Scenes.{happened_all, nothing_yet, scene_after}
+use Rattle.once_core.specs.Shown.{post_of}
+use Rattle.once_core.proofs.CommitPlays.{firm_plays, whole_book}
+use Rattle.once_core.proofs.ListLemmas.{in_none}
+use Rattle.once_core.proofs.LogLemmas.{counts_first}
+use Rattle.once_core.proofs.NodePlays.{NodeRightly}
+use Rattle.once_core.proofs.PlayLemmas.{Plays, Rightly, Stands, followed_plays, happened_more, stands_after}
+use Rattle.once_core.proofs.ReplyPlays.{noted, noted_plays}
+use Rattle.once_core.proofs.WorldPlays.{Made}
+
+-- ---- one gateway
+
+abbrev no_post : Post
+no_post = record { firm = []; rest = []; waiting = [] }
+
+abbrev new_gateway : Gateway
+new_gateway = record { book = standing_for []; waiting = []; is_down = false; redirects = 0 }
+
+none_waits : (g : Gateway) → g.waiting ≡ [] → Rightly g
+none_waits g none = record {
+  fronts = λ w is. absurd (in_none w (subst (λ ws. Contains ws w) none is));
+  said = λ w is. absurd (in_none w (subst (λ ws. Contains ws w) none is));
+  broken = λ e. none;
+}
+
+new_stands : (place : ℕ) (scene : Scene) → scene.posts place ≡ no_post → Stands place scene new_gateway
+new_stands place scene post = record { post = post; rightly = none_waits new_gateway refl }
+
+first_plays : (rules : Rules) (place : ℕ) (scene : Scene) → scene.posts place ≡ no_post → Plays place scene (still (first_gateway rules))
+first_plays rules place scene post = by (rules.room (history_of (standing_for [])) act.Start)
+  where
+    stands : Stands place scene new_gateway
+    stands = new_stands place scene post
+
+    note : Plays place scene (still (noted 0 act.Start new_gateway))
+    note = noted_plays place scene new_gateway stands refl 0 act.Start (Notes place Starts 0 no_caller) refl
+
+    by : (b : Bool) → Plays place scene (still (record {
+      book = committed (if b then recorded (standing_for []) 0 no_caller act.Start else standing_for []);
+      waiting = [];
+      is_down = false;
+      redirects = 0;
+    }))
+    by true =
+        followed_plays place scene (still (noted 0 act.Start new_gateway)) (λ a. settling (record a { book = whole_book a.book 0 false })) note
+        (firm_plays place note.after (noted 0 act.Start new_gateway) (stands_after place scene (still (noted 0 act.Start new_gateway)) note) 0)
+    by false = firm_plays place scene new_gateway stands 0
+
+-- ---- all of them
+
+record FirstScene (rules : Rules) (count : ℕ) : Type 0 where
+  happenings : List Happening
+  scene : Scene
+  is : scene_after happenings ≡ scene
+  before : (q : ℕ) → q < count → scene.posts q ≡ post_of (first_gateway rules)
+  behind : (q : ℕ) → count ≤ q → scene.posts q ≡ no_post
+  deeds : (node : ℕ) → scene.deeds node ≡ []
+
+first_scene : (rules : Rules) (count : ℕ) → FirstScene rules count
+first_scene rules zero = record {
+  happenings = [];
+  scene = nothing_yet;
+  is = refl;
+  before = λ q lt. absurd (omega (arith, lt));
+  behind = λ q le. refl;
+  deeds = λ node. refl;
+}
+first_scene rules (suc count) =
+    let s = first_scene rules count in
+    let plays = first_plays rules count s.scene (s.behind count (omega arith)) in
+    record {
+      happenings = s.happenings ++ plays.later;
+      scene = plays.after;
+      is = happened_more nothing_yet s.happenings plays.later ∙ ap (λ (t : Scene). happened_all t plays.later) s.is ∙ plays.is;
+      before = λ q lt. ⊎_elim
+          (λ less. plays.goes.others q (ne_eqb q count (λ same. absurd (omega (arith, same, less)))) ∙ s.before q less)
+          (λ more. let same : count ≡ q = omega (arith, lt, more) in subst (λ (k : ℕ). plays.after.posts k ≡ post_of (first_gateway rules)) same plays.post)
+          (cases_lt q count);
+      behind = λ q le. plays.goes.others q (ne_eqb q count (λ same. absurd (omega (arith, same, le)))) ∙ s.behind q (omega (arith, le));
+      deeds = λ node. plays.goes.deeds node ∙ s.deeds node;
+    }
+
+-- ---- the world
+
+times_within : {A : Type 0} (n : ℕ) (x : A) (k : ℕ) → k < n → slice_get (times_of n x) k ≡ Some x
+times_within zero x k lt = absurd (omega (arith, lt))
+times_within (suc n) x zero lt = refl
+times_within (suc n) x (suc k) lt = times_within n x k (omega (arith, lt))
+
+times_behind : {A : Type 0} (n : ℕ) (x : A) (k : ℕ) → n ≤ k → slice_get (times_of n x) k ≡ None
+times_behind zero x k le = refl
+times_behind (suc n) x zero le = absurd (omega (arith, le))
+times_behind (suc n) x (suc k) le = times_behind n x k (omega (arith, le))
+
+times_each : {A : Type 0} (n : ℕ) (x : A) (k : ℕ) (y : A) → slice_get (times_of n x) k ≡ Some y → x ≡ y
+times_each zero x k y e = absurd (cc)
+times_each (suc n) x zero y e = cc
+times_each (suc n) x (suc k) y e = times_each n x k y e
+
+times_many : {A : Type 0} (n : ℕ) (x : A) → length (times_of n x) ≡ n
+times_many zero x = refl
+times_many (suc n) x = let rest = times_many n x in omega (arith, rest)
+
+first_node : (gateways place : ℕ) → NodeRightly gateways place (Began ∷ [])
+first_node gateways place = record { calls = []; is = refl; counts = counts_first; few = omega arith; forms = λ form is. absurd (in_none form is) }
+
+pub first_made : (values : ℕ → ℕ → List ℕ) (rules : Rules) (gateways nodes : ℕ) → 1 ≤ gateways → Made values (world_of rules gateways nodes)
+first_made values rules gateways nodes some = record {
+  happenings = first.happenings;
+  scene = first.scene;
+  is = first.is;
+  shows = record {
+    posts = λ q. ⊎_elim
+        (λ lt. first.before q lt ∙ ap (λ (o : Option Gateway). option_map_or post_of o no_post) (sym (times_within gateways (first_gateway rules) q lt)))
+        (λ le. first.behind q le ∙ ap (λ (o : Option Gateway). option_map_or post_of o no_post) (sym (times_behind gateways (first_gateway rules) q le)))
+        (cases_lt q gateways);
+    deeds = λ p. ⊎_elim
+        (λ lt. first.deeds (node_ip p) ∙ ap (λ (o : Option (List LogEntry)). deeds_of (node_ip p) (values p) (option_map_or (λ log. log) o [])) (sym (times_within nodes (Began ∷ []) p lt)))
+        (λ le. first.deeds (node_ip p) ∙ ap (λ (o : Option (List LogEntry)). deeds_of (node_ip p) (values p) (option_map_or (λ log. log) o [])) (sym (times_behind nodes (Began ∷ []) p le)))
+        (cases_lt p nodes);
+    letters = λ m is speaking. absurd (in_none m is);
+  };
+  sound = record {
+    some = let many = times_many gateways (first_gateway rules) in omega (arith, some, many);
+    gateways = λ place g is. subst Rightly (times_each gateways (first_gateway rules) place g is) (none_waits (first_gateway rules) refl);
+    nodes = λ place log is. subst (NodeRightly (length (times_of gateways (first_gateway rules))) place) (times_each nodes (Began ∷ []) place log is)
+        (first_node (length (times_of gateways (first_gateway rules))) place);
+    messages = λ m is. absurd (in_none m is);
+  };
+}
+  where
+    first : FirstScene rules gateways
+    first = first_scene rules gateways

@@ -1,0 +1,144 @@
+-- What a draft is can be sent, and is read back as it was submitted.
+use Rattle.std.proofs.Common.{◌≡◌, ◌↔◌, ℕ, ◌+◌, ◌*◌, ◌/◌, ◌%◌, ◌≤◌, ◌==◌, ◌&&◌, not, nat_lt, Bool, true, false, if◌then◌else◌, List, [], ◌∷◌, ◌++◌, length, Option, Some, None, Ok, Err, Result, is_ok, refl, sym, ap, subst, ◌∙◌, arith, append_assoc, append-nil}
+use Rattle.std.specs.Prelude.{option_map, option_and_then}
+use Rattle.std.specs.List.{flat_map, list_all}
+use Rattle.std.proofs.lemmas.Bool.{and_parts, false≢true, ltb-false, ne_eqb}
+use Rattle.gw_base.specs.declared.tag.Tag.{Tag}
+use Rattle.ber_frame.specs.Checked.{checked, is_one_value}
+use Rattle.ber_frame.specs.declared.fault.BerFault.{BerFault}
+use Rattle.gtpp_message.specs.Packet.{PacketForm, Full, SpellRecords, packet_of, records_at}
+use Rattle.gtpp_message.specs.PacketWriting.{record_octets, value_of, with_record}
+use Rattle.gateway_book.specs.Preparing.{has_values}
+use Rattle.node_core.specs.Drafts.{addition_fault, ber_fault_of, ber_refusal, is_without_records, most_datagram_octets, most_records, packet_anew, packet_of_form, packet_of_records, request_length, value_octets, value_octets_of}
+use Rattle.node_core.specs.declared.fault.DraftFault.TheVariants.{Count, TooBig}
+use Rattle.once_core.specs.World.{draft_of, is_draft, is_fault_free, takes_all}
+
+-- what the law of packets says: records are read where octets spell them
+abbrev pub RecordsSpelled : Type 0
+RecordsSpelled = (count : ℕ) (records : List (List ℕ)) (octets : List ℕ) → (records_at count octets ≡ Some records) ↔ ((length records ≡ count) × SpellRecords records octets)
+
+-- the packet has a record, is read back, and is short; and its records are what their format says
+pub record GoodForm (form : PacketForm) : Type 0 where
+  pub some : 1 ≤ length form.records
+  pub read : packet_of (value_of form) ≡ Some form
+  pub short : length (value_of form) ≤ 65496
+  pub values : has_values form ≡ true
+
+-- ---- a packet that is written is read back
+
+halves : (n : ℕ) → n ≡ 256 * (n / 256) + n % 256
+halves n = omega arith
+
+records_spell : (records : List (List ℕ)) → SpellRecords records (flat_map record_octets records)
+records_spell [] = refl
+records_spell (first ∷ records) = (
+  flat_map record_octets records,
+  record { high = length first / 256; low = length first % 256; stated = halves (length first); whole = refl },
+  records_spell records,
+)
+
+pub value_read : RecordsSpelled → (form : PacketForm) → 1 ≤ length form.records → packet_of (value_of form) ≡ Some form
+value_read law form some =
+    ap (λ (b : Bool). if b then None else option_map (λ (records : List (List ℕ)). record { format = form.format; version = 256 * (form.version / 256) + form.version % 256; records = records }) (records_at (length form.records) (flat_map record_octets form.records)))
+    (ne_eqb (length form.records) 0 (λ none. absurd (omega (arith, some, none))))
+    ∙ ap (λ (o : Option (List (List ℕ))). option_map (λ (records : List (List ℕ)). record { format = form.format; version = 256 * (form.version / 256) + form.version % 256; records = records }) o)
+    ((law (length form.records) form.records (flat_map record_octets form.records)).1 (refl, records_spell form.records))
+    ∙ ap (λ (v : ℕ). Some (record { format = form.format; version = v; records = form.records })) (sym (halves form.version))
+
+pub value_octets_are : (form : PacketForm) → 1 ≤ length form.records → value_octets form ≡ value_of form
+value_octets_are form some = by form.records some
+  where
+    by : (records : List (List ℕ)) → 1 ≤ length records → value_octets_of records form ≡ value_of form
+    by [] none = absurd (omega (arith, none))
+    by (first ∷ records) some = refl
+
+pub packet_is : (form : PacketForm) → 1 ≤ length form.records → packet_of_form form ≡ Full form (value_of form)
+packet_is form some = by form.records some
+  where
+    by : (records : List (List ℕ)) → 1 ≤ length records → packet_of_records records form ≡ Full form (value_of form)
+    by [] none = absurd (omega (arith, none))
+    by (first ∷ records) some = refl
+
+-- ---- what a draft takes
+
+record Fits (form : PacketForm) : Type 0 where
+  short : length (value_octets form) ≤ 65496
+  values : has_values form ≡ true
+
+more_values : (records : List (List ℕ)) (r : List ℕ) → list_all is_one_value records ≡ true → is_one_value r ≡ true → list_all is_one_value (records ++ r ∷ []) ≡ true
+more_values [] r all one = ap (λ (b : Bool). b && true) one
+more_values (first ∷ records) r all one =
+    let parts = and_parts (is_one_value first) (list_all is_one_value records) all in
+    ap (λ (b : Bool). b && list_all is_one_value (records ++ r ∷ [])) parts.0 ∙ more_values records r parts.1 one
+
+checked_is : (checked_as : Result Tag BerFault) → is_fault_free (ber_fault_of checked_as) ≡ true → is_ok checked_as ≡ true
+checked_is (Ok tag) free = refl
+checked_is (Err fault) free = absurd (false≢true free)
+
+taken : (form : PacketForm) (r : List ℕ) → Fits form → is_fault_free (addition_fault form r) ≡ true → Fits (with_record form r)
+taken form r fits free = by_count (length form.records == most_records) free
+  where
+    by_format : (b : Bool) → (if b then list_all is_one_value form.records else true) ≡ true → is_fault_free (if b then ber_fault_of (checked r) else None) ≡ true
+        → (if b then list_all is_one_value (form.records ++ r ∷ []) else true) ≡ true
+    by_format true all free = more_values form.records r all (checked_is (checked r) free)
+    by_format false all free = refl
+
+    by_size : (b : Bool) → nat_lt most_datagram_octets (request_length (with_record form r)) ≡ b
+        → is_fault_free (if b then Some TooBig else ber_refusal form.format r) ≡ true → Fits (with_record form r)
+    by_size true e free = absurd (false≢true free)
+    by_size false e free =
+        let le = ltb-false most_datagram_octets (request_length (with_record form r)) e in
+        record { short = omega (arith, le); values = by_format (form.format == 1) fits.values free }
+
+    by_count : (b : Bool) → is_fault_free (if b then Some Count else (if nat_lt most_datagram_octets (request_length (with_record form r)) then Some TooBig else ber_refusal form.format r)) ≡ true
+        → Fits (with_record form r)
+    by_count true free = absurd (false≢true free)
+    by_count false free = by_size (nat_lt most_datagram_octets (request_length (with_record form r))) refl free
+
+all_taken : (records : List (List ℕ)) (form : PacketForm) → Fits form → takes_all form records ≡ true → Fits (record form { records = form.records ++ records })
+all_taken [] form fits takes = subst (λ (rs : List (List ℕ)). Fits (record form { records = rs })) (sym (append-nil form.records)) fits
+all_taken (r ∷ records) form fits takes = by (is_fault_free (addition_fault form r)) refl takes (λ next later. all_taken records (with_record form r) next later)
+  where
+    by : (b : Bool) → is_fault_free (addition_fault form r) ≡ b → (if b then takes_all (with_record form r) records else false) ≡ true
+        → (Fits (with_record form r) → takes_all (with_record form r) records ≡ true → Fits (record form { records = (form.records ++ r ∷ []) ++ records }))
+        → Fits (record form { records = form.records ++ (r ∷ records) })
+    by true e takes rest = subst (λ (rs : List (List ℕ)). Fits (record form { records = rs })) (append_assoc form.records (r ∷ []) records) (rest (taken form r fits e) takes)
+    by false e takes rest = absurd (false≢true takes)
+
+some_records : (records : List (List ℕ)) → not (length records == 0) ≡ true → 1 ≤ length records
+some_records [] e = absurd (false≢true e)
+some_records (r ∷ records) e = omega arith
+
+values_none : (format : ℕ) → has_values (packet_anew format 0) ≡ true
+values_none format = by (format == 1)
+  where
+    by : (b : Bool) → (if b then true else true) ≡ true
+    by true = refl
+    by false = refl
+
+pub draft_is_good : RecordsSpelled → (form : PacketForm) → is_draft form ≡ true → GoodForm form
+draft_is_good law form draft =
+    let parts = and_parts (not (is_without_records form)) (takes_all (packet_anew form.format form.version) form.records) draft in
+    let some = some_records form.records parts.0 in
+    let fits : Fits form = all_taken form.records (packet_anew form.format form.version) (record { short = omega arith; values = values_none form.format }) parts.1 in
+    record {
+      some = some;
+      read = value_read law form some;
+      short = subst (λ (octets : List ℕ). length octets ≤ 65496) (value_octets_are form some) fits.short;
+      values = fits.values;
+    }
+
+-- what is submitted is a draft
+pub submitted_is_draft : (octets : List ℕ) (form : PacketForm) → draft_of octets ≡ Some form → is_draft form ≡ true
+submitted_is_draft octets form e = by (packet_of octets) e
+  where
+    by_draft : (f : PacketForm) (b : Bool) → is_draft f ≡ b → (if b then Some f else None) ≡ Some form → is_draft form ≡ true
+    by_draft f true is same = subst (λ (g : PacketForm). is_draft g ≡ true) (the_form f same) is
+      where
+        the_form : (f : PacketForm) → Some f ≡ Some form → f ≡ form
+        the_form f same = ap (λ (o : Option PacketForm). elim o [ None ↦ f | Some g ↦ g ]) same
+    by_draft f false is same = absurd (cc)
+
+    by : (o : Option PacketForm) → option_and_then (λ (f : PacketForm). if is_draft f then Some f else None) o ≡ Some form → is_draft form ≡ true
+    by None same = absurd (cc)
+    by (Some f) same = by_draft f (is_draft f) refl same

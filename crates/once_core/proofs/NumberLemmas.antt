@@ -1,0 +1,260 @@
+-- The packets of a node bear the numbers by which they were submitted.
+use Rattle.std.proofs.Common.{◌≡◌, ⊎_elim, ℕ, zero, suc, ◌+◌, ◌-◌, ◌<◌, ◌≤◌, ◌==◌, Bool, true, false, if◌then◌else◌, List, [], ◌∷◌, ◌++◌, length, length-append, map, filter, zip, Option, Some, Contains, slice_get, refl, sym, ap, subst, ◌∙◌, arith, append_assoc, append-nil}
+use Rattle.std.specs.Option.{option_map_or}
+use Rattle.std.proofs.lemmas.Bool.{eqb-true}
+use Rattle.std.proofs.lemmas.List.Elements.{Contains-append_cases}
+use Rattle.gtpp_message.specs.Packet.{PacketForm}
+use Rattle.node_core.specs.Drafts.{value_octets}
+use Rattle.node_core.specs.Log.{LogEntry, Began, Halted, Submitted, Appointed, Ticked, Heard, Saying, Path, Redirects, Responds, Other, forms_of, packets_hearing, packets_of, runs, submitted}
+use Rattle.node_core.specs.Packets.{PacketState, copies_after, is_done, is_of, packet_after, packet_after_all, packet_hearing, while_open}
+use Rattle.node_core.specs.Value.{logged}
+use Rattle.node_core.specs.declared.port.Port.{Port}
+use Rattle.node_core.specs.declared.sending.Sending.{Sending}
+use Rattle.once_core.specs.Expired.{starts_in}
+use Rattle.once_core.specs.Followed.{Followed, all_followed, followed_before, following, packets_in}
+use Rattle.once_core.specs.Growing.{GoesOn}
+use Rattle.once_core.specs.Shown.{forms_ever, values_of}
+use Rattle.once_core.proofs.GrowingLemmas.{on, on_on, on_with}
+use Rattle.once_core.proofs.ListLemmas.{filtered, in_cons, in_head, in_none, in_tail}
+use Rattle.once_core.proofs.LogLemmas.{starts_again, starts_same}
+use Rattle.once_core.proofs.WaitingLemmas.{of_map, passed}
+
+-- ---- lists
+
+pub get_more : {A : Type 0} (xs ys : List A) (k : ℕ) (x : A) → slice_get xs k ≡ Some x → slice_get (xs ++ ys) k ≡ Some x
+get_more [] ys k x e = absurd (cc)
+get_more (y ∷ xs) ys zero x e = e
+get_more (y ∷ xs) ys (suc k) x e = get_more xs ys k x e
+
+get_behind : {A : Type 0} (xs ys : List A) (k : ℕ) → slice_get (xs ++ ys) (length xs + k) ≡ slice_get ys k
+get_behind [] ys k = ap (slice_get ys) (omega arith)
+get_behind {A} (x ∷ xs) ys k = let same : length (x ∷ xs) + k ≡ suc (length xs + k) = omega arith in ap (slice_get (x ∷ (xs ++ ys))) same ∙ get_behind xs ys k
+
+-- ---- packets in order
+
+-- the packets have the numbers behind this one, and these are what they send
+abbrev pub Numbered : ℕ → List PacketState → List PacketForm → Type 0
+Numbered n [] [] = Unit {0}
+Numbered n [] (form ∷ forms) = ⊥
+Numbered n (packet ∷ packets) [] = ⊥
+Numbered n (packet ∷ packets) (form ∷ forms) = (packet.number ≡ suc n) × Numbered (suc n) packets forms
+
+numbered_more : (n : ℕ) (packets : List PacketState) (forms : List PacketForm) (packet : PacketState) (form : PacketForm) → Numbered n packets forms
+    → packet.number ≡ suc (n + length forms) → Numbered n (packets ++ packet ∷ []) (forms ++ form ∷ [])
+numbered_more n [] [] packet form is e = (omega (arith, e), tt)
+numbered_more n [] (f ∷ forms) packet form is e = absurd is
+numbered_more n (p ∷ packets) [] packet form is e = absurd is
+numbered_more n (p ∷ packets) (f ∷ forms) packet form is e = (is.0, numbered_more (suc n) packets forms packet form is.1 (omega (arith, e)))
+
+numbered_map : (h : PacketState → PacketState) → ((p : PacketState) → (h p).number ≡ p.number) → (n : ℕ) (packets : List PacketState) (forms : List PacketForm)
+    → Numbered n packets forms → Numbered n (map h packets) forms
+numbered_map h same n [] [] is = tt
+numbered_map h same n [] (f ∷ forms) is = absurd is
+numbered_map h same n (p ∷ packets) [] is = absurd is
+numbered_map h same n (p ∷ packets) (f ∷ forms) is = (same p ∙ is.0, numbered_map h same (suc n) packets forms is.1)
+
+-- a packet of these, and what it sends
+pub record IsNumbered (n : ℕ) (forms : List PacketForm) (packet : PacketState) : Type 0 where
+  pub place : ℕ
+  pub form : PacketForm
+  pub number : packet.number ≡ suc (n + place)
+  pub there : slice_get forms place ≡ Some form
+
+pub numbered_in : (n : ℕ) (packets : List PacketState) (forms : List PacketForm) (packet : PacketState) → Numbered n packets forms → Contains packets packet → IsNumbered n forms packet
+numbered_in n [] forms packet is there = absurd (in_none packet there)
+numbered_in n (p ∷ packets) [] packet is there = absurd is
+numbered_in n (p ∷ packets) (f ∷ forms) packet is there = ⊎_elim
+    (λ e. record { place = 0; form = f; number = let same : p.number ≡ packet.number = ap (λ (q : PacketState). q.number) e in omega (arith, is.0, same); there = refl })
+    (λ later.
+    let rest = numbered_in (suc n) packets forms packet is.1 later in
+    let number = rest.number in
+    record { place = suc rest.place; form = rest.form; number = omega (arith, number); there = rest.there })
+    (in_cons p packet packets there)
+
+zipped : (n : ℕ) (packets : List PacketState) (forms : List PacketForm) (pair : PacketState × PacketForm) → Numbered n packets forms → Contains (zip packets forms) pair
+    → (place : ℕ) × (pair.0.number ≡ suc (n + place)) × (slice_get forms place ≡ Some pair.1) × Contains packets pair.0
+zipped n [] [] pair is there = absurd (in_none pair there)
+zipped n [] (f ∷ forms) pair is there = absurd is
+zipped n (p ∷ packets) [] pair is there = absurd is
+zipped n (p ∷ packets) (f ∷ forms) pair is there = ⊎_elim
+    (λ e.
+    let same : p ≡ pair.0 = ap (λ (q : PacketState × PacketForm). q.0) e in
+    let number : p.number ≡ pair.0.number = ap (λ (q : PacketState). q.number) same in
+    (0, omega (arith, is.0, number), ap (λ (q : PacketState × PacketForm). Some q.1) e, subst (Contains (p ∷ packets)) same (in_head p packets)))
+    (λ later.
+    let rest = zipped (suc n) packets forms pair is.1 later in
+    let number = rest.1 in
+    (suc rest.0, omega (arith, number), rest.2, in_tail p pair.0 packets rest.3))
+    (in_cons (p, f) pair (zip packets forms) there)
+
+-- ---- the log
+
+pub record Ever (log : List LogEntry) : Type 0 where
+  pub before : List PacketForm
+  pub is : forms_ever log ≡ before ++ forms_of log
+  pub numbered : Numbered (length before) (packets_of log) (forms_of log)
+  pub count : submitted log ≡ length before + length (forms_of log)
+
+open_keeps : (f : PacketState → PacketState) → ((p : PacketState) → (f p).number ≡ p.number) → (p : PacketState) → (while_open f p).number ≡ p.number
+open_keeps f same p = by (is_done p.copies)
+  where
+    by : (b : Bool) → (if b then p else f p).number ≡ p.number
+    by true = refl
+    by false = same p
+
+after_keeps : (sending : Sending) (p : PacketState) → (packet_after sending p).number ≡ p.number
+after_keeps sending p = by (is_of p.number sending)
+  where
+    by : (b : Bool) → (if b then record p { copies = copies_after sending p.copies } else p).number ≡ p.number
+    by true = refl
+    by false = refl
+
+all_keep : (sendings : List Sending) (p : PacketState) → (packet_after_all sendings p).number ≡ p.number
+all_keep [] p = refl
+all_keep (sending ∷ sendings) p = all_keep sendings (packet_after sending p) ∙ after_keeps sending p
+
+began : (log : List LogEntry) → Ever log → (submitted log ≡ length (forms_ever log) + 0)
+began log is =
+    let count = is.count in
+    let size : length (forms_ever log) ≡ length is.before + length (forms_of log) = ap length is.is ∙ length-append is.before (forms_of log) in
+    omega (arith, count, size)
+
+heard : (port : Port) (gateway : ℕ) (saying : Saying) (log : List LogEntry) (n : ℕ) → Numbered n (packets_of log) (forms_of log) → Numbered n (packets_hearing port gateway saying (packets_of log)) (forms_of log)
+heard port gateway (Path event) log n is = is
+heard port gateway (Redirects to) log n is = is
+heard port gateway (Responds cause numbers) log n is =
+    numbered_map (while_open (packet_hearing port gateway cause numbers)) (open_keeps (packet_hearing port gateway cause numbers) (λ p. refl)) n (packets_of log) (forms_of log) is
+heard port gateway Other log n is = is
+
+pub ever : (log : List LogEntry) → Ever log
+ever [] = record { before = []; is = refl; numbered = tt; count = refl }
+ever (Began ∷ log) = record { before = forms_ever log; is = sym (append-nil (forms_ever log)); numbered = tt; count = began log (ever log) }
+ever (Halted ∷ log) = record { before = forms_ever log; is = sym (append-nil (forms_ever log)); numbered = tt; count = began log (ever log) }
+ever (Submitted form ∷ log) =
+    let rest = ever log in
+    let count = rest.count in
+    record {
+      before = rest.before;
+      is = ap (λ (fs : List PacketForm). fs ++ form ∷ []) rest.is ∙ append_assoc rest.before (forms_of log) (form ∷ []);
+      numbered = numbered_more (length rest.before) (packets_of log) (forms_of log) (record { number = suc (submitted log); copies = [] }) form rest.numbered (omega (arith, count));
+      count = let size = length-append (forms_of log) (form ∷ []) in omega (arith, count, size);
+    }
+ever (Appointed gateway ∷ log) = let rest = ever log in record { before = rest.before; is = rest.is; numbered = rest.numbered; count = rest.count }
+ever (Ticked sendings ∷ log) =
+    let rest = ever log in
+    record {
+      before = rest.before;
+      is = rest.is;
+      numbered = numbered_map (while_open (packet_after_all sendings)) (open_keeps (packet_after_all sendings) (all_keep sendings)) (length rest.before) (packets_of log) (forms_of log) rest.numbered;
+      count = rest.count;
+    }
+ever (Heard port gateway saying ∷ log) =
+    let rest = ever log in
+    record { before = rest.before; is = rest.is; numbered = heard port gateway saying log (length rest.before) rest.numbered; count = rest.count }
+
+-- what a packet sends stands among all that was ever submitted
+module _ (log : List LogEntry) where
+  pub ever_at : (e : Ever log) (place : ℕ) (form : PacketForm) (number : ℕ) → number ≡ suc (length e.before + place) → slice_get (forms_of log) place ≡ Some form
+      → slice_get (forms_ever log) (number - 1) ≡ Some form
+  ever_at e place form number is there =
+      let same : number - 1 ≡ length e.before + place = omega (arith, is) in
+      ap (slice_get (forms_ever log)) same ∙ ap (λ (fs : List PacketForm). slice_get fs (length e.before + place)) e.is
+      ∙ get_behind e.before (forms_of log) place ∙ there
+
+  following_at : (f : Followed) → Contains (following log) f → (slice_get (forms_ever log) (f.state.number - 1) ≡ Some f.form) × (f.start ≡ starts_in log) × Contains (packets_of log) f.state
+  following_at f is =
+      let e = ever log in
+      let there = of_map (λ p. record { start = starts_in log; state = p.0; form = p.1 }) (zip (packets_of log) (forms_of log)) f is in
+      let found = zipped (length e.before) (packets_of log) (forms_of log) there.0 e.numbered there.1 in
+      subst (λ (g : Followed). (slice_get (forms_ever log) (g.state.number - 1) ≡ Some g.form) × (g.start ≡ starts_in log) × Contains (packets_of log) g.state) there.2
+      (ever_at e found.0 there.0.1 there.0.0.number found.1 found.2, refl, found.3)
+
+-- ---- all that a node followed
+
+-- what it sends was submitted, and it is of this start or one before
+record IsFollowing (log : List LogEntry) (f : Followed) : Type 0 where
+  form : slice_get (forms_ever log) (f.state.number - 1) ≡ Some f.form
+  start : f.start ≤ starts_in log
+
+is_following : (log : List LogEntry) (f : Followed) → Contains (following log) f → IsFollowing log f
+is_following log f is = let there = following_at log f is in let start = there.1 in record { form = there.0; start = omega (arith, start) }
+
+followed_at : (log : List LogEntry) (f : Followed) → Contains (followed_before log) f → IsFollowing log f
+followed_at [] f is = absurd (in_none f is)
+followed_at (Began ∷ log) f is =
+    let more = starts_again log in
+    ⊎_elim
+    (λ old. let there = followed_at log f old in let start = there.start in record { form = there.form; start = omega (arith, start, more) })
+    (λ new. let there = is_following log f new in let start = there.start in record { form = there.form; start = omega (arith, start, more) })
+    (Contains-append_cases (followed_before log) (following log) f is)
+followed_at (Halted ∷ log) f is =
+    let more = starts_same Halted log refl in
+    ⊎_elim
+    (λ old. let there = followed_at log f old in let start = there.start in record { form = there.form; start = omega (arith, start, more) })
+    (λ new. let there = is_following log f new in let start = there.start in record { form = there.form; start = omega (arith, start, more) })
+    (Contains-append_cases (followed_before log) (following log) f is)
+followed_at (Submitted form ∷ log) f is =
+    let more = starts_same (Submitted form) log refl in
+    let there = followed_at log f is in
+    let start = there.start in
+    record { form = get_more (forms_ever log) (form ∷ []) (f.state.number - 1) f.form there.form; start = omega (arith, start, more) }
+followed_at (Appointed gateway ∷ log) f is =
+    let more = starts_same (Appointed gateway) log refl in let there = followed_at log f is in let start = there.start in record { form = there.form; start = omega (arith, start, more) }
+followed_at (Ticked sendings ∷ log) f is =
+    let more = starts_same (Ticked sendings) log refl in let there = followed_at log f is in let start = there.start in record { form = there.form; start = omega (arith, start, more) }
+followed_at (Heard port gateway saying ∷ log) f is =
+    let more = starts_same (Heard port gateway saying) log refl in let there = followed_at log f is in let start = there.start in record { form = there.form; start = omega (arith, start, more) }
+
+pub all_followed_at : (log : List LogEntry) (f : Followed) → Contains (all_followed log) f → slice_get (forms_ever log) (f.state.number - 1) ≡ Some f.form
+all_followed_at log f is = ⊎_elim (λ old. (followed_at log f old).form) (λ new. (following_at log f new).0) (Contains-append_cases (followed_before log) (following log) f is)
+
+-- of a node that runs, what it followed before is of earlier starts
+earlier : (log : List LogEntry) (f : Followed) → runs log ≡ true → Contains (followed_before log) f → f.start < starts_in log
+earlier [] f running is = absurd (in_none f is)
+earlier (Began ∷ log) f running is =
+    let more = starts_again log in
+    ⊎_elim
+    (λ old. let start = (followed_at log f old).start in omega (arith, start, more))
+    (λ new. let start = (is_following log f new).start in omega (arith, start, more))
+    (Contains-append_cases (followed_before log) (following log) f is)
+earlier (Halted ∷ log) f running is = absurd (cc)
+earlier (Submitted form ∷ log) f running is = let more = starts_same (Submitted form) log refl in let rest = earlier log f running is in omega (arith, rest, more)
+earlier (Appointed gateway ∷ log) f running is = let more = starts_same (Appointed gateway) log refl in let rest = earlier log f running is in omega (arith, rest, more)
+earlier (Ticked sendings ∷ log) f running is = let more = starts_same (Ticked sendings) log refl in let rest = earlier log f running is in omega (arith, rest, more)
+earlier (Heard port gateway saying ∷ log) f running is = let more = starts_same (Heard port gateway saying) log refl in let rest = earlier log f running is in omega (arith, rest, more)
+
+pub present_packet : (log : List LogEntry) (packet : PacketState) → runs log ≡ true → Contains (packets_in (starts_in log) log) packet → Contains (packets_of log) packet
+present_packet log packet running is =
+    let there = of_map (λ (f : Followed). f.state) (filter (λ f. f.start == starts_in log) (all_followed log)) packet is in
+    let start = eqb-true there.0.start (starts_in log) (passed (λ (f : Followed). f.start == starts_in log) (all_followed log) there.0 there.1) in
+    subst (Contains (packets_of log)) there.2
+    (⊎_elim
+    (λ old. let before = earlier log there.0 running old in absurd (omega (arith, before, start)))
+    (λ new. (following_at log there.0 new).2)
+    (Contains-append_cases (followed_before log) (following log) there.0 (filtered (λ f. f.start == starts_in log) (all_followed log) there.0 there.1)))
+
+-- ---- what was submitted stays
+
+forms_more : (entry : LogEntry) (log : List LogEntry) → GoesOn (forms_ever log) (forms_ever (entry ∷ log))
+forms_more Began log = on (forms_ever log)
+forms_more Halted log = on (forms_ever log)
+forms_more (Submitted form) log = on_with (forms_ever log) (form ∷ [])
+forms_more (Appointed gateway) log = on (forms_ever log)
+forms_more (Ticked sendings) log = on (forms_ever log)
+forms_more (Heard port gateway saying) log = on (forms_ever log)
+
+pub forms_grow : (entries log : List LogEntry) → GoesOn (forms_ever log) (forms_ever (logged entries log))
+forms_grow [] log = on (forms_ever log)
+forms_grow (entry ∷ entries) log = on_on (forms_ever log) (forms_ever (entry ∷ log)) (forms_ever (logged entries (entry ∷ log))) (forms_more entry log) (forms_grow entries (entry ∷ log))
+
+-- the octets of packets are those of the packets of a log
+pub record Values (values : ℕ → List ℕ) (forms : List PacketForm) : Type 0 where
+  pub each : (number : ℕ) (form : PacketForm) → slice_get forms (number - 1) ≡ Some form → values number ≡ value_octets form
+
+pub values_are : (log : List LogEntry) → Values (values_of log) (forms_ever log)
+values_are log = record { each = λ number form there. ap (λ (o : Option PacketForm). option_map_or value_octets o []) there }
+
+pub values_before : (values : ℕ → List ℕ) (forms more : List PacketForm) → GoesOn forms more → Values values more → Values values forms
+values_before values forms more goes are = record {
+  each = λ number form there. are.each number form (subst (λ (fs : List PacketForm). slice_get fs (number - 1) ≡ Some form) (sym goes.is) (get_more forms goes.more (number - 1) form there));
+}

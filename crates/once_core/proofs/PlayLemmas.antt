@@ -1,0 +1,127 @@
+-- What a gateway of a world does is what happens in a scene: what the happenings at one gateway leave as it is.
+use Rattle.std.proofs.Common.{◌≡◌, ⊎_elim, ℕ, ◌==◌, Bool, true, false, if◌then◌else◌, List, [], ◌∷◌, ◌++◌, map, Contains, refl, sym, ap, ◌∙◌, append_assoc, append-nil}
+use Rattle.std.proofs.lemmas.List.Elements.{Contains-append_cases, Contains-append_left}
+use Rattle.once_core.specs.Gateway.{Gateway, Moved, followed, is_reached, still}
+use Rattle.once_core.specs.Happenings.{Adds, Happening, Letter, Post, Scene}
+use Rattle.once_core.specs.Meaning.{letter_of, speaks}
+use Rattle.once_core.specs.Scenes.{Settled, after_adding, at, happened, happened_all, is_idle, with_letter, with_post, with_settled}
+use Rattle.once_core.specs.Shown.{post_of}
+use Rattle.once_core.specs.declared.message.Message.{Message}
+use Rattle.once_core.specs.declared.message.Waiting.{Waiting}
+use Rattle.once_core.proofs.ListLemmas.{in_head, in_none, in_tail}
+use Rattle.once_core.proofs.MeaningLemmas.{GatewaySaid, Said}
+
+-- ---- a gateway of a world
+
+-- what holds of each gateway: no answer waits whose front is firm, each was said by a gateway, and none waits where it is broken
+pub record Rightly (g : Gateway) : Type 0 where
+  pub fronts : (w : Waiting) → Contains g.waiting w → is_reached g.book w ≡ false
+  pub said : (w : Waiting) → Contains g.waiting w → (w.message.to_gateway ≡ false) × GatewaySaid w.message
+  pub broken : g.book.is_broken ≡ true → g.waiting ≡ []
+
+-- ---- a scene goes on at one gateway
+
+pub record GoesOnAt (gateway : ℕ) (scene after : Scene) : Type 0 where
+  pub others : (other : ℕ) → (other == gateway) ≡ false → after.posts other ≡ scene.posts other
+  pub deeds : (node : ℕ) → after.deeds node ≡ scene.deeds node
+  pub letters : (l : Letter) → Contains scene.letters l → Contains after.letters l
+
+pub same_at : (gateway : ℕ) (scene : Scene) → GoesOnAt gateway scene scene
+same_at gateway scene = record { others = λ other e. refl; deeds = λ node. refl; letters = λ l is. is }
+
+pub goes_on_at : (gateway : ℕ) (scene middle after : Scene) → GoesOnAt gateway scene middle → GoesOnAt gateway middle after → GoesOnAt gateway scene after
+goes_on_at gateway scene middle after a b = record {
+  others = λ other e. b.others other e ∙ a.others other e;
+  deeds = λ node. b.deeds node ∙ a.deeds node;
+  letters = λ l is. b.letters l (a.letters l is);
+}
+
+other_at : (gateway : ℕ) (post : Post) (posts : ℕ → Post) (other : ℕ) → (other == gateway) ≡ false → at gateway post posts other ≡ posts other
+other_at gateway post posts other e = ap (λ (b : Bool). if b then post else posts other) e
+
+pub post_goes : (gateway : ℕ) (post : Post) (scene : Scene) → GoesOnAt gateway scene (with_post gateway post scene)
+post_goes gateway post scene = record {
+  others = λ other e. other_at gateway post scene.posts other e;
+  deeds = λ node. refl;
+  letters = λ l is. is;
+}
+
+pub settled_goes : (gateway : ℕ) (settled : Settled) (scene : Scene) → GoesOnAt gateway scene (with_settled gateway settled scene)
+settled_goes gateway settled scene = record {
+  others = λ other e. other_at gateway settled.post scene.posts other e;
+  deeds = λ node. refl;
+  letters = λ l is. Contains-append_left scene.letters settled.sends l is;
+}
+
+-- the scene with these messages more
+abbrev pub with_letters : List Letter → Scene → Scene
+with_letters letters scene = record scene { letters = scene.letters ++ letters }
+
+pub letters_go : (gateway : ℕ) (letters : List Letter) (scene : Scene) → GoesOnAt gateway scene (with_letters letters scene)
+letters_go gateway letters scene = record {
+  others = λ other e. refl;
+  deeds = λ node. refl;
+  letters = λ l is. Contains-append_left scene.letters letters l is;
+}
+
+-- idle messages join
+pub adds : (letters : List Letter) (scene : Scene) → ((l : Letter) → Contains letters l → is_idle l.says ≡ true)
+    → happened_all scene (map (λ l. Adds l) letters) ≡ with_letters letters scene
+adds [] scene idle = ap (λ (ls : List Letter). record scene { letters = ls }) (sym (append-nil scene.letters))
+adds (l ∷ letters) scene idle =
+    ap (λ (b : Bool). happened_all (after_adding b l scene) (map (λ m. Adds m) letters)) (idle l (in_head l letters))
+    ∙ adds letters (with_letter l scene) (λ m is. idle m (in_tail l m letters is))
+    ∙ ap (λ (ls : List Letter). record scene { letters = ls }) (append_assoc scene.letters (l ∷ []) letters)
+
+pub happened_more : (scene : Scene) (first second : List Happening) → happened_all scene (first ++ second) ≡ happened_all (happened_all scene first) second
+happened_more scene [] second = refl
+happened_more scene (next ∷ first) second = happened_more (happened scene next) first second
+
+-- ---- a move is played
+
+-- some happenings make a gateway what it is after a move, and what it sends is among the messages
+pub record Plays (gateway : ℕ) (scene : Scene) (moved : Moved) : Type 0 where
+  pub later : List Happening
+  pub after : Scene
+  pub is : happened_all scene later ≡ after
+  pub goes : GoesOnAt gateway scene after
+  pub post : after.posts gateway ≡ post_of moved.gateway
+  pub sends : (m : Message) → Contains moved.sends m → speaks m ≡ true → Contains after.letters (letter_of m)
+  pub said : (m : Message) → Contains moved.sends m → Said m
+  pub rightly : Rightly moved.gateway
+
+-- the gateway stands in the scene as it is
+pub record Stands (gateway : ℕ) (scene : Scene) (g : Gateway) : Type 0 where
+  pub post : scene.posts gateway ≡ post_of g
+  pub rightly : Rightly g
+
+pub stands_after : (gateway : ℕ) (scene : Scene) (moved : Moved) (plays : Plays gateway scene moved) → Stands gateway plays.after moved.gateway
+stands_after gateway scene moved plays = record { post = plays.post; rightly = plays.rightly }
+
+pub still_plays : (gateway : ℕ) (scene : Scene) (g : Gateway) → Stands gateway scene g → Plays gateway scene (still g)
+still_plays gateway scene g stands = record {
+  later = [];
+  after = scene;
+  is = refl;
+  goes = same_at gateway scene;
+  post = stands.post;
+  sends = λ m is speaking. absurd (in_none m is);
+  said = λ m is. absurd (in_none m is);
+  rightly = stands.rightly;
+}
+
+pub followed_plays : (gateway : ℕ) (scene : Scene) (first : Moved) (next : Gateway → Moved) (a : Plays gateway scene first)
+    → Plays gateway a.after (next first.gateway) → Plays gateway scene (followed first next)
+followed_plays gateway scene first next a b = record {
+  later = a.later ++ b.later;
+  after = b.after;
+  is = happened_more scene a.later b.later ∙ ap (λ (s : Scene). happened_all s b.later) a.is ∙ b.is;
+  goes = goes_on_at gateway scene a.after b.after a.goes b.goes;
+  post = b.post;
+  sends = λ m is speaking. ⊎_elim
+      (λ old. b.goes.letters (letter_of m) (a.sends m old speaking))
+      (λ new. b.sends m new speaking)
+      (Contains-append_cases first.sends (next first.gateway).sends m is);
+  said = λ m is. ⊎_elim (a.said m) (b.said m) (Contains-append_cases first.sends (next first.gateway).sends m is);
+  rightly = b.rightly;
+}

@@ -1,0 +1,160 @@
+-- Each world is made by happenings, and so it files each record once.
+use Rattle.std.proofs.Common.{◌≡◌, ⊎_elim, ℕ, ◌-◌, ◌≤◌, ◌==◌, Bool, true, false, cond, List, [], ◌∷◌, length, filter, Option, Some, None, Contains, slice_get, refl, sym, ap, subst, ◌∙◌, arith}
+use Rattle.std.specs.Option.{option_map_or}
+use Rattle.std.proofs.lemmas.Bool.{and_parts, eq-eqb}
+use Rattle.std.proofs.lemmas.List.Elements.{All-contains}
+use Rattle.gtpp_message.specs.Packet.{PacketForm}
+use Rattle.gw_base.specs.declared.history.HistoryEntry.{HistoryEntry}
+use Rattle.gateway_book.specs.Once.{same_key}
+use Rattle.gateway_book.specs.declared.filing.FiledRecord.{FiledRecord}
+use Rattle.node_core.specs.Drafts.{value_octets}
+use Rattle.node_core.specs.Log.{LogEntry}
+use Rattle.node_core.specs.Packets.{PacketState}
+use Rattle.node_core.specs.Reached.{log_of}
+use Rattle.node_core.specs.declared.copy.PacketCopy.{PacketCopy}
+use Rattle.once_core.specs.Addresses.{node_ip, setup_of}
+use Rattle.once_core.specs.Beginning.{world_of}
+use Rattle.once_core.specs.Deeds.{deeds_of}
+use Rattle.once_core.specs.Epochs.{key_in}
+use Rattle.once_core.specs.Followed.{Followed, all_followed, packets_in}
+use Rattle.once_core.specs.Following.{Follows}
+use Rattle.once_core.specs.Gateway.{Gateway, Rules}
+use Rattle.once_core.specs.Happenings.{Deed, Post, Scene}
+use Rattle.once_core.specs.Once.{IsFiledFor, IsFollowed, Once, firm_in}
+use Rattle.once_core.specs.OncePlaced.{IsFiledUnder, IsOnce, records_within}
+use Rattle.once_core.specs.Scenes.{scene_after}
+use Rattle.once_core.specs.Shown.{IsMade, Shows, forms_ever, post_of, values_of}
+use Rattle.once_core.specs.Turn.{Turn, turn, turns}
+use Rattle.once_core.specs.World.{World, log_at}
+use Rattle.once_core.proofs.FirstPlays.{first_made}
+use Rattle.once_core.proofs.FormLemmas.{GoodForm, value_octets_are}
+use Rattle.once_core.proofs.ListLemmas.{get_contains, in_cons, in_head, in_none, in_tail}
+use Rattle.once_core.proofs.LogLemmas.{as_many}
+use Rattle.once_core.proofs.NumberLemmas.{Values, all_followed_at, values_are, values_before}
+use Rattle.once_core.proofs.OnceLemmas.{each_is_placed_once}
+use Rattle.once_core.proofs.SubmittedLemmas.{turns_forms}
+use Rattle.once_core.proofs.TurnPlays.{Laws, turn_made}
+use Rattle.once_core.proofs.WaitingLemmas.{in_map}
+use Rattle.once_core.proofs.WorldPlays.{Made, log_is}
+
+-- ---- turns
+
+turns_made : Laws → (rules : Rules) (values : ℕ → ℕ → List ℕ) (w : World) (later : List Turn) → Made values w
+    → ((place : ℕ) → Values (values place) (forms_ever (log_at (turns rules w later) place))) → Made values (turns rules w later)
+turns_made laws rules values w [] made are = made
+turns_made laws rules values w (t ∷ later) made are =
+    turns_made laws rules values (turn rules w t) later
+    (turn_made laws rules values w made
+    (λ place. values_before (values place) (forms_ever (log_at w place)) (forms_ever (log_at (turns rules (turn rules w t) later) place)) (turns_forms rules w (t ∷ later) place) (are place)) t)
+    are
+
+-- the octets of the packets of a world
+abbrev values_in : World → ℕ → ℕ → List ℕ
+values_in w place = values_of (log_at w place)
+
+pub world_made : Laws → (rules : Rules) (gateways nodes : ℕ) (all : List Turn) → 1 ≤ gateways
+    → Made (values_in (turns rules (world_of rules gateways nodes) all)) (turns rules (world_of rules gateways nodes) all)
+world_made laws rules gateways nodes all some =
+    turns_made laws rules (values_in (turns rules (world_of rules gateways nodes) all)) (world_of rules gateways nodes) all
+    (first_made (values_in (turns rules (world_of rules gateways nodes) all)) rules gateways nodes some)
+    (λ place. values_are (log_at (turns rules (world_of rules gateways nodes) all) place))
+
+pub is_made : Laws → (rules : Rules) (gateways nodes : ℕ) (all : List Turn) → 1 ≤ gateways → IsMade (turns rules (world_of rules gateways nodes) all)
+is_made laws rules gateways nodes all some =
+    let w = turns rules (world_of rules gateways nodes) all in
+    let made = world_made laws rules gateways nodes all some in
+    record { happenings = made.happenings; shows = subst (Shows (values_in w) w) (sym made.is) made.shows }
+
+-- ---- once
+
+kept_in : {A : Type 0} (p : A → Bool) (xs : List A) (x : A) → Contains xs x → p x ≡ true → Contains (filter p xs) x
+kept_in p [] x is e = absurd (in_none x is)
+kept_in {A} p (y ∷ xs) x is e = ⊎_elim
+    (λ same. subst (λ (b : Bool). Contains (cond b (y ∷ filter p xs) (filter p xs)) x) (sym (ap p same ∙ e)) (subst (Contains (y ∷ filter p xs)) same (in_head y (filter p xs))))
+    (λ later. behind (p y) (kept_in p xs x later e))
+    (in_cons y x xs is)
+  where
+    behind : (b : Bool) → Contains (filter p xs) x → Contains (cond b (y ∷ filter p xs) (filter p xs)) x
+    behind true there = in_tail y x (filter p xs) there
+    behind false there = there
+
+firm_of : (o : Option Gateway) → (option_map_or post_of o (record { firm = []; rest = []; waiting = [] })).firm ≡ option_map_or (λ (g : Gateway). g.book.firm) o []
+firm_of None = refl
+firm_of (Some g) = refl
+
+module _ (laws : Laws) (w : World) (made : Made (values_in w) w) where
+  -- the firm parts are those of the scene
+  firm_at : (gateway : ℕ) → (made.scene.posts gateway).firm ≡ firm_in w gateway
+  firm_at gateway = ap (λ (p : Post). p.firm) (made.shows.posts gateway) ∙ firm_of (slice_get w.gateways gateway)
+
+  firm_is : ◌≡◌ {A = ℕ → List HistoryEntry} (λ gateway. (made.scene.posts gateway).firm) (firm_in w)
+  firm_is = λ i gateway. firm_at gateway i
+
+  -- what the node did in each of its starts follows the procedure
+  it_follows : (node : ℕ) (log : List LogEntry) → slice_get w.nodes node ≡ Some log → (start : ℕ)
+      → Follows (made.scene.deeds (node_ip node)) start (values_in w node) (packets_in start (log_at w node))
+  it_follows node log there start =
+      let rightly = made.sound.nodes node log there in
+      let same : log_at w node ≡ log_of (setup_of (length w.gateways) node) rightly.calls = log_is (values_in w) w made node log there ∙ rightly.is in
+      let some = made.sound.some in
+      let many = as_many 0 (length w.gateways) in
+      subst (λ (ds : List Deed). Follows ds start (values_in w node) (packets_in start (log_at w node))) (sym (made.shows.deeds node))
+      (subst (λ (l : List LogEntry). Follows (deeds_of (node_ip node) (values_in w node) l) start (values_in w node) (packets_in start l)) (sym same)
+      (laws.follow (setup_of (length w.gateways) node) rightly.calls (node_ip node) start (values_in w node) (omega (arith, some, many))))
+
+  module _ (node : ℕ) (packet : Followed) (is : IsFollowed w node packet) where
+    -- the packet was submitted
+    form_there : slice_get (forms_ever (log_at w node)) (packet.state.number - 1) ≡ Some packet.form
+    form_there = all_followed_at (log_at w node) packet is
+
+    value_is : values_of (log_at w node) packet.state.number ≡ value_octets packet.form
+    value_is = (values_are (log_at w node)).each packet.state.number packet.form form_there
+
+    in_start : Contains (packets_in packet.start (log_at w node)) packet.state
+    in_start = in_map (λ (p : Followed). p.state) (filter (λ p. p.start == packet.start) (all_followed (log_at w node))) packet
+        (kept_in (λ (p : Followed). p.start == packet.start) (all_followed (log_at w node)) packet is (eq-eqb packet.start packet.start refl))
+
+    some_log : (o : Option (List LogEntry)) → slice_get w.nodes node ≡ o → (log : List LogEntry) × (slice_get w.nodes node ≡ Some log)
+    some_log (Some log) e = (log, e)
+    some_log None e = absurd (in_none packet (subst (λ (l : List LogEntry). Contains (all_followed l) packet) (ap (λ (o : Option (List LogEntry)). option_map_or (λ l. l) o []) e) is))
+
+    pub placed : IsOnce (firm_in w) (node_ip node) packet.start (value_octets packet.form) packet.state
+    placed =
+        let there = some_log (slice_get w.nodes node) refl in
+        let follows = it_follows node there.0 there.1 packet.start in
+        let each = each_is_placed_once made.happenings (node_ip node) packet.start (values_in w node) (packets_in packet.start (log_at w node))
+        (subst (λ (s : Scene). Follows (s.deeds (node_ip node)) packet.start (values_in w node) (packets_in packet.start (log_at w node))) (sym made.is) follows) in
+        let one = All-contains (λ (p : PacketState). IsOnce (λ gateway. ((scene_after made.happenings).posts gateway).firm) (node_ip node) packet.start (values_in w node p.number) p)
+        (packets_in packet.start (log_at w node)) packet.state each in_start in
+        subst (λ (octets : List ℕ). IsOnce (firm_in w) (node_ip node) packet.start octets packet.state) value_is
+        (subst (λ (h : ℕ → List HistoryEntry). IsOnce h (node_ip node) packet.start (values_in w node packet.state.number) packet.state) firm_is
+        (subst (λ (s : Scene). IsOnce (λ gateway. (s.posts gateway).firm) (node_ip node) packet.start (values_in w node packet.state.number) packet.state) made.is one))
+
+    good : GoodForm packet.form
+    good =
+        let there = some_log (slice_get w.nodes node) refl in
+        let rightly = made.sound.nodes node there.0 there.1 in
+        rightly.forms packet.form
+        (subst (λ (l : List LogEntry). Contains (forms_ever l) packet.form) (log_is (values_in w) w made node there.0 there.1)
+        (get_contains (forms_ever (log_at w node)) (packet.state.number - 1) packet.form form_there))
+
+    records_are : records_within (value_octets packet.form) ≡ packet.form.records
+    records_are =
+        ap records_within (value_octets_are packet.form good.some)
+        ∙ ap (λ (o : Option PacketForm). option_map_or (λ form. form.records) o []) good.read
+
+    pub octets_placed : (copy : PacketCopy) (filing : FiledRecord) → IsFiledFor (firm_in w copy.gateway) node packet copy filing
+        → slice_get packet.form.records filing.index ≡ Some filing.octets
+    octets_placed copy filing filed_for =
+        let key = and_parts (same_key filing.key (key_in (node_ip node) copy.number filed_for.epoch)) (filing.index == filing.index) filed_for.key_is in
+        let under : IsFiledUnder (firm_in w copy.gateway) (node_ip node) packet.start copy.number filing =
+        record { epoch = filed_for.epoch; begun = filed_for.begun; kept = filed_for.kept; key_is = key.0 } in
+        let content = All-contains (λ (c : PacketCopy). (f : FiledRecord) → IsFiledUnder (firm_in w c.gateway) (node_ip node) packet.start c.number f
+        → slice_get (records_within (value_octets packet.form)) f.index ≡ Some f.octets) packet.state.copies copy placed.content filed_for.copy_is in
+        ap (λ (rs : List (List ℕ)). slice_get rs filing.index) (sym records_are) ∙ content filing under
+
+  pub once : Once w
+  once = record { placed = placed; octets = λ node packet copy filing is filed_for. octets_placed node packet is copy filing filed_for }
+
+pub each_world_is_once : Laws → (rules : Rules) (gateways nodes : ℕ) (all : List Turn) → 1 ≤ gateways → Once (turns rules (world_of rules gateways nodes) all)
+each_world_is_once laws rules gateways nodes all some = once laws (turns rules (world_of rules gateways nodes) all) (world_made laws rules gateways nodes all some)
