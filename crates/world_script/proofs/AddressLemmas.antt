@@ -1,5 +1,5 @@
 -- Lemmas on addresses, offsets and modes: what a word says is printed as a word that says it, and that is as long.
-use Rattle.std.proofs.Common.{◌≡◌, ℕ, zero, suc, ◌+◌, ◌-◌, ◌*◌, ◌/◌, ◌%◌, ◌<◌, ◌≤◌, Bool, true, false, ◌&&◌, ◌==◌, nat_le, if◌then◌else◌, List, [], ◌∷◌, ◌++◌, length, Option, Some, None, option_map, option_and_then, refl, ap, sym, ◌∙◌, subst, arith, append_assoc, le-leb, ℤ, pos, negsuc, neg_ℤ, codes}
+use Rattle.std.proofs.Common.{◌≡◌, ℕ, zero, suc, ◌+◌, ◌-◌, ◌*◌, ◌/◌, ◌%◌, ◌<◌, ◌≤◌, Bool, true, false, ◌&&◌, ◌==◌, nat_le, if◌then◌else◌, List, [], ◌∷◌, ◌++◌, length, Option, Some, None, option_map, option_and_then, refl, ap, sym, ◌∙◌, subst, arith, append_assoc, le-leb, ℤ, pos, neg_ℤ, codes}
 use Rattle.std.proofs.lemmas.Bool.{eqb-true, leb-true}
 use Rattle.std.proofs.lemmas.Slice.Eq.{bytes_eq-Decides}
 use Rattle.std.specs.Char.{is_ascii_digit}
@@ -107,7 +107,7 @@ hours_read : (sign minutes : ℕ) → minutes ≤ 959 → offset_of (sign ∷ ho
 hours_read sign minutes h =
     let whole : minutes / 60 * 60 + minutes % 60 ≡ minutes = omega arith in
     (λ i. option_and_then (λ hours. option_and_then (λ minutes. signed sign (hours * 60 + minutes)) (digits_read 59 (minutes % 60) (omega arith) (omega arith) i))
-        (digits_read 15 (minutes / 60) (omega (arith, h)) (omega arith) i))
+    (digits_read 15 (minutes / 60) (omega (arith, h)) (omega arith) i))
     ∙ ap (signed sign) whole
 
 digits_within : (most tens ones n : ℕ) → two_digits most tens ones ≡ Some n → n ≤ most

@@ -1,27 +1,22 @@
 -- Lemmas on lines of every form: what a line says is printed as words that say it, and that are no longer.
-use Rattle.std.proofs.Common.{◌≡◌, ℕ, suc, ◌+◌, ◌^◌, ◌<◌, ◌≤◌, Bool, true, false, if◌then◌else◌, List, [], ◌∷◌, ◌++◌, length, map, Option, Some, None, Result, Ok, Err, refl, ap, sym, ◌∙◌, subst, arith, append_assoc, codes, ℤ}
-use Rattle.std.proofs.lemmas.Grind.{flat_map-append}
+use Rattle.std.proofs.Common.{◌≡◌, ℕ, ◌^◌, ◌<◌, Bool, true, false, if◌then◌else◌, List, [], ◌∷◌, ◌++◌, map, Some, None, Result, Ok, Err, refl, ap, sym, ◌∙◌, arith, codes}
 use Rattle.std.specs.Fmt.{decimal}
-use Rattle.std.specs.Option.{ok_or}
 use Rattle.std.specs.Str.{bytes_eq}
-use Rattle.gw_base.specs.declared.address.Addr.{Addr}
 use Rattle.hex.specs.Hex.{encode_upper}
 use Rattle.route_filter.specs.Words.{number_up_to, octets_of}
-use Rattle.world_script.specs.Printing.{address_text, line_text, mode_text, offset_text, two_numbers, version_text, words_text}
-use Rattle.world_script.specs.Saying.{arm_said, at_said, call_of, datagram_said, fail_said, in_said, last_moment, limit_said, offset_said, one_between, one_gateway, one_number, packet_said, read_or, read_then, redirect_said, said_as, said_by, submit_said, word_said}
-use Rattle.world_script.specs.Values.{address_of, mode_of, number_between, number_of, offset_of, records_of, version_of}
+use Rattle.world_script.specs.Printing.{line_text, mode_text, version_text, words_text}
+use Rattle.world_script.specs.Saying.{arm_said, call_of, fail_said, in_said, packet_said, read_or, read_then, redirect_said, said_by, submit_said}
+use Rattle.world_script.specs.Values.{address_of, mode_of, number_between, number_of, records_of, version_of}
 use Rattle.world_script.specs.declared.fault.InputKind.{InputKind}
 use Rattle.world_script.specs.declared.fault.InputKind.TheVariants as kind
 use Rattle.world_script.specs.declared.keyword.Keyword.{Keyword}
 use Rattle.world_script.specs.declared.keyword.Keyword.TheVariants as keyword
 use Rattle.world_script.specs.declared.kind.ScriptKind.{ScriptKind}
-use Rattle.world_script.specs.declared.kind.ScriptKind.TheVariants as script
 use Rattle.world_script.specs.declared.line.Line.{Line}
 use Rattle.world_script.specs.declared.line.Line.TheVariants as line
-use Rattle.world_script.specs.declared.mode.Mode.{Mode}
-use Rattle.world_script.proofs.AddressLemmas.{address_printed, mode_printed, offset_printed, same_bytes}
+use Rattle.world_script.proofs.AddressLemmas.{address_printed, mode_printed}
 use Rattle.world_script.proofs.OctetLemmas.{datagram_printed, records_printed, version_printed}
-use Rattle.world_script.proofs.SpokenLemmas.{IsSpoken, any_number, at_spoken, close_spoken, limit_spoken, mark_spoken, more_words, name, offset_spoken, one_word, or_read, ranged, same, then_read}
+use Rattle.world_script.proofs.SpokenLemmas.{IsSpoken, any_number, at_spoken, close_spoken, limit_spoken, mark_spoken, more_words, offset_spoken, one_word, or_read, ranged, same, then_read}
 use Rattle.world_script.proofs.ValueLemmas.{any_printed, between_printed, number_printed}
 use Rattle.world_script.proofs.WordLemmas.{AreWords, span}
 
@@ -57,7 +52,7 @@ arm_of_mode of gateway call word said are h again =
     let g = mode_printed word r.0 r.1 in
     same of keyword.Arm (gateway ∷ call ∷ word ∷ []) said are
     (ap (λ (l : Line). line_text of l) (sym r.2) ∙ more_words (codes "arm") (decimal p.0 ∷ decimal q.0 ∷ []) (mode_text r.0 ∷ [])
-        ∙ (λ i. codes "arm" ++ words_text (sym e i ∷ sym f i ∷ sym g i ∷ []))) again
+    ∙ (λ i. codes "arm" ++ words_text (sym e i ∷ sym f i ∷ sym g i ∷ []))) again
 
 unless_rot : (rot : Bool) (r : Result Line InputKind) (said : Line) →
     (if rot then Err kind.NotBuilt else r) ≡ Ok said → r ≡ Ok said
@@ -93,7 +88,7 @@ redirect_spoken of (gateway ∷ cause ∷ to ∷ []) said are h =
     let g = any_printed to r.0 r.1 in
     same of keyword.Redirect (gateway ∷ cause ∷ to ∷ []) said are
     (ap (λ (l : Line). line_text of l) (sym r.2) ∙ more_words (codes "redirect") (decimal p.0 ∷ decimal q.0 ∷ []) (decimal r.0 ∷ [])
-        ∙ (λ i. codes "redirect" ++ words_text (sym e i ∷ sym f i ∷ sym g i ∷ []))) (λ rules content. h)
+    ∙ (λ i. codes "redirect" ++ words_text (sym e i ∷ sym f i ∷ sym g i ∷ []))) (λ rules content. h)
 redirect_spoken of (a ∷ b ∷ c ∷ d ∷ words) said are h = let no : ⊥ = cc in absurd no
 
 -- Datagrams and packets.
@@ -140,7 +135,7 @@ submit_spoken of (node ∷ format ∷ version ∷ word ∷ words) said are h =
     let f = (number_printed 255 format q.0 (omega arith) q.1).1 in
     let all : packet_said node format (version_text r.0) (map encode_upper s.0) ≡ Ok said =
     (λ i. read_then kind.Number (p.1 i) (λ node. read_then kind.Number (q.1 i) (λ format. read_then kind.Hex (v.again i) (λ version.
-        read_or kind.Hex (line.Submit node format version) (rs.again i))))) ∙ ap Ok s.2 in
+    read_or kind.Hex (line.Submit node format version) (rs.again i))))) ∙ ap Ok s.2 in
     record {
       spoken = node ∷ format ∷ version_text r.0 ∷ map encode_upper s.0;
       text = ap (λ (l : Line). line_text of l) (sym s.2)

@@ -1,14 +1,13 @@
 -- Lemmas on one line of a script: its text is no longer than the line that said it, and says it again.
-use Rattle.std.proofs.Common.{◌≡◌, ℕ, ◌+◌, ◌<◌, ◌≤◌, Bool, true, false, ◌&&◌, ◌==◌, if◌then◌else◌, List, [], ◌∷◌, ◌++◌, length, count_by, Option, Some, None, Result, Ok, Err, refl, ap, sym, ◌∙◌, subst, arith, length-append, codes}
+use Rattle.std.proofs.Common.{◌≡◌, ℕ, ◌+◌, ◌≤◌, Bool, true, false, ◌&&◌, if◌then◌else◌, List, [], ◌∷◌, ◌++◌, length, count_by, Option, Some, None, Result, Ok, Err, refl, ap, sym, ◌∙◌, subst, arith, length-append, codes}
 use Rattle.std.specs.List.{list_any}
 use Rattle.std.specs.Option.{option_or}
 use Rattle.std.specs.Str.{bytes_eq}
-use Rattle.route_filter.specs.Rules.{rule_of}
 use Rattle.route_filter.specs.Words.{words_of}
 use Rattle.world_script.specs.Forms.{feed_form, form_in, gateway_form, is_later_in, is_setting, keyword_of, known, network_form, shared_form}
 use Rattle.world_script.specs.Printing.{line_text, words_text}
-use Rattle.world_script.specs.Saying.{rule_said, ruled, said_by}
-use Rattle.world_script.specs.Script.{contented, formed, is_action_line, is_end_line, is_rule_line, keyed, progress_of, worded}
+use Rattle.world_script.specs.Saying.{rule_said, said_by}
+use Rattle.world_script.specs.Script.{contented, is_action_line, is_end_line, is_rule_line, keyed, progress_of, worded}
 use Rattle.world_script.specs.Text.{is_blank, is_printable}
 use Rattle.world_script.specs.declared.fault.InputKind.{InputKind}
 use Rattle.world_script.specs.declared.fault.InputKind.TheVariants as kind
@@ -18,10 +17,9 @@ use Rattle.world_script.specs.declared.kind.ScriptKind.{ScriptKind}
 use Rattle.world_script.specs.declared.kind.ScriptKind.TheVariants as script
 use Rattle.world_script.specs.declared.line.Line.{Line}
 use Rattle.world_script.specs.declared.line.Line.TheVariants as line
-use Rattle.world_script.specs.declared.progress.Progress.{Progress}
 use Rattle.world_script.proofs.AddressLemmas.{same_bytes}
 use Rattle.world_script.proofs.FormLemmas.{is_rule_form, spoken}
-use Rattle.world_script.proofs.SpokenLemmas.{IsSpoken, name}
+use Rattle.world_script.proofs.SpokenLemmas.{name}
 use Rattle.world_script.proofs.ValueLemmas.{some_same}
 use Rattle.world_script.proofs.WordLemmas.{AreWords, IsWord, are_words, joined_printable, length_words, span, words_of_joined, words_span}
 

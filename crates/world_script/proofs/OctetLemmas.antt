@@ -1,5 +1,5 @@
 -- Lemmas on octets in hexadecimal: octets that words say are printed as words that say them, and that are no longer.
-use Rattle.std.proofs.Common.{◌≡◌, ℕ, zero, suc, ◌+◌, ◌*◌, ◌/◌, ◌%◌, ◌<◌, ◌≤◌, List, [], ◌∷◌, ◌++◌, length, slice_index, map, Option, Some, None, option_and_then, Result, Ok, Err, refl, ap, sym, ◌∙◌, subst, arith, append-nil, length-append}
+use Rattle.std.proofs.Common.{◌≡◌, ℕ, zero, suc, ◌+◌, ◌*◌, ◌/◌, ◌%◌, ◌<◌, ◌≤◌, List, [], ◌∷◌, ◌++◌, length, map, Option, Some, option_and_then, Result, Ok, Err, refl, ap, sym, ◌∙◌, subst, arith, append-nil, length-append}
 use Rattle.hex.proofs.HexLemmas.{IsDigits-upper_digits, decode_of-encode_upper, decode_of-ok, length-encode_with}
 use Rattle.hex.specs.Hex.{IsBytes, decode_of, encode_upper, encode_with, hex_digit_value, upper_digits}
 use Rattle.hex.specs.declared.error.FromHexError.{FromHexError}
@@ -58,7 +58,7 @@ one_more word octets words records some h later =
       are = (hex_word octets (omega (arith, some, said.0)) said.1, later.are);
       long = omega (arith, said.0, printed_length octets, later.long);
       again = ap (λ (o : Option (List ℕ)). option_and_then (λ octets. option_and_then (λ records. Some (octets ∷ records)) (records_of (map encode_upper records))) o)
-      (printed_octets octets said.1)
+          (printed_octets octets said.1)
           ∙ ap (λ (o : Option (List (List ℕ))). option_and_then (λ records. Some (octets ∷ records)) o) later.again;
     }
 

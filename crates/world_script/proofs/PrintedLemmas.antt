@@ -1,11 +1,11 @@
 -- Lemmas on the text of a script: it reads as that script.
-use Rattle.std.proofs.Common.{◌≡◌, ℕ, zero, suc, ◌+◌, ◌-◌, ◌<◌, ◌≤◌, Bool, true, false, ◌==◌, nat_le, nat_lt, if◌then◌else◌, List, [], ◌∷◌, ◌++◌, length, take, slice_get, Result, Ok, Err, refl, ap, sym, ◌∙◌, subst, arith, append_assoc, append-nil, length-append, inl, inr, ⊎_elim}
+use Rattle.std.proofs.Common.{◌≡◌, ℕ, zero, suc, ◌+◌, ◌-◌, ◌<◌, ◌≤◌, Bool, true, false, ◌==◌, nat_le, nat_lt, if◌then◌else◌, List, [], ◌∷◌, ◌++◌, length, take, slice_get, Result, Ok, Err, refl, ap, sym, ◌∙◌, subst, arith, append_assoc, append-nil, length-append, inl, inr}
 use Rattle.std.proofs.lemmas.Bool.{cases_lt, ltb-false}
 use Rattle.std.specs.List.{list_any}
 use Rattle.std.specs.Option.{option_map_or}
 use Rattle.world_script.specs.Printing.{ReadsBack, fitted, line_text, lines_text}
-use Rattle.world_script.specs.Script.{Refusal, contented, ended_by, is_end_line, most_text, onward, progress_of, reading_of, script_after, script_in}
-use Rattle.world_script.specs.Text.{RawLine, ends_with, is_printable, line_content, line_size, onto_line, raw_lines, without_return}
+use Rattle.world_script.specs.Script.{Refusal, contented, is_end_line, most_text, onward, progress_of, reading_of, script_after, script_in}
+use Rattle.world_script.specs.Text.{RawLine, ends_with, is_printable, line_content, line_size, onto_line, raw_lines}
 use Rattle.world_script.specs.declared.fault.InputKind.{InputKind}
 use Rattle.world_script.specs.declared.fault.InputKind.TheVariants.{NoEnd, TooLong}
 use Rattle.world_script.specs.declared.kind.ScriptKind.{ScriptKind}
@@ -94,7 +94,7 @@ read_again : (of : ScriptKind) (ended : Bool) (size : ℕ) (before : List Line) 
     reading_of (progress_of of size before) (raw_of of ended said) ≡ Ok said
 read_again of ended size before said is room =
     (λ i. if not_long (size + line_size (raw_of of ended said)) room i then Err TooLong
-        else contented (progress_of of size before) (plain_content of ended said is.plain i))
+    else contented (progress_of of size before) (plain_content of ended said is.plain i))
     ∙ is.again size
 
 abbrev later_of : ScriptKind → ℕ → List Line → List RawLine → Line → Result (List Line) Refusal
@@ -183,7 +183,7 @@ overlong of lines are ends shows long =
     let cut : fitted (text_of of true lines) ≡ take (length (text_of of true lines) - 1) (text_of of true lines) = rw le refl in
     ap (script_in of)
     (ap fitted (sym (whole_text of lines)) ∙ cut ∙ ap (λ (t : List ℕ). take (length (text_of of true lines) - 1) t) joined
-        ∙ take_front front (length (text_of of true lines) - 1) (omega (arith, long, as_long)))
+    ∙ take_front front (length (text_of of true lines) - 1) (omega (arith, long, as_long)))
     ∙ read_whole of false lines are ends (λ e. shows) (omega (arith, as_long))
 
 -- Lines that were read.
@@ -318,7 +318,7 @@ reading_case : (of : ScriptKind) (size : ℕ) (before : List Line) (raw : RawLin
     nat_lt most_text (size + line_size raw) ≡ long →
     contented (progress_of of size before) (line_content raw) ≡ reading → WellEnded (raw ∷ raws) →
     ((said : Line) → size + line_size raw ≤ most_text → script_after of (size + line_size raw) (before ++ said ∷ []) raws ≡ Ok lines →
-        AreRead of (size + line_size raw) (before ++ said ∷ []) raws lines) →
+    AreRead of (size + line_size raw) (before ++ said ∷ []) raws lines) →
     onward (length before + 1) (if long then Err TooLong else reading)
     (λ said. script_after of (size + line_size raw) (before ++ said ∷ []) raws) ≡ Ok lines →
     AreRead of size before (raw ∷ raws) lines

@@ -1,5 +1,5 @@
 -- Lemmas on samples: a sample is in the grammar.
-use Rattle.std.proofs.Common.{◌≡◌, ℕ, zero, suc, ◌+◌, ◌-◌, ◌*◌, ◌/◌, ◌%◌, ◌^◌, ◌<◌, ◌≤◌, min, not, ◌&&◌, ◌||◌, nat_lt, Bool, true, false, if◌then◌else◌, List, [], ◌∷◌, ◌++◌, length, map, filter, Option, Some, None, option_and_then, Result, Ok, Err, refl, ap, sym, ◌∙◌, subst, arith, append_assoc, length-append, codes, add-mul, bit_xor, mul_assoc, suc-mul, mod-lt}
+use Rattle.std.proofs.Common.{◌≡◌, ℕ, zero, suc, ◌+◌, ◌-◌, ◌*◌, ◌/◌, ◌%◌, ◌^◌, ◌<◌, ◌≤◌, min, ◌||◌, nat_lt, Bool, true, false, if◌then◌else◌, List, [], ◌∷◌, ◌++◌, length, map, filter, Option, Some, None, option_and_then, Ok, refl, ap, sym, ◌∙◌, subst, arith, length-append, codes, add-mul, bit_xor, mul_assoc, suc-mul, mod-lt}
 use Rattle.std.proofs.Math.Nat.{div-le_self, mul-div-le}
 use Rattle.std.proofs.lemmas.Fmt.{length-decimal-le}
 use Rattle.std.proofs.lemmas.Grind.{flat_map-append}
@@ -7,34 +7,29 @@ use Rattle.std.proofs.lemmas.List.Folds.{list_any-append}
 use Rattle.std.proofs.lemmas.List.FromFn.{length-range_with_len}
 use Rattle.std.proofs.lemmas.Nat.{or_lt}
 use Rattle.std.specs.Fmt.{decimal}
-use Rattle.std.specs.List.{flat_map, list_any, range_with_len}
+use Rattle.std.specs.List.{list_any, range_with_len}
 use Rattle.hex.specs.Hex.{IsBytes, encode_upper}
 use Rattle.rand_pcg.specs.Lcg.{Lcg}
 use Rattle.rand_pcg.specs.Pcg.{output_xsh_rr}
-use Rattle.route_filter.specs.Words.{number_up_to}
-use Rattle.world_script.specs.Forms.{is_setting, keyword_of}
 use Rattle.world_script.specs.Printing.{ReadsBack, line_text, lines_text, version_text, words_text}
 use Rattle.world_script.specs.Sample.{after_words, block, block_time, blocks, calm_round, commits, first_moment, numbers, opening, packets_from, packets_of, record_octets, runs, sample_of, seeded, stopped_during, stormy, submitted, ticks, times, wild_round, wild_rounds, word, words_of_block, writes}
-use Rattle.world_script.specs.Saying.{one_between, one_number, packet_said, read_or, read_then, said_as, said_by}
-use Rattle.world_script.specs.Script.{contented, is_action_line, is_end_line, most_text, progress_of}
-use Rattle.world_script.specs.Text.{is_printable}
-use Rattle.world_script.specs.Values.{number_of, records_of, two_octets, version_of}
+use Rattle.world_script.specs.Saying.{packet_said, read_or, read_then}
+use Rattle.world_script.specs.Script.{is_end_line, most_text}
+use Rattle.world_script.specs.Values.{records_of, two_octets, version_of}
 use Rattle.world_script.specs.declared.extent.Extent.{Extent}
 use Rattle.world_script.specs.declared.fault.InputKind.TheVariants as kind
-use Rattle.world_script.specs.declared.keyword.Keyword.{Keyword}
 use Rattle.world_script.specs.declared.keyword.Keyword.TheVariants as keyword
 use Rattle.world_script.specs.declared.kind.ScriptKind.TheVariants.{Replay}
 use Rattle.world_script.specs.declared.line.Line.{Line}
 use Rattle.world_script.specs.declared.line.Line.TheVariants as line
-use Rattle.world_script.proofs.LineLemmas.{IsSayable, again_by_words, names_show}
 use Rattle.world_script.proofs.OctetLemmas.{hex_word, printed_length, printed_octets}
 use Rattle.world_script.proofs.PrintedLemmas.{AreSayable, fitting}
-use Rattle.world_script.proofs.SampleLines.{AreDone, IsPlain, Part, all_pass, at_part, commit_part, done_then_end, flow_part, mark_part, mix_part, one, open_part, part_each, part_flat, part_line, part_most, part_then, plain_sayable, stop_part, tick_part, write_part}
-use Rattle.world_script.proofs.SampleTaken.{Each, each_by, each_within}
+use Rattle.world_script.proofs.SampleLines.{IsPlain, Part, all_pass, at_part, commit_part, done_then_end, flow_part, mark_part, mix_part, one, open_part, part_each, part_flat, part_line, part_most, part_then, plain_sayable, stop_part, tick_part, write_part}
+use Rattle.world_script.proofs.SampleTaken.{each_by, each_within}
 use Rattle.world_script.proofs.FormLemmas.{packet_again}
-use Rattle.world_script.proofs.SpokenLemmas.{more_words, name}
+use Rattle.world_script.proofs.SpokenLemmas.{more_words}
 use Rattle.world_script.proofs.ValueLemmas.{decimal_is_word, printed_between, printed_number}
-use Rattle.world_script.proofs.WordLemmas.{AreWords, IsWord, are_words, joined_printable, length_words, span, words_of_joined}
+use Rattle.world_script.proofs.WordLemmas.{AreWords, are_words, length_words, span}
 
 -- Rounds.
 
@@ -42,32 +37,32 @@ ticks_part : (n : ℕ) → n ≤ 16 → Part (8 * n) (ticks n)
 ticks_part n h =
     subst (λ (ks : List ℕ). Part (8 * n) (map line.Tick ks)) (all_pass (numbers n))
     (subst (λ (m : ℕ). Part (8 * m) (map line.Tick (filter (λ k. true) (numbers n)))) (length-range_with_len 1 n)
-        (part_each 8 line.Tick (λ k. true) (numbers n)
-            (each_by (λ k. (1 ≤ k) × (k < 1 + n)) (λ k. Part 8 (line.Tick k ∷ [])) (λ k w. tick_part k (omega (arith, w.1, h))) (numbers n) (each_within 1 1 n (omega arith)))))
+    (part_each 8 line.Tick (λ k. true) (numbers n)
+    (each_by (λ k. (1 ≤ k) × (k < 1 + n)) (λ k. Part 8 (line.Tick k ∷ [])) (λ k w. tick_part k (omega (arith, w.1, h))) (numbers n) (each_within 1 1 n (omega arith)))))
 
 commits_part : (n : ℕ) (stopped : Option ℕ) → n ≤ 8 → Part 72 (commits n stopped)
 commits_part n stopped h =
     part_most (9 * n) 72 _ (omega (arith, h))
     (subst (λ (m : ℕ). Part (9 * m) (map line.Commit (filter (runs stopped) (numbers n)))) (length-range_with_len 1 n)
-        (part_each 9 line.Commit (runs stopped) (numbers n)
-            (each_by (λ k. (1 ≤ k) × (k < 1 + n)) (λ k. Part 9 (line.Commit k ∷ [])) (λ k w. commit_part k (omega (arith, w.1, h))) (numbers n) (each_within 1 1 n (omega arith)))))
+    (part_each 9 line.Commit (runs stopped) (numbers n)
+    (each_by (λ k. (1 ≤ k) × (k < 1 + n)) (λ k. Part 9 (line.Commit k ∷ [])) (λ k w. commit_part k (omega (arith, w.1, h))) (numbers n) (each_within 1 1 n (omega arith)))))
 
 calm_part : (e : Extent) → e.nodes ≤ 16 → e.gateways ≤ 8 → Part (8 * e.nodes + 82) (calm_round e)
 calm_part e hn hg =
     part_most (8 * e.nodes + (5 + 72) + 5) (8 * e.nodes + 82) _ (omega arith)
     (part_then (8 * e.nodes + (5 + 72)) 5 (ticks e.nodes ++ line.Flow ∷ commits e.gateways None) (line.Flow ∷ [])
-        (part_then (8 * e.nodes) (5 + 72) (ticks e.nodes) (line.Flow ∷ commits e.gateways None) (ticks_part e.nodes hn)
-            (part_line 5 72 line.Flow (commits e.gateways None) flow_part (commits_part e.gateways None hg)))
-        flow_part)
+    (part_then (8 * e.nodes) (5 + 72) (ticks e.nodes) (line.Flow ∷ commits e.gateways None) (ticks_part e.nodes hn)
+    (part_line 5 72 line.Flow (commits e.gateways None) flow_part (commits_part e.gateways None hg)))
+    flow_part)
 
 wild_part : (e : Extent) (stopped : Option ℕ) (a b : ℕ) → e.nodes ≤ 16 → e.gateways ≤ 8 → a < 10 ^ 10 → b < 10 ^ 10 →
     Part (8 * e.nodes + 102) (wild_round e stopped a b)
 wild_part e stopped a b hn hg ha hb =
     part_most (8 * e.nodes + (15 + 72) + 15) (8 * e.nodes + 102) _ (omega arith)
     (part_then (8 * e.nodes + (15 + 72)) 15 (ticks e.nodes ++ line.Mix a ∷ commits e.gateways stopped) (line.Mix b ∷ [])
-        (part_then (8 * e.nodes) (15 + 72) (ticks e.nodes) (line.Mix a ∷ commits e.gateways stopped) (ticks_part e.nodes hn)
-            (part_line 15 72 (line.Mix a) (commits e.gateways stopped) (mix_part a ha) (commits_part e.gateways stopped hg)))
-        (mix_part b hb))
+    (part_then (8 * e.nodes) (15 + 72) (ticks e.nodes) (line.Mix a ∷ commits e.gateways stopped) (ticks_part e.nodes hn)
+    (part_line 15 72 (line.Mix a) (commits e.gateways stopped) (mix_part a ha) (commits_part e.gateways stopped hg)))
+    (mix_part b hb))
 
 -- a word has 32 bits
 word_small : (g : Lcg) (n : ℕ) → word g n < 10 ^ 10
@@ -86,7 +81,7 @@ unfolding wild_rounds
 wild_rounds_part e stopped g hn hg =
     part_most ((8 * e.nodes + 102) * 6) (48 * e.nodes + 612) _ (omega arith)
     (part_flat (8 * e.nodes + 102) (λ n. wild_round e stopped (word g (2 * n)) (word g (2 * n + 1))) 0 6
-        (λ k low high. wild_part e stopped (word g (2 * k)) (word g (2 * k + 1)) hn hg (word_small g (2 * k)) (word_small g (2 * k + 1))))
+    (λ k low high. wild_part e stopped (word g (2 * k)) (word g (2 * k + 1)) hn hg (word_small g (2 * k)) (word_small g (2 * k + 1))))
 
 storm_part : (e : Extent) (g : Lcg) (few : Bool) → nat_lt e.gateways 2 ≡ few → e.nodes ≤ 16 → e.gateways ≤ 8 →
     Part (48 * e.nodes + 626)
@@ -100,7 +95,7 @@ storm_part e g false h hn hg =
     let low : gateway ≤ 8 = omega (arith, within, hg) in
     part_most (7 + (48 * e.nodes + 612 + 7)) (48 * e.nodes + 626) _ (omega arith)
     (part_line 7 (48 * e.nodes + 612 + 7) (line.Stop gateway) _ (stop_part gateway low)
-        (part_then (48 * e.nodes + 612) 7 (wild_rounds e (Some gateway) (after_words 1 g)) (line.Open gateway ∷ []) (wild_rounds_part e (Some gateway) (after_words 1 g) hn hg) (open_part gateway low)))
+    (part_then (48 * e.nodes + 612) 7 (wild_rounds e (Some gateway) (after_words 1 g)) (line.Open gateway ∷ []) (wild_rounds_part e (Some gateway) (after_words 1 g) hn hg) (open_part gateway low)))
 
 stormy_part : (e : Extent) (g : Lcg) → e.nodes ≤ 16 → e.gateways ≤ 8 → Part (48 * e.nodes + 626) (stormy e g)
 unfolding stormy
@@ -110,7 +105,7 @@ writes_part : (n : ℕ) → n ≤ 8 → Part 120 (writes n)
 writes_part n h =
     part_most (15 * n) 120 _ (omega (arith, h))
     (part_flat 15 (λ gateway. line.Mark gateway ∷ line.Write gateway ∷ []) 1 n
-        (λ k low high. part_line 7 8 (line.Mark k) (line.Write k ∷ []) (mark_part k (omega (arith, high, h))) (write_part k (omega (arith, high, h)))))
+    (λ k low high. part_line 7 8 (line.Mark k) (line.Write k ∷ []) (mark_part k (omega (arith, high, h))) (write_part k (omega (arith, high, h)))))
 
 -- Packets.
 
@@ -171,20 +166,32 @@ submit_part node packet h k =
     let version = hex_word (6 ∷ 0 ∷ []) (omega arith) version_bytes in
     let all : packet_said (decimal node) (decimal 1) (version_text 0x0600) (map encode_upper records) ≡ Ok (submitted node packet) =
     λ i. read_then kind.Number (printed_number 18446744073709551615 node (omega (arith, h)) small i) (λ node. read_then kind.Number (printed_number 255 1 (omega arith) (omega arith) i) (λ format.
-        read_then kind.Hex (version_back i) (λ version. read_or kind.Hex (line.Submit node format version) (rs.again i)))) in
+    read_then kind.Hex (version_back i) (λ version. read_or kind.Hex (line.Submit node format version) (rs.again i)))) in
     one 92 (submitted node packet)
     (record {
-        plain = record {
-          form = keyword.Submit; words = words; text = text; is = (are_words (codes "submit") refl).0;
-          are = (decimal_is_word node small, (decimal_is_word 1 (omega arith), (version, rs.are)));
-          known = refl;
-          again = packet_again Replay (decimal node) (decimal 1) (version_text 0x0600) records (map encode_upper records) (submitted node packet) (omega (arith, rs.long)) all;
-        };
-        no_setting = refl;
-        no_end = refl;
-      })
-    (omega (arith, ap length text, length-append (codes "submit") (words_text words), length_words words, rs.long, few, printed_length (6 ∷ 0 ∷ []),
-        length-decimal-le 2 node (omega arith) (omega (arith, h)) small, length-decimal-le 1 1 (omega arith) (omega arith) (omega arith)))
+      plain = record {
+        form = keyword.Submit;
+        words = words;
+        text = text;
+        is = (are_words (codes "submit") refl).0;
+        are = (decimal_is_word node small, (decimal_is_word 1 (omega arith), (version, rs.are)));
+        known = refl;
+        again = packet_again Replay (decimal node) (decimal 1) (version_text 0x0600) records (map encode_upper records) (submitted node packet) (omega (arith, rs.long)) all;
+      };
+      no_setting = refl;
+      no_end = refl;
+    })
+    (omega (
+      arith,
+      ap length text,
+      length-append (codes "submit") (words_text words),
+      length_words words,
+      rs.long,
+      few,
+      printed_length (6 ∷ 0 ∷ []),
+      length-decimal-le 2 node (omega arith) (omega (arith, h)) small,
+      length-decimal-le 1 1 (omega arith) (omega arith) (omega arith),
+    ))
 
 packets_from_part : (e : Extent) (node from : ℕ) → node ≤ 16 → e.packets ≤ 20000 → Part 368 (packets_from e node from)
 unfolding packets_from
@@ -192,10 +199,10 @@ packets_from_part e node from h k =
     let count : ℕ = min 4 (e.packets - from) in
     part_most (92 * count) 368 _ (omega arith)
     (subst (λ (ks : List ℕ). Part (92 * count) (map (submitted node) ks)) (all_pass (range_with_len from count))
-        (subst (λ (m : ℕ). Part (92 * m) (map (submitted node) (filter (λ k. true) (range_with_len from count)))) (length-range_with_len from count)
-            (part_each 92 (submitted node) (λ k. true) (range_with_len from count)
-                (each_by (λ p. (from ≤ p) × (p < from + count)) (λ p. Part 92 (submitted node p ∷ [])) (λ p w. submit_part node p h (omega (arith, w.0, w.1, k)))
-                    (range_with_len from count) (each_within from from count (omega arith))))))
+    (subst (λ (m : ℕ). Part (92 * m) (map (submitted node) (filter (λ k. true) (range_with_len from count)))) (length-range_with_len from count)
+    (part_each 92 (submitted node) (λ k. true) (range_with_len from count)
+    (each_by (λ p. (from ≤ p) × (p < from + count)) (λ p. Part 92 (submitted node p ∷ [])) (λ p w. submit_part node p h (omega (arith, w.0, w.1, k)))
+    (range_with_len from count) (each_within from from count (omega arith))))))
 
 packets_part : (e : Extent) (from : ℕ) → e.nodes ≤ 16 → e.packets ≤ 20000 → Part (368 * e.nodes) (packets_of e from)
 unfolding packets_of
@@ -211,10 +218,10 @@ block_part e n g hn hg hp h =
     let moment : first_moment + block_time * (n + 1) ≤ 4102444799 = omega (arith, h) in
     part_most (368 * e.nodes + (48 * e.nodes + 626) + (8 * e.nodes + 82) * 12 + (14 + 120)) (512 * e.nodes + 1744) _ (omega arith)
     (part_then (368 * e.nodes + (48 * e.nodes + 626) + (8 * e.nodes + 82) * 12) (14 + 120) (packets_of e (4 * e.nodes * n) ++ stormy e g ++ times 12 (λ _. calm_round e)) _
-        (part_then (368 * e.nodes + (48 * e.nodes + 626)) ((8 * e.nodes + 82) * 12) (packets_of e (4 * e.nodes * n) ++ stormy e g) (times 12 (λ _. calm_round e))
-            (part_then (368 * e.nodes) (48 * e.nodes + 626) (packets_of e (4 * e.nodes * n)) (stormy e g) (packets_part e (4 * e.nodes * n) hn hp) (stormy_part e g hn hg))
-            (part_flat (8 * e.nodes + 82) (λ _. calm_round e) 0 12 (λ k low high. calm_part e hn hg)))
-        (part_line 14 120 (line.At (first_moment + block_time * (n + 1))) (writes e.gateways) (at_part (first_moment + block_time * (n + 1)) moment) (writes_part e.gateways hg)))
+    (part_then (368 * e.nodes + (48 * e.nodes + 626)) ((8 * e.nodes + 82) * 12) (packets_of e (4 * e.nodes * n) ++ stormy e g) (times 12 (λ _. calm_round e))
+    (part_then (368 * e.nodes) (48 * e.nodes + 626) (packets_of e (4 * e.nodes * n)) (stormy e g) (packets_part e (4 * e.nodes * n) hn hp) (stormy_part e g hn hg))
+    (part_flat (8 * e.nodes + 82) (λ _. calm_round e) 0 12 (λ k low high. calm_part e hn hg)))
+    (part_line 14 120 (line.At (first_moment + block_time * (n + 1))) (writes e.gateways) (at_part (first_moment + block_time * (n + 1)) moment) (writes_part e.gateways hg)))
 
 at_least : (n b : ℕ) → 1 ≤ n → b ≤ n * b
 at_least zero b h = absurd (omega (arith, h))
@@ -247,7 +254,7 @@ blocks_part seed e some hn hg hp =
     let few = few_blocks e.nodes (blocks e) e.packets hp hn whole least in
     part_most ((512 * e.nodes + 1744) * blocks e) 12000000 _ (many e.nodes (blocks e) e.packets ((512 * e.nodes + 1744) * blocks e) hn hp whole least refl)
     (part_flat (512 * e.nodes + 1744) (λ n. block e n (after_words (words_of_block e * n) (seeded seed))) 0 (blocks e)
-        (λ k low high. block_part e k (after_words (words_of_block e * k) (seeded seed)) hn hg hp (omega (arith, high, few))))
+    (λ k low high. block_part e k (after_words (words_of_block e * k) (seeded seed)) hn hg hp (omega (arith, high, few))))
 
 -- The settings.
 
@@ -255,7 +262,12 @@ gateways_plain : (n : ℕ) → 1 ≤ n → n ≤ 8 → IsPlain (line.Gateways n)
 gateways_plain n low high =
     let small : n < 2 ^ 64 = omega (arith, high) in
     record {
-      form = keyword.Gateways; words = decimal n ∷ []; text = refl; is = (are_words (codes "gateways") refl).0; are = (decimal_is_word n small, tt); known = refl;
+      form = keyword.Gateways;
+      words = decimal n ∷ [];
+      text = refl;
+      is = (are_words (codes "gateways") refl).0;
+      are = (decimal_is_word n small, tt);
+      known = refl;
       again = λ rules content. rw (printed_between 1 8 n low high small) refl;
     }
 
@@ -263,7 +275,12 @@ nodes_plain : (n : ℕ) → 1 ≤ n → n ≤ 16 → IsPlain (line.Nodes n)
 nodes_plain n low high =
     let small : n < 2 ^ 64 = omega (arith, high) in
     record {
-      form = keyword.Nodes; words = decimal n ∷ []; text = refl; is = (are_words (codes "nodes") refl).0; are = (decimal_is_word n small, tt); known = refl;
+      form = keyword.Nodes;
+      words = decimal n ∷ [];
+      text = refl;
+      is = (are_words (codes "nodes") refl).0;
+      are = (decimal_is_word n small, tt);
+      known = refl;
       again = λ rules content. rw (printed_between 1 16 n low high small) refl;
     }
 
@@ -278,9 +295,9 @@ after_part : (seed : ℕ) (e : Extent) → 1 ≤ e.nodes → e.nodes ≤ 16 → 
 after_part seed e some hn hg hp =
     part_most (14 + (8 * e.nodes + 82) * 4 + 12000000) 12001000 _ (omega (arith, hn))
     (part_then (14 + (8 * e.nodes + 82) * 4) 12000000 (line.At first_moment ∷ times 4 (λ _. calm_round e)) _
-        (part_line 14 ((8 * e.nodes + 82) * 4) (line.At first_moment) (times 4 (λ _. calm_round e)) (at_part first_moment (omega arith))
-            (part_flat (8 * e.nodes + 82) (λ _. calm_round e) 0 4 (λ k low high. calm_part e hn hg)))
-        (blocks_part seed e some hn hg hp))
+    (part_line 14 ((8 * e.nodes + 82) * 4) (line.At first_moment) (times 4 (λ _. calm_round e)) (at_part first_moment (omega arith))
+    (part_flat (8 * e.nodes + 82) (λ _. calm_round e) 0 4 (λ k low high. calm_part e hn hg)))
+    (blocks_part seed e some hn hg hp))
 
 sample_is : (seed : ℕ) (e : Extent) →
     sample_of seed e ≡ line.Gateways e.gateways ∷ line.Nodes e.nodes ∷ (after_settings seed e ++ line.End ∷ [])
@@ -309,8 +326,17 @@ whole_long e lines hn hg short =
     let rest = lines_text Replay (lines ++ line.End ∷ []) in
     let last : length rest ≡ length (lines_text Replay lines) + 4 =
     ap length (flat_map-append (λ (said : Line). line_text Replay said ++ 10 ∷ []) lines (line.End ∷ [])) ∙ length-append (lines_text Replay lines) (101 ∷ 110 ∷ 100 ∷ 10 ∷ []) in
-    omega (arith, short, last, settings_long first (codes "gateways") e.gateways refl (omega (arith, hg)), settings_long second (codes "nodes") e.nodes refl hn,
-        length-append (first ++ 10 ∷ []) ((second ++ 10 ∷ []) ++ rest), length-append (second ++ 10 ∷ []) rest, length-append first (10 ∷ []), length-append second (10 ∷ []))
+    omega (
+      arith,
+      short,
+      last,
+      settings_long first (codes "gateways") e.gateways refl (omega (arith, hg)),
+      settings_long second (codes "nodes") e.nodes refl hn,
+      length-append (first ++ 10 ∷ []) ((second ++ 10 ∷ []) ++ rest),
+      length-append (second ++ 10 ∷ []) rest,
+      length-append first (10 ∷ []),
+      length-append second (10 ∷ []),
+    )
 
 -- a sample is in the grammar
 pub sample_reads : (seed : ℕ) (e : Extent) → 1 ≤ e.nodes → e.nodes ≤ 16 → 1 ≤ e.gateways → e.gateways ≤ 8 →

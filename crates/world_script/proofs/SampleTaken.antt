@@ -1,8 +1,7 @@
 -- Lemmas on samples: the world takes each line of one.
-use Rattle.std.proofs.Common.{◌≡◌, ℕ, zero, suc, ◌+◌, ◌-◌, ◌*◌, ◌%◌, ◌<◌, ◌≤◌, min, not, ◌&&◌, ◌||◌, ◌==◌, nat_le, nat_lt, Bool, true, false, if◌then◌else◌, List, [], ◌∷◌, ◌++◌, map, filter, Option, Some, None, refl, ap, sym, ◌∙◌, subst, arith, le-leb, eq-eqb, mod-lt}
+use Rattle.std.proofs.Common.{◌≡◌, ℕ, zero, suc, ◌+◌, ◌-◌, ◌*◌, ◌%◌, ◌<◌, ◌≤◌, min, not, ◌&&◌, ◌||◌, ◌==◌, nat_le, nat_lt, Bool, true, false, if◌then◌else◌, List, [], ◌∷◌, ◌++◌, map, filter, Option, Some, None, refl, ap, sym, subst, arith, le-leb, eq-eqb, mod-lt}
 use Rattle.std.proofs.lemmas.Bool.{and_parts}
-use Rattle.std.specs.List.{flat_map, list_any, range_with_len}
-use Rattle.std.specs.Option.{option_map_or}
+use Rattle.std.specs.List.{flat_map, range_with_len}
 use Rattle.rand_pcg.specs.Lcg.{Lcg}
 use Rattle.world_script.specs.Sample.{after_words, block, block_time, blocks, calm_round, commits, first_moment, numbers, opening, packets_from, packets_of, runs, sample_of, seeded, stopped_during, stormy, submitted, ticks, times, wild_round, wild_rounds, word, words_of_block, writes}
 use Rattle.world_script.specs.World.{Scene, after_line, first_scene, has_gateway, has_node, has_running, is_stopped, takes, takes_all}
@@ -84,7 +83,7 @@ joined at f a (suc n) h =
     let end : a + 1 + n ≡ a + suc n = omega arith in
     then_lines (at a) (at (a + 1)) (at (a + suc n)) (f a) (flat_map f (range_with_len (a + 1) n)) (h a (omega arith) (omega arith))
     (subst (λ (m : ℕ). Leads (at (a + 1)) (flat_map f (range_with_len (a + 1) n)) (at m)) end
-        (joined at f (a + 1) n (λ k low high. h k (omega (arith, low)) (omega (arith, high)))))
+    (joined at f (a + 1) n (λ k low high. h k (omega (arith, low)) (omega (arith, high)))))
 
 -- The parts of a sample.
 
@@ -118,7 +117,7 @@ ticks_taken : (e : Extent) (moment : ℕ) (stopped : List ℕ) →
 ticks_taken e moment stopped =
     mapped (scene e moment stopped) line.Tick (numbers e.nodes)
     (each_by (λ k. (1 ≤ k) × (k < 1 + e.nodes)) (λ k. takes (scene e moment stopped) (line.Tick k) ≡ true)
-        (λ k h. node_there e moment k stopped h.0 (omega (arith, h.1))) (numbers e.nodes) (each_within 1 1 e.nodes (omega arith)))
+    (λ k h. node_there e moment k stopped h.0 (omega (arith, h.1))) (numbers e.nodes) (each_within 1 1 e.nodes (omega arith)))
     (λ k. refl)
 
 commits_taken : (e : Extent) (moment : ℕ) (stopped : Option ℕ) →
@@ -126,8 +125,8 @@ commits_taken : (e : Extent) (moment : ℕ) (stopped : Option ℕ) →
 commits_taken e moment stopped =
     mapped (scene e moment (stopped_ones stopped)) line.Commit (filter (runs stopped) (numbers e.gateways))
     (each_by (λ k. ((1 ≤ k) × (k < 1 + e.gateways)) × (runs stopped k ≡ true)) (λ k. takes (scene e moment (stopped_ones stopped)) (line.Commit k) ≡ true)
-        (λ k h. runs_there e moment k stopped h.0.0 (omega (arith, h.0.1)) h.1) (filter (runs stopped) (numbers e.gateways))
-        (each_passes (λ k. (1 ≤ k) × (k < 1 + e.gateways)) (runs stopped) (numbers e.gateways) (each_within 1 1 e.gateways (omega arith))))
+    (λ k h. runs_there e moment k stopped h.0.0 (omega (arith, h.0.1)) h.1) (filter (runs stopped) (numbers e.gateways))
+    (each_passes (λ k. (1 ≤ k) × (k < 1 + e.gateways)) (runs stopped) (numbers e.gateways) (each_within 1 1 e.gateways (omega arith))))
     (λ k. refl)
 
 calm_taken : (e : Extent) (moment : ℕ) → Leads (scene e moment []) (calm_round e) (scene e moment [])
@@ -135,7 +134,7 @@ calm_taken e moment =
     let s = scene e moment [] in
     then_lines s s s (ticks e.nodes ++ line.Flow ∷ commits e.gateways None) (line.Flow ∷ [])
     (then_lines s s s (ticks e.nodes) (line.Flow ∷ commits e.gateways None) (ticks_taken e moment [])
-        (stays s s line.Flow (commits e.gateways None) refl refl (commits_taken e moment None)))
+    (stays s s line.Flow (commits e.gateways None) refl refl (commits_taken e moment None)))
     (stays s s line.Flow [] refl refl (none s))
 
 calm_rounds_taken : (e : Extent) (moment count : ℕ) →
@@ -149,7 +148,7 @@ wild_taken e moment stopped a b =
     let s = scene e moment (stopped_ones stopped) in
     then_lines s s s (ticks e.nodes ++ line.Mix a ∷ commits e.gateways stopped) (line.Mix b ∷ [])
     (then_lines s s s (ticks e.nodes) (line.Mix a ∷ commits e.gateways stopped) (ticks_taken e moment (stopped_ones stopped))
-        (stays s s (line.Mix a) (commits e.gateways stopped) refl refl (commits_taken e moment stopped)))
+    (stays s s (line.Mix a) (commits e.gateways stopped) refl refl (commits_taken e moment stopped)))
     (stays s s (line.Mix b) [] refl refl (none s))
 
 wild_rounds_taken : (e : Extent) (moment : ℕ) (stopped : Option ℕ) (g : Lcg) →
@@ -198,7 +197,7 @@ unfolding packets_from
 packets_from_taken e moment node from low high =
     mapped (scene e moment []) (submitted node) (range_with_len from (min 4 (e.packets - from)))
     (each_by (λ k. (from ≤ k) × (k < from + min 4 (e.packets - from))) (λ k. takes (scene e moment []) (submitted node k) ≡ true)
-        (λ k h. node_there e moment node [] low high) (range_with_len from (min 4 (e.packets - from))) (each_within from from (min 4 (e.packets - from)) (omega arith)))
+    (λ k h. node_there e moment node [] low high) (range_with_len from (min 4 (e.packets - from))) (each_within from from (min 4 (e.packets - from)) (omega arith)))
     (λ k. refl)
 
 packets_taken : (e : Extent) (moment from : ℕ) → Leads (scene e moment []) (packets_of e from) (scene e moment [])
@@ -211,8 +210,8 @@ writes_taken : (e : Extent) (moment : ℕ) → Leads (scene e moment []) (writes
 writes_taken e moment =
     let s = scene e moment [] in
     joined (λ _. s) (λ gateway. line.Mark gateway ∷ line.Write gateway ∷ []) 1 e.gateways (λ k low high.
-        stays s s (line.Mark k) (line.Write k ∷ []) (runs_there e moment k None low (omega (arith, high)) refl) refl
-        (stays s s (line.Write k) [] (runs_there e moment k None low (omega (arith, high)) refl) refl (none s)))
+    stays s s (line.Mark k) (line.Write k ∷ []) (runs_there e moment k None low (omega (arith, high)) refl) refl
+    (stays s s (line.Write k) [] (runs_there e moment k None low (omega (arith, high)) refl) refl (none s)))
 
 -- the moment after so many blocks
 abbrev moment_after : ℕ → ℕ
@@ -226,8 +225,8 @@ block_taken e n g =
     let t = scene e (moment_after (n + 1)) [] in
     then_lines s s t (packets_of e (4 * e.nodes * n) ++ stormy e g ++ times 12 (λ _. calm_round e)) (line.At (moment_after (n + 1)) ∷ writes e.gateways)
     (then_lines s s s (packets_of e (4 * e.nodes * n) ++ stormy e g) (times 12 (λ _. calm_round e))
-        (then_lines s s s (packets_of e (4 * e.nodes * n)) (stormy e g) (packets_taken e (moment_after n) (4 * e.nodes * n)) (stormy_taken e (moment_after n) g))
-        (calm_rounds_taken e (moment_after n) 12))
+    (then_lines s s s (packets_of e (4 * e.nodes * n)) (stormy e g) (packets_taken e (moment_after n) (4 * e.nodes * n)) (stormy_taken e (moment_after n) g))
+    (calm_rounds_taken e (moment_after n) 12))
     (first s t (line.At (moment_after (n + 1))) (writes e.gateways) (le-leb (moment_after n) (moment_after (n + 1)) (omega arith)) (writes_taken e (moment_after (n + 1))))
 
 opening_taken : (e : Extent) → Leads first_scene (opening e) (scene e first_moment [])
@@ -236,7 +235,7 @@ opening_taken e =
     let s = scene e first_moment [] in
     first first_scene s (line.Gateways e.gateways) (line.Nodes e.nodes ∷ line.At first_moment ∷ times 4 (λ _. calm_round e)) refl
     (first _ s (line.Nodes e.nodes) (line.At first_moment ∷ times 4 (λ _. calm_round e)) refl
-        (first _ s (line.At first_moment) (times 4 (λ _. calm_round e)) refl (calm_rounds_taken e first_moment 4)))
+    (first _ s (line.At first_moment) (times 4 (λ _. calm_round e)) refl (calm_rounds_taken e first_moment 4)))
 
 -- the world takes each line of a sample
 pub sample_taken : (seed : ℕ) (e : Extent) → takes_all first_scene (sample_of seed e) ≡ true
@@ -246,6 +245,6 @@ sample_taken seed e =
     (λ k low high. block_taken e k (after_words (words_of_block e * k) (seeded seed))) in
     let all = then_lines first_scene s s (opening e ++ times (blocks e) (λ n. block e n (after_words (words_of_block e * n) (seeded seed)))) (line.End ∷ [])
     (then_lines first_scene (scene e first_moment []) s (opening e) (times (blocks e) (λ n. block e n (after_words (words_of_block e * n) (seeded seed))))
-        (opening_taken e) blocks_taken)
+    (opening_taken e) blocks_taken)
     (stays s s line.End [] refl refl (none s)) in
     all.taken

@@ -1,15 +1,13 @@
 -- Lemmas on lines of one word or number: what a line says is printed as words that say it, and that are no longer.
-use Rattle.std.proofs.Common.{◌≡◌, ℕ, suc, ◌+◌, ◌^◌, ◌<◌, ◌≤◌, Bool, true, false, if◌then◌else◌, List, [], ◌∷◌, ◌++◌, length, map, Option, Some, None, Result, Ok, Err, refl, ap, sym, ◌∙◌, subst, arith, append_assoc, codes, ℤ}
+use Rattle.std.proofs.Common.{◌≡◌, ℕ, ◌^◌, ◌<◌, ◌≤◌, Bool, true, false, if◌then◌else◌, List, [], ◌∷◌, ◌++◌, Option, Some, None, Result, Ok, Err, refl, ap, sym, ◌∙◌, subst, arith, append_assoc, codes, ℤ}
 use Rattle.std.proofs.lemmas.Grind.{flat_map-append}
 use Rattle.std.specs.Fmt.{decimal}
 use Rattle.std.specs.Option.{ok_or}
 use Rattle.std.specs.Str.{bytes_eq}
-use Rattle.gw_base.specs.declared.address.Addr.{Addr}
-use Rattle.hex.specs.Hex.{encode_upper}
-use Rattle.route_filter.specs.Words.{number_up_to, octets_of}
-use Rattle.world_script.specs.Printing.{address_text, line_text, mode_text, offset_text, two_numbers, version_text, words_text}
-use Rattle.world_script.specs.Saying.{arm_said, at_said, call_of, datagram_said, fail_said, in_said, last_moment, limit_said, offset_said, one_between, one_gateway, one_number, packet_said, read_or, read_then, redirect_said, said_as, said_by, submit_said, word_said}
-use Rattle.world_script.specs.Values.{address_of, mode_of, number_between, number_of, offset_of, records_of, version_of}
+use Rattle.route_filter.specs.Words.{number_up_to}
+use Rattle.world_script.specs.Printing.{line_text, offset_text, words_text}
+use Rattle.world_script.specs.Saying.{at_said, last_moment, limit_said, offset_said, one_between, one_gateway, one_number, read_or, read_then, said_as, said_by, word_said}
+use Rattle.world_script.specs.Values.{number_between, number_of, offset_of}
 use Rattle.world_script.specs.declared.fault.InputKind.{InputKind}
 use Rattle.world_script.specs.declared.fault.InputKind.TheVariants as kind
 use Rattle.world_script.specs.declared.keyword.Keyword.{Keyword}
@@ -18,9 +16,7 @@ use Rattle.world_script.specs.declared.kind.ScriptKind.{ScriptKind}
 use Rattle.world_script.specs.declared.kind.ScriptKind.TheVariants as script
 use Rattle.world_script.specs.declared.line.Line.{Line}
 use Rattle.world_script.specs.declared.line.Line.TheVariants as line
-use Rattle.world_script.specs.declared.mode.Mode.{Mode}
-use Rattle.world_script.proofs.AddressLemmas.{address_printed, mode_printed, offset_printed, same_bytes}
-use Rattle.world_script.proofs.OctetLemmas.{datagram_printed, records_printed, version_printed}
+use Rattle.world_script.proofs.AddressLemmas.{offset_printed, same_bytes}
 use Rattle.world_script.proofs.ValueLemmas.{any_printed, between_printed, number_printed}
 use Rattle.world_script.proofs.WordLemmas.{AreWords, span}
 
@@ -193,14 +189,14 @@ limit_spoken_as of make named what number least most said small shape are e h ag
     let p = or_read kind.Number make (number_between least most number) said h in
     same of keyword.Limit (what ∷ number ∷ []) said are
     (ap (λ (l : Line). line_text of l) (sym p.2) ∙ shape p.0
-        ∙ (λ i. codes "limit" ++ words_text (sym e i ∷ sym (between_printed least most number p.0 small p.1) i ∷ []))) again
+    ∙ (λ i. codes "limit" ++ words_text (sym e i ∷ sym (between_printed least most number p.0 small p.1) i ∷ []))) again
 
 limit_case : (of : ScriptKind) (what number : List ℕ) (said : Line) (a b c : Bool) → AreWords (what ∷ number ∷ []) →
     bytes_eq what (codes "records") ≡ a → bytes_eq what (codes "size") ≡ b → bytes_eq what (codes "open") ≡ c →
     (if a then read_or kind.Number line.LimitRecords (number_between 1 1000000 number)
-        else if b then read_or kind.Number line.LimitSize (number_between 1 1000000000 number)
-        else if c then read_or kind.Number line.LimitOpen (number_between 1 1000000 number)
-        else Err kind.Number) ≡ Ok said →
+    else if b then read_or kind.Number line.LimitSize (number_between 1 1000000000 number)
+    else if c then read_or kind.Number line.LimitOpen (number_between 1 1000000 number)
+    else Err kind.Number) ≡ Ok said →
     ((rules : ℕ) (content : List ℕ) → said_by of keyword.Limit rules content (what ∷ number ∷ []) ≡ Ok said) →
     IsSpoken of keyword.Limit (what ∷ number ∷ []) said
 limit_case of what number said true b c are ea eb ec h again =

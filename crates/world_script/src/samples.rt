@@ -34,8 +34,10 @@ pub fn sample(
     requires nodes { (1 ≤ nodes) × (nodes ≤ 16) }
     requires gateways { (1 ≤ gateways) × (gateways ≤ 8) }
     requires packets { (1 ≤ packets) × (packets ≤ 20000) }
-    ensures is { IfOk result (λ script. script ≡ record { kind = ScriptKind.Replay;
-        lines = sample_of seed (record { nodes = nodes; gateways = gateways; packets = packets }) }) }
+    ensures is { IfOk result (λ script. script ≡ record {
+      kind = ScriptKind.Replay;
+      lines = sample_of seed (record { nodes = nodes; gateways = gateways; packets = packets });
+    }) }
     ensures taken { IfOk result (λ script. takes_all first_scene script.lines ≡ true) }
 {
     let extent = Extent {

@@ -1,6 +1,5 @@
-use Rattle.std.proofs.Common.{◌≡◌, ℕ, ◌∙◌, ap, sym, subst, List}
+use Rattle.std.proofs.Common.{◌∙◌, ap, sym, subst, List}
 use Rattle.world_script.specs.Printing.{ReadsBack}
-use Rattle.world_script.specs.Sample.{sample_of}
 use Rattle.world_script.specs.Script.{ScriptValue}
 use Rattle.world_script.specs.World.{first_scene, takes_all}
 use Rattle.world_script.specs.declared.extent.Extent.{Extent}
@@ -16,7 +15,7 @@ from_lines-requires c =
     let e : Extent = record { nodes = c.args.nodes; gateways = c.args.gateways; packets = c.args.packets } in
     subst (λ (lines : List Line). ReadsBack Replay lines)
     (sym (sample_parts c.args.seed e c.seed_from_u64-rng.result c.new-lines.result.items _ _ _ c.seed_from_u64-rng.ensures c.new-lines.ensures.items
-            c.in_ok-push_opening.ensures c.in_ok-push_blocks.ensures c.in_ok-push.ensures.items))
+    c.in_ok-push_opening.ensures c.in_ok-push_blocks.ensures c.in_ok-push.ensures.items))
     (sample_reads c.args.seed e c.requires.nodes.0 c.requires.nodes.1 c.requires.gateways.0 c.requires.gateways.1 c.requires.packets.1)
 
 pub returns : goal.returns
