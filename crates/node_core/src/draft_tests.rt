@@ -1,5 +1,6 @@
-use super::{Draft, DraftFault};
+use super::{Draft, DraftFault, SubmitFault};
 use ber_frame::{BerFault, BerKind};
+use std::test::Fail;
 
 #[test]
 fn a_draft_grows_record_by_record(rt: HostRuntime) {
@@ -35,4 +36,20 @@ fn a_draft_refuses_a_record_by_the_first_fault(rt: HostRuntime) {
         assert_eq!(rt; many.add(&[]), Ok(()));
     }
     assert_eq!(rt; many.add(&large), Err(DraftFault::Count));
+}
+
+#[test]
+fn a_fault_says_why(rt: HostRuntime) -> Result<(), Fail> {
+    for (fault, why) in [
+        (DraftFault::Count, "the packet has 255 records"),
+        (
+            DraftFault::TooBig,
+            "the request would be too long for a datagram",
+        ),
+    ] {
+        assert!(rt; format!(in rt.alloc(); "{fault}")?.as_str() == why);
+    }
+    let open = SubmitFault::InFlight;
+    assert!(rt; format!(in rt.alloc(); "{open}")?.as_str() == "64 packets are open");
+    Ok(())
 }
