@@ -7,8 +7,6 @@ mod copies;
 mod copy;
 mod counts;
 mod draft;
-#[cfg(test)]
-mod draft_tests;
 mod due;
 mod fault;
 mod hear;
@@ -18,8 +16,6 @@ mod message;
 mod moving;
 mod node;
 mod node_packet;
-#[cfg(test)]
-mod node_tests;
 mod outgoing;
 mod packets;
 mod peer;

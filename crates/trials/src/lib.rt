@@ -18,4 +18,8 @@ mod book_worked;
 #[cfg(test)]
 mod journal;
 #[cfg(test)]
+mod node_drafts;
+#[cfg(test)]
+mod node_driving;
+#[cfg(test)]
 mod writer;

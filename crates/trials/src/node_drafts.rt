@@ -1,5 +1,5 @@
-use super::{Draft, DraftFault, SubmitFault};
 use ber_frame::{BerFault, BerKind};
+use node_core::{Draft, DraftFault, SubmitFault};
 use std::test::Fail;
 
 #[test]

@@ -1,7 +1,7 @@
 //! A node's ticks and what it makes of answers, octet for octet, with values worked out by hand.
 
-use super::{Draft, Heeded, Node, NodeCopy, NodeCounts, Outgoing, Phase, Port, SubmitFault};
 use gw_base::Addr;
+use node_core::{Draft, Heeded, Node, NodeCopy, NodeCounts, Outgoing, Phase, Port, SubmitFault};
 use std::alloc::Global;
 use std::process::Abort;
 
