@@ -7,6 +7,10 @@ pub record SealedFile : Type 0 where
   pub name : FileName
   pub octets : List ℕ
 
+-- the sealed file with this name and these octets
+abbrev pub file_of : FileName → List ℕ → SealedFile
+file_of name octets = record { name = name; octets = octets }
+
 -- a file that was begun and isn't sealed
 pub record UnsealedFile : Type 0 where
   pub name : FileName

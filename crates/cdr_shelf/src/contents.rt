@@ -1,6 +1,6 @@
 // What a shelf in memory holds.
-ghost use Rattle.std.specs.Prelude.{◌≡◌, ◌↔◌, ◌++◌, ◌+◌, ◌<◌, ◌≤◌, ℕ, [], map, length, OnOk, OnErr, IsNone, None, get_or, sum_by, vec_len, vec_capacity, option_map};
-ghost use Rattle.cdr_shelf.specs.Files.{IsFresh, sealed_as, greatest_in, file_named};
+ghost use Rattle.std.specs.Prelude.{◌≡◌, ◌↔◌, ◌++◌, ◌+◌, ◌^◌, ◌<◌, ◌≤◌, ℕ, [], map, length, OnOk, OnErr, IsNone, None, get_or, sum_by, vec_len, vec_capacity, option_map, slice_get};
+ghost use Rattle.cdr_shelf.specs.Files.{IsFresh, sealed_as, greatest_in, file_named, file_of};
 ghost use Rattle.cdr_shelf.specs.Steps.{TakesWrite, begun, written, synced, left_unsealed, left_by, StepsAt};
 ghost use Rattle.cdr_shelf.specs.Holding.{unsealed_in, is_there};
 
@@ -126,6 +126,16 @@ impl Contents {
             }
         }
         None
+    }
+
+    /// The sealed file before which so many others were sealed.
+    pub fn nth(&self, k: usize) -> Option<(FileName, &[u8])>
+        ensures file { option_map (λ file. file_of file.0 file.1.now) result ≡ slice_get self.now.files k }
+        ensures few { length self.now.files < 2 ^ 64 }
+    {
+        let _count = self.sealed.len();
+        let file = self.sealed.get(k)?;
+        Some((file.name, &file.octets))
     }
 
     /// The greatest sequence number of a sealed file of this stream, or 0.

@@ -1,6 +1,6 @@
 // A shelf in memory that never fails.
-ghost use Rattle.std.specs.Prelude.{◌≡◌, ◌↔◌, ℕ, [], IsNone, None, option_map, true, false};
-ghost use Rattle.cdr_shelf.specs.Files.{IsFresh, file_named};
+ghost use Rattle.std.specs.Prelude.{◌≡◌, ◌↔◌, ◌^◌, ◌<◌, ℕ, [], length, IsNone, None, option_map, slice_get, true, false};
+ghost use Rattle.cdr_shelf.specs.Files.{IsFresh, file_named, file_of};
 ghost use Rattle.cdr_shelf.specs.Holding.{unsealed_in};
 
 use crate::contents::Contents;
@@ -32,6 +32,16 @@ impl QuietShelf {
         ensures none { IsNone result ↔ IsFresh name (⟦<QuietShelf as Shelf>⟧.files self.now) }
     {
         self.contents.file(name)
+    }
+
+    /// The name and the octets of the sealed file before which so many others were sealed; `None` exactly where there are
+    /// no more.
+    pub fn nth(&self, k: usize) -> Option<(FileName, &[u8])>
+        ensures file { option_map (λ file. file_of file.0 file.1.now) result ≡
+            slice_get (⟦<QuietShelf as Shelf>⟧.files self.now) k }
+        ensures few { length (⟦<QuietShelf as Shelf>⟧.files self.now) < 2 ^ 64 }
+    {
+        self.contents.nth(k)
     }
 }
 
