@@ -17,7 +17,9 @@ use Rattle.cgf_top.specs.ShowReport.{file_kind, listed}
 use Rattle.cgf_top.specs.Steps.{IsRefusal}
 use Rattle.cgf_top.specs.declared.command.Command.TheVariants.{Show}
 use Rattle.cgf_top.specs.declared.command.Command.{Command}
+use Rattle.cgf_top.specs.declared.report.Refusal.{Refusal}
 use Rattle.cgf_top.specs.declared.status.Status.{Status}
+use Rattle.cgf_top.specs.declared.status.Status.TheVariants as status
 use Rattle.cgf_top.proofs.Script.{script_within}
 use Rattle.cgf_top.proofs.Streams.{appends_none}
 
@@ -60,15 +62,16 @@ writes_front words command left rest before after octets report ended asked read
     (ended, taken, (report, reported words command left rest octets report ended asked read (λ t. within) decided is, written))
 
 -- nothing is written of what the grammar refuses
-pub writes_refusal : (words : List (List ℕ)) (command : Command) (left rest before : Option (List ℕ)) (octets : List ℕ) (ended : Status)
-    → command_of words ≡ Some command → IsRead (most_read command) left rest octets → ended ≡ end_of command octets
-    → may_have_written (end_of command octets) ≡ false → report_of command octets ≡ [] → WritesReport words left rest before before ended
-writes_refusal words command left rest before octets ended asked read decided untaken none =
-    ([], reported words command left rest octets [] ended asked read (λ taken. absurd (never taken)) decided (sym none), appends_none before [])
+pub writes_refusal : (words : List (List ℕ)) (command : Command) (left rest before : Option (List ℕ)) (octets : List ℕ) (refusal : Refusal)
+    → command_of words ≡ Some command → IsRead (most_read command) left rest octets → IsRefusal command octets refusal
+    → WritesReport words left rest before before (status.Input refusal.place refusal.kind)
+writes_refusal words command left rest before octets refusal asked read refused =
+    ([], reported words command left rest octets [] (status.Input refusal.place refusal.kind) asked read (λ taken. absurd (never taken)) refused.ended (sym refused.none),
+    appends_none before [])
   where
-    never : may_have_written ended ≡ true → ⊥
+    never : may_have_written (status.Input refusal.place refusal.kind) ≡ true → ⊥
     never taken =
-        let both : true ≡ false = sym taken ∙ ap (λ (s : Status). may_have_written s) decided ∙ untaken in cc
+        let both : true ≡ false = sym taken ∙ ap (λ (s : Status). may_have_written s) refused.ended ∙ refused.untaken in cc
 
 -- no refusal of a file is of the run
 pub file_untaken : (kind : FileKind) → is_of_run (file_kind kind) ≡ false

@@ -7,10 +7,10 @@ use Rattle.cgf_top.proofs.feed.records_in.Goals as goal
 
 pub loop-item-preserved : goal.loop-item-preserved
 loop-item-preserved c = record {
-  counted = ap (λ (n : ℕ). n + c.record_count.result) c.loop-item.invariant.counted
-      ∙ ap (λ (n : ℕ). count_by is_part (take c.loop-item.item-index c.args.items.now) + n) c.record_count.ensures.count
+  counted = ap (λ (n : ℕ). n + c.record_count-records.result) c.loop-item.invariant.counted
+      ∙ ap (λ (n : ℕ). count_by is_part (take c.loop-item.item-index c.args.items.now) + n) c.record_count-records.ensures.count
       ∙ record_counted c.args.items.now c.loop-item.item-index c.item-item.result (omega arith) c.item-item.is;
-  few = omega (arith, c.loop-item.invariant.few, c.record_count.ensures.few);
+  few = omega (arith, c.loop-item.invariant.few, c.record_count-records.ensures.few);
 }
 
 pub returns : goal.returns

@@ -8,10 +8,10 @@ use Rattle.cgf_top.proofs.feed.report.Goals as goal
 
 pub loop-line-init : goal.loop-line-init
 loop-line-init c = record {
-  fed = feed_begins c.args.script.now (settings_seen c.in_ok-of.settings) (state_of c.in_ok-open.feed) c.in_ok-open.feed.printed.items
-      c.in_ok-of.ensures.settings c.in_ok-open.ensures.state c.in_ok-open.ensures.printed;
-  settings = c.in_ok-of.ensures.settings;
-  sound = c.in_ok-of.ensures.sound;
+  fed = feed_begins c.args.script.now (settings_seen c.in_ok-settings.settings) (state_of c.in_ok-feed.feed) c.in_ok-feed.feed.printed.items
+      c.in_ok-settings.ensures.settings c.in_ok-feed.ensures.state c.in_ok-feed.ensures.printed;
+  settings = c.in_ok-settings.ensures.settings;
+  sound = c.in_ok-settings.ensures.sound;
   within = omega arith;
 }
 
@@ -41,5 +41,5 @@ returns-then-is_earlier c =
 
 pub returns : goal.returns
 returns c =
-    feed_ends_if c.args.script.now c.loop-line.at (state_of c.loop-line.feed) c.loop-line.feed.printed.items (settings_seen c.loop-line.settings)
+    feed_ends_if c.args.script.now c.loop-line.at (state_of c.loop-line.feed) c.loop-line.feed.printed.items (settings_seen c.in_ok-settings.settings)
     c.end.result (sym c.in_default.ensures) c.loop-line.invariant.settings c.end.ensures.printed c.end.ensures.refused c.loop-line.invariant.fed
