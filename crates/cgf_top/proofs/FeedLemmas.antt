@@ -124,6 +124,7 @@ fed_is_report text lines report read fed = record {
 of_grammar : (kind : LineKind) → is_of_run (line_kind kind) ≡ false
 of_grammar of_line.TooLong = refl
 of_grammar of_line.Word = refl
+of_grammar of_line.NotBuilt = refl
 of_grammar of_line.After = refl
 of_grammar of_line.Late = refl
 of_grammar of_line.Arity = refl

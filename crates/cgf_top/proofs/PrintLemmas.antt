@@ -11,9 +11,12 @@ use Rattle.cgf_top.specs.FeedReport.{file_line, last_digits}
 use Rattle.cgf_top.proofs.SettingLemmas.{none_at, rest_at}
 
 -- the last digit stands behind the others
-pub last_digit : (count n : ℕ) → 0 < count → last_digits (count - 1) (n / 10) ++ (48 + n % 10) ∷ [] ≡ last_digits count n
-last_digit zero n some = absurd (omega (arith, some))
-last_digit (suc count) n some = refl
+pub last_digit : (count n : ℕ) → (count ≡ 0 → ⊥) → last_digits (count - 1) (n / 10) ++ (48 + n % 10) ∷ [] ≡ last_digits count n
+last_digit zero n some = absurd (some refl)
+last_digit (suc count) n some = ap (λ (k : ℕ). last_digits k (n / 10) ++ (48 + n % 10) ∷ []) (less count)
+  where
+    less : (k : ℕ) → suc k - 1 ≡ k
+    less k = omega arith
 
 -- the lines of the files of a stream
 abbrev pub lines_in : ℕ → List SealedFile → List ℕ

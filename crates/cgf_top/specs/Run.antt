@@ -27,6 +27,7 @@ use Rattle.cgf_top.specs.declared.status.Status.TheVariants as status
 abbrev pub line_kind : LineKind → InputKind
 line_kind of_line.TooLong = input.TooLong
 line_kind of_line.Word = input.Word
+line_kind of_line.NotBuilt = input.NotBuilt
 line_kind of_line.After = input.After
 line_kind of_line.Late = input.Late
 line_kind of_line.Arity = input.Arity

@@ -9,6 +9,7 @@ use Rattle.cgf_top.specs.declared.input_kind.InputKind.TheVariants as input
 abbrev pub kind_name : InputKind → List ℕ
 kind_name input.TooLong = codes "TooLong"
 kind_name input.Word = codes "Word"
+kind_name input.NotBuilt = codes "NotBuilt"
 kind_name input.After = codes "After"
 kind_name input.Late = codes "Late"
 kind_name input.Arity = codes "Arity"

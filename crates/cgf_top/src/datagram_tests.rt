@@ -7,8 +7,11 @@ use crate::{Status, run_cgf};
 use gw_base::{MemorySink, MemorySource, Octets};
 use std::test::Fail;
 
-/// How many octets a report has at most: that of the largest datagram has some 131,200.
-const SINK_OCTETS: usize = 1 << 18;
+/// How many octets the area and the sink have where one small datagram is fed.
+const FEW_OCTETS: usize = 4000;
+
+/// How many they have elsewhere: the report on the largest datagram has some 131,200.
+const MANY_OCTETS: usize = 200_000;
 
 /// What is printed at the end for a gateway that only began.
 const NONE_FILED: &str = "gateway 1 entries 1 records 0 held 0 stranded 0\n";
@@ -21,16 +24,17 @@ const STAMPS: &str = "1080080010800800";
 
 const FILE_REST: &str = "000000010400000000000000000000FFFF0A000001000000000000000000";
 
-/// How a feed of these lines ends, and what it writes.
-fn feed(rt: &HostRuntime, lines: &str) -> Result<(Status, Vec<u8>), Fail> {
+/// How a feed of these lines ends, and what it writes, where area and sink have so many octets.
+fn feed(rt: &HostRuntime, octets: usize, lines: &str) -> Result<(Status, Vec<u8>), Fail> {
     let alloc = rt.alloc();
     let mut words = Vec::new(alloc);
     for word in ["feed", "-"] {
         words.push(String::from_str(alloc, word)?)?;
     }
-    let script = Octets::of(alloc, lines.as_bytes())?;
+    let text = format!(in alloc; "reserve {octets}\n{lines}end\n")?;
+    let script = Octets::of(alloc, text.as_bytes())?;
     let mut source = MemorySource::new(script, 4096, Vec::new(alloc));
-    let mut sink = MemorySink::new(alloc, SINK_OCTETS, Vec::new(alloc))?;
+    let mut sink = MemorySink::new(alloc, octets, Vec::new(alloc))?;
     let status = run_cgf(alloc, &words, &mut source, &mut sink);
     Ok((status, sink.octets().to_vec(alloc)?))
 }
@@ -39,12 +43,6 @@ fn feed(rt: &HostRuntime, lines: &str) -> Result<(Status, Vec<u8>), Fail> {
 fn datagram_line(rt: &HostRuntime, datagram: &[u8]) -> Result<String, Fail> {
     let digits = hex::encode_upper(rt.alloc(), datagram)?;
     Ok(format!(in rt.alloc(); "in 10.0.1.1:40001 {digits}\n")?)
-}
-
-/// The lines of a script that sends this datagram alone.
-fn lines_of(rt: &HostRuntime, datagram: &[u8]) -> Result<String, Fail> {
-    let line = datagram_line(rt, datagram)?;
-    Ok(format!(in rt.alloc(); "reserve 100000\n{line}end\n")?)
 }
 
 /// Datagrams, and the line that is printed for each.
@@ -85,9 +83,8 @@ fn the_first_condition_decides(rt: HostRuntime) -> Result<(), Fail> {
         report.push_str(answer)?;
         report.push_str("\n")?;
     }
-    lines.push_str("end\n")?;
     report.push_str("gateway 1 entries 2 records 0 held 0 stranded 0\n")?;
-    let (status, printed) = feed(&rt, &lines)?;
+    let (status, printed) = feed(&rt, FEW_OCTETS, &lines)?;
     assert_eq!(rt; status, Status::Done);
     assert_eq!(rt; printed.as_slice(), report.as_bytes());
     Ok(())
@@ -107,9 +104,8 @@ fn a_datagram_that_is_cut_is_dropped(rt: HostRuntime) -> Result<(), Fail> {
         lines.push_str(&datagram_line(&rt, front)?)?;
         report.push_str(if length < 6 { "- Short\n" } else { "- Cut\n" })?;
     }
-    lines.push_str("end\n")?;
     report.push_str(NONE_FILED)?;
-    let (status, printed) = feed(&rt, &lines)?;
+    let (status, printed) = feed(&rt, FEW_OCTETS, &lines)?;
     assert_eq!(rt; status, Status::Done);
     assert_eq!(rt; printed.as_slice(), report.as_bytes());
     Ok(())
@@ -248,7 +244,7 @@ fn each_change_of_one_bit_comes_to_this(rt: HostRuntime) -> Result<(), Fail> {
         for bit in 0..8 {
             let datagram = changed(place, bit);
             let outcome = OUTCOMES[place][bit as usize];
-            let (status, printed) = feed(&rt, &lines_of(&rt, &datagram)?)?;
+            let (status, printed) = feed(&rt, FEW_OCTETS, &datagram_line(&rt, &datagram)?)?;
             let report = report_of(&rt, &datagram, outcome, kind_of(place, bit))?;
             assert_eq!(rt; status, Status::Done, "octet {place}, bit {bit}");
             assert_eq!(rt;
@@ -274,14 +270,13 @@ fn no_more_than_64_nodes_are_known(rt: HostRuntime) -> Result<(), Fail> {
             "4EF10007000001C7FD00020000\n"
         })?;
     }
-    lines.push_str("end\n")?;
     report.push_str("file 1 00-0000000001.cdr 00000274")?;
     report.push_str(&format!(in rt.alloc(); "{FILE_FORM}00000040{FILE_REST}")?)?;
     for _ in 0..64 {
         report.push_str("00056020A003800105")?;
     }
     report.push_str("\ngateway 1 entries 66 records 64 held 0 stranded 0\n")?;
-    let (status, printed) = feed(&rt, &lines)?;
+    let (status, printed) = feed(&rt, MANY_OCTETS, &lines)?;
     assert_eq!(rt; status, Status::Done);
     assert_eq!(rt; printed.as_slice(), report.as_bytes());
     Ok(())
@@ -308,7 +303,7 @@ fn the_largest_datagram_is_filed(rt: HostRuntime) -> Result<(), Fail> {
     let record = hex::encode_upper(rt.alloc(), record)?;
     let file = format!(in rt.alloc(); "0001000A{FILE_FORM}00000001{FILE_REST}FFD26020{record}")?;
     assert_eq!(rt; file.len(), 2 * 65_546);
-    let (status, printed) = feed(&rt, &lines_of(&rt, &datagram)?)?;
+    let (status, printed) = feed(&rt, MANY_OCTETS, &datagram_line(&rt, &datagram)?)?;
     assert_eq!(rt; status, Status::Done);
     assert_eq!(rt; printed.as_slice(), filed(&rt, &file, 1)?.as_bytes());
     Ok(())
@@ -324,7 +319,7 @@ fn a_packet_of_255_records_is_filed(rt: HostRuntime) -> Result<(), Fail> {
         datagram.extend_from_slice(&[0, 5, 0xA0, 3, 0x80, 1, 5])?;
         file.push_str("00056020A003800105")?;
     }
-    let (status, printed) = feed(&rt, &lines_of(&rt, &datagram)?)?;
+    let (status, printed) = feed(&rt, MANY_OCTETS, &datagram_line(&rt, &datagram)?)?;
     assert_eq!(rt; status, Status::Done);
     assert_eq!(rt; printed.as_slice(), filed(&rt, &file, 255)?.as_bytes());
     Ok(())

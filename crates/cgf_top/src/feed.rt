@@ -90,14 +90,8 @@ impl Feed {
             Line::Datagram { from, octets } => self.take(alloc, *from, octets.octets()),
             Line::Mark { .. } => self.gateway.tick(self.moment),
             Line::Close { .. } => self.gateway.close(self.moment),
-            Line::Blank
-            | Line::End
-            | Line::Reserve { .. }
-            | Line::LimitRecords { .. }
-            | Line::LimitSize { .. }
-            | Line::LimitOpen { .. }
-            | Line::Offset { .. }
-            | Line::Rule { .. } => Ok(()),
+            // Settings were read before; the other lines are a replay's.
+            _ => Ok(()),
         }
     }
 

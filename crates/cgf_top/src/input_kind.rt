@@ -9,6 +9,8 @@ pub enum InputKind {
     TooLong,
     /// The first word isn't one of a script's, or an octet isn't a printable one of ASCII.
     Word,
+    /// The line is of a form that isn't built yet: `renew` or `profile`.
+    NotBuilt,
     /// The line stands after `end`.
     After,
     /// A setting stands after another line.
@@ -53,6 +55,7 @@ impl From<LineKind> for InputKind {
         match kind {
             LineKind::TooLong => InputKind::TooLong,
             LineKind::Word => InputKind::Word,
+            LineKind::NotBuilt => InputKind::NotBuilt,
             LineKind::After => InputKind::After,
             LineKind::Late => InputKind::Late,
             LineKind::Arity => InputKind::Arity,
@@ -94,6 +97,7 @@ impl fmt::Display for InputKind {
         match self {
             InputKind::TooLong => write!(f, "TooLong"),
             InputKind::Word => write!(f, "Word"),
+            InputKind::NotBuilt => write!(f, "NotBuilt"),
             InputKind::After => write!(f, "After"),
             InputKind::Late => write!(f, "Late"),
             InputKind::Arity => write!(f, "Arity"),

@@ -80,12 +80,7 @@ impl Settings {
             Line::LimitOpen { seconds } => self.limits.open_time = *seconds,
             Line::Offset { minutes } => self.offset = offset(*minutes),
             Line::Rule { text } => add_rule(&mut self.rules, text)?,
-            Line::Blank
-            | Line::End
-            | Line::At { .. }
-            | Line::Datagram { .. }
-            | Line::Mark { .. }
-            | Line::Close { .. } => {}
+            _ => {}
         }
         Ok(())
     }

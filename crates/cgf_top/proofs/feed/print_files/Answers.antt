@@ -8,6 +8,6 @@ loop-stream-init c = sym (append-nil c.args.printed.now.items)
 
 pub loop-stream-preserved : goal.loop-stream-preserved
 loop-stream-preserved c =
-    stream_printed (settings_seen c.args.settings).files c.args.items.now c.loop-stream.stream c.in_ok-write_files.shelf.contents.files
+    stream_printed (settings_seen c.args.settings).files c.args.items.now c.loop-stream.stream c.in_ok-shelf.shelf.contents.files
     c.args.printed.now.items c.loop-stream.printed.items c.print_stream.new.printed.items c.loop-stream.invariant
-    (c.in_ok-write_files.ensures c.loop-stream.stream (omega arith)) c.in_ok-print_stream.ensures
+    (c.in_ok-shelf.ensures c.loop-stream.stream (omega arith)) c.in_ok-print_stream.ensures
