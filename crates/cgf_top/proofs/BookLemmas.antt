@@ -1,6 +1,7 @@
 -- The book of a gateway whose device never fails: before each call and after it all entries are firm.
-use Rattle.std.proofs.Common.{◌≡◌, ◌≢◌, ℕ, ◌<◌, ◌≤◌, min, Bool, true, false, if◌then◌else◌, List, [], ◌∷◌, ◌++◌, length, take, Option, Some, None, refl, ap, sym, ◌∙◌, subst, arith, append-nil, zero, suc, inl, inr}
+use Rattle.std.proofs.Common.{◌≡◌, ◌≢◌, ℕ, ◌<◌, ◌≤◌, min, Bool, true, false, if◌then◌else◌, List, [], ◌∷◌, ◌++◌, length, get_or, take, Option, Some, None, refl, ap, sym, ◌∙◌, subst, arith, append-nil, zero, suc, inl, inr}
 use Rattle.std.specs.Prelude.{All, slice_index}
+use Rattle.std.proofs.lemmas.Bool.{false≢true}
 use Rattle.std.proofs.lemmas.List.{length-take, take_min}
 use Rattle.std.proofs.Math.Seq.{take-length}
 use Rattle.area_disk.specs.Disk.{zeros}
@@ -15,7 +16,7 @@ use Rattle.gateway_book.specs.Items.{IsWritable, items_between, items_of}
 use Rattle.gateway_book.specs.Marks.{Mark, NotDue, NoRoom, Makes, close_mark, tick_mark}
 use Rattle.gateway_book.specs.Opened.{IsNotOurs}
 use Rattle.gateway_book.specs.Preparing.{PreparedValue}
-use Rattle.gateway_book.specs.Value.{BookValue, Fortune, after_commit, committed, history_of, opened, recorded, recorded_if, standing_for}
+use Rattle.gateway_book.specs.Value.{BookValue, Fortune, after_commit, committed, history_of, opened, readied, recorded, recorded_if, standing_for}
 use Rattle.gateway_book.specs.declared.book.Book.{Book}
 use Rattle.gateway_book.specs.declared.outcome.Outcome.{Outcome}
 use Rattle.gateway_book.specs.declared.outcome.Outcome.TheVariants as outcome
@@ -40,7 +41,7 @@ commits f v whole well = by_rest v.firm v.rest v.cuts v.is_broken whole well
     by_rest : (firm rest : List HistoryEntry) (cuts : ℕ) (broken : Bool) → broken ≡ false → f.fails ≡ false
         → after_commit f (record { firm = firm; rest = rest; cuts = cuts; is_broken = broken })
         ≡ committed (record { firm = firm; rest = rest; cuts = cuts; is_broken = broken })
-    by_rest firm rest cuts true no well = cc
+    by_rest firm rest cuts true whole well = absurd (false≢true (sym whole))
     by_rest firm [] cuts false whole well = ap (λ (h : List HistoryEntry). record { firm = h; rest = []; cuts = cuts; is_broken = false }) (sym (append-nil firm))
     by_rest firm (e ∷ rest) cuts false whole well = rw well refl
 
@@ -74,12 +75,12 @@ recorded_firm h now (Some act) = ap (λ (g : List HistoryEntry). h ++ entry_by g
 abbrev made : List HistoryEntry → ℕ → ℕ → GatewayValue
 made h size time = record { history = h; reserved = size; open_time = time }
 
-module _ {A : Type 0} {tells : Ghosts A} where
-  made_same : (h g : List HistoryEntry) (size size' time time' : ℕ) → h ≡ g → size ≡ size' → time ≡ time'
-      → made h size time ≡ made g size' time'
-  made_same h g size size' time time' a b c =
-      ap (λ (x : List HistoryEntry). made x size time) a ∙ ap (λ (n : ℕ). made g n time) b ∙ ap (λ (n : ℕ). made g size' n) c
+made_same : (h g : List HistoryEntry) (size size' time time' : ℕ) → h ≡ g → size ≡ size' → time ≡ time'
+    → made h size time ≡ made g size' time'
+made_same h g size size' time time' a b c =
+    ap (λ (x : List HistoryEntry). made x size time) a ∙ ap (λ (n : ℕ). made g n time) b ∙ ap (λ (n : ℕ). made g size' n) c
 
+module _ {A : Type 0} {tells : Ghosts A} where
   pub recorded_not_closed : (old new : Book A tells) (now : ℕ) (act : Option HistoryAct) → Records old new now act → (value_of new).is_broken ≡ false
   recorded_not_closed old new now act moved = ap (λ (v : BookValue). v.is_broken) moved ∙ recorded_whole (value_of old).firm now act
 
@@ -131,6 +132,31 @@ module _ {A : Type 0} {tells : Ghosts A} (old new : Book A tells) (f : Fortune) 
   taken_answers result firm answered =
       ap (λ (o : Outcome). outcome_line o) (answered ∙ ap (λ (v : BookValue). (taken f from datagram (size_of old) now no_caller v).answer) firm)
       ∙ taken_line f from datagram (size_of old) now (value_of old).firm
+
+-- whether there was no memory
+abbrev is_memory : Outcome → Bool
+is_memory (outcome.Answer receipt) = false
+is_memory (outcome.Drop why) = false
+is_memory outcome.NoMemory = true
+
+module _ {A : Type 0} {tells : Ghosts A} (old middle new : Book A tells) (f : Fortune) (from : Addr) (datagram : PreparedValue) (now : ℕ) where
+  -- all entries are firm after a datagram was taken and a commit, also where there was no memory for it
+  pub taken_all_firm : (result : Outcome) → IsAllFirm old
+      → (result ≢ outcome.NoMemory → value_of middle ≡ (taken f from datagram (size_of old) now no_caller (value_of old)).value)
+      → (result ≡ outcome.NoMemory → value_of middle ≡ readied f (value_of old)) → value_of new ≡ committed (value_of middle) → IsAllFirm new
+  taken_all_firm result firm left none is = by_result result left none
+    where
+      some : value_of middle ≡ (taken f from datagram (size_of old) now no_caller (value_of old)).value → IsAllFirm new
+      some moved =
+          recorded_all_firm old middle new now (act_decided (decided (answer_to (value_of old).firm from datagram (size_of old))))
+          (taken_records old middle f from datagram now firm moved) is
+      same : readied f (value_of old) ≡ value_of old
+      same = ap (λ (v : BookValue). readied f v) firm ∙ sym firm
+      by_result : (o : Outcome) → (o ≢ outcome.NoMemory → value_of middle ≡ (taken f from datagram (size_of old) now no_caller (value_of old)).value)
+          → (o ≡ outcome.NoMemory → value_of middle ≡ readied f (value_of old)) → IsAllFirm new
+      by_result (outcome.Answer receipt) left none = some (left (λ e. false≢true (ap is_memory e)))
+      by_result (outcome.Drop why) left none = some (left (λ e. false≢true (ap is_memory e)))
+      by_result outcome.NoMemory left none = recorded_all_firm old middle new now None (none_recorded old middle now firm (none refl ∙ same)) is
 
 -- ---- marks
 
@@ -231,8 +257,7 @@ is_fit (item.Tick moment) h = h
 is_fit (item.Close moment) h = h
 
 pub all_fit : (items : List Item) → All IsWritable items → All IsFit items
-all_fit [] h = tt
-all_fit (i ∷ items) h = (is_fit i h.0, all_fit items h.1)
+all_fit items h = λ k d within. is_fit (get_or items k d) (h k d within)
 
 -- fewer items than were asked for are all
 pub all_items : (max : ℕ) (h : List HistoryEntry) (items : List Item) → items ≡ items_between 0 max h → length items < max → items ≡ items_of h
