@@ -150,8 +150,10 @@ module _ {A : Type 0} {tells : Ghosts A} (old middle new : Book A tells) (f : Fo
       some moved =
           recorded_all_firm old middle new now (act_decided (decided (answer_to (value_of old).firm from datagram (size_of old))))
           (taken_records old middle f from datagram now firm moved) is
+
       same : readied f (value_of old) ≡ value_of old
       same = ap (λ (v : BookValue). readied f v) firm ∙ sym firm
+
       by_result : (o : Outcome) → (o ≢ outcome.NoMemory → value_of middle ≡ (taken f from datagram (size_of old) now no_caller (value_of old)).value)
           → (o ≡ outcome.NoMemory → value_of middle ≡ readied f (value_of old)) → IsAllFirm new
       by_result (outcome.Answer receipt) left none = some (left (λ e. false≢true (ap is_memory e)))
@@ -265,7 +267,9 @@ all_items max h items is few = is ∙ whole
   where
     long : length items ≡ min max (length (items_of h))
     long = ap length is ∙ length-take max (items_of h)
+
     least : min max (length (items_of h)) ≡ length (items_of h)
     least = omega (arith, long, few)
+
     whole : take max (items_of h) ≡ items_of h
     whole = sym (take_min max (items_of h)) ∙ ap (λ k. take k (items_of h)) least ∙ take-length (items_of h)

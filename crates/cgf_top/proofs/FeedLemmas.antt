@@ -14,10 +14,10 @@ use Rattle.world_script.specs.Script.{Refusal as LineRefusal, script_of}
 use Rattle.world_script.specs.declared.fault.InputKind.{InputKind as LineKind}
 use Rattle.world_script.specs.declared.fault.InputKind.TheVariants as of_line
 use Rattle.world_script.specs.declared.line.Line.{Line}
-use Rattle.cgf_top.specs.FeedReport.{Fed, FeedState, after_line, begun, end_lines, fed_from, fed_of, file_line, gateway_line, is_earlier, printed_for, with_print}
+use Rattle.cgf_top.specs.FeedReport.{Fed, FeedState, after_line, begun, end_lines, fed_from, fed_of, file_line, gateway_line, is_earlier, line_kind, printed_for, with_print}
 use Rattle.cgf_top.specs.FeedSettings.{FeedSettings, settings_of}
 use Rattle.cgf_top.specs.Gateway.{after_close}
-use Rattle.cgf_top.specs.Run.{end_of, is_of_run, line_kind, may_have_written, run_end, script_end, script_report}
+use Rattle.cgf_top.specs.Run.{end_of, is_of_run, may_have_written, run_end, script_end, script_report}
 use Rattle.cgf_top.specs.Steps.{IsFed, IsRefusal, IsReport, counts_line, ended_by, is_part, refusal_at}
 use Rattle.cgf_top.specs.declared.command.Command.TheVariants.{Feed}
 use Rattle.cgf_top.specs.declared.report.Refusal.{Refusal}

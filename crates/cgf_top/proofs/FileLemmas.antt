@@ -48,10 +48,13 @@ files_written {tells = tells} start old new items settings n told recovered empt
   where
     none : (t : ℕ) → t < stream_count → sealed_in old t ≡ 0
     none t below = recovered.sealed told t below ∙ ap (greatest_in t) empty
+
     count : ℕ
     count = max (sealed_in new s) (0 + closed_of (settings_in new) s items) - 0
+
     found : in_stream s (tells.files (shelf_of new)) ≡ take count (files_after (settings_in new) (λ t. 0) s (items ++ []))
     found = advances.holds told (λ t. []) [] (none_held old (items ++ []) empty none) s h
+
     enough : length (files_after (settings_in new) (λ t. 0) s (items ++ [])) ≤ count
     enough =
         let files : length (files_after (settings_in new) (λ t. 0) s (items ++ [])) ≡ length (stream_division (settings_in new) s (items ++ [])).closed =

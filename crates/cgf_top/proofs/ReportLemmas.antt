@@ -61,8 +61,13 @@ count_act before moment act.Close = refl
 count_along : (before h : List HistoryEntry) → count_by is_part (along items_by before h) ≡ length (along filed_by before h)
 count_along before [] = refl
 count_along before (e ∷ h) =
-    omega (arith, count-append (items_by before e) (along items_by (before ++ e ∷ []) h),
-    length-append (filed_by before e) (along filed_by (before ++ e ∷ []) h), count_act before e.moment e.act, count_along (before ++ e ∷ []) h)
+    omega (
+      arith,
+      count-append (items_by before e) (along items_by (before ++ e ∷ []) h),
+      length-append (filed_by before e) (along filed_by (before ++ e ∷ []) h),
+      count_act before e.moment e.act,
+      count_along (before ++ e ∷ []) h,
+    )
 
 -- the records among the items of a history are the filed ones
 records_filed : (h : List HistoryEntry) → count_by is_part (items_of h) ≡ length (filed h)

@@ -415,8 +415,12 @@ count-more before l =
 
 rules-more : (before : List Line) (l : Line) → length (flat_map rules_in (before ++ l ∷ [])) ≡ length (flat_map rules_in before) + length (rules_in l)
 rules-more before l =
-    omega (arith, ap (λ rules. length rules) (flat_map-append rules_in before (l ∷ [])), length-append (flat_map rules_in before) (rules_in l ++ []),
-    length-append (rules_in l) [])
+    omega (
+      arith,
+      ap (λ rules. length rules) (flat_map-append rules_in before (l ∷ [])),
+      length-append (flat_map rules_in before) (rules_in l ++ []),
+      length-append (rules_in l) [],
+    )
 
 room_after : (b : Bool) (n : ℕ) → n ≤ most_rules → (b ≡ true → n < most_rules) → n + (if b then 1 else 0) ≤ most_rules
 room_after true n h room = omega (arith, room refl)
@@ -442,7 +446,7 @@ after_fine size before [] lines held within h =
     subst (AreAllFine size before []) (same_lines before lines ended.1) (record { fine = held; count = omega arith; short = omega (arith, within) })
 after_fine size before (raw ∷ raws) lines held within h =
     let first = line_first (length before + 1) (reading_of (progress_of Feed size before) raw)
-        (λ said. script_after Feed (size + line_size raw) (before ++ said ∷ []) raws) lines h in
+    (λ said. script_after Feed (size + line_size raw) (before ++ said ∷ []) raws) lines h in
     let read = reading_fine (progress_of Feed size before) raw first.0 first.1 in
     let later = after_fine (size + line_size raw) (before ++ first.0 ∷ []) raws lines (one_more before first.0 held read.0) read.1 first.2 in
     record {

@@ -65,9 +65,11 @@ writes_front words command left rest before after octets report ended asked read
 pub writes_refusal : (words : List (List ℕ)) (command : Command) (left rest before : Option (List ℕ)) (octets : List ℕ) (refusal : Refusal)
     → command_of words ≡ Some command → IsRead (most_read command) left rest octets → IsRefusal command octets refusal
     → WritesReport words left rest before before (status.Input refusal.place refusal.kind)
-writes_refusal words command left rest before octets refusal asked read refused =
-    ([], reported words command left rest octets [] (status.Input refusal.place refusal.kind) asked read (λ taken. absurd (never taken)) refused.ended (sym refused.none),
-    appends_none before [])
+writes_refusal words command left rest before octets refusal asked read refused = (
+  [],
+  reported words command left rest octets [] (status.Input refusal.place refusal.kind) asked read (λ taken. absurd (never taken)) refused.ended (sym refused.none),
+  appends_none before [],
+)
   where
     never : may_have_written (status.Input refusal.place refusal.kind) ≡ true → ⊥
     never taken =

@@ -9,10 +9,8 @@ use Rattle.gw_base.specs.Faults.{Rose}
 use Rattle.gw_base.specs.Written.{AppendsFront}
 use Rattle.cgf_top.specs.Command.{command_of, most_read}
 use Rattle.world_script.specs.Script.{Refusal, script_of}
-use Rattle.world_script.specs.declared.fault.InputKind.{InputKind as LineKind}
-use Rattle.world_script.specs.declared.fault.InputKind.TheVariants as of_line
 use Rattle.world_script.specs.declared.line.Line.{Line}
-use Rattle.cgf_top.specs.FeedReport.{fed_of}
+use Rattle.cgf_top.specs.FeedReport.{fed_of, line_kind}
 use Rattle.cgf_top.specs.ShowReport.{file_kind, show_report}
 use Rattle.cgf_top.specs.declared.command.Command.{Command}
 use Rattle.cgf_top.specs.declared.command.Command.TheVariants.{Feed, Show}
@@ -22,19 +20,6 @@ use Rattle.cgf_top.specs.declared.status.Status.{Status}
 use Rattle.cgf_top.specs.declared.status.Status.TheVariants as status
 
 -- How a job ends by what was read, where nothing fails, and what it prints.
-
--- why the grammar of scripts refuses a line, as it is said of an input
-abbrev pub line_kind : LineKind → InputKind
-line_kind of_line.TooLong = input.TooLong
-line_kind of_line.Word = input.Word
-line_kind of_line.NotBuilt = input.NotBuilt
-line_kind of_line.After = input.After
-line_kind of_line.Late = input.Late
-line_kind of_line.Arity = input.Arity
-line_kind of_line.Number = input.Number
-line_kind of_line.Hex = input.Hex
-line_kind of_line.Rule = input.Rule
-line_kind of_line.NoEnd = input.NoEnd
 
 -- the lines of a script are run, all of them or up to the first that goes back in time
 abbrev pub run_end : Option ℕ → Status

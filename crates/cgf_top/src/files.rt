@@ -13,7 +13,11 @@ use gw_base::{Item, NoMemory};
 use std::alloc::Global;
 
 /// A shelf with the sealed files of these items.
-pub fn write_files(alloc: Global, settings: Settings, items: &[Item]) -> Result<QuietShelf, NoMemory>
+pub fn write_files(
+    alloc: Global,
+    settings: Settings,
+    items: &[Item],
+) -> Result<QuietShelf, NoMemory>
     requires sound { AreSound settings }
     requires few { length items.now < 2 ^ 31 }
     requires fit { All IsFit items.now }

@@ -65,7 +65,8 @@ impl Gateway {
     /// What becomes of a datagram of this sender.
     pub fn take(&mut self, from: Addr, octets: &[u8], now: Moment) -> Outcome
         ensures after { result ≢ Outcome.NoMemory → self.new ≡ after_datagram self.old now from octets.now }
-        ensures answered { result ≢ Outcome.NoMemory → outcome_line result ≡ reply_line (answered self.old from octets.now) }
+        ensures answered { result ≢ Outcome.NoMemory →
+            outcome_line result ≡ reply_line (answered self.old from octets.now) }
     {
         let book = &mut self.book;
         let outcome = book.take(from, &prepare(octets), now, Caller::NONE);

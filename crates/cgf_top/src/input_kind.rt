@@ -47,7 +47,7 @@ pub enum InputKind {
 
 impl From<LineKind> for InputKind {
     ghost use Rattle.std.specs.Prelude.{◌≡◌};
-    ghost use Rattle.cgf_top.specs.Run.{line_kind};
+    ghost use Rattle.cgf_top.specs.FeedReport.{line_kind};
 
     ghost from_gives = { λ kind result. result ≡ line_kind kind };
 

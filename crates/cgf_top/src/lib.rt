@@ -63,14 +63,17 @@ pub fn run_cgf<S: Source, K: Sink>(
 
     // The input was read to its end, and all of the report on it and nothing else was written.
     ensures done { result ≡ Status.Done →
-        WritesReport (map string_bytes words.now) (S.left source.old) (S.left source.new) (K.written sink.old) (K.written sink.new) result }
+        WritesReport (map string_bytes words.now) (S.left source.old) (S.left source.new)
+        (K.written sink.old) (K.written sink.new) result }
     // The place is the first that is refused of the input that was read: by the grammar, and then nothing is written; or
     // as a line that can't be run, and then the input was read to its end, and the report of the lines before is written.
     ensures input { (refusal : Refusal) → result ≡ Status.Input refusal.place refusal.kind →
-        WritesReport (map string_bytes words.now) (S.left source.old) (S.left source.new) (K.written sink.old) (K.written sink.new) result }
+        WritesReport (map string_bytes words.now) (S.left source.old) (S.left source.new)
+        (K.written sink.old) (K.written sink.new) result }
     // A front of what is to be written was.
     ensures front { result ≡ Status.Write →
-        WritesFront (map string_bytes words.now) (S.left source.old) (S.left source.new) (K.written sink.old) (K.written sink.new) }
+        WritesFront (map string_bytes words.now) (S.left source.old) (S.left source.new)
+        (K.written sink.old) (K.written sink.new) }
 
     // Each fault was the source's or the sink's own, and where another end is told there was none.
     ensures cause { HasCause result (S.faults source.old) (S.faults source.new) (K.faults sink.old) (K.faults sink.new) }
@@ -115,7 +118,8 @@ fn ended_by(refused: Option<Refusal>) -> Status
 fn report_of(alloc: Global, command: Command, octets: &[u8]) -> Result<Report, NoReport>
     ensures within { OnOk result (length octets.now < most_read command) }
     ensures report { IfOk result (λ report. IsReport command octets.now report) }
-    ensures refused { (refusal : Refusal) → result ≡ Err (NoReport.Refused refusal) → IsRefusal command octets.now refusal }
+    ensures refused { (refusal : Refusal) →
+        result ≡ Err (NoReport.Refused refusal) → IsRefusal command octets.now refusal }
 {
     match command {
         Command::Feed => feed_report_of(alloc, octets),
@@ -128,7 +132,8 @@ fn report_of(alloc: Global, command: Command, octets: &[u8]) -> Result<Report, N
 fn feed_report_of(alloc: Global, text: &[u8]) -> Result<Report, NoReport>
     ensures within { OnOk result (length text.now < most_read Command.Feed) }
     ensures report { IfOk result (λ report. IsReport Command.Feed text.now report) }
-    ensures refused { (refusal : Refusal) → result ≡ Err (NoReport.Refused refusal) → IsRefusal Command.Feed text.now refusal }
+    ensures refused { (refusal : Refusal) →
+        result ≡ Err (NoReport.Refused refusal) → IsRefusal Command.Feed text.now refusal }
 {
     match Script::read(alloc, text) {
         Ok(script) => Ok(feed::report(alloc, &script)?),

@@ -16,7 +16,8 @@ use std::alloc::Global;
 pub fn report(alloc: Global, octets: &[u8]) -> Result<Report, NoReport>
     ensures within { OnOk result (length octets.now < most_read Command.Show) }
     ensures report { IfOk result (λ report. IsReport Command.Show octets.now report) }
-    ensures refused { (refusal : Refusal) → result ≡ Err (NoReport.Refused refusal) → IsRefusal Command.Show octets.now refusal }
+    ensures refused { (refusal : Refusal) →
+        result ≡ Err (NoReport.Refused refusal) → IsRefusal Command.Show octets.now refusal }
 {
     match read(alloc, octets) {
         Ok(file) => {

@@ -142,7 +142,10 @@ fn a_line_that_cannot_be_run_ends_the_feed(rt: HostRuntime) -> Result<(), Fail> 
     let (status, printed) = feed(&rt, BACK_IN_TIME)?;
     let (place, kind) = (4, InputKind::Earlier);
     assert_eq!(rt; status, Status::Input { place, kind });
-    assert_eq!(rt; printed.as_slice(), b"4EF1000700000180FD00020000\n".as_slice());
+    assert_eq!(rt;
+        printed.as_slice(),
+        b"4EF1000700000180FD00020000\n".as_slice()
+    );
     let (status, printed) = job(&rt, &["feed", "-"], BACK_IN_TIME.as_bytes(), 9, &[], &[1])?;
     assert_eq!(rt; status, Status::Write);
     assert_eq!(rt; printed.len(), 0);

@@ -17,5 +17,5 @@ returns-in-Ok-advance c =
     let empty = c.in-Ok.ensures.asked.files ∙ ap (λ (shelf : QuietShelf). shelf.contents.files) c.new-writer.ensures.shelf ∙ c.new-shelf.ensures.files in
     let set = c.in-Ok-advance.ensures.settings ∙ c.in-Ok.ensures.settings ∙ c.new-writer.ensures.settings in
     λ s h. ap (λ (shelf : QuietShelf). in_stream s shelf.contents.files) c.into_shelf.ensures
-        ∙ files_written c.new-writer.result c.recover.new.self c.advance.new.self c.args.items.now
-        (settings_seen c.args.settings).files c.in-Ok-advance.field-0 refl c.in-Ok.ensures.recovered empty set moved s h
+    ∙ files_written c.new-writer.result c.recover.new.self c.advance.new.self c.args.items.now
+    (settings_seen c.args.settings).files c.in-Ok-advance.field-0 refl c.in-Ok.ensures.recovered empty set moved s h

@@ -21,7 +21,7 @@ returns-clause-after c = λ no.
     let middle = c.take-outcome.new.self in
     let moved = taken_records old middle (fortune_of old middle) c.args.from (prepared_of c.prepare.result) c.args.now c.self.invariant (c.take-outcome.ensures.taken (refl, refl) no).value in
     recorded_gateway old middle c.commit.new.book c.args.now (act_decided (decided (answer_to (value_of old).firm c.args.from (prepared_of c.prepare.result) (size_of old))))
-        moved c.commit.ensures.committed c.take-outcome.ensures.stays c.commit.ensures.stays
+    moved c.commit.ensures.committed c.take-outcome.ensures.stays c.commit.ensures.stays
     ∙ ap (λ octets. after_datagram (record { history = (value_of old).firm; reserved = size_of old; open_time = old.open_time }) c.args.now c.args.from octets) c.prepare.ensures
     ∙ ap (λ (g : GatewayValue). after_datagram g c.args.now c.args.from c.args.octets.now) c.self.view_is
 

@@ -10,8 +10,12 @@ pub set-requires-clause-room : goal.set-requires-clause-room
 set-requires-clause-room c =
     let rest : drop c.loop-line.at c.args.script.now ≡ c.in-Some.line.now ∷ drop (c.loop-line.at + 1) c.args.script.now =
     rest_at c.args.script.now c.loop-line.at c.in-Some.line.now (sym c.in-Some.ensures) in
-    omega (arith, c.loop-line.invariant.room, ap (λ (ls : List Line). length (flat_map rules_in ls)) rest,
-    length-append (rules_in c.in-Some.line.now) (flat_map rules_in (drop (c.loop-line.at + 1) c.args.script.now)))
+    omega (
+      arith,
+      c.loop-line.invariant.room,
+      ap (λ (ls : List Line). length (flat_map rules_in ls)) rest,
+      length-append (rules_in c.in-Some.line.now) (flat_map rules_in (drop (c.loop-line.at + 1) c.args.script.now)),
+    )
 
 pub overflow_add-at : goal.overflow_add-at
 overflow_add-at c = omega (arith, c.requires.few, below_at c.args.script.now c.loop-line.at c.in-Some.line.now (sym c.in-Some.ensures))
@@ -29,9 +33,14 @@ loop-line-preserved c =
           ∙ one_set (settings_seen c.loop-line.settings) c.in-Some.line.now later
           ∙ ap (λ (ls : List Line). settings_after (settings_seen c.loop-line.settings) ls) (sym rest) ∙ c.loop-line.invariant.settings;
       sound = c.in_ok-set.ensures.sound;
-      room = omega (arith, c.loop-line.invariant.room, ap (λ (ls : List Line). length (flat_map rules_in ls)) rest,
-          length-append (rules_in c.in-Some.line.now) (flat_map rules_in later),
-          ap (λ (s : FeedSettings). length s.files.rules) c.in_ok-set.ensures.set, length-append c.loop-line.settings.rules (rules_in c.in-Some.line.now));
+      room = omega (
+        arith,
+        c.loop-line.invariant.room,
+        ap (λ (ls : List Line). length (flat_map rules_in ls)) rest,
+        length-append (rules_in c.in-Some.line.now) (flat_map rules_in later),
+        ap (λ (s : FeedSettings). length s.files.rules) c.in_ok-set.ensures.set,
+        length-append c.loop-line.settings.rules (rules_in c.in-Some.line.now),
+      );
       within = omega (arith, below_at c.args.script.now c.loop-line.at c.in-Some.line.now (sym c.in-Some.ensures));
     }
 
