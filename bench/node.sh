@@ -19,7 +19,7 @@ cat >"$work/crates/node_bench/src/main.rt" <<'END'
 use gw_base::{Addr, NoMemory};
 use node_core::{Draft, Node, Port};
 use std::alloc::Global;
-use std::time::Instant;
+use std::time::CpuClock;
 use std::{env, io};
 
 /// The n-th gateway.
@@ -103,18 +103,26 @@ fn packets(alloc: Global, node: &mut Node, count: u32) -> usize {
     sent
 }
 
+/// The processor time that this thread has used so far, which a busy machine doesn't change.
+fn now(rt: &HostRuntime) -> u128 {
+    match rt.thread_cpu_time() {
+        Ok(time) => time.as_micros(),
+        Err(_) => 0,
+    }
+}
+
 fn main(rt: HostRuntime) -> io::Result<()> {
     let words = env::args(&rt)?.count();
     let Ok(mut node) = node(rt.alloc()) else {
         return Ok(());
     };
-    let begun = Instant::now(&rt)?;
+    let begun = now(&rt);
     let sent = match words {
         1 => ticks(rt.alloc(), &mut node),
         2 => packets(rt.alloc(), &mut node, 10_000),
         _ => packets(rt.alloc(), &mut node, 100_000),
     };
-    let micros = begun.elapsed(&rt)?.as_micros();
+    let micros = now(&rt).saturating_sub(begun);
     println!(rt; "{micros:9} us, {sent} datagrams, {} done", node.counts().done)?;
     Ok(())
 }

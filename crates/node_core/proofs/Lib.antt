@@ -26,3 +26,7 @@ pub mod NearLemmas
 pub mod ReleasedLemmas
 pub mod SoonLemmas
 pub mod LeastLemmas
+pub mod SentLemmas
+pub mod WaitsLemmas
+pub mod StillWaitsLemmas
+pub mod RequestsLemmas

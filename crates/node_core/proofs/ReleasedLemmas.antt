@@ -24,17 +24,17 @@ use Rattle.node_core.proofs.ReachedLemmas.{Closed, new_packet, stands}
 use Rattle.node_core.proofs.RestingLemmas.{each_map, each_push, each_weaker}
 
 -- none is released, or the first copy is sealed and one is
-abbrev IsFirstChosen : List PacketCopy → PacketCopy → Type 0
+abbrev pub IsFirstChosen : List PacketCopy → PacketCopy → Type 0
 IsFirstChosen duplicates copy = is_chosen copy ≡ true → find is_chosen duplicates ≡ Some copy
 
-abbrev NoneChosen : List PacketCopy → Type 0
+abbrev pub NoneChosen : List PacketCopy → Type 0
 NoneChosen duplicates = AllByRecursion (λ (copy : PacketCopy). is_chosen copy ≡ false) duplicates
 
-record OneChosen (plain : PacketCopy) (duplicates : List PacketCopy) : Type 0 where
-  sealed : plain.verdict ≡ Sealed
-  firsts : AllByRecursion (IsFirstChosen duplicates) duplicates
+pub record OneChosen (plain : PacketCopy) (duplicates : List PacketCopy) : Type 0 where
+  pub sealed : plain.verdict ≡ Sealed
+  pub firsts : AllByRecursion (IsFirstChosen duplicates) duplicates
 
-abbrev Chosen : List PacketCopy → Type 0
+abbrev pub Chosen : List PacketCopy → Type 0
 Chosen [] = Unit {0}
 Chosen (plain ∷ duplicates) = (is_chosen plain ≡ false) × (NoneChosen duplicates ⊎ OneChosen plain duplicates)
 
@@ -62,7 +62,7 @@ find_map test f same (copy ∷ copies) =
     by true rest = refl
     by false rest = rest
 
-find_none : (test : PacketCopy → Bool) (copies : List PacketCopy) → find test copies ≡ None → AllByRecursion (λ (copy : PacketCopy). test copy ≡ false) copies
+pub find_none : (test : PacketCopy → Bool) (copies : List PacketCopy) → find test copies ≡ None → AllByRecursion (λ (copy : PacketCopy). test copy ≡ false) copies
 find_none test [] none = tt
 find_none test (copy ∷ copies) none = by (test copy) refl none (find_none test copies)
   where
@@ -72,7 +72,7 @@ find_none test (copy ∷ copies) none = by (test copy) refl none (find_none test
     by true e none rest = absurd (cc)
     by false e none rest = (e, rest none)
 
-find_passes : (test : PacketCopy → Bool) (copies : List PacketCopy) (copy : PacketCopy) → find test copies ≡ Some copy → test copy ≡ true
+pub find_passes : (test : PacketCopy → Bool) (copies : List PacketCopy) (copy : PacketCopy) → find test copies ≡ Some copy → test copy ≡ true
 find_passes test [] copy found = absurd (cc)
 find_passes test (first ∷ copies) copy found = by (test first) refl found (find_passes test copies copy)
   where
@@ -99,9 +99,9 @@ find_only test f choice passes (copy ∷ copies) only there found =
 -- ---- what leaves the choice
 
 -- each copy is released exactly where it was, and a sealed one stays sealed
-record KeepsChoice (f : PacketCopy → PacketCopy) : Type 0 where
-  same : (copy : PacketCopy) → is_chosen (f copy) ≡ is_chosen copy
-  sealed : (copy : PacketCopy) → copy.verdict ≡ Sealed → (f copy).verdict ≡ Sealed
+pub record KeepsChoice (f : PacketCopy → PacketCopy) : Type 0 where
+  pub same : (copy : PacketCopy) → is_chosen (f copy) ≡ is_chosen copy
+  pub sealed : (copy : PacketCopy) → copy.verdict ≡ Sealed → (f copy).verdict ≡ Sealed
 
 chosen_map : (f : PacketCopy → PacketCopy) → KeepsChoice f → (copies : List PacketCopy) → Chosen copies → Chosen (map f copies)
 chosen_map f keeps [] is = tt
@@ -149,7 +149,7 @@ cancel_keeps gateway number = record {
     verdict copy true = refl
     verdict copy false = refl
 
-hearing_keeps : (port : Port) (gateway cause : ℕ) (numbers : List ℕ) → KeepsChoice (copy_hearing port gateway cause numbers)
+pub hearing_keeps : (port : Port) (gateway cause : ℕ) (numbers : List ℕ) → KeepsChoice (copy_hearing port gateway cause numbers)
 hearing_keeps port gateway cause numbers = record {
   same = λ copy. same copy (copy.gateway == gateway);
   sealed = λ copy is. sealed copy (copy.gateway == gateway) is;
@@ -283,7 +283,7 @@ chosen_moved (Commanding gateway Release) peers [] placed is chosen_was = tt
 chosen_moved (Commanding gateway Release) peers (plain ∷ duplicates) placed is chosen_was =
     chosen_released peers plain duplicates placed gateway (next_number peers gateway) is.1 chosen_was.0
 
-abbrev AllChosen : List Peer → List PacketState → Type 0
+abbrev pub AllChosen : List Peer → List PacketState → Type 0
 AllChosen peers packets = AllByRecursion (λ (packet : PacketState). Chosen packet.copies) packets
 
 all_moved : {peers : List Peer} {move : Move} {packets after : List PacketState} → AllKept peers packets → One peers move packets after →
@@ -291,7 +291,7 @@ all_moved : {peers : List Peer} {move : Move} {packets after : List PacketState}
 all_moved {peers} {move} kept (here {packet} {packets} open_yet is) all = (chosen_moved move peers packet.copies kept.0.placed is all.0, all.1)
 all_moved kept (beyond one) all = (all.0, all_moved kept.1 one all.1)
 
-all_chosen : Closed AllChosen
+pub all_chosen : Closed AllChosen
 all_chosen = record {
   anew = λ addresses. tt;
   alike = λ peers other packets alike is. is;

@@ -21,4 +21,5 @@ pub mod Resting
 pub mod Growing
 pub mod Roles
 pub mod Choosing
+pub mod Sent
 pub mod Nearness

@@ -1,4 +1,4 @@
-use super::*;
+use super::{Draft, DraftFault};
 use ber_frame::{BerFault, BerKind};
 
 #[test]

@@ -215,8 +215,8 @@ impl Node {
     /// Learns what a response tells of the packets.
     fn learn(&mut self, port: Port, gateway: u8, cause: u8, responded: Numbers<'_>) -> Made
         ensures packets { self.new ≡ record self.old {
-          packets = packets_hearing port gateway
-              (Responds cause (map (nearest (Some (last_number self.old.gateways gateway))) responded.entry)) self.old.packets;
+          packets = packets_hearing port gateway (Responds cause
+              (map (nearest (Some (last_number self.old.gateways gateway))) responded.entry)) self.old.packets;
         } }
         ensures resolved { result.resolved ≡ made_by is_resolved self.old port gateway
             (Responds cause (map (nearest (Some (last_number self.old.gateways gateway))) responded.entry)) }

@@ -10,9 +10,10 @@ ghost use Rattle.node_core.specs.Growing.{Extends, PacketGrows, is_within_start}
 ghost use Rattle.node_core.specs.Log.{LogEntry, NodeSetup, packets_of};
 ghost use Rattle.node_core.specs.Nearness.{ComesSoon, HasCopy, HasOpenCopy, IsCopyOrBase, all_unsettled_at};
 ghost use Rattle.node_core.specs.Peers.{next_number};
-ghost use Rattle.node_core.specs.Reached.{NodeCall, reached};
+ghost use Rattle.node_core.specs.Reached.{NodeCall, Tick, reached};
 ghost use Rattle.node_core.specs.Resting.{AllRestOn, since_start};
 ghost use Rattle.node_core.specs.Roles.{HasOneRole, IsSingle};
+ghost use Rattle.node_core.specs.Sent.{IsSent};
 ghost use Rattle.node_core.specs.Submitting.{least, unsettled_at};
 ghost use Rattle.node_core.specs.Ticks.{due};
 ghost use Rattle.node_core.specs.Value.{NodeValue};
@@ -41,6 +42,14 @@ pub fn releases_name_the_choice()
 pub fn released_copies_are_chosen()
     ensures { (setup : NodeSetup) (calls : List NodeCall) → 1 ≤ length setup.gateways →
         All ReleasesChoice (reached setup calls).packets }
+{}
+
+/// Each request of a tick is of a copy that the packets have after it: a copy, or a test of it, or the
+/// release or the cancel that was sent for it, which is the same whenever it is sent again.
+pub fn requests_are_of_copies()
+    ensures { (setup : NodeSetup) (calls : List NodeCall) → 1 ≤ length setup.gateways →
+        (reached setup calls).is_running ≡ true →
+        All (IsSent (reached setup (Tick ∷ calls)).packets) (due (reached setup calls)) }
 {}
 
 /// A packet has one copy at a gateway, the first alone is plain, and a release or a cancel has a

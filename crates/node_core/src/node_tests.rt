@@ -1,54 +1,78 @@
-use super::*;
+//! A node's ticks and what it makes of answers, octet for octet, with values worked out by hand.
+
+use super::{Draft, Heeded, Node, NodeCopy, NodeCounts, Outgoing, Phase, Port, SubmitFault};
 use gw_base::Addr;
 use std::alloc::Global;
 use std::process::Abort;
 
-/// The n-th gateway.
-fn gateway(n: u8) -> Addr {
+/// A datagram that a node sends: from a port, to the gateway with this number.
+type Sent<'a> = (Port, u8, &'a [u8]);
+
+/// What happens to a node.
+#[derive(Clone, Copy)]
+enum Step<'a> {
+    /// A tick sends just this.
+    Sends(&'a [Sent<'a>]),
+    /// A gateway says that it is about to go down.
+    GoesDown(u8),
+    /// A gateway answers a number with a cause, at a port; whether this makes the packet resolved, and done.
+    Answers(Port, u8, u8, u8, (bool, bool)),
+}
+
+/// The packet with one record, plain and under number 0.
+const PLAIN: [u8; 22] = [
+    0x4E, 0xF0, 0, 0x10, 0, 0, 0x7E, 1, 0xFC, 0, 0x0B, 1, 1, 6, 0, 0, 5, 0xA0, 3, 0x80, 1, 5,
+];
+
+/// The same as a possible duplicate.
+const DUPLICATE: [u8; 22] = [
+    0x4E, 0xF0, 0, 0x10, 0, 0, 0x7E, 2, 0xFC, 0, 0x0B, 1, 1, 6, 0, 0, 5, 0xA0, 3, 0x80, 1, 5,
+];
+
+/// The test of number 0.
+const TEST: [u8; 11] = [0x4E, 0xF0, 0, 5, 0, 0, 0x7E, 2, 0xFC, 0, 0];
+
+/// The cancel with number 1 that names number 0.
+const CANCEL: [u8; 13] = [0x4E, 0xF0, 0, 7, 0, 1, 0x7E, 3, 0xFA, 0, 2, 0, 0];
+
+/// The release with number 1 that names number 0.
+const RELEASE: [u8; 13] = [0x4E, 0xF0, 0, 7, 0, 1, 0x7E, 4, 0xF9, 0, 2, 0, 0];
+
+/// A Node Alive Request with number 0, and the response to it.
+const ALIVE_REQUEST: [u8; 13] = [0x4E, 4, 0, 7, 0, 0, 0xFB, 0, 4, 10, 0, 1, 1];
+
+const ALIVE_RESPONSE: [u8; 6] = [0x4E, 5, 0, 0, 0, 0];
+
+/// An Echo Request with number 7.
+const ECHO_REQUEST: [u8; 6] = [0x4E, 1, 0, 0, 0, 7];
+
+/// The Redirection Request of a gateway that is about to go down.
+const REDIRECTION: [u8; 8] = [0x4E, 6, 0, 2, 0, 0, 1, 63];
+
+const GATEWAYS: [Addr; 3] = [
     Addr {
-        ip: 0x0A00_0000 + u32::from(n),
+        ip: 0x0A00_0001,
+        port: 3386,
+    },
+    Addr {
+        ip: 0x0A00_0002,
+        port: 3386,
+    },
+    Addr {
+        ip: 0x0A00_0003,
+        port: 3386,
+    },
+];
+
+/// The address of the gateway with this number, from 1 on.
+fn address(gateway: u8) -> Addr {
+    Addr {
+        ip: 0x0A00_0000 + u32::from(gateway),
         port: 3386,
     }
 }
 
-/// A copy of the packet with one record, as it is sent with this command and number.
-fn packet(command: u8, number: u8) -> [u8; 22] {
-    [
-        0x4E, 0xF0, 0, 0x10, 0, number, 0x7E, command, 0xFC, 0, 0x0B, 1, 1, 6, 0, 0, 5, 0xA0, 3,
-        0x80, 1, 5,
-    ]
-}
-
-/// The test of a number.
-fn test_of(number: u8) -> [u8; 11] {
-    [0x4E, 0xF0, 0, 5, 0, number, 0x7E, 2, 0xFC, 0, 0]
-}
-
-/// A release or a cancel with this number, which names another.
-fn order(command: u8, number: u8, named: u8) -> [u8; 13] {
-    let element = if command == 3 { 0xFA } else { 0xF9 };
-    [
-        0x4E, 0xF0, 0, 7, 0, number, 0x7E, command, element, 0, 2, 0, named,
-    ]
-}
-
-/// The response to a request.
-fn response(number: u8, cause: u8) -> [u8; 13] {
-    [0x4E, 0xF1, 0, 7, 0, number, 1, cause, 0xFD, 0, 2, 0, number]
-}
-
-/// A node with so many gateways, counter 1.
-fn node<R: Abort>(rt: &R, alloc: Global, gateways: &[Addr]) -> Node {
-    if gateways.is_empty() || gateways.len() > 255 {
-        panic!(rt; "no node has {} gateways", gateways.len());
-    }
-    match Node::new(alloc, 0x0A00_0101, gateways, 1) {
-        Ok(node) => node,
-        Err(_) => panic!(rt; "no memory"),
-    }
-}
-
-/// One tick: the port, the gateway, the number and what is named of each datagram, and its octets.
+/// One tick.
 fn tick<R: Abort>(rt: &R, alloc: Global, node: &mut Node) -> Vec<Outgoing> {
     if !node.runs() {
         panic!(rt; "the node is halted");
@@ -59,24 +83,63 @@ fn tick<R: Abort>(rt: &R, alloc: Global, node: &mut Node) -> Vec<Outgoing> {
     }
 }
 
-/// One tick that sends this alone.
-fn sends<R: Abort>(rt: &R, alloc: Global, node: &mut Node, port: Port, to: u8, octets: &[u8]) {
+/// One tick that sends just this.
+fn sends<R: Abort>(rt: &R, alloc: Global, node: &mut Node, wanted: &[Sent<'_>]) {
     let sent = tick(rt, alloc, node);
-    assert_eq!(rt; sent.len(), 1, "{octets:?}");
-    for datagram in &sent {
-        assert_eq!(rt; datagram.octets.octets(), octets);
-        assert_eq!(rt; (datagram.port, datagram.to), (port, gateway(to)));
+    assert_eq!(rt; sent.len(), wanted.len());
+    for (datagram, wanted) in sent.iter().zip(wanted) {
+        assert_eq!(rt; datagram.octets.octets(), wanted.2);
+        assert_eq!(rt; (datagram.port, datagram.to), (wanted.0, address(wanted.1)));
     }
 }
 
-/// Hears a datagram from a gateway: whether it made the packet resolved, and done.
-fn hears<R: Abort>(rt: &R, node: &mut Node, port: Port, from: u8, octets: &[u8]) -> (bool, bool) {
+/// Hears a datagram from a gateway.
+fn hears<R: Abort>(rt: &R, node: &mut Node, port: Port, gateway: u8, octets: &[u8]) -> Heeded {
     if !node.runs() {
         panic!(rt; "the node is halted");
     }
-    let heeded = node.hear(port, gateway(from), octets);
+    let heeded = node.hear(port, address(gateway), octets);
     assert_eq!(rt; heeded.drop, None, "{octets:?}");
+    heeded
+}
+
+/// Hears a gateway's answer to a number; whether this makes the packet resolved, and done.
+fn answers<R: Abort>(
+    rt: &R,
+    node: &mut Node,
+    port: Port,
+    gateway: u8,
+    number: u8,
+    cause: u8,
+) -> (bool, bool) {
+    let octets = [0x4E, 0xF1, 0, 7, 0, number, 1, cause, 0xFD, 0, 2, 0, number];
+    let heeded = hears(rt, node, port, gateway, &octets);
     (heeded.resolved.is_some(), heeded.done.is_some())
+}
+
+/// Plays what happens to a node.
+fn play<R: Abort>(rt: &R, alloc: Global, node: &mut Node, steps: &[Step<'_>]) {
+    for step in steps {
+        match *step {
+            Step::Sends(wanted) => sends(rt, alloc, node, wanted),
+            Step::GoesDown(gateway) => {
+                let _ = hears(rt, node, Port::First, gateway, &REDIRECTION);
+            }
+            Step::Answers(port, gateway, number, cause, wanted) => {
+                let made = answers(rt, node, port, gateway, number, cause);
+                assert_eq!(rt; made, wanted, "{port:?} {cause}");
+            }
+        }
+    }
+}
+
+/// Hears a gateway's Echo Request, and tells this counter.
+fn tells<R: Abort>(rt: &R, node: &mut Node, gateway: u8, counter: u8) {
+    let asked = hears(rt, node, Port::First, gateway, &ECHO_REQUEST);
+    let Some(told) = asked.reply else {
+        panic!(rt; "no answer");
+    };
+    assert_eq!(rt; told.octets(), &[0x4E, 2, 0, 2, 0, 7, 0x0E, counter][..]);
 }
 
 /// Submits the packet with one record.
@@ -92,87 +155,78 @@ fn submit<R: Abort>(rt: &R, alloc: Global, node: &mut Node) -> Result<u64, Submi
     }
 }
 
-/// A node to which these gateways are alive, with one packet.
+/// A node with so many gateways, counter 1, to which they are alive, with one packet.
 fn ready<R: Abort>(rt: &R, alloc: Global, gateways: &[Addr]) -> Node {
-    let mut node = node(rt, alloc, gateways);
-    let probes = tick(rt, alloc, &mut node);
-    assert_eq!(rt; probes.len(), gateways.len());
-    for probe in &probes {
-        assert_eq!(rt;
-            probe.octets.octets(),
-            &[0x4E, 4, 0, 7, 0, 0, 0xFB, 0, 4, 10, 0, 1, 1][..]
-        );
+    if gateways.is_empty() || gateways.len() > 3 {
+        panic!(rt; "no node has {} gateways here", gateways.len());
     }
-    for address in gateways {
-        if !node.runs() {
-            panic!(rt; "the node is halted");
-        }
-        let asked = node.hear(Port::First, *address, &[0x4E, 1, 0, 0, 0, 0]);
-        let Some(told) = asked.reply else {
-            panic!(rt; "no answer");
-        };
-        assert_eq!(rt; told.octets(), &[0x4E, 2, 0, 2, 0, 0, 0x0E, 1][..]);
-        if !node.runs() {
-            panic!(rt; "the node is halted");
-        }
-        let _ = node.hear(Port::First, *address, &[0x4E, 5, 0, 0, 0, 0]);
+    let Ok(mut node) = Node::new(alloc, 0x0A00_0101, gateways, 1) else {
+        panic!(rt; "no memory");
+    };
+    for probe in &tick(rt, alloc, &mut node) {
+        assert_eq!(rt; probe.octets.octets(), &ALIVE_REQUEST[..]);
+    }
+    for gateway in 1..=gateways.len() as u8 {
+        tells(rt, &mut node, gateway, 1);
+        let _ = hears(rt, &mut node, Port::First, gateway, &ALIVE_RESPONSE);
     }
     assert_eq!(rt; submit(rt, alloc, &mut node), Ok(1));
     node
 }
 
-/// The Redirection Request of a gateway that is about to go down.
-const REDIRECTION: [u8; 8] = [0x4E, 6, 0, 2, 0, 0, 1, 63];
+/// Halts a node and starts it again.
+fn restart<R: Abort>(rt: &R, node: &mut Node) {
+    node.halt();
+    assert_eq!(rt; node.phase(1), Phase::Unknown);
+    if node.runs() {
+        panic!(rt; "the node isn't halted");
+    }
+    node.start();
+}
 
 #[test]
 fn a_filed_packet_cancels_its_duplicate(rt: HostRuntime) {
-    let alloc = rt.alloc();
-    let mut node = ready(&rt, alloc, &[gateway(1), gateway(2)]);
-    sends(&rt, alloc, &mut node, Port::First, 1, &packet(1, 0));
-    hears(&rt, &mut node, Port::First, 1, &REDIRECTION);
-    sends(&rt, alloc, &mut node, Port::First, 2, &packet(2, 0));
-    hears(&rt, &mut node, Port::First, 2, &response(0, 128));
-    sends(&rt, alloc, &mut node, Port::Second, 1, &test_of(0));
-    let filed = hears(&rt, &mut node, Port::Second, 1, &response(0, 253));
-    assert_eq!(rt; filed, (true, false));
-    sends(&rt, alloc, &mut node, Port::Second, 2, &order(3, 1, 0));
-    let cancelled = hears(&rt, &mut node, Port::Second, 2, &response(1, 128));
-    assert_eq!(rt; cancelled, (false, true));
+    let mut node = ready(&rt, rt.alloc(), &GATEWAYS[..2]);
+    let steps = [
+        Step::Sends(&[(Port::First, 1, &PLAIN)]),
+        Step::GoesDown(1),
+        Step::Sends(&[(Port::First, 2, &DUPLICATE)]),
+        Step::Answers(Port::First, 2, 0, 128, (false, false)),
+        Step::Sends(&[(Port::Second, 1, &TEST)]),
+        Step::Answers(Port::Second, 1, 0, 253, (true, false)),
+        Step::Sends(&[(Port::Second, 2, &CANCEL)]),
+        Step::Answers(Port::Second, 2, 1, 128, (false, true)),
+        Step::Sends(&[]),
+    ];
+    play(&rt, rt.alloc(), &mut node, &steps);
     assert_eq!(rt; node.phase(1), Phase::Done);
-    assert_eq!(rt;
-        node.copy(1, 1),
-        Some(NodeCopy {
-            gateway: 1,
-            number: 65_536
-        })
-    );
+    let duplicate = NodeCopy {
+        gateway: 1,
+        number: 65_536,
+    };
+    assert_eq!(rt; node.copy(1, 1), Some(duplicate));
     assert_eq!(rt; node.last_number(1), 65_537);
 }
 
 #[test]
 fn a_sealed_packet_releases_one_duplicate_and_cancels_the_other(rt: HostRuntime) {
-    let alloc = rt.alloc();
-    let mut node = ready(&rt, alloc, &[gateway(1), gateway(2), gateway(3)]);
-    sends(&rt, alloc, &mut node, Port::First, 1, &packet(1, 0));
-    hears(&rt, &mut node, Port::First, 1, &REDIRECTION);
-    sends(&rt, alloc, &mut node, Port::First, 2, &packet(2, 0));
-    hears(&rt, &mut node, Port::First, 2, &REDIRECTION);
-    sends(&rt, alloc, &mut node, Port::First, 3, &packet(2, 0));
-    hears(&rt, &mut node, Port::First, 3, &response(0, 128));
-    sends(&rt, alloc, &mut node, Port::Second, 1, &test_of(0));
-    hears(&rt, &mut node, Port::Second, 1, &response(0, 128));
-    let sent = tick(&rt, alloc, &mut node);
-    let octets: [&[u8]; 2] = [&order(4, 1, 0), &test_of(0)];
-    assert_eq!(rt; sent.len(), 2);
-    for (datagram, wanted) in sent.iter().zip(octets) {
-        assert_eq!(rt; datagram.octets.octets(), wanted);
-    }
-    let released = hears(&rt, &mut node, Port::Second, 3, &response(1, 128));
-    assert_eq!(rt; released, (true, false));
-    hears(&rt, &mut node, Port::Second, 2, &response(0, 252));
-    sends(&rt, alloc, &mut node, Port::Second, 2, &order(3, 1, 0));
-    let cancelled = hears(&rt, &mut node, Port::Second, 2, &response(1, 128));
-    assert_eq!(rt; cancelled, (false, true));
+    let mut node = ready(&rt, rt.alloc(), &GATEWAYS);
+    let steps = [
+        Step::Sends(&[(Port::First, 1, &PLAIN)]),
+        Step::GoesDown(1),
+        Step::Sends(&[(Port::First, 2, &DUPLICATE)]),
+        Step::GoesDown(2),
+        Step::Sends(&[(Port::First, 3, &DUPLICATE)]),
+        Step::Answers(Port::First, 3, 0, 128, (false, false)),
+        Step::Sends(&[(Port::Second, 1, &TEST)]),
+        Step::Answers(Port::Second, 1, 0, 128, (false, false)),
+        Step::Sends(&[(Port::Second, 3, &RELEASE), (Port::Second, 2, &TEST)]),
+        Step::Answers(Port::Second, 3, 1, 128, (true, false)),
+        Step::Answers(Port::Second, 2, 0, 252, (false, false)),
+        Step::Sends(&[(Port::Second, 2, &CANCEL)]),
+        Step::Answers(Port::Second, 2, 1, 128, (false, true)),
+    ];
+    play(&rt, rt.alloc(), &mut node, &steps);
     let counts = NodeCounts {
         packets: 1,
         resolved: 1,
@@ -181,73 +235,91 @@ fn a_sealed_packet_releases_one_duplicate_and_cancels_the_other(rt: HostRuntime)
     assert_eq!(rt; node.counts(), counts);
 }
 
+/// What a cause tells at a port: whether it ends a packet that has the plain copy alone, and how many datagrams the
+/// next tick sends; and, where the plain copy isn't answered and this is said of a duplicate at the second gateway,
+/// from which port and to which gateway the next tick sends.
+const TELLINGS: [(Port, u8, bool, usize, Port, u8); 22] = [
+    (Port::First, 128, true, 0, Port::Second, 1),
+    (Port::First, 177, false, 1, Port::First, 2),
+    (Port::First, 193, false, 1, Port::First, 2),
+    (Port::First, 199, false, 1, Port::First, 1),
+    (Port::First, 201, false, 1, Port::First, 2),
+    (Port::First, 202, false, 1, Port::First, 2),
+    (Port::First, 204, false, 1, Port::First, 1),
+    (Port::First, 252, false, 1, Port::Second, 1),
+    (Port::First, 253, true, 0, Port::First, 2),
+    (Port::First, 254, false, 1, Port::First, 2),
+    (Port::First, 255, false, 1, Port::First, 2),
+    (Port::Second, 128, false, 0, Port::First, 2),
+    (Port::Second, 177, false, 1, Port::First, 2),
+    (Port::Second, 193, false, 1, Port::First, 2),
+    (Port::Second, 199, false, 1, Port::First, 2),
+    (Port::Second, 201, false, 1, Port::First, 2),
+    (Port::Second, 202, false, 1, Port::First, 2),
+    (Port::Second, 204, false, 1, Port::First, 2),
+    (Port::Second, 252, false, 1, Port::Second, 1),
+    (Port::Second, 253, true, 0, Port::First, 2),
+    (Port::Second, 254, false, 1, Port::First, 2),
+    (Port::Second, 255, false, 1, Port::First, 2),
+];
+
 #[test]
 fn each_cause_tells_what_it_does_at_its_port(rt: HostRuntime) {
-    let alloc = rt.alloc();
-    // the plain copy alone: the port, the cause, whether the packet is done, and how many
-    // datagrams the next tick sends
-    for (port, cause, is_done, sends) in [
-        (Port::First, 128, true, 0),
-        (Port::First, 253, true, 0),
-        (Port::First, 252, false, 1),
-        (Port::First, 255, false, 1),
-        (Port::Second, 253, true, 0),
-        (Port::Second, 128, false, 0),
-        (Port::Second, 252, false, 1),
-        (Port::Second, 199, false, 1),
-    ] {
-        let mut node = ready(&rt, alloc, &[gateway(1)]);
-        tick(&rt, alloc, &mut node);
-        let (_, done) = hears(&rt, &mut node, port, 1, &response(0, cause));
-        assert_eq!(rt; done, is_done, "{port:?} {cause}");
+    for (port, cause, is_done, count, from, to) in TELLINGS {
+        let mut node = ready(&rt, rt.alloc(), &GATEWAYS[..1]);
+        sends(&rt, rt.alloc(), &mut node, &[(Port::First, 1, &PLAIN)]);
+        let made = answers(&rt, &mut node, port, 1, 0, cause);
+        assert_eq!(rt; made, (is_done, is_done), "{port:?} {cause}");
         assert_eq!(rt;
-            tick(&rt, alloc, &mut node).len(),
-            sends,
+            tick(&rt, rt.alloc(), &mut node).len(),
+            count,
             "{port:?} {cause}"
         );
+
+        let mut node = ready(&rt, rt.alloc(), &GATEWAYS[..2]);
+        sends(&rt, rt.alloc(), &mut node, &[(Port::First, 1, &PLAIN)]);
+        let _ = hears(&rt, &mut node, Port::First, 1, &REDIRECTION);
+        sends(&rt, rt.alloc(), &mut node, &[(Port::First, 2, &DUPLICATE)]);
+        let made = answers(&rt, &mut node, port, 2, 0, cause);
+        assert_eq!(rt; made, (false, false), "{port:?} {cause}");
+        for sent in &tick(&rt, rt.alloc(), &mut node) {
+            assert_eq!(rt;
+                (sent.port, sent.to),
+                (from, address(to)),
+                "{port:?} {cause}"
+            );
+        }
     }
 }
 
 #[test]
 fn a_sixty_fifth_open_packet_is_refused(rt: HostRuntime) {
     let alloc = rt.alloc();
-    let mut node = node(&rt, alloc, &[gateway(1)]);
-    for number in 1..=64 {
+    let mut node = ready(&rt, alloc, &GATEWAYS[..1]);
+    for number in 2..=64 {
         assert_eq!(rt; submit(&rt, alloc, &mut node), Ok(number));
     }
     assert_eq!(rt; submit(&rt, alloc, &mut node), Err(SubmitFault::InFlight));
-    node.halt();
-    assert_eq!(rt; node.phase(1), Phase::Unknown);
-    if node.runs() {
-        panic!(rt; "the node isn't halted");
-    }
-    node.start();
+    restart(&rt, &mut node);
     assert_eq!(rt; (node.counter(), node.id().0), (2, 0x0A00_0101));
     assert_eq!(rt; submit(&rt, alloc, &mut node), Ok(65));
 }
 
 #[test]
 fn a_restarted_node_makes_its_path_anew_at_both_ends(rt: HostRuntime) {
-    let alloc = rt.alloc();
-    let mut node = ready(&rt, alloc, &[gateway(1)]);
+    let mut node = ready(&rt, rt.alloc(), &GATEWAYS[..1]);
     for counter in [1, 2] {
-        if !node.runs() {
-            panic!(rt; "the node is halted");
-        }
-        let asked = node.hear(Port::First, gateway(1), &[0x4E, 1, 0, 0, 0, 7]);
-        let Some(told) = asked.reply else {
-            panic!(rt; "no answer");
-        };
-        assert_eq!(rt; told.octets(), &[0x4E, 2, 0, 2, 0, 7, 0x0E, counter][..]);
+        tells(&rt, &mut node, 1, counter);
         let path = path_mgmt::PathEvent::EchoTold { number: 7, counter };
-        let learnt = path_mgmt::GatewayPath::hear(Some(counter.wrapping_sub(1)), path, 1);
+        let learnt = path_mgmt::GatewayPath::hear(Some(counter - 1), path, 1);
         assert_eq!(rt; learnt.changed, Some(counter));
-        node.halt();
-        if node.runs() {
-            panic!(rt; "the node isn't halted");
-        }
-        node.start();
-        // no gateway is alive any more
-        assert_eq!(rt; tick(&rt, alloc, &mut node).len(), 1);
+        restart(&rt, &mut node);
+        // the gateway isn't alive any more
+        sends(
+            &rt,
+            rt.alloc(),
+            &mut node,
+            &[(Port::First, 1, &ALIVE_REQUEST)],
+        );
     }
 }

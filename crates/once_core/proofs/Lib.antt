@@ -21,3 +21,6 @@ pub mod OnceLemmas
 pub mod StoryLemmas
 pub mod DeedLemmas
 pub mod NodeLemmas
+pub mod FollowLemmas
+pub mod FollowSentLemmas
+pub mod FollowKnownLemmas

@@ -1,5 +1,5 @@
 -- The packets that a node ever followed.
-use Rattle.std.specs.Prelude.{ℕ, List, [], ◌∷◌, ◌++◌, map, zip}
+use Rattle.std.specs.Prelude.{ℕ, ◌==◌, List, [], ◌∷◌, ◌++◌, filter, map, zip}
 use Rattle.gtpp_message.specs.Packet.{PacketForm}
 use Rattle.node_core.specs.Log.{LogEntry, Began, Halted, Submitted, Appointed, Ticked, Heard, forms_of, packets_of}
 use Rattle.node_core.specs.Packets.{PacketState}
@@ -30,3 +30,7 @@ followed_before (Heard port gateway saying ∷ log) = followed_before log
 -- all of them, in order
 abbrev pub all_followed : List LogEntry → List Followed
 all_followed log = followed_before log ++ following log
+
+-- the packets of one start: as they are in the present one, and as they stood when another ended
+abbrev pub packets_in : ℕ → List LogEntry → List PacketState
+packets_in start log = map (λ (p : Followed). p.state) (filter (λ p. p.start == start) (all_followed log))

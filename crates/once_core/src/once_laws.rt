@@ -1,8 +1,7 @@
 //! Laws of every list of happenings at gateways and nodes, where messages are what they mean. Each
 //! stands on a function that does nothing.
 //!
-//! Not proved yet: that each request in the log of a node is of one of its copies, as `Follows` asks,
-//! and that a world with octets is such a list of happenings.
+//! Not proved yet: that a world with octets is such a list of happenings.
 
 ghost use Rattle.std.specs.Prelude.{◌≡◌, ◌≤◌, ◌++◌, ℕ, All, List, Some, length};
 ghost use Rattle.gw_base.specs.History.{epoch_of};
@@ -14,6 +13,7 @@ ghost use Rattle.node_core.specs.Reached.{NodeCall, log_of, reached};
 ghost use Rattle.once_core.specs.Deeds.{deeds_of};
 ghost use Rattle.once_core.specs.Epochs.{StartsRise, epoch_with};
 ghost use Rattle.once_core.specs.Expired.{starts_in};
+ghost use Rattle.once_core.specs.Followed.{packets_in};
 ghost use Rattle.once_core.specs.Following.{Follows, Knows};
 ghost use Rattle.once_core.specs.Happenings.{Happening, Scene};
 ghost use Rattle.once_core.specs.OncePlaced.{IsOnce};
@@ -70,6 +70,18 @@ pub fn a_node_knows_what_it_was_told()
     node_core::laws::released_copies_are_chosen();
     node_core::laws::a_gateway_gets_one_copy();
     node_core::laws::each_number_has_one_role();
+}
+
+/// Whatever is called of a node, it follows the procedure in each of its starts, by what it knows of
+/// the packets of that start: in the present one as they are, and in another as they stood at its end.
+pub fn a_node_follows_the_procedure()
+    ensures { (setup : NodeSetup) (calls : List NodeCall) (node start : ℕ) (values : ℕ → List ℕ) →
+        1 ≤ length setup.gateways →
+        Follows (deeds_of node values (log_of setup calls)) start values (packets_in start (log_of setup calls)) }
+{
+    a_node_knows_what_it_was_told();
+    node_core::laws::knowledge_grows();
+    node_core::laws::requests_are_of_copies();
 }
 
 /// The premise can be met: in a story of one packet, which comes to a gateway, is filed and
