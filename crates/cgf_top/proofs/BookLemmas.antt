@@ -1,5 +1,5 @@
 -- The book of a gateway whose device never fails: before each call and after it all entries are firm.
-use Rattle.std.proofs.Common.{◌≡◌, ◌≢◌, ℕ, ◌<◌, ◌≤◌, min, Bool, true, false, if◌then◌else◌, List, [], ◌∷◌, ◌++◌, length, get_or, take, Option, Some, None, refl, ap, sym, ◌∙◌, subst, arith, append-nil, zero, suc, inl, inr}
+use Rattle.std.proofs.Common.{◌≡◌, ◌≢◌, ℕ, ◌<◌, min, Bool, true, false, if◌then◌else◌, List, [], ◌∷◌, ◌++◌, length, get_or, take, Option, Some, None, refl, ap, sym, ◌∙◌, arith, append-nil, zero, suc, inl, inr}
 use Rattle.std.specs.Prelude.{All, slice_index}
 use Rattle.std.proofs.lemmas.Bool.{false≢true}
 use Rattle.std.proofs.lemmas.List.{length-take, take_min}
@@ -21,7 +21,6 @@ use Rattle.gateway_book.specs.declared.book.Book.{Book}
 use Rattle.gateway_book.specs.declared.outcome.Outcome.{Outcome}
 use Rattle.gateway_book.specs.declared.outcome.Outcome.TheVariants as outcome
 use Rattle.gw_base.specs.declared.address.Addr.{Addr}
-use Rattle.gw_base.specs.declared.history.Caller.{Caller}
 use Rattle.gw_base.specs.declared.history.HistoryAct.{HistoryAct}
 use Rattle.gw_base.specs.declared.history.HistoryAct.TheVariants.{Start}
 use Rattle.gw_base.specs.declared.history.HistoryEntry.{HistoryEntry}

@@ -1,5 +1,5 @@
 -- The feed of a script, line by line, and its report.
-use Rattle.std.proofs.Common.{◌≡◌, ℕ, ◌+◌, Bool, true, false, List, [], ◌∷◌, ◌++◌, count_by, drop, Option, Some, None, slice_get, Result, Ok, Err, refl, ap, sym, ◌∙◌, append_assoc}
+use Rattle.std.proofs.Common.{◌≡◌, ℕ, ◌+◌, true, false, List, [], ◌∷◌, ◌++◌, count_by, drop, Option, Some, None, slice_get, Result, Ok, Err, refl, ap, sym, ◌∙◌, append_assoc}
 use Rattle.std.specs.List.{flat_map}
 use Rattle.std.specs.Prelude.{IfOk}
 use Rattle.gw_base.specs.declared.fault.NoMemory.{NoMemory}
@@ -17,7 +17,7 @@ use Rattle.world_script.specs.declared.line.Line.{Line}
 use Rattle.cgf_top.specs.FeedReport.{Fed, FeedState, after_line, begun, end_lines, fed_from, fed_of, file_line, gateway_line, is_earlier, line_kind, printed_for, with_print}
 use Rattle.cgf_top.specs.FeedSettings.{FeedSettings, settings_of}
 use Rattle.cgf_top.specs.Gateway.{after_close}
-use Rattle.cgf_top.specs.Run.{end_of, is_of_run, may_have_written, run_end, script_end, script_report}
+use Rattle.cgf_top.specs.Run.{is_of_run, may_have_written, run_end, script_end, script_report}
 use Rattle.cgf_top.specs.Steps.{IsFed, IsRefusal, IsReport, counts_line, ended_by, is_part, refusal_at}
 use Rattle.cgf_top.specs.declared.command.Command.TheVariants.{Feed}
 use Rattle.cgf_top.specs.declared.report.Refusal.{Refusal}

@@ -1,18 +1,17 @@
 -- The files that a writer leaves on a shelf that was empty.
-use Rattle.std.proofs.Common.{◌≡◌, ℕ, suc, ◌+◌, ◌-◌, ◌<◌, ◌≤◌, min, max, IsTrue, List, [], ◌∷◌, ◌++◌, length, take, Result, Ok, Err, refl, ap, sym, ◌∙◌, subst, arith, append-nil}
+use Rattle.std.proofs.Common.{◌≡◌, ℕ, suc, ◌+◌, ◌-◌, ◌<◌, ◌≤◌, min, max, IsTrue, List, [], ◌∷◌, ◌++◌, length, take, Ok, refl, ap, sym, ◌∙◌, arith, append-nil}
 use Rattle.std.proofs.Math.Seq.{take-length}
 use Rattle.std.proofs.lemmas.List.{take_min}
 use Rattle.area_disk.specs.Disk.{Rose}
 use Rattle.cdr_file.specs.CdrFile.{FileSettings}
-use Rattle.cdr_shelf.specs.Files.{SealedFile, greatest_in, in_stream}
+use Rattle.cdr_shelf.specs.Files.{greatest_in, in_stream}
 use Rattle.cdr_shelf.specs.declared.shelf.Shelf.{Ghosts}
 use Rattle.file_rotate.specs.Division.{ClosedRun}
 use Rattle.file_writer.specs.Advancing.{Advances, HasRecovered}
-use Rattle.file_writer.specs.Files.{file_in, files_from, stream_files}
-use Rattle.file_writer.specs.Holding.{HoldsOf, files_after}
+use Rattle.file_writer.specs.Files.{files_from, stream_files}
+use Rattle.file_writer.specs.Holding.{files_after}
 use Rattle.file_writer.specs.Streams.{Settings, closed_of, stream_count, stream_division}
 use Rattle.file_writer.specs.Writer.{Holds, sealed_in, settings_in, shelf_of}
-use Rattle.file_writer.specs.declared.fault.ShelfFault.{ShelfFault}
 use Rattle.file_writer.specs.declared.writer.Writer.{Writer}
 use Rattle.gw_base.specs.declared.item.Item.{Item}
 

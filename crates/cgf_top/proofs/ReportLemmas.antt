@@ -1,12 +1,11 @@
 -- What is printed for the lines of a script, step by step.
-use Rattle.std.proofs.Common.{◌≡◌, ℕ, suc, ◌+◌, ◌<◌, get_or, take, Bool, true, false, List, [], ◌∷◌, ◌++◌, length, map, count_by, codes, if◌then◌else◌, Option, Some, None, refl, ap, sym, ◌∙◌, subst, arith, append_assoc, append-nil, length-append}
+use Rattle.std.proofs.Common.{◌≡◌, ℕ, ◌+◌, ◌<◌, get_or, take, Bool, true, false, List, [], ◌∷◌, ◌++◌, length, map, count_by, codes, if◌then◌else◌, Some, refl, ap, sym, ◌∙◌, arith, append_assoc, append-nil, length-append}
 use Rattle.std.proofs.lemmas.List.Sums.{count_by_more_no, count_by_more_yes, sum_by-append, sum_by-cons}
 use Rattle.std.specs.Fmt.{decimal}
-use Rattle.gateway_book.specs.Answer.{Decided, Says, Silent}
 use Rattle.gateway_book.specs.Calls.{counts_of}
 use Rattle.gateway_book.specs.Filed.{along, filed, filed_by, filed_by_act}
 use Rattle.gateway_book.specs.Items.{items_by, items_by_act, items_of, part_of}
-use Rattle.gateway_book.specs.Value.{history_of, standing_for}
+use Rattle.gateway_book.specs.Value.{standing_for}
 use Rattle.gateway_book.specs.declared.filing.FiledRecord.{FiledRecord}
 use Rattle.gw_base.specs.History.{copies_of}
 use Rattle.gw_base.specs.declared.history.HistoryAct.{HistoryAct}
@@ -14,9 +13,8 @@ use Rattle.gw_base.specs.declared.history.HistoryAct.TheVariants as act
 use Rattle.gw_base.specs.declared.history.HistoryEntry.{HistoryEntry}
 use Rattle.gw_base.specs.declared.item.Item.{Item}
 use Rattle.world_script.specs.declared.line.Line.{Line}
-use Rattle.cgf_top.specs.FeedReport.{Fed, FeedState, after_line, end_lines, fed_from, gateway_line, is_earlier, printed_for, with_print}
+use Rattle.cgf_top.specs.FeedReport.{Fed, FeedState, after_line, fed_from, gateway_line, is_earlier, printed_for, with_print}
 use Rattle.cgf_top.specs.FeedSettings.{FeedSettings}
-use Rattle.cgf_top.specs.Gateway.{after_close}
 use Rattle.cgf_top.specs.Steps.{counts_line, is_part}
 
 -- ---- lines

@@ -1,6 +1,6 @@
 -- What holds of the lines that the grammar of scripts takes: settings are in their ranges, rules are rules, and there are
 -- no more of them than there may be.
-use Rattle.std.proofs.Common.{◌≡◌, ℕ, zero, suc, ◌+◌, ◌-◌, ◌*◌, ◌^◌, ◌≤◌, ◌<◌, Bool, true, false, not, ◌&&◌, ◌==◌, nat_le, nat_lt, if◌then◌else◌, List, [], ◌∷◌, ◌++◌, length, count_by, All, Option, Some, None, IsSome, is_some, option_map, option_and_then, Result, Ok, Err, IsUtf8, slice_index_or, zero-le, refl, ap, sym, ◌∙◌, subst, arith, codes, length-append, ℤ, pos, neg_ℤ}
+use Rattle.std.proofs.Common.{◌≡◌, ℕ, zero, suc, ◌+◌, ◌-◌, ◌*◌, ◌≤◌, ◌<◌, Bool, true, false, ◌&&◌, ◌==◌, nat_le, nat_lt, if◌then◌else◌, List, [], ◌∷◌, ◌++◌, length, count_by, All, Option, Some, None, IsSome, is_some, option_and_then, Result, Ok, Err, IsUtf8, slice_index_or, refl, ap, ◌∙◌, subst, arith, codes, length-append, ℤ, pos, neg_ℤ}
 use Rattle.std.proofs.lemmas.Int.{ints}
 use Rattle.std.proofs.lemmas.Bool.{leb-true, ltb-true, ltb-false}
 use Rattle.std.proofs.lemmas.List.Elements.{All-append, All-cons}
@@ -9,12 +9,11 @@ use Rattle.std.proofs.lemmas.Str.{IsUtf8-from_ascii}
 use Rattle.std.proofs.lemmas.Str.Ascii.{IsAscii-from_reads}
 use Rattle.std.specs.Char.{is_ascii_digit}
 use Rattle.std.specs.Int.{is_in_range}
-use Rattle.std.specs.List.{flat_map, list_all}
+use Rattle.std.specs.List.{flat_map}
 use Rattle.std.proofs.lemmas.Grind.{flat_map-append}
 use Rattle.std.specs.Option.{ok_or, option_map_or}
 use Rattle.std.specs.Str.{bytes_eq}
 use Rattle.std.specs.Str.Parse.{digits_value}
-use Rattle.gw_base.specs.declared.address.Addr.{Addr}
 use Rattle.jiff_core.specs.Calendar.{IsWithin}
 use Rattle.route_filter.specs.Rules.{most_rules, rule_of}
 use Rattle.route_filter.specs.declared.rule.Rule.{Rule}

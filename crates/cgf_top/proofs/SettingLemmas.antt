@@ -1,8 +1,8 @@
 -- Settings, line by line.
-use Rattle.std.proofs.Common.{◌≡◌, ℕ, zero, suc, ◌+◌, ◌<◌, ◌≤◌, List, [], ◌∷◌, ◌++◌, length, drop, Option, Some, None, refl, ap, sym, ◌∙◌, arith, slice_get, append_assoc, append-nil}
+use Rattle.std.proofs.Common.{◌≡◌, ℕ, zero, suc, ◌+◌, ◌<◌, List, [], ◌∷◌, length, drop, Some, None, refl, ap, ◌∙◌, arith, slice_get, append_assoc, append-nil}
 use Rattle.std.specs.List.{flat_map}
 use Rattle.world_script.specs.declared.line.Line.{Line}
-use Rattle.cgf_top.specs.FeedSettings.{FeedSettings, first_settings, last_set, offset_in, open_time_in, records_in, reserve_in, rules_in, settings_after, settings_of, size_in}
+use Rattle.cgf_top.specs.FeedSettings.{FeedSettings, last_set, offset_in, open_time_in, records_in, reserve_in, rules_in, settings_after, size_in}
 use Rattle.cgf_top.specs.SettingSteps.{settings_with}
 
 -- the rest of a list from a place on

@@ -1,6 +1,6 @@
 -- An input that the grammar takes has fewer octets than are read at most, so that it was read to its end.
 use Rattle.std.proofs.Common.{◌≡◌, ℕ, ◌<◌, inl, inr, true, false, sym, ◌∙◌, List, [], length, Option, Some, Result, Ok, Err, refl, ap, arith}
-use Rattle.std.specs.Io.KnownBytes.{Appends, IsAtEnd}
+use Rattle.std.specs.Io.KnownBytes.{Appends}
 use Rattle.gw_base.specs.Written.{AppendsFront}
 use Rattle.cdr_file.specs.Spelling.{Spells}
 use Rattle.cdr_file.specs.Reading.{file_in}

@@ -2,8 +2,6 @@
 use Rattle.std.specs.Prelude.{ℕ, List, [], ◌∷◌, ◌++◌, Option, Some, None, pos, ℤ}
 use Rattle.std.specs.List.{flat_map}
 use Rattle.std.specs.Option.{option_map_or}
-use Rattle.cdr_file.specs.CdrFile.{FileSettings}
-use Rattle.file_rotate.specs.declared.limits.Limits.{Limits}
 use Rattle.file_writer.specs.Streams.{Settings}
 use Rattle.route_filter.specs.Rules.{rule_of}
 use Rattle.route_filter.specs.declared.rule.Rule.{Rule}

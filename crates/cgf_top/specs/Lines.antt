@@ -1,5 +1,5 @@
 -- What the grammar of scripts makes sure of the lines of a script.
-use Rattle.std.specs.Prelude.{ℕ, ◌≤◌, ◌-◌, ◌^◌, List, length, All, IsSome, IsUtf8}
+use Rattle.std.specs.Prelude.{◌≤◌, ◌-◌, ◌^◌, List, length, All, IsSome, IsUtf8}
 use Rattle.std.specs.List.{flat_map}
 use Rattle.jiff_core.specs.Calendar.{IsWithin}
 use Rattle.route_filter.specs.Rules.{most_rules, rule_of}

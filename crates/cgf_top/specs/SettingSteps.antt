@@ -1,5 +1,5 @@
 -- Words for the steps in which settings are read.
-use Rattle.std.specs.Prelude.{ℕ, ◌≤◌, ◌++◌}
+use Rattle.std.specs.Prelude.{◌≤◌, ◌++◌}
 use Rattle.file_rotate.specs.Items.{AreLimits}
 use Rattle.world_script.specs.declared.line.Line.{Line}
 use Rattle.cgf_top.specs.FeedSettings.{FeedSettings, gateway_address, offset_in, open_time_in, records_in, reserve_in, rules_in, set_by, size_in}

@@ -1,4 +1,4 @@
-use Rattle.std.proofs.Common.{◌≡◌, ℕ, List, map, string_bytes, Err, ap, sym, subst}
+use Rattle.std.proofs.Common.{ℕ, List, map, string_bytes, Err, ap, sym, subst}
 use Rattle.cgf_top.specs.Run.{IsRead}
 use Rattle.cgf_top.specs.Steps.{IsRefusal}
 use Rattle.cgf_top.specs.declared.report.NoReport.{NoReport}

@@ -1,4 +1,4 @@
-use Rattle.std.proofs.Common.{◌≡◌, refl, sym, append-nil, arith}
+use Rattle.std.proofs.Common.{sym, append-nil, arith}
 use Rattle.cgf_top.specs.SettingSteps.{settings_seen}
 use Rattle.cgf_top.proofs.PrintLemmas.{stream_printed}
 use Rattle.cgf_top.proofs.feed.print_files.Goals as goal

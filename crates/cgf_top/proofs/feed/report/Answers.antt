@@ -1,5 +1,4 @@
-use Rattle.std.proofs.Common.{◌≡◌, ◌+◌, sym, ◌∙◌, arith}
-use Rattle.cgf_top.specs.FeedReport.{is_earlier}
+use Rattle.std.proofs.Common.{sym, ◌∙◌, arith}
 use Rattle.cgf_top.specs.SettingSteps.{settings_seen}
 use Rattle.cgf_top.specs.Steps.{state_of}
 use Rattle.cgf_top.proofs.FeedLemmas.{feed_begins, feed_ends_if, feed_goes_on, feed_stops}

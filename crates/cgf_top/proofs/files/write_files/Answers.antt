@@ -1,7 +1,7 @@
-use Rattle.std.proofs.Common.{◌≡◌, [], ap, refl, ◌∙◌}
+use Rattle.std.proofs.Common.{[], ap, refl, ◌∙◌}
 use Rattle.cdr_shelf.specs.Files.{in_stream}
 use Rattle.cdr_shelf.specs.declared.quiet.QuietShelf.{QuietShelf}
-use Rattle.file_writer.specs.Making.{Failed, ending_at, ending_of}
+use Rattle.file_writer.specs.Making.{ending_at}
 use Rattle.cgf_top.specs.SettingSteps.{settings_seen}
 use Rattle.cgf_top.proofs.FileLemmas.{files_written, never_rose}
 use Rattle.cgf_top.proofs.files.write_files.Goals as goal

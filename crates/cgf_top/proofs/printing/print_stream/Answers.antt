@@ -1,4 +1,4 @@
-use Rattle.std.proofs.Common.{◌≡◌, ◌+◌, ◌++◌, length, sym, arith}
+use Rattle.std.proofs.Common.{◌++◌, sym, arith}
 use Rattle.cdr_shelf.specs.Files.{file_of}
 use Rattle.cgf_top.proofs.PrintLemmas.{line_printed, lines_in, lines_printed}
 use Rattle.cgf_top.proofs.SettingLemmas.{below_at}

@@ -1,4 +1,4 @@
-use Rattle.std.proofs.Common.{◌≡◌, List, ◌++◌, count_by, ap, ◌∙◌}
+use Rattle.std.proofs.Common.{List, ◌++◌, count_by, ap, ◌∙◌}
 use Rattle.std.specs.List.{flat_map}
 use Rattle.file_writer.specs.Files.{files_of}
 use Rattle.gateway_book.specs.Calls.{counts_of}

@@ -1,4 +1,4 @@
-use Rattle.std.proofs.Common.{◌≡◌, refl, sym, ap, ◌∙◌}
+use Rattle.std.proofs.Common.{refl, ap, ◌∙◌}
 use Rattle.gateway_book.specs.Answer.{decided}
 use Rattle.gateway_book.specs.Answered.{act_decided, answer_to}
 use Rattle.gateway_book.specs.Book.{fortune_of, size_of, value_of}
