@@ -3,14 +3,16 @@ use Rattle.std.specs.Prelude.{◌≡◌, ◌≢◌, ℕ, ◌+◌, IsTrue, Bool, 
 use Rattle.area_disk.specs.Armed.{Armed, IsArmed, calls_under}
 use Rattle.area_disk.specs.Course.{IsTied}
 use Rattle.area_disk.specs.Disk.{HasCause, counted}
+use Rattle.area_disk.specs.Plan.{ReadAsPlanned}
 use Rattle.area_disk.specs.declared.area.Area.{Ghosts}
+use Rattle.area_disk.specs.declared.plan.Outcome3.{Outcome3}
 use Rattle.gw_base.specs.declared.history.HistoryEntry.{HistoryEntry}
 use Rattle.gw_base.specs.declared.place.Place.{Place}
 use Rattle.gate_journal.specs.Moments.{Calls, Leaves, Told}
 use Rattle.entry_codec.specs.Spelling.{entry_length}
 use Rattle.cgf_journal.specs.Comes.{CommitComes, ReopenComes, plan_of}
 use Rattle.cgf_journal.specs.Follows.{CommitFollows, ReopenFollows}
-use Rattle.cgf_journal.specs.Trail.{IsFirmPlaceOf, IsPlaceOf, IsSettled, StandsForOr, area_of, entries, firm_entries, firm_length, free_of, has_room_of, header_of, is_closed, length_of, torn_stands, waiting, waiting_octets}
+use Rattle.cgf_journal.specs.Trail.{IsFirmPlaceOf, IsPlaceOf, IsSettled, StandsForOr, area_of, entries, firm_entries, firm_length, free_of, has_room_of, header_of, is_closed, length_of, stop_stands, torn_stands, waiting, waiting_octets}
 use Rattle.cgf_journal.specs.declared.trail.Trail.{Trail}
 
 module _ {A : Type 0} {tells : Ghosts A} (old new : Trail A tells) where
@@ -125,3 +127,9 @@ module _ {A : Type 0} {tells : Ghosts A} (old new : Trail A tells) where
   pub record ReopenPlanned {E : Type 0} (result : Result Bool E) : Type 0 where
     pub follows : IsTrue tells.tells_fate → ReopenFollows old new (is_err result)
     pub comes : IsTrue tells.tells_fate → (a : Armed) → IsArmed a (plan_of old).schedule → ReopenComes old new (is_err result) (calls_under a 1)
+
+  -- A read comes out as was planned for it: it fails where the next read is to fail, or the device is stopped. What a
+  -- stop leaves of the torn entries stays.
+  pub record ReadPlanned {T E : Type 0} (result : Result T E) : Type 0 where
+    pub planned : ReadAsPlanned (tells.fate (area_of old)) result (tells.fate (area_of new))
+    pub stands : (outcome : Outcome3) → stop_stands outcome new ≡ stop_stands outcome old

@@ -24,8 +24,6 @@ mod places;
 mod sorted;
 mod sum;
 mod tally;
-#[cfg(test)]
-mod tests;
 mod trail;
 
 pub use faults::BatchFull;

@@ -58,7 +58,7 @@ pub struct Trail<A: Area> {
 impl<A: Area> Trail<A> {
     ghost use Rattle.area_disk.specs.declared.plan.Outcome3.{Outcome3};
     ghost use Rattle.area_disk.specs.declared.plan.Outcome3.TheVariants.{New};
-    ghost use Rattle.cgf_journal.specs.Outcomes.{AllFirm, AreTorn, CommitCalls, CommitPlanned, CrashLeaves, FirmPlacesStay, FirmStays, IsKept, IsPushed, IsReopened, ReopenCalls, ReopenPlanned, Stays, TornDropped, TornStand, UnmadeIfNone};
+    ghost use Rattle.cgf_journal.specs.Outcomes.{AllFirm, AreTorn, CommitCalls, CommitPlanned, CrashLeaves, FirmPlacesStay, FirmStays, IsKept, IsPushed, IsReopened, ReadPlanned, ReopenCalls, ReopenPlanned, Stays, TornDropped, TornStand, UnmadeIfNone};
     ghost use Rattle.cgf_journal.specs.Trail.{IsAtRest, IsFirmPlaceOf, IsPlace, IsPlaceOf, IsSettled, area_of, entries, firm_entries, firm_length, free_of, has_room_of, header_of, is_closed, left_by_stop, length_of, stop_stands, torn_stands, waiting, waiting_octets};
 
     /// Adds an entry after the others. It is firm after the next commit. It takes no memory.
@@ -254,6 +254,7 @@ impl<A: Area> Trail<A> {
         ensures torn_stands { torn_stands self.new ≡ torn_stands self.old }
         ensures area { Kept A.Area (area_of self.old) (area_of self.new) }
         ensures cause { HasCause (A.faults (area_of self.old)) (A.faults (area_of self.new)) result }
+        ensures planned { IsTrue A.tells_fate → ReadPlanned self.old self.new result }
     {
         self.journal.read(place.at, into)
     }

@@ -32,8 +32,8 @@ struct Feed {
 
 /// What is printed for the lines of a script, up to the first that can't be run.
 pub fn report(alloc: Global, script: &Script) -> Result<Report, NoMemory>
-    requires { AreInRange script.now }
-    ensures { IfOk result (λ report. IsFed (fed_of script.now) report) }
+    requires { AreInRange script.now.lines }
+    ensures { IfOk result (λ report. IsFed (fed_of script.now.lines) report) }
 {
     let settings = Settings::of(alloc, script)?;
     let mut feed = Feed::open(alloc, &settings)?;

@@ -35,8 +35,8 @@ pub struct Settings {
 impl Settings {
     /// What the lines of a script set.
     pub fn of(alloc: Global, script: &Script) -> Result<Settings, NoMemory>
-        requires { AreInRange script.now }
-        ensures settings { IfOk result (λ settings. settings_seen settings ≡ settings_of script.now) }
+        requires { AreInRange script.now.lines }
+        ensures settings { IfOk result (λ settings. settings_seen settings ≡ settings_of script.now.lines) }
         ensures sound { IfOk result (λ settings. AreSound settings) }
     {
         let mut settings = Settings::first(alloc);

@@ -12,8 +12,6 @@ pub mod places;
 mod progress;
 mod shelf_calls;
 mod stream;
-#[cfg(test)]
-mod tests;
 mod writer;
 
 pub use fault::ShelfFault;

@@ -4,7 +4,7 @@ use Rattle.std.proofs.lemmas.List.{append-nil}
 use Rattle.gw_base.specs.declared.item.Item.{Item}
 use Rattle.gateway_book.specs.Gathering.{Gathered, gathered}
 
-drop_over : (n : ℕ) (xs ys : List Item) → drop n (xs ++ ys) ≡ drop n xs ++ drop (n - length xs) ys
+pub drop_over : (n : ℕ) (xs ys : List Item) → drop n (xs ++ ys) ≡ drop n xs ++ drop (n - length xs) ys
 drop_over zero xs ys = ap (λ (m : ℕ). xs ++ drop m ys) (zero_less (length xs))
   where
     zero_less : (m : ℕ) → 0 ≡ 0 - m

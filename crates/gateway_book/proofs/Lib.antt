@@ -22,7 +22,9 @@ pub mod Ours
 pub mod PlainLemmas
 pub mod ReadLemmas
 pub mod RecordsLemmas
+pub mod StandingLemmas
 pub mod StatesLemmas
 pub mod TakingLemmas
 pub mod Telling
+pub mod TellingEntries
 pub mod Tellings

@@ -1,13 +1,13 @@
 -- Octets that stand for a fit history are ours at every place.
-use Rattle.std.proofs.Common.{◌≡◌, inl, inr, ℕ, List, [], ◌∷◌, ◌++◌, length, refl, sym, ◌∙◌, ap, subst, arith, append_assoc}
+use Rattle.std.proofs.Common.{◌≡◌, inl, inr, ℕ, List, [], ◌∷◌, ◌++◌, length, get_or, refl, sym, ◌∙◌, ap, subst, arith, append_assoc}
 use Rattle.std.specs.Prelude.{All}
 use Rattle.std.proofs.lemmas.Grind.{flat_map-append}
 use Rattle.std.proofs.lemmas.List.{take_at}
 use Rattle.std.proofs.lemmas.List.Elements.{All-take}
 use Rattle.gw_base.specs.declared.history.HistoryEntry.{HistoryEntry}
 use Rattle.gate_journal.specs.Before.{AreBefore, batch_at}
-use Rattle.gate_journal.specs.Format.{IsWhole, Stands, end_of, gate_at}
-use Rattle.gate_journal.specs.Agreeing.{Compared, equal, longer, shorter, batch_before, compare, front_before, place_of, same_not_differs, stands_before}
+use Rattle.gate_journal.specs.Format.{IsWhole, Stands, Starts, end_of, gate_at}
+use Rattle.gate_journal.specs.Agreeing.{Compared, equal, longer, shorter, batch_before, compare, front_before, place_of, same_not_differs, same_not_starts, stands_before}
 use Rattle.entry_codec.specs.Content.{IsContent, entries_of}
 use Rattle.entry_codec.specs.Room.{costs_of}
 use Rattle.entry_codec.specs.Laws.{costs_of-append}
@@ -50,3 +50,8 @@ stands_or_not_ours header octets h at long is (inl differs) =
 stands_or_not_ours header octets h at long is (inr spoiled) =
     let fit : AreFit IsFit (length octets) is.stands.batches = record { are_batches = is.stands.are_batches; fit = subst (λ (g : List HistoryEntry). AllFit (length octets) g) is.stands.history is.fit } in
     stands_or_spoiled header long octets is.stands.batches is.stands.stands fit at spoiled
+
+-- what isn't ours doesn't start
+pub not_ours_or_starts : (header octets : List ℕ) (at : ℕ) → length header ≡ 32 → get_or header 0 0 ≡ 67 → IsNotOurs header octets at → Starts header octets → ⊥
+not_ours_or_starts header octets at long begins (inl differs) starts = differs.begun starts
+not_ours_or_starts header octets at long begins (inr spoiled) starts = same_not_starts header long octets (front_before header long octets at spoiled.batches spoiled.before) begins starts

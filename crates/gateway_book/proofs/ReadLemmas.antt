@@ -3,6 +3,7 @@ use Rattle.std.proofs.Common.{◌≡◌, ℕ, ◌≤◌, List, [], ◌∷◌, Re
 use Rattle.std.specs.Prelude.{OnOk}
 use Rattle.std.proofs.lemmas.List.Concat.{flat_map-cons}
 use Rattle.std.proofs.lemmas.List.Elements.{All-head}
+use Rattle.area_disk.specs.CourseLaws.{read_on_trans, runs_on}
 use Rattle.area_disk.specs.MomentLaws.{kept_refl, kept_trans}
 use Rattle.entry_codec.specs.Content.{AreEntries}
 use Rattle.entry_codec.specs.Fault.{BeginsWith}
@@ -12,7 +13,7 @@ use Rattle.area_disk.specs.declared.area.Area.{Ghosts}
 use Rattle.cgf_journal.specs.Outcomes.{IsKept}
 use Rattle.cgf_journal.specs.Trail.{area_of}
 use Rattle.cgf_journal.specs.declared.trail.Trail.{Trail}
-use Rattle.gateway_book.specs.Read.{HasCauseOf, IsRead, ReadCause}
+use Rattle.gateway_book.specs.Read.{HasCauseOf, IsRead, ReadCause, RunsOn}
 use Rattle.gateway_book.specs.declared.outcome.ItemsFault.{ItemsFault}
 
 module _ {A : Type 0} {tells : Ghosts A} where
@@ -48,7 +49,13 @@ module _ {A : Type 0} {tells : Ghosts A} where
 
   -- nothing was done
   pub unread : (t : Trail A tells) → IsRead t t
-  unread t = record { kept = same_kept t; torn_stands = refl; area = λ only_now. kept_refl tells only_now (area_of t) }
+  unread t = record {
+    kept = same_kept t;
+    torn_stands = refl;
+    area = λ only_now. kept_refl tells only_now (area_of t);
+    plan = λ fate. record { schedule = refl; spare = refl; leaves = λ outcome. refl };
+    stands = λ fate outcome. refl;
+  }
 
   -- one read after the other
   pub read_on : (a b c : Trail A tells) → IsRead a b → IsRead b c → IsRead a c
@@ -56,7 +63,13 @@ module _ {A : Type 0} {tells : Ghosts A} where
     kept = kept_on a b c one.kept two.kept;
     torn_stands = two.torn_stands ∙ one.torn_stands;
     area = λ only_now. kept_trans tells (area_of a) (area_of b) (area_of c) (one.area only_now) (two.area only_now);
+    plan = λ fate. read_on_trans (tells.fate (area_of a)) (tells.fate (area_of b)) (tells.fate (area_of c)) (one.plan fate) (two.plan fate);
+    stands = λ fate outcome. two.stands fate outcome ∙ one.stands fate outcome;
   }
+
+  -- after a reading no read is to fail where none was
+  pub runs_after : {R : Type 0} (a b : Trail A tells) (result : Result R ItemsFault) → IsRead a b → RunsOn b result → RunsOn a result
+  runs_after a b result read runs = λ fate plan. runs fate (runs_on (tells.fate (area_of a)) (tells.fate (area_of b)) (read.plan fate) plan)
 
   -- after a read that succeeded the cause is the next one's
   pub cause_on : {R : Type 0} (a b c : Trail A tells) (result : Result R ItemsFault) → tells.faults (area_of b) ≡ tells.faults (area_of a) → HasCauseOf b c result → HasCauseOf a c result

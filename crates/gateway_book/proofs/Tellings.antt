@@ -22,7 +22,8 @@ use Rattle.gw_base.specs.declared.held.HeldKey.{HeldKey}
 use Rattle.gw_base.specs.ViewLaws.{node_view_of-append}
 use Rattle.gateway_book.specs.Sides.{Side, Tells, acted, all_named, learnt, named, numbered, opened, side_after, topped}
 use Rattle.gateway_book.specs.declared.totals.Totals.{Totals}
-use Rattle.gateway_book.proofs.Telling.{CountLaw, HeldLaw, Keeps, NamesAlone, all_of_list, and_false, entry_of, keeps_of_same, known_with, learnt_keeps, list_state, named_keeps, names_alone, none_of_list, opened_keeps, pass_all, topped_keeps, unstranded, with_list}
+use Rattle.gateway_book.proofs.Telling.{CountLaw, HeldLaw, Keeps, known_with, learnt_keeps, named_keeps, topped_keeps}
+use Rattle.gateway_book.proofs.TellingEntries.{NamesAlone, all_of_list, and_false, entry_of, keeps_of_same, list_state, names_alone, none_of_list, opened_keeps, pass_all, unstranded, with_list}
 
 -- There are no more epochs than entries.
 abbrev pub EpochLaw : Type 0

@@ -79,11 +79,14 @@ commit_answer after = if after.is_broken then Err (record { faults = after.cuts 
 abbrev pub commit_left : Fortune → BookValue → Left (Result ℕ Broken)
 commit_left f v = let after = after_commit f v in record { value = after; answer = commit_answer after }
 
--- what has become of an answer that rests on a front of the history, made when so many commits had failed
+-- what has become of an answer that rests on a front of the history, made when so many commits had failed, where so
+-- many have failed now and so many entries are firm
+abbrev pub settled_by : ℕ → ℕ → ℕ → ℕ → Settled
+settled_by cuts firm front faults =
+    if nat_lt faults cuts then settled.Lost cuts else (if nat_lt firm front then settled.NotYet firm else settled.Firm)
+
 abbrev pub settled_of : BookValue → ℕ → ℕ → Settled
-settled_of v front faults =
-    if nat_lt faults v.cuts then settled.Lost v.cuts
-    else (if nat_lt (length v.firm) front then settled.NotYet (length v.firm) else settled.Firm)
+settled_of v front faults = settled_by v.cuts (length v.firm) front faults
 
 -- how much the book has recorded and holds, on so many octets
 abbrev pub counts_of : BookValue → ℕ → Counts

@@ -52,6 +52,7 @@ pub mod HeldCopies
 pub mod Nodes
 pub mod Numbers
 pub mod Sides
+pub mod Standing
 pub mod States
 pub mod Taking
 pub mod Steps

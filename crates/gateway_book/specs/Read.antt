@@ -1,8 +1,11 @@
 -- What a call leaves that only reads an area: of a trail, and of a book.
-use Rattle.std.specs.Prelude.{◌≡◌, ℕ, ◌≤◌, Result, Err, OnOk}
+use Rattle.std.specs.Prelude.{◌≡◌, ◌≢◌, ℕ, ◌≤◌, IsTrue, Result, Err, OnOk}
+use Rattle.area_disk.specs.Armed.{ReadsRun}
+use Rattle.area_disk.specs.Course.{ReadOn}
 use Rattle.area_disk.specs.Disk.{Rose}
 use Rattle.area_disk.specs.MomentLaws.{OnlyNow}
 use Rattle.area_disk.specs.declared.area.Area.{Ghosts}
+use Rattle.area_disk.specs.declared.plan.Outcome3.{Outcome3}
 use Rattle.gate_journal.specs.Moments.{Kept, Told}
 use Rattle.cgf_journal.specs.Outcomes.{IsKept}
 use Rattle.cgf_journal.specs.Trail as trail
@@ -24,10 +27,16 @@ pub record IsRead {A : Type 0} {tells : Ghosts A} (old new : Trail A tells) : Ty
   pub kept : IsKept old new
   pub torn_stands : trail.torn_stands new ≡ trail.torn_stands old
   pub area : OnlyNow tells → Kept tells (trail.area_of old) (trail.area_of new)
+  pub plan : IsTrue tells.tells_fate → ReadOn (tells.fate (trail.area_of old)) (tells.fate (trail.area_of new))
+  pub stands : IsTrue tells.tells_fate → (outcome : Outcome3) → trail.stop_stands outcome new ≡ trail.stop_stands outcome old
 
 -- why the reading of a trail failed
 abbrev pub HasCauseOf : {A R : Type 0} {tells : Ghosts A} → Trail A tells → Trail A tells → Result R ItemsFault → Type 0
 HasCauseOf {tells = tells} old new result = ReadCause (tells.faults (trail.area_of old)) (tells.faults (trail.area_of new)) result
+
+-- the device fails no reading where no read is to fail
+abbrev pub RunsOn : {A R : Type 0} {tells : Ghosts A} → Trail A tells → Result R ItemsFault → Type 0
+RunsOn {tells = tells} old result = IsTrue tells.tells_fate → ReadsRun (tells.fate (trail.area_of old)).schedule → result ≢ Err Device
 
 module _ {A : Type 0} {tells : Ghosts A} (old new : Book A tells) where
   -- The book is as before, a broken one too: what an opening again will find stays.
@@ -41,3 +50,9 @@ module _ {A : Type 0} {tells : Ghosts A} (old new : Book A tells) where
   -- why the reading of a book failed
   abbrev pub HasReadCause : {R : Type 0} → Result R ItemsFault → Type 0
   HasReadCause result = ReadCause (tells.faults (area_of old)) (tells.faults (area_of new)) result
+
+  -- A reading came out as was planned: the device doesn't fail it where no read is to fail. What a stop leaves of the
+  -- torn entries stays.
+  pub record ReadsAsPlanned {R : Type 0} (result : Result R ItemsFault) : Type 0 where
+    pub runs : ReadsRun (tells.fate (area_of old)).schedule → result ≢ Err Device
+    pub stands : (outcome : Outcome3) → trail.stop_stands outcome new.trail ≡ trail.stop_stands outcome old.trail

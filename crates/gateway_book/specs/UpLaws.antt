@@ -2,13 +2,15 @@
 use Rattle.std.proofs.Common.{◌≡◌, ℕ, ◌≤◌, Bool, true, false, ◌&&◌, ◌==◌, if◌then◌else◌, List, [], ◌∷◌, ◌++◌, Option, Some, None, Result, refl, sym, ap, subst, ◌∙◌}
 use Rattle.std.specs.Prelude.{IsTrue, nat_le}
 use Rattle.std.proofs.lemmas.Bool.{true≢false}
-use Rattle.area_disk.specs.Armed.{Armed, Came, IsArmed, calls_under}
+use Rattle.area_disk.specs.Armed.{Armed, Came, IsArmed, ReadsRun, calls_under}
 use Rattle.area_disk.specs.Armed.Came.{Ran, FailedAt, StoppedAt}
+use Rattle.area_disk.specs.ArmedLaws.{armed_reads}
 use Rattle.area_disk.specs.Course.{IsTied, course_of}
+use Rattle.area_disk.specs.Plan.{Schedule}
 use Rattle.area_disk.specs.declared.area.Area.{Ghosts}
 use Rattle.area_disk.specs.declared.plan.Outcome3.{Outcome3}
 use Rattle.area_disk.specs.declared.plan.Outcome3.TheVariants.{New}
-use Rattle.gate_journal.specs.Moments.{Told}
+use Rattle.gate_journal.specs.Moments.{Kept, Told}
 use Rattle.gate_journal.specs.Planned.{is_new}
 use Rattle.cgf_journal.specs.Comes.{CommitComes, ReopenComes}
 use Rattle.cgf_journal.specs.Trail.{is_closed, stop_stands, torn_stands}
@@ -24,6 +26,7 @@ use Rattle.gateway_book.specs.Comes.{Asked, AsksCommit, AsksNothing, AsksReopeni
 use Rattle.gateway_book.specs.Marks.{Mark, Makes, NoRoom, NotDue, close_mark, tick_mark}
 use Rattle.gateway_book.specs.Opened.{IsOpened, StandsFitFor}
 use Rattle.gateway_book.specs.Preparing.{PreparedValue}
+use Rattle.gateway_book.specs.Read.{IsUnchanged}
 use Rattle.gateway_book.specs.Up.{HasLeft, IsCut, IsDown, IsUp, Sequel, Stands, commit_sequel, fortune_by, reopening_sequel, sequel_of}
 use Rattle.gateway_book.specs.Value.{BookValue, Fortune, Gone, Refused, Reopening, Whole, after_commit, is_batch_full, history_of, readied, recorded_if, reopened, tried, tried_with}
 use Rattle.gateway_book.specs.declared.book.Book.{Book}
@@ -332,3 +335,20 @@ opened_is_up header area open_time book w armed opened value tied =
         torn = λ broken. absurd (true≢false (sym broken ∙ still));
       },
     )
+
+-- a gateway whose items were read
+module _ {A : Type 0} {tells : Ghosts A} (fate : IsTrue tells.tells_fate) (header : List ℕ) (v : BookValue) (armed : Armed) (at_last : Bool) where
+  pub up_reads : (book : Book A tells) → IsUp header v armed at_last book → ReadsRun (tells.fate (area_of book)).schedule
+  up_reads book up = record { running = up.is_armed.running; reads = up.is_armed.reads }
+
+  pub up_stays : (old new : Book A tells) → Told tells → IsUp header v armed at_last old → IsUnchanged old new → Kept tells (area_of old) (area_of new)
+      → ((outcome : Outcome3) → stop_stands outcome new.trail ≡ stop_stands outcome old.trail) → IsUp header v armed at_last new
+  up_stays old new told up same kept stands =
+      let plan = kept.planned fate in
+      record {
+        value = same.value told ∙ up.value;
+        named = same.stays.header ∙ up.named;
+        is_armed = subst (λ (s : Schedule). IsArmed armed s) (sym plan.schedule) (armed_reads armed (plan_of old).schedule (plan_of new).schedule.reads up.is_armed);
+        has_spare = λ whole. subst (λ (n : ℕ). 1 ≤ n) (sym plan.spare) (up.has_spare whole);
+        torn = λ broken outcome. stands outcome ∙ up.torn broken outcome;
+      }

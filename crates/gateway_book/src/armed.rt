@@ -1,6 +1,6 @@
 // That the clauses of a book's calls suffice: by what is armed, a gateway that is up is up after a call, or is cut, and
 // then its area is that of a gateway that is down. Nothing else is used of the calls.
-ghost use Rattle.std.specs.Prelude.{◌≡◌, ◌≢◌, ℕ, IsTrue, Bool, ◌&&◌, if◌then◌else◌, List, ◌++◌};
+ghost use Rattle.std.specs.Prelude.{◌≡◌, ◌≢◌, ℕ, Err, IfOk, IsTrue, Bool, ◌&&◌, if◌then◌else◌, List, ◌++◌};
 ghost use Rattle.area_disk.specs.Armed.{Armed};
 ghost use Rattle.area_disk.specs.declared.plan.Outcome3.{Outcome3};
 ghost use Rattle.gate_journal.specs.Moments.{Told};
@@ -8,6 +8,7 @@ ghost use Rattle.gate_journal.specs.Planned.{is_new};
 ghost use Rattle.gw_base.specs.declared.history.HistoryEntry.{HistoryEntry};
 ghost use Rattle.gateway_book.specs.Book.{size_of};
 ghost use Rattle.gateway_book.specs.Calls.{commit_left, taken};
+ghost use Rattle.gateway_book.specs.Items.{items_between};
 ghost use Rattle.gateway_book.specs.Opened.{StandsFitFor};
 ghost use Rattle.gateway_book.specs.Preparing.{prepared_of};
 ghost use Rattle.gateway_book.specs.Up.{HasLeft, IsCut, IsDown, IsUp, commit_sequel_of, fortune_by, ready_sequel_of};
@@ -15,11 +16,14 @@ ghost use Rattle.gateway_book.specs.Value.{BookValue};
 ghost use Rattle.gateway_book.specs.declared.outcome.Outcome.TheVariants.{NoMemory};
 
 use crate::book::Book;
-use crate::laws::{a_gateway_goes_as_armed, what_a_gateway_leaves};
+use crate::laws::{
+    a_gateway_goes_as_armed, a_gateway_stays_up_as_it_is_read, what_a_gateway_leaves,
+};
 use crate::preparing::Prepared;
-use crate::{Broken, Outcome};
+use crate::{Broken, ItemsFault, Outcome};
 use area_disk::Area;
-use gw_base::{Addr, Caller, Moment};
+use gw_base::{Addr, Caller, Item, Moment};
+use std::alloc::Global;
 
 // A commit.
 fn committed<A: Area>(book: &mut Book<A>) -> Result<u64, Broken>
@@ -47,6 +51,21 @@ fn delivered<A: Area>(
 {
     a_gateway_goes_as_armed::<A>();
     book.take(from, request, now, who)
+}
+
+// The items of a gateway that is up.
+fn told<A: Area>(
+    book: &mut Book<A>,
+    alloc: Global,
+    from: u64,
+    max: u32,
+) -> Result<Vec<Item>, ItemsFault>
+    ensures { Told A.Area → IsTrue A.tells_fate → (header : List ℕ) (v : BookValue) (armed : Armed) (at_last : Bool) →
+        IsUp header v armed at_last book.old → IsUp header v armed at_last book.new × (result ≢ Err ItemsFault.Device)
+        × IfOk result (λ items. items.items ≡ items_between from max v.firm) }
+{
+    a_gateway_stays_up_as_it_is_read::<A>();
+    book.items(alloc, from, max)
 }
 
 // The area of a gateway that is cut, and of one that is up.

@@ -1,8 +1,10 @@
 // A gateway's book.
 ghost use Rattle.std.proofs.Props.{props};
 ghost use Rattle.gateway_book.specs.Followed.{IsFollowed};
+ghost use Rattle.gateway_book.specs.Standing.{HasCursor};
 ghost use Rattle.gateway_book.specs.FollowedProps.{AllFit-prop, Follows-prop};
 
+use crate::cursor::Cursor;
 use crate::index::Index;
 use crate::listing::Scratch;
 use area_disk::Area;
@@ -22,5 +24,8 @@ pub struct Book<A: Area> {
     pub(crate) open_time: u64,
     /// How many commits and openings again have failed.
     pub(crate) cuts: u64,
+    /// How far its items were told.
+    pub(crate) cursor: Cursor,
     ghost followed: { IsFollowed trail index } by { Prim.hlevel (AllFit-prop, Follows-prop, props) },
+    ghost stands: { HasCursor trail cursor },
 }

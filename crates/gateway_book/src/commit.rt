@@ -4,8 +4,8 @@ ghost use Rattle.area_disk.specs.Disk.{HasCause as HasFaults};
 ghost use Rattle.area_disk.specs.declared.plan.Outcome3.{Outcome3};
 ghost use Rattle.gate_journal.specs.Moments.{Told};
 ghost use Rattle.cgf_journal.specs.Format.{StandsFor};
-ghost use Rattle.cgf_journal.specs.Trail.{IsAtRest, is_closed, left_by_stop};
-ghost use Rattle.gateway_book.specs.Calls.{commit_left, counts_of, settled_of};
+ghost use Rattle.cgf_journal.specs.Trail.{IsAtRest, firm_length, is_closed, left_by_stop};
+ghost use Rattle.gateway_book.specs.Calls.{commit_left, counts_of, settled_by, settled_of};
 ghost use Rattle.gateway_book.specs.Comes.{asked_to_commit};
 ghost use Rattle.gateway_book.specs.Value.{after_commit};
 
@@ -19,6 +19,7 @@ use gw_base::scan::held_keys_are_as_many_as_held_copies;
 impl<A: Area> Book<A> {
     ghost use Rattle.gateway_book.specs.Book.{CrashLeaves, HasCause, IsLeft, Stays, area_of, fortune_of, header_of, value_of};
     ghost use Rattle.gateway_book.specs.Comes.{AsPlanned, LeavesFit};
+    ghost use Rattle.gateway_book.specs.Told.{AreCounted};
 
     /// Makes the whole history firm, and answers its length. A broken book opens its journal again, with one call of
     /// the device; else it makes four calls where an entry waits, and none where none does.
@@ -61,7 +62,8 @@ impl<A: Area> Book<A> {
 
     /// What has become of an answer with this front, given when so many commits and openings again had failed.
     pub fn settled(&self, front: u64, faults: u64) -> Settled
-        ensures { Told A.Area → result ≡ settled_of (value_of self.now) front faults }
+        ensures told { Told A.Area → result ≡ settled_of (value_of self.now) front faults }
+        ensures counted { result ≡ settled_by self.now.cuts (firm_length self.now.trail) front faults }
     {
         let firm = self.trail.firm();
         if self.cuts > faults {
@@ -75,7 +77,8 @@ impl<A: Area> Book<A> {
 
     /// How much the book has recorded and holds.
     pub fn counts(&self) -> Counts
-        ensures { Told A.Area → result ≡ counts_of (value_of self.now) (A.size (area_of self.now)) }
+        ensures told { Told A.Area → result ≡ counts_of (value_of self.now) (A.size (area_of self.now)) }
+        ensures counted { AreCounted self.now result }
     {
         an_index_tells_its_history();
         held_keys_are_as_many_as_held_copies();
@@ -107,6 +110,7 @@ impl<A: Area> Book<A> {
             scratch: _,
             open_time: _,
             cuts: _,
+            cursor: _,
         } = self;
         trail.into_area()
     }

@@ -1,11 +1,12 @@
 //! How far the items of a history were told.
-ghost use Rattle.std.specs.Prelude.{◌≡◌, ◌<◌, ◌+◌, List, true, false, Ok, OnOk, OnErr};
+ghost use Rattle.std.specs.Prelude.{◌≡◌, ◌<◌, ◌≤◌, ◌+◌, ℕ, List, true, false, All, IfOk, Ok, OnOk, OnErr};
 ghost use Rattle.gate_journal.specs.Moments.{Told};
 ghost use Rattle.cgf_journal.specs.Trail.{firm_length};
 ghost use Rattle.gw_base.specs.Entry.{act_view};
 ghost use Rattle.gw_base.specs.declared.history.HistoryEntry.{HistoryEntry};
 ghost use Rattle.gateway_book.specs.Cursor.{HasPassed, HasStayed, IsAt, IsBegun, IsWithin, StandsIn, gathered_at_last};
-ghost use Rattle.gateway_book.specs.Read.{HasCauseOf, IsRead};
+ghost use Rattle.gateway_book.specs.Items.{IsWritable, items_between};
+ghost use Rattle.gateway_book.specs.Read.{HasCauseOf, IsRead, RunsOn};
 
 use crate::ItemsFault;
 use crate::entry_items::add_items;
@@ -14,16 +15,16 @@ use crate::held_copies::HeldCopies;
 use crate::reading::{EntryBuffers, read_entry};
 use area_disk::Area;
 use cgf_journal::Trail;
-use gw_base::{Act, NoMemory};
+use gw_base::{Act, Item, NoMemory};
 use std::alloc::Global;
 
 /// A place between the entries of a history.
 #[derive(Debug, Drop)]
 pub(crate) struct Cursor {
     /// How many entries stand before it.
-    pub(crate) entry: u64,
+    entry: u64,
     /// How many items these make. It stands still at 2^64 - 1.
-    pub(crate) items: u64,
+    items: u64,
     /// The copies that they hold.
     copies: HeldCopies,
 }
@@ -37,6 +38,23 @@ impl Cursor {
             entry: 0,
             items: 0,
             copies: HeldCopies::new(alloc),
+        }
+    }
+
+    // Goes back before all entries, where the item with this number stands before it, or where it doesn't know how many
+    // items do.
+    fn rewind(&mut self, alloc: Global, item: u64)
+        ensures within { (n : ℕ) → IsWithin n self.old → IsWithin n self.new }
+        ensures at { (h : List HistoryEntry) → IsAt h self.old → IsAt h self.new }
+        ensures before { self.new.items ≤ item }
+        ensures exact { self.new.items < 18446744073709551615 }
+    {
+        if self.items == u64::MAX {
+            *self = Cursor::new(alloc);
+            return;
+        }
+        if item < self.items {
+            *self = Cursor::new(alloc);
         }
     }
 
@@ -72,6 +90,7 @@ fn step<A: Area>(
     ensures at { Told A.Area → (h : List HistoryEntry) → StandsIn trail.old h cursor.old → IsAt h cursor.new }
     ensures read { IsRead trail.old trail.new }
     ensures cause { HasCauseOf trail.old trail.new result }
+    ensures runs { RunsOn trail.old result }
 {
     let _firm = trail.firm();
     let entry = match read_entry(trail, cursor.entry, entries) {
@@ -91,9 +110,9 @@ fn step<A: Area>(
     }
 }
 
-/// Gathers the items of the firm entries behind a cursor, of all or until there is no room for more, and leaves the
-/// cursor behind the last entry whose items were all gathered.
-pub(crate) fn gather<A: Area>(
+// Gathers the items of the firm entries behind a cursor, of all or until there is no room for more, and leaves the
+// cursor behind the last entry whose items were all gathered.
+fn gather<A: Area>(
     alloc: Global,
     trail: &mut Trail<A>,
     cursor: &mut Cursor,
@@ -106,6 +125,7 @@ pub(crate) fn gather<A: Area>(
     ensures at { Told A.Area → (h : List HistoryEntry) → StandsIn trail.old h cursor.old → IsAt h cursor.new }
     ensures read { IsRead trail.old trail.new }
     ensures cause { HasCauseOf trail.old trail.new result }
+    ensures runs { RunsOn trail.old result }
 {
     let mut entries = EntryBuffers::new(alloc);
     let mut held = EntryBuffers::new(alloc);
@@ -115,4 +135,30 @@ pub(crate) fn gather<A: Area>(
         }
     }
     Ok(())
+}
+
+/// Gives the items of the firm entries from number `from` on, at most `max`, and leaves the cursor behind the last entry
+/// whose items were all told.
+pub(crate) fn items_from<A: Area>(
+    alloc: Global,
+    trail: &mut Trail<A>,
+    cursor: &mut Cursor,
+    from: u64,
+    max: u32,
+) -> Result<Vec<Item>, ItemsFault>
+    requires within { IsWithin (firm_length trail.old) cursor.old }
+    ensures items { Told A.Area → (h : List HistoryEntry) → StandsIn trail.old h cursor.old →
+        IfOk result (λ items. items.items ≡ items_between from max h) }
+    ensures writable { IfOk result (λ items. All IsWritable items.items) }
+    ensures within { IsWithin (firm_length trail.old) cursor.new }
+    ensures at { Told A.Area → (h : List HistoryEntry) → StandsIn trail.old h cursor.old → IsAt h cursor.new }
+    ensures read { IsRead trail.old trail.new }
+    ensures cause { HasCauseOf trail.old trail.new result }
+    ensures runs { RunsOn trail.old result }
+{
+    cursor.rewind(alloc, from);
+    let skip = from - cursor.items;
+    let mut gathering = Gathering::new(alloc, skip, max as usize);
+    gather(alloc, trail, cursor, &mut gathering)?;
+    Ok(gathering.into_items())
 }

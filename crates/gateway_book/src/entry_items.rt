@@ -11,7 +11,7 @@ ghost use Rattle.gateway_book.specs.Filed.{packet_of_hold, records_of, released_
 ghost use Rattle.gateway_book.specs.Gathering.{gathered};
 ghost use Rattle.gateway_book.specs.HeldCopies.{AreBelow, places_of};
 ghost use Rattle.gateway_book.specs.Items.{IsWritable, items_by, part_of};
-ghost use Rattle.gateway_book.specs.Read.{HasCauseOf, IsRead};
+ghost use Rattle.gateway_book.specs.Read.{HasCauseOf, IsRead, RunsOn};
 
 use crate::ItemsFault;
 use crate::gathering::Gathering;
@@ -75,6 +75,7 @@ fn add_copy<A: Area>(
         OnOk result (into.new ≡ gathered (map part_of (released_records before moment node number)) into.old) }
     ensures read { IsRead trail.old trail.new }
     ensures cause { HasCauseOf trail.old trail.new result }
+    ensures runs { RunsOn trail.old result }
 {
     let Some(k) = copies.find(node, number) else {
         return Ok(());
@@ -104,6 +105,7 @@ fn add_copies<A: Area>(
         OnOk result (into.new ≡ gathered (map part_of (released_by before moment node numbers.now)) into.old) }
     ensures read { IsRead trail.old trail.new }
     ensures cause { HasCauseOf trail.old trail.new result }
+    ensures runs { RunsOn trail.old result }
 {
     for number in numbers {
         add_copy(trail, copies, held, node, *number, moment, into)?;
@@ -125,6 +127,7 @@ pub(crate) fn add_items<A: Area>(
         OnOk result (into.new ≡ gathered (items_by before (entry_view entry.now)) into.old) }
     ensures read { IsRead trail.old trail.new }
     ensures cause { HasCauseOf trail.old trail.new result }
+    ensures runs { RunsOn trail.old result }
 {
     let moment = entry.moment;
     match entry.act {

@@ -1,12 +1,13 @@
 //! Laws of the definitions that the book's calls cite. Each stands on a function that does nothing.
 
 ghost use Rattle.std.specs.Prelude.{◌≡◌, ◌≢◌, ◌≤◌, [], ◌∷◌, ◌++◌, ℕ, IsTrue, Bool, true, false, ◌&&◌, if◌then◌else◌, List, Option, None, Result, length};
-ghost use Rattle.area_disk.specs.Armed.{Armed};
+ghost use Rattle.area_disk.specs.Armed.{Armed, ReadsRun};
 ghost use Rattle.area_disk.specs.Course.{IsTied};
 ghost use Rattle.area_disk.specs.declared.plan.Outcome3.{Outcome3};
 ghost use Rattle.entry_codec.specs.Room.{IsWithin};
 ghost use Rattle.gate_journal.specs.Format.{Starts, header};
-ghost use Rattle.gate_journal.specs.Moments.{Told};
+ghost use Rattle.cgf_journal.specs.Trail.{stop_stands};
+ghost use Rattle.gate_journal.specs.Moments.{Kept, Told};
 ghost use Rattle.gate_journal.specs.Planned.{is_new};
 ghost use Rattle.gtpp_message.specs.Message.{Cancel, Release, TransferResponse, TransferValue};
 ghost use Rattle.gw_base.specs.History.{is_close_due, last_moment};
@@ -32,6 +33,7 @@ ghost use Rattle.gateway_book.specs.Limits.{most_nodes};
 ghost use Rattle.gateway_book.specs.Once.{times_filed};
 ghost use Rattle.gateway_book.specs.Opened.{IsNotOurs, IsOpened, StandsFitFor};
 ghost use Rattle.gateway_book.specs.Preparing.{IsWhole, PreparedValue, Request, prepared_of};
+ghost use Rattle.gateway_book.specs.Read.{IsUnchanged};
 ghost use Rattle.gateway_book.specs.Recording.{Accepts, HasRoomFor, IfRecords, IsWithinLimits, is_without_resources};
 ghost use Rattle.gateway_book.specs.Up.{HasLeft, IsCut, IsDown, IsUp, commit_sequel_of, fortune_by, ready_sequel_of};
 ghost use Rattle.gateway_book.specs.Value.{BookValue};
@@ -153,6 +155,17 @@ pub fn a_gateway_goes_as_armed<A: Area>()
         HasLeft header sequel (closed (fortune_by at_last sequel) now who v) new result }
 {}
 
+/// No read fails of a gateway that is up, and it is up as before after its items are read.
+pub fn a_gateway_stays_up_as_it_is_read<A: Area>()
+    ensures runs { IsTrue A.tells_fate → (header : List ℕ) (v : BookValue) (armed : Armed) (at_last : Bool)
+        (book : Book A A.Area) → IsUp header v armed at_last book → ReadsRun (A.fate (area_of book)).schedule }
+    ensures up { Told A.Area → IsTrue A.tells_fate → (header : List ℕ) (v : BookValue) (armed : Armed)
+        (at_last : Bool) (old new : Book A A.Area) → IsUp header v armed at_last old → IsUnchanged old new →
+        Kept A.Area (area_of old) (area_of new) →
+        ((outcome : Outcome3) → stop_stands outcome new.trail ≡ stop_stands outcome old.trail) →
+        IsUp header v armed at_last new }
+{}
+
 /// A gateway that was cut leaves the area of one that is down; one that is up, and is stopped between two calls, leaves
 /// the firm entries, and the torn ones where the stop keeps what was written and a commit's last call failed; and one
 /// that was opened is up.
@@ -168,12 +181,15 @@ pub fn what_a_gateway_leaves<A: Area>()
         (w.is_broken ≡ false) × IsUp header w armed false book }
 {}
 
-/// An area that stands for a history of fit entries neither starts nor is another's: it is opened, and not refused.
+/// An area that stands for a history of fit entries neither starts nor is another's: it is opened, and not refused. What
+/// is another's doesn't start.
 pub fn what_stands_is_ours()
     ensures starts { (size address : ℕ) (octets : List ℕ) (h : List HistoryEntry) →
         StandsFitFor (header size address 0) octets h → ¬ (Starts (header size address 0) octets) }
     ensures ours { (size address : ℕ) (octets : List ℕ) (h : List HistoryEntry) (at : ℕ) →
         StandsFitFor (header size address 0) octets h → ¬ (IsNotOurs (header size address 0) octets at) }
+    ensures others { (size address : ℕ) (octets : List ℕ) (at : ℕ) → IsNotOurs (header size address 0) octets at →
+        ¬ (Starts (header size address 0) octets) }
 {
     cgf_journal::laws::what_stands_is_ours();
 }

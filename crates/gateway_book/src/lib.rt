@@ -29,24 +29,16 @@ mod nodes;
 mod observe;
 mod observed;
 mod opening;
-#[cfg(test)]
-mod opening_tests;
 mod outcome;
 mod plain;
-#[cfg(test)]
-mod plain_tests;
 mod preparing;
 mod reading;
 mod readying;
 mod states;
 mod taking;
-#[cfg(test)]
-mod taking_tests;
 mod told;
 mod totals;
 mod wire_marks;
-#[cfg(test)]
-mod worked_tests;
 
 pub use book::Book;
 pub use filing::{FiledRecord, filed};

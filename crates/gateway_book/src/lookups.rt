@@ -50,6 +50,14 @@ impl Index {
 impl<A: Area> Book<A> {
     ghost use Rattle.gateway_book.specs.Book.{value_of};
 
+    /// Whether the last commit or opening again failed, so that the next call that changes the book first opens its
+    /// journal again.
+    pub fn is_broken(&self) -> bool
+        ensures { result ≡ (value_of self.now).is_broken }
+    {
+        self.trail.is_closed()
+    }
+
     /// Where the k-th of the nodes sends from whose present epoch a Path opened, counted from 0 in the order in which
     /// entries first named them; none where there are no more. Of a broken book the firm part tells. It reads nothing
     /// and takes no memory.

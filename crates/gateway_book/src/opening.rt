@@ -14,6 +14,7 @@ ghost use Rattle.gateway_book.specs.OpenPlan.{OpensAsPlanned, is_memory};
 ghost use Rattle.gateway_book.specs.Opened.{FindsHistory, IsMadeAnew, IsNotOurs, IsOpened, IsRefused, OnArea, RefusesForeign, StandsFitFor};
 
 use crate::book::Book;
+use crate::cursor::Cursor;
 use crate::index::Index;
 use crate::judge::FitJudge;
 use crate::listing::Scratch;
@@ -65,13 +66,14 @@ impl<A: Area> Book<A> {
             return Err((BookFault::NoMemory, area));
         };
         match Trail::open_judged(alloc, area, setup.address, 0, &mut judge) {
-            Ok(trail) => Book::begin(trail, judge, scratch, setup.open_time),
+            Ok(trail) => Book::begin(alloc, trail, judge, scratch, setup.open_time),
             Err((fault, area)) => Err((fault_of(fault), area)),
         }
     }
 
     // A book over a trail that was opened, with a Start where there is room for one.
     fn begin(
+        alloc: Global,
         trail: Trail<A>,
         judge: FitJudge,
         scratch: Scratch,
@@ -98,6 +100,7 @@ impl<A: Area> Book<A> {
             scratch,
             open_time,
             cuts: 0,
+            cursor: Cursor::new(alloc),
         };
         match book.start() {
             Ok(()) => Ok(book),

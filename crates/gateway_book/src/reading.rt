@@ -4,7 +4,7 @@ ghost use Rattle.gate_journal.specs.Moments.{Told};
 ghost use Rattle.cgf_journal.specs.Trail.{firm_entries, firm_length};
 ghost use Rattle.gw_base.specs.Entry.{entry_view};
 ghost use Rattle.gw_base.specs.declared.history.HistoryEntry.{HistoryEntry};
-ghost use Rattle.gateway_book.specs.Read.{HasCauseOf, IsRead};
+ghost use Rattle.gateway_book.specs.Read.{HasCauseOf, IsRead, RunsOn};
 
 use crate::ItemsFault;
 use area_disk::Area;
@@ -58,6 +58,7 @@ pub(crate) fn read_entry<'a, A: Area>(
         IfOk result (λ entry. entry_view entry ≡ e) }
     ensures read { IsRead trail.old trail.new }
     ensures cause { HasCauseOf trail.old trail.new result }
+    ensures runs { RunsOn trail.old result }
 {
     let _firm = trail.firm();
     let place = trail.entry_at(k);

@@ -63,6 +63,7 @@ impl<A: Area> Book<A> {
         ensures faults { HasFaults (A.faults (area_of self.old)) (A.faults (area_of self.new)) result }
         ensures planned { waiting_octets self.old.trail ≢ 0 → CommitsAsPlanned self.old self.new }
     {
+        let _firm = self.trail.firm();
         match self.trail.commit() {
             Ok(_) => {
                 self.index.keep(false);

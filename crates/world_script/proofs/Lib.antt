@@ -1,6 +1,17 @@
+pub mod AddressLemmas
 pub mod ArityLemmas
+pub mod FormLemmas
+pub mod LineLemmas
+pub mod OctetLemmas
 pub mod PrintLemmas
+pub mod PrintedLemmas
 pub mod RecordLemmas
+pub mod SampleGrammar
 pub mod SampleLemmas
+pub mod SampleLines
+pub mod SampleTaken
 pub mod ScriptLemmas
+pub mod SpokenLemmas
 pub mod TextLemmas
+pub mod ValueLemmas
+pub mod WordLemmas

@@ -1,10 +1,10 @@
 -- The text of a script.
-use Rattle.std.specs.Prelude.{ℕ, ◌+◌, ◌-◌, ◌/◌, ◌%◌, nat_le, if◌then◌else◌, List, [], ◌∷◌, ◌++◌, length, take, map, Option, Some, None, ℤ, pos, negsuc, suc, codes}
+use Rattle.std.specs.Prelude.{◌≡◌, ℕ, ◌+◌, ◌-◌, ◌/◌, ◌%◌, nat_le, if◌then◌else◌, List, [], ◌∷◌, ◌++◌, length, take, map, Option, Some, None, ℤ, pos, negsuc, suc, Ok, codes}
 use Rattle.std.specs.Fmt.{decimal}
 use Rattle.std.specs.List.{flat_map}
 use Rattle.gw_base.specs.declared.address.Addr.{Addr}
 use Rattle.hex.specs.Hex.{encode_upper}
-use Rattle.world_script.specs.Script.{most_text}
+use Rattle.world_script.specs.Script.{most_text, script_in}
 use Rattle.world_script.specs.declared.kind.ScriptKind.{ScriptKind}
 use Rattle.world_script.specs.declared.kind.ScriptKind.TheVariants as script
 use Rattle.world_script.specs.declared.line.Line.{Line}
@@ -108,3 +108,7 @@ fitted text = if nat_le (length text) most_text then text else take (length text
 -- the text of a script of this kind
 abbrev pub printed : ScriptKind → List Line → List ℕ
 printed of lines = fitted (lines_text of lines)
+
+-- the text of these lines is that of a script of this kind, and has these lines
+abbrev pub ReadsBack : ScriptKind → List Line → Type 0
+ReadsBack of lines = script_in of (printed of lines) ≡ Ok lines

@@ -1,5 +1,5 @@
 -- Which lines a script may have, and the first line that is refused.
-use Rattle.std.specs.Prelude.{◌≡◌, ℕ, ◌+◌, ◌&&◌, ◌||◌, not, Bool, true, false, nat_lt, if◌then◌else◌, List, [], ◌∷◌, ◌++◌, length, count_by, Result, Ok, Err}
+use Rattle.std.specs.Prelude.{ℕ, ◌+◌, ◌&&◌, ◌||◌, not, Bool, true, false, nat_lt, if◌then◌else◌, List, [], ◌∷◌, ◌++◌, length, count_by, Result, Ok, Err}
 use Rattle.std.specs.List.{list_any}
 use Rattle.route_filter.specs.Words.{words_of}
 use Rattle.world_script.specs.Forms.{is_setting, keyword_of}
@@ -120,7 +120,7 @@ script_in of text = script_after of 0 [] (raw_lines text)
 abbrev pub script_of : List ℕ → Result (List Line) Refusal
 script_of text = script_in Feed text
 
--- These lines are a script of this kind: a text has them.
-pub record IsScript (of : ScriptKind) (lines : List Line) : Type 0 where
-  pub text : List ℕ
-  pub reads : script_in of text ≡ Ok lines
+-- a script: of which kind it is, and its lines
+pub record ScriptValue : Type 0 where
+  pub kind : ScriptKind
+  pub lines : List Line

@@ -1,8 +1,9 @@
 //! The text of a script.
 
-ghost use Rattle.std.specs.Prelude.{◌≡◌, ◌<◌, ◌≤◌, ◌++◌, ◌∷◌, [], map, codes, IfOk, OnOk};
+ghost use Rattle.std.specs.Prelude.{◌≡◌, ◌<◌, ◌≤◌, ◌++◌, ◌∷◌, [], map, codes, IfOk, OnOk, Ok};
 ghost use Rattle.std.specs.Fmt.{decimal};
 ghost use Rattle.hex.specs.Hex.{encode_upper};
+ghost use Rattle.world_script.specs.Script.{script_in};
 ghost use Rattle.world_script.specs.Printing.{address_text, fitted, gateway_text, hours_text, line_text, lines_text, mode_text, offset_text, one_number, pair_text, printed, redirect_text, two_digits_text, two_numbers, version_text, words_text};
 
 use crate::kind::ScriptKind;
@@ -15,12 +16,14 @@ use std::alloc::Global;
 /// The most octets that the text of a script may have.
 const MOST_TEXT: usize = 16_777_216;
 
-/// The text of a script of this kind, a line feed after each line. Comments are left out, and so is
-/// the last line feed where the text would be too long by it.
+/// The text of a script, a line feed after each line, which reads as this script. Comments are left
+/// out, and so is the last line feed where the text would be too long by it.
 #[tactic(auto, using(crate::proofs::PrintLemmas::lines_more))]
-pub fn print(alloc: Global, script: &Script, kind: ScriptKind) -> Result<Octets, NoMemory>
-    ensures text { IfOk result (λ text. text ≡ printed kind script.now) }
+pub fn print(alloc: Global, script: &Script) -> Result<Octets, NoMemory>
+    ensures text { IfOk result (λ text. text ≡ printed script.now.kind script.now.lines) }
+    ensures read_back { IfOk result (λ text. script_in script.now.kind text ≡ Ok script.now.lines) }
 {
+    let kind = script.kind();
     let mut text = Vec::new(alloc);
     for line in script.lines() {
         append_ended(alloc, &mut text, kind, line)?;

@@ -1,10 +1,12 @@
 //! The script that a number gives.
 
-ghost use Rattle.std.specs.Prelude.{◌≡◌, if◌then◌else◌, ◌≤◌, ◌<◌, ◌*◌, ◌+◌, ◌%◌, ◌++◌, [], ◌∷◌, ℕ, List, map, Some, None, IfOk, OnOk};
+ghost use Rattle.std.specs.Prelude.{◌≡◌, if◌then◌else◌, ◌≤◌, ◌<◌, ◌*◌, ◌+◌, ◌%◌, ◌++◌, [], ◌∷◌, ℕ, List, map, Some, None, IfOk, OnOk, true};
 ghost use Rattle.std.specs.List.{range_with_len};
+ghost use Rattle.world_script.specs.World.{first_scene, takes_all};
 ghost use Rattle.world_script.specs.Sample.{after_words, block, blocks, calm_round, commits, opening, packets_from, packets_of, record_octets, runs, sample_of, stopped_during, stormy, submitted, ticks, times, wild_round, wild_rounds, words_of_block, writes};
 
 use crate::extent::Extent;
+use crate::kind::ScriptKind;
 use crate::line::Line;
 use crate::records::Records;
 use crate::script::Script;
@@ -32,7 +34,9 @@ pub fn sample(
     requires nodes { (1 ≤ nodes) × (nodes ≤ 16) }
     requires gateways { (1 ≤ gateways) × (gateways ≤ 8) }
     requires packets { (1 ≤ packets) × (packets ≤ 20000) }
-    ensures is { IfOk result (λ script. script ≡ sample_of seed (record { nodes = nodes; gateways = gateways; packets = packets })) }
+    ensures is { IfOk result (λ script. script ≡ record { kind = ScriptKind.Replay;
+        lines = sample_of seed (record { nodes = nodes; gateways = gateways; packets = packets }) }) }
+    ensures taken { IfOk result (λ script. takes_all first_scene script.lines ≡ true) }
 {
     let extent = Extent {
         nodes,
@@ -44,7 +48,7 @@ pub fn sample(
     push_opening(&mut lines, extent)?;
     push_blocks(alloc, &mut lines, extent, &mut rng)?;
     lines.push(Line::End)?;
-    Ok(Script::from_lines(lines))
+    Ok(Script::from_lines(ScriptKind::Replay, lines))
 }
 
 #[tactic(auto, unfolding(crate::specs::Sample::opening))]

@@ -1,6 +1,7 @@
 ghost use Rattle.std.specs.Prelude.{◌≡◌, ℕ, ◌+◌, ◌<◌, ◌^◌, IfOk, Ok, Err, slice_get};
 ghost use Rattle.std.specs.Option.{option_copied};
 ghost use Rattle.world_script.specs.Outcome.{fault_at};
+ghost use Rattle.world_script.specs.Printing.{ReadsBack};
 ghost use Rattle.world_script.specs.Script.{script_in, script_of};
 ghost use Rattle.world_script.specs.declared.fault.InputKind.{InputKind};
 
@@ -12,25 +13,29 @@ use crate::text::first_line;
 use std::alloc::Global;
 use std::marker::Model;
 
-/// The lines of a script, in order.
+/// A script: its kind, and its lines in order. Its text, as [`print`](crate::print) gives it, is a script of that kind
+/// with these lines.
 #[derive(Debug, Drop)]
 pub struct Script {
+    kind: ScriptKind,
     lines: Vec<Line>,
 }
 
 impl Model for Script {
-    ghost use Rattle.std.specs.Prelude.{List};
-    ghost use Rattle.world_script.specs.declared.line.Line.{Line};
+    ghost use Rattle.world_script.specs.Printing.{ReadsBack};
+    ghost use Rattle.world_script.specs.Script.{ScriptValue};
 
-    ghost Value = { List Line };
+    ghost Value = { ScriptValue };
 
-    ghost view = { λ s. s.lines.items };
+    ghost view = { λ s. record { kind = s.kind; lines = s.lines.items } };
+
+    ghost invariant = { λ s. ReadsBack s.kind s.lines.items };
 }
 
 impl Script {
     /// Reads the text of a feed script, as [`read`] does.
     pub fn read(alloc: Global, text: &[u8]) -> Result<Script, InputFault>
-        ensures read { IfOk result (λ script. script_of text.now ≡ Ok script) }
+        ensures read { IfOk result (λ script. (script.kind ≡ ScriptKind.Feed) × (script_of text.now ≡ Ok script.lines)) }
         ensures refused { (place : ℕ) (kind : InputKind) → result ≡ Err (InputFault.Bad place kind) →
             script_of text.now ≡ Err (record { place = place; kind = kind }) }
     {
@@ -38,22 +43,31 @@ impl Script {
     }
 
     /// A script of these lines.
-    pub(crate) fn from_lines(lines: Vec<Line>) -> Script
-        ensures { result ≡ lines.items }
+    pub(crate) fn from_lines(kind: ScriptKind, lines: Vec<Line>) -> Script
+        requires { ReadsBack kind lines.items }
+        ensures { result ≡ record { kind = kind; lines = lines.items } }
     {
-        Script { lines }
+        Script { kind, lines }
+    }
+
+    /// Its kind.
+    pub fn kind(&self) -> ScriptKind
+        ensures kind { result ≡ self.now.kind }
+        ensures reads { ReadsBack self.now.kind self.now.lines }
+    {
+        self.kind
     }
 
     /// All lines, in order.
     pub(crate) fn lines(&self) -> &[Line]
-        ensures { result.now ≡ self.now }
+        ensures { result.now ≡ self.now.lines }
     {
         &self.lines
     }
 
     /// The line at this place of the text, counted from 0; `None` exactly where there are no more.
     pub fn line(&self, k: usize) -> Option<&Line>
-        ensures { option_copied result ≡ slice_get self.now k }
+        ensures { option_copied result ≡ slice_get self.now.lines k }
     {
         self.lines.get(k)
     }
@@ -61,9 +75,9 @@ impl Script {
 
 /// Reads the text of a script of this kind: all its lines, or the first that the grammar refuses.
 /// Lines end with a line feed, which the last may lack, and a carriage return before it is dropped.
-#[tactic(auto, using(crate::proofs::ScriptLemmas::step_follows, crate::proofs::ScriptLemmas::line_read, crate::proofs::ScriptLemmas::line_refused, crate::proofs::ScriptLemmas::script_read, crate::proofs::ScriptLemmas::no_end))]
+#[tactic(auto, using(crate::proofs::ScriptLemmas::step_follows, crate::proofs::ScriptLemmas::line_read, crate::proofs::ScriptLemmas::line_refused, crate::proofs::ScriptLemmas::script_read, crate::proofs::ScriptLemmas::no_end, crate::proofs::PrintedLemmas::reads_back))]
 pub fn read(alloc: Global, text: &[u8], kind: ScriptKind) -> Result<Script, InputFault>
-    ensures read { IfOk result (λ script. script_in kind text.now ≡ Ok script) }
+    ensures read { IfOk result (λ script. (script.kind ≡ kind) × (script_in kind text.now ≡ Ok script.lines)) }
     ensures refused { (place : ℕ) (why : InputKind) → result ≡ Err (InputFault.Bad place why) →
         script_in kind text.now ≡ Err (record { place = place; kind = why }) }
 {
@@ -82,7 +96,7 @@ pub fn read(alloc: Global, text: &[u8], kind: ScriptKind) -> Result<Script, Inpu
         rest = later;
     }
     if progress.has_end {
-        Ok(Script { lines })
+        Ok(Script::from_lines(kind, lines))
     } else {
         Err(InputFault::Bad {
             place: progress.place,

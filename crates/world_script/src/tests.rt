@@ -175,7 +175,7 @@ fn replay(alloc: Global, text: &[u8]) -> Result<Script, Fail> {
 /// The text is a replay that prints as this text.
 fn assert_prints(rt: &impl Abort, alloc: Global, text: &[u8], wanted: &[u8]) -> Result<(), Fail> {
     let script = replay(alloc, text)?;
-    let printed = print(alloc, &script, ScriptKind::Replay)?;
+    let printed = print(alloc, &script)?;
     assert_eq!(rt; printed.octets(), wanted);
     Ok(())
 }
@@ -235,7 +235,8 @@ fn every_line_of_a_replay_is_read_and_printed(rt: HostRuntime) -> Result<(), Fai
         ScriptKind::Feed,
     )
     .map_err(|_| "refused")?;
-    let printed = print(rt.alloc(), &feed, ScriptKind::Feed)?;
+    assert_eq!(rt; feed.kind(), ScriptKind::Feed);
+    let printed = print(rt.alloc(), &feed)?;
     assert_eq!(rt;
         printed.octets(),
         b"in 1.2.3.4:5 ABCD\nmark\nclose\nend\n".as_slice()
@@ -352,7 +353,7 @@ fn assert_sample(
     sum: u32,
 ) -> Result<(), Fail> {
     assert!(rt; script.line(lines).is_none());
-    let text = print(alloc, script, ScriptKind::Replay)?;
+    let text = print(alloc, script)?;
     assert_eq!(rt; text.octets().len(), octets);
     assert_eq!(rt; weighed(text.octets()), sum);
     assert_prints(rt, alloc, text.octets(), text.octets())

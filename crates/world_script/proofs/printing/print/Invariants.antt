@@ -3,4 +3,4 @@ use Rattle.world_script.specs.Printing.{lines_text}
 use Rattle.world_script.proofs.printing.print.Given as goal
 
 abbrev pub invariant-loop-line : goal.invariant-loop-line
-invariant-loop-line l = l.text.items ≡ lines_text l.fn.kind (take l.line-index l.fn.script)
+invariant-loop-line l = l.text.items ≡ lines_text l.fn.script.kind (take l.line-index l.fn.script.lines)

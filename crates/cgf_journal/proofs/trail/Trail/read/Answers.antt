@@ -36,3 +36,6 @@ pub returns-clause-kept : goal.returns-clause-kept
 returns-clause-kept g c =
     let same = c.read.ensures.kept in
     kept _ _ same.area.size same.same.header same.same.closed (λ told. same.same.batches) refl refl refl refl
+
+pub returns-clause-planned : goal.returns-clause-planned
+returns-clause-planned g c = λ fate. record { planned = c.read.ensures.planned fate; stands = c.read.ensures.kept.same.stop_stands fate }

@@ -8,6 +8,7 @@ use Rattle.gateway_book.specs.Cases.{case_value}
 use Rattle.gateway_book.specs.Followed.{all_entries}
 use Rattle.gateway_book.specs.Index.{observed_by}
 use Rattle.gateway_book.specs.Value.{history_of}
+use Rattle.gateway_book.proofs.StandingLemmas.{stands_firm}
 use Rattle.gateway_book.proofs.TakingLemmas.{answered_is, done_is, firm_stays, followed_answer, history_is, recorded_is_fit, said_is_some}
 use Rattle.gateway_book.proofs.book.Book.add_answer.Goals as goal
 
@@ -25,6 +26,8 @@ invariant_of-self g c =
           let seen = c.an_index_tells_its_history.ensures.observed false book.index (all_entries book.trail) (node_of from) (book.followed.live told) in
           recorded_is_fit (size_of book) (all_entries book.trail) from datagram c.args.now moment c.args.who decision reply a (book.followed.fit told) c.requires.prepared.0 c.moment_after-moment.ensures.within at
           (c.answer.ensures.told told (said_is_some c.answer.result reply is) ∙ answered_is book.trail book.index from datagram c.args.now moment c.args.who c.requires.open at seen) says);
+      stands = stands_firm book.trail c.answer.new.trail book.cursor book.stands
+          (firm_stays book.trail c.answer.new.trail book.index c.answer.new.index moment c.args.who decision c.answer.result c.answer.ensures.silent c.answer.ensures.said c.answer.ensures.no_memory);
     }
 
 pub returns-clause-moved : goal.returns-clause-moved

@@ -12,8 +12,8 @@ use Rattle.gateway_book.specs.declared.totals.Totals.{Totals}
 use Rattle.gateway_book.proofs.Committing.{asked}
 use Rattle.gateway_book.proofs.book.Book.counts.Goals as goal
 
-pub returns : goal.returns
-returns g c = λ told.
+pub returns-clause-told : goal.returns-clause-told
+returns-clause-told g c = λ told.
     let book = c.args.self.now in
     let follows = asked (is_closed book.trail) c.is_closed.result book.index (firm_entries book.trail) (all_entries book.trail) c.is_closed.ensures.closed (book.followed.firm told) (book.followed.live told) in
     let h = history_of (value_of book) in

@@ -12,6 +12,7 @@ use Rattle.gateway_book.specs.Index.{side_of}
 use Rattle.gateway_book.specs.Value.{BookValue}
 use Rattle.gateway_book.specs.declared.totals.Totals.{Totals}
 use Rattle.gateway_book.proofs.Openings.{both_followed, start_added, start_is_fit, start_left_out}
+use Rattle.gateway_book.proofs.StandingLemmas.{stands_started}
 use Rattle.gateway_book.proofs.book.Book.start.Goals as goal
 
 pub invariant_of-self : goal.invariant_of-self
@@ -25,6 +26,7 @@ invariant_of-self g c =
           start_is_fit size (all_entries old.trail) e (old.followed.fit told)
           (ap (λ (t : Totals). t.moment) (c.totals.ensures ∙ c.an_index_tells_its_history.ensures.totals false old.index (all_entries old.trail) (old.followed.live told))) refl
           (ap (λ b. has_room (if b then firm_entries old.trail else all_entries old.trail) e size) (sym c.requires.ready) ∙ sym (c.room.ensures.room told) ∙ c.if-room.true));
+      stands = stands_started old.trail c.add_start.new.trail old.cursor old.stands old.index c.add_start.new.index e c.add_start.result c.add_start.ensures.ok c.add_start.ensures.err;
     }
 
 pub returns-in_ok-add_start-clause-ok : goal.returns-in_ok-add_start-clause-ok

@@ -1,8 +1,8 @@
 // A book takes datagrams.
 ghost use Rattle.std.specs.Prelude.{◌≤◌};
 
-use crate::{Book, Marked, Outcome, Receipt, Settled, Setup, prepare};
 use area_disk::{Area, MemoryArea, Plan};
+use gateway_book::{Book, Marked, Outcome, Receipt, Settled, Setup, prepare};
 use gw_base::{Addr, Caller, Moment};
 use std::alloc::Global;
 use std::process::Abort;

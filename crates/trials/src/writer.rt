@@ -3,11 +3,11 @@ ghost use Rattle.std.specs.Prelude.{◌<◌, ◌^◌, length, All, IfOk};
 ghost use Rattle.file_rotate.specs.Items.{AreLimits};
 ghost use Rattle.file_writer.specs.AllStreams.{IsFit};
 
-use super::*;
 use area_disk::{Drill, Outcome3, Plan, Stop};
 use cdr_file::Offset16;
 use cdr_shelf::{FileName, MemoryShelf};
 use file_rotate::Limits;
+use file_writer::*;
 use gw_base::{Item, Moment, Octets, Tag, cdr_kind};
 use route_filter::{Rules, decoded};
 use std::alloc::Global;

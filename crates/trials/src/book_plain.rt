@@ -1,4 +1,4 @@
-use crate::{OwnedAnswer, answer, filed, prepare};
+use gateway_book::{OwnedAnswer, answer, filed, prepare};
 use gw_base::{Addr, Caller, HistoryAct, HistoryEntry, Moment};
 use std::process::Abort;
 use std::test::Fail;

@@ -1,8 +1,8 @@
 // A book is opened, commits, and is opened again.
 ghost use Rattle.std.specs.Prelude.{◌≤◌};
 
-use crate::{Book, BookFault, Settled, Setup};
 use area_disk::{Area, MemoryArea, Plan};
+use gateway_book::{Book, BookFault, Settled, Setup};
 use gw_base::{KeyState, NodeId};
 use std::alloc::Global;
 use std::process::Abort;

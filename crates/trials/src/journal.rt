@@ -2,8 +2,8 @@
 ghost use Rattle.std.specs.Prelude.{◌≡◌, ◌≤◌, false, IfOk};
 ghost use Rattle.cgf_journal.specs.Trail.{is_closed};
 
-use super::*;
 use area_disk::{Area, Drill, MemoryArea, Outcome3, Plan, Stop};
+use cgf_journal::{Device, Judge, OpenFault, Trail};
 use entry_codec::read;
 use gate_journal::Journal;
 use gw_base::{Act, Caller, Entry, Moment, NoMemory, NodeId};

@@ -1,0 +1,179 @@
+-- Lemmas on addresses, offsets and modes: what a word says is printed as a word that says it, and that is as long.
+use Rattle.std.proofs.Common.{◌≡◌, ℕ, zero, suc, ◌+◌, ◌-◌, ◌*◌, ◌/◌, ◌%◌, ◌<◌, ◌≤◌, Bool, true, false, ◌&&◌, ◌==◌, nat_le, if◌then◌else◌, List, [], ◌∷◌, ◌++◌, length, Option, Some, None, option_map, option_and_then, refl, ap, sym, ◌∙◌, subst, arith, append_assoc, le-leb, ℤ, pos, negsuc, neg_ℤ, codes}
+use Rattle.std.proofs.lemmas.Bool.{eqb-true, leb-true}
+use Rattle.std.proofs.lemmas.Slice.Eq.{bytes_eq-Decides}
+use Rattle.std.specs.Char.{is_ascii_digit}
+use Rattle.std.specs.Fmt.{decimal}
+use Rattle.std.specs.Str.{bytes_eq}
+use Rattle.gw_base.specs.declared.address.Addr.{Addr}
+use Rattle.route_filter.specs.Words.{at_most, cut_at, number_up_to}
+use Rattle.world_script.specs.Printing.{address_text, hours_text, mode_text, offset_text, pair_text}
+use Rattle.world_script.specs.Values.{address_of, ip_of, mode_of, offset_of, signed, two_digits}
+use Rattle.world_script.specs.declared.mode.Mode.{Mode}
+use Rattle.world_script.specs.declared.mode.Mode.TheVariants as mode
+use Rattle.world_script.proofs.ValueLemmas.{number_printed, some_same, then_some, where_some}
+use Rattle.world_script.proofs.WordLemmas.{AllGlyphs, IsWord}
+
+-- Parts of a word.
+
+-- the separator comes first
+abbrev at_once : List ℕ → Option (List ℕ × List ℕ)
+at_once xs = Some ([], xs)
+
+cut_case : (separator x : ℕ) (xs a b : List ℕ) (found : Bool) (parts : Option (List ℕ × List ℕ)) →
+    (x == separator) ≡ found →
+    ((c d : List ℕ) → parts ≡ Some (c, d) → xs ≡ c ++ separator ∷ d) →
+    (if found then at_once xs else option_map (λ (p : List ℕ × List ℕ). (x ∷ p.0, p.1)) parts) ≡ Some (a, b) →
+    x ∷ xs ≡ a ++ separator ∷ b
+cut_case separator x xs a b true parts e later h =
+    let same : ◌≡◌ {A = List ℕ × List ℕ} ([], xs) (a, b) = some_same ([], xs) (a, b) h in
+    ap (λ (y : ℕ). y ∷ xs) (eqb-true x separator e) ∙ ap (λ (p : List ℕ × List ℕ). p.0 ++ separator ∷ p.1) same
+cut_case separator x xs a b false None e later h = let no : ⊥ = cc in absurd no
+cut_case separator x xs a b false (Some p) e later h =
+    let same : ◌≡◌ {A = List ℕ × List ℕ} (x ∷ p.0, p.1) (a, b) = some_same (x ∷ p.0, p.1) (a, b) h in
+    ap (λ (l : List ℕ). x ∷ l) (later p.0 p.1 refl) ∙ ap (λ (q : List ℕ × List ℕ). q.0 ++ separator ∷ q.1) same
+
+cut_joined : (separator : ℕ) (xs a b : List ℕ) → cut_at separator xs ≡ Some (a, b) → xs ≡ a ++ separator ∷ b
+cut_joined separator [] a b h = let no : ⊥ = cc in absurd no
+cut_joined separator (x ∷ xs) a b h =
+    cut_case separator x xs a b (x == separator) (cut_at separator xs) refl (λ c d e. cut_joined separator xs c d e) h
+
+-- Addresses.
+
+four_numbers : (ip a b c d : ℕ) → 16777216 * a + 65536 * b + 256 * c + d ≡ ip → a ≤ 255 → b ≤ 255 → c ≤ 255 → d ≤ 255 →
+    (ip / 16777216 ≡ a) × (ip / 65536 % 256 ≡ b) × (ip / 256 % 256 ≡ c) × (ip % 256 ≡ d)
+four_numbers ip a b c d e ha hb hc hd =
+    (omega (arith, e, ha, hb, hc, hd), omega (arith, e, ha, hb, hc, hd), omega (arith, e, ha, hb, hc, hd), omega (arith, e, ha, hb, hc, hd))
+
+-- the four numbers with a dot between two
+abbrev ip_text : ℕ → List ℕ
+ip_text ip = pair_text (ip / 16777216) (ip / 65536 % 256) ++ 46 ∷ pair_text (ip / 256 % 256) (ip % 256)
+
+ip_joined : (ip a b c d : ℕ) → (ip / 16777216 ≡ a) × (ip / 65536 % 256 ≡ b) × (ip / 256 % 256 ≡ c) × (ip % 256 ≡ d) →
+    decimal a ++ 46 ∷ (decimal b ++ 46 ∷ (decimal c ++ 46 ∷ decimal d)) ≡ ip_text ip
+ip_joined ip a b c d h =
+    sym (append_assoc (decimal a) (46 ∷ decimal b) (46 ∷ pair_text c d))
+    ∙ (λ i. pair_text (sym h.0 i) (sym h.1 i) ++ 46 ∷ pair_text (sym h.2 i) (sym h.3 i))
+
+ip_printed : (text : List ℕ) (ip : ℕ) → ip_of text ≡ Some ip → text ≡ ip_text ip
+ip_printed text ip h =
+    let p = then_some (cut_at 46 text) _ ip h in
+    let q = then_some (cut_at 46 p.0.1) _ ip p.2 in
+    let r = then_some (cut_at 46 q.0.1) _ ip q.2 in
+    let a = then_some (number_up_to 255 p.0.0) _ ip r.2 in
+    let b = then_some (number_up_to 255 q.0.0) _ ip a.2 in
+    let c = then_some (number_up_to 255 r.0.0) _ ip b.2 in
+    let d = then_some (number_up_to 255 r.0.1) _ ip c.2 in
+    let na = number_printed 255 p.0.0 a.0 (omega arith) a.1 in
+    let nb = number_printed 255 q.0.0 b.0 (omega arith) b.1 in
+    let nc = number_printed 255 r.0.0 c.0 (omega arith) c.1 in
+    let nd = number_printed 255 r.0.1 d.0 (omega arith) d.1 in
+    let sum : 16777216 * a.0 + 65536 * b.0 + 256 * c.0 + d.0 ≡ ip = some_same _ ip d.2 in
+    cut_joined 46 text p.0.0 p.0.1 p.1
+    ∙ ap (λ (l : List ℕ). p.0.0 ++ 46 ∷ l) (cut_joined 46 p.0.1 q.0.0 q.0.1 q.1)
+    ∙ ap (λ (l : List ℕ). p.0.0 ++ 46 ∷ (q.0.0 ++ 46 ∷ l)) (cut_joined 46 q.0.1 r.0.0 r.0.1 r.1)
+    ∙ (λ i. na.1 i ++ 46 ∷ (nb.1 i ++ 46 ∷ (nc.1 i ++ 46 ∷ nd.1 i)))
+    ∙ ip_joined ip a.0 b.0 c.0 d.0 (four_numbers ip a.0 b.0 c.0 d.0 sum na.0 nb.0 nc.0 nd.0)
+
+address_joined : (ip port : ℕ) → ip_text ip ++ 58 ∷ decimal port ≡ address_text (record { ip = ip; port = port })
+address_joined ip port = simp append_assoc refl
+
+pub address_printed : (word : List ℕ) (a : Addr) → address_of word ≡ Some a → word ≡ address_text a
+address_printed word a h =
+    let p = then_some (cut_at 58 word) _ a h in
+    let ip = then_some (ip_of p.0.0) _ a p.2 in
+    let port = then_some (number_up_to 65535 p.0.1) _ a ip.2 in
+    let said = (number_printed 65535 p.0.1 port.0 (omega arith) port.1).1 in
+    let is : record { ip = ip.0; port = port.0 } ≡ a = some_same _ a port.2 in
+    cut_joined 58 word p.0.0 p.0.1 p.1
+    ∙ (λ i. ip_printed p.0.0 ip.0 ip.1 i ++ 58 ∷ said i)
+    ∙ address_joined ip.0 port.0 ∙ ap address_text is
+
+-- Offsets.
+
+is_digit : (n : ℕ) → n < 10 → is_ascii_digit (48 + n) ≡ true
+is_digit n h = grind (arith, h)
+
+within : (most n : ℕ) → n ≤ most → at_most most n ≡ Some n
+within most n h = rw (le-leb n most h) refl
+
+digits_read : (most n : ℕ) → n ≤ most → most < 100 → two_digits most (48 + n / 10) (48 + n % 10) ≡ Some n
+digits_read most n h small =
+    let value : (48 + n / 10 - 48) * 10 + (48 + n % 10 - 48) ≡ n = omega arith in
+    (λ i. if is_digit (n / 10) (omega (arith, h, small)) i && is_digit (n % 10) (omega arith) i then at_most most (value i) else None)
+    ∙ within most n h
+
+hours_read : (sign minutes : ℕ) → minutes ≤ 959 → offset_of (sign ∷ hours_text minutes) ≡ signed sign minutes
+hours_read sign minutes h =
+    let whole : minutes / 60 * 60 + minutes % 60 ≡ minutes = omega arith in
+    (λ i. option_and_then (λ hours. option_and_then (λ minutes. signed sign (hours * 60 + minutes)) (digits_read 59 (minutes % 60) (omega arith) (omega arith) i))
+        (digits_read 15 (minutes / 60) (omega (arith, h)) (omega arith) i))
+    ∙ ap (signed sign) whole
+
+digits_within : (most tens ones n : ℕ) → two_digits most tens ones ≡ Some n → n ≤ most
+digits_within most tens ones n h =
+    let p = where_some (is_ascii_digit tens && is_ascii_digit ones) (at_most most ((tens - 48) * 10 + (ones - 48))) n h in
+    let q = where_some (nat_le ((tens - 48) * 10 + (ones - 48)) most) (Some ((tens - 48) * 10 + (ones - 48))) n p.1 in
+    subst (λ (v : ℕ). v ≤ most) (some_same _ n q.1) (leb-true ((tens - 48) * 10 + (ones - 48)) most q.0)
+
+pub record IsOffset (word : List ℕ) (z : ℤ) : Type 0 where
+  pub is : IsWord (offset_text z)
+  pub long : length (offset_text z) ≡ length word
+  pub again : offset_of (offset_text z) ≡ Some z
+
+hours_glyphs : (minutes : ℕ) → minutes ≤ 959 → AllGlyphs (hours_text minutes)
+hours_glyphs minutes h =
+    (omega arith, omega (arith, h), (omega arith, omega (arith, h), (omega arith, omega arith, (omega arith, omega (arith, h), (omega arith, omega (arith, h), tt)))))
+
+plus : (word : List ℕ) (n : ℕ) → length word ≡ 6 → n ≤ 959 → IsOffset word (pos n)
+plus word n six h = record {
+  is = (omega arith, (omega arith, omega arith, hours_glyphs n h));
+  long = sym six;
+  again = hours_read 43 n h;
+}
+
+minus : (word : List ℕ) (n : ℕ) → length word ≡ 6 → n ≤ 959 → IsOffset word (neg_ℤ (pos n))
+minus word zero six h = plus word 0 six h
+minus word (suc n) six h = record {
+  is = (omega arith, (omega arith, omega arith, hours_glyphs (suc n) h));
+  long = sym six;
+  again = hours_read 45 (suc n) h;
+}
+
+signed_case : (word : List ℕ) (n : ℕ) (z : ℤ) (is_plus is_minus : Bool) → length word ≡ 6 → n ≤ 959 →
+    (if is_plus then Some (pos n) else if is_minus then Some (neg_ℤ (pos n)) else None) ≡ Some z → IsOffset word z
+signed_case word n z true is_minus six small h =
+    subst (λ (v : ℤ). IsOffset word v) (some_same (pos n) z h) (plus word n six small)
+signed_case word n z false true six small h =
+    subst (λ (v : ℤ). IsOffset word v) (some_same (neg_ℤ (pos n)) z h) (minus word n six small)
+signed_case word n z false false six small h = let no : ⊥ = cc in absurd no
+
+pub offset_printed : (word : List ℕ) (z : ℤ) → offset_of word ≡ Some z → IsOffset word z
+offset_printed [] z h = let no : ⊥ = cc in absurd no
+offset_printed (s ∷ []) z h = let no : ⊥ = cc in absurd no
+offset_printed (s ∷ a ∷ []) z h = let no : ⊥ = cc in absurd no
+offset_printed (s ∷ a ∷ b ∷ []) z h = let no : ⊥ = cc in absurd no
+offset_printed (s ∷ a ∷ b ∷ c ∷ []) z h = let no : ⊥ = cc in absurd no
+offset_printed (s ∷ a ∷ b ∷ c ∷ d ∷ []) z h = let no : ⊥ = cc in absurd no
+offset_printed (s ∷ a ∷ b ∷ colon ∷ c ∷ d ∷ []) z h =
+    let p = where_some (colon == 58) _ z h in
+    let hours = then_some (two_digits 15 a b) _ z p.1 in
+    let minutes = then_some (two_digits 59 c d) _ z hours.2 in
+    let small : hours.0 * 60 + minutes.0 ≤ 959 = omega (arith, digits_within 15 a b hours.0 hours.1, digits_within 59 c d minutes.0 minutes.1) in
+    signed_case (s ∷ a ∷ b ∷ colon ∷ c ∷ d ∷ []) (hours.0 * 60 + minutes.0) z (s == 43) (s == 45) refl small minutes.2
+offset_printed (s ∷ a ∷ b ∷ c ∷ d ∷ e ∷ f ∷ word) z h = let no : ⊥ = cc in absurd no
+
+-- Modes.
+
+pub same_bytes : (a b : List ℕ) → bytes_eq a b ≡ true → a ≡ b
+same_bytes a b h = (bytes_eq-Decides a b).0 h
+
+mode_case : (word : List ℕ) (m : Mode) (old new : Bool) → bytes_eq word (codes "old") ≡ old →
+    bytes_eq word (codes "new") ≡ new →
+    (if old then Some mode.Old else if new then Some mode.New else None) ≡ Some m → word ≡ mode_text m
+mode_case word m true new e f h = same_bytes word (codes "old") e ∙ ap mode_text (some_same mode.Old m h)
+mode_case word m false true e f h = same_bytes word (codes "new") f ∙ ap mode_text (some_same mode.New m h)
+mode_case word m false false e f h = let no : ⊥ = cc in absurd no
+
+pub mode_printed : (word : List ℕ) (m : Mode) → mode_of word ≡ Some m → word ≡ mode_text m
+mode_printed word m h = mode_case word m (bytes_eq word (codes "old")) (bytes_eq word (codes "new")) refl refl h

@@ -1,0 +1,148 @@
+-- Lemmas on the words of a line: those of a line that is printed, and how long a line with some words is at least.
+use Rattle.std.proofs.Common.{◌≡◌, ℕ, zero, suc, ◌+◌, ◌<◌, ◌≤◌, Bool, true, false, not, ◌&&◌, ◌==◌, nat_le, if◌then◌else◌, List, [], ◌∷◌, ◌++◌, length, refl, ap, sym, ◌∙◌, arith, append_assoc, append-nil, length-append, filter}
+use Rattle.std.proofs.lemmas.Bool.{and_parts, leb-true}
+use Rattle.std.proofs.lemmas.List.Folds.{list_all-append}
+use Rattle.std.specs.Int.{is_in_range}
+use Rattle.std.specs.List.{list_all, onto_first, slice_split}
+use Rattle.route_filter.specs.Words.{is_empty, words_of}
+use Rattle.world_script.specs.Printing.{words_text}
+use Rattle.world_script.specs.Text.{is_printable}
+
+-- Words: printable octets but for spaces.
+
+abbrev pub AllGlyphs : List ℕ → Type 0
+AllGlyphs [] = Unit {0}
+AllGlyphs (x ∷ xs) = (32 < x) × (x ≤ 126) × AllGlyphs xs
+
+abbrev pub IsWord : List ℕ → Type 0
+IsWord word = (0 < length word) × AllGlyphs word
+
+abbrev pub AreWords : List (List ℕ) → Type 0
+AreWords [] = Unit {0}
+AreWords (word ∷ words) = IsWord word × AreWords words
+
+-- how many octets words have, with a space before each
+abbrev pub span : List (List ℕ) → ℕ
+span [] = 0
+span (word ∷ words) = 1 + length word + span words
+
+pub length_words : (words : List (List ℕ)) → length (words_text words) ≡ span words
+length_words [] = refl
+length_words (word ∷ words) = omega (arith, length-append (32 ∷ word) (words_text words), length_words words)
+
+-- The words of a line.
+
+abbrev parts_of : List ℕ → List (List ℕ)
+parts_of line = slice_split (λ x. x == 32) line
+
+abbrev AllParts : List (List ℕ) → Type 0
+AllParts [] = Unit {0}
+AllParts (part ∷ parts) = AllGlyphs part × AllParts parts
+
+pub printable_parts : (x : ℕ) (xs : List ℕ) → is_printable (x ∷ xs) ≡ true →
+    (32 ≤ x) × (x ≤ 126) × (is_printable xs ≡ true)
+printable_parts x xs h =
+    let all = and_parts (is_in_range 32 126 x) (is_printable xs) h in
+    let here = and_parts (nat_le 32 x) (nat_le x 126) all.0 in
+    (leb-true 32 x here.0, leb-true x 126 here.1, all.1)
+
+onto_glyphs : (x : ℕ) (parts : List (List ℕ)) → 32 < x → x ≤ 126 → AllParts parts → AllParts (onto_first x parts)
+onto_glyphs x [] low high h = ((low, high, tt), tt)
+onto_glyphs x (part ∷ parts) low high h = ((low, high, h.0), h.1)
+
+no_space : (x : ℕ) → 32 < x → (x == 32) ≡ false
+no_space x h = grind (arith, h)
+
+a_glyph : (x : ℕ) → (x == 32) ≡ false → 32 ≤ x → 32 < x
+a_glyph x e h = grind (arith, e, h)
+
+glyphs_after : (x : ℕ) (parts : List (List ℕ)) (b : Bool) → (x == 32) ≡ b → 32 ≤ x → x ≤ 126 → AllParts parts →
+    AllParts (if b then [] ∷ parts else onto_first x parts)
+glyphs_after x parts true e low high h = (tt, h)
+glyphs_after x parts false e low high h = onto_glyphs x parts (a_glyph x e low) high h
+
+parts_glyphs : (line : List ℕ) → is_printable line ≡ true → AllParts (parts_of line)
+parts_glyphs [] h = (tt, tt)
+parts_glyphs (x ∷ xs) h =
+    let p = printable_parts x xs h in glyphs_after x (parts_of xs) (x == 32) refl p.0 p.1 (parts_glyphs xs p.2)
+
+words_glyphs : (parts : List (List ℕ)) → AllParts parts → AreWords (filter (λ word. not (is_empty word)) parts)
+words_glyphs [] h = tt
+words_glyphs ([] ∷ parts) h = words_glyphs parts h.1
+words_glyphs ((x ∷ xs) ∷ parts) h = ((omega arith, h.0), words_glyphs parts h.1)
+
+-- the words of a printable line are words
+pub are_words : (line : List ℕ) → is_printable line ≡ true → AreWords (words_of line)
+are_words line h = words_glyphs (parts_of line) (parts_glyphs line h)
+
+-- How long a line is.
+
+onto_span : (x : ℕ) (parts : List (List ℕ)) → 0 < span parts → span (onto_first x parts) ≡ span parts + 1
+onto_span x [] h = absurd (omega arith)
+onto_span x (part ∷ parts) h = omega arith
+
+span_after : (x n : ℕ) (parts : List (List ℕ)) (b : Bool) → span parts ≡ n + 1 →
+    span (if b then [] ∷ parts else onto_first x parts) ≡ n + 1 + 1
+span_after x n parts true h = omega (arith, h)
+span_after x n parts false h = omega (arith, h, onto_span x parts (omega (arith, h)))
+
+parts_span : (line : List ℕ) → span (parts_of line) ≡ length line + 1
+parts_span [] = omega arith
+parts_span (x ∷ xs) = omega (arith, span_after x (length xs) (parts_of xs) (x == 32) (parts_span xs))
+
+words_within : (parts : List (List ℕ)) → span (filter (λ word. not (is_empty word)) parts) ≤ span parts
+words_within [] = omega arith
+words_within ([] ∷ parts) = omega (arith, words_within parts)
+words_within ((x ∷ xs) ∷ parts) = omega (arith, words_within parts)
+
+-- a line has room for its words, and for a space between two
+pub words_span : (line : List ℕ) → span (words_of line) ≤ length line + 1
+words_span line = omega (arith, words_within (parts_of line), parts_span line)
+
+-- Words with a space between two.
+
+split_at_space : (word rest : List ℕ) → AllGlyphs word → parts_of (word ++ 32 ∷ rest) ≡ word ∷ parts_of rest
+split_at_space [] rest h = refl
+split_at_space (x ∷ xs) rest h = rw (no_space x h.0) (ap (onto_first x) (split_at_space xs rest h.2))
+
+split_last : (word : List ℕ) → AllGlyphs word → parts_of word ≡ word ∷ []
+split_last [] h = refl
+split_last (x ∷ xs) h = rw (no_space x h.0) (ap (onto_first x) (split_last xs h.2))
+
+joined_parts : (word : List ℕ) (words : List (List ℕ)) → AllGlyphs word → AreWords words →
+    parts_of (word ++ words_text words) ≡ word ∷ words
+joined_parts word [] h hs = ap parts_of (append-nil word) ∙ split_last word h
+joined_parts word (next ∷ words) h hs =
+    split_at_space word (next ++ words_text words) h ∙ ap (λ (ws : List (List ℕ)). word ∷ ws) (joined_parts next words hs.0.1 hs.1)
+
+all_kept : (words : List (List ℕ)) → AreWords words → filter (λ word. not (is_empty word)) words ≡ words
+all_kept [] h = refl
+all_kept ([] ∷ words) h = absurd (omega (arith, h.0.0))
+all_kept ((x ∷ xs) ∷ words) h = ap (λ (ws : List (List ℕ)). (x ∷ xs) ∷ ws) (all_kept words h.1)
+
+pub words_of_joined : (word : List ℕ) (words : List (List ℕ)) → IsWord word → AreWords words →
+    words_of (word ++ words_text words) ≡ word ∷ words
+words_of_joined word words h hs =
+    ap (λ (ws : List (List ℕ)). filter (λ word. not (is_empty word)) ws) (joined_parts word words h.1 hs) ∙ all_kept (word ∷ words) (h, hs)
+
+-- They are printable.
+
+in_range : (x : ℕ) → 32 < x → x ≤ 126 → is_in_range 32 126 x ≡ true
+in_range x low high = grind (arith, low, high)
+
+glyphs_printable : (word : List ℕ) → AllGlyphs word → is_printable word ≡ true
+glyphs_printable [] h = refl
+glyphs_printable (x ∷ xs) h = rw (in_range x h.0 h.1) (glyphs_printable xs h.2)
+
+both_printable : (a b : List ℕ) → is_printable a ≡ true → is_printable b ≡ true → is_printable (a ++ b) ≡ true
+both_printable a b h k = list_all-append (λ x. is_in_range 32 126 x) a b ∙ rw h k
+
+words_printable : (words : List (List ℕ)) → AreWords words → is_printable (words_text words) ≡ true
+words_printable [] h = refl
+words_printable (word ∷ words) h =
+    both_printable (32 ∷ word) (words_text words) (glyphs_printable word h.0.1) (words_printable words h.1)
+
+pub joined_printable : (word : List ℕ) (words : List (List ℕ)) → IsWord word → AreWords words →
+    is_printable (word ++ words_text words) ≡ true
+joined_printable word words h hs =
+    both_printable word (words_text words) (glyphs_printable word h.1) (words_printable words hs)
