@@ -1,6 +1,7 @@
 use crate::sink::WriterSink;
 use crate::source::{FileSource, ReaderSource};
-use gw_base::{Failed, Sink, Source};
+use cgf_top::{InputKind, Status, run_cgf};
+use gw_base::{Failed, MemorySource, Octets, Sink, Source};
 use std::fs::OpenOptions;
 use std::io::{Read, Write};
 use std::test::Fail;
@@ -49,6 +50,50 @@ impl Write for SlowWriter {
     fn flush(&mut self) -> io::Result<()> {
         Ok(())
     }
+}
+
+/// A writer that takes 20 octets a call, and fails at its third call and from then on.
+#[derive(Drop)]
+struct FullWriter {
+    calls: u8,
+}
+
+impl Write for FullWriter {
+    fn write(&mut self, from: &[u8]) -> io::Result<usize> {
+        self.calls = self.calls.saturating_add(1);
+        if self.calls > 2 {
+            return Err(io::Error::from(io::ErrorKind::Other));
+        }
+        Ok(from.len().min(20))
+    }
+
+    fn flush(&mut self) -> io::Result<()> {
+        Ok(())
+    }
+}
+
+#[test]
+fn a_sink_that_fails_in_the_middle_ends_the_job(rt: HostRuntime) -> Result<(), Fail> {
+    let alloc = rt.alloc();
+    // What is printed for the one script has more than 40 octets, and for the other 27 before the line that goes back.
+    let scripts = [
+        ("end\n", Status::Write),
+        (
+            "at 5\nin 10.0.1.1:40001 4EF0000500007E02FC0000\nat 4\nend\n",
+            Status::Input {
+                place: 3,
+                kind: InputKind::Earlier,
+            },
+        ),
+    ];
+    for (script, status) in scripts {
+        let words = vec![in alloc; String::from_str(alloc, "feed")?, String::from_str(alloc, "-")?]?;
+        let script = Octets::of(alloc, script.as_bytes())?;
+        let mut source = MemorySource::new(script, 7, Vec::new(alloc));
+        let mut sink = WriterSink::new(FullWriter { calls: 0 });
+        assert_eq!(rt; run_cgf(alloc, &words, &mut source, &mut sink), status);
+    }
+    Ok(())
 }
 
 #[test]

@@ -35,6 +35,13 @@ pub complete : (words : List (List ℕ)) (left rest_left : Option (List ℕ)) (e
     → (ended ≡ status.Memory) ⊎ EndsByInput words left rest_left ended → IsComplete words left rest_left ended
 complete words left rest_left ended found = record { read = found; whole = whole words left rest_left ended found }
 
+-- what was read decides
+pub complete_by : (words : List (List ℕ)) (command : Command) (left rest_left : Option (List ℕ)) (octets : List ℕ) (ended : Status)
+    → command_of words ≡ Some command → IsRead (most_read command) left rest_left octets → ended ≡ end_of command octets
+    → IsComplete words left rest_left ended
+complete_by words command left rest_left octets ended asked read decided =
+    complete words left rest_left ended (inr (record { command = command; asked = asked; octets = octets; read = read; decided = decided }))
+
 -- what the command of these words takes is bounded
 pub bounded_by : (words : List (List ℕ)) (command : Command) (left rest : Option (List ℕ)) → command_of words ≡ Some command
     → TakesUpTo (most_read command) left rest → IsBounded words left rest

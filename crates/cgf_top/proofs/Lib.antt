@@ -1,10 +1,10 @@
-pub mod Bounds
+pub mod BookLemmas
 pub mod Ends
-pub mod Filed
-pub mod Files
-pub mod Lines
-pub mod Numbers
-pub mod Records
-pub mod Reports
+pub mod FeedLemmas
+pub mod FileLemmas
+pub mod PrintLemmas
+pub mod ReportLemmas
+pub mod Script
+pub mod SettingLemmas
 pub mod Streams
 pub mod Whole

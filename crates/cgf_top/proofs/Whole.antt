@@ -1,102 +1,96 @@
--- An input on which a job is done has fewer octets than are read at most, so that it was read to its end.
-use Rattle.std.proofs.Common.{◌≡◌, ℕ, ◌+◌, ◌≤◌, ◌<◌, inl, inr, Bool, true, false, ◌==◌, nat_lt, List, [], ◌∷◌, length, sum_by, Option, Some, Result, Ok, Err, refl, ap, arith}
-use Rattle.std.proofs.lemmas.Bool.{ltb-false}
-use Rattle.std.proofs.lemmas.List.Sums.{sum_by-cons}
+-- An input that the grammar takes has fewer octets than are read at most, so that it was read to its end.
+use Rattle.std.proofs.Common.{◌≡◌, ℕ, ◌<◌, inl, inr, true, false, sym, ◌∙◌, List, [], length, Option, Some, Result, Ok, Err, refl, ap, arith}
 use Rattle.std.specs.Io.KnownBytes.{Appends}
 use Rattle.gw_base.specs.Written.{AppendsFront}
 use Rattle.cdr_file.specs.Spelling.{Spells}
+use Rattle.cdr_file.specs.Reading.{file_in}
+use Rattle.cdr_file.specs.declared.fault.FileFault.{FileFault}
+use Rattle.cdr_file.specs.declared.fault.FileFault.TheVariants as fault
+use Rattle.cdr_file.specs.declared.fault.FileKind.{FileKind}
+use Rattle.cdr_file.specs.declared.fault.FileKind.TheVariants as kinds
 use Rattle.cdr_file.specs.declared.file.CdrFile.{CdrFile}
+use Rattle.world_script.specs.Script.{script_of}
+use Rattle.world_script.specs.declared.line.Line.{Line}
 use Rattle.cgf_top.specs.Command.{command_of, most_read}
-use Rattle.cgf_top.specs.FeedScript.{behind_step, line_step, lines_from, not_begun, script_of, with_line}
-use Rattle.cgf_top.specs.Run.{IsRead, IsReported, WritesFront, WritesReport, end_of, report_of}
+use Rattle.cgf_top.specs.Run.{IsRead, IsReported, WritesFront, WritesReport, end_of, is_of_run, may_have_written, report_of, shown_end}
+use Rattle.cgf_top.specs.ShowReport.{file_kind, listed}
+use Rattle.cgf_top.specs.Steps.{IsRefusal}
+use Rattle.cgf_top.specs.declared.command.Command.TheVariants.{Show}
 use Rattle.cgf_top.specs.declared.command.Command.{Command}
+use Rattle.cgf_top.specs.declared.report.Refusal.{Refusal}
+use Rattle.cgf_top.specs.declared.status.Status.{Status}
 use Rattle.cgf_top.specs.declared.status.Status.TheVariants as status
-use Rattle.world_script.specs.Text.{RawLine, line_size, onto_line, raw_lines}
-use Rattle.cgf_top.specs.declared.feed_script.line.Line.{Line}
-use Rattle.cgf_top.specs.declared.feed_script.progress.Progress.{Progress}
-use Rattle.cgf_top.specs.declared.input_kind.InputKind.{InputKind}
-use Rattle.cgf_top.specs.declared.input_kind.InputKind.TheVariants.{TooLong}
-use Rattle.cgf_top.specs.declared.feed_script.refusal.Refusal.{Refusal}
-
--- ---- the lines of a text have its octets
-
-sum_by-onto_line : (x : ℕ) (lines : List RawLine) → sum_by line_size (onto_line x lines) ≡ sum_by line_size lines + 1
-sum_by-onto_line x [] = omega (arith, sum_by-cons line_size (record { octets = x ∷ []; ended = false }) [])
-sum_by-onto_line x (l ∷ ls) = omega (arith, sum_by-cons line_size l ls, sum_by-cons line_size (record { octets = x ∷ l.octets; ended = l.ended }) ls)
-
-sum_by-raw_lines : (text : List ℕ) → sum_by line_size (raw_lines text) ≡ length text
-sum_by-raw_lines [] = refl
-sum_by-raw_lines (x ∷ xs) = by (x == 10) refl (sum_by-raw_lines xs)
-  where
-    by : (r : Bool) → (x == 10) ≡ r → sum_by line_size (raw_lines xs) ≡ length xs → sum_by line_size (raw_lines (x ∷ xs)) ≡ length (x ∷ xs)
-    by true e rest = rw e (omega (arith, rest, sum_by-cons line_size (record { octets = []; ended = true }) (raw_lines xs)))
-    by false e rest = rw e (omega (arith, rest, sum_by-onto_line x (raw_lines xs)))
-
--- ---- lines that are read are within the bound
-
-line_rest : (found : Line) (rest : Result (List Line) Refusal) (lines : List Line) → with_line found rest ≡ Ok lines → (more : List Line) × (rest ≡ Ok more)
-line_rest found (Ok more) lines e = (more, refl)
-line_rest found (Err refusal) lines e = let no : ⊥ = cc in absurd no
-
-step_rest : (place : ℕ) (step : Result (Line × Progress) InputKind) (rest : Progress → Result (List Line) Refusal) (lines : List Line)
-    → behind_step place step rest ≡ Ok lines → (next : Progress) × (more : List Line) × (rest next ≡ Ok more)
-step_rest place (Err kind) rest lines e = let no : ⊥ = cc in absurd no
-step_rest place (Ok step) rest lines e = let r = line_rest step.0 (rest step.1) lines e in (step.1, r.0, r.1)
-
-lines_within : (place at : ℕ) (p : Progress) (raws : List RawLine) (lines : List Line) → at ≤ 16777216 → lines_from place at p raws ≡ Ok lines
-    → at + sum_by line_size raws ≤ 16777216
-lines_within place at p [] lines h e = omega (arith, h)
-lines_within place at p (raw ∷ raws) lines h e =
-    by (nat_lt 16777216 (at + line_size raw)) refl (λ next more within read. lines_within (place + 1) (at + line_size raw) next raws more within read)
-  where
-    by : (r : Bool) → nat_lt 16777216 (at + line_size raw) ≡ r
-        → ((next : Progress) (more : List Line) → at + line_size raw ≤ 16777216 → lines_from (place + 1) (at + line_size raw) next raws ≡ Ok more
-        → (at + line_size raw) + sum_by line_size raws ≤ 16777216)
-        → at + sum_by line_size (raw ∷ raws) ≤ 16777216
-    by true long later =
-        let refused : ◌≡◌ {A = Result (List Line) Refusal} (Err (record { place = place; kind = TooLong })) (Ok lines) = rw long at e in
-        let no : ⊥ = cc in
-        absurd no
-    by false short later =
-        let next = step_rest place (line_step at p raw) (λ q. lines_from (place + 1) (at + line_size raw) q raws) lines e in
-        omega (arith, later next.0 next.1 (ltb-false 16777216 (at + line_size raw) short) next.2, sum_by-cons line_size raw raws)
-
-script_within : (text : List ℕ) (lines : List Line) → script_of text ≡ Ok lines → length text ≤ 16777216
-script_within text lines e = omega (arith, lines_within 1 0 not_begun (raw_lines text) lines (omega arith) e, sum_by-raw_lines text)
+use Rattle.cgf_top.proofs.Script.{script_within}
+use Rattle.cgf_top.proofs.Streams.{appends_none}
 
 -- ---- octets on which a job is done are fewer than the most that are read
 
-pub fed_within : (text : List ℕ) → (lines : List Line) × (script_of text ≡ Ok lines) → length text < 16777217
-fed_within text lines = omega (arith, script_within text lines.0 lines.1)
+pub fed_within : (text : List ℕ) (lines : List Line) → script_of text ≡ Ok lines → length text < 16777217
+fed_within text lines read = omega (arith, script_within text lines read)
 
 pub shown_within : (file : CdrFile) (octets : List ℕ) → Spells file octets → length octets < 4294967296
 shown_within file octets spells = omega (arith, ap length spells.spelled, spells.is_file.file_length, spells.is_file.header.file_length)
 
--- an input on which the job is done was read to its end
-reported : (words : List (List ℕ)) (command : Command) (left rest : Option (List ℕ)) (octets report : List ℕ) → command_of words ≡ Some command
-    → IsRead (most_read command) left rest octets → length octets < most_read command → end_of command octets ≡ status.Done → report ≡ report_of command octets
-    → IsReported words left rest report
-reported words command left rest octets report asked read within done is = record {
+-- an input was read, and this is what it prints; one that is shorter than the bound was read to its end
+reported : (words : List (List ℕ)) (command : Command) (left rest : Option (List ℕ)) (octets report : List ℕ) (ended : Status) → command_of words ≡ Some command
+    → IsRead (most_read command) left rest octets → (may_have_written ended ≡ true → length octets < most_read command) → ended ≡ end_of command octets
+    → report ≡ report_of command octets → IsReported words left rest ended report
+reported words command left rest octets report ended asked read within decided is = record {
   command = command;
   asked = asked;
   octets = octets;
-  consumed = read.consumed;
-  ended = elim read.whole [
-    | inl long ↦ (let no : ⊥ = omega (arith, long, within) in absurd no)
+  read = read;
+  decided = decided;
+  whole = λ taken. elim read.whole [
+    | inl long ↦ (let no : ⊥ = omega (arith, long, within taken) in absurd no)
     | inr end ↦ end
   ];
-  done = done;
   report_is = is;
 }
 
-pub writes_report : (words : List (List ℕ)) (command : Command) (left rest before after : Option (List ℕ)) (octets report : List ℕ)
-    → command_of words ≡ Some command → IsRead (most_read command) left rest octets → length octets < most_read command → end_of command octets ≡ status.Done
-    → report ≡ report_of command octets → Appends before after report → WritesReport words left rest before after
-writes_report words command left rest before after octets report asked read within done is written =
-    (report, reported words command left rest octets report asked read within done is, written)
+pub writes_report : (words : List (List ℕ)) (command : Command) (left rest before after : Option (List ℕ)) (octets report : List ℕ) (ended : Status)
+    → command_of words ≡ Some command → IsRead (most_read command) left rest octets → (may_have_written ended ≡ true → length octets < most_read command)
+    → ended ≡ end_of command octets → report ≡ report_of command octets → Appends before after report → WritesReport words left rest before after ended
+writes_report words command left rest before after octets report ended asked read within decided is written =
+    (report, reported words command left rest octets report ended asked read within decided is, written)
 
-pub writes_front : (words : List (List ℕ)) (command : Command) (left rest before after : Option (List ℕ)) (octets report : List ℕ)
-    → command_of words ≡ Some command → IsRead (most_read command) left rest octets → length octets < most_read command → end_of command octets ≡ status.Done
-    → report ≡ report_of command octets → AppendsFront before after report → WritesFront words left rest before after
-writes_front words command left rest before after octets report asked read within done is written =
-    (report, reported words command left rest octets report asked read within done is, written)
+pub writes_front : (words : List (List ℕ)) (command : Command) (left rest before after : Option (List ℕ)) (octets report : List ℕ) (ended : Status)
+    → command_of words ≡ Some command → IsRead (most_read command) left rest octets → length octets < most_read command
+    → ended ≡ end_of command octets → may_have_written ended ≡ true → report ≡ report_of command octets → AppendsFront before after report
+    → WritesFront words left rest before after
+writes_front words command left rest before after octets report ended asked read within decided taken is written =
+    (ended, taken, (report, reported words command left rest octets report ended asked read (λ t. within) decided is, written))
+
+-- nothing is written of what the grammar refuses
+pub writes_refusal : (words : List (List ℕ)) (command : Command) (left rest before : Option (List ℕ)) (octets : List ℕ) (refusal : Refusal)
+    → command_of words ≡ Some command → IsRead (most_read command) left rest octets → IsRefusal command octets refusal
+    → WritesReport words left rest before before (status.Input refusal.place refusal.kind)
+writes_refusal words command left rest before octets refusal asked read refused = (
+  [],
+  reported words command left rest octets [] (status.Input refusal.place refusal.kind) asked read (λ taken. absurd (never taken)) refused.ended (sym refused.none),
+  appends_none before [],
+)
+  where
+    never : may_have_written (status.Input refusal.place refusal.kind) ≡ true → ⊥
+    never taken =
+        let both : true ≡ false = sym taken ∙ ap (λ (s : Status). may_have_written s) refused.ended ∙ refused.untaken in cc
+
+-- no refusal of a file is of the run
+pub file_untaken : (kind : FileKind) → is_of_run (file_kind kind) ≡ false
+file_untaken kinds.Short = refl
+file_untaken kinds.FileLength = refl
+file_untaken kinds.HeaderLength = refl
+file_untaken kinds.Filter = refl
+file_untaken kinds.Extension = refl
+file_untaken kinds.CdrHeader = refl
+file_untaken kinds.CdrCut = refl
+file_untaken kinds.Count = refl
+
+-- the refusal of octets that are no file
+pub shown_refusal : (octets : List ℕ) (place : ℕ) (kind : FileKind) → file_in octets ≡ Err (fault.Bad place kind)
+    → IsRefusal Show octets (record { place = place; kind = file_kind kind })
+shown_refusal octets place kind read = record {
+  ended = ap (λ (r : Result CdrFile FileFault). shown_end r) (sym read);
+  none = ap (λ (r : Result CdrFile FileFault). listed r) read;
+  untaken = ap (λ (r : Result CdrFile FileFault). may_have_written (shown_end r)) read ∙ file_untaken kind;
+}

@@ -1,54 +1,45 @@
--- What `feed` prints: the reply to each datagram, then the file of the records, then the gateway's counts.
-use Rattle.std.specs.Prelude.{ℕ, ◌<◌, ◌^◌, IfSome, if◌then◌else◌, List, [], ◌∷◌, ◌++◌, length, map, Option, Some, None, Result, Ok, Err, codes, pos}
+-- What `feed` prints: the reply to each datagram, then the CDR files of the records, then the gateway's counts.
+use Rattle.std.specs.Prelude.{ℕ, zero, suc, ◌+◌, ◌/◌, ◌%◌, nat_lt, Bool, false, if◌then◌else◌, List, [], ◌∷◌, ◌++◌, length, Option, Some, None, codes}
 use Rattle.std.specs.Fmt.{decimal}
+use Rattle.std.specs.List.{flat_map}
 use Rattle.hex.specs.Hex.{encode_upper}
-use Rattle.cdr_file.specs.CdrFile.{FileSettings, file_octets}
-use Rattle.cdr_file.specs.CdrFile as cdr
-use Rattle.cdr_file.specs.declared.closure.ClosureReason.TheVariants.{Manual}
-use Rattle.gtpp_message.specs.Message.{TransferResponse, VersionNotSupported}
-use Rattle.gtpp_message.specs.Writing.{written}
+use Rattle.cdr_shelf.specs.Files.{SealedFile}
+use Rattle.cdr_shelf.specs.declared.file_name.FileName.{FileName}
+use Rattle.file_writer.specs.Files.{files_of}
+use Rattle.gateway_book.specs.Answer.{Decided, Says, Silent}
+use Rattle.gateway_book.specs.Filed.{filed}
+use Rattle.gateway_book.specs.Items.{items_of}
 use Rattle.gtpp_message.specs.Names.{name_of}
 use Rattle.gtpp_message.specs.declared.reading.Why.{Why}
-use Rattle.gw_base.specs.CdrKind.{kind_of}
-use Rattle.gw_base.specs.History.{copies_of, is_close_due, moment_after, top_of}
-use Rattle.gw_base.specs.declared.address.Addr.{Addr}
-use Rattle.gw_base.specs.declared.history.HistoryAct.{HistoryAct}
-use Rattle.gw_base.specs.declared.history.HistoryAct.TheVariants as act
+use Rattle.gw_base.specs.History.{copies_of}
 use Rattle.gw_base.specs.declared.history.HistoryEntry.{HistoryEntry}
-use Rattle.cgf_top.specs.Answer.{answer_of}
-use Rattle.cgf_top.specs.FeedScript.{script_of}
-use Rattle.cgf_top.specs.FiledRecords.{filed_records}
-use Rattle.cgf_top.specs.Preparing.{PreparedValue, Drop, OtherVersion, Refused, Path, Request, prepared_of}
-use Rattle.cgf_top.specs.declared.gateway_book.answer.Answer.{Answer}
-use Rattle.cgf_top.specs.declared.gateway_book.filed.FiledRecord.{FiledRecord}
-use Rattle.cgf_top.specs.declared.feed_script.line.Line.{Line}
-use Rattle.cgf_top.specs.declared.feed_script.line.Line.TheVariants as line
-use Rattle.cgf_top.specs.declared.feed_script.refusal.Refusal.{Refusal}
+use Rattle.world_script.specs.declared.fault.InputKind.{InputKind as LineKind}
+use Rattle.world_script.specs.declared.fault.InputKind.TheVariants as of_line
+use Rattle.world_script.specs.declared.line.Line.{Line}
+use Rattle.world_script.specs.declared.line.Line.TheVariants as line
+use Rattle.cgf_top.specs.FeedSettings.{FeedSettings, settings_of}
+use Rattle.cgf_top.specs.declared.input_kind.InputKind.{InputKind}
+use Rattle.cgf_top.specs.declared.input_kind.InputKind.TheVariants as input
+use Rattle.cgf_top.specs.Gateway.{GatewayValue, after_close, after_datagram, after_tick, answered, new_gateway}
 
--- The history.
+-- The lines of a script, one after the other.
 
--- an entry that no session made, with the moment that an entry made now bears
-abbrev pub entry_of : List HistoryEntry → ℕ → HistoryAct → HistoryEntry
-entry_of h now act = record { moment = moment_after h now; caller = record { session = 0; serial = 0 }; act = act }
+-- the gateway, and the present moment
+pub record FeedState : Type 0 where
+  pub gateway : GatewayValue
+  pub now : ℕ
 
--- the history with one more entry, where an act calls for one
-abbrev pub with_act : List HistoryEntry → ℕ → Option HistoryAct → List HistoryEntry
-with_act h now None = h
-with_act h now (Some act) = h ++ entry_of h now act ∷ []
+-- before the first line
+abbrev pub begun : FeedSettings → FeedState
+begun settings = record { gateway = new_gateway settings.reserved settings.files.limits.open_time; now = 0 }
 
--- the history of a gateway that has just begun to run
-abbrev pub started : List HistoryEntry
-started = entry_of [] 0 act.Start ∷ []
-
--- the history with a Close, where one is due
-abbrev pub closed : List HistoryEntry → ℕ → List HistoryEntry
-closed h now = with_act h now (if is_close_due h then Some act.Close else None)
-
--- no number of a history is too big for the nearest number to be found
-abbrev pub IsBounded : List HistoryEntry → Type 0
-IsBounded h = (node : ℕ) → IfSome (top_of node h) (λ t. t < 2 ^ 63)
-
--- The lines.
+-- after a line; a setting, an empty line and the `end` do nothing
+abbrev pub after_line : FeedState → Line → FeedState
+after_line s (line.At moment) = record s { now = moment }
+after_line s (line.Datagram from octets) = record s { gateway = after_datagram s.gateway s.now from octets }
+after_line s (line.Mark gateway) = record s { gateway = after_tick s.gateway s.now }
+after_line s (line.Close gateway) = record s { gateway = after_close s.gateway s.now }
+after_line s _ = s
 
 -- octets in hexadecimal, as a line
 abbrev pub octets_line : List ℕ → List ℕ
@@ -58,87 +49,82 @@ octets_line octets = encode_upper octets ++ 10 ∷ []
 abbrev pub drop_line : Why → List ℕ
 drop_line why = codes "- " ++ name_of why ++ 10 ∷ []
 
--- the response to the request with this number, by its cause
-abbrev pub response : ℕ → ℕ → List ℕ
-response number cause = written number (TransferResponse cause (number ∷ []))
+-- the reply to a datagram, or why it isn't answered
+abbrev pub reply_line : Decided → List ℕ
+reply_line (Silent why) = drop_line why
+reply_line (Says octets act) = octets_line octets
 
--- what the feed has come to: the history, the present moment and the lines that were printed
-pub record FeedState : Type 0 where
-  pub history : List HistoryEntry
-  pub now : ℕ
-  pub printed : List ℕ
+-- what is printed for a line: for a datagram what is answered to it, and nothing for all else
+abbrev pub printed_for : FeedState → Line → List ℕ
+printed_for s (line.Datagram from octets) = reply_line (answered s.gateway from octets)
+printed_for s _ = []
 
--- one more line is printed
-abbrev pub with_printed : FeedState → List ℕ → FeedState
-with_printed s line = record s { printed = s.printed ++ line }
+-- The end: a Close closes all files that are open, and the files and the counts are printed.
 
--- a request is answered, and its entry made
-abbrev pub behind_answer : FeedState → ℕ → Answer → FeedState
-behind_answer s number answer = record {
-  history = with_act s.history s.now answer.act;
-  now = s.now;
-  printed = s.printed ++ octets_line (response number answer.cause);
-}
+-- the last decimal digits of a number, so many of them
+abbrev pub last_digits : ℕ → ℕ → List ℕ
+last_digits zero n = []
+last_digits (suc count) n = last_digits count (n / 10) ++ (48 + n % 10) ∷ []
 
--- a datagram of this sender came; no script has one of path management so far
-abbrev pub behind_datagram : FeedState → Addr → PreparedValue → FeedState
-behind_datagram s sender (Drop why) = with_printed s (drop_line why)
-behind_datagram s sender (OtherVersion number) = with_printed s (octets_line (written number VersionNotSupported))
-behind_datagram s sender (Refused cause number) = with_printed s (octets_line (response number cause))
-behind_datagram s sender (Path number message) = s
-behind_datagram s sender (Request number body) = behind_answer s number (answer_of s.history (record { 0 = sender.ip }) number body)
+-- the name of a file: its stream in two digits, and its number in the sequence of the stream in ten
+abbrev pub name_text : FileName → List ℕ
+name_text name = last_digits 2 name.stream ++ codes "-" ++ last_digits 10 name.sequence ++ codes ".cdr"
 
-abbrev pub behind : FeedState → Line → FeedState
-behind s line.Blank = s
-behind s (line.At moment) = record s { now = moment }
-behind s (line.Datagram sender octets) = behind_datagram s sender (prepared_of octets)
-behind s line.End = s
+abbrev pub file_line : SealedFile → List ℕ
+file_line file = codes "file 1 " ++ name_text file.name ++ codes " " ++ octets_line file.octets
 
-abbrev pub behind_all : FeedState → List Line → FeedState
-behind_all s [] = s
-behind_all s (l ∷ ls) = behind_all (behind s l) ls
-
--- the feed before the first line
-abbrev pub fresh_feed : FeedState
-fresh_feed = record { history = started; now = 0; printed = [] }
-
--- The file: all records go into one, which the Close at the end closes.
-
--- a record as the file has it
-abbrev pub in_file : FiledRecord → cdr.FiledRecord
-in_file filed = record { kind = kind_of filed.format filed.version; octets = filed.octets; moment = filed.moment }
-
--- the gateway's clock shows UTC, and its address is 10.0.0.1
-abbrev pub feed_settings : FileSettings
-feed_settings = record { offset = pos 0; address = 0x0A00_0001 }
-
-abbrev pub file_line : List FiledRecord → List ℕ
-file_line [] = []
-file_line (filed ∷ more) =
-    codes "file 1 00-0000000001.cdr " ++ octets_line (file_octets (map in_file (filed ∷ more)) 1 Manual feed_settings)
-
--- The counts.
+-- the entries of the history, the filed records, the copies that are held, and those of earlier epochs that were neither
+-- released nor cancelled
 abbrev pub gateway_line : List HistoryEntry → List ℕ
 gateway_line h =
     codes "gateway 1 entries " ++ decimal (length h)
-    ++ codes " records " ++ decimal (length (filed_records h))
+    ++ codes " records " ++ decimal (length (filed h))
     ++ codes " held " ++ decimal (copies_of h).held
     ++ codes " stranded " ++ decimal (copies_of h).stranded
     ++ 10 ∷ []
 
-abbrev pub end_lines : List HistoryEntry → List ℕ
-end_lines h = file_line (filed_records h) ++ gateway_line h
+-- the closed files of a history, stream after stream and by their numbers, and its counts
+abbrev pub end_lines : FeedSettings → List HistoryEntry → List ℕ
+end_lines settings h = flat_map file_line (files_of settings.files (items_of h)) ++ gateway_line h
 
--- all that is printed for the lines of a script
-abbrev pub report_of_lines : List Line → List ℕ
-report_of_lines lines =
-    let s = behind_all fresh_feed lines in
-    s.printed ++ end_lines (closed s.history s.now)
+-- The whole script.
 
-abbrev pub report_of_script : Result (List Line) Refusal → List ℕ
-report_of_script (Ok lines) = report_of_lines lines
-report_of_script (Err refusal) = []
+-- why the grammar of scripts refuses a line, as it is said of an input
+abbrev pub line_kind : LineKind → InputKind
+line_kind of_line.TooLong = input.TooLong
+line_kind of_line.Word = input.Word
+line_kind of_line.NotBuilt = input.NotBuilt
+line_kind of_line.After = input.After
+line_kind of_line.Late = input.Late
+line_kind of_line.Arity = input.Arity
+line_kind of_line.Number = input.Number
+line_kind of_line.Hex = input.Hex
+line_kind of_line.Rule = input.Rule
+line_kind of_line.NoEnd = input.NoEnd
 
--- all that is printed for a script; nothing where a line is refused
-abbrev pub feed_report : List ℕ → List ℕ
-feed_report text = report_of_script (script_of text)
+-- whether a line sets a moment before the present one
+abbrev pub is_earlier : ℕ → Line → Bool
+is_earlier now (line.At moment) = nat_lt moment now
+is_earlier now _ = false
+
+-- what is printed for lines, and the number of the first that can't be run, where there is one
+pub record Fed : Type 0 where
+  pub printed : List ℕ
+  pub refused : Option ℕ
+
+-- a line's print in front of that of the later lines
+abbrev pub with_print : List ℕ → Fed → Fed
+with_print printed later = record { printed = printed ++ later.printed; refused = later.refused }
+
+-- The lines are run from the one with this number on, up to the first that sets an earlier moment; where none does, the
+-- feed comes to its end.
+abbrev pub fed_from : FeedSettings → ℕ → FeedState → List Line → Fed
+fed_from settings place s [] =
+    record { printed = end_lines settings (after_close s.gateway s.now).history; refused = None }
+fed_from settings place s (l ∷ lines) =
+    if is_earlier s.now l then record { printed = []; refused = Some place }
+    else with_print (printed_for s l) (fed_from settings (place + 1) (after_line s l) lines)
+
+-- what is printed for the lines of a script
+abbrev pub fed_of : List Line → Fed
+fed_of lines = let settings = settings_of lines in fed_from settings 1 (begun settings) lines

@@ -2,14 +2,12 @@
 pub mod Command
 pub mod Run
 pub mod StatusText
-pub mod FeedScript
+pub mod FeedSettings
+pub mod Gateway
 pub mod FeedReport
 pub mod ShowReport
-pub mod FiledRecords
-pub mod Answer
-pub mod Preparing
-pub mod PreparedValues
-pub mod Numbers
 -- steps of proofs
+pub mod BookSteps
+pub mod Lines
+pub mod SettingSteps
 pub mod Steps
-pub mod FileWriter

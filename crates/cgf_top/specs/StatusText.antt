@@ -8,7 +8,16 @@ use Rattle.cgf_top.specs.declared.input_kind.InputKind.TheVariants as input
 
 abbrev pub kind_name : InputKind → List ℕ
 kind_name input.TooLong = codes "TooLong"
+kind_name input.Word = codes "Word"
 kind_name input.NotBuilt = codes "NotBuilt"
+kind_name input.After = codes "After"
+kind_name input.Late = codes "Late"
+kind_name input.Arity = codes "Arity"
+kind_name input.Number = codes "Number"
+kind_name input.Hex = codes "Hex"
+kind_name input.Rule = codes "Rule"
+kind_name input.NoEnd = codes "NoEnd"
+kind_name input.Earlier = codes "Earlier"
 kind_name input.Short = codes "Short"
 kind_name input.FileLength = codes "FileLength"
 kind_name input.HeaderLength = codes "HeaderLength"

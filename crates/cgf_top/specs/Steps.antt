@@ -1,38 +1,80 @@
--- Words for steps of the code: what one call reads, and what is kept of the lines. No contract of a public call cites
--- them.
-use Rattle.std.specs.Prelude.{ℕ, ◌≡◌, List, [], ◌∷◌, ◌++◌, length, Option, Result, Ok, Err}
-use Rattle.std.specs.List.{flat_map}
+-- Words for steps of the code. No contract of a public call cites them.
+use Rattle.std.specs.Prelude.{ℕ, ◌≡◌, Bool, true, false, List, [], ◌∷◌, ◌++◌, length, Option, None, Some, codes}
+use Rattle.std.specs.Fmt.{decimal}
 use Rattle.std.specs.Io.KnownBytes.{Consumes, IsAtEnd}
-use Rattle.cgf_top.specs.declared.feed_script.line.Line.{Line}
-use Rattle.cgf_top.specs.declared.feed_script.line.Line.TheVariants as line
-use Rattle.cgf_top.specs.declared.feed_script.progress.Progress.{Progress}
-use Rattle.cgf_top.specs.declared.input_kind.InputKind.{InputKind}
-use Rattle.cgf_top.specs.declared.feed_script.refusal.Refusal.{Refusal}
-use Rattle.cgf_top.specs.declared.feed_script.script.ScriptEnd.{ScriptEnd}
-use Rattle.cgf_top.specs.declared.feed_script.script.ScriptEnd.TheVariants as end
+use Rattle.gateway_book.specs.declared.outcome.Outcome.{Outcome}
+use Rattle.gateway_book.specs.declared.outcome.Outcome.TheVariants as outcome
+use Rattle.gateway_book.specs.declared.told.Counts.{Counts}
+use Rattle.gw_base.specs.declared.item.Item.{Item}
+use Rattle.gw_base.specs.declared.item.Item.TheVariants as item
+use Rattle.cgf_top.specs.FeedReport.{Fed, FeedState, drop_line, octets_line}
+use Rattle.cgf_top.specs.Run.{end_of, may_have_written, report_of}
+use Rattle.cgf_top.specs.declared.command.Command.{Command}
+use Rattle.cgf_top.specs.declared.feed.Feed.{Feed}
+use Rattle.cgf_top.specs.declared.input_kind.InputKind.TheVariants.{Earlier}
+use Rattle.cgf_top.specs.declared.report.Refusal.{Refusal}
+use Rattle.cgf_top.specs.declared.report.Report.{Report}
+use Rattle.cgf_top.specs.declared.status.Status.{Status}
+use Rattle.cgf_top.specs.declared.status.Status.TheVariants as status
+
+-- Reading.
 
 -- a piece was taken of an input and appended to a text, and is empty only at the input's end
 abbrev pub TakesPiece : Option (List ℕ) → Option (List ℕ) → List ℕ → List ℕ → ℕ → Type 0
 TakesPiece left rest before after count =
     (piece : List ℕ) × Consumes left rest piece × (after ≡ before ++ piece) × (length piece ≡ count) × (count ≡ 0 → IsAtEnd rest)
 
--- What the code keeps of the lines: those that do something.
+-- Lines.
 
-abbrev pub kept : Line → List Line
-kept line.Blank = []
-kept (line.At moment) = line.At moment ∷ []
-kept (line.Datagram sender octets) = line.Datagram sender octets ∷ []
-kept line.End = line.End ∷ []
+abbrev pub state_of : Feed → FeedState
+state_of feed = record { gateway = feed.gateway; now = feed.moment }
 
-abbrev pub kept_lines : List Line → List Line
-kept_lines lines = flat_map kept lines
+-- what is printed for what became of a datagram
+abbrev pub outcome_line : Outcome → List ℕ
+outcome_line (outcome.Answer receipt) = octets_line receipt.reply
+outcome_line (outcome.Drop why) = drop_line why
+outcome_line outcome.NoMemory = []
 
--- the script's lines are read, and these are the ones that do something
-abbrev pub SaysLines : Result (List Line) Refusal → List Line → Type 0
-SaysLines script lines = (all : List Line) × (script ≡ Ok all) × (lines ≡ kept_lines all)
+-- whether an item is a filed record
+abbrev pub is_part : Item → Bool
+is_part (item.Part kind tag octets moment) = true
+is_part (item.Tick moment) = false
+is_part (item.Close moment) = false
 
--- the line with this number was read or refused, unless memory ran out
-abbrev pub StepGives : ℕ → Result (Line × Progress) InputKind → Result (Line × Progress) ScriptEnd → Type 0
-StepGives place step (Ok found) = step ≡ Ok found
-StepGives place step (Err (end.Refused refusal)) = (step ≡ Err refusal.kind) × (refusal.place ≡ place)
-StepGives place step (Err end.NoMemory) = Unit {0}
+-- the line of counts, with so many records
+abbrev pub counts_line : Counts → ℕ → List ℕ
+counts_line counts records =
+    codes "gateway 1 entries " ++ decimal counts.entries
+    ++ codes " records " ++ decimal records
+    ++ codes " held " ++ decimal counts.held
+    ++ codes " stranded " ++ decimal counts.stranded
+    ++ 10 ∷ []
+
+-- the line with this number that can't be run
+abbrev pub refusal_at : Option ℕ → Option Refusal
+refusal_at None = None
+refusal_at (Some place) = Some (record { place = place; kind = Earlier })
+
+-- a report is what is printed for lines
+pub record IsFed (fed : Fed) (report : Report) : Type 0 where
+  pub printed : report.printed.items ≡ fed.printed
+  pub refused : report.refused ≡ refusal_at fed.refused
+
+-- Ends.
+
+-- how the job ends whose report was written
+abbrev pub ended_by : Option Refusal → Status
+ended_by None = status.Done
+ended_by (Some refusal) = status.Input refusal.place refusal.kind
+
+-- what is to be written for an input that the grammar takes, and how the job ends then
+pub record IsReport (command : Command) (octets : List ℕ) (report : Report) : Type 0 where
+  pub printed : report.printed.items ≡ report_of command octets
+  pub ended : ended_by report.refused ≡ end_of command octets
+  pub taken : may_have_written (end_of command octets) ≡ true
+
+-- the grammar refuses an input, and nothing is to be written
+pub record IsRefusal (command : Command) (octets : List ℕ) (refusal : Refusal) : Type 0 where
+  pub ended : status.Input refusal.place refusal.kind ≡ end_of command octets
+  pub none : report_of command octets ≡ []
+  pub untaken : may_have_written (end_of command octets) ≡ false

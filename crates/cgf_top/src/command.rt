@@ -3,8 +3,6 @@
 ghost use Rattle.std.specs.Prelude.{◌≡◌, map, string_bytes};
 ghost use Rattle.cgf_top.specs.Command.{command_of, is_file, most_read};
 
-use crate::feed_script::MOST_TEXT;
-
 /// A job that the program does.
 #[derive(Clone, Copy, Debug, PartialEq, Eq)]
 pub enum Command {
@@ -13,6 +11,9 @@ pub enum Command {
     /// `show FILE`: lists a CDR file.
     Show,
 }
+
+/// One octet more than the text of a script may have.
+const MOST_SCRIPT_READ: usize = 16_777_217;
 
 /// One octet more than the length field of a CDR file can say.
 const MOST_FILE_READ: usize = 4_294_967_296;
@@ -40,7 +41,7 @@ impl Command {
         ensures { result ≡ most_read self }
     {
         match self {
-            Command::Feed => MOST_TEXT + 1,
+            Command::Feed => MOST_SCRIPT_READ,
             Command::Show => MOST_FILE_READ,
         }
     }

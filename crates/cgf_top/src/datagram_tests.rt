@@ -3,12 +3,15 @@
 
 ghost use Rattle.std.specs.Prelude.{◌<◌};
 
-use crate::{InputKind, Status, run_cgf};
+use crate::{Status, run_cgf};
 use gw_base::{MemorySink, MemorySource, Octets};
 use std::test::Fail;
 
-/// How many octets a report has at most: that of the largest datagram has some 131,200.
-const SINK_OCTETS: usize = 1 << 18;
+/// How many octets the area and the sink have where one small datagram is fed.
+const FEW_OCTETS: usize = 4000;
+
+/// How many they have elsewhere: the report on the largest datagram has some 131,200.
+const MANY_OCTETS: usize = 200_000;
 
 /// What is printed at the end for a gateway that only began.
 const NONE_FILED: &str = "gateway 1 entries 1 records 0 held 0 stranded 0\n";
@@ -17,18 +20,21 @@ const NONE_FILED: &str = "gateway 1 entries 1 records 0 held 0 stranded 0\n";
 /// what stands behind that number, in hexadecimal.
 const FILE_FORM: &str = "0000003460601080080010800800";
 
+const STAMPS: &str = "1080080010800800";
+
 const FILE_REST: &str = "000000010400000000000000000000FFFF0A000001000000000000000000";
 
-/// How a feed of these lines ends, and what it writes.
-fn feed(rt: &HostRuntime, lines: &str) -> Result<(Status, Vec<u8>), Fail> {
+/// How a feed of these lines ends, and what it writes, where area and sink have so many octets.
+fn feed(rt: &HostRuntime, octets: usize, lines: &str) -> Result<(Status, Vec<u8>), Fail> {
     let alloc = rt.alloc();
     let mut words = Vec::new(alloc);
     for word in ["feed", "-"] {
         words.push(String::from_str(alloc, word)?)?;
     }
-    let script = Octets::of(alloc, lines.as_bytes())?;
+    let text = format!(in alloc; "reserve {octets}\n{lines}end\n")?;
+    let script = Octets::of(alloc, text.as_bytes())?;
     let mut source = MemorySource::new(script, 4096, Vec::new(alloc));
-    let mut sink = MemorySink::new(alloc, SINK_OCTETS, Vec::new(alloc))?;
+    let mut sink = MemorySink::new(alloc, octets, Vec::new(alloc))?;
     let status = run_cgf(alloc, &words, &mut source, &mut sink);
     Ok((status, sink.octets().to_vec(alloc)?))
 }
@@ -37,13 +43,6 @@ fn feed(rt: &HostRuntime, lines: &str) -> Result<(Status, Vec<u8>), Fail> {
 fn datagram_line(rt: &HostRuntime, datagram: &[u8]) -> Result<String, Fail> {
     let digits = hex::encode_upper(rt.alloc(), datagram)?;
     Ok(format!(in rt.alloc(); "in 10.0.1.1:40001 {digits}\n")?)
-}
-
-/// The lines of a script that sends this datagram alone.
-fn lines_of(rt: &HostRuntime, datagram: &[u8]) -> Result<String, Fail> {
-    let mut lines = datagram_line(rt, datagram)?;
-    lines.push_str("end\n")?;
-    Ok(lines)
 }
 
 /// Datagrams, and the line that is printed for each.
@@ -84,9 +83,8 @@ fn the_first_condition_decides(rt: HostRuntime) -> Result<(), Fail> {
         report.push_str(answer)?;
         report.push_str("\n")?;
     }
-    lines.push_str("end\n")?;
     report.push_str("gateway 1 entries 2 records 0 held 0 stranded 0\n")?;
-    let (status, printed) = feed(&rt, &lines)?;
+    let (status, printed) = feed(&rt, FEW_OCTETS, &lines)?;
     assert_eq!(rt; status, Status::Done);
     assert_eq!(rt; printed.as_slice(), report.as_bytes());
     Ok(())
@@ -106,9 +104,8 @@ fn a_datagram_that_is_cut_is_dropped(rt: HostRuntime) -> Result<(), Fail> {
         lines.push_str(&datagram_line(&rt, front)?)?;
         report.push_str(if length < 6 { "- Short\n" } else { "- Cut\n" })?;
     }
-    lines.push_str("end\n")?;
     report.push_str(NONE_FILED)?;
-    let (status, printed) = feed(&rt, &lines)?;
+    let (status, printed) = feed(&rt, FEW_OCTETS, &lines)?;
     assert_eq!(rt; status, Status::Done);
     assert_eq!(rt; printed.as_slice(), report.as_bytes());
     Ok(())
@@ -116,7 +113,7 @@ fn a_datagram_that_is_cut_is_dropped(rt: HostRuntime) -> Result<(), Fail> {
 
 /// What each change of one bit of [`SEND`] comes to, octet by octet, the highest bit first.
 ///
-/// `A`: accepted, and the record is filed. `N`: not built. `V`: answered by Version Not Supported.
+/// `A`: accepted, and the record is filed. `K`: the same, as one of another kind. `V`: answered by Version Not Supported.
 /// Dropped are `P` as not of GTP', `C` as cut, `U` as of an unknown type, and `S` as stray.
 /// Answered by a cause are `7` by 177, `3` by 193, `1` by 201, and `2` by 202.
 const OUTCOMES: [[u8; 8]; 22] = [
@@ -137,9 +134,9 @@ const OUTCOMES: [[u8; 8]; 22] = [
     *b"33333313",
     // How many records there are, their format, and its version, in which four bits say nothing.
     *b"11111111",
-    *b"NNNNNNNN",
-    *b"AAAANNNN",
-    *b"NNNNNNNN",
+    *b"KKKKKKKK",
+    *b"AAAAKKKK",
+    *b"KKKKKKKK",
     // The record's length.
     *b"11111111",
     *b"11111111",
@@ -152,6 +149,51 @@ const OUTCOMES: [[u8; 8]; 22] = [
     *b"AAAAAAAA",
 ];
 
+/// The first octets of the headers of files and of CDRs with these records, and then the octet that has the format: of
+/// the changes of the format, and of its version's two octets.
+const KINDS: [[(&str, &str); 8]; 3] = [
+    [
+        ("60", "E0"),
+        ("60", "E0"),
+        ("60", "E0"),
+        ("60", "E0"),
+        ("60", "E0"),
+        ("60", "A0"),
+        ("60", "60"),
+        ("60", "00"),
+    ],
+    [
+        ("60", "20"),
+        ("60", "20"),
+        ("60", "20"),
+        ("60", "20"),
+        ("E0", "20"),
+        ("00", "20"),
+        ("20", "20"),
+        ("80", "20"),
+    ],
+    [
+        ("7F", "20"),
+        ("7F", "20"),
+        ("7F", "20"),
+        ("70", "20"),
+        ("68", "20"),
+        ("64", "20"),
+        ("62", "20"),
+        ("61", "20"),
+    ],
+];
+
+/// Those of the change of this bit.
+fn kind_of(place: usize, bit: u32) -> (&'static str, &'static str)
+    requires { bit < 8 }
+{
+    if place < 12 || place > 14 {
+        return ("60", "20");
+    }
+    KINDS[place - 12][bit as usize]
+}
+
 /// The datagram with one bit changed.
 fn changed(place: usize, bit: u32) -> [u8; 22]
     requires place { place < 22 }
@@ -162,12 +204,17 @@ fn changed(place: usize, bit: u32) -> [u8; 22]
     datagram
 }
 
-/// What is printed for a datagram that comes to this, nothing where it isn't built.
-fn report_of(rt: &HostRuntime, datagram: &[u8; 22], outcome: u8) -> Result<String, Fail> {
+/// What is printed for a datagram that comes to this, whose records are of this kind where it is accepted.
+fn report_of(
+    rt: &HostRuntime,
+    datagram: &[u8; 22],
+    outcome: u8,
+    kind: (&str, &str),
+) -> Result<String, Fail> {
     let number = hex::encode_upper(rt.alloc(), &datagram[4..6])?;
     let record = hex::encode_upper(rt.alloc(), &datagram[17..])?;
     let answer = match outcome {
-        b'A' => "80",
+        b'A' | b'K' => "80",
         b'7' => "B1",
         b'3' => "C1",
         b'1' => "C9",
@@ -177,14 +224,16 @@ fn report_of(rt: &HostRuntime, datagram: &[u8; 22], outcome: u8) -> Result<Strin
         b'C' => return Ok(format!(in rt.alloc(); "- Cut\n{NONE_FILED}")?),
         b'U' => return Ok(format!(in rt.alloc(); "- UnknownType\n{NONE_FILED}")?),
         b'S' => return Ok(format!(in rt.alloc(); "- Stray\n{NONE_FILED}")?),
-        _ => return Ok(String::new(rt.alloc())),
+        _ => return Err("no such outcome".into()),
     };
     let reply = format!(in rt.alloc(); "4EF10007{number}01{answer}FD0002{number}\n")?;
-    if outcome != b'A' {
+    if answer != "80" {
         return Ok(format!(in rt.alloc(); "{reply}{NONE_FILED}")?);
     }
+    let (release, format) = kind;
     Ok(format!(in rt.alloc();
-        "{reply}file 1 00-0000000001.cdr 0000003D{FILE_FORM}00000001{FILE_REST}00056020{record}\n\
+        "{reply}file 1 00-0000000001.cdr 0000003D00000034{release}{release}{STAMPS}00000001{FILE_REST}\
+        0005{release}{format}{record}\n\
         gateway 1 entries 3 records 1 held 0 stranded 0\n"
     )?)
 }
@@ -195,15 +244,9 @@ fn each_change_of_one_bit_comes_to_this(rt: HostRuntime) -> Result<(), Fail> {
         for bit in 0..8 {
             let datagram = changed(place, bit);
             let outcome = OUTCOMES[place][bit as usize];
-            let (status, printed) = feed(&rt, &lines_of(&rt, &datagram)?)?;
-            let report = report_of(&rt, &datagram, outcome)?;
-            let ended = if outcome == b'N' {
-                let (place, kind) = (1, InputKind::NotBuilt);
-                Status::Input { place, kind }
-            } else {
-                Status::Done
-            };
-            assert_eq!(rt; status, ended, "octet {place}, bit {bit}");
+            let (status, printed) = feed(&rt, FEW_OCTETS, &datagram_line(&rt, &datagram)?)?;
+            let report = report_of(&rt, &datagram, outcome, kind_of(place, bit))?;
+            assert_eq!(rt; status, Status::Done, "octet {place}, bit {bit}");
             assert_eq!(rt;
                 printed.as_slice(),
                 report.as_bytes(),
@@ -211,6 +254,31 @@ fn each_change_of_one_bit_comes_to_this(rt: HostRuntime) -> Result<(), Fail> {
             );
         }
     }
+    Ok(())
+}
+
+#[test]
+fn no_more_than_64_nodes_are_known(rt: HostRuntime) -> Result<(), Fail> {
+    let send = hex::encode_upper(rt.alloc(), &SEND)?;
+    let mut lines = String::new(rt.alloc());
+    let mut report = String::new(rt.alloc());
+    for node in 1..66 {
+        lines.push_str(&format!(in rt.alloc(); "in 10.0.1.{node}:40001 {send}\n")?)?;
+        report.push_str(if node < 65 {
+            "4EF1000700000180FD00020000\n"
+        } else {
+            "4EF10007000001C7FD00020000\n"
+        })?;
+    }
+    report.push_str("file 1 00-0000000001.cdr 00000274")?;
+    report.push_str(&format!(in rt.alloc(); "{FILE_FORM}00000040{FILE_REST}")?)?;
+    for _ in 0..64 {
+        report.push_str("00056020A003800105")?;
+    }
+    report.push_str("\ngateway 1 entries 66 records 64 held 0 stranded 0\n")?;
+    let (status, printed) = feed(&rt, MANY_OCTETS, &lines)?;
+    assert_eq!(rt; status, Status::Done);
+    assert_eq!(rt; printed.as_slice(), report.as_bytes());
     Ok(())
 }
 
@@ -235,7 +303,7 @@ fn the_largest_datagram_is_filed(rt: HostRuntime) -> Result<(), Fail> {
     let record = hex::encode_upper(rt.alloc(), record)?;
     let file = format!(in rt.alloc(); "0001000A{FILE_FORM}00000001{FILE_REST}FFD26020{record}")?;
     assert_eq!(rt; file.len(), 2 * 65_546);
-    let (status, printed) = feed(&rt, &lines_of(&rt, &datagram)?)?;
+    let (status, printed) = feed(&rt, MANY_OCTETS, &datagram_line(&rt, &datagram)?)?;
     assert_eq!(rt; status, Status::Done);
     assert_eq!(rt; printed.as_slice(), filed(&rt, &file, 1)?.as_bytes());
     Ok(())
@@ -251,7 +319,7 @@ fn a_packet_of_255_records_is_filed(rt: HostRuntime) -> Result<(), Fail> {
         datagram.extend_from_slice(&[0, 5, 0xA0, 3, 0x80, 1, 5])?;
         file.push_str("00056020A003800105")?;
     }
-    let (status, printed) = feed(&rt, &lines_of(&rt, &datagram)?)?;
+    let (status, printed) = feed(&rt, MANY_OCTETS, &datagram_line(&rt, &datagram)?)?;
     assert_eq!(rt; status, Status::Done);
     assert_eq!(rt; printed.as_slice(), filed(&rt, &file, 255)?.as_bytes());
     Ok(())

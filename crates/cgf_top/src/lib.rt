@@ -7,22 +7,25 @@
 //!     let status = run_cgf(alloc, &words, &mut source, &mut sink);
 #![tactic(auto)]
 
-ghost use Rattle.std.specs.Prelude.{◌≡◌, ◌≢◌, ◌<◌, ◌↔◌, List, true, false, None, Ok, Err, IfOk, OnOk, length, map, string_bytes};
+ghost use Rattle.std.specs.Prelude.{◌≡◌, ◌≢◌, ◌<◌, ◌↔◌, false, None, Ok, Err, IfOk, OnOk, length, map, string_bytes};
 ghost use Rattle.gw_base.specs.Faults.{Rose};
 ghost use Rattle.cgf_top.specs.Command.{command_of, most_read};
-ghost use Rattle.cgf_top.specs.Run.{EndsByInput, HasCause, IsBounded, IsComplete, WritesFront, WritesReport, end_of, may_have_written, report_of};
-ghost use Rattle.cgf_top.specs.declared.feed_script.refusal.Refusal.{Refusal};
+ghost use Rattle.cgf_top.specs.Run.{HasCause, IsBounded, IsComplete, WritesFront, WritesReport, may_have_written};
+ghost use Rattle.cgf_top.specs.Steps.{IsRefusal, IsReport, ended_by};
+ghost use Rattle.cgf_top.specs.declared.report.Refusal.{Refusal};
 
 mod command;
 #[cfg(test)]
 mod datagram_tests;
 mod feed;
-mod feed_script;
-mod file_writer;
-mod gateway_book;
+mod files;
+mod gateway;
 mod input;
 mod input_kind;
 mod output;
+mod printing;
+mod report;
+mod settings;
 mod show;
 #[cfg(test)]
 mod show_tests;
@@ -31,18 +34,22 @@ mod status;
 mod tests;
 
 use crate::command::Command;
-use crate::feed_script::{Refusal, ScriptEnd, read_script};
 use crate::input::{ReadEnd, read_input};
 use crate::output::write_all;
+use crate::report::{NoReport, Refusal, Report};
 use gw_base::{Sink, Source};
 pub use input_kind::InputKind;
 pub use status::Status;
 use std::alloc::Global;
+use world_script::{InputFault, Script};
 
-/// Does what the words ask, with the source as their file: `feed FILE` reads a script, feeds a gateway
-/// with its datagrams, and writes the reply to each or why it is dropped, the file and the gateway's
-/// counts to the sink; `show FILE` reads a CDR file and writes its listing.
-#[tactic(auto, using(crate::proofs::Ends::complete, crate::proofs::Ends::bounded_by, crate::proofs::Streams::takes_none))]
+/// Does what the words ask, with the source as their file: `feed FILE` reads a script, feeds a gateway with its
+/// datagrams, and writes the reply to each or why it is dropped, the CDR files and the gateway's counts to the sink;
+/// `show FILE` reads a CDR file and writes its listing.
+///
+/// An input that the grammar refuses writes nothing. A line of a script that can't be run, since it sets a moment before
+/// the present one, ends the feed: what was printed for the lines before it is written.
+#[tactic(auto, using(crate::proofs::Ends::complete, crate::proofs::Ends::complete_by, crate::proofs::Ends::bounded_by, crate::proofs::Streams::takes_none, crate::proofs::Whole::writes_refusal))]
 pub fn run_cgf<S: Source, K: Sink>(
     alloc: Global,
     words: &[String],
@@ -54,15 +61,19 @@ pub fn run_cgf<S: Source, K: Sink>(
     ensures untouched { (result ≡ Status.Words → source.new ≡ source.old)
         × (may_have_written result ≡ false → sink.new ≡ sink.old) }
 
-    // The input was read to its end, and all of the report on it and nothing else was written, or a front of it.
+    // The input was read to its end, and all of the report on it and nothing else was written.
     ensures done { result ≡ Status.Done →
-        WritesReport (map string_bytes words.now) (S.left source.old) (S.left source.new) (K.written sink.old) (K.written sink.new) }
-    ensures front { result ≡ Status.Write →
-        WritesFront (map string_bytes words.now) (S.left source.old) (S.left source.new) (K.written sink.old) (K.written sink.new) }
-
-    // The place is the first that is refused of the input that was read.
+        WritesReport (map string_bytes words.now) (S.left source.old) (S.left source.new)
+        (K.written sink.old) (K.written sink.new) result }
+    // The place is the first that is refused of the input that was read: by the grammar, and then nothing is written; or
+    // as a line that can't be run, and then the input was read to its end, and the report of the lines before is written.
     ensures input { (refusal : Refusal) → result ≡ Status.Input refusal.place refusal.kind →
-        EndsByInput (map string_bytes words.now) (S.left source.old) (S.left source.new) result }
+        WritesReport (map string_bytes words.now) (S.left source.old) (S.left source.new)
+        (K.written sink.old) (K.written sink.new) result }
+    // A front of what is to be written was.
+    ensures front { result ≡ Status.Write →
+        WritesFront (map string_bytes words.now) (S.left source.old) (S.left source.new)
+        (K.written sink.old) (K.written sink.new) }
 
     // Each fault was the source's or the sink's own, and where another end is told there was none.
     ensures cause { HasCause result (S.faults source.old) (S.faults source.new) (K.faults sink.old) (K.faults sink.new) }
@@ -84,22 +95,31 @@ pub fn run_cgf<S: Source, K: Sink>(
         Err(ReadEnd::NoMemory) => return Status::Memory,
     };
     match report_of(alloc, command, &octets) {
-        Ok(printed) => match write_all(sink, &printed) {
-            Ok(()) => Status::Done,
+        Ok(report) => match write_all(sink, &report.printed) {
+            Ok(()) => ended_by(report.refused),
             Err(_) => Status::Write,
         },
-        Err(ScriptEnd::Refused(Refusal { place, kind })) => Status::Input { place, kind },
-        Err(ScriptEnd::NoMemory) => Status::Memory,
+        Err(NoReport::Refused(Refusal { place, kind })) => Status::Input { place, kind },
+        Err(NoReport::NoMemory) => Status::Memory,
     }
 }
 
-/// All that a command prints for the octets of its input, or their first place that is refused.
-fn report_of(alloc: Global, command: Command, octets: &[u8]) -> Result<Vec<u8>, ScriptEnd>
+/// How a job ends whose report was written.
+fn ended_by(refused: Option<Refusal>) -> Status
+    ensures { result ≡ ended_by refused }
+{
+    match refused {
+        None => Status::Done,
+        Some(Refusal { place, kind }) => Status::Input { place, kind },
+    }
+}
+
+/// What a command prints for the octets of its input, or their first place that the grammar refuses.
+fn report_of(alloc: Global, command: Command, octets: &[u8]) -> Result<Report, NoReport>
     ensures within { OnOk result (length octets.now < most_read command) }
-    ensures done { OnOk result (end_of command octets.now ≡ Status.Done) }
-    ensures report { IfOk result (λ printed. printed.items ≡ report_of command octets.now) }
-    ensures refused { (refusal : Refusal) → result ≡ Err (ScriptEnd.Refused refusal) →
-        end_of command octets.now ≡ Status.Input refusal.place refusal.kind }
+    ensures report { IfOk result (λ report. IsReport command octets.now report) }
+    ensures refused { (refusal : Refusal) →
+        result ≡ Err (NoReport.Refused refusal) → IsRefusal command octets.now refusal }
 {
     match command {
         Command::Feed => feed_report_of(alloc, octets),
@@ -107,14 +127,20 @@ fn report_of(alloc: Global, command: Command, octets: &[u8]) -> Result<Vec<u8>, 
     }
 }
 
-/// All that is printed for a script, or its first line that is refused.
-fn feed_report_of(alloc: Global, text: &[u8]) -> Result<Vec<u8>, ScriptEnd>
+/// What is printed for a script, or its first line that the grammar refuses.
+#[tactic(auto, using(crate::proofs::Script::lines_in_range, crate::proofs::Whole::fed_within, crate::proofs::FeedLemmas::fed_is_report, crate::proofs::FeedLemmas::refused_is))]
+fn feed_report_of(alloc: Global, text: &[u8]) -> Result<Report, NoReport>
     ensures within { OnOk result (length text.now < most_read Command.Feed) }
-    ensures done { OnOk result (end_of Command.Feed text.now ≡ Status.Done) }
-    ensures report { IfOk result (λ printed. printed.items ≡ report_of Command.Feed text.now) }
-    ensures refused { (refusal : Refusal) → result ≡ Err (ScriptEnd.Refused refusal) →
-        end_of Command.Feed text.now ≡ Status.Input refusal.place refusal.kind }
+    ensures report { IfOk result (λ report. IsReport Command.Feed text.now report) }
+    ensures refused { (refusal : Refusal) →
+        result ≡ Err (NoReport.Refused refusal) → IsRefusal Command.Feed text.now refusal }
 {
-    let lines = read_script(alloc, text)?;
-    Ok(feed::report(alloc, &lines)?)
+    match Script::read(alloc, text) {
+        Ok(script) => Ok(feed::report(alloc, &script)?),
+        Err(InputFault::Bad { place, kind }) => {
+            let kind = kind.into();
+            Err(NoReport::Refused(Refusal { place, kind }))
+        }
+        Err(InputFault::NoMemory) => Err(NoReport::NoMemory),
+    }
 }

@@ -1,30 +1,36 @@
 //! What `show` prints for the octets of a CDR file.
 
-ghost use Rattle.std.specs.Prelude.{◌≡◌, ◌<◌, IfOk, OnOk, Err, length};
+ghost use Rattle.std.specs.Prelude.{◌≡◌, ◌<◌, [], IfOk, OnOk, Err, length};
 ghost use Rattle.cgf_top.specs.Command.{most_read};
 ghost use Rattle.cgf_top.specs.Run.{end_of, report_of};
+ghost use Rattle.cgf_top.specs.Steps.{IsReport, IsRefusal};
 ghost use Rattle.cgf_top.specs.declared.command.Command.{Command};
-ghost use Rattle.cgf_top.specs.declared.feed_script.refusal.Refusal.{Refusal};
-ghost use Rattle.cgf_top.specs.declared.status.Status.{Status};
+ghost use Rattle.cgf_top.specs.declared.report.Refusal.{Refusal};
 
-use crate::feed_script::{Refusal, ScriptEnd};
+use crate::report::{NoReport, Refusal, Report};
 use cdr_file::{FileFault, list, read};
 use std::alloc::Global;
 
 /// The listing of a CDR file, or where its octets are none and why.
-pub fn report(alloc: Global, octets: &[u8]) -> Result<Vec<u8>, ScriptEnd>
+#[tactic(auto, using(crate::proofs::Whole::shown_within, crate::proofs::Whole::shown_refusal))]
+pub fn report(alloc: Global, octets: &[u8]) -> Result<Report, NoReport>
     ensures within { OnOk result (length octets.now < most_read Command.Show) }
-    ensures done { OnOk result (end_of Command.Show octets.now ≡ Status.Done) }
-    ensures report { IfOk result (λ printed. printed.items ≡ report_of Command.Show octets.now) }
-    ensures refused { (refusal : Refusal) → result ≡ Err (ScriptEnd.Refused refusal) →
-        end_of Command.Show octets.now ≡ Status.Input refusal.place refusal.kind }
+    ensures report { IfOk result (λ report. IsReport Command.Show octets.now report) }
+    ensures refused { (refusal : Refusal) →
+        result ≡ Err (NoReport.Refused refusal) → IsRefusal Command.Show octets.now refusal }
 {
     match read(alloc, octets) {
-        Ok(file) => Ok(list(alloc, &file)?),
+        Ok(file) => {
+            let printed = list(alloc, &file)?;
+            Ok(Report {
+                printed,
+                refused: None,
+            })
+        }
         Err(FileFault::Bad { place, kind }) => {
             let kind = kind.into();
-            Err(ScriptEnd::Refused(Refusal { place, kind }))
+            Err(NoReport::Refused(Refusal { place, kind }))
         }
-        Err(FileFault::NoMemory) => Err(ScriptEnd::NoMemory),
+        Err(FileFault::NoMemory) => Err(NoReport::NoMemory),
     }
 }

@@ -11,7 +11,8 @@ pub enum Status {
     Done,
     /// The words are none of the forms. Nothing was read or written.
     Words,
-    /// The first line of the script that is refused, by its number from 1. Nothing was written.
+    /// The first place of the input that is refused: a script's line, by its number from 1, or a file's octet, by its
+    /// place from 0. Nothing was written but for a line that can't be run, where the report of the lines before it was.
     Input { place: u64, kind: InputKind },
     /// The source failed. Nothing was written.
     Read,

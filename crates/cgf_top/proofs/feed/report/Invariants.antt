@@ -1,7 +1,18 @@
-use Rattle.std.proofs.Common.{◌≡◌, drop}
-use Rattle.cgf_top.specs.FeedReport.{behind_all, fresh_feed}
+use Rattle.std.proofs.Common.{◌≡◌, ◌≤◌, ◌+◌, ◌-◌, length, drop}
+use Rattle.cgf_top.specs.FeedReport.{fed_from, fed_of, with_print}
+use Rattle.cgf_top.specs.FeedSettings.{settings_of}
+use Rattle.cgf_top.specs.SettingSteps.{AreSound, settings_seen}
+use Rattle.cgf_top.specs.Steps.{state_of}
 use Rattle.cgf_top.proofs.feed.report.Given as goal
 
--- the lines that are left lead from here to where all lines lead
+-- what was printed, and what is printed for the lines that are left
 abbrev pub invariant-loop-line : goal.invariant-loop-line
-invariant-loop-line l = behind_all l.feed (drop l.line-index l.lines) ≡ behind_all fresh_feed l.lines
+invariant-loop-line l = record {
+  fed : with_print l.feed.printed.items (fed_from (settings_of l.script.lines) (l.at + 1) (state_of l.feed) (drop l.at l.script.lines)) ≡ fed_of l.script.lines;
+  settings : settings_seen l.settings ≡ settings_of l.script.lines;
+  sound : AreSound l.settings;
+  within : l.at ≤ length l.script.lines;
+}
+
+abbrev pub decreases-loop-line : goal.decreases-loop-line
+decreases-loop-line l = length l.script.lines - l.at

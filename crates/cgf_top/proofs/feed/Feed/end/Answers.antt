@@ -1,12 +1,24 @@
-use Rattle.std.proofs.Common.{◌≡◌, ◌∙◌, ◌++◌, ap, subst}
-use Rattle.cgf_top.specs.FeedReport.{FeedState, closed, end_lines}
-use Rattle.cgf_top.proofs.Files.{ended}
+use Rattle.std.proofs.Common.{List, ◌++◌, count_by, ap, ◌∙◌}
+use Rattle.std.specs.List.{flat_map}
+use Rattle.file_writer.specs.Files.{files_of}
+use Rattle.gateway_book.specs.Calls.{counts_of}
+use Rattle.gateway_book.specs.Items.{items_of}
+use Rattle.gateway_book.specs.Value.{standing_for}
+use Rattle.gw_base.specs.declared.item.Item.{Item}
+use Rattle.cgf_top.specs.FeedReport.{file_line}
+use Rattle.cgf_top.specs.Gateway.{GatewayValue, after_close}
+use Rattle.cgf_top.specs.SettingSteps.{settings_seen}
+use Rattle.cgf_top.specs.Steps.{is_part}
+use Rattle.cgf_top.proofs.FeedLemmas.{end_printed}
 use Rattle.cgf_top.proofs.feed.Feed.end.Goals as goal
 
-pub returns : goal.returns
-returns c =
-    let printed =
-    ended c.close.new.history.items c.in_ok-filed.filed.items c.self.inside.printed.items c.print_file.new.printed.items c.print_gateway.new.printed.items
-    (rw c.deref.ensures.value at c.in_ok-filed.ensures) (rw c.deref-2.ensures.value at c.in_ok-print_file.ensures) (rw c.deref-3.ensures.value at c.in_ok-print_gateway.ensures) in
-    subst (λ (s : FeedState). c.print_gateway.new.printed.items ≡ s.printed ++ end_lines (closed s.history s.now)) c.self.view_is
-    (printed ∙ ap (λ h. c.self.inside.printed.items ++ end_lines h) c.in_ok-close.ensures)
+pub returns-clause-printed : goal.returns-clause-printed
+returns-clause-printed c =
+    end_printed (settings_seen c.args.settings) (after_close c.args.self.gateway c.args.self.moment).history c.items.new.self.reserved
+    c.in_ok-items.items.items c.counts-counts.result c.records_in.result c.args.self.printed.items c.print_files.new.printed.items c.print_counts.new.printed.items
+    (c.in_ok-items.ensures.items ∙ ap (λ (g : GatewayValue). items_of g.history) c.in_ok-close.ensures)
+    (c.in_ok-print_files.ensures
+    ∙ ap (λ (is : List Item). c.args.self.printed.items ++ flat_map file_line (files_of (settings_seen c.args.settings).files is)) c.deref.ensures.value)
+    (c.counts-counts.ensures ∙ ap (λ (g : GatewayValue). counts_of (standing_for g.history) c.items.new.self.reserved) (c.in_ok-items.ensures.same ∙ c.in_ok-close.ensures))
+    (c.records_in.ensures ∙ ap (λ (is : List Item). count_by is_part is) c.deref-2.ensures.value)
+    c.in_ok-print_counts.ensures

@@ -1,0 +1,142 @@
+-- The feed of a script, line by line, and its report.
+use Rattle.std.proofs.Common.{◌≡◌, ℕ, ◌+◌, true, false, List, [], ◌∷◌, ◌++◌, count_by, drop, Option, Some, None, slice_get, Result, Ok, Err, refl, ap, sym, ◌∙◌, append_assoc}
+use Rattle.std.specs.List.{flat_map}
+use Rattle.std.specs.Prelude.{IfOk}
+use Rattle.gw_base.specs.declared.fault.NoMemory.{NoMemory}
+use Rattle.file_writer.specs.Files.{files_of}
+use Rattle.gateway_book.specs.Calls.{counts_of}
+use Rattle.gateway_book.specs.Items.{items_of}
+use Rattle.gateway_book.specs.Value.{standing_for}
+use Rattle.gateway_book.specs.declared.told.Counts.{Counts}
+use Rattle.gw_base.specs.declared.history.HistoryEntry.{HistoryEntry}
+use Rattle.gw_base.specs.declared.item.Item.{Item}
+use Rattle.world_script.specs.Script.{Refusal as LineRefusal, script_of}
+use Rattle.world_script.specs.declared.fault.InputKind.{InputKind as LineKind}
+use Rattle.world_script.specs.declared.fault.InputKind.TheVariants as of_line
+use Rattle.world_script.specs.declared.line.Line.{Line}
+use Rattle.cgf_top.specs.FeedReport.{Fed, FeedState, after_line, begun, end_lines, fed_from, fed_of, file_line, gateway_line, is_earlier, line_kind, printed_for, with_print}
+use Rattle.cgf_top.specs.FeedSettings.{FeedSettings, settings_of}
+use Rattle.cgf_top.specs.Gateway.{after_close}
+use Rattle.cgf_top.specs.Run.{is_of_run, may_have_written, run_end, script_end, script_report}
+use Rattle.cgf_top.specs.Steps.{IsFed, IsRefusal, IsReport, counts_line, ended_by, is_part, refusal_at}
+use Rattle.cgf_top.specs.declared.command.Command.TheVariants.{Feed}
+use Rattle.cgf_top.specs.declared.report.Refusal.{Refusal}
+use Rattle.cgf_top.specs.declared.report.Report.{Report}
+use Rattle.cgf_top.proofs.ReportLemmas.{counts_printed, line_refused, line_run}
+use Rattle.cgf_top.proofs.SettingLemmas.{none_at, rest_at}
+
+-- ---- lines
+
+-- no line was run yet
+pub feed_begins : (script : List Line) (settings : FeedSettings) (s : FeedState) (printed : List ℕ) → settings ≡ settings_of script
+    → s ≡ begun settings → printed ≡ [] → with_print printed (fed_from (settings_of script) 1 s script) ≡ fed_of script
+feed_begins script settings s printed set state none =
+    ap (λ (p : List ℕ). with_print p (fed_from (settings_of script) 1 s script)) none
+    ∙ ap (λ (t : FeedState). with_print [] (fed_from (settings_of script) 1 t script)) (state ∙ ap (λ (x : FeedSettings). begun x) set)
+
+-- what was printed, and what is printed for the lines from a place on, are all that is printed
+abbrev pub IsFedTo : List Line → ℕ → FeedState → List ℕ → Type 0
+IsFedTo script at s printed = with_print printed (fed_from (settings_of script) (at + 1) s (drop at script)) ≡ fed_of script
+
+abbrev fed_with : List ℕ → Option ℕ → Fed
+fed_with printed refused = record { printed = printed; refused = refused }
+
+module _ (script : List Line) (at : ℕ) (s : FeedState) (printed : List ℕ) where
+  -- the feed from the line at this place on
+  here : (l : Line) → slice_get script at ≡ Some l → IsFedTo script at s printed
+      → with_print printed (fed_from (settings_of script) (at + 1) s (l ∷ drop (at + 1) script)) ≡ fed_of script
+  here l found whole =
+      ap (λ (lines : List Line). with_print printed (fed_from (settings_of script) (at + 1) s lines)) (sym (rest_at script at l found)) ∙ whole
+
+  pub feed_goes_on : (t : FeedState) (l : Line) (now : List ℕ) → slice_get script at ≡ Some l → is_earlier s.now l ≡ false
+      → t ≡ after_line s l → now ≡ printed ++ printed_for s l → IsFedTo script at s printed → IsFedTo script (at + 1) t now
+  feed_goes_on t l now found later moved more whole =
+      ap (λ (p : List ℕ). with_print p (fed_from (settings_of script) (at + 1 + 1) t (drop (at + 1) script))) more
+      ∙ ap (λ (u : FeedState). with_print (printed ++ printed_for s l) (fed_from (settings_of script) (at + 1 + 1) u (drop (at + 1) script))) moved
+      ∙ sym (line_run (settings_of script) (at + 1) s l (drop (at + 1) script) printed later)
+      ∙ here l found whole
+
+  pub feed_stops : (l : Line) (report : Report) → slice_get script at ≡ Some l → is_earlier s.now l ≡ true
+      → report.printed.items ≡ printed → report.refused ≡ refusal_at (Some (at + 1)) → IsFedTo script at s printed → IsFed (fed_of script) report
+  feed_stops l report found earlier is refused whole = record {
+    printed = is ∙ ap (λ (fed : Fed). fed.printed) fed;
+    refused = refused ∙ ap (λ (fed : Fed). refusal_at fed.refused) fed;
+  }
+    where
+      fed : fed_with printed (Some (at + 1)) ≡ fed_of script
+      fed = sym (line_refused (settings_of script) (at + 1) s l (drop (at + 1) script) printed earlier) ∙ here l found whole
+
+  pub feed_ends : (settings : FeedSettings) (report : Report) → slice_get script at ≡ None → settings ≡ settings_of script
+      → report.printed.items ≡ printed ++ end_lines settings (after_close s.gateway s.now).history → report.refused ≡ None
+      → IsFedTo script at s printed → IsFed (fed_of script) report
+  feed_ends settings report none set is refused whole = record {
+    printed = is ∙ ap (λ (x : FeedSettings). printed ++ end_lines x (after_close s.gateway s.now).history) set ∙ ap (λ (fed : Fed). fed.printed) fed;
+    refused = refused ∙ ap (λ (fed : Fed). refusal_at fed.refused) fed;
+  }
+    where
+      fed : fed_with (printed ++ end_lines (settings_of script) (after_close s.gateway s.now).history) None ≡ fed_of script
+      fed = ap (λ (lines : List Line). with_print printed (fed_from (settings_of script) (at + 1) s lines)) (sym (none_at script at none)) ∙ whole
+
+  pub feed_ends_if : (settings : FeedSettings) (result : Result Report NoMemory) → slice_get script at ≡ None → settings ≡ settings_of script
+      → IfOk result (λ report. report.printed.items ≡ printed ++ end_lines settings (after_close s.gateway s.now).history)
+      → IfOk result (λ report. report.refused ≡ None) → IsFedTo script at s printed → IfOk result (λ report. IsFed (fed_of script) report)
+  feed_ends_if settings (Ok report) none set is refused whole = feed_ends settings report none set is refused whole
+  feed_ends_if settings (Err e) none set is refused whole = tt
+
+-- ---- the end
+
+-- the lines of the files of items
+abbrev lines : FeedSettings → List Item → List ℕ
+lines settings items = flat_map file_line (files_of settings.files items)
+
+-- these, and then the line of the counts
+pub end_printed : (settings : FeedSettings) (h : List HistoryEntry) (size : ℕ) (items : List Item) (counts : Counts) (records : ℕ) (before middle now : List ℕ)
+    → items ≡ items_of h → middle ≡ before ++ flat_map file_line (files_of settings.files items) → counts ≡ counts_of (standing_for h) size
+    → records ≡ count_by is_part items → now ≡ middle ++ counts_line counts records → now ≡ before ++ end_lines settings h
+end_printed settings h size items counts records before middle now told filed counted found more =
+    more ∙ ap (λ (m : List ℕ). m ++ counts_line counts records) filed
+    ∙ ap (λ (c : Counts). (before ++ lines settings items) ++ counts_line c records) counted
+    ∙ ap (λ (n : ℕ). (before ++ lines settings items) ++ counts_line (counts_of (standing_for h) size) n) found
+    ∙ ap (λ (is : List Item). (before ++ lines settings is) ++ counts_line (counts_of (standing_for h) size) (count_by is_part is)) told
+    ∙ ap (λ (line : List ℕ). (before ++ lines settings (items_of h)) ++ line) (counts_printed h size)
+    ∙ append_assoc before (lines settings (items_of h)) (gateway_line h)
+
+-- ---- the report
+
+ended_run : (place : Option ℕ) → ended_by (refusal_at place) ≡ run_end place
+ended_run None = refl
+ended_run (Some place) = refl
+
+written_run : (place : Option ℕ) → may_have_written (run_end place) ≡ true
+written_run None = refl
+written_run (Some place) = refl
+
+-- the report of a script that the grammar takes
+pub fed_is_report : (text : List ℕ) (lines : List Line) (report : Report) → script_of text ≡ Ok lines → IsFed (fed_of lines) report → IsReport Feed text report
+fed_is_report text lines report read fed = record {
+  printed = fed.printed ∙ ap (λ (r : Result (List Line) LineRefusal). script_report r) (sym read);
+  ended = ap (λ (r : Option Refusal). ended_by r) fed.refused ∙ ended_run (fed_of lines).refused
+      ∙ ap (λ (r : Result (List Line) LineRefusal). script_end r) (sym read);
+  taken = ap (λ (r : Result (List Line) LineRefusal). may_have_written (script_end r)) read ∙ written_run (fed_of lines).refused;
+}
+
+-- no refusal by the grammar is of the run
+of_grammar : (kind : LineKind) → is_of_run (line_kind kind) ≡ false
+of_grammar of_line.TooLong = refl
+of_grammar of_line.Word = refl
+of_grammar of_line.NotBuilt = refl
+of_grammar of_line.After = refl
+of_grammar of_line.Late = refl
+of_grammar of_line.Arity = refl
+of_grammar of_line.Number = refl
+of_grammar of_line.Hex = refl
+of_grammar of_line.Rule = refl
+of_grammar of_line.NoEnd = refl
+
+-- the refusal of one that it doesn't take
+pub refused_is : (text : List ℕ) (refusal : LineRefusal) → script_of text ≡ Err refusal → IsRefusal Feed text (record { place = refusal.place; kind = line_kind refusal.kind })
+refused_is text refusal read = record {
+  ended = ap (λ (r : Result (List Line) LineRefusal). script_end r) (sym read);
+  none = ap (λ (r : Result (List Line) LineRefusal). script_report r) read;
+  untaken = ap (λ (r : Result (List Line) LineRefusal). may_have_written (script_end r)) read ∙ of_grammar refusal.kind;
+}

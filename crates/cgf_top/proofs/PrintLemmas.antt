@@ -1,0 +1,58 @@
+-- The lines that are printed, step by step.
+use Rattle.std.proofs.Common.{◌≡◌, ℕ, zero, suc, ◌+◌, ◌-◌, ◌/◌, ◌%◌, ◌==◌, List, [], ◌∷◌, ◌++◌, drop, Some, None, slice_get, refl, ap, sym, ◌∙◌, arith, append_assoc, append-nil}
+use Rattle.std.specs.List.{flat_map}
+use Rattle.std.proofs.lemmas.Grind.{flat_map-append}
+use Rattle.std.proofs.lemmas.List.Elements.{filter-append}
+use Rattle.cdr_shelf.specs.Files.{SealedFile, in_stream}
+use Rattle.file_writer.specs.Files.{files_below, stream_files}
+use Rattle.file_writer.specs.Streams.{Settings}
+use Rattle.gw_base.specs.declared.item.Item.{Item}
+use Rattle.cgf_top.specs.FeedReport.{file_line, last_digits}
+use Rattle.cgf_top.proofs.SettingLemmas.{none_at, rest_at}
+
+-- the last digit stands behind the others
+pub last_digit : (count n : ℕ) → (count ≡ 0 → ⊥) → last_digits (count - 1) (n / 10) ++ (48 + n % 10) ∷ [] ≡ last_digits count n
+last_digit zero n some = absurd (some refl)
+last_digit (suc count) n some = ap (λ (k : ℕ). last_digits k (n / 10) ++ (48 + n % 10) ∷ []) (less count)
+  where
+    less : (k : ℕ) → suc k - 1 ≡ k
+    less k = omega arith
+
+-- the lines of the files of a stream
+abbrev pub lines_in : ℕ → List SealedFile → List ℕ
+lines_in s files = flat_map file_line (in_stream s files)
+
+-- one file, and then the others
+lines_step : (s : ℕ) (f : SealedFile) (files : List SealedFile) → lines_in s (f ∷ files) ≡ lines_in s (f ∷ []) ++ lines_in s files
+lines_step s f files =
+    ap (λ (fs : List SealedFile). flat_map file_line fs) (filter-append (λ (g : SealedFile). g.name.stream == s) (f ∷ []) files)
+    ∙ flat_map-append file_line (in_stream s (f ∷ [])) (in_stream s files)
+
+-- the line of a file was printed, and those behind it are left
+pub line_printed : (s at : ℕ) (files : List SealedFile) (f : SealedFile) (before now all : List ℕ) → slice_get files at ≡ Some f
+    → before ++ lines_in s (drop at files) ≡ all → now ≡ before ++ lines_in s (f ∷ []) → now ++ lines_in s (drop (at + 1) files) ≡ all
+line_printed s at files f before now all found whole more =
+    ap (λ (p : List ℕ). p ++ lines_in s (drop (at + 1) files)) more
+    ∙ append_assoc before (lines_in s (f ∷ [])) (lines_in s (drop (at + 1) files))
+    ∙ ap (λ (x : List ℕ). before ++ x) (sym (ap (λ (fs : List SealedFile). lines_in s fs) (rest_at files at f found) ∙ lines_step s f (drop (at + 1) files)))
+    ∙ whole
+
+-- no file is left
+pub lines_printed : (s at : ℕ) (files : List SealedFile) (before all : List ℕ) → slice_get files at ≡ None
+    → before ++ lines_in s (drop at files) ≡ all → before ≡ all
+lines_printed s at files before all none whole =
+    sym (append-nil before) ∙ ap (λ (fs : List SealedFile). before ++ lines_in s fs) (sym (none_at files at none)) ∙ whole
+
+-- the lines of one more stream
+pub stream_printed : (settings : Settings) (items : List Item) (s : ℕ) (files : List SealedFile) (start before now : List ℕ)
+    → before ≡ start ++ flat_map file_line (files_below s settings items) → in_stream s files ≡ stream_files settings s items
+    → now ≡ before ++ lines_in s files → now ≡ start ++ flat_map file_line (files_below (s + 1) settings items)
+stream_printed settings items s files start before now printed stands more =
+    more ∙ ap (λ (p : List ℕ). p ++ lines_in s files) printed
+    ∙ append_assoc start (flat_map file_line (files_below s settings items)) (lines_in s files)
+    ∙ ap (λ (fs : List SealedFile). start ++ (flat_map file_line (files_below s settings items) ++ flat_map file_line fs)) stands
+    ∙ ap (λ (x : List ℕ). start ++ x) (sym (flat_map-append file_line (files_below s settings items) (stream_files settings s items)))
+    ∙ ap (λ (n : ℕ). start ++ flat_map file_line (files_below n settings items)) (later s)
+  where
+    later : (k : ℕ) → suc k ≡ k + 1
+    later k = omega arith

@@ -1,0 +1,13 @@
+use Rattle.std.proofs.Common.{sym, append-nil, arith}
+use Rattle.cgf_top.specs.SettingSteps.{settings_seen}
+use Rattle.cgf_top.proofs.PrintLemmas.{stream_printed}
+use Rattle.cgf_top.proofs.feed.print_files.Goals as goal
+
+pub loop-stream-init : goal.loop-stream-init
+loop-stream-init c = sym (append-nil c.args.printed.now.items)
+
+pub loop-stream-preserved : goal.loop-stream-preserved
+loop-stream-preserved c =
+    stream_printed (settings_seen c.args.settings).files c.args.items.now c.loop-stream.stream c.in_ok-shelf.shelf.contents.files
+    c.args.printed.now.items c.loop-stream.printed.items c.print_stream.new.printed.items c.loop-stream.invariant
+    (c.in_ok-shelf.ensures c.loop-stream.stream (omega arith)) c.in_ok-print_stream.ensures

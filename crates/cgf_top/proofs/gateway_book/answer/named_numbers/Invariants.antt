@@ -1,7 +1,0 @@
-use Rattle.std.proofs.Common.{◌≡◌, ◌++◌, map, drop}
-use Rattle.gw_base.specs.Nearest.{nearest}
-use Rattle.cgf_top.proofs.gateway_book.answer.named_numbers.Given as goal
-
--- the numbers so far, and those that are left, are all of them
-abbrev pub invariant-loop-place : goal.invariant-loop-place
-invariant-loop-place l = l.named.items ++ map (nearest l.top) (drop l.place l.numbers) ≡ map (nearest l.top) l.numbers

@@ -1,0 +1,141 @@
+//! A gateway in memory, whose device never fails: each entry is firm before the next call.
+ghost use Rattle.std.specs.Prelude.{◌≡◌, ◌≢◌, ◌≤◌, ◌<◌, ◌^◌, All, IfOk, OnOk, length, false};
+ghost use Rattle.file_writer.specs.AllStreams.{IsFit};
+ghost use Rattle.gateway_book.specs.Book.{Stays, value_of};
+ghost use Rattle.gateway_book.specs.Calls.{counts_of};
+ghost use Rattle.gateway_book.specs.Items.{items_of};
+ghost use Rattle.gateway_book.specs.Value.{committed, standing_for};
+ghost use Rattle.cgf_top.specs.FeedReport.{reply_line};
+ghost use Rattle.cgf_top.specs.Gateway.{after_close, after_datagram, after_tick, answered, new_gateway};
+ghost use Rattle.cgf_top.specs.Steps.{outcome_line};
+
+use crate::settings::GATEWAY;
+use area_disk::QuietArea;
+use gateway_book::{Book, BookFault, Counts, Marked, Outcome, Setup, prepare};
+use gw_base::{Addr, Caller, Item, Moment, NoMemory};
+use std::alloc::Global;
+use std::marker::Model;
+
+/// How many items a gateway tells at most: a list of so many would have more than 2^36 octets.
+const MOST_ITEMS: u32 = 0x7FFF_FFFF;
+
+/// A gateway over an area in memory.
+#[derive(Drop)]
+pub struct Gateway {
+    book: Book<QuietArea>,
+}
+
+impl Model for Gateway {
+    ghost use Rattle.cgf_top.specs.Gateway.{GatewayValue};
+    ghost use Rattle.cgf_top.specs.BookSteps.{IsAllFirm, gateway_of};
+
+    ghost Value = { GatewayValue };
+
+    ghost view = { λ g. gateway_of g.book };
+
+    ghost invariant = { λ g. IsAllFirm g.book };
+}
+
+impl Gateway {
+    /// A gateway that begins to run on an area of so many octets, each of them 0. A Tick closes a file that was opened
+    /// at least so many seconds before it.
+    pub fn open(alloc: Global, reserved: u64, open_time: u64) -> Result<Gateway, NoMemory>
+        requires long { 100 ≤ reserved }
+        requires short { reserved ≤ 268435456 }
+        ensures { IfOk result (λ gateway. gateway ≡ new_gateway reserved open_time) }
+    {
+        let Ok(area) = QuietArea::new(alloc, reserved) else {
+            return Err(NoMemory);
+        };
+        let setup = Setup {
+            address: GATEWAY,
+            open_time,
+        };
+        match Book::open(alloc, area, setup) {
+            Ok(mut book) => {
+                commit(&mut book);
+                Ok(Gateway { book })
+            }
+            Err((BookFault::NoMemory, _)) => Err(NoMemory),
+            Err((BookFault::Device, _)) => unreachable!(),
+            Err((BookFault::NotOurs { .. }, _)) => unreachable!(),
+        }
+    }
+
+    /// What becomes of a datagram of this sender.
+    pub fn take(&mut self, from: Addr, octets: &[u8], now: Moment) -> Outcome
+        ensures after { result ≢ Outcome.NoMemory → self.new ≡ after_datagram self.old now from octets.now }
+        ensures answered { result ≢ Outcome.NoMemory →
+            outcome_line result ≡ reply_line (answered self.old from octets.now) }
+    {
+        let book = &mut self.book;
+        let outcome = book.take(from, &prepare(octets), now, Caller::NONE);
+        commit(book);
+        outcome
+    }
+
+    /// Files that have been open for long enough are closed.
+    pub fn tick(&mut self, now: Moment) -> Result<(), NoMemory>
+        ensures { OnOk result (self.new ≡ after_tick self.old now) }
+    {
+        let book = &mut self.book;
+        let marked = book.tick(now, Caller::NONE);
+        commit(book);
+        without_memory(marked)
+    }
+
+    /// All open files are closed.
+    pub fn close(&mut self, now: Moment) -> Result<(), NoMemory>
+        ensures { OnOk result (self.new ≡ after_close self.old now) }
+    {
+        let book = &mut self.book;
+        let marked = book.close(now, Caller::NONE);
+        commit(book);
+        without_memory(marked)
+    }
+
+    /// What the writer of files is told of its history.
+    pub fn items(&mut self, alloc: Global) -> Result<Vec<Item>, NoMemory>
+        ensures items { IfOk result (λ items. items.items ≡ items_of self.old.history) }
+        ensures few { IfOk result (λ items. length items.items < 2 ^ 31) }
+        ensures fit { IfOk result (λ items. All IsFit items.items) }
+        ensures same { self.new ≡ self.old }
+    {
+        let book = &mut self.book;
+        let Ok(items) = book.items(alloc, 0, MOST_ITEMS) else {
+            return Err(NoMemory);
+        };
+        if items.len() >= MOST_ITEMS as usize {
+            return Err(NoMemory);
+        }
+        Ok(items)
+    }
+
+    /// How much it has recorded and holds.
+    pub fn counts(&self) -> Counts
+        ensures { result ≡ counts_of (standing_for self.now.history) self.now.reserved }
+    {
+        self.book.counts()
+    }
+}
+
+/// Makes all entries firm.
+fn commit(book: &mut Book<QuietArea>)
+    requires { (value_of book.old).is_broken ≡ false }
+    ensures committed { value_of book.new ≡ committed (value_of book.old) }
+    ensures stays { Stays book.old book.new }
+{
+    let Ok(_) = book.commit() else {
+        unreachable!();
+    };
+}
+
+/// Whether there was memory for a mark.
+fn without_memory(marked: Marked) -> Result<(), NoMemory>
+    ensures { OnOk result (marked ≢ Marked.NoMemory) }
+{
+    match marked {
+        Marked::NoMemory => Err(NoMemory),
+        Marked::Made { .. } | Marked::NotDue | Marked::NoRoom | Marked::Device => Ok(()),
+    }
+}

@@ -1,0 +1,137 @@
+//! The lines that `feed` prints.
+ghost use Rattle.std.specs.Prelude.{◌≡◌, ◌≢◌, ◌++◌, ◌∷◌, [], OnOk};
+ghost use Rattle.std.specs.List.{flat_map};
+ghost use Rattle.cdr_shelf.specs.Files.{file_of, in_stream};
+ghost use Rattle.cgf_top.specs.FeedReport.{file_line, last_digits, name_text, octets_line};
+ghost use Rattle.cgf_top.specs.Steps.{counts_line, outcome_line};
+
+use cdr_shelf::{FileName, QuietShelf, Shelf};
+use gateway_book::{Counts, Outcome};
+use gw_base::NoMemory;
+use std::alloc::Global;
+
+/// Appends the reply to a datagram, or why it isn't answered.
+pub fn print_outcome(
+    alloc: Global,
+    printed: &mut Vec<u8>,
+    outcome: &Outcome,
+) -> Result<(), NoMemory>
+    ensures printed { OnOk result (printed.new.items ≡ printed.old.items ++ outcome_line outcome.now) }
+    ensures some { OnOk result (outcome.now ≢ Outcome.NoMemory) }
+{
+    match outcome {
+        Outcome::Answer(receipt) => print_octets(alloc, printed, receipt.reply.octets()),
+        Outcome::Drop(why) => {
+            printed.extend_from_slice(b"- ")?;
+            printed.extend_from_slice(why.name().as_bytes())?;
+            printed.push(b'\n')?;
+            Ok(())
+        }
+        Outcome::NoMemory => Err(NoMemory),
+    }
+}
+
+/// Appends octets in hexadecimal, as a line.
+fn print_octets(alloc: Global, printed: &mut Vec<u8>, octets: &[u8]) -> Result<(), NoMemory>
+    ensures { OnOk result (printed.new.items ≡ printed.old.items ++ octets_line octets.now) }
+{
+    let digits = hex::encode_upper(alloc, octets)?;
+    printed.extend_from_slice(digits.as_bytes())?;
+    printed.push(b'\n')?;
+    Ok(())
+}
+
+/// Appends the lines of the sealed files of a stream, in the order in which they were sealed.
+pub fn print_stream(
+    alloc: Global,
+    printed: &mut Vec<u8>,
+    shelf: &QuietShelf,
+    stream: u8,
+) -> Result<(), NoMemory>
+    ensures { OnOk result (printed.new.items ≡
+        printed.old.items ++ flat_map file_line (in_stream stream (⟦<QuietShelf as Shelf>⟧.files shelf.now))) }
+{
+    let mut at = 0;
+    while let Some((name, octets)) = shelf.nth(at) {
+        print_if_in(alloc, printed, stream, name, octets)?;
+        at += 1;
+    }
+    Ok(())
+}
+
+/// Appends the line of a file, where it is one of the stream.
+fn print_if_in(
+    alloc: Global,
+    printed: &mut Vec<u8>,
+    stream: u8,
+    name: FileName,
+    octets: &[u8],
+) -> Result<(), NoMemory>
+    ensures { OnOk result (printed.new.items ≡
+        printed.old.items ++ flat_map file_line (in_stream stream (file_of name octets.now ∷ []))) }
+{
+    if name.stream == stream {
+        print_file(alloc, printed, name, octets)?;
+    }
+    Ok(())
+}
+
+/// Appends the line of a file.
+fn print_file(
+    alloc: Global,
+    printed: &mut Vec<u8>,
+    name: FileName,
+    octets: &[u8],
+) -> Result<(), NoMemory>
+    ensures { OnOk result (printed.new.items ≡ printed.old.items ++ file_line (file_of name octets.now)) }
+{
+    printed.extend_from_slice(b"file 1 ")?;
+    print_name(printed, name)?;
+    printed.push(b' ')?;
+    print_octets(alloc, printed, octets)
+}
+
+/// Appends the name of a file.
+fn print_name(printed: &mut Vec<u8>, name: FileName) -> Result<(), NoMemory>
+    ensures { OnOk result (printed.new.items ≡ printed.old.items ++ name_text name) }
+{
+    print_digits(printed, 2, u32::from(name.stream))?;
+    printed.push(b'-')?;
+    print_digits(printed, 10, name.sequence)?;
+    printed.extend_from_slice(b".cdr")?;
+    Ok(())
+}
+
+/// Appends so many of the last decimal digits of a number.
+fn print_digits(printed: &mut Vec<u8>, count: u32, number: u32) -> Result<(), NoMemory>
+    ensures { OnOk result (printed.new.items ≡ printed.old.items ++ last_digits count number) }
+{
+    if count == 0 {
+        return Ok(());
+    }
+    print_digits(printed, count - 1, number / 10)?;
+    printed.push(b'0' + (number % 10) as u8)?;
+    Ok(())
+}
+
+/// Appends the line of a gateway's counts, with so many filed records.
+pub fn print_counts(
+    alloc: Global,
+    printed: &mut Vec<u8>,
+    counts: Counts,
+    records: usize,
+) -> Result<(), NoMemory>
+    ensures { OnOk result (printed.new.items ≡ printed.old.items ++ counts_line counts records) }
+{
+    let Counts {
+        entries,
+        held,
+        stranded,
+        ..
+    } = counts;
+    let line = format!(in alloc;
+        "gateway 1 entries {entries} records {records} held {held} stranded {stranded}\n"
+    )?;
+    printed.extend_from_slice(line.as_bytes())?;
+    Ok(())
+}

@@ -1,0 +1,37 @@
+use crate::input_kind::InputKind;
+use gw_base::NoMemory;
+
+/// The first place of an input that is refused.
+#[derive(Clone, Copy, Debug, PartialEq, Eq)]
+pub struct Refusal {
+    /// The number of a script's line, from 1, or the place of a file's octet, from 0.
+    pub place: u64,
+    pub kind: InputKind,
+}
+
+/// What is printed for an input, and its first place that can't be run, where there is one.
+#[derive(Debug, Drop)]
+pub struct Report {
+    pub printed: Vec<u8>,
+    pub refused: Option<Refusal>,
+}
+
+/// Why there is nothing to print.
+#[derive(Clone, Copy, Debug, PartialEq, Eq)]
+pub enum NoReport {
+    /// The grammar refuses the input.
+    Refused(Refusal),
+    /// There was no memory for the job.
+    NoMemory,
+}
+
+impl From<NoMemory> for NoReport {
+    ghost use Rattle.std.specs.Prelude.{◌≡◌};
+    ghost use Rattle.cgf_top.specs.declared.report.NoReport.TheVariants as none;
+
+    ghost from_gives = { λ _ e. e ≡ none.NoMemory };
+
+    fn from(_: NoMemory) -> Self {
+        NoReport::NoMemory
+    }
+}

@@ -1,0 +1,115 @@
+//! What a feed script sets.
+ghost use Rattle.std.specs.Prelude.{◌≡◌, ◌≤◌, ◌<◌, ◌+◌, ◌++◌, ℕ, [], ◌∷◌, IfOk, OnOk, IsSome, IsUtf8, length, pos};
+ghost use Rattle.std.specs.List.{flat_map};
+ghost use Rattle.file_rotate.specs.Items.{AreLimits};
+ghost use Rattle.jiff_core.specs.Calendar.{IsWithin};
+ghost use Rattle.route_filter.specs.Rules.{most_rules, rule_of};
+ghost use Rattle.cgf_top.specs.FeedSettings.{first_settings, rules_in, settings_of};
+ghost use Rattle.cgf_top.specs.Lines.{AreInRange, IsInRange};
+ghost use Rattle.cgf_top.specs.SettingSteps.{AreSound, settings_seen, settings_with};
+
+use cdr_file::Offset16;
+use file_rotate::Limits;
+use gw_base::{NoMemory, Octets};
+use route_filter::{RuleFault, Rules};
+use std::alloc::Global;
+use std::str;
+use world_script::{Line, Script};
+
+/// The gateway's IPv4 address, 10.0.0.1.
+pub const GATEWAY: u32 = 0x0A00_0001;
+
+/// What a feed script sets.
+#[derive(Drop)]
+pub struct Settings {
+    /// The length of the journal's area in octets, from 100 to 268,435,456.
+    pub reserved: u64,
+    /// Which stream a record belongs to.
+    pub rules: Rules,
+    /// When a file is closed.
+    pub limits: Limits,
+    /// How far the gateway's clock is ahead of UTC.
+    pub offset: Offset16,
+}
+
+impl Settings {
+    /// What the lines of a script set.
+    pub fn of(alloc: Global, script: &Script) -> Result<Settings, NoMemory>
+        requires { AreInRange script.now.lines }
+        ensures settings { IfOk result (λ settings. settings_seen settings ≡ settings_of script.now.lines) }
+        ensures sound { IfOk result (λ settings. AreSound settings) }
+    {
+        let mut settings = Settings::first(alloc);
+        let mut at = 0;
+        while let Some(line) = script.line(at) {
+            settings.set(line)?;
+            at += 1;
+        }
+        Ok(settings)
+    }
+
+    /// Those of a script that sets nothing.
+    fn first(alloc: Global) -> Settings
+        ensures settings { settings_seen result ≡ first_settings }
+        ensures sound { AreSound result }
+    {
+        Settings {
+            reserved: 16_777_216,
+            rules: Rules::none(alloc),
+            limits: Limits {
+                size: 1_048_576,
+                count: 1_000,
+                open_time: 3_600,
+            },
+            offset: offset(0),
+        }
+    }
+
+    /// Sets what a line sets.
+    fn set(&mut self, line: &Line) -> Result<(), NoMemory>
+        requires range { IsInRange line.now }
+        requires room { length self.old.rules + length (rules_in line.now) ≤ most_rules }
+        requires sound { AreSound self.old }
+        ensures set { OnOk result (settings_seen self.new ≡ settings_with (settings_seen self.old) line.now) }
+        ensures sound { OnOk result (AreSound self.new) }
+    {
+        match line {
+            Line::Reserve { length } => self.reserved = *length,
+            Line::LimitRecords { count } => self.limits.count = *count,
+            Line::LimitSize { size } => self.limits.size = *size,
+            Line::LimitOpen { seconds } => self.limits.open_time = *seconds,
+            Line::Offset { minutes } => self.offset = offset(*minutes),
+            Line::Rule { text } => add_rule(&mut self.rules, text)?,
+            _ => {}
+        }
+        Ok(())
+    }
+}
+
+/// An offset of so many minutes.
+fn offset(minutes: i16) -> Offset16
+    requires { IsWithin 959 minutes }
+    ensures { result ≡ minutes }
+{
+    let Some(offset) = Offset16::of(minutes) else {
+        unreachable!();
+    };
+    offset
+}
+
+/// Adds the rule that a line says.
+fn add_rule(rules: &mut Rules, text: &Octets) -> Result<(), NoMemory>
+    requires rule { IsSome (rule_of text.now) }
+    requires text { IsUtf8 text.now }
+    requires room { length rules.old < most_rules }
+    ensures { OnOk result (rules.new ≡ rules.old ++ rules_in (Line.Rule text.now)) }
+{
+    let Ok(line) = str::from_utf8(text.octets()) else {
+        unreachable!();
+    };
+    match rules.add(line) {
+        Ok(()) => Ok(()),
+        Err(RuleFault::NoMemory) => Err(NoMemory),
+        Err(_) => unreachable!(),
+    }
+}
