@@ -1,5 +1,5 @@
 use Rattle.std.proofs.Common.{refl}
-use Rattle.gateway_book.proofs.worked_tests.a_changed_counter_opens_an_epoch.Goals as goal
+use Rattle.trials.proofs.book_worked.a_changed_counter_opens_an_epoch.Goals as goal
 
 pub returns-clause-numbers : goal.returns-clause-numbers
 returns-clause-numbers c = refl

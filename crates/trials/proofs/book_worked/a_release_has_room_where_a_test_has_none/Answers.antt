@@ -1,5 +1,5 @@
 use Rattle.std.proofs.Common.{refl}
-use Rattle.gateway_book.proofs.worked_tests.a_release_has_room_where_a_test_has_none.Goals as goal
+use Rattle.trials.proofs.book_worked.a_release_has_room_where_a_test_has_none.Goals as goal
 
 pub returns : goal.returns
 returns c = refl

@@ -1,5 +1,5 @@
 use Rattle.std.proofs.Common.{refl}
-use Rattle.gateway_book.proofs.worked_tests.held_packets_are_released_once.Goals as goal
+use Rattle.trials.proofs.book_worked.held_packets_are_released_once.Goals as goal
 
 pub returns-clause-causes : goal.returns-clause-causes
 returns-clause-causes c = refl

@@ -1,5 +1,5 @@
 use Rattle.std.proofs.Common.{refl}
-use Rattle.gateway_book.proofs.worked_tests.sends_are_answered_by_the_state.Goals as goal
+use Rattle.trials.proofs.book_worked.sends_are_answered_by_the_state.Goals as goal
 
 pub returns-clause-again : goal.returns-clause-again
 returns-clause-again c = refl

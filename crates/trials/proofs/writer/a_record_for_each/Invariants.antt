@@ -1,7 +1,7 @@
 use Rattle.std.proofs.Common.{◌≡◌, length}
 use Rattle.std.specs.List.{All}
 use Rattle.file_writer.specs.AllStreams.{IsFit}
-use Rattle.file_writer.proofs.tests.a_record_for_each.Given as goal
+use Rattle.trials.proofs.writer.a_record_for_each.Given as goal
 
 -- the records so far can be written, one for each number so far
 abbrev pub invariant-loop-n : goal.invariant-loop-n
