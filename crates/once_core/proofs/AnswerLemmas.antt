@@ -16,19 +16,22 @@ use Rattle.gw_base.specs.declared.key_state.KeyState.{KeyState}
 use Rattle.gw_base.specs.declared.key_state.KeyState.TheVariants.{Fresh, Filed, Sealed, Held, Released, Cancelled}
 use Rattle.gateway_book.specs.Answer.{Given, changes, may_record, recorded_as, recording, responding, tabled}
 use Rattle.gateway_book.specs.Answered.{act_given, entry_by, with_act}
+use Rattle.gateway_book.specs.Fit.{is_fresh}
 use Rattle.node_core.specs.declared.copy.Order.TheVariants as order
 use Rattle.transfer_cmd.specs.Lists.{is_held, verdict_cause, verdict_of}
 use Rattle.transfer_cmd.specs.Table.{answer_cause, state_given}
 use Rattle.transfer_cmd.specs.declared.decision.Ask.TheVariants as ask
 use Rattle.once_core.specs.Epochs.{StartsRise}
 use Rattle.once_core.specs.Happenings.{Asks, Letter, Orders, Request, Sends, Tests, about, cause_of, given, is_timely, node_at}
-use Rattle.once_core.specs.Resting.{IsAsked, IsState, RestsBy, Tells}
-use Rattle.once_core.proofs.ForwardLemmas.{state_given_now, state_now}
+use Rattle.once_core.specs.Resting.{IsAsked, IsKnown, IsState, RestsBy, Tells}
+use Rattle.once_core.specs.Scenes.{is_telling}
+use Rattle.once_core.proofs.ForwardLemmas.{known_given_now, known_now, state_given_now, state_now}
 
 -- what an answer records rests on the request, and what it says tells the state behind it
 pub record IsSound (letters : List Letter) (h : List HistoryEntry) (letter : Letter) (request : Request) (answer : Given) : Type 0 where
   pub rests : (a : HistoryAct) → act_given answer ≡ Some a → RestsBy letters letter.gateway h a
   pub tells : (now : ℕ) (who : Caller) → Tells (with_act h now who (act_given answer)) letter request (cause_of answer)
+  pub known : is_telling (cause_of answer) ≡ true → (now : ℕ) (who : Caller) → IsKnown (with_act h now who (act_given answer)) letter.node letter.start (about request letter.number)
 
 some_act : (a b : HistoryAct) → Some a ≡ Some b → a ≡ b
 some_act a b e = ap (λ (o : Option HistoryAct). elim o [ None ↦ a | Some c ↦ c ]) e
@@ -41,22 +44,33 @@ module _ (letters : List Letter) (h : List HistoryEntry) (letter : Letter) (rise
   node = node_at letter.node
 
   -- an answer that records nothing
-  silent : (request : Request) (number cause : ℕ) → Tells h letter request cause → IsSound letters h letter request (responding number cause None)
-  silent request number cause told = record { rests = λ a e. absurd (no_act a e); tells = λ now who. told }
+  silent : (request : Request) (number cause : ℕ) → (is_telling cause ≡ true → IsKnown h letter.node letter.start (about request letter.number)) → Tells h letter request cause
+      → IsSound letters h letter request (responding number cause None)
+  silent request number cause known told = record { rests = λ a e. absurd (no_act a e); tells = λ now who. told; known = λ telling now who. known telling }
 
   -- one that records an act, or has no room for it
   recorded : (room : HistoryAct → Bool) (request : Request) (number : ℕ) (a : HistoryAct) → RestsBy letters letter.gateway h a
+      → names letter.node (about request letter.number) a ≡ true
       → ((now : ℕ) (who : Caller) → Tells (h ++ entry_by h now who a ∷ []) letter request ACCEPTED) → Tells h letter request NO_RESOURCES
       → IsSound letters h letter request (recording (observed h node) room number ACCEPTED a)
-  recorded room request number a rests told without = by_test (may_record (observed h node) room a)
+  recorded room request number a rests named told without = by_test (may_record (observed h node) room a)
     where
       by_test : (b : Bool) → IsSound letters h letter request (if b then responding number ACCEPTED (Some a) else responding number NO_RESOURCES None)
-      by_test true = record { rests = λ c e. subst (RestsBy letters letter.gateway h) (some_act a c e) rests; tells = told }
-      by_test false = silent request number NO_RESOURCES without
+      by_test true = record {
+        rests = λ c e. subst (RestsBy letters letter.gateway h) (some_act a c e) rests;
+        tells = told;
+        known = λ telling now who. subst (λ (t : ℕ). IsKnown (h ++ entry_by h now who a ∷ []) letter.node t (about request letter.number)) (sym present)
+            (known_given_now h (entry_by h now who a) letter.node (about request letter.number) rise named);
+      }
+      by_test false = silent request number NO_RESOURCES (λ telling. absurd (false≢true telling)) without
 
   -- the state now, and after an entry that names a number
   now_is : (number : ℕ) (s : KeyState) → present_state letter.node number h ≡ s → IsState h letter.node letter.start number s
   now_is number s is = subst (λ (t : ℕ). IsState h letter.node t number s) (sym present) (state_now h letter.node number s rise is)
+
+  -- a number that isn't fresh
+  known_is : (number : ℕ) (s : KeyState) → present_state letter.node number h ≡ s → is_fresh s ≡ false → IsKnown h letter.node letter.start number
+  known_is number s is isnt = subst (λ (t : ℕ). IsKnown h letter.node t number) (sym present) (known_now h letter.node number s rise is isnt)
 
   then_is : (e : HistoryEntry) (number : ℕ) (s : KeyState) → names letter.node number e.act ≡ true → (s' : KeyState) → s' ≡ s
       → IsState (h ++ e ∷ []) letter.node (start_of letter.node h) number s' → IsState (h ++ e ∷ []) letter.node letter.start number s
@@ -85,26 +99,26 @@ module _ (letters : List Letter) (h : List HistoryEntry) (letter : Letter) (rise
         → IsSound letters h letter (Sends true packet)
         (tabled (observed h node) room number (answer_cause ask.Send s) (recorded_as ask.Send node letter.number packet (state_given ask.Send s)))
     send_table packet Fresh is says =
-        recorded room (Sends true packet) number (act.File node letter.number packet) (is, asked (Sends true packet) kept says)
+        recorded room (Sends true packet) number (act.File node letter.number packet) (is, asked (Sends true packet) kept says) (names_it letter.number)
         (λ now who filing. let e = entry_by h now who (act.File node letter.number packet) in
         then_is e letter.number Filed (names_it letter.number) Filed refl (state_given_now h e letter.node letter.number rise (names_it letter.number)))
         (λ filing. absurd (false≢true filing))
-    send_table packet Filed is says = silent (Sends true packet) number ALREADY_FULFILLED (λ filing. now_is letter.number Filed is)
-    send_table packet Sealed is says = silent (Sends true packet) number NOT_FULFILLED (λ filing. absurd (false≢true filing))
-    send_table packet Held is says = silent (Sends true packet) number DUPLICATE_ALREADY_FULFILLED (λ filing. absurd (false≢true filing))
-    send_table packet Released is says = silent (Sends true packet) number DUPLICATE_ALREADY_FULFILLED (λ filing. absurd (false≢true filing))
-    send_table packet Cancelled is says = silent (Sends true packet) number DUPLICATE_ALREADY_FULFILLED (λ filing. absurd (false≢true filing))
+    send_table packet Filed is says = silent (Sends true packet) number ALREADY_FULFILLED (λ telling. known_is letter.number Filed is refl) (λ filing. now_is letter.number Filed is)
+    send_table packet Sealed is says = silent (Sends true packet) number NOT_FULFILLED (λ telling. absurd (false≢true telling)) (λ filing. absurd (false≢true filing))
+    send_table packet Held is says = silent (Sends true packet) number DUPLICATE_ALREADY_FULFILLED (λ telling. known_is letter.number Held is refl) (λ filing. absurd (false≢true filing))
+    send_table packet Released is says = silent (Sends true packet) number DUPLICATE_ALREADY_FULFILLED (λ telling. known_is letter.number Released is refl) (λ filing. absurd (false≢true filing))
+    send_table packet Cancelled is says = silent (Sends true packet) number DUPLICATE_ALREADY_FULFILLED (λ telling. known_is letter.number Cancelled is refl) (λ filing. absurd (false≢true filing))
 
     possible_table : (packet : List ℕ) (s : KeyState) → present_state letter.node letter.number h ≡ s → letter.says ≡ Asks (Sends false packet)
         → IsSound letters h letter (Sends false packet)
         (tabled (observed h node) room number (answer_cause ask.Possible s) (recorded_as ask.Possible node letter.number packet (state_given ask.Possible s)))
     possible_table packet Fresh is says =
-        recorded room (Sends false packet) number (act.Hold node letter.number packet) (is, asked (Sends false packet) kept says) (λ now who. tt) tt
-    possible_table packet Filed is says = silent (Sends false packet) number ALREADY_FULFILLED tt
-    possible_table packet Sealed is says = silent (Sends false packet) number NOT_FULFILLED tt
-    possible_table packet Held is says = silent (Sends false packet) number DUPLICATE_ALREADY_FULFILLED tt
-    possible_table packet Released is says = silent (Sends false packet) number DUPLICATE_ALREADY_FULFILLED tt
-    possible_table packet Cancelled is says = silent (Sends false packet) number DUPLICATE_ALREADY_FULFILLED tt
+        recorded room (Sends false packet) number (act.Hold node letter.number packet) (is, asked (Sends false packet) kept says) (names_it letter.number) (λ now who. tt) tt
+    possible_table packet Filed is says = silent (Sends false packet) number ALREADY_FULFILLED (λ telling. known_is letter.number Filed is refl) tt
+    possible_table packet Sealed is says = silent (Sends false packet) number NOT_FULFILLED (λ telling. absurd (false≢true telling)) tt
+    possible_table packet Held is says = silent (Sends false packet) number DUPLICATE_ALREADY_FULFILLED (λ telling. known_is letter.number Held is refl) tt
+    possible_table packet Released is says = silent (Sends false packet) number DUPLICATE_ALREADY_FULFILLED (λ telling. known_is letter.number Released is refl) tt
+    possible_table packet Cancelled is says = silent (Sends false packet) number DUPLICATE_ALREADY_FULFILLED (λ telling. known_is letter.number Cancelled is refl) tt
 
     abbrev cause_is : ℕ → ℕ → Bool
     cause_is a b = a == b
@@ -115,23 +129,23 @@ module _ (letters : List Letter) (h : List HistoryEntry) (letter : Letter) (rise
     test_table : (packet : List ℕ) (s : KeyState) → present_state letter.node letter.number h ≡ s → letter.says ≡ Asks Tests
         → IsSound letters h letter Tests (tabled (observed h node) room number (answer_cause ask.Empty s) (recorded_as ask.Empty node letter.number packet (state_given ask.Empty s)))
     test_table packet Fresh is says =
-        recorded room Tests number (act.Seal node letter.number) is
+        recorded room Tests number (act.Seal node letter.number) (is, asked Tests kept says) (names_it letter.number)
         (λ now who. let e = entry_by h now who (act.Seal node letter.number) in (
           λ c. absurd (apart ACCEPTED ALREADY_FULFILLED refl c),
           λ c. then_is e letter.number Sealed (names_it letter.number) Sealed refl (state_given_now h e letter.node letter.number rise (names_it letter.number)),
         ))
         (λ c. absurd (apart NO_RESOURCES ALREADY_FULFILLED refl c), λ c. absurd (apart NO_RESOURCES ACCEPTED refl c))
     test_table packet Filed is says =
-        silent Tests number ALREADY_FULFILLED (λ c. now_is letter.number Filed is, λ c. absurd (apart ALREADY_FULFILLED ACCEPTED refl c))
-    test_table packet Sealed is says = silent Tests number ACCEPTED (λ c. absurd (apart ACCEPTED ALREADY_FULFILLED refl c), λ c. now_is letter.number Sealed is)
+        silent Tests number ALREADY_FULFILLED (λ telling. known_is letter.number Filed is refl) (λ c. now_is letter.number Filed is, λ c. absurd (apart ALREADY_FULFILLED ACCEPTED refl c))
+    test_table packet Sealed is says = silent Tests number ACCEPTED (λ telling. known_is letter.number Sealed is refl) (λ c. absurd (apart ACCEPTED ALREADY_FULFILLED refl c), λ c. now_is letter.number Sealed is)
     test_table packet Held is says =
-        silent Tests number DUPLICATE_ALREADY_FULFILLED
+        silent Tests number DUPLICATE_ALREADY_FULFILLED (λ telling. known_is letter.number Held is refl)
         (λ c. absurd (apart DUPLICATE_ALREADY_FULFILLED ALREADY_FULFILLED refl c), λ c. absurd (apart DUPLICATE_ALREADY_FULFILLED ACCEPTED refl c))
     test_table packet Released is says =
-        silent Tests number DUPLICATE_ALREADY_FULFILLED
+        silent Tests number DUPLICATE_ALREADY_FULFILLED (λ telling. known_is letter.number Released is refl)
         (λ c. absurd (apart DUPLICATE_ALREADY_FULFILLED ALREADY_FULFILLED refl c), λ c. absurd (apart DUPLICATE_ALREADY_FULFILLED ACCEPTED refl c))
     test_table packet Cancelled is says =
-        silent Tests number DUPLICATE_ALREADY_FULFILLED
+        silent Tests number DUPLICATE_ALREADY_FULFILLED (λ telling. known_is letter.number Cancelled is refl)
         (λ c. absurd (apart DUPLICATE_ALREADY_FULFILLED ALREADY_FULFILLED refl c), λ c. absurd (apart DUPLICATE_ALREADY_FULFILLED ACCEPTED refl c))
 
     -- a list of one number
@@ -148,25 +162,26 @@ module _ (letters : List Letter) (h : List HistoryEntry) (letter : Letter) (rise
           own = letter.number;
           asked = asked (Orders order.Release named) kept says;
         })
+        (names_one named)
         (λ now who fulfilled. let e = entry_by h now who (act.Release node (named ∷ [])) in
         then_is e named Released (names_one named) Released refl (state_given_now h e letter.node named rise (names_one named)))
         (λ fulfilled. absurd (false≢true fulfilled))
-    release_table named Released is says = silent (Orders order.Release named) number DUPLICATE_ALREADY_FULFILLED (λ fulfilled. now_is named Released is)
-    release_table named Fresh is says = silent (Orders order.Release named) number NUMBERS_INCORRECT (λ fulfilled. absurd (false≢true fulfilled))
-    release_table named Filed is says = silent (Orders order.Release named) number NUMBERS_INCORRECT (λ fulfilled. absurd (false≢true fulfilled))
-    release_table named Sealed is says = silent (Orders order.Release named) number NUMBERS_INCORRECT (λ fulfilled. absurd (false≢true fulfilled))
-    release_table named Cancelled is says = silent (Orders order.Release named) number NUMBERS_INCORRECT (λ fulfilled. absurd (false≢true fulfilled))
+    release_table named Released is says = silent (Orders order.Release named) number DUPLICATE_ALREADY_FULFILLED (λ telling. known_is named Released is refl) (λ fulfilled. now_is named Released is)
+    release_table named Fresh is says = silent (Orders order.Release named) number NUMBERS_INCORRECT (λ telling. absurd (false≢true telling)) (λ fulfilled. absurd (false≢true fulfilled))
+    release_table named Filed is says = silent (Orders order.Release named) number NUMBERS_INCORRECT (λ telling. absurd (false≢true telling)) (λ fulfilled. absurd (false≢true fulfilled))
+    release_table named Sealed is says = silent (Orders order.Release named) number NUMBERS_INCORRECT (λ telling. absurd (false≢true telling)) (λ fulfilled. absurd (false≢true fulfilled))
+    release_table named Cancelled is says = silent (Orders order.Release named) number NUMBERS_INCORRECT (λ telling. absurd (false≢true telling)) (λ fulfilled. absurd (false≢true fulfilled))
 
     cancel_table : (named : ℕ) (s : KeyState) → present_state letter.node named h ≡ s
         → IsSound letters h letter (Orders order.Cancel named)
         (tabled (observed h node) room number (verdict_cause (verdict_of false (s ∷ []))) (changes (verdict_of false (s ∷ [])) false node (one_held s named)))
     cancel_table named Held is =
-        recorded room (Orders order.Cancel named) number (act.Cancel node (named ∷ [])) (record { number = named; alone = refl; held = is }) (λ now who. tt) tt
-    cancel_table named Released is = silent (Orders order.Cancel named) number NUMBERS_INCORRECT tt
-    cancel_table named Fresh is = silent (Orders order.Cancel named) number NUMBERS_INCORRECT tt
-    cancel_table named Filed is = silent (Orders order.Cancel named) number NUMBERS_INCORRECT tt
-    cancel_table named Sealed is = silent (Orders order.Cancel named) number NUMBERS_INCORRECT tt
-    cancel_table named Cancelled is = silent (Orders order.Cancel named) number DUPLICATE_ALREADY_FULFILLED tt
+        recorded room (Orders order.Cancel named) number (act.Cancel node (named ∷ [])) (record { number = named; alone = refl; held = is }) (names_one named) (λ now who. tt) tt
+    cancel_table named Released is = silent (Orders order.Cancel named) number NUMBERS_INCORRECT (λ telling. absurd (false≢true telling)) tt
+    cancel_table named Fresh is = silent (Orders order.Cancel named) number NUMBERS_INCORRECT (λ telling. absurd (false≢true telling)) tt
+    cancel_table named Filed is = silent (Orders order.Cancel named) number NUMBERS_INCORRECT (λ telling. absurd (false≢true telling)) tt
+    cancel_table named Sealed is = silent (Orders order.Cancel named) number NUMBERS_INCORRECT (λ telling. absurd (false≢true telling)) tt
+    cancel_table named Cancelled is = silent (Orders order.Cancel named) number DUPLICATE_ALREADY_FULFILLED (λ telling. known_is named Cancelled is refl) tt
 
 -- the answer to a timely request
 pub answer_is_sound : (letters : List Letter) (h : List HistoryEntry) (letter : Letter) (request : Request) (room : HistoryAct → Bool) → StartsRise h

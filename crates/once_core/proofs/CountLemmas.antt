@@ -250,7 +250,7 @@ module _ (letters : List Letter) (gateway : ℕ) (key : PacketKey) where
     step_act h moment who (act.Seal n x) rise rests so_far =
         let e = entry moment who (act.Seal n x) in
         named_step h e n (x == key.number) refl
-        (λ named is. grown h e ∙ (let before : times h ≡ 0 = fresh_here h n x Fresh is rests so_far in omega (arith, before)))
+        (λ named is. grown h e ∙ (let before : times h ≡ 0 = fresh_here h n x Fresh is rests.0 so_far in omega (arith, before)))
         (λ isnt. refl)
         so_far
     step_act h moment who (act.Cancel n xs) rise rests so_far =

@@ -1,5 +1,5 @@
 -- States that end stay, and what an answer tells stays true.
-use Rattle.std.proofs.Common.{◌≡◌, ℕ, ◌==◌, ◌&&◌, Bool, true, false, if◌then◌else◌, List, [], ◌∷◌, ◌++◌, Contains, refl, sym, ap, ◌∙◌}
+use Rattle.std.proofs.Common.{◌≡◌, ℕ, ◌==◌, ◌&&◌, Bool, true, false, if◌then◌else◌, List, [], ◌∷◌, ◌++◌, Contains, refl, sym, ap, subst, ◌∙◌, append_assoc, append-nil}
 use Rattle.std.proofs.lemmas.Bool.{and_parts, and_from, eqb-true, eq-eqb, false≢true}
 use Rattle.gw_base.specs.EntryLaws.{present_state_is, state_of-append}
 use Rattle.gw_base.specs.History.{epoch_of, given_state, names, present_state, state_of}
@@ -11,10 +11,12 @@ use Rattle.gw_base.specs.declared.history.HistoryEntry.{HistoryEntry}
 use Rattle.gw_base.specs.declared.history.PacketKey.{PacketKey}
 use Rattle.gw_base.specs.declared.key_state.KeyState.{KeyState}
 use Rattle.gw_base.specs.declared.key_state.KeyState.TheVariants.{Fresh, Filed, Sealed, Held, Released, Cancelled}
+use Rattle.gateway_book.specs.Fit.{is_fresh}
+use Rattle.gw_base.specs.ListLaws.{by_last}
 use Rattle.node_core.specs.declared.copy.Order.TheVariants as order
 use Rattle.once_core.specs.Epochs.{StartsRise, key_in}
 use Rattle.once_core.specs.Happenings.{Asks, Letter, Orders, Request, Sends, Tests}
-use Rattle.once_core.specs.Resting.{IsAsked, IsState, Rests, RestsBy, Tells}
+use Rattle.once_core.specs.Resting.{IsAsked, IsKnown, IsState, Rests, RestsBy, Tells}
 use Rattle.once_core.proofs.CountLemmas.{IsHere, any_one, is_here, state_here}
 use Rattle.once_core.proofs.EachLemmas.{by_each_from, each_also}
 use Rattle.once_core.proofs.EpochLemmas.{epoch_stays, present_epoch}
@@ -41,7 +43,7 @@ module _ (letters : List Letter) (gateway : ℕ) where
       → ((epoch_of key.node.0 h == key.epoch) && names key.node.0 key.number a) ≡ true → ⊥
   never_named key h (act.File n x packet) rests ends e = not_named key h n x Fresh refl rests.0 ends (is_here letters gateway key h n (x == key.number) e)
   never_named key h (act.Hold n x packet) rests ends e = not_named key h n x Fresh refl rests.0 ends (is_here letters gateway key h n (x == key.number) e)
-  never_named key h (act.Seal n x) rests ends e = not_named key h n x Fresh refl rests ends (is_here letters gateway key h n (x == key.number) e)
+  never_named key h (act.Seal n x) rests ends e = not_named key h n x Fresh refl rests.0 ends (is_here letters gateway key h n (x == key.number) e)
   never_named key h (act.Release n xs) rests ends e =
       let same = any_one letters gateway key 0 xs rests.names.number rests.names.alone in
       not_named key h n rests.names.number Held refl rests.names.held ends
@@ -87,6 +89,37 @@ module _ (letters : List Letter) (gateway : ℕ) where
   tells_on h g letter (Orders order.Release named) cause rests told = λ is. state_stays h g letter.node letter.start named Released refl rests (told is)
   tells_on h g letter (Orders order.Cancel named) cause rests told = tt
 
+-- ---- a number that is fresh no more stays so
+
+gives_none : (node number : ℕ) (a : HistoryAct) → names node number a ≡ true → is_fresh (given_state a) ≡ false
+gives_none node number (act.File n x packet) named = refl
+gives_none node number (act.Hold n x packet) named = refl
+gives_none node number (act.Seal n x) named = refl
+gives_none node number (act.Release n xs) named = refl
+gives_none node number (act.Cancel n xs) named = refl
+gives_none node number act.Start named = absurd (false≢true named)
+gives_none node number (act.Path n port counter) named = absurd (false≢true named)
+gives_none node number act.Tick named = absurd (false≢true named)
+gives_none node number act.Close named = absurd (false≢true named)
+
+known_more : (key : PacketKey) (h : List HistoryEntry) (e : HistoryEntry) → is_fresh (state_of key h) ≡ false → is_fresh (state_of key (h ++ e ∷ [])) ≡ false
+known_more key h e known =
+    ap is_fresh (state_of-append key h e) ∙ by_names (epoch_of key.node.0 h == key.epoch) (names key.node.0 key.number e.act) refl
+  where
+    by_names : (b c : Bool) → names key.node.0 key.number e.act ≡ c → is_fresh (if b && c then given_state e.act else state_of key h) ≡ false
+    by_names true true is = gives_none key.node.0 key.number e.act is
+    by_names true false is = known
+    by_names false c is = known
+
+pub known_on : (h g : List HistoryEntry) (node start number : ℕ) → IsKnown h node start number → IsKnown (h ++ g) node start number
+known_on h g node start number is = record {
+  epoch = is.epoch;
+  begun = epoch_stays node start is.epoch h g is.begun;
+  state_is = by_last (λ (k : List HistoryEntry). is_fresh (state_of (key_in node number is.epoch) (h ++ k)) ≡ false)
+      (subst (λ (k : List HistoryEntry). is_fresh (state_of (key_in node number is.epoch) k) ≡ false) (sym (append-nil h)) is.state_is)
+      (λ k e rest. subst (λ (l : List HistoryEntry). is_fresh (state_of (key_in node number is.epoch) l) ≡ false) (append_assoc h k (e ∷ [])) (known_more (key_in node number is.epoch) (h ++ k) e rest)) g;
+}
+
 -- ---- more messages
 
 abbrev pub Grows : List Letter → List Letter → Type 0
@@ -107,7 +140,7 @@ rests_on letters more grows gateway =
     by_act h (act.Path n port counter) rests = rests
     by_act h (act.File n x packet) rests = (rests.0, asked_on letters more grows n.0 (start_of n.0 h) gateway x (Sends true packet) rests.1)
     by_act h (act.Hold n x packet) rests = (rests.0, asked_on letters more grows n.0 (start_of n.0 h) gateway x (Sends false packet) rests.1)
-    by_act h (act.Seal n x) rests = rests
+    by_act h (act.Seal n x) rests = (rests.0, asked_on letters more grows n.0 (start_of n.0 h) gateway x Tests rests.1)
     by_act h (act.Release n xs) rests = record {
       names = rests.names;
       own = rests.own;
@@ -138,3 +171,12 @@ state_given_now h e node number rise named = record {
       ∙ ap (λ (b : Bool). if b then given_state e.act else state_of (key_in node number (epoch_of node h)) h)
       (and_from (epoch_of node h == epoch_of node h) (names node number e.act) (eq-eqb (epoch_of node h) (epoch_of node h) refl) named);
 }
+
+pub known_now : (h : List HistoryEntry) (node number : ℕ) (state : KeyState) → StartsRise h → present_state node number h ≡ state → is_fresh state ≡ false
+    → IsKnown h node (start_of node h) number
+known_now h node number state rise is known = let there = state_now h node number state rise is in
+    record { epoch = there.epoch; begun = there.begun; state_is = ap is_fresh there.state_is ∙ known }
+
+pub known_given_now : (h : List HistoryEntry) (e : HistoryEntry) (node number : ℕ) → StartsRise h → names node number e.act ≡ true → IsKnown (h ++ e ∷ []) node (start_of node h) number
+known_given_now h e node number rise named = let there = state_given_now h e node number rise named in
+    record { epoch = there.epoch; begun = there.begun; state_is = ap is_fresh there.state_is ∙ gives_none node number e.act named }

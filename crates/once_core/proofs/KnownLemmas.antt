@@ -21,8 +21,8 @@ use Rattle.node_core.specs.declared.copy.Verdict.TheVariants as verdict
 use Rattle.node_core.specs.declared.port.Port.{Port}
 use Rattle.node_core.specs.declared.port.Port.TheVariants.{First, Second}
 use Rattle.once_core.specs.Following.{Follows, HasCopyAt, IsCommandSent, MaySend, entries_by, entries_of, heard_in}
-use Rattle.once_core.specs.Happenings.{Answers, Asks, Deed, Else, Heard, Letter, Meaning, Orders, Request, Scene, Sends, Sent, Tests}
-use Rattle.once_core.specs.Resting.{IsState, SceneHolds, Tells}
+use Rattle.once_core.specs.Happenings.{Answers, Asks, Deed, Else, Heard, Letter, Meaning, Orders, Request, Scene, Sends, Sent, Tests, about}
+use Rattle.once_core.specs.Resting.{IsKnown, IsState, SceneHolds, Tells}
 use Rattle.once_core.specs.Scenes.{is_telling}
 use Rattle.once_core.proofs.RoleLemmas.{IsCopyOf, command_use, not_both, own_use, same_user}
 use Rattle.once_core.proofs.ListLemmas.{in_cons, in_head, in_none, in_tail}
@@ -121,10 +121,10 @@ or_three_ends true b c e = refl
 or_three_ends false true c e = refl
 or_three_ends false false c e = e
 
-filing_tells : (cause : ℕ) → is_filing cause ≡ true → is_telling cause ≡ true
+pub filing_tells : (cause : ℕ) → is_filing cause ≡ true → is_telling cause ≡ true
 filing_tells cause e = or_three_first (cause == ACCEPTED) (cause == ALREADY_FULFILLED) (cause == DUPLICATE_ALREADY_FULFILLED) e
 
-fulfilled_tells : (cause : ℕ) → is_fulfilled cause ≡ true → is_telling cause ≡ true
+pub fulfilled_tells : (cause : ℕ) → is_fulfilled cause ≡ true → is_telling cause ≡ true
 fulfilled_tells cause e = or_three_ends (cause == ACCEPTED) (cause == ALREADY_FULFILLED) (cause == DUPLICATE_ALREADY_FULFILLED) e
 
 not_first : Second ≡ First → ⊥
@@ -134,7 +134,7 @@ module _ (scene : Scene) (holds : SceneHolds scene) (node start : ℕ) (values :
   abbrev pub firm : ℕ → List HistoryEntry
   firm gateway = (scene.posts gateway).firm
 
-  abbrev letter_of : ℕ → Port → ℕ → Meaning → Letter
+  abbrev pub letter_of : ℕ → Port → ℕ → Meaning → Letter
   letter_of gateway port number says = record { node = node; start = start; gateway = gateway; port = port; number = number; says = says }
 
   -- a request of this node and start among the messages is one that it may send
@@ -144,12 +144,13 @@ module _ (scene : Scene) (holds : SceneHolds scene) (node start : ℕ) (values :
       follows.sends (letter_of gateway port number (Asks request)) (holds.sent (letter_of gateway port number (Asks request)) kept) refl
 
   -- the request that was answered so, and what the answer means
-  record IsAnswered (gateway : ℕ) (port : Port) (number cause : ℕ) : Type 0 where
-    request : Request
-    may : MaySend packets values (letter_of gateway port number (Asks request)) (Asks request)
-    tells : Tells (firm gateway) (letter_of gateway port number (Answers cause)) request cause
+  pub record IsAnswered (gateway : ℕ) (port : Port) (number cause : ℕ) : Type 0 where
+    pub request : Request
+    pub may : MaySend packets values (letter_of gateway port number (Asks request)) (Asks request)
+    pub tells : Tells (firm gateway) (letter_of gateway port number (Answers cause)) request cause
+    pub known : IsKnown (firm gateway) node start (about request number)
 
-  answered : (gateway : ℕ) (port : Port) (number cause : ℕ) (numbers : List ℕ) → Contains (heard_in start (scene.deeds node)) (log.Heard port gateway (Responds cause numbers))
+  pub answered : (gateway : ℕ) (port : Port) (number cause : ℕ) (numbers : List ℕ) → Contains (heard_in start (scene.deeds node)) (log.Heard port gateway (Responds cause numbers))
       → names numbers number ≡ true → is_telling cause ≡ true → IsAnswered gateway port number cause
   answered gateway port number cause numbers heard named telling =
       let was = heard_among (scene.deeds node) (scene.deeds node) start port gateway cause number numbers (λ deed there. there) named heard in
@@ -157,15 +158,15 @@ module _ (scene : Scene) (holds : SceneHolds scene) (node start : ℕ) (values :
       let kept : Contains scene.letters (letter_of gateway port number (Answers cause)) =
       subst (λ (n : ℕ). Contains scene.letters (record { node = n; start = start; gateway = gateway; port = port; number = number; says = Answers cause })) there.0 there.1 in
       let is = holds.told (letter_of gateway port number (Answers cause)) kept telling in
-      record { request = is.request; may = may_send gateway port number is.request is.asked; tells = is.tells }
+      record { request = is.request; may = may_send gateway port number is.request is.asked; tells = is.tells; known = is.known }
 
-  rests_of : (packet : PacketState) (copy : PacketCopy) → IsCopyOf packets packet copy → RestsOn (heard_in start (scene.deeds node)) copy
+  pub rests_of : (packet : PacketState) (copy : PacketCopy) → IsCopyOf packets packet copy → RestsOn (heard_in start (scene.deeds node)) copy
   rests_of packet copy is =
       All-contains (RestsOn (heard_in start (scene.deeds node))) packet.copies copy
       (All-contains (AllRestOn (heard_in start (scene.deeds node))) packets packet follows.rests is.kept) is.among
 
   -- the number of a copy isn't that of a release or a cancel
-  no_command : (packet : PacketState) (copy : PacketCopy) (named : ℕ) (command : Command) → IsCopyOf packets packet copy → IsCommandSent packets copy.gateway named command → command.number ≡ copy.number → ⊥
+  pub no_command : (packet : PacketState) (copy : PacketCopy) (named : ℕ) (command : Command) → IsCopyOf packets packet copy → IsCommandSent packets copy.gateway named command → command.number ≡ copy.number → ⊥
   no_command packet copy named command is sent same =
       not_both copy.gateway copy.number packets (follows.roles copy.gateway copy.number) packet sent.at.packet copy sent.at.copy command is
       (record { kept = sent.at.kept; among = sent.at.among }) refl refl sent.at.gateway_is sent.sent same

@@ -46,3 +46,7 @@ pub mod TurnPlays
 pub mod FirstPlays
 pub mod SubmittedLemmas
 pub mod WorldOnceLemmas
+pub mod TopLemmas
+pub mod SettledLemmas
+pub mod NearestLemmas
+pub mod MeantLemmas

@@ -12,8 +12,8 @@ use Rattle.gw_base.specs.declared.history.HistoryEntry.{HistoryEntry}
 use Rattle.gateway_book.specs.Answer.{Given}
 use Rattle.gateway_book.specs.Answered.{act_given, entry_by, with_act}
 use Rattle.node_core.specs.declared.copy.Order.TheVariants as order
-use Rattle.once_core.specs.Happenings.{Adds, Answers, Asks, Closes, Comes, Else, Firms, Happening, Hears, Keeps, Letter, Meaning, Note, Notes, Opens, Orders, Post, Request, Scene, Sends, Starts, Tests, Ticks, Waiting, act_noted, cause_of, given, history, is_timely, reply}
-use Rattle.once_core.specs.Resting.{IsSent, IsTold, PostHolds, Rests, RestsBy, SceneHolds, Tells, Waits}
+use Rattle.once_core.specs.Happenings.{Adds, Answers, Asks, Closes, Comes, Else, Firms, Happening, Hears, Keeps, Letter, Meaning, Note, Notes, Opens, Orders, Post, Request, Scene, Sends, Starts, Tests, Ticks, Waiting, about, act_noted, cause_of, given, history, is_timely, reply}
+use Rattle.once_core.specs.Resting.{IsKnown, IsSent, IsTold, PostHolds, Rests, RestsBy, SceneHolds, Tells, Waits}
 use Rattle.once_core.specs.Scenes.{Settled, after_coming, after_hearing, answering, at, coming, firming, happened, happened_all, is_answer, is_idle, is_request, keeping, nothing_yet, noting, noting_if, opening, scene_after, waiting_for, with_one}
 use Rattle.once_core.specs.Happenings as happens
 use Rattle.once_core.proofs.AnswerLemmas.{IsSound, answer_is_sound}
@@ -251,6 +251,7 @@ came scene letter request room now who holds kept says = by (is_timely (history 
           asked = subst (Contains scene.letters) (λ i. record letter { says = says i }) kept;
           tells = tells_reply (history (noting_if now who (act_given answer) post)) letter answer request (cause_of answer)
               (subst (λ (h : List HistoryEntry). Tells h letter request (cause_of answer)) (same (act_given answer)) (sound.tells now who));
+          known = subst (λ (h : List HistoryEntry). IsKnown h letter.node letter.start (about request letter.number)) (same (act_given answer)) (sound.known telling now who);
         })
       where
         after : (recorded : Option HistoryAct) → ((a : HistoryAct) → recorded ≡ Some a → RestsBy scene.letters letter.gateway (history post) a)

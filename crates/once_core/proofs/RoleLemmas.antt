@@ -44,14 +44,14 @@ both_uses gateway number copy command same own e is =
 
 -- ---- one user
 
-among_copies : (gateway number : ℕ) (copies : List PacketCopy) (copy : PacketCopy) → Contains copies copy → uses_by_copy gateway number copy ≤ uses_by_copies gateway number copies
+pub among_copies : (gateway number : ℕ) (copies : List PacketCopy) (copy : PacketCopy) → Contains copies copy → uses_by_copy gateway number copy ≤ uses_by_copies gateway number copies
 among_copies gateway number [] copy is = absurd (in_none copy is)
 among_copies gateway number (first ∷ copies) copy is = ⊎_elim
     (λ e. let same = ap (uses_by_copy gateway number) e in omega (arith, same))
     (λ later. let rest = among_copies gateway number copies copy later in omega (arith, rest))
     (in_cons first copy copies is)
 
-among_packets : (gateway number : ℕ) (packets : List PacketState) (packet : PacketState) → Contains packets packet → uses_by_copies gateway number packet.copies ≤ uses gateway number packets
+pub among_packets : (gateway number : ℕ) (packets : List PacketState) (packet : PacketState) → Contains packets packet → uses_by_copies gateway number packet.copies ≤ uses gateway number packets
 among_packets gateway number [] packet is = absurd (in_none packet is)
 among_packets gateway number (first ∷ packets) packet is = ⊎_elim
     (λ e. let same = ap (λ (p : PacketState). uses_by_copies gateway number p.copies) e in omega (arith, same))

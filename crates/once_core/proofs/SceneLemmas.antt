@@ -3,10 +3,10 @@ use Rattle.std.proofs.Common.{◌≡◌, ◌⊎◌, inl, inr, ⊎_elim, ℕ, ◌
 use Rattle.std.proofs.lemmas.Bool.{eqb-true, eq-eqb, false≢true}
 use Rattle.std.proofs.lemmas.List.Elements.{Contains-append_left, Contains-push, Contains-push_cases}
 use Rattle.gw_base.specs.declared.history.HistoryEntry.{HistoryEntry}
-use Rattle.once_core.specs.Happenings.{Answers, Asks, Deed, Else, Heard, Letter, Meaning, Post, Scene, Sent, Waiting, history}
+use Rattle.once_core.specs.Happenings.{Answers, Asks, Deed, Else, Heard, Letter, Meaning, Post, Scene, Sent, Waiting, about, history}
 use Rattle.once_core.specs.Resting.{IsAnswerTo, IsSent, IsTold, PostHolds, Rests, SceneHolds, Waits}
 use Rattle.once_core.specs.Scenes.{after_adding, after_hearing, after_sending, at, is_idle, is_request}
-use Rattle.once_core.proofs.ForwardLemmas.{Grows, rests_on, tells_on}
+use Rattle.once_core.proofs.ForwardLemmas.{Grows, known_on, rests_on, tells_on}
 use Rattle.once_core.proofs.ListLemmas.{in_cons, in_head, in_none, in_tail}
 
 -- ---- lists
@@ -25,7 +25,7 @@ at_same k x f = ap (λ (b : Bool). if b then x else f k) (eq-eqb k k refl)
 
 answer_on : (letters more : List Letter) → Grows letters more → (h : List HistoryEntry) (letter : Letter) (cause : ℕ)
     → IsAnswerTo letters h letter cause → IsAnswerTo more h letter cause
-answer_on letters more grows h letter cause is = record { request = is.request; asked = grows (record letter { says = Asks is.request }) is.asked; tells = is.tells }
+answer_on letters more grows h letter cause is = record { request = is.request; asked = grows (record letter { says = Asks is.request }) is.asked; tells = is.tells; known = is.known }
 
 pub told_on : (letters more : List Letter) → Grows letters more → (h : List HistoryEntry) (letter : Letter) (says : Meaning) → IsTold letters h letter says → IsTold more h letter says
 told_on letters more grows h letter (Asks request) told = tt
@@ -37,7 +37,12 @@ pub told_later : (letters : List Letter) (gateway : ℕ) (h g : List HistoryEntr
 told_later letters gateway h g letter (Asks request) rests told = tt
 told_later letters gateway h g letter (Answers cause) rests told = λ telling.
     let is = told telling in
-    record { request = is.request; asked = is.asked; tells = tells_on letters gateway h g letter is.request cause rests is.tells }
+    record {
+      request = is.request;
+      asked = is.asked;
+      tells = tells_on letters gateway h g letter is.request cause rests is.tells;
+      known = known_on h g letter.node letter.start (about is.request letter.number) is.known;
+    }
 told_later letters gateway h g letter Else rests told = tt
 
 pub waits_on : (letters more : List Letter) → Grows letters more → (gateway : ℕ) (h : List HistoryEntry) (letter : Letter) → Waits letters gateway h letter → Waits more gateway h letter

@@ -1,6 +1,8 @@
 -- What stays, whatever happens: laws say that a list goes on, and that two books hold the same.
 use Rattle.std.specs.Prelude.{◌≡◌, List, ◌++◌}
 use Rattle.gateway_book.specs.Value.{BookValue}
+use Rattle.gw_base.specs.declared.history.HistoryEntry.{HistoryEntry}
+use Rattle.once_core.specs.Happenings.{Post, history}
 
 -- a list goes on with some more
 pub record GoesOn {A : Type 0} (before after : List A) : Type 0 where
@@ -12,3 +14,8 @@ pub record HoldSame (a b : BookValue) : Type 0 where
   pub firm : a.firm ≡ b.firm
   pub rest : a.rest ≡ b.rest
   pub broken : a.is_broken ≡ b.is_broken
+
+-- a history that holds the firm part of a gateway's, and more of it or not
+pub record IsBetween (post : Post) (h : List HistoryEntry) : Type 0 where
+  pub front : GoesOn post.firm h
+  pub back : GoesOn h (history post)

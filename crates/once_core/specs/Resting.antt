@@ -8,11 +8,12 @@ use Rattle.gw_base.specs.declared.history.HistoryEntry.{HistoryEntry}
 use Rattle.gw_base.specs.declared.cause.TheConstants.{ACCEPTED, ALREADY_FULFILLED}
 use Rattle.gw_base.specs.declared.key_state.KeyState.{KeyState}
 use Rattle.gw_base.specs.declared.key_state.KeyState.TheVariants.{Fresh, Filed, Sealed, Held, Released}
+use Rattle.gateway_book.specs.Fit.{is_fresh}
 use Rattle.node_core.specs.Copies.{is_filing, is_fulfilled}
 use Rattle.node_core.specs.declared.copy.Order.TheVariants as order
 use Rattle.node_core.specs.declared.port.Port.{Port}
 use Rattle.once_core.specs.Epochs.{EachBehind, epoch_with, key_in}
-use Rattle.once_core.specs.Happenings.{Answers, Asks, Deed, Else, Heard, Letter, Meaning, Orders, Post, Request, Scene, Sends, Sent, Tests, Waiting, history}
+use Rattle.once_core.specs.Happenings.{Answers, Asks, Deed, Else, Heard, Letter, Meaning, Orders, Post, Request, Scene, Sends, Sent, Tests, Waiting, about, history}
 use Rattle.once_core.specs.Scenes.{is_answer, is_telling}
 
 -- a request of a node in a start to a gateway is among these messages
@@ -41,7 +42,8 @@ RestsBy letters gateway before (File n x packet) =
     (present_state n.0 x before ≡ Fresh) × IsAsked letters n.0 (start_of n.0 before) gateway x (Sends true packet)
 RestsBy letters gateway before (Hold n x packet) =
     (present_state n.0 x before ≡ Fresh) × IsAsked letters n.0 (start_of n.0 before) gateway x (Sends false packet)
-RestsBy letters gateway before (Seal n x) = present_state n.0 x before ≡ Fresh
+RestsBy letters gateway before (Seal n x) =
+    (present_state n.0 x before ≡ Fresh) × IsAsked letters n.0 (start_of n.0 before) gateway x Tests
 RestsBy letters gateway before (Release n xs) = IsReleased letters gateway n.0 before xs
 RestsBy letters gateway before (Cancel n xs) = NamesHeld n.0 before xs
 RestsBy letters gateway before _ = Unit {0}
@@ -56,6 +58,12 @@ pub record IsState (h : List HistoryEntry) (node start number : ℕ) (state : Ke
   pub begun : epoch_with node start h ≡ Some epoch
   pub state_is : state_of (key_in node number epoch) h ≡ state
 
+-- a node's number isn't fresh in the epoch with a start
+pub record IsKnown (h : List HistoryEntry) (node start number : ℕ) : Type 0 where
+  pub epoch : ℕ
+  pub begun : epoch_with node start h ≡ Some epoch
+  pub state_is : is_fresh (state_of (key_in node number epoch) h) ≡ false
+
 -- what an answer of this cause to a request means: of a plain copy that it is filed; of a test the same, or that the number
 -- is sealed; of a release that the copy is released. All else is of no use here.
 abbrev pub Tells : List HistoryEntry → Letter → Request → ℕ → Type 0
@@ -69,11 +77,13 @@ Tells h letter (Orders order.Release named) cause =
     is_fulfilled cause ≡ true → IsState h letter.node letter.start named Released
 Tells h letter (Orders order.Cancel named) cause = Unit {0}
 
--- the request that an answer answers, which is among the messages, and what the answer means of it
+-- the request that an answer answers, which is among the messages, and what the answer means of it; the number that the
+-- request is about is fresh no more
 pub record IsAnswerTo (letters : List Letter) (h : List HistoryEntry) (letter : Letter) (cause : ℕ) : Type 0 where
   pub request : Request
   pub asked : Contains letters (record letter { says = Asks request })
   pub tells : Tells h letter request cause
+  pub known : IsKnown h letter.node letter.start (about request letter.number)
 
 -- an answer that tells a node something of a copy means it in this history
 abbrev pub IsTold : List Letter → List HistoryEntry → Letter → Meaning → Type 0

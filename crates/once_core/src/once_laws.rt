@@ -2,11 +2,13 @@
 //! stands on a function that does nothing. A world with octets is such a list of happenings:
 //! [`shown_laws`](crate::shown_laws).
 
-ghost use Rattle.std.specs.Prelude.{◌≡◌, ◌≤◌, ◌++◌, ℕ, All, List, Some, length};
-ghost use Rattle.gw_base.specs.History.{epoch_of};
+ghost use Rattle.std.specs.Prelude.{◌≡◌, ◌<◌, ◌≤◌, ◌%◌, ◌++◌, ℕ, true, All, List, Some, length};
+ghost use Rattle.gw_base.specs.History.{epoch_of, top_of};
+ghost use Rattle.gw_base.specs.Nearest.{nearest};
 ghost use Rattle.gw_base.specs.Starts.{start_of};
 ghost use Rattle.gw_base.specs.declared.history.HistoryEntry.{HistoryEntry};
-ghost use Rattle.node_core.specs.Log.{NodeSetup};
+ghost use Rattle.node_core.specs.Log.{NodeSetup, runs};
+ghost use Rattle.node_core.specs.Nearness.{HasOpenCopy};
 ghost use Rattle.node_core.specs.Packets.{PacketState};
 ghost use Rattle.node_core.specs.Reached.{NodeCall, log_of, reached};
 ghost use Rattle.once_core.specs.Deeds.{deeds_of};
@@ -14,6 +16,7 @@ ghost use Rattle.once_core.specs.Epochs.{StartsRise, epoch_with};
 ghost use Rattle.once_core.specs.Expired.{starts_in};
 ghost use Rattle.once_core.specs.Followed.{packets_in};
 ghost use Rattle.once_core.specs.Following.{Follows, Knows};
+ghost use Rattle.once_core.specs.Growing.{IsBetween};
 ghost use Rattle.once_core.specs.Happenings.{Happening, Scene};
 ghost use Rattle.once_core.specs.OncePlaced.{IsOnce};
 ghost use Rattle.once_core.specs.Resting.{SceneHolds};
@@ -81,6 +84,26 @@ pub fn a_node_follows_the_procedure()
     a_node_knows_what_it_was_told();
     node_core::laws::knowledge_grows();
     node_core::laws::requests_are_of_copies();
+}
+
+/// The number of an open copy is read as it is meant by a gateway whose present epoch is that of the
+/// node's start, be it asked of the firm part alone or with entries that follow: so a request that a
+/// node sends isn't too late when it comes at once.
+pub fn open_numbers_are_read_as_meant()
+    ensures { (happenings : List Happening) (setup : NodeSetup) (calls : List NodeCall) (node gateway number : ℕ)
+        (values : ℕ → List ℕ) (h : List HistoryEntry) → 1 ≤ length setup.gateways → gateway < length setup.gateways →
+        runs (log_of setup calls) ≡ true →
+        (scene_after happenings).deeds node ≡ deeds_of node values (log_of setup calls) →
+        IsBetween ((scene_after happenings).posts gateway) h → start_of node h ≡ starts_in (log_of setup calls) →
+        HasOpenCopy (reached setup calls).packets gateway number →
+        nearest (top_of node h) (number % 65536) ≡ number }
+{
+    gw_base::nearest_is_the_one();
+    node_core::laws::each_number_has_one_role();
+    node_core::laws::open_numbers_stay_near();
+    node_core::laws::numbers_stay_near_the_last_settled();
+    a_node_knows_what_it_was_told();
+    a_node_follows_the_procedure();
 }
 
 /// The premise can be met: in a story of one packet, which comes to a gateway, is filed and
