@@ -12,6 +12,7 @@ for crate in gw_base area_disk ber_frame route_filter cdr_file file_rotate cdr_s
 done >"$work/crates.txt"
 echo 'writer_bench: gw_base area_disk route_filter cdr_file file_rotate cdr_shelf file_writer' >>"$work/crates.txt"
 cp bench/writer/main.rt.txt "$work/crates/writer_bench/src/main.rt"
+cp -r bench/writer/proofs "$work/crates/writer_bench/"
 cd "$work/crates/writer_bench" || exit 1
 rt run >"$work/log" 2>&1 || { cat "$work/log"; exit 1; }
 out/writer_bench
