@@ -46,6 +46,7 @@ impl Contents {
     pub fn reserve(&mut self, stream: u8) -> Result<(), AllocError>
         ensures files { self.new.files ≡ self.old.files }
         ensures unsealed { (s : ℕ) → unsealed_in self.new s ≡ unsealed_in self.old s }
+        ensures room { OnOk result (stream < length self.new.places) }
     {
         grow(&mut self.unsealed, stream as usize)?;
         Ok(())

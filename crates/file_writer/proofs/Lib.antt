@@ -10,3 +10,4 @@ pub mod AllLemmas
 pub mod WriterLemmas
 pub mod PlacesLemmas
 pub mod RecordsLemmas
+pub mod FirstFilesLemmas

@@ -1,10 +1,10 @@
 //! Laws of the files that items are divided into. Each holds for all items, and stands on a function that does nothing.
-ghost use Rattle.std.specs.Prelude.{◌≡◌, ◌-◌, ◌+◌, ◌<◌, ◌++◌, ℕ, List, drop};
+ghost use Rattle.std.specs.Prelude.{◌≡◌, ◌-◌, ◌+◌, ◌<◌, ◌≤◌, ◌++◌, ℕ, List, drop, take};
 ghost use Rattle.gw_base.specs.declared.item.Item.{Item};
 ghost use Rattle.file_rotate.specs.Division.{divided_from};
 ghost use Rattle.file_rotate.specs.Items.{Filed};
 ghost use Rattle.file_rotate.specs.Items as stream;
-ghost use Rattle.cdr_shelf.specs.Files.{in_stream};
+ghost use Rattle.cdr_shelf.specs.Files.{SealedFile, greatest_in, in_stream};
 ghost use Rattle.file_writer.specs.Calls.{calls_from, calls_of, seals};
 ghost use Rattle.file_writer.specs.Files.{files_from, later_division, later_files, stream_files};
 ghost use Rattle.file_writer.specs.Streams.{Settings, closed_of, stream_count};
@@ -40,3 +40,11 @@ pub fn calls_seal_what_items_close()
 {
     division_goes_on::<Octets>();
 }
+
+/// A shelf that isn't empty: where the first files of a stream are its sealed ones, as any crash leaves them, the
+/// greatest number of the stream there is how many they are.
+pub fn first_files_are_counted()
+    ensures { (settings : Settings) (s m : ℕ) (items : List Item) (files : List SealedFile)
+        → in_stream s files ≡ take m (stream_files settings s items) → m ≤ closed_of settings s items
+        → greatest_in s files ≡ m }
+{}
