@@ -1,15 +1,14 @@
 -- What is due is of packets that are open, and they stay open.
-use Rattle.std.proofs.Common.{◌≡◌, ◌⊎◌, ⊎_elim, ℕ, suc, ◌+◌, ◌<◌, ◌==◌, ◌&&◌, ◌||◌, Bool, true, false, if◌then◌else◌, List, [], ◌∷◌, ◌++◌, length, map, Option, Some, None, All, Contains, refl, sym, ap, subst, ◌∙◌, arith}
+use Rattle.std.proofs.Common.{◌≡◌, ⊎_elim, ℕ, suc, ◌==◌, ◌&&◌, ◌||◌, Bool, true, false, if◌then◌else◌, List, [], ◌∷◌, ◌++◌, map, Option, Some, None, Contains, refl, sym, ap, ◌∙◌, arith}
 use Rattle.std.specs.List.{find, flat_map, list_all, list_any}
 use Rattle.std.specs.Option.{option_map_or, option_or}
-use Rattle.std.proofs.lemmas.Bool.{eq-eqb, eqb-true, false≢true}
-use Rattle.std.proofs.lemmas.List.Elements.{All-contains, Contains-append_cases}
+use Rattle.std.proofs.lemmas.Bool.{eq-eqb}
+use Rattle.std.proofs.lemmas.List.Elements.{Contains-append_cases}
 use Rattle.gtpp_message.specs.Packet.{PacketForm}
-use Rattle.node_core.specs.Copies.{is_answered, is_chosen, is_filed, is_held, is_release, is_released, is_sealed, is_settled, new_copy}
-use Rattle.node_core.specs.Log.{LogEntry}
-use Rattle.node_core.specs.Packets.{PacketState, chosen, commanded, copies_after, is_done, is_of, is_resolved, packet_after, packet_after_all, while_open, with_command}
+use Rattle.node_core.specs.Copies.{is_answered, is_filed, is_held, is_release, is_released, is_sealed, is_settled, new_copy}
+use Rattle.node_core.specs.Packets.{PacketState, chosen, commanded, copies_after, is_done, is_of, is_resolved, packet_after, packet_after_all, with_command}
 use Rattle.node_core.specs.Peers.{all_drawn, next_number}
-use Rattle.node_core.specs.Sendings.{again, asking, command_by, command_of, command_unless, copy_to, due_by_copies, due_by_verdict, due_for, due_for_all, probe_of, probes, probes_from, releasing, repeating, settling, settling_beside, settling_by, test_of}
+use Rattle.node_core.specs.Sendings.{again, asking, command_by, command_of, command_unless, copy_to, due_by_copies, due_by_verdict, due_for, due_for_all, probe_of, probes_from, releasing, repeating, settling, settling_beside, settling_by, test_of}
 use Rattle.node_core.specs.declared.copy.Command.{Command}
 use Rattle.node_core.specs.declared.copy.Order.{Order}
 use Rattle.node_core.specs.declared.copy.Order.TheVariants.{Release, Cancel}

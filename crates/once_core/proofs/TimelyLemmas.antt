@@ -1,5 +1,5 @@
 -- A request that a node sends in a tick isn't expired at a gateway whose present epoch is that of the node's start.
-use Rattle.std.proofs.Common.{◌≡◌, ◌⊎◌, ⊎_elim, ℕ, suc, ◌-◌, ◌<◌, ◌≤◌, ◌%◌, ◌==◌, ◌&&◌, ◌||◌, not, nat_lt, Bool, true, false, if◌then◌else◌, List, [], ◌∷◌, ◌++◌, length, map, Option, Some, None, All, Contains, slice_get, refl, sym, ap, subst, ◌∙◌, arith}
+use Rattle.std.proofs.Common.{◌≡◌, ⊎_elim, ℕ, ◌-◌, ◌<◌, ◌≤◌, ◌%◌, ◌==◌, ◌&&◌, ◌||◌, not, nat_lt, Bool, true, false, if◌then◌else◌, List, [], ◌∷◌, ◌++◌, length, Option, Some, None, All, Contains, slice_get, refl, sym, ap, subst, ◌∙◌, arith}
 use Rattle.std.specs.Option.{option_map_or}
 use Rattle.std.proofs.lemmas.Bool.{eq-eqb, eqb-true, false≢true, ltb-true}
 use Rattle.std.proofs.lemmas.List.Elements.{All-contains, Contains-append_cases}
@@ -21,7 +21,6 @@ use Rattle.node_core.specs.Sendings.{due_for_all, probes}
 use Rattle.node_core.specs.Sent.{HasCopyOf, IsSent}
 use Rattle.node_core.specs.Ticks.{due, tick_entries}
 use Rattle.node_core.specs.Value.{NodeValue, befallen, logged}
-use Rattle.node_core.specs.declared.peer.Peer.{Peer}
 use Rattle.node_core.specs.declared.sending.Sending.{Sending}
 use Rattle.node_core.specs.declared.sending.Sending.TheVariants as send
 use Rattle.path_mgmt.specs.NodePath.{is_alive}
@@ -33,8 +32,8 @@ use Rattle.once_core.specs.Growing.{IsBetween}
 use Rattle.once_core.specs.Happenings.{Post, Scene}
 use Rattle.once_core.specs.Messages.{about, is_request}
 use Rattle.once_core.specs.Scenes.{scene_after}
-use Rattle.once_core.specs.Shown.{post_at, post_of, values_of}
-use Rattle.once_core.specs.Turn.{Turn, calm, node_called, refusal_of, turn, turn_by, turns, unless_refused}
+use Rattle.once_core.specs.Shown.{post_of, values_of}
+use Rattle.once_core.specs.Turn.{Turn, calm, node_called, refusal_of, turn_by, turns, unless_refused}
 use Rattle.once_core.specs.World.{World, log_after, log_at, message_of, node_value, ticking}
 use Rattle.once_core.specs.Beginning.{world_of}
 use Rattle.once_core.specs.declared.event.Event.TheVariants as event
