@@ -50,3 +50,5 @@ pub mod TopLemmas
 pub mod SettledLemmas
 pub mod NearestLemmas
 pub mod MeantLemmas
+pub mod DueLemmas
+pub mod TimelyLemmas

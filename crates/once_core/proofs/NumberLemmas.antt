@@ -109,7 +109,7 @@ after_keeps sending p = by (is_of p.number sending)
     by true = refl
     by false = refl
 
-all_keep : (sendings : List Sending) (p : PacketState) → (packet_after_all sendings p).number ≡ p.number
+pub all_keep : (sendings : List Sending) (p : PacketState) → (packet_after_all sendings p).number ≡ p.number
 all_keep [] p = refl
 all_keep (sending ∷ sendings) p = all_keep sendings (packet_after sending p) ∙ after_keeps sending p
 

@@ -50,7 +50,7 @@ not_refused : (b : Bool) (kind : WorldKind) → refusing b kind ≡ None → b �
 not_refused true kind e = absurd (cc)
 not_refused false kind e = refl
 
-it_runs : (w : World) (number : ℕ) → option_or (no_node w number) (refusing (not (runs (log_in w number))) Halted) ≡ None → runs (log_in w number) ≡ true
+pub it_runs : (w : World) (number : ℕ) → option_or (no_node w number) (refusing (not (runs (log_in w number))) Halted) ≡ None → runs (log_in w number) ≡ true
 it_runs w number e = by (runs (log_in w number)) (not_refused (not (runs (log_in w number))) Halted (both_none (no_node w number) (refusing (not (runs (log_in w number))) Halted) e).1)
   where
     by : (b : Bool) → not b ≡ false → b ≡ true

@@ -1,6 +1,6 @@
 //! Laws of worlds. Each holds for all settings, and stands on a function that does nothing.
 
-ghost use Rattle.std.specs.Prelude.{◌≡◌, ◌≤◌, ℕ, Bool, true, false, List, Some, length};
+ghost use Rattle.std.specs.Prelude.{◌≡◌, ◌-◌, ◌≤◌, ℕ, Bool, true, false, Contains, List, None, Some, length, slice_get};
 ghost use Rattle.file_writer.specs.Places.{FilePlace, place_in};
 ghost use Rattle.file_writer.specs.Streams.{Settings};
 ghost use Rattle.gateway_book.specs.Filed.{filed};
@@ -14,12 +14,17 @@ ghost use Rattle.once_core.specs.Admitted.{AllAdmitted, moves_on};
 ghost use Rattle.once_core.specs.Beginning.{world_of};
 ghost use Rattle.once_core.specs.FilePlaces.{file_places};
 ghost use Rattle.once_core.specs.Gateway.{Gateway, Rules, cut};
-ghost use Rattle.once_core.specs.Growing.{GoesOn, HoldSame};
+ghost use Rattle.once_core.specs.Expired.{is_expired, present_start};
+ghost use Rattle.once_core.specs.Growing.{GoesOn, HoldSame, IsBetween};
+ghost use Rattle.once_core.specs.Messages.{is_request};
 ghost use Rattle.once_core.specs.Once.{Once, firm_in};
-ghost use Rattle.once_core.specs.Turn.{Turn, turns};
-ghost use Rattle.once_core.specs.World.{World};
+ghost use Rattle.once_core.specs.Shown.{post_of};
+ghost use Rattle.once_core.specs.Turn.{Turn, log_in, refusal_of, turns};
+ghost use Rattle.once_core.specs.World.{World, ticking};
+ghost use Rattle.once_core.specs.declared.event.Event.TheVariants.{Tick};
+ghost use Rattle.once_core.specs.declared.message.Message.{Message};
 
-use crate::once_laws::a_node_follows_the_procedure;
+use crate::once_laws::{a_node_follows_the_procedure, a_node_knows_what_it_was_told};
 
 /// Whatever happens in a world of at least one gateway, each record of each packet that its node
 /// ever resolved is filed once by all gateways together, and each record of any other packet at most
@@ -33,6 +38,29 @@ pub fn each_record_is_filed_once()
     gtpp_message::laws::a_role_reads_what_is_read();
     gtpp_message::laws::records_are_spelled();
     node_core::laws::a_gateway_gets_one_copy();
+    a_node_follows_the_procedure();
+}
+
+/// A request that a node sends in a tick isn't expired at a gateway whose present epoch is that of the
+/// node's start, be the gateway asked by what is firm alone or with entries that follow.
+pub fn a_request_of_the_present_start_is_not_expired()
+    ensures { (rules : Rules) (gateways nodes : ℕ) (all : List Turn) (node : ℕ) (m : Message) (g : Gateway)
+        (h : List HistoryEntry) → 1 ≤ gateways → let w = turns rules (world_of rules gateways nodes) all in
+        refusal_of w (Tick node) ≡ None →
+        Contains (ticking (length w.gateways) (node - 1) (log_in w node)).sends m → is_request m ≡ true →
+        slice_get w.gateways m.gateway ≡ Some g → IsBetween (post_of g) h → present_start h m ≡ m.start →
+        is_expired h m ≡ false }
+{
+    gw_base::nearest_is_the_one();
+    gtpp_message::laws::written_is_read_back();
+    gtpp_message::laws::a_role_reads_what_is_read();
+    gtpp_message::laws::records_are_spelled();
+    node_core::laws::each_number_has_one_role();
+    node_core::laws::open_numbers_stay_near();
+    node_core::laws::numbers_stay_near_the_last_settled();
+    node_core::laws::requests_are_of_copies();
+    node_core::laws::a_gateway_gets_one_copy();
+    a_node_knows_what_it_was_told();
     a_node_follows_the_procedure();
 }
 
