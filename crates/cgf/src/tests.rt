@@ -87,7 +87,10 @@ fn a_sink_that_fails_in_the_middle_ends_the_job(rt: HostRuntime) -> Result<(), F
         ),
     ];
     for (script, status) in scripts {
-        let words = vec![in alloc; String::from_str(alloc, "feed")?, String::from_str(alloc, "-")?]?;
+        let words = vec![in alloc;
+            String::from_str(alloc, "feed")?,
+            String::from_str(alloc, "-")?,
+        ]?;
         let script = Octets::of(alloc, script.as_bytes())?;
         let mut source = MemorySource::new(script, 7, Vec::new(alloc));
         let mut sink = WriterSink::new(FullWriter { calls: 0 });
