@@ -52,6 +52,7 @@ pub lines_world : (v : ReplayValue) (lines : List Line) →
 lines_world v [] = refl
 lines_world v (said ∷ later) =
     lines_world (line_after v said) later
-    ∙ ap (λ (s : Setup). turns (rules_in s) (line_after v said).world (turns_from (line_after v said) later)) (line_setup v said)
+    ∙ ap (λ (s : Setup). turns (rules_in s) (line_after v said).world (turns_from (line_after v said) later))
+    (line_setup v said)
     ∙ ap (λ (w : World). turns (rules_in v.setup) w (turns_from (line_after v said) later)) (line_world v said)
     ∙ sym (turns_append (rules_in v.setup) v.world (turns_of v said) (turns_from (line_after v said) later))

@@ -1,5 +1,5 @@
 -- What is armed for the calls of a gateway's area decides what becomes of an event there.
-use Rattle.std.specs.Prelude.{ℕ, ◌+◌, ◌-◌, not, ◌&&◌, Bool, true, false, if◌then◌else◌, List, [], ◌++◌, length, Option, Some, None, option_and_then, slice_get}
+use Rattle.std.specs.Prelude.{ℕ, ◌+◌, ◌-◌, not, ◌&&◌, Bool, true, false, if◌then◌else◌, ◌++◌, length, Option, Some, None, option_and_then, slice_get}
 use Rattle.std.specs.Option.{option_map_or}
 use Rattle.area_disk.specs.Armed.Armed.{Nothing}
 use Rattle.gateway_book.specs.Comes.{Asked, AsksCommit, AsksNothing, AsksReopening, asked_to_commit, asked_to_ready}
@@ -7,7 +7,7 @@ use Rattle.gateway_book.specs.Up.{Sequel, GoesOn, Breaks, Stops, fortune_by, seq
 use Rattle.gateway_book.specs.Value.{history_of}
 use Rattle.once_core.specs.Expired.{is_expired}
 use Rattle.once_core.specs.Gateway.{Gateway}
-use Rattle.once_core.specs.Turn.{Turn, calm}
+use Rattle.once_core.specs.Turn.{Turn}
 use Rattle.once_core.specs.World.{World}
 use Rattle.once_core.specs.declared.event.Event.{Event}
 use Rattle.once_core.specs.declared.event.Event.TheVariants as event

@@ -1,5 +1,5 @@
 -- What a line of a replay is: whether the world allows it, its steps, and what they come to.
-use Rattle.std.specs.Prelude.{ℕ, ◌-◌, ◌+◌, ◌%◌, ◌==◌, Bool, if◌then◌else◌, List, [], ◌∷◌, ◌++◌, length, map, Option, Some, None, Result, Ok, Err, codes}
+use Rattle.std.specs.Prelude.{ℕ, ◌-◌, ◌%◌, ◌==◌, if◌then◌else◌, List, [], ◌∷◌, ◌++◌, length, map, Option, None, Result, Ok, Err}
 use Rattle.std.specs.List.{flat_map, range_with_len}
 use Rattle.area_disk.specs.Armed.Armed.{Nothing, Fail, Stop}
 use Rattle.area_disk.specs.declared.plan.Outcome3.{Outcome3}
@@ -8,7 +8,6 @@ use Rattle.gtpp_message.specs.Packet.{PacketForm}
 use Rattle.node_core.specs.Drafts.{value_octets}
 use Rattle.node_core.specs.declared.fault.DraftFault.{DraftFault}
 use Rattle.once_core.specs.Turn.{Turn, is_down_in, no_running_gateway, refusal_of}
-use Rattle.once_core.specs.declared.event.Event.{Event}
 use Rattle.once_core.specs.declared.event.Event.TheVariants as event
 use Rattle.once_core.specs.declared.event.WorldKind.{WorldKind}
 use Rattle.rand_pcg.specs.Lcg.{Lcg}
@@ -74,7 +73,8 @@ outcome_in mode.New = New
 abbrev pub settling_steps : ReplayValue → ℕ → List Step
 settling_steps v gateway =
     (if is_down_in v.world gateway then Plays (event.Open gateway) ∷ [] else [])
-    ++ Plays (event.Commit gateway) ∷ Plays (event.Close gateway) ∷ Plays (event.Commit gateway) ∷ Writes (gateway - 1) ∷ []
+    ++ Plays (event.Commit gateway) ∷ Plays (event.Close gateway) ∷ Plays (event.Commit gateway)
+    ∷ Writes (gateway - 1) ∷ []
 
 -- nothing is armed any more, and then each gateway settles
 abbrev pub settle_steps : ReplayValue → List Step

@@ -1,6 +1,6 @@
 -- What a replay reports: the sealed files and the counts of each gateway, and the counts of each node; and all that a
 -- script prints.
-use Rattle.std.specs.Prelude.{ℕ, zero, suc, ◌+◌, ◌/◌, ◌%◌, Bool, true, false, if◌then◌else◌, List, [], ◌∷◌, ◌++◌, length, map, take, count_by, Option, Some, None, codes}
+use Rattle.std.specs.Prelude.{ℕ, zero, suc, ◌+◌, ◌/◌, ◌%◌, Bool, true, false, if◌then◌else◌, List, [], ◌∷◌, ◌++◌, length, take, count_by, Option, Some, None, codes}
 use Rattle.std.specs.Fmt.{decimal}
 use Rattle.std.specs.List.{enumerate_from, flat_map}
 use Rattle.cdr_shelf.specs.Files.{SealedFile}
@@ -40,7 +40,8 @@ file_name name = digits 2 name.stream ++ codes "-" ++ digits 10 name.sequence ++
 
 abbrev pub file_line : ℕ → SealedFile → List ℕ
 file_line place file =
-    codes "file " ++ decimal (suc place) ++ codes " " ++ file_name file.name ++ codes " " ++ encode_upper file.octets ++ 10 ∷ []
+    codes "file " ++ decimal (suc place) ++ codes " " ++ file_name file.name ++ codes " " ++ encode_upper file.octets
+    ++ 10 ∷ []
 
 -- the files that the first items of a gateway's firm entries close, so many of which were written
 abbrev pub sealed_files : ReplayValue → Site → List SealedFile

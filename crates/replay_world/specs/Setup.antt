@@ -1,4 +1,5 @@
--- What the settings of a script say of a replay. A setting that is given again replaces the one before; rules are added.
+-- What the settings of a script say of a replay. A setting that is given again replaces the one before it, and rules
+-- are added.
 use Rattle.std.specs.Prelude.{ℕ, ℤ, pos, List, [], ◌∷◌, ◌++◌}
 use Rattle.std.specs.Option.{option_map_or}
 use Rattle.file_rotate.specs.declared.limits.Limits.{Limits}
@@ -12,8 +13,8 @@ use Rattle.route_filter.specs.declared.rule.Rule.{Rule}
 use Rattle.world_script.specs.declared.line.Line.{Line}
 use Rattle.world_script.specs.declared.line.Line.TheVariants as line
 
--- how many gateways and nodes there are, how many octets each gateway's journal has, and what decides the gateways' files:
--- the limits, the offset of local time from UTC in minutes, and the rules
+-- how many gateways and nodes there are, how many octets each gateway's journal has, and what decides the gateways'
+-- files: the limits, the offset of local time from UTC in minutes, and the rules
 pub record Setup : Type 0 where
   pub gateways : ℕ
   pub nodes : ℕ

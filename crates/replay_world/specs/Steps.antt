@@ -1,11 +1,11 @@
 -- The steps that the lines of a replay are made of: events of the world, and what changes the machines and the waiting
 -- messages alone.
-use Rattle.std.specs.Prelude.{ℕ, suc, ◌-◌, ◌+◌, ◌==◌, not, Bool, true, false, if◌then◌else◌, List, [], ◌∷◌, ◌++◌, length, map, drop, filter, Option, Some, None, slice_get, slice_set}
+use Rattle.std.specs.Prelude.{ℕ, suc, ◌-◌, ◌==◌, not, Bool, false, List, [], ◌∷◌, ◌++◌, length, map, drop, filter, Option, Some, None, slice_get, slice_set}
 use Rattle.std.specs.List.{enumerate_from}
 use Rattle.std.specs.Option.{option_map_or}
 use Rattle.area_disk.specs.Armed.{Armed}
 use Rattle.gateway_book.specs.Items.{items_of}
-use Rattle.gateway_book.specs.Up.{Sequel, Stops}
+use Rattle.gateway_book.specs.Up.{Sequel}
 use Rattle.once_core.specs.Gateway.{Gateway}
 use Rattle.once_core.specs.Turn.{Turn, calm, turns}
 use Rattle.once_core.specs.World.{World}

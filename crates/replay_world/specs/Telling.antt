@@ -1,5 +1,5 @@
 -- What is told of each step of a line.
-use Rattle.std.specs.Prelude.{ℕ, suc, ◌-◌, ◌&&◌, not, Bool, if◌then◌else◌, List, [], ◌∷◌, ◌++◌, length, map, Option, Some, None, slice_get}
+use Rattle.std.specs.Prelude.{ℕ, suc, ◌-◌, not, Bool, if◌then◌else◌, List, [], ◌∷◌, ◌++◌, length, map, Option, Some, None}
 use Rattle.std.specs.Option.{option_map_or}
 use Rattle.gateway_book.specs.Answer.{Decided, Says, Silent, decided, failure_answer}
 use Rattle.gateway_book.specs.Preparing.{prepared_of}
@@ -18,14 +18,14 @@ use Rattle.once_core.specs.Addresses.{gateway_address}
 use Rattle.once_core.specs.Answers.{answer_at}
 use Rattle.once_core.specs.Expired.{is_expired, is_expired_at_node}
 use Rattle.once_core.specs.Gateway.{Gateway, Rules}
-use Rattle.once_core.specs.World.{World, draft_of, log_at, node_value}
+use Rattle.once_core.specs.World.{draft_of, log_at, node_value}
 use Rattle.once_core.specs.declared.event.Event.{Event}
 use Rattle.once_core.specs.declared.event.Event.TheVariants as event
 use Rattle.once_core.specs.declared.message.Message.{Message}
 use Rattle.replay_world.specs.Device.{message_numbered}
 use Rattle.replay_world.specs.Notices.{Notice, Sent, Took, Refused, Resolved, Finished, Expired, Down, Dropped, Faulted, Stopped, submit_fault_name}
 use Rattle.replay_world.specs.Setup.{rules_in}
-use Rattle.replay_world.specs.Steps.{Site, Step, Plays, Loses, Arms, Writes, Tells, sent_by, sequel_at, site_of}
+use Rattle.replay_world.specs.Steps.{Site, Step, Plays, Tells, sent_by, sequel_at, site_of}
 use Rattle.replay_world.specs.Value.{ReplayValue}
 
 -- First, what the device did.
@@ -64,7 +64,8 @@ notices_by rules g at_last number m (Stops stands) = []
 abbrev pub delivery_notices : ReplayValue → ℕ → Message → Site → List Notice
 delivery_notices v number m site =
     if site.gateway.is_down then Down number ∷ []
-    else notices_by (rules_in v.setup) site.gateway site.machine.at_last number m (sequel_at v (event.Deliver number) site)
+    else notices_by (rules_in v.setup) site.gateway site.machine.at_last number m
+    (sequel_at v (event.Deliver number) site)
 
 -- At a node: that it is halted, that the message is expired, that it is dropped, or which packets became resolved and
 -- done.

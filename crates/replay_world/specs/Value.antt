@@ -7,8 +7,8 @@ use Rattle.once_core.specs.World.{World}
 use Rattle.replay_world.specs.Setup.{Setup, rules_in, setup_of}
 use Rattle.world_script.specs.declared.line.Line.{Line}
 
--- What a gateway runs on: what is armed for the calls of its area; whether it was broken by the last call of a commit; and
--- of how many items its files were written.
+-- What a gateway runs on: what is armed for the calls of its area; whether it was broken by the last call of a commit;
+-- and of how many items its files were written.
 pub record Machine : Type 0 where
   pub armed : Armed
   pub at_last : Bool
@@ -17,8 +17,8 @@ pub record Machine : Type 0 where
 abbrev pub first_machine : Machine
 first_machine = record { armed = Nothing; at_last = false; written = 0 }
 
--- A replay: its settings; the world; what each gateway runs on; and the numbers of the messages that wait, which no line
--- has passed so far, in their order.
+-- A replay: its settings; the world; what each gateway runs on; and the numbers of the messages that wait, which no
+-- line has passed so far, in their order.
 pub record ReplayValue : Type 0 where
   pub setup : Setup
   pub world : World

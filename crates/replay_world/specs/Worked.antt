@@ -2,8 +2,8 @@
 use Rattle.std.specs.Prelude.{ℕ, List, [], ◌∷◌, ◌++◌, length, map}
 use Rattle.once_core.specs.Gateway.{Gateway}
 use Rattle.replay_world.specs.Lines.{line_notices}
-use Rattle.replay_world.specs.Notices.{Notice, notice_lines}
-use Rattle.replay_world.specs.Report.{lines_after, report_of_lines}
+use Rattle.replay_world.specs.Notices.{Notice}
+use Rattle.replay_world.specs.Report.{lines_after}
 use Rattle.replay_world.specs.Value.{ReplayValue, replay_of}
 use Rattle.world_script.specs.declared.line.Line.{Line}
 use Rattle.world_script.specs.declared.line.Line.TheVariants as line
