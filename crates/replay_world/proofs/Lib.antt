@@ -1,0 +1,2 @@
+-- Lemmas of replays.
+mod LineLemmas
