@@ -1,9 +1,7 @@
 // Worked values, computed by the definitions. Each function below does nothing: its contract is what is computed.
-ghost use Rattle.std.specs.Prelude.{◌≡◌, ◌∷◌, [], codes};
+ghost use Rattle.std.specs.Prelude.{◌≡◌, ◌∷◌, []};
 ghost use Rattle.replay_world.specs.Notices.{Stopped};
-ghost use Rattle.replay_world.specs.Report.{report_of_lines};
 ghost use Rattle.replay_world.specs.Worked.{entries_again, entries_opened, failure_armed, stop_armed, told_by_commit};
-ghost use Rattle.world_script.specs.declared.line.Line.TheVariants.{End};
 ghost use Rattle.world_script.specs.declared.mode.Mode.TheVariants.{Old, New};
 
 /// Before the third call nothing of a batch stands after a stop, and from it on what the stop kept.
@@ -21,15 +19,8 @@ fn a_failure_at_the_fourth_call_is_found_whole()
     ensures late { entries_again (failure_armed 4) ≡ (3, 0) ∷ [] }
 {}
 
-/// A script with no line but its end reports one gateway and one node.
-fn an_end_reports_a_start()
-    ensures { report_of_lines (End ∷ []) ≡ codes
-        "gateway 1 entries 1 records 0 held 0 stranded 0\nnode 1 packets 0 resolved 0 done 0\n" }
-{}
-
 #[test]
 fn worked_values_are_as_computed() {
     a_stop_at_the_third_call_keeps_what_was_written();
     a_failure_at_the_fourth_call_is_found_whole();
-    an_end_reports_a_start();
 }
