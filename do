@@ -4,7 +4,8 @@
 #   ./do check CRATE    proves a crate, with its tests; what was proved before is kept
 #   ./do gate           the gate: everything from nothing, and how long it took
 #   ./do where NAME     where a name is defined and where its body stands, and the clauses, tests, edits and pages that
-#                       speak of it; NAME may have a crate and a type in front: gw_base::Moment::of
+#                       speak of it; also a lemma, test, edit or file of that name; NAME may have a crate and
+#                       a type in front: gw_base::Moment::of
 #   ./do proved [CRATE] the public calls with their clauses, made from the sources
 #   ./do docs           what the documents say that the sources don't; silent where there is nothing
 top=$(dirname "$(readlink -f "$0")")
@@ -22,6 +23,10 @@ sources() {
 
 specs() {
     find "crates/${1:-}" -path '*/out' -prune -o -path '*/specs/*' -name '*.antt' -print | sort
+}
+
+proofs() {
+    find "crates/${1:-}" -path '*/out' -prune -o -path '*/proofs/*' -name '*.antt' -print | sort
 }
 
 items() {

@@ -1,6 +1,6 @@
 # Of files of definitions, a line for each definition, constructor and field, with tabs between: FILE LINE NAME TEXT
 /^ *(abbrev |unfoldable )?pub (record |data )[^ ]+/ || /^ *(abbrev|unfoldable) [^ ]+/ ||
-    /^pub [^ ]+ :/ || /^(record|data) / {
+    /^pub [^ ]+ :/ || /^[a-z][A-Za-z0-9_]* : / || /^(record|data) / {
     name = $0
     sub(/^ *(abbrev |unfoldable )?(pub )?(record |data )?/, "", name)
     if (name ~ /^mod /) next

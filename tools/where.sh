@@ -55,6 +55,24 @@ where() {
         show "definitions that use it" "$(using "$word")"
         show "clauses that cite it" "$(citing "$word" | cut -f 1)"
     fi
+    # what nothing above is told of: steps of proofs, tests, edits, and what lies beside the crates
+    if [ -z "$type" ]; then
+        local aside
+        aside=$({
+            proofs "$crate" | definitions | awk -F'\t' -v word="$word" '
+                $3 == word { print $1 ":" $2 ": " substr($4, 1, 100) }'
+            awk -F'\t' -v word="$word" '$1 == "item" && $5 == "test" {
+                n = split($7, parts, "::")
+                if (parts[n] == word) print $2 ":" $3 ": " $8 }' <<<"$all"
+            find crates examples bench tools -path '*/out' -prune -o \
+                \( -name "$word" -o -name "$word.*" \) -type f -print |
+                grep -vE '^crates/.*\.(antt|rt)$' | sort
+        })
+        if [ -n "$aside" ]; then
+            found=1
+            show "lemma, test, edit or file" "$aside"
+        fi
+    fi
     if [ -n "$bodies" ]; then
         found=1
         show body "$(awk -F'\t' '{ print $2 ":" $3 ": " $8 }' <<<"$bodies")"
