@@ -191,53 +191,64 @@ const LAST: [Question; 6] = [
     (0, 100, 9, 0),
 ];
 
+fn ask_all(
+    rt: &impl Abort,
+    alloc: Global,
+    book: &mut Book<MemoryArea>,
+    questions: &[Question],
+) -> Result<(), Fail> {
+    for asked in questions {
+        ask(rt, alloc, book, *asked)?;
+    }
+    Ok(())
+}
+
+/// What comes before the Tick, which is made at 90.
+fn before_the_tick(rt: &impl Abort, book: &mut Book<MemoryArea>) {
+    send(rt, book, &two_records(1, 0, 5, 6), 10);
+    send(rt, book, &one_record(2, 1, 7), 20);
+    send(rt, book, &two_records(2, 2, 8, 9), 20);
+    send(rt, book, &one_record(2, 3, 10), 20);
+    send(rt, book, &one_record(2, 4, 11), 20);
+    send(rt, book, &listing_two(4, 0xF9, 5, 4, 1), 30);
+}
+
+/// The Tick, the Close and what is released behind them.
+fn marks(rt: &impl Abort, book: &mut Book<MemoryArea>) {
+    let made = book.tick(moment(rt, 90), Caller::NONE);
+    let ticked = Marked::Made {
+        front: 8,
+        faults: 0,
+    };
+    assert_eq!(rt; made, ticked);
+    send(rt, book, &listing(3, 0xFA, 6, 2), 91);
+    let made = book.close(moment(rt, 95), Caller::NONE);
+    let closed = Marked::Made {
+        front: 10,
+        faults: 0,
+    };
+    assert_eq!(rt; made, closed);
+    send(rt, book, &listing(4, 0xF9, 7, 3), 96);
+}
+
 #[test]
 fn the_firm_records_and_marks_are_told_in_order(rt: HostRuntime) -> Result<(), Fail> {
     let alloc = rt.alloc();
     let area = area(&rt, alloc);
     let mut book = opened(&rt, alloc, area);
-    ask(&rt, alloc, &mut book, (0, 100, 0, 0))?;
-    send(&rt, &mut book, &two_records(1, 0, 5, 6), 10);
-    send(&rt, &mut book, &one_record(2, 1, 7), 20);
-    send(&rt, &mut book, &two_records(2, 2, 8, 9), 20);
-    send(&rt, &mut book, &one_record(2, 3, 10), 20);
-    send(&rt, &mut book, &one_record(2, 4, 11), 20);
-    send(&rt, &mut book, &listing_two(4, 0xF9, 5, 4, 1), 30);
-    let made = book.tick(moment(&rt, 90), Caller::NONE);
-    assert_eq!(&rt;
-        made,
-        Marked::Made {
-            front: 8,
-            faults: 0
-        }
-    );
-    send(&rt, &mut book, &listing(3, 0xFA, 6, 2), 91);
-    let made = book.close(moment(&rt, 95), Caller::NONE);
-    assert_eq!(&rt;
-        made,
-        Marked::Made {
-            front: 10,
-            faults: 0
-        }
-    );
-    send(&rt, &mut book, &listing(4, 0xF9, 7, 3), 96);
+    before_the_tick(&rt, &mut book);
+    marks(&rt, &mut book);
     ask(&rt, alloc, &mut book, (0, 100, 0, 0))?;
     assert!(&rt; book.commit().is_ok());
     send(&rt, &mut book, &one_record(1, 8, 12), 97);
-    for asked in FIRST {
-        ask(&rt, alloc, &mut book, asked)?;
-    }
+    ask_all(&rt, alloc, &mut book, &FIRST)?;
     assert!(&rt; book.commit().is_err());
-    for asked in FIRST {
-        ask(&rt, alloc, &mut book, asked)?;
-    }
+    ask_all(&rt, alloc, &mut book, &FIRST)?;
     // the batch stands after all, and an item stays what it was
     assert!(&rt; book.commit().is_ok());
     send(&rt, &mut book, &one_record(1, 9, 13), 98);
     assert!(&rt; book.commit().is_ok());
-    for asked in LAST {
-        ask(&rt, alloc, &mut book, asked)?;
-    }
+    ask_all(&rt, alloc, &mut book, &LAST)?;
     let mut again = opened(&rt, alloc, book.into_area());
     ask(&rt, alloc, &mut again, (0, 100, 9, 0))
 }
