@@ -1,13 +1,12 @@
 -- Entries: what they spell, what they cost, and which batches hold them.
 use Rattle.std.proofs.Common.{◌≡◌, ℕ, ◌*◌, ◌≤◌, List, [], ◌∷◌, ◌++◌, length, arith, sym, ◌∙◌, ap, subst}
-use Rattle.std.specs.Prelude.{All}
 use Rattle.std.proofs.lemmas.Grind.{flat_map-append}
 use Rattle.std.proofs.lemmas.List.{append-nil}
-use Rattle.std.proofs.lemmas.List.Elements.{All-append, All-head, All-nil, All-push, All-tail}
+use Rattle.std.proofs.lemmas.List.Elements.{All-push}
 use Rattle.gw_base.specs.declared.history.HistoryEntry.{HistoryEntry}
 use Rattle.entry_codec.specs.Content.{IsContent, entries_of, spelled}
 use Rattle.entry_codec.specs.Room.{capacity_of, costs_of}
-use Rattle.entry_codec.specs.Spelling.{HasSpelling, spelling}
+use Rattle.entry_codec.specs.Spelling.{spelling}
 use Rattle.cgf_journal.specs.Format.{AreBatches, cheapest_entry, entries_in}
 
 pub spelled-push : (h : List HistoryEntry) (e : HistoryEntry) → spelled (h ++ e ∷ []) ≡ spelled h ++ spelling e
@@ -27,10 +26,3 @@ are_batches-push size batches batch are content costs = record {
 pub costs_at_least : (h : List HistoryEntry) → cheapest_entry * length h ≤ costs_of h
 costs_at_least [] = omega arith
 costs_at_least (e ∷ h) = omega (arith, costs_at_least h)
-
--- each entry of batches has its spelling
-pub each_spelled : (batches : List (List ℕ)) → All IsContent batches → All HasSpelling (entries_in batches)
-each_spelled [] contents = All-nil HasSpelling
-each_spelled (batch ∷ batches) contents =
-    let content : IsContent batch = All-head IsContent batch batches contents in
-    All-append HasSpelling (entries_of batch) (entries_in batches) content.are_entries.each (each_spelled batches (All-tail IsContent batch batches contents))

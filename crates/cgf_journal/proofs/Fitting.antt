@@ -4,6 +4,7 @@ use Rattle.std.proofs.lemmas.Grind.{flat_map-append}
 use Rattle.std.proofs.lemmas.List.{append-nil}
 use Rattle.gw_base.specs.declared.history.HistoryEntry.{HistoryEntry}
 use Rattle.entry_codec.specs.Content.{entries_of}
+use Rattle.cgf_journal.specs.BatchLaws.{StandsByBatches}
 use Rattle.cgf_journal.specs.Fit.{AllFit, AreFit, IsUnfitTo, StandsFit}
 use Rattle.cgf_journal.specs.Format.{AreBatches, IsForeignTo, StandsFor, entries_in}
 use Rattle.cgf_journal.proofs.Meanings.{are_batches-first}
@@ -35,8 +36,8 @@ module _ (fits : ℕ → List HistoryEntry → HistoryEntry → Type 0) where
   }
 
   -- those of a fit history are fit
-  pub are_fit : (header octets : List ℕ) (h : List HistoryEntry) → (is : StandsFit fits header octets h) → AreFit fits (length octets) is.stands.batches
-  are_fit header octets h is = record { are_batches = is.stands.are_batches; fit = subst (λ (g : List HistoryEntry). AllFit (fits (length octets)) [] g) is.stands.history is.fit }
+  pub are_fit : (header octets : List ℕ) (h : List HistoryEntry) → AllFit (fits (length octets)) [] h → (list : StandsByBatches header octets h) → AreFit fits (length octets) list.batches
+  are_fit header octets h fit list = record { are_batches = list.are_batches; fit = subst (λ (g : List HistoryEntry). AllFit (fits (length octets)) [] g) list.history fit }
 
   -- where each entry is fit, nothing more is asked
   module _ (each : (size : ℕ) (before : List HistoryEntry) (e : HistoryEntry) → fits size before e) (header octets : List ℕ) where

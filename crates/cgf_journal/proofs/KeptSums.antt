@@ -12,19 +12,19 @@ use Rattle.gw_base.specs.History.{due_after}
 use Rattle.gw_base.specs.View.{stays_held}
 use Rattle.entry_codec.specs.Room.{capacity_of}
 use Rattle.entry_codec.specs.Spelling.{cost_of}
+use Rattle.cgf_journal.specs.Kept.{ArePaid, HasNoRoom, KeepsFirm, Kept, held_of}
 use Rattle.cgf_journal.specs.Keys.{counted_keys, counts, key_of}
 use Rattle.cgf_journal.specs.Reserved.{cheapest_hold}
-use Rattle.cgf_journal.specs.Sorted.{ArePaid, GrowsBy, IsFull, count_held, firm_keys, keys_of, live_keys}
+use Rattle.cgf_journal.specs.Sorted.{count_held}
 use Rattle.cgf_journal.specs.Sums.{sum_after, tally_with}
 use Rattle.cgf_journal.specs.Tally.{Tallies, TallyValue, free_beside, has_room_behind, held_after, keys_in_order, tally_behind}
 use Rattle.cgf_journal.specs.declared.key.KeptKey.{KeptKey}
-use Rattle.cgf_journal.specs.declared.sorted.SortedKeys.{SortedKeys}
 use Rattle.cgf_journal.specs.declared.sum.Sum.{Sum}
-use Rattle.cgf_journal.proofs.KeysLemmas.{counted_le, length-key_in_order}
+use Rattle.cgf_journal.proofs.KeysLemmas.{length-key_in_order}
 use Rattle.cgf_journal.proofs.Reserves.{hold_costs}
 
-abbrev pub tallies : SortedKeys → Sum → Sum → Tallies
-tallies keys firm live = record { firm = tally_with firm (firm_keys keys); live = tally_with live (live_keys keys); reserved = keys.reserved }
+abbrev pub tallies : Kept → Sum → Sum → Tallies
+tallies keys firm live = record { firm = tally_with firm (keys.firm); live = tally_with live (keys.live); reserved = keys.reserved }
 
 -- ---- how many keys stay
 
@@ -49,8 +49,8 @@ length-staying p firm round keys =
 
 -- ---- one more entry
 
-pub one_more : (keys now : SortedKeys) (firm live sum : Sum) (t : Tallies) (e : HistoryEntry) → tallies keys firm live ≡ t
-    → firm_keys now ≡ firm_keys keys → live_keys now ≡ held_after e.act (live_keys keys) → now.reserved ≡ keys.reserved → sum ≡ sum_after live e
+pub one_more : (keys now : Kept) (firm live sum : Sum) (t : Tallies) (e : HistoryEntry) → tallies keys firm live ≡ t
+    → now.firm ≡ keys.firm → now.live ≡ held_after e.act (keys.live) → now.reserved ≡ keys.reserved → sum ≡ sum_after live e
     → tallies now firm sum ≡ (let r : Tallies = record { firm = t.firm; live = tally_behind t.live e; reserved = t.reserved } in r)
 one_more keys now firm live sum t e is same more places added =
     (λ i. record { firm = tally_with firm (same i); live = tally_with (added i) (more i); reserved = places i })
@@ -58,52 +58,47 @@ one_more keys now firm live sum t e is same more places added =
 
 -- ---- each key was paid for
 
-pub paid_same : (keys now : SortedKeys) (firm live : Sum) → ArePaid keys firm live → GrowsBy 0 keys now → ArePaid now firm live
-paid_same keys now firm live paid grows = record {
-  firm_paid = omega (arith, paid.firm_paid, ap (λ (l : List HeldKey). length l) grows.firm);
-  live_paid = omega (arith, paid.live_paid, grows.count);
-}
-
-pub paid_more : (keys now : SortedKeys) (firm live sum : Sum) (e : HistoryEntry) → ArePaid keys firm live → GrowsBy (count_held e.act) keys now → sum ≡ sum_after live e → ArePaid now firm sum
+pub paid_more : (keys now : Kept) (firm live sum : Sum) (e : HistoryEntry) → ArePaid keys firm live → KeepsFirm (count_held e.act) keys now → sum ≡ sum_after live e → ArePaid now firm sum
 paid_more keys now firm live sum e paid grows added = record {
   firm_paid = omega (arith, paid.firm_paid, ap (λ (l : List HeldKey). length l) grows.firm);
   live_paid = omega (arith, paid.live_paid, grows.count, hold_costs e, ap (λ (s : Sum). s.costs) added);
 }
 
-pub paid_settled : (keys now : SortedKeys) (firm live : Sum) → ArePaid keys firm live → firm_keys now ≡ live_keys keys → length now.keys.items ≡ length keys.keys.items → ArePaid now live live
-paid_settled keys now firm live paid same count = record {
-  firm_paid = omega (arith, paid.live_paid, ap (λ (l : List HeldKey). length l) same, counted_le false keys.round keys.keys.items);
-  live_paid = omega (arith, paid.live_paid, count);
+pub paid_settled : (keys now : Kept) (firm live : Sum) → ArePaid keys firm live → now ≡ record { firm = keys.live; live = keys.live; count = keys.count; reserved = keys.reserved }
+    → length keys.live ≤ keys.count → ArePaid now live live
+paid_settled keys now firm live paid is within = record {
+  firm_paid = omega (arith, paid.live_paid, within, ap (λ (k : Kept). length k.firm) is);
+  live_paid = omega (arith, paid.live_paid, ap (λ (k : Kept). k.count) is);
 }
 
-pub paid_reverted : (keys now : SortedKeys) (firm live : Sum) → ArePaid keys firm live → firm_keys now ≡ firm_keys keys → length now.keys.items ≡ length (firm_keys keys) → ArePaid now firm firm
-paid_reverted keys now firm live paid same count = record {
-  firm_paid = omega (arith, paid.firm_paid, ap (λ (l : List HeldKey). length l) same);
-  live_paid = omega (arith, paid.firm_paid, count);
+pub paid_reverted : (keys now : Kept) (firm live : Sum) → ArePaid keys firm live → now ≡ record { firm = keys.firm; live = keys.firm; count = length keys.firm; reserved = keys.reserved } → ArePaid now firm firm
+paid_reverted keys now firm live paid is = record {
+  firm_paid = omega (arith, paid.firm_paid, ap (λ (k : Kept). length k.firm) is);
+  live_paid = omega (arith, paid.firm_paid, ap (λ (k : Kept). k.count) is);
 }
 
 -- where no key more is reserved, the next would cost more than is left
-pub key_refused : (keys : SortedKeys) (firm live : Sum) (t : Tallies) (e : HistoryEntry) → tallies keys firm live ≡ t → ArePaid keys firm live → IsFull (count_held e.act) keys
+pub key_refused : (keys : Kept) (firm live : Sum) (t : Tallies) (e : HistoryEntry) → tallies keys firm live ≡ t → ArePaid keys firm live → HasNoRoom (count_held e.act) keys
     → cheapest_hold * (t.reserved + 1) ≤ t.live.costs + cost_of e
 key_refused keys firm live t e is paid full =
     omega (arith, paid.live_paid, full.one, full.full, hold_costs e, ap (λ (s : Tallies). s.reserved) is, ap (λ (s : Tallies). s.live.costs) is)
 
 -- ---- the tally of the firm entries, or else of all
 
-chosen : (b : Bool) (keys : SortedKeys) (firm live sum : Sum) (t : Tallies) → tallies keys firm live ≡ t → sum ≡ (if b then firm else live)
-    → tally_with sum (keys_of b keys) ≡ (if b then t.firm else t.live)
-chosen true keys firm live sum t is which = ap (λ (s : Sum). tally_with s (keys_of true keys)) which ∙ ap (λ (s : Tallies). s.firm) is
-chosen false keys firm live sum t is which = ap (λ (s : Sum). tally_with s (keys_of false keys)) which ∙ ap (λ (s : Tallies). s.live) is
+chosen : (b : Bool) (keys : Kept) (firm live sum : Sum) (t : Tallies) → tallies keys firm live ≡ t → sum ≡ (if b then firm else live)
+    → tally_with sum (held_of b keys) ≡ (if b then t.firm else t.live)
+chosen true keys firm live sum t is which = ap (λ (s : Sum). tally_with s (keys.firm)) which ∙ ap (λ (s : Tallies). s.firm) is
+chosen false keys firm live sum t is which = ap (λ (s : Sum). tally_with s (keys.live)) which ∙ ap (λ (s : Tallies). s.live) is
 
 -- ---- what is free
 
-pub left_free : (b : Bool) (keys : SortedKeys) (firm live sum : Sum) (t : Tallies) (size held promised result : ℕ) → tallies keys firm live ≡ t → sum ≡ (if b then firm else live)
-    → held ≡ length (keys_of b keys)
+pub left_free : (b : Bool) (keys : Kept) (firm live sum : Sum) (t : Tallies) (size held promised result : ℕ) → tallies keys firm live ≡ t → sum ≡ (if b then firm else live)
+    → held ≡ length (held_of b keys)
     → promised ≡ 76 * (held + 0) + (if sum.is_close_due then 30 else 0)
     → result ≡ capacity_of size - (sum.costs + promised)
     → result ≡ free_beside (if b then t.firm else t.live) size
 left_free b keys firm live sum t size held promised result is which count owed left =
-    let here : result ≡ free_beside (tally_with sum (keys_of b keys)) size = omega (arith, count, owed, left) in
+    let here : result ≡ free_beside (tally_with sum (held_of b keys)) size = omega (arith, count, owed, left) in
     here ∙ ap (λ (v : TallyValue). free_beside v size) (chosen b keys firm live sum t is which)
 
 -- ---- room
@@ -119,7 +114,7 @@ one_at_most (Cancel n xs) = omega arith
 one_at_most Tick = omega arith
 one_at_most Close = omega arith
 
-length-in_order : (more keys : List HeldKey) → length (keys_in_order more keys) ≡ length keys + length more
+pub length-in_order : (more keys : List HeldKey) → length (keys_in_order more keys) ≡ length keys + length more
 length-in_order [] keys = omega arith
 length-in_order (key ∷ more) keys = omega (arith, length-key_in_order key (keys_in_order more keys), length-in_order more keys)
 
@@ -131,16 +126,16 @@ abbrev staying : HistoryAct → List HeldKey → ℕ
 staying act keys = length (filter (λ (key : HeldKey). stays_held act key) keys)
 
 -- with the keys counted
-pub counted_room : (b : Bool) (keys : SortedKeys) (firm live sum : Sum) (t : Tallies) (e : HistoryEntry) (size : ℕ) → tallies keys firm live ≡ t → sum ≡ (if b then firm else live)
-    → nat_le (load sum e (staying e.act (keys_of b keys) + length (held_by e.act []))) (capacity_of size) ≡ has_room_behind (if b then t.firm else t.live) e size
+pub counted_room : (b : Bool) (keys : Kept) (firm live sum : Sum) (t : Tallies) (e : HistoryEntry) (size : ℕ) → tallies keys firm live ≡ t → sum ≡ (if b then firm else live)
+    → nat_le (load sum e (staying e.act (held_of b keys) + length (held_by e.act []))) (capacity_of size) ≡ has_room_behind (if b then t.firm else t.live) e size
 counted_room b keys firm live sum t e size is which =
-    ap (λ (n : ℕ). nat_le (load sum e n) (capacity_of size)) (sym (length-in_order (held_by e.act []) (filter (λ (key : HeldKey). stays_held e.act key) (keys_of b keys))))
+    ap (λ (n : ℕ). nat_le (load sum e n) (capacity_of size)) (sym (length-in_order (held_by e.act []) (filter (λ (key : HeldKey). stays_held e.act key) (held_of b keys))))
     ∙ ap (λ (v : TallyValue). has_room_behind v e size) (chosen b keys firm live sum t is which)
 
 -- where there is room even if each key stays held
-pub room_for_all : (b : Bool) (keys : SortedKeys) (firm live sum : Sum) (t : Tallies) (e : HistoryEntry) (size held : ℕ) → tallies keys firm live ≡ t → sum ≡ (if b then firm else live)
-    → held ≡ length (keys_of b keys) → nat_le (load sum e (held + 1)) (capacity_of size) ≡ true → true ≡ has_room_behind (if b then t.firm else t.live) e size
+pub room_for_all : (b : Bool) (keys : Kept) (firm live sum : Sum) (t : Tallies) (e : HistoryEntry) (size held : ℕ) → tallies keys firm live ≡ t → sum ≡ (if b then firm else live)
+    → held ≡ length (held_of b keys) → nat_le (load sum e (held + 1)) (capacity_of size) ≡ true → true ≡ has_room_behind (if b then t.firm else t.live) e size
 room_for_all b keys firm live sum t e size held is which count room =
-    sym (le-leb (load sum e (staying e.act (keys_of b keys) + length (held_by e.act []))) (capacity_of size)
-    (omega (arith, count, leb-true (load sum e (held + 1)) (capacity_of size) room, one_at_most e.act, length-filter (λ (key : HeldKey). stays_held e.act key) (keys_of b keys), count_by-le-length (λ (key : HeldKey). stays_held e.act key) (keys_of b keys))))
+    sym (le-leb (load sum e (staying e.act (held_of b keys) + length (held_by e.act []))) (capacity_of size)
+    (omega (arith, count, leb-true (load sum e (held + 1)) (capacity_of size) room, one_at_most e.act, length-filter (λ (key : HeldKey). stays_held e.act key) (held_of b keys), count_by-le-length (λ (key : HeldKey). stays_held e.act key) (held_of b keys))))
     ∙ counted_room b keys firm live sum t e size is which

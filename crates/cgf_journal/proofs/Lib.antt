@@ -5,11 +5,15 @@ pub mod Fitting
 pub mod Founding
 pub mod KeysLemmas
 pub mod Verdicts
+pub mod InOrder
+pub mod KeptLemmas
 pub mod KeptSums
 pub mod Listings
 pub mod Meanings
+pub mod MergedLemmas
 pub mod Opened
 pub mod Orders
+pub mod Passings
 pub mod Placing
 pub mod Planning
 pub mod Ranks

@@ -1,5 +1,5 @@
 -- Octets stand for one history, or start, or are foreign at one place.
-use Rattle.std.proofs.Common.{◌≡◌, inl, inr, ℕ, List, [], ◌∷◌, ◌++◌, length, get_or, take, refl, sym, ◌∙◌, ap, subst, arith, append_assoc}
+use Rattle.std.proofs.Common.{◌≡◌, inl, inr, ℕ, List, [], ◌∷◌, ◌++◌, length, get_or, take, map, refl, sym, ◌∙◌, ap, subst, arith, append_assoc}
 use Rattle.std.specs.Prelude.{All}
 use Rattle.std.proofs.lemmas.Grind.{flat_map-append}
 use Rattle.std.proofs.lemmas.List.{take_at}
@@ -8,9 +8,10 @@ use Rattle.gw_base.specs.declared.history.HistoryEntry.{HistoryEntry}
 use Rattle.gate_journal.specs.Before.{AreBefore, batch_at}
 use Rattle.gate_journal.specs.Format.{IsBroken, IsWhole, Stands, Starts, end_of, gate_at}
 use Rattle.gate_journal.specs.Agreeing.{Compared, equal, longer, shorter, batch_before, compare, front_before, one_difference, part_before, place_of, same_not_differs, same_not_starts, stands_before}
-use Rattle.entry_codec.specs.Content.{IsContent, entries_of}
+use Rattle.entry_codec.specs.Content.{IsContent, entries_of, spelled}
 use Rattle.entry_codec.specs.Room.{costs_of}
 use Rattle.entry_codec.specs.Laws.{costs_of-append}
+use Rattle.cgf_journal.specs.BatchLaws.{StandsByBatches}
 use Rattle.cgf_journal.specs.Format.{AreBatches, IsForeignBy, IsSpoiledBy, StandsFor, entries_in}
 use Rattle.cgf_journal.specs.Opening.{BreaksAt}
 
@@ -37,14 +38,14 @@ module _ (header : List ℕ) (long : length header ≡ 32) (octets : List ℕ) w
   stands_front : (batches : List (List ℕ)) → Stands header octets batches → take 32 octets ≡ header
   stands_front batches stands = front_before header long octets (end_of batches) batches (stands_before header long octets batches stands)
 
-  pub one_history : (h g : List HistoryEntry) → StandsFor header octets h → StandsFor header octets g → h ≡ g
+  pub one_history : (h g : List HistoryEntry) → StandsByBatches header octets h → StandsByBatches header octets g → h ≡ g
   one_history h g one two = one.history ∙ ap entries_in (one_list one.batches two.batches one.stands two.stands) ∙ sym two.history
 
   pub list_or_starts : get_or header 0 0 ≡ 67 → (batches : List (List ℕ)) → Stands header octets batches → Starts header octets → ⊥
   list_or_starts begins batches stands starts = same_not_starts header long octets (stands_front batches stands) begins starts
 
   pub stands_or_starts : get_or header 0 0 ≡ 67 → (h : List HistoryEntry) → StandsFor header octets h → Starts header octets → ⊥
-  stands_or_starts begins h stands starts = list_or_starts begins stands.batches stands.stands starts
+  stands_or_starts begins h stands starts = list_or_starts begins (map spelled stands.parts) stands.stands starts
 
   pub broken_or_starts : get_or header 0 0 ≡ 67 → (at : ℕ) → IsBroken header octets at → Starts header octets → ⊥
   broken_or_starts begins at broken starts =

@@ -17,7 +17,9 @@ use Rattle.gate_journal.specs.declared.journal.Journal.{Journal}
 use Rattle.gate_journal.specs.Agreeing.{stands_before}
 use Rattle.area_disk.specs.MomentLaws.{follow, widen}
 use Rattle.entry_codec.specs.Content.{IsContent}
+use Rattle.entry_codec.specs.LawTypes.{EntriesAreReadBack}
 use Rattle.gw_base.specs.declared.history.HistoryEntry.{HistoryEntry}
+use Rattle.cgf_journal.specs.BatchLaws.{by_batches, in_batches}
 use Rattle.cgf_journal.specs.Fit.{AllFit, AreFit, IsUnfitTo, StandsFit}
 use Rattle.cgf_journal.specs.Format.{IsForeignTo, StandsFor, entries_in}
 use Rattle.cgf_journal.specs.Opening.{AreListedBefore, BreaksAt}
@@ -32,7 +34,7 @@ other_fault e = cc
 
 -- no batch stands for no entry
 pub stands_for_none : (header octets : List ℕ) → Stands header octets [] → StandsFor header octets []
-stands_for_none header octets stands = record { batches = []; stands = stands; are_batches = record { contents = All-nil IsContent; costs = omega arith }; history = refl }
+stands_for_none header octets stands = by_batches header octets [] stands (record { contents = All-nil IsContent; costs = omega arith })
 
 module _ (fits : ℕ → List HistoryEntry → HistoryEntry → Type 0) (header : List ℕ) (long : length header ≡ 32) (begins : get_or header 0 0 ≡ 67) (octets : List ℕ) where
   -- octets that stand or are unfit don't start
@@ -42,8 +44,10 @@ module _ (fits : ℕ → List HistoryEntry → HistoryEntry → Type 0) (header 
   pub unfit_not_starts : (at : ℕ) → IsUnfitTo fits header octets at → Starts header octets → ⊥
   unfit_not_starts at foreign starts = foreign_or_starts header long octets (AreFit fits (length octets)) (are_fit-first fits (length octets)) begins at foreign starts
 
-  stands_or_unfit : (h : List HistoryEntry) (at : ℕ) → StandsFit fits header octets h → IsUnfitTo fits header octets at → ⊥
-  stands_or_unfit h at is foreign = stands_or_foreign header long octets (AreFit fits (length octets)) (are_fit-first fits (length octets)) is.stands.batches at is.stands.stands (are_fit fits header octets h is) foreign
+  stands_or_unfit : EntriesAreReadBack → (h : List HistoryEntry) (at : ℕ) → StandsFit fits header octets h → IsUnfitTo fits header octets at → ⊥
+  stands_or_unfit back h at is foreign =
+      let list = in_batches back header octets h is.stands in
+      stands_or_foreign header long octets (AreFit fits (length octets)) (are_fit-first fits (length octets)) list.batches at list.stands (are_fit fits header octets h is.fit list) foreign
 
   -- a fault of an area that is foreign
   pub fault_is : (fault : OpenFault) → ((at : ℕ) → fault ≡ NotOurs at → IsUnfitTo fits header octets at) → (at : ℕ) → IsUnfitTo fits header octets at
@@ -85,7 +89,7 @@ module _ (fits : ℕ → List HistoryEntry → HistoryEntry → Type 0) (header 
       stands_fit h stands are entries =
           let these : AreFit fits (length octets) (journal.batches j) = subst (λ n. AreFit fits n (journal.batches j)) (sym sized) are in
           record {
-            stands = record { batches = journal.batches j; stands = stands; are_batches = these.are_batches; history = entries };
+            stands = subst (λ (g : List HistoryEntry). StandsFor header octets g) (sym entries) (by_batches header octets (journal.batches j) stands these.are_batches);
             fit = subst (λ (g : List HistoryEntry). AllFit (fits (length octets)) [] g) (sym entries) these.fit;
           }
 
@@ -106,12 +110,12 @@ module _ (fits : ℕ → List HistoryEntry → HistoryEntry → Type 0) (header 
           (subst (λ n. BreaksAt (AreFit fits n) (journal.batches j) at) (sym sized) (breaks at at_is)))) is
 
     -- an area that is foreign is refused
-    pub refused : (result : Result (Trail A tells) (OpenFault × A)) → IfOk result (λ trail. StandsFit fits header octets (firm_entries trail) ⊎ (Starts header octets × (firm_entries trail ≡ [])))
+    pub refused : EntriesAreReadBack → (result : Result (Trail A tells) (OpenFault × A)) → IfOk result (λ trail. StandsFit fits header octets (firm_entries trail) ⊎ (Starts header octets × (firm_entries trail ≡ [])))
         → IfErr result (λ fault. (at : ℕ) → fault.0 ≡ NotOurs at → IsUnfitTo fits header octets at) → (at : ℕ) → IsUnfitTo fits header octets at
         → IsErrAnd result (λ fault. (fault.0 ≡ NotOurs at) ⊎ ((fault.0 ≡ Device) ⊎ (fault.0 ≡ NoMemory)))
-    refused (Ok trail) found places at foreign =
-        ⊎_elim (λ (stands : StandsFit fits header octets (firm_entries trail)). absurd (stands_or_unfit (firm_entries trail) at stands foreign)) (λ anew. absurd (unfit_not_starts at foreign anew.0)) found
-    refused (Err fault) found places at foreign = fault_is fault.0 places at foreign
+    refused back (Ok trail) found places at foreign =
+        ⊎_elim (λ (stands : StandsFit fits header octets (firm_entries trail)). absurd (stands_or_unfit back (firm_entries trail) at stands foreign)) (λ anew. absurd (unfit_not_starts at foreign anew.0)) found
+    refused back (Err fault) found places at foreign = fault_is fault.0 places at foreign
 
 module _ {A : Type 0} {tells : Ghosts A} (old mid : A) where
   -- reads after the journal was opened leave what that left

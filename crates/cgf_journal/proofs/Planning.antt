@@ -9,7 +9,7 @@ use Rattle.area_disk.specs.declared.plan.Fate.{Fate}
 use Rattle.area_disk.specs.declared.plan.Fate.TheVariants.{Runs, Fails, Stops}
 use Rattle.gate_journal.specs.Moments.{Kept}
 use Rattle.gate_journal.specs.Opening.{is_device, is_device_fault}
-use Rattle.gate_journal.specs.Planned.{Course, ReadOn, ReadsRun, SyncPlanned, course_of, fate_of_sync, with_reads}
+use Rattle.gate_journal.specs.Planned.{Course, ReadOn, ReadsRun, SyncPlanned, course_of, with_reads}
 use Rattle.gate_journal.specs.declared.faults.OpenFault.{OpenFault}
 use Rattle.gate_journal.specs.declared.faults.OpenFault.TheVariants.{Device, NoMemory, NotOurs}
 use Rattle.cgf_journal.specs.OpenPlan.{MadeBy}

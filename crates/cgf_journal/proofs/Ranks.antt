@@ -13,6 +13,10 @@ pub number_apart : (a b x y : ℕ) → a ≡ b → (x ≡ y → ⊥) → rank_of
 unfolding rank_of
 number_apart a b x y same ne e = ne (omega (arith, e, same))
 
+pub same_node : (a b x y : ℕ) → x < 2 ^ 64 → y < 2 ^ 64 → rank_of a x ≡ rank_of b y → (a ≡ b) × (x ≡ y)
+unfolding rank_of
+same_node a b x y p q e = (omega (arith, e, p, q), omega (arith, e, p, q))
+
 pub by_node : (a b x y : ℕ) → x < 2 ^ 64 → y < 2 ^ 64 → (a ≡ b → ⊥) → nat_lt a b ≡ nat_lt (rank_of a x) (rank_of b y)
 unfolding rank_of
 by_node a b x y p q ne = elim (cases_lt a b) [

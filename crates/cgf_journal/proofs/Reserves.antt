@@ -1,12 +1,11 @@
 -- What is reserved stays enough.
-use Rattle.std.proofs.Common.{◌≡◌, ℕ, zero, suc, ◌+◌, ◌*◌, ◌<◌, ◌≤◌, ◌&&◌, Bool, true, false, cond, List, [], ◌∷◌, length, filter, map, refl, sym, ap, ◌∙◌, arith}
+use Rattle.std.proofs.Common.{◌≡◌, ℕ, zero, suc, ◌*◌, ◌<◌, ◌≤◌, Bool, true, false, cond, List, [], ◌∷◌, length, filter, refl, ap, arith}
 use Rattle.std.specs.Prelude.{slice_index_or}
-use Rattle.gw_base.specs.declared.held.HeldKey.{HeldKey}
 use Rattle.gw_base.specs.declared.history.HistoryAct.{HistoryAct}
 use Rattle.gw_base.specs.declared.history.HistoryAct.TheVariants.{Start, Path, File, Hold, Seal, Release, Cancel, Tick, Close}
 use Rattle.gw_base.specs.declared.history.HistoryEntry.{HistoryEntry}
 use Rattle.entry_codec.specs.Spelling.{cost_of}
-use Rattle.cgf_journal.specs.Keys.{AreAscending, AreUpTo, counted_keys, counts, rank}
+use Rattle.cgf_journal.specs.Keys.{AreAscending, AreUpTo, rank}
 use Rattle.cgf_journal.specs.Reserved.{AreEnough}
 use Rattle.cgf_journal.specs.Sorted.{count_held}
 use Rattle.cgf_journal.specs.declared.key.KeptKey.{KeptKey}

@@ -7,6 +7,7 @@ use Rattle.gate_journal.specs.State.{Keeps}
 use Rattle.gate_journal.specs.declared.journal.Front.{Front}
 use Rattle.gate_journal.specs.declared.journal.Front.TheVariants.{Founded, Draft, Founding}
 use Rattle.entry_codec.specs.Content.{entries_of}
+use Rattle.cgf_journal.specs.BatchLaws.{by_batches}
 use Rattle.cgf_journal.specs.Format.{AreBatches, StandsFor, entries_in}
 use Rattle.cgf_journal.specs.Sound.{is_founded}
 use Rattle.cgf_journal.specs.Trail.{StandsForOr}
@@ -33,7 +34,7 @@ keeps_stands Founding header octets batches e keeps = absurd (false_is_not_true 
     false_is_not_true e = cc
 
 pub stands_for : (size : ℕ) (header octets : List ℕ) (batches : List (List ℕ)) → length octets ≡ size → AreBatches size batches → Stands header octets batches → StandsFor header octets (entries_in batches)
-stands_for size header octets batches sized are stands = record { batches = batches; stands = stands; are_batches = subst (λ n. AreBatches n batches) (sym sized) are; history = refl }
+stands_for size header octets batches sized are stands = by_batches header octets batches stands (subst (λ n. AreBatches n batches) (sym sized) are)
 
 -- batches of entries, and one more
 module _ (front : Front) (size : ℕ) (header : List ℕ) (batches : List (List ℕ)) (founded : is_founded front ≡ true) (are : AreBatches size batches) where

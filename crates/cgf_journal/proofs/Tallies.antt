@@ -1,5 +1,5 @@
 -- The tally of a history tells what its entries cost and promise.
-use Rattle.std.proofs.Common.{◌≡◌, ℕ, suc, zero-add, ◌+◌, ◌-◌, ◌*◌, ◌&&◌, Bool, true, false, cond, if◌then◌else◌, nat_lt, nat_le, List, [], ◌∷◌, ◌++◌, length, filter, refl, sym, ap, ◌∙◌, arith, append_assoc, subst}
+use Rattle.std.proofs.Common.{◌≡◌, ℕ, ◌+◌, ◌-◌, ◌*◌, ◌&&◌, Bool, true, if◌then◌else◌, nat_le, List, [], ◌∷◌, ◌++◌, length, filter, refl, sym, ap, ◌∙◌, arith, append_assoc, subst}
 use Rattle.std.proofs.lemmas.List.{append-nil}
 use Rattle.gw_base.specs.declared.held.HeldKey.{HeldKey}
 use Rattle.gw_base.specs.declared.history.HistoryAct.{HistoryAct}
@@ -11,8 +11,9 @@ use Rattle.gw_base.specs.ViewLaws.{view_of-append}
 use Rattle.entry_codec.specs.Laws.{costs_of-append}
 use Rattle.entry_codec.specs.Room.{capacity_of, costs_of, has_room}
 use Rattle.entry_codec.specs.Spelling.{cost_of}
-use Rattle.cgf_journal.specs.Rank.{rank_of}
-use Rattle.cgf_journal.specs.Tally.{TallyValue, free_beside, has_room_behind, held_after, key_in_order, keys_in_order, no_tally, promised_by, tally_behind, tally_behind_all, tally_of}
+use Rattle.cgf_journal.specs.Held.{passing}
+use Rattle.cgf_journal.specs.Tally.{TallyValue, free_beside, has_room_behind, held_after, no_tally, promised_by, tally_behind, tally_behind_all, tally_of}
+use Rattle.cgf_journal.proofs.Passings.{passing-append, passing_all, passing_all_in_order, passing_both}
 
 -- ---- one entry after the other
 
@@ -32,67 +33,18 @@ tally_all-costs t (e ∷ g) = omega (arith, tally_all-costs (tally_behind t e) g
 
 -- ---- the held keys, in another order
 
--- how many keys pass a test
-abbrev passing : (HeldKey → Bool) → List HeldKey → ℕ
-passing p [] = 0
-passing p (key ∷ keys) = cond (p key) 1 0 + passing p keys
-
-moved : (a b c n : ℕ) → n ≡ b + c → a + n ≡ a + b + c
-moved a b c n e = omega (arith, e)
-
-turned : (c n : ℕ) → c + n ≡ n + c
-turned c n = omega arith
-
-one_longer : (n m : ℕ) → n ≡ m → 1 + n ≡ suc m
-one_longer n m e = omega (arith, e)
-
 -- as many keys of the two lists pass each test
 abbrev AreAlike : List HeldKey → List HeldKey → Type 0
 AreAlike keys others = (p : HeldKey → Bool) → passing p keys ≡ passing p others
 
-passing_both : (p q : HeldKey → Bool) (keys : List HeldKey) → passing p (filter q keys) ≡ passing (λ (key : HeldKey). q key && p key) keys
-passing_both p q [] = refl
-passing_both p q (key ∷ keys) = by_test (q key) (passing_both p q keys)
-  where
-    by_test : (a : Bool) → passing p (filter q keys) ≡ passing (λ (k : HeldKey). q k && p k) keys
-        → passing p (cond a (key ∷ filter q keys) (filter q keys)) ≡ cond (a && p key) 1 0 + passing (λ (k : HeldKey). q k && p k) keys
-    by_test true rest = ap (λ (n : ℕ). cond (p key) 1 0 + n) rest
-    by_test false rest = rest ∙ sym (zero-add (passing (λ (k : HeldKey). q k && p k) keys))
-
 filter_alike : (q : HeldKey → Bool) (keys others : List HeldKey) → AreAlike keys others → AreAlike (filter q keys) (filter q others)
 filter_alike q keys others alike p = passing_both p q keys ∙ alike (λ (key : HeldKey). q key && p key) ∙ sym (passing_both p q others)
-
-passing_in_order : (p : HeldKey → Bool) (key : HeldKey) (keys : List HeldKey) → passing p (key_in_order key keys) ≡ passing p keys + cond (p key) 1 0
-passing_in_order p key [] = turned (cond (p key) 1 0) 0
-passing_in_order p key (first ∷ keys) = by_order (nat_lt (rank_of first.node.0 first.number) (rank_of key.node.0 key.number)) (passing_in_order p key keys)
-  where
-    by_order : (b : Bool) → passing p (key_in_order key keys) ≡ passing p keys + cond (p key) 1 0
-        → passing p (cond b (first ∷ key_in_order key keys) (key ∷ first ∷ keys)) ≡ passing p (first ∷ keys) + cond (p key) 1 0
-    by_order true rest = moved (cond (p first) 1 0) (passing p keys) (cond (p key) 1 0) (passing p (key_in_order key keys)) rest
-    by_order false rest = turned (cond (p key) 1 0) (passing p (first ∷ keys))
-
-passing_all_in_order : (p : HeldKey → Bool) (more keys : List HeldKey) → passing p (keys_in_order more keys) ≡ passing p keys + passing p more
-passing_all_in_order p [] keys = omega arith
-passing_all_in_order p (key ∷ more) keys =
-    passing_in_order p key (keys_in_order more keys) ∙ ap (λ (n : ℕ). n + cond (p key) 1 0) (passing_all_in_order p more keys)
-    ∙ regrouped (passing p keys) (passing p more) (cond (p key) 1 0)
-  where
-    regrouped : (k m c : ℕ) → k + m + c ≡ k + (c + m)
-    regrouped k m c = omega arith
-
-passing-append : (p : HeldKey → Bool) (keys more : List HeldKey) → passing p (keys ++ more) ≡ passing p keys + passing p more
-passing-append p [] more = sym (zero-add (passing p more))
-passing-append p (key ∷ keys) more = moved (cond (p key) 1 0) (passing p keys) (passing p more) (passing p (keys ++ more)) (passing-append p keys more)
 
 after_alike : (act : HistoryAct) (keys others : List HeldKey) → AreAlike keys others → AreAlike (held_after act keys) (filter (λ (key : HeldKey). stays_held act key) others ++ held_by act [])
 after_alike act keys others alike p =
     passing_all_in_order p (held_by act []) (filter (λ (key : HeldKey). stays_held act key) keys)
     ∙ ap (λ (n : ℕ). n + passing p (held_by act [])) (filter_alike (λ (key : HeldKey). stays_held act key) keys others alike p)
     ∙ sym (passing-append p (filter (λ (key : HeldKey). stays_held act key) others) (held_by act []))
-
-passing_all : (keys : List HeldKey) → passing (λ (key : HeldKey). true) keys ≡ length keys
-passing_all [] = refl
-passing_all (key ∷ keys) = one_longer (passing (λ (k : HeldKey). true) keys) (length keys) (passing_all keys)
 
 length_alike : (keys others : List HeldKey) → AreAlike keys others → length keys ≡ length others
 length_alike keys others alike = sym (passing_all keys) ∙ alike (λ (key : HeldKey). true) ∙ passing_all others

@@ -25,7 +25,7 @@ use Rattle.cgf_journal.specs.Outcomes.{IsKept}
 use Rattle.cgf_journal.specs.Tally.{TallyValue, free_beside, has_room_behind, promised_by, tally_behind, tally_of}
 use Rattle.cgf_journal.specs.Trail.{IsAtRest, IsFirmPlaceOf, IsPlaceOf, IsSettled, StandsForOr, area_of, entries, firm_entries, free_of, has_room_of, header_of, is_closed, left_by_stop, length_of, stop_stands, tally, waiting, waiting_octets}
 use Rattle.cgf_journal.specs.declared.trail.Trail.{Trail}
-use Rattle.cgf_journal.proofs.Entries.{each_spelled}
+use Rattle.cgf_journal.specs.BatchLaws.{each_spelled}
 use Rattle.cgf_journal.proofs.Placing.{IsAmong, IsFound, behind_is, from_is, get_left, get_right, length-places_behind}
 use Rattle.cgf_journal.proofs.Sounds.{dear_places, live_costs, live_is, one_more_batch, waiting_count}
 use Rattle.cgf_journal.proofs.Tallies.{tally_of-costs}

@@ -7,10 +7,15 @@ pub mod OpenPlan
 pub mod Outcomes
 pub mod Results
 pub mod Trail
+-- Laws for the layers above.
+pub mod BatchLaws
 -- Steps of proofs, and private clauses.
 pub mod Contents
+pub mod Held
 pub mod Judged
+pub mod Kept
 pub mod Keys
+pub mod Merged
 pub mod Opening
 pub mod Rank
 pub mod Reserved

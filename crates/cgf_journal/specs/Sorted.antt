@@ -1,13 +1,12 @@
 -- What contracts see of sorted keys.
-use Rattle.std.specs.Prelude.{◌≡◌, ℕ, ◌+◌, ◌*◌, ◌≤◌, Bool, true, false, List, [], length, slice_index_or, slice_set}
+use Rattle.std.specs.Prelude.{◌≡◌, ℕ, ◌+◌, ◌≤◌, Bool, true, false, List, [], length, slice_index_or, slice_set}
 use Rattle.gw_base.specs.declared.held.HeldKey.{HeldKey}
 use Rattle.gw_base.specs.declared.history.HistoryAct.{HistoryAct}
 use Rattle.gw_base.specs.HeldKeys.{held_by}
+use Rattle.cgf_journal.specs.Held.{passing}
 use Rattle.cgf_journal.specs.Keys.{changed_key, counted_keys}
-use Rattle.cgf_journal.specs.Reserved.{cheapest_hold}
 use Rattle.cgf_journal.specs.declared.key.KeptKey.{KeptKey}
 use Rattle.cgf_journal.specs.declared.sorted.SortedKeys.{SortedKeys}
-use Rattle.cgf_journal.specs.declared.sum.Sum.{Sum}
 
 -- the keys that the firm entries hold, or else all
 abbrev pub keys_of : Bool → SortedKeys → List HeldKey
@@ -40,7 +39,10 @@ pub record IsFull (more : ℕ) (old : SortedKeys) : Type 0 where
   pub one : more ≡ 1
   pub full : old.reserved ≤ length old.keys.items
 
--- Each key that is kept, and each that the firm entries hold, was paid for by a Hold.
-pub record ArePaid (keys : SortedKeys) (firm live : Sum) : Type 0 where
-  pub firm_paid : cheapest_hold * length (firm_keys keys) ≤ firm.costs
-  pub live_paid : cheapest_hold * length keys.keys.items ≤ live.costs
+-- The keys of another list were taken in, and that keeps none.
+pub record IsAbsorbed (old young new emptied : SortedKeys) : Type 0 where
+  pub held : (firm : Bool) (p : HeldKey → Bool) → passing p (keys_of firm new) ≡ passing p (keys_of firm old) + passing p (keys_of firm young)
+  pub count : length new.keys.items ≤ length old.keys.items + length young.keys.items
+  pub reserved : new.reserved ≡ old.reserved
+  pub none : emptied.keys.items ≡ []
+  pub room : emptied.reserved ≡ young.reserved

@@ -1,6 +1,7 @@
 // A key that a tally keeps.
 ghost use Rattle.std.specs.Prelude.{◌≡◌, ◌≢◌, ◌+◌, false, if◌then◌else◌, nat_lt};
 ghost use Rattle.cgf_journal.specs.Keys.{changed_key, counts, is_named, key_of, rank_of, settled_key};
+ghost use Rattle.cgf_journal.specs.Merged.{joined_key, moved_key};
 
 use gw_base::scan::HeldKey;
 use gw_base::{Absolute, NodeId};
@@ -59,6 +60,30 @@ impl KeptKey {
         KeptKey {
             was_held: held,
             is_held: held,
+            ..self
+        }
+    }
+
+    /// The key of one round as it is kept in another.
+    pub(crate) fn moved(self, from: u64, to: u64) -> KeptKey
+        ensures { result ≡ moved_key from to self }
+    {
+        KeptKey {
+            was_held: self.counts(true, from),
+            round: to,
+            ..self
+        }
+    }
+
+    /// The key, which another list keeps too, as both together say in this round.
+    pub(crate) fn joined(self, other: KeptKey, round: u64) -> KeptKey
+        ensures { result ≡ joined_key round self other }
+    {
+        let was_held = self.counts(true, round) || other.counts(true, round);
+        KeptKey {
+            was_held,
+            is_held: self.is_held || other.is_held,
+            round,
             ..self
         }
     }

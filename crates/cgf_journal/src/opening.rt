@@ -20,6 +20,7 @@ use crate::Trail;
 use crate::judge::{Judge, TakesAll};
 use crate::listing::{LONGEST, Listing, content_for, list, list_before};
 use area_disk::Area;
+use entry_codec::laws::entries_are_read_back;
 use gate_journal::{Journal, OpenFault};
 use gw_base::Buffer;
 use std::alloc::Global;
@@ -162,6 +163,7 @@ impl<A: Area> Trail<A> {
         let Ok(waiting) = Buffer::with(alloc, LONGEST) else {
             return Err((OpenFault::NoMemory, area));
         };
+        entries_are_read_back();
         match Journal::open(alloc, area, address, generation) {
             Ok(journal) => Trail::over(journal, size, waiting, &mut content, listing, judge),
             Err((OpenFault::NotOurs { at }, mut area)) => {

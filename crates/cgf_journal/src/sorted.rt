@@ -1,5 +1,5 @@
 // The keys that a tally keeps, in order.
-ghost use Rattle.std.specs.Prelude.{◌≡◌, ◌&&◌, count_by, ◌+◌, ◌<◌, ◌≤◌, ◌^◌, [], true, false, filter, length, vec_capacity, vec_len, IfSome, IfOk, IfErr, OnOk, OnErr, slice_index_or, slice_set, map};
+ghost use Rattle.std.specs.Prelude.{◌≡◌, ◌&&◌, count_by, ◌+◌, ◌<◌, ◌≤◌, ◌^◌, [], true, false, filter, length, vec_capacity, vec_len, nat_le, IfSome, IfOk, IfErr, OnOk, OnErr, slice_index_or, slice_set, map};
 ghost use Rattle.gw_base.specs.Entry.{act_view};
 ghost use Rattle.gw_base.specs.View.{stays_held};
 ghost use Rattle.gw_base.specs.declared.history.HistoryAct.TheVariants.{Path, Release, Seal};
@@ -8,8 +8,10 @@ ghost use Rattle.cgf_journal.specs.declared.key.KeptKey.{KeptKey};
 ghost use Rattle.cgf_journal.specs.Tally.{held_after, held_with};
 
 use crate::key::{KeptKey, one_if};
+use crate::merging::merge;
 use gw_base::{Absolute, Act, NoMemory, NodeId};
 use std::alloc::Global;
+use std::mem;
 
 /// Where a node's number stands among keys in order, or else the place where it belongs.
 fn search(keys: &[KeptKey], node: NodeId, number: Absolute) -> Result<usize, usize>
@@ -77,7 +79,8 @@ pub(crate) struct SortedKeys {
 }
 
 impl SortedKeys {
-    ghost use Rattle.cgf_journal.specs.Sorted.{GrowsBy, IsChanged, IsFull, count_held, firm_keys, keys_of, live_keys};
+    ghost use Rattle.cgf_journal.specs.Held.{IsOnceEach, passing};
+    ghost use Rattle.cgf_journal.specs.Sorted.{GrowsBy, IsAbsorbed, IsChanged, IsFull, count_held, firm_keys, keys_of, live_keys};
 
     /// No keys, and memory for so many.
     pub(crate) fn reserve(alloc: Global, count: usize) -> Result<SortedKeys, NoMemory>
@@ -97,7 +100,8 @@ impl SortedKeys {
 
     /// How many keys the firm entries hold, or else all.
     pub(crate) fn count(&self, firm: bool) -> u64
-        ensures { result ≡ length (keys_of firm self.now) }
+        ensures value { result ≡ length (keys_of firm self.now) }
+        ensures small { result < 2 ^ 63 }
     {
         if firm { self.firm } else { self.live }
     }
@@ -105,7 +109,9 @@ impl SortedKeys {
     /// How many of these stay held after an entry. An entry that begins no epoch, and whose numbers are in ascending
     /// order, takes a search for each of these.
     pub(crate) fn count_staying(&self, firm: bool, act: &Act<'_>) -> u64
-        ensures { result ≡ length (filter (λ key. stays_held (act_view act.now) key) (keys_of firm self.now)) }
+        ensures value { result ≡ length (filter (λ key.
+            stays_held (act_view act.now) key) (keys_of firm self.now)) }
+        ensures small { result < 2 ^ 63 }
     {
         match self.count_gone(firm, act) {
             Some(gone) => self.count(firm) - gone,
@@ -251,6 +257,46 @@ impl SortedKeys {
             }
         }
         Ok(())
+    }
+
+    /// Whether as many keys are kept as were reserved.
+    pub(crate) fn is_full(&self) -> bool
+        ensures { result ≡ nat_le self.now.reserved (length self.now.keys.items) }
+    {
+        self.reserved <= self.keys.len()
+    }
+
+    /// Takes in the keys of another list, which keeps none afterwards. Both are made one in `spare`, which takes
+    /// memory only where there is none for all of them; without it nothing changes.
+    pub(crate) fn absorb(
+        &mut self,
+        young: &mut SortedKeys,
+        spare: &mut Vec<KeptKey>,
+    ) -> Result<(), NoMemory>
+        requires spare { self.old.reserved ≤ vec_capacity spare.old }
+        requires firm { IsOnceEach (λ p. passing p (firm_keys self.old) + passing p (firm_keys young.old)) }
+        requires live { IsOnceEach (λ p. passing p (live_keys self.old) + passing p (live_keys young.old)) }
+        ensures ok { OnOk result (IsAbsorbed self.old young.old self.new young.new) }
+        ensures err { OnErr result ((self.new ≡ self.old) × (young.new ≡ young.old)) }
+        ensures full { OnErr result (vec_capacity spare.old <
+            length self.old.keys.items + length young.old.keys.items) }
+        ensures spare { self.old.reserved ≤ vec_capacity spare.new }
+    {
+        merge(&self.keys, &young.keys, young.round, self.round, spare)?;
+        mem::swap(&mut self.keys, spare);
+        self.firm += young.firm;
+        self.live += young.live;
+        young.clear();
+        Ok(())
+    }
+
+    fn clear(&mut self)
+        ensures none { self.new.keys.items ≡ [] }
+        ensures reserved { self.new.reserved ≡ self.old.reserved }
+    {
+        self.keys.clear();
+        self.firm = 0;
+        self.live = 0;
     }
 
     /// Makes what all entries hold firm.

@@ -5,7 +5,7 @@ ghost use Rattle.entry_codec.specs.Spelling.{cost_of};
 ghost use Rattle.cgf_journal.specs.Reserved.{cheapest_hold};
 ghost use Rattle.cgf_journal.specs.Tally.{free_beside, has_room_behind, tally_behind, tally_of};
 
-use crate::sorted::SortedKeys;
+use crate::kept::KeptKeys;
 use crate::sum::{Sum, count_added};
 use entry_codec::cost;
 use gw_base::{Entry, NoMemory};
@@ -25,21 +25,21 @@ const TAKEN: u64 = 33;
 /// them.
 #[derive(Debug, Drop)]
 pub(crate) struct Tally {
-    keys: SortedKeys,
+    keys: KeptKeys,
     firm: Sum,
     live: Sum,
 }
 
 impl Model for Tally {
-    ghost use Rattle.cgf_journal.specs.Sorted.{ArePaid, firm_keys, live_keys};
+    ghost use Rattle.cgf_journal.specs.Kept.{ArePaid};
     ghost use Rattle.cgf_journal.specs.Sums.{tally_with};
     ghost use Rattle.cgf_journal.specs.Tally.{Tallies};
 
     ghost Value = { Tallies };
 
     ghost view = { λ t. record {
-      firm = tally_with t.firm (firm_keys t.keys);
-      live = tally_with t.live (live_keys t.keys);
+      firm = tally_with t.firm t.keys.firm;
+      live = tally_with t.live t.keys.live;
       reserved = t.keys.reserved;
     } };
 
@@ -56,7 +56,7 @@ impl Tally {
             is_close_due: false,
         };
         Ok(Tally {
-            keys: SortedKeys::reserve(alloc, count)?,
+            keys: KeptKeys::reserve(alloc, count)?,
             firm: none,
             live: none,
         })

@@ -1,6 +1,6 @@
-use Rattle.std.proofs.Common.{◌≡◌, List, sym, ◌∙◌, ap, subst}
+use Rattle.std.proofs.Common.{List, ◌∙◌, ap, subst}
 use Rattle.std.specs.Prelude.{slice_index_or}
-use Rattle.cgf_journal.specs.Keys.{IsAbsent, IsFound, counts}
+use Rattle.cgf_journal.specs.Keys.{IsAbsent, IsFound}
 use Rattle.cgf_journal.specs.declared.key.KeptKey.{KeptKey}
 use Rattle.cgf_journal.proofs.Staying.{found_gone, none_gone}
 use Rattle.cgf_journal.proofs.sorted.SortedKeys.count_one.Goals as goal

@@ -7,8 +7,8 @@ use Rattle.cgf_journal.specs.declared.key.KeptKey.{KeptKey}
 use Rattle.cgf_journal.proofs.KeptSums.{length-staying}
 use Rattle.cgf_journal.proofs.sorted.SortedKeys.count_staying.Goals as goal
 
-pub returns-in-None : goal.returns-in-None
-returns-in-None c =
+pub returns-in-None-clause-value : goal.returns-in-None-clause-value
+returns-in-None-clause-value c =
     c.count_staying.ensures
     ∙ ap (λ (keys : List KeptKey). count_by (λ (kept : KeptKey). counts c.args.firm c.args.self.now.round kept && stays_held (act_view c.args.act.now) (key_of kept)) keys) c.deref.ensures.value
     ∙ sym (length-staying (λ (key : HeldKey). stays_held (act_view c.args.act.now) key) c.args.firm c.args.self.now.round c.args.self.now.keys.items)

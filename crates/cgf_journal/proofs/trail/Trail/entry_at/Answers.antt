@@ -1,6 +1,4 @@
-use Rattle.std.proofs.Common.{◌≡◌, ◌<◌, Some, length, refl, slice_get, arith}
-use Rattle.std.proofs.lemmas.Option.{slice_get_read}
-use Rattle.cgf_journal.proofs.Trails.{length_is, within_places}
+use Rattle.cgf_journal.proofs.Trails.{length_is}
 use Rattle.cgf_journal.proofs.trail.Trail.entry_at.Goals as goal
 
 pub returns-clause-length : goal.returns-clause-length

@@ -9,6 +9,7 @@ use Rattle.gate_journal.specs.Spelling.{first-header, length-header}
 use Rattle.gate_journal.specs.Opening.{is_device_fault}
 use Rattle.gate_journal.specs.Planned.{SyncPlanned}
 use Rattle.cgf_journal.specs.Fit.{AreFit, IsUnfitTo, StandsFit}
+use Rattle.cgf_journal.specs.BatchLaws.{in_batches}
 use Rattle.cgf_journal.specs.Format.{entries_in}
 use Rattle.cgf_journal.specs.Opening.{AreListedBefore, BreaksAt}
 use Rattle.cgf_journal.proofs.Opened.{calls_on, err_is, fault_is, found_is, leaves_on, listed_is, ok_is, other_fault, place_is, places_are, refused, stands_not_starts, stands_or_anew, unfit_not_starts, unwritten_is, widen_making}
@@ -81,8 +82,9 @@ returns-in-Ok-open-clause-reads g c = λ told history stands.
     let opened = c.in-Ok-open.ensures.ok in
     let counted = c.in-Ok-open.ensures.counted in
     let leaves = c.in-Ok-open.ensures.any_moment in
+    let list = in_batches c.entries_are_read_back.ensures h o history stands.stands in
     record {
-      listed = listed_is c.over.result (entries_in (gates.batches j)) history (c.over.ensures.entries told) (ap entries_in (opened.reads told stands.stands.batches stands.stands.stands) ∙ sym stands.stands.history);
+      listed = listed_is c.over.result (entries_in (gates.batches j)) history (c.over.ensures.entries told) (ap entries_in (opened.reads told list.batches list.stands) ∙ sym list.history);
       moments = leaves_on a (gates.area_of j) c.over.result (g.A.Area.may_leave c.args.area) (leaves.unmade told (stands_not_starts fits h long begins o history stands)) c.over.ensures.kept;
       calls = λ tells. calls_on a (gates.area_of j) tells c.over.result _ (counted.calls tells told (stands_not_starts fits h long begins o history stands)) c.over.ensures.kept;
     }
@@ -123,7 +125,7 @@ returns-in-Ok-open-clause-foreign g c = λ told at foreign.
     let sized = laws.whole c.args.area told.0 ∙ sym c.length-size.ensures in
     record {
       place =
-          refused fits h long begins o j c.over.result (found_is fits h long begins o j c.length-size.result sized is (opened.anew told) c.over.result (c.over.ensures.are_fit told) (c.over.ensures.entries told))
+          refused fits h long begins o j c.entries_are_read_back.ensures c.over.result (found_is fits h long begins o j c.length-size.result sized is (opened.anew told) c.over.result (c.over.ensures.are_fit told) (c.over.ensures.entries told))
           (places_are fits h long begins o j c.length-size.result sized is (opened.anew told) c.over.result (c.over.ensures.breaks told) (c.over.ensures.some told)) at foreign;
       moments = leaves_on a (gates.area_of j) c.over.result (g.A.Area.may_leave c.args.area) (leaves.unmade told (unfit_not_starts fits h long begins o at foreign)) c.over.ensures.kept;
     }
@@ -311,4 +313,14 @@ returns-in-Err-NotOurs-default-clause-planned g c = λ tells some.
           (c.fault_before-fault.ensures.kept.planned tells) (λ run. not_device c.fault_before-fault.result (c.fault_before-fault.ensures.runs tells run));
       anew = λ told starts calm runs.
           absurd (no_start h long begins (g.A.Area.octets c.args.area) c.in-Err-NotOurs-default.at (c.in-Err-NotOurs-default.ensures.err.not_ours told c.in-Err-NotOurs-default.at c.in-Err-NotOurs-default.field-0-0-is) starts);
+    }
+
+pub returns-in-Err-Device-default-clause-planned : goal.returns-in-Err-Device-default-clause-planned
+returns-in-Err-Device-default-clause-planned g c = λ tells some.
+    let mid = c.in-Err-Device-default.area in
+    let follows = c.in-Err-Device-default.ensures.planned tells in
+    let is = ap is_device_fault c.in-Err-Device-default.field-0-0-is in
+    record {
+      unmade = λ told none. subst (λ b. SyncPlanned (g.A.Area.fate c.args.area) b (g.A.Area.fate mid)) is (follows.unmade told none);
+      anew = λ told starts calm runs. record { runs = sym is ∙ (follows.anew told starts calm runs).runs; after = tt };
     }

@@ -1,0 +1,158 @@
+-- Lists of held keys in order: they are the same where as many keys of each pass each test.
+use Rattle.std.proofs.Common.{inl, inr, ◌≡◌, ℕ, zero, suc, ◌+◌, ◌<◌, ◌≤◌, ◌^◌, ◌==◌, ◌&&◌, Bool, true, false, cond, nat_lt, List, [], ◌∷◌, ◌++◌, length, map, filter, refl, sym, ap, ◌∙◌, arith}
+use Rattle.std.specs.Prelude.{slice_index_or, ⊤}
+use Rattle.std.proofs.lemmas.Bool.{cases_order, eq-eqb, ltb-false, ltb-true, ne_eqb}
+use Rattle.gw_base.specs.declared.held.HeldKey.{HeldKey}
+use Rattle.gw_base.specs.declared.history.HistoryAct.{HistoryAct}
+use Rattle.gw_base.specs.HeldKeys.{held_by}
+use Rattle.gw_base.specs.View.{stays_held}
+use Rattle.cgf_journal.specs.Held.{passing}
+use Rattle.cgf_journal.specs.Kept.{held_in, held_in_order}
+use Rattle.cgf_journal.specs.Keys.{AreAscending, AreUpTo, counted_keys, counts, key_of, rank}
+use Rattle.cgf_journal.specs.Rank.{rank_of}
+use Rattle.cgf_journal.specs.Sorted.{keys_of}
+use Rattle.cgf_journal.specs.Tally.{held_after, key_in_order, keys_in_order}
+use Rattle.cgf_journal.specs.declared.key.KeptKey.{KeptKey}
+use Rattle.cgf_journal.specs.declared.sorted.SortedKeys.{SortedKeys}
+use Rattle.cgf_journal.proofs.Passings.{passing_after, passing_all_in_order}
+use Rattle.cgf_journal.proofs.Ranks.{same_node}
+
+abbrev place : HeldKey → ℕ
+place key = rank_of key.node.0 key.number
+
+-- no key comes before this place
+abbrev AreFrom : ℕ → List HeldKey → Type 0
+AreFrom q [] = ⊤
+AreFrom q (key ∷ keys) = (q ≤ place key) × AreFrom q keys
+
+-- each key comes before none in front of it, and numbers have 64 bits
+abbrev pub AreInOrder : List HeldKey → Type 0
+AreInOrder [] = ⊤
+AreInOrder (key ∷ keys) = (key.number < 2 ^ 64) × (AreFrom (place key) keys × AreInOrder keys)
+
+from_low : (low q : ℕ) (keys : List HeldKey) → low ≤ q → AreFrom q keys → AreFrom low keys
+from_low low q [] le from = tt
+from_low low q (key ∷ keys) le from = (omega (arith, le, from.0), from_low low q keys le from.1)
+
+-- ---- one more key, and fewer
+
+from_placed : (q : ℕ) (key : HeldKey) (keys : List HeldKey) → q ≤ place key → AreFrom q keys → AreFrom q (key_in_order key keys)
+from_placed q key [] here from = (here, tt)
+from_placed q key (first ∷ keys) here from = by_order (nat_lt (place first) (place key)) (from_placed q key keys here from.1)
+  where
+    by_order : (b : Bool) → AreFrom q (key_in_order key keys) → AreFrom q (cond b (first ∷ key_in_order key keys) (key ∷ first ∷ keys))
+    by_order true rest = (from.0, rest)
+    by_order false rest = (here, from)
+
+placed : (key : HeldKey) (keys : List HeldKey) → key.number < 2 ^ 64 → AreInOrder keys → AreInOrder (key_in_order key keys)
+placed key [] small up = (small, (tt, tt))
+placed key (first ∷ keys) small up = by_order (nat_lt (place first) (place key)) refl (placed key keys small up.1.1)
+  where
+    by_order : (b : Bool) → nat_lt (place first) (place key) ≡ b → AreInOrder (key_in_order key keys) → AreInOrder (cond b (first ∷ key_in_order key keys) (key ∷ first ∷ keys))
+    by_order true is rest = (up.0, (from_placed (place first) key keys (omega (arith, ltb-true (place first) (place key) is)) up.1.0, rest))
+    by_order false is rest =
+        let le = ltb-false (place first) (place key) is in
+        (small, ((omega (arith, le), from_low (place key) (place first) keys (omega (arith, le)) up.1.0), up))
+
+pub all_placed : (more keys : List HeldKey) → AreInOrder more → AreInOrder keys → AreInOrder (keys_in_order more keys)
+all_placed [] keys first up = up
+all_placed (key ∷ more) keys first up = placed key (keys_in_order more keys) first.0 (all_placed more keys first.1.1 up)
+
+from_filter : (q : ℕ) (p : HeldKey → Bool) (keys : List HeldKey) → AreFrom q keys → AreFrom q (filter p keys)
+from_filter q p [] from = tt
+from_filter q p (key ∷ keys) from = by_test (p key) (from_filter q p keys from.1)
+  where
+    by_test : (b : Bool) → AreFrom q (filter p keys) → AreFrom q (cond b (key ∷ filter p keys) (filter p keys))
+    by_test true rest = (from.0, rest)
+    by_test false rest = rest
+
+filtered : (p : HeldKey → Bool) (keys : List HeldKey) → AreInOrder keys → AreInOrder (filter p keys)
+filtered p [] up = tt
+filtered p (key ∷ keys) up = by_test (p key) (filtered p keys up.1.1)
+  where
+    by_test : (b : Bool) → AreInOrder (filter p keys) → AreInOrder (cond b (key ∷ filter p keys) (filter p keys))
+    by_test true rest = (up.0, (from_filter (place key) p keys up.1.0, rest))
+    by_test false rest = rest
+
+-- ---- keys that are kept in order
+
+from_counted : (q : ℕ) (s : Bool) (r : ℕ) (keys : List KeptKey) → ((j : ℕ) (d : KeptKey) → j < length keys → q ≤ rank (slice_index_or keys j d)) → AreFrom q (counted_keys s r keys)
+from_counted q s r [] above = tt
+from_counted q s r (kept ∷ keys) above = by_count (counts s r kept) (from_counted q s r keys (λ j d lt. above (suc j) d (omega (arith, lt))))
+  where
+    by_count : (b : Bool) → AreFrom q (counted_keys s r keys) → AreFrom q (map key_of (cond b (kept ∷ filter (λ (k : KeptKey). counts s r k) keys) (filter (λ (k : KeptKey). counts s r k) keys)))
+    by_count true rest = (above 0 kept (omega arith), rest)
+    by_count false rest = rest
+
+counted_up : (s : Bool) (r t : ℕ) (keys : List KeptKey) → AreAscending keys → AreUpTo t keys → AreInOrder (counted_keys s r keys)
+counted_up s r t [] up small = tt
+counted_up s r t (kept ∷ keys) up small =
+    by_count (counts s r kept) (counted_up s r t keys (λ i j d lt within. up (suc i) (suc j) d (omega (arith, lt)) (omega (arith, within))) (λ j d lt. small (suc j) d (omega (arith, lt))))
+  where
+    by_count : (b : Bool) → AreInOrder (counted_keys s r keys) → AreInOrder (map key_of (cond b (kept ∷ filter (λ (k : KeptKey). counts s r k) keys) (filter (λ (k : KeptKey). counts s r k) keys)))
+    by_count true rest = ((small 0 kept (omega arith)).1, (from_counted (rank kept) s r keys (λ j d lt. omega (arith, up 0 (suc j) d (omega arith) (omega (arith, lt)))), rest))
+    by_count false rest = rest
+
+pub sorted_up : (s : Bool) (keys : SortedKeys) → AreInOrder (keys_of s keys)
+sorted_up s keys = counted_up s keys.round keys.round keys.keys.items keys.ascending keys.up_to
+
+pub both_up : (s : Bool) (old young : SortedKeys) → AreInOrder (held_in_order s old young)
+both_up s old young = all_placed (keys_of s young) (keys_of s old) (sorted_up s young) (sorted_up s old)
+
+pub after_up : (act : HistoryAct) (keys : List HeldKey) → AreInOrder (held_by act []) → AreInOrder keys → AreInOrder (held_after act keys)
+after_up act keys held up = all_placed (held_by act []) (filter (λ (key : HeldKey). stays_held act key) keys) held (filtered (λ (key : HeldKey). stays_held act key) keys up)
+
+-- ---- where lists in order are the same
+
+none_there : (q low : ℕ) (keys : List HeldKey) → low < q → AreFrom q keys → passing (λ (key : HeldKey). place key == low) keys ≡ 0
+none_there q low [] lt from = refl
+none_there q low (key ∷ keys) lt from = rw (ne_eqb (place key) low (λ e. omega (arith, e, lt, from.0))) (omega (arith, none_there q low keys lt from.1))
+
+-- a list that begins in front of another has a key that the other lacks
+begins_before : (a b : HeldKey) (keys others : List HeldKey) → place a < place b → AreInOrder (b ∷ others) → passing (λ (key : HeldKey). place key == place a) (a ∷ keys) ≡ passing (λ (key : HeldKey). place key == place a) (b ∷ others) → ⊥
+begins_before a b keys others lt up alike =
+    let here : passing (λ (key : HeldKey). place key == place a) (a ∷ keys) ≡ 1 + passing (λ (key : HeldKey). place key == place a) keys = rw (eq-eqb (place a) (place a) refl) refl in
+    omega (arith, here, alike, none_there (place b) (place a) (b ∷ others) lt (omega arith, up.1.0))
+
+weight : (HeldKey → Bool) → HeldKey → ℕ
+weight p key = cond (p key) 1 0
+
+passing_first : (p : HeldKey → Bool) (key : HeldKey) (keys : List HeldKey) → passing p (key ∷ keys) ≡ weight p key + passing p keys
+unfolding weight
+passing_first p key keys = refl
+
+pub same_list : (keys others : List HeldKey) → AreInOrder keys → AreInOrder others → ((p : HeldKey → Bool) → passing p keys ≡ passing p others) → keys ≡ others
+same_list [] [] up down alike = refl
+same_list [] (b ∷ others) up down alike = absurd (omega (arith, alike (λ (key : HeldKey). true)))
+same_list (a ∷ keys) [] up down alike = absurd (omega (arith, alike (λ (key : HeldKey). true)))
+same_list (a ∷ keys) (b ∷ others) up down alike = elim (cases_order (place a) (place b)) [
+  | inl e ↦
+      let is = same_node a.node.0 b.node.0 a.number b.number up.0 down.0 e in
+      let same : a ≡ b = λ i. record { node = record { 0 = is.0 i }; number = is.1 i } in
+      let rest = same_list keys others up.1.1 down.1.1 (λ p. omega (arith, alike p, passing_first p a keys, passing_first p b others, ap {B = ℕ} (λ (key : HeldKey). weight p key) same)) in
+      λ i. same i ∷ rest i
+  | inr (inl lt) ↦ absurd (begins_before a b keys others lt down (alike (λ (key : HeldKey). place key == place a)))
+  | inr (inr gt) ↦ absurd (begins_before b a others keys gt up (sym (alike (λ (key : HeldKey). place key == place b))))
+]
+
+-- ---- two lists
+
+pub held_as : (s : Bool) (old young : SortedKeys) (p : HeldKey → Bool) → passing p (held_in_order s old young) ≡ held_in s old young p
+held_as s old young p = passing_all_in_order p (keys_of s young) (keys_of s old)
+
+pub same_held : (s : Bool) (old young now new : SortedKeys) → ((p : HeldKey → Bool) → held_in s now new p ≡ held_in s old young p) → held_in_order s now new ≡ held_in_order s old young
+same_held s old young now new alike =
+    same_list (held_in_order s now new) (held_in_order s old young) (both_up s now new) (both_up s old young) (λ p. held_as s now new p ∙ alike p ∙ sym (held_as s old young p))
+
+pub held_then : (act : HistoryAct) (s : Bool) (old young now new : SortedKeys) → AreInOrder (held_by act [])
+    → ((p : HeldKey → Bool) → held_in s now new p ≡ held_in s old young (λ (key : HeldKey). stays_held act key && p key) + passing p (held_by act []))
+    → held_in_order s now new ≡ held_after act (held_in_order s old young)
+held_then act s old young now new fits alike =
+    same_list (held_in_order s now new) (held_after act (held_in_order s old young)) (both_up s now new) (after_up act (held_in_order s old young) fits (both_up s old young))
+    (λ p. held_as s now new p ∙ alike p
+    ∙ ap (λ (n : ℕ). n + passing p (held_by act [])) (sym (held_as s old young (λ (key : HeldKey). stays_held act key && p key)))
+    ∙ sym (passing_after p act (held_in_order s old young)))
+
+pub none_up : (keys : List HeldKey) → length keys ≡ 0 → AreInOrder keys
+none_up [] none = tt
+none_up (key ∷ keys) none = absurd (omega (arith, none))

@@ -1,0 +1,345 @@
+-- Two lists of kept keys ks one.
+use Rattle.std.proofs.Common.{inl, inr, ◌≡◌, ℕ, zero, suc, zero-add, ◌+◌, ◌<◌, ◌≤◌, ◌^◌, ◌==◌, ◌&&◌, ◌||◌, Bool, true, false, cond, if◌then◌else◌, nat_lt, List, [], ◌∷◌, length, drop, map, filter, refl, subst, sym, ap, ◌∙◌, arith}
+use Rattle.std.specs.Prelude.{slice_index_or}
+use Rattle.std.proofs.lemmas.Bool.{eq-eqb, ltb-false, ltb-true}
+use Rattle.std.proofs.lemmas.List.{drop_all, drop_more, length-map}
+use Rattle.gw_base.specs.declared.address.NodeId.{NodeId}
+use Rattle.gw_base.specs.declared.held.HeldKey.{HeldKey}
+use Rattle.cgf_journal.specs.Held.{IsOnceEach, passing}
+use Rattle.cgf_journal.specs.Keys.{AreAscending, AreUpTo, counted_keys, counts, is_named, key_of, rank}
+use Rattle.cgf_journal.specs.Merged.{joined_key, merged, merged_from, moved_key, moved_keys}
+use Rattle.cgf_journal.specs.Rank.{rank_of}
+use Rattle.cgf_journal.specs.declared.key.KeptKey.{KeptKey}
+use Rattle.cgf_journal.specs.Sorted.{keys_of}
+use Rattle.cgf_journal.specs.declared.sorted.SortedKeys.{SortedKeys}
+use Rattle.cgf_journal.proofs.Passings.{passing_all}
+use Rattle.cgf_journal.proofs.Ranks.{same_node}
+
+-- ---- which key comes next
+
+merged-none : (r : ℕ) (keys : List KeptKey) → merged r keys [] ≡ keys
+merged-none r [] = refl
+merged-none r (kept ∷ keys) = refl
+
+pub takes_last : (from r i j : ℕ) (keys others : List KeptKey) (d : KeptKey) → i < length keys → length others ≤ j
+    → merged r (drop i keys) (moved_keys from r (drop j others)) ≡ slice_index_or keys i d ∷ merged r (drop (i + 1) keys) (moved_keys from r (drop j others))
+takes_last from r i j keys others d inside end =
+    let none : moved_keys from r (drop j others) ≡ [] = ap (λ (l : List KeptKey). moved_keys from r l) (drop_all j others end) in
+    (λ k. merged r (drop_more keys i d inside k) (none k))
+    ∙ ap (λ (l : List KeptKey). slice_index_or keys i d ∷ l) (sym (ap (λ (l : List KeptKey). merged r (drop (i + 1) keys) l) none ∙ merged-none r (drop (i + 1) keys)))
+
+first_comes : (r : ℕ) (a b : KeptKey) (ks ls : List KeptKey) → nat_lt (rank a) (rank b) ≡ true → merged r (a ∷ ks) (b ∷ ls) ≡ a ∷ merged r ks (b ∷ ls)
+first_comes r a b ks ls lt = rw lt refl
+
+second_comes : (r : ℕ) (a b : KeptKey) (ks ls : List KeptKey) → nat_lt (rank a) (rank b) ≡ false → nat_lt (rank b) (rank a) ≡ true → merged r (a ∷ ks) (b ∷ ls) ≡ b ∷ merged r (a ∷ ks) ls
+second_comes r a b ks ls nt lt = rw nt (rw lt refl)
+
+both_come : (r : ℕ) (a b : KeptKey) (ks ls : List KeptKey) → nat_lt (rank a) (rank b) ≡ false → nat_lt (rank b) (rank a) ≡ false → merged r (a ∷ ks) (b ∷ ls) ≡ joined_key r a b ∷ merged r ks ls
+both_come r a b ks ls nt none = rw nt (rw none refl)
+
+module _ (from r i j : ℕ) (keys others : List KeptKey) (d : KeptKey) (first : i < length keys) (second : j < length others) where
+  abbrev kept_first : KeptKey
+  kept_first = slice_index_or keys i d
+
+  abbrev kept_second : KeptKey
+  kept_second = moved_key from r (slice_index_or others j d)
+
+  here : merged r (drop i keys) (moved_keys from r (drop j others)) ≡ merged r (kept_first ∷ drop (i + 1) keys) (kept_second ∷ moved_keys from r (drop (j + 1) others))
+  here = λ k. merged r (drop_more keys i d first k) (moved_keys from r (drop_more others j d second k))
+
+  pub takes_first : nat_lt (rank kept_first) (rank kept_second) ≡ true → merged r (drop i keys) (moved_keys from r (drop j others)) ≡ kept_first ∷ merged r (drop (i + 1) keys) (moved_keys from r (drop j others))
+  takes_first lt =
+      here ∙ first_comes r kept_first kept_second (drop (i + 1) keys) (moved_keys from r (drop (j + 1) others)) lt
+      ∙ (λ k. kept_first ∷ merged r (drop (i + 1) keys) (moved_keys from r (sym (drop_more others j d second) k)))
+
+  pub takes_second : nat_lt (rank kept_first) (rank kept_second) ≡ false → nat_lt (rank kept_second) (rank kept_first) ≡ true
+      → merged r (drop i keys) (moved_keys from r (drop j others)) ≡ kept_second ∷ merged r (drop i keys) (moved_keys from r (drop (j + 1) others))
+  takes_second nt lt =
+      here ∙ second_comes r kept_first kept_second (drop (i + 1) keys) (moved_keys from r (drop (j + 1) others)) nt lt
+      ∙ (λ k. kept_second ∷ merged r (sym (drop_more keys i d first) k) (moved_keys from r (drop (j + 1) others)))
+
+  pub takes_both : nat_lt (rank kept_first) (rank kept_second) ≡ false → nat_lt (rank kept_second) (rank kept_first) ≡ false
+      → merged r (drop i keys) (moved_keys from r (drop j others)) ≡ joined_key r kept_first kept_second ∷ merged r (drop (i + 1) keys) (moved_keys from r (drop (j + 1) others))
+  takes_both nt none = here ∙ both_come r kept_first kept_second (drop (i + 1) keys) (moved_keys from r (drop (j + 1) others)) nt none
+
+-- ---- what is true of each key
+
+abbrev pub Each : (KeptKey → Type 0) → List KeptKey → Type 0
+Each P keys = (j : ℕ) (d : KeptKey) → j < length keys → P (slice_index_or keys j d)
+
+each-cons : (P : KeptKey → Type 0) (kept : KeptKey) (keys : List KeptKey) → P kept → Each P keys → Each P (kept ∷ keys)
+each-cons P kept keys here rest zero d lt = here
+each-cons P kept keys here rest (suc j) d lt = rest j d (omega (arith, lt))
+
+each-tail : (P : KeptKey → Type 0) (kept : KeptKey) (keys : List KeptKey) → Each P (kept ∷ keys) → Each P keys
+each-tail P kept keys each j d lt = each (suc j) d (omega (arith, lt))
+
+get-mapped : (f : KeptKey → KeptKey) (keys : List KeptKey) (j : ℕ) (d : KeptKey) → j < length keys → slice_index_or (map f keys) j d ≡ f (slice_index_or keys j d)
+get-mapped f [] j d lt = absurd (omega (arith, lt))
+get-mapped f (kept ∷ keys) zero d lt = refl
+get-mapped f (kept ∷ keys) (suc j) d lt = get-mapped f keys j d (omega (arith, lt))
+
+each-merged : (P : KeptKey → Type 0) (r : ℕ) → ((a b : KeptKey) → P a → P b → P (joined_key r a b)) → (ks ls : List KeptKey) → Each P ks → Each P ls → Each P (merged r ks ls)
+each-merged P r both [] ls first second = second
+each-merged P r both (a ∷ ks) ls first second = from (each-merged P r both ks) ls second
+  where
+    from : ((l : List KeptKey) → Each P ks → Each P l → Each P (merged r ks l)) → (ls : List KeptKey) → Each P ls → Each P (merged_from r a ks (λ l. merged r ks l) ls)
+    from rest [] second = first
+    from rest (b ∷ ls) second =
+        by_order (nat_lt (rank a) (rank b)) (nat_lt (rank b) (rank a)) (rest (b ∷ ls) (each-tail P a ks first) second) (from rest ls (each-tail P b ls second)) (rest ls (each-tail P a ks first) (each-tail P b ls second))
+      where
+        by_order : (x y : Bool) → Each P (merged r ks (b ∷ ls)) → Each P (merged_from r a ks (λ l. merged r ks l) ls) → Each P (merged r ks ls)
+            → Each P (if x then a ∷ merged r ks (b ∷ ls) else (if y then b ∷ merged_from r a ks (λ l. merged r ks l) ls else joined_key r a b ∷ merged r ks ls))
+        by_order true y one two three = each-cons P a (merged r ks (b ∷ ls)) (first 0 a (omega arith)) one
+        by_order false true one two three = each-cons P b (merged_from r a ks (λ l. merged r ks l) ls) (second 0 b (omega arith)) two
+        by_order false false one two three = each-cons P (joined_key r a b) (merged r ks ls) (both a b (first 0 a (omega arith)) (second 0 b (omega arith))) three
+
+-- ---- the order
+
+abbrev Above : ℕ → List KeptKey → Type 0
+Above q keys = Each (λ (kept : KeptKey). q < rank kept) keys
+
+above_head : (kept : KeptKey) (keys : List KeptKey) → AreAscending (kept ∷ keys) → Above (rank kept) keys
+above_head kept keys up j d lt = up 0 (suc j) d (omega arith) (omega (arith, lt))
+
+ascending-tail : (kept : KeptKey) (keys : List KeptKey) → AreAscending (kept ∷ keys) → AreAscending keys
+ascending-tail kept keys up i j d lt within = up (suc i) (suc j) d (omega (arith, lt)) (omega (arith, within))
+
+ascending-cons : (kept : KeptKey) (keys : List KeptKey) → Above (rank kept) keys → AreAscending keys → AreAscending (kept ∷ keys)
+ascending-cons kept keys above up i zero d lt within = absurd (omega (arith, lt))
+ascending-cons kept keys above up zero (suc j) d lt within = above j d (omega (arith, within))
+ascending-cons kept keys above up (suc i) (suc j) d lt within = up i j d (omega (arith, lt)) (omega (arith, within))
+
+above-below : (q low : ℕ) (keys : List KeptKey) → low ≤ q → Above q keys → Above low keys
+above-below q low keys le above j d lt = omega (arith, le, above j d lt)
+
+above-merged : (q r : ℕ) (ks ls : List KeptKey) → Above q ks → Above q ls → Above q (merged r ks ls)
+above-merged q r ks ls first second = each-merged (λ (kept : KeptKey). q < rank kept) r (λ a b one two. one) ks ls first second
+
+pub ascending-merged : (r : ℕ) (ks ls : List KeptKey) → AreAscending ks → AreAscending ls → AreAscending (merged r ks ls)
+ascending-merged r [] ls first second = second
+ascending-merged r (a ∷ ks) ls first second = from (ascending-merged r ks) ls second
+  where
+    from : ((l : List KeptKey) → AreAscending ks → AreAscending l → AreAscending (merged r ks l)) → (ls : List KeptKey) → AreAscending ls → AreAscending (merged_from r a ks (λ l. merged r ks l) ls)
+    from rest [] second = first
+    from rest (b ∷ ls) second =
+        by_order (nat_lt (rank a) (rank b)) (nat_lt (rank b) (rank a)) refl refl (rest (b ∷ ls) (ascending-tail a ks first) second) (from rest ls (ascending-tail b ls second)) (rest ls (ascending-tail a ks first) (ascending-tail b ls second))
+      where
+        by_order : (x y : Bool) → nat_lt (rank a) (rank b) ≡ x → nat_lt (rank b) (rank a) ≡ y → AreAscending (merged r ks (b ∷ ls)) → AreAscending (merged_from r a ks (λ l. merged r ks l) ls) → AreAscending (merged r ks ls)
+            → AreAscending (if x then a ∷ merged r ks (b ∷ ls) else (if y then b ∷ merged_from r a ks (λ l. merged r ks l) ls else joined_key r a b ∷ merged r ks ls))
+        by_order true y is so one two three =
+            let lt = ltb-true (rank a) (rank b) is in
+            ascending-cons a (merged r ks (b ∷ ls))
+            (above-merged (rank a) r ks (b ∷ ls) (above_head a ks first) (each-cons (λ (kept : KeptKey). rank a < rank kept) b ls lt (above-below (rank b) (rank a) ls (omega (arith, lt)) (above_head b ls second)))) one
+        by_order false true is so one two three =
+            let lt = ltb-true (rank b) (rank a) so in
+            ascending-cons b (merged_from r a ks (λ l. merged r ks l) ls)
+            (above-merged (rank b) r (a ∷ ks) ls (each-cons (λ (kept : KeptKey). rank b < rank kept) a ks lt (above-below (rank a) (rank b) ks (omega (arith, lt)) (above_head a ks first))) (above_head b ls second)) two
+        by_order false false is so one two three =
+            ascending-cons (joined_key r a b) (merged r ks ls)
+            (above-merged (rank a) r ks ls (above_head a ks first) (above-below (rank b) (rank a) ls (omega (arith, ltb-false (rank b) (rank a) so, ltb-false (rank a) (rank b) is)) (above_head b ls second))) three
+
+pub up_to-merged : (r : ℕ) (ks ls : List KeptKey) → AreUpTo r ks → AreUpTo r ls → AreUpTo r (merged r ks ls)
+up_to-merged r ks ls first second = each-merged (λ (kept : KeptKey). (kept.round ≤ r) × (kept.number < 2 ^ 64)) r (λ a b one two. (omega arith, one.1)) ks ls first second
+
+pub length-merged : (r : ℕ) (ks ls : List KeptKey) → length (merged r ks ls) ≤ length ks + length ls
+length-merged r [] ls = omega arith
+length-merged r (a ∷ ks) ls = from (length-merged r ks) ls
+  where
+    from : ((l : List KeptKey) → length (merged r ks l) ≤ length ks + length l) → (ls : List KeptKey) → length (merged_from r a ks (λ l. merged r ks l) ls) ≤ length (a ∷ ks) + length ls
+    from rest [] = omega arith
+    from rest (b ∷ ls) = by_order (nat_lt (rank a) (rank b)) (nat_lt (rank b) (rank a)) (rest (b ∷ ls)) (from rest ls) (rest ls)
+      where
+        by_order : (x y : Bool) → length (merged r ks (b ∷ ls)) ≤ length ks + length (b ∷ ls) → length (merged_from r a ks (λ l. merged r ks l) ls) ≤ length (a ∷ ks) + length ls → length (merged r ks ls) ≤ length ks + length ls
+            → length (if x then a ∷ merged r ks (b ∷ ls) else (if y then b ∷ merged_from r a ks (λ l. merged r ks l) ls else joined_key r a b ∷ merged r ks ls)) ≤ length (a ∷ ks) + length (b ∷ ls)
+        by_order true y one two three = omega (arith, one)
+        by_order false true one two three = omega (arith, two)
+        by_order false false one two three = omega (arith, three)
+
+-- ---- which of them count
+
+add-zero : (n : ℕ) → n + 0 ≡ n
+add-zero n = omega arith
+
+abbrev unit : Bool → ℕ
+unit b = if b then 1 else 0
+
+abbrev weight : (HeldKey → Bool) → Bool → ℕ → KeptKey → ℕ
+weight p s r kept = if counts s r kept then unit (p (key_of kept)) else 0
+
+pub amount-cons : (p : HeldKey → Bool) (s : Bool) (r : ℕ) (kept : KeptKey) (keys : List KeptKey) → passing p (counted_keys s r (kept ∷ keys)) ≡ weight p s r kept + passing p (counted_keys s r keys)
+amount-cons p s r kept keys = by_count (counts s r kept)
+  where
+    by_count : (b : Bool) → passing p (map key_of (cond b (kept ∷ filter (λ (k : KeptKey). counts s r k) keys) (filter (λ (k : KeptKey). counts s r k) keys)))
+        ≡ (if b then unit (p (key_of kept)) else 0) + passing p (counted_keys s r keys)
+    by_count true = refl
+    by_count false = sym (zero-add (passing p (counted_keys s r keys)))
+
+-- no key counts in both lists
+abbrev pub AreApart : Bool → ℕ → List KeptKey → List KeptKey → Type 0
+AreApart s r ks ls = (i j : ℕ) (d : KeptKey) → i < length ks → j < length ls → rank (slice_index_or ks i d) ≡ rank (slice_index_or ls j d)
+    → counts s r (slice_index_or ks i d) ≡ true → counts s r (slice_index_or ls j d) ≡ true → ⊥
+
+abbrev pub AreSmall : List KeptKey → Type 0
+AreSmall keys = Each (λ (kept : KeptKey). kept.number < 2 ^ 64) keys
+
+same_key : (a b : KeptKey) → a.number < 2 ^ 64 → b.number < 2 ^ 64 → rank a ≡ rank b → key_of a ≡ key_of b
+same_key a b p q e =
+    let is = same_node a.node.0 b.node.0 a.number b.number p q e in
+    λ i. record { node = record { 0 = is.0 i }; number = is.1 i }
+
+count-joined : (s : Bool) (r : ℕ) (a b : KeptKey) → counts s r (joined_key r a b) ≡ (counts s r a || counts s r b)
+count-joined true r a b = rw (eq-eqb r r refl) refl
+count-joined false r a b = refl
+
+weight-joined : (p : HeldKey → Bool) (s : Bool) (r : ℕ) (a b : KeptKey) → key_of a ≡ key_of b → (counts s r a ≡ true → counts s r b ≡ true → ⊥) → weight p s r (joined_key r a b) ≡ weight p s r a + weight p s r b
+weight-joined p s r a b same apart =
+    ap (λ (x : Bool). if x then unit (p (key_of a)) else 0) (count-joined s r a b) ∙ by_counts (counts s r a) (counts s r b) apart
+    ∙ ap (λ (key : HeldKey). weight p s r a + (if counts s r b then unit (p key) else 0)) same
+  where
+    by_counts : (x y : Bool) → (x ≡ true → y ≡ true → ⊥) → (if (x || y) then unit (p (key_of a)) else 0) ≡ (if x then unit (p (key_of a)) else 0) + (if y then unit (p (key_of a)) else 0)
+    by_counts true true apart = absurd (apart refl refl)
+    by_counts true false apart = sym (add-zero (unit (p (key_of a))))
+    by_counts false true apart = sym (zero-add (unit (p (key_of a))))
+    by_counts false false apart = refl
+
+pub passing-merged : (p : HeldKey → Bool) (s : Bool) (r : ℕ) (ks ls : List KeptKey) → AreSmall ks → AreSmall ls → AreApart s r ks ls
+    → passing p (counted_keys s r (merged r ks ls)) ≡ passing p (counted_keys s r ks) + passing p (counted_keys s r ls)
+passing-merged p s r [] ls first second apart = sym (zero-add (passing p (counted_keys s r ls)))
+passing-merged p s r (a ∷ ks) ls first second apart = from (passing-merged p s r ks) ls second apart
+  where
+    amount : List KeptKey → ℕ
+    amount keys = passing p (counted_keys s r keys)
+
+    from : ((l : List KeptKey) → AreSmall ks → AreSmall l → AreApart s r ks l → amount (merged r ks l) ≡ amount ks + amount l) → (ls : List KeptKey) → AreSmall ls → AreApart s r (a ∷ ks) ls
+        → amount (merged_from r a ks (λ l. merged r ks l) ls) ≡ amount (a ∷ ks) + amount ls
+    from rest [] second apart = sym (add-zero (amount (a ∷ ks)))
+    from rest (b ∷ ls) second apart =
+        let tail = each-tail (λ (kept : KeptKey). kept.number < 2 ^ 64) a ks first in
+        let other = each-tail (λ (kept : KeptKey). kept.number < 2 ^ 64) b ls second in
+        by_order (nat_lt (rank a) (rank b)) (nat_lt (rank b) (rank a)) refl refl
+        (rest (b ∷ ls) tail second (λ i j d lt within. apart (suc i) j d (omega (arith, lt)) within))
+        (from rest ls other (λ i j d lt within. apart i (suc j) d lt (omega (arith, within))))
+        (rest ls tail other (λ i j d lt within. apart (suc i) (suc j) d (omega (arith, lt)) (omega (arith, within))))
+      where
+        by_order : (x y : Bool) → nat_lt (rank a) (rank b) ≡ x → nat_lt (rank b) (rank a) ≡ y → amount (merged r ks (b ∷ ls)) ≡ amount ks + amount (b ∷ ls)
+            → amount (merged_from r a ks (λ l. merged r ks l) ls) ≡ amount (a ∷ ks) + amount ls → amount (merged r ks ls) ≡ amount ks + amount ls
+            → amount (if x then a ∷ merged r ks (b ∷ ls) else (if y then b ∷ merged_from r a ks (λ l. merged r ks l) ls else joined_key r a b ∷ merged r ks ls)) ≡ amount (a ∷ ks) + amount (b ∷ ls)
+        by_order true y is so one two three = omega (arith, one, amount-cons p s r a (merged r ks (b ∷ ls)), amount-cons p s r a ks)
+        by_order false true is so one two three = omega (arith, two, amount-cons p s r b (merged_from r a ks (λ l. merged r ks l) ls), amount-cons p s r b ls)
+        by_order false false is so one two three =
+            let same : rank a ≡ rank b = omega (arith, ltb-false (rank b) (rank a) so, ltb-false (rank a) (rank b) is) in
+            omega (
+              arith,
+              three,
+              amount-cons p s r (joined_key r a b) (merged r ks ls),
+              amount-cons p s r a ks,
+              amount-cons p s r b ls,
+              weight-joined p s r a b (same_key a b (first 0 a (omega arith)) (second 0 b (omega arith)) same) (apart 0 0 a (omega arith) (omega arith) same),
+            )
+
+-- ---- keys of another round
+
+pub counted-moved : (s : Bool) (from to : ℕ) (keys : List KeptKey) → counted_keys s to (moved_keys from to keys) ≡ counted_keys s from keys
+counted-moved s from to [] = refl
+counted-moved s from to (kept ∷ keys) = by_count s (counts s from kept) refl (counted-moved s from to keys)
+  where
+    count-moved : (s : Bool) → counts s to (moved_key from to kept) ≡ counts s from kept
+    count-moved true = rw (eq-eqb to to refl) refl
+    count-moved false = refl
+
+    by_count : (t b : Bool) → counts s from kept ≡ b → counted_keys s to (moved_keys from to keys) ≡ counted_keys s from keys
+        → map key_of (cond (counts s to (moved_key from to kept)) (moved_key from to kept ∷ filter (λ (k : KeptKey). counts s to k) (moved_keys from to keys)) (filter (λ (k : KeptKey). counts s to k) (moved_keys from to keys)))
+        ≡ map key_of (cond b (kept ∷ filter (λ (k : KeptKey). counts s from k) keys) (filter (λ (k : KeptKey). counts s from k) keys))
+    by_count t true is rest = rw (count-moved s ∙ is) (ap (λ (l : List HeldKey). key_of kept ∷ l) rest)
+    by_count t false is rest = rw (count-moved s ∙ is) rest
+
+pub ascending-moved : (from to : ℕ) (keys : List KeptKey) → AreAscending keys → AreAscending (moved_keys from to keys)
+ascending-moved from to keys up i j d lt within =
+    let inside : j < length keys = omega (arith, within, length-map keys (λ (kept : KeptKey). moved_key from to kept)) in
+    omega (
+      arith,
+      up i j d lt inside,
+      ap (λ (k : KeptKey). rank k) (get-mapped (λ (kept : KeptKey). moved_key from to kept) keys i d (omega (arith, lt, inside))),
+      ap (λ (k : KeptKey). rank k) (get-mapped (λ (kept : KeptKey). moved_key from to kept) keys j d inside),
+    )
+
+pub up_to-moved : (from to : ℕ) (keys : List KeptKey) → AreUpTo from keys → AreUpTo to (moved_keys from to keys)
+up_to-moved from to keys up j d within =
+    let inside : j < length keys = omega (arith, within, length-map keys (λ (kept : KeptKey). moved_key from to kept)) in
+    let is = get-mapped (λ (kept : KeptKey). moved_key from to kept) keys j d inside in
+    (omega (arith, ap (λ (k : KeptKey). k.round) is), omega (arith, (up j d inside).1, ap (λ (k : KeptKey). k.number) is))
+
+pub small_of : (r : ℕ) (keys : List KeptKey) → AreUpTo r keys → AreSmall keys
+small_of r keys up j d lt = (up j d lt).1
+
+-- ---- no key is held twice
+
+counted_one : (p : HeldKey → Bool) (s : Bool) (r : ℕ) (keys : List KeptKey) (i : ℕ) (d : KeptKey) → i < length keys → counts s r (slice_index_or keys i d) ≡ true
+    → p (key_of (slice_index_or keys i d)) ≡ true → 1 ≤ passing p (counted_keys s r keys)
+counted_one p s r [] i d lt counted passes = absurd (omega (arith, lt))
+counted_one p s r (kept ∷ keys) zero d lt counted passes =
+    let here : weight p s r kept ≡ 1 = rw counted (rw passes refl) in
+    omega (arith, amount-cons p s r kept keys, here)
+counted_one p s r (kept ∷ keys) (suc i) d lt counted passes = omega (arith, amount-cons p s r kept keys, counted_one p s r keys i d (omega (arith, lt)) counted passes)
+
+named_so : (key : HeldKey) → is_named key.node.0 key.number key ≡ true
+named_so key = rw (eq-eqb key.node.0 key.node.0 refl) (eq-eqb key.number key.number refl)
+
+pub apart_if : (s : Bool) (r : ℕ) (ks ls : List KeptKey) → AreSmall ks → AreSmall ls
+    → IsOnceEach (λ (p : HeldKey → Bool). passing p (counted_keys s r ks) + passing p (counted_keys s r ls)) → AreApart s r ks ls
+apart_if s r ks ls first second once i j d lt within same one two =
+    let a = slice_index_or ks i d in
+    let b = slice_index_or ls j d in
+    let p : HeldKey → Bool = λ key. is_named a.node.0 a.number key in
+    let is : key_of a ≡ key_of b = same_key a b (first i d lt) (second j d within) same in
+    omega (
+      arith,
+      once a.node.0 a.number,
+      counted_one p s r ks i d lt one (named_so (key_of a)),
+      counted_one p s r ls j d within two (ap p (sym is) ∙ named_so (key_of a)),
+    )
+
+-- ---- a list with the keys of another
+
+module _ (old young : SortedKeys) (items : List KeptKey) (is : items ≡ merged old.round old.keys.items (moved_keys young.round old.round young.keys.items)) where
+  pub absorbed_up : AreAscending items
+  absorbed_up =
+      let P : List KeptKey → Type 0 = λ l. AreAscending l in
+      subst P (sym is) (ascending-merged old.round old.keys.items (moved_keys young.round old.round young.keys.items) old.ascending (ascending-moved young.round old.round young.keys.items young.ascending))
+
+  pub absorbed_up_to : AreUpTo old.round items
+  absorbed_up_to =
+      let P : List KeptKey → Type 0 = λ l. AreUpTo old.round l in
+      subst P (sym is) (up_to-merged old.round old.keys.items (moved_keys young.round old.round young.keys.items) old.up_to (up_to-moved young.round old.round young.keys.items young.up_to))
+
+  pub absorbed_length : length items ≤ length old.keys.items + length young.keys.items
+  absorbed_length =
+      omega (
+        arith,
+        ap (λ (l : List KeptKey). length l) is,
+        length-merged old.round old.keys.items (moved_keys young.round old.round young.keys.items),
+        length-map young.keys.items (λ (kept : KeptKey). moved_key young.round old.round kept),
+      )
+
+  pub absorbed_held : (s : Bool) → IsOnceEach (λ (p : HeldKey → Bool). passing p (keys_of s old) + passing p (keys_of s young)) → (p : HeldKey → Bool)
+      → passing p (counted_keys s old.round items) ≡ passing p (keys_of s old) + passing p (keys_of s young)
+  absorbed_held s once p =
+      let moved = moved_keys young.round old.round young.keys.items in
+      let same = counted-moved s young.round old.round young.keys.items in
+      let first = small_of old.round old.keys.items old.up_to in
+      let second = small_of old.round moved (up_to-moved young.round old.round young.keys.items young.up_to) in
+      ap (λ (l : List KeptKey). passing p (counted_keys s old.round l)) is
+      ∙ passing-merged p s old.round old.keys.items moved first second
+      (apart_if s old.round old.keys.items moved first second (λ n x. omega (arith, once n x, ap (λ (l : List HeldKey). passing (λ (key : HeldKey). is_named n x key) l) same)))
+      ∙ ap (λ (l : List HeldKey). passing p (keys_of s old) + passing p l) same
+
+  pub absorbed_all : IsOnceEach (λ (p : HeldKey → Bool). passing p (keys_of true old) + passing p (keys_of true young)) → IsOnceEach (λ (p : HeldKey → Bool). passing p (keys_of false old) + passing p (keys_of false young))
+      → (s : Bool) (p : HeldKey → Bool) → passing p (counted_keys s old.round items) ≡ passing p (keys_of s old) + passing p (keys_of s young)
+  absorbed_all firm live true p = absorbed_held true firm p
+  absorbed_all firm live false p = absorbed_held false live p
+
+  pub absorbed_counted : (s : Bool) → IsOnceEach (λ (p : HeldKey → Bool). passing p (keys_of s old) + passing p (keys_of s young)) → (n m : ℕ) → n ≡ length (keys_of s old) → m ≡ length (keys_of s young)
+      → n + m ≡ length (counted_keys s old.round items)
+  absorbed_counted s once n m one two =
+      omega (arith, one, two, absorbed_held s once (λ key. true), passing_all (counted_keys s old.round items), passing_all (keys_of s old), passing_all (keys_of s young))
