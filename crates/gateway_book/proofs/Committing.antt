@@ -1,6 +1,5 @@
 -- How a commit moves a book's value.
-use Rattle.std.proofs.Common.{◌≡◌, ◌≢◌, ℕ, ◌+◌, ◌≤◌, Bool, true, false, if◌then◌else◌, List, [], ◌∷◌, ◌++◌, Result, Ok, Err, length, refl, sym, ap, subst, ◌∙◌, arith, length-append}
-use Rattle.std.specs.Prelude.{is_err}
+use Rattle.std.proofs.Common.{◌≡◌, ◌≢◌, ℕ, Bool, true, false, if◌then◌else◌, List, [], ◌∷◌, Result, Ok, Err, length, refl, sym, ap, ◌∙◌, arith, length-append}
 use Rattle.entry_codec.specs.Content.{AreEntries, spelled}
 use Rattle.entry_codec.specs.Laws.{length_of_spelling}
 use Rattle.entry_codec.specs.Spelling.{spelling}

@@ -1,7 +1,7 @@
 -- A cursor on its way through a history.
-use Rattle.std.proofs.Common.{◌≡◌, ℕ, zero, suc, ◌+◌, ◌-◌, ◌<◌, ◌≤◌, ◌^◌, List, [], ◌∷◌, ◌++◌, length, drop, take, map, Option, Some, None, refl, sym, ap, subst, ◌∙◌, arith, length-append}
+use Rattle.std.proofs.Common.{◌≡◌, ℕ, zero, suc, ◌+◌, ◌-◌, ◌<◌, ◌≤◌, ◌^◌, List, [], ◌∷◌, ◌++◌, length, drop, take, Option, Some, None, refl, sym, ap, subst, ◌∙◌, arith, length-append}
 use Rattle.std.specs.Prelude.{min, slice_get}
-use Rattle.std.specs.Option.{ForSome, option_map_or}
+use Rattle.std.specs.Option.{option_map_or}
 use Rattle.std.proofs.lemmas.Option.{none-some, slice_get_within}
 use Rattle.area_disk.specs.declared.area.Area.{Ghosts}
 use Rattle.gate_journal.specs.Moments.{Told}
@@ -15,7 +15,7 @@ use Rattle.gateway_book.specs.Cursor.{AreHeldIn, HasPassed, HasStayed, IsAt, IsB
 use Rattle.gateway_book.specs.Filed.{along, packet_of_hold, present_key, records_of, released_records}
 use Rattle.gateway_book.specs.Gathering.{Gathered, gathered}
 use Rattle.gateway_book.specs.HeldCopies.{AreBelow, CopyPlaces, HoldCopies, copies_after, copy_at, no_copies, packet_at, places_of}
-use Rattle.gateway_book.specs.Items.{items_between, items_by, items_of, part_of}
+use Rattle.gateway_book.specs.Items.{items_between, items_by, items_of}
 use Rattle.gateway_book.specs.Read.{IsRead}
 use Rattle.gateway_book.specs.declared.cursor.Cursor.{Cursor}
 use Rattle.gateway_book.proofs.GatheringLemmas.{full_stays, gathered_on, none_more}

@@ -1,7 +1,6 @@
 -- Lemmas on filed records, for the loops that go over a history, the numbers of a release and the records of a packet.
-use Rattle.std.proofs.Common.{◌≡◌, ℕ, suc, ◌+◌, ◌<◌, Bool, true, false, cond, if◌then◌else◌, List, [], ◌∷◌, ◌++◌, length, get_or, take, drop, fold, map, Option, Some, None, option_and_then, refl, ap, sym, ◌∙◌, arith, append_assoc}
+use Rattle.std.proofs.Common.{◌≡◌, ℕ, suc, ◌+◌, ◌<◌, Bool, true, false, if◌then◌else◌, List, [], ◌∷◌, ◌++◌, length, get_or, take, drop, fold, Option, Some, None, option_and_then, refl, ap, sym, ◌∙◌, arith, append_assoc}
 use Rattle.std.proofs.Math.Seq.{drop-cons, take-suc}
-use Rattle.std.specs.List.{enumerate_from}
 use Rattle.gtpp_message.specs.Packet as packet
 use Rattle.gw_base.specs.EntryLaws.{last_naming-append}
 use Rattle.gw_base.specs.History.{begins_epoch, last_naming, names, present_entries}

@@ -1,12 +1,12 @@
 -- The items of packets, of releases and of the entries of a history.
-use Rattle.std.proofs.Common.{◌≡◌, ℕ, zero, suc, ◌+◌, ◌-◌, ◌<◌, ◌≤◌, ◌^◌, ◌==◌, ◌&&◌, not, Bool, true, false, cond, if◌then◌else◌, List, [], ◌∷◌, ◌++◌, length, drop, take, filter, get_or, map, Option, Some, None, option_map, refl, sym, ap, subst, ◌∙◌, true≢false, arith, append_assoc, length-append}
+use Rattle.std.proofs.Common.{◌≡◌, ℕ, zero, suc, ◌+◌, ◌-◌, ◌<◌, ◌≤◌, ◌==◌, not, Bool, true, false, if◌then◌else◌, List, [], ◌∷◌, ◌++◌, length, drop, take, filter, get_or, map, Option, Some, None, option_map, refl, sym, ap, subst, ◌∙◌, true≢false, arith, append_assoc, length-append}
 use Rattle.std.specs.Prelude.{min, slice_get}
-use Rattle.std.specs.List.{enumerate_from, list_all}
+use Rattle.std.specs.List.{list_all}
 use Rattle.std.proofs.Math.Seq.{drop-cons, take-suc}
 use Rattle.std.proofs.lemmas.Bool.{and_parts}
 use Rattle.std.proofs.lemmas.List.{append-nil, map-append}
 use Rattle.std.proofs.lemmas.Option.{get_or_from_slice_get, none-some, slice_get_within}
-use Rattle.gtpp_message.specs.Packet.{PacketForm, PacketValue, Empty, Full, full_packet, is_empty_packet, packet_in, packet_of, packet_reading, records_at}
+use Rattle.gtpp_message.specs.Packet.{PacketForm, PacketValue, Empty, Full, full_packet, is_empty_packet, packet_in, packet_of, packet_reading}
 use Rattle.gtpp_header.specs.Header.{two_octets}
 use Rattle.gw_base.specs.Lists.{once}
 use Rattle.gw_base.specs.Observed.{observed}
@@ -17,13 +17,12 @@ use Rattle.gw_base.specs.declared.history.HistoryEntry.{HistoryEntry}
 use Rattle.gw_base.specs.declared.history.PacketKey.{PacketKey}
 use Rattle.gw_base.specs.declared.item.Item.{Item}
 use Rattle.gateway_book.specs.Cursor.{NamesOnce, items_from}
-use Rattle.gateway_book.specs.Filed.{along, filed_record, present_key, records_from, records_in, records_of, released_by, released_records}
+use Rattle.gateway_book.specs.Filed.{along, present_key, records_from, records_in, records_of, released_by, released_records}
 use Rattle.gateway_book.specs.FiledLaws.{along-append}
-use Rattle.gateway_book.specs.Fit.{IsFit, are_distinct, is_act_fit, is_list_fit}
+use Rattle.gateway_book.specs.Fit.{IsFit, are_distinct, is_act_fit}
 use Rattle.gateway_book.specs.FitHistory.{FitBehind}
 use Rattle.gateway_book.specs.Gathering.{Gathered, gathered, packet_items, record_item}
 use Rattle.gateway_book.specs.Items.{items_by, items_by_act, items_of, part_of}
-use Rattle.gateway_book.specs.declared.filing.FiledRecord.{FiledRecord}
 use Rattle.gateway_book.proofs.GatheringLemmas.{gathered_on, none_more}
 
 -- ---- packets

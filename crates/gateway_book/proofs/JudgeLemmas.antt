@@ -1,11 +1,11 @@
 -- What a judge finds fit.
-use Rattle.std.proofs.Common.{◌≡◌, ℕ, ◌+◌, ◌*◌, ◌≤◌, ◌<◌, ◌^◌, ◌&&◌, Bool, true, false, if◌then◌else◌, nat_le, nat_lt, List, [], ◌∷◌, ◌++◌, length, refl, sym, ap, ◌∙◌, arith, subst}
+use Rattle.std.proofs.Common.{◌≡◌, ℕ, ◌+◌, ◌*◌, ◌≤◌, ◌<◌, ◌^◌, ◌&&◌, Bool, true, false, nat_le, nat_lt, List, [], ◌∷◌, ◌++◌, length, refl, sym, ap, ◌∙◌, arith}
 use Rattle.std.proofs.lemmas.Bool.{and_parts, leb-true, le-leb, ltb-true}
 use Rattle.entry_codec.specs.Laws.{costs_of-append}
 use Rattle.entry_codec.specs.Room.{capacity_of, costs_of, has_room}
 use Rattle.entry_codec.specs.Spelling.{cost_of}
-use Rattle.gw_base.specs.HeldKeys.{held_keys, promised_octets}
-use Rattle.gw_base.specs.History.{is_close_due, last_moment}
+use Rattle.gw_base.specs.HeldKeys.{promised_octets}
+use Rattle.gw_base.specs.History.{last_moment}
 use Rattle.gw_base.specs.Observed.{Observed, observed}
 use Rattle.gw_base.specs.declared.address.NodeId.{NodeId}
 use Rattle.gw_base.specs.declared.history.HistoryAct.{HistoryAct}

@@ -1,8 +1,7 @@
 -- Paths, looked up one after the other.
-use Rattle.std.proofs.Common.{◌≡◌, ℕ, zero, suc, ◌+◌, ◌-◌, ◌<◌, ◌≤◌, Bool, true, false, List, [], ◌∷◌, length, map, take, drop, refl, sym, ap, ◌∙◌, arith, slice_get}
+use Rattle.std.proofs.Common.{◌≡◌, ℕ, zero, suc, ◌+◌, ◌-◌, ◌<◌, Bool, true, false, List, [], ◌∷◌, length, take, drop, refl, sym, ap, ◌∙◌, arith, slice_get}
 use Rattle.std.specs.Prelude.{Option, Some, None, slice_index_or}
 use Rattle.std.specs.List.{cons_option, filter_map}
-use Rattle.gw_base.specs.declared.address.NodeId.{NodeId}
 use Rattle.gateway_book.specs.Nodes.{known_at, nodes_of}
 use Rattle.gateway_book.specs.declared.nodes.Slot.{Slot}
 

@@ -1,5 +1,5 @@
 -- What comes of the opening of a book by a plan.
-use Rattle.std.proofs.Common.{◌≡◌, ℕ, zero, suc, Bool, true, false, List, Result, Ok, Err, refl, sym, ap, subst, ◌∙◌}
+use Rattle.std.proofs.Common.{◌≡◌, ℕ, zero, suc, Bool, false, List, Result, Ok, Err, refl, sym, ap, subst, ◌∙◌}
 use Rattle.std.specs.Prelude.{IfErr, IfOk}
 use Rattle.std.proofs.lemmas.Bool.{true≢false}
 use Rattle.area_disk.specs.Armed.{Armed, Came, IsArmed, after_one, calls_under, one_later, planned_in}
@@ -13,8 +13,6 @@ use Rattle.area_disk.specs.declared.area.Area.{Ghosts}
 use Rattle.area_disk.specs.declared.plan.Fate.{Fate}
 use Rattle.area_disk.specs.declared.plan.Fate.TheVariants.{Runs}
 use Rattle.area_disk.specs.declared.plan.Outcome3.{Outcome3}
-use Rattle.gate_journal.specs.Format.{Starts}
-use Rattle.gate_journal.specs.Moments.{Told}
 use Rattle.gate_journal.specs.Opening.{after_look}
 use Rattle.gate_journal.specs.Opening as gates
 use Rattle.gate_journal.specs.Planned.{Ending, SyncPlanned, after_append, after_put, append_fails, course_after, course_by, ending_by, ending_of, with_reads}
@@ -26,9 +24,8 @@ use Rattle.cgf_journal.specs.OpenPlan as trails
 use Rattle.cgf_journal.specs.Trail.{area_of}
 use Rattle.cgf_journal.specs.declared.trail.Trail.{Trail}
 use Rattle.gateway_book.specs.Begun.{IsBegun}
-use Rattle.gateway_book.specs.Comes.{plan_of}
 use Rattle.gateway_book.specs.Faults.{book_fault}
-use Rattle.gateway_book.specs.OpenPlan.{OpeningRuns, OpensAsPlanned, is_device, is_device_fault, is_memory, is_memory_fault}
+use Rattle.gateway_book.specs.OpenPlan.{OpensAsPlanned, is_device_fault, is_memory, is_memory_fault}
 use Rattle.gateway_book.specs.declared.book.Book.{Book}
 use Rattle.gateway_book.specs.declared.outcome.BookFault.{BookFault}
 use Rattle.gateway_book.specs.declared.outcome.BookFault.TheVariants.{NoMemory}

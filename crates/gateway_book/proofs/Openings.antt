@@ -1,34 +1,29 @@
 -- A book that is opened: what its index follows, and the Start that it adds.
-use Rattle.std.proofs.Common.{◌≡◌, ◌⊎◌, inl, inr, ⊎_elim, ℕ, ◌+◌, ◌*◌, ◌<◌, ◌≤◌, ◌^◌, Bool, true, false, if◌then◌else◌, max, List, [], ◌∷◌, ◌++◌, Result, Ok, Err, length, refl, sym, ap, subst, ◌∙◌, append_assoc, arith}
-use Rattle.std.specs.Prelude.{IfErr, IfOk, IsErrAnd, IsTrue, OnErr, OnOk}
-use Rattle.std.proofs.lemmas.List.{append-nil}
-use Rattle.area_disk.specs.Disk.{Rose, counted}
+use Rattle.std.proofs.Common.{◌≡◌, ◌⊎◌, inl, inr, ℕ, ◌*◌, ◌≤◌, true, false, if◌then◌else◌, max, List, [], ◌∷◌, ◌++◌, Result, Ok, Err, length, refl, sym, ap, subst, ◌∙◌, append_assoc, arith}
+use Rattle.std.specs.Prelude.{IfErr, IfOk, OnErr, OnOk}
 use Rattle.area_disk.specs.declared.area.Area.{Ghosts}
-use Rattle.gate_journal.specs.Format.{Starts}
-use Rattle.gate_journal.specs.Moments.{Leaves, Told}
+use Rattle.gate_journal.specs.Moments.{Told}
 use Rattle.gate_journal.specs.declared.faults.OpenFault.{OpenFault}
 use Rattle.gate_journal.specs.declared.faults.OpenFault.TheVariants as opening
-use Rattle.entry_codec.specs.Room.{IsWithin, capacity_of, costs_of, has_room}
+use Rattle.entry_codec.specs.Room.{IsWithin, costs_of, has_room}
 use Rattle.gw_base.specs.History.{last_moment, moment_after}
-use Rattle.gw_base.specs.HeldKeys.{promised_octets}
 use Rattle.gw_base.specs.Observed.{observed}
 use Rattle.gw_base.specs.declared.history.HistoryAct.{HistoryAct}
 use Rattle.gw_base.specs.declared.history.HistoryAct.TheVariants.{Start}
 use Rattle.gw_base.specs.declared.history.HistoryEntry.{HistoryEntry}
-use Rattle.cgf_journal.specs.Outcomes.{FirmStays, IsPushed}
-use Rattle.cgf_journal.specs.Trail.{area_of, entries, firm_entries, is_closed, waiting}
+use Rattle.cgf_journal.specs.Trail.{area_of, firm_entries, waiting}
 use Rattle.cgf_journal.specs.declared.trail.Trail.{Trail}
 use Rattle.cgf_journal.specs.Fit.{StandsFit}
 use Rattle.cgf_journal.specs.Results as trails
 use Rattle.gateway_book.specs.Begun.{HasNoMore, HasOneMore, IsBegun}
 use Rattle.gateway_book.specs.Book.{area_of as book_area, value_of}
 use Rattle.gateway_book.specs.Faults.{book_fault}
-use Rattle.gateway_book.specs.Opened.{IsNotOurs, IsOpened, IsRefused, OnArea, StandsOrStarts}
+use Rattle.gateway_book.specs.Opened.{IsOpened, IsRefused, OnArea, StandsOrStarts}
 use Rattle.gateway_book.specs.declared.book.Book.{Book}
 use Rattle.gateway_book.specs.declared.outcome.BookFault.{BookFault}
 use Rattle.gateway_book.specs.declared.outcome.BookFault.TheVariants.{Device, NoMemory, NotOurs}
 use Rattle.gateway_book.specs.Answered.{entry_by, no_caller, room_for}
-use Rattle.gateway_book.specs.Fit.{IsFit, is_act_fit, latest_moment}
+use Rattle.gateway_book.specs.Fit.{IsFit, is_act_fit}
 use Rattle.gateway_book.specs.FitHistory.{AllFit}
 use Rattle.gateway_book.specs.FitHistoryLaws.{fit_is_within, fit_more, last_is_in_range}
 use Rattle.gateway_book.specs.Followed.{IsFollowed, all_entries}

@@ -10,9 +10,11 @@ use Rattle.gate_journal.specs.Format.{IsWhole, Stands, Starts, end_of, gate_at}
 use Rattle.gate_journal.specs.Agreeing.{Compared, equal, longer, shorter, batch_before, compare, front_before, place_of, same_not_differs, same_not_starts, stands_before}
 use Rattle.entry_codec.specs.Content.{IsContent, entries_of}
 use Rattle.entry_codec.specs.Room.{costs_of}
+use Rattle.entry_codec.specs.LawTypes.{EntriesAreReadBack}
 use Rattle.entry_codec.specs.Laws.{costs_of-append}
+use Rattle.cgf_journal.specs.BatchLaws.{in_batches}
 use Rattle.cgf_journal.specs.Fit.{AreFit}
-use Rattle.cgf_journal.specs.Format.{AreBatches, IsSpoiledBy, entries_in}
+use Rattle.cgf_journal.specs.Format.{IsSpoiledBy, entries_in}
 use Rattle.gateway_book.specs.Fit.{IsFit}
 use Rattle.gateway_book.specs.FitHistory.{AllFit}
 use Rattle.gateway_book.specs.Opened.{IsNotOurs, StandsFitFor}
@@ -44,12 +46,14 @@ module _ (header : List ℕ) (long : length header ≡ 32) (octets : List ℕ) (
           spoiled.unwhole (subst (λ n. IsWhole octets n) (sym at_is) next.whole) (subst (λ (x : List ℕ). AreFit IsFit (length octets) (spoiled.batches ++ x ∷ [])) content these)
 
 -- what stands is no area of another
-pub stands_or_not_ours : (header octets : List ℕ) (h : List HistoryEntry) (at : ℕ) → length header ≡ 32 → StandsFitFor header octets h → IsNotOurs header octets at → ⊥
-stands_or_not_ours header octets h at long is (inl differs) =
-    same_not_differs header long octets (front_before header long octets (end_of is.stands.batches) is.stands.batches (stands_before header long octets is.stands.batches is.stands.stands)) at differs
-stands_or_not_ours header octets h at long is (inr spoiled) =
-    let fit : AreFit IsFit (length octets) is.stands.batches = record { are_batches = is.stands.are_batches; fit = subst (λ (g : List HistoryEntry). AllFit (length octets) g) is.stands.history is.fit } in
-    stands_or_spoiled header long octets is.stands.batches is.stands.stands fit at spoiled
+pub stands_or_not_ours : EntriesAreReadBack → (header octets : List ℕ) (h : List HistoryEntry) (at : ℕ) → length header ≡ 32 → StandsFitFor header octets h → IsNotOurs header octets at → ⊥
+stands_or_not_ours back header octets h at long is (inl differs) =
+    let list = in_batches back header octets h is.stands in
+    same_not_differs header long octets (front_before header long octets (end_of list.batches) list.batches (stands_before header long octets list.batches list.stands)) at differs
+stands_or_not_ours back header octets h at long is (inr spoiled) =
+    let list = in_batches back header octets h is.stands in
+    let fit : AreFit IsFit (length octets) list.batches = record { are_batches = list.are_batches; fit = subst (λ (g : List HistoryEntry). AllFit (length octets) g) list.history is.fit } in
+    stands_or_spoiled header long octets list.batches list.stands fit at spoiled
 
 -- what isn't ours doesn't start
 pub not_ours_or_starts : (header octets : List ℕ) (at : ℕ) → length header ≡ 32 → get_or header 0 0 ≡ 67 → IsNotOurs header octets at → Starts header octets → ⊥

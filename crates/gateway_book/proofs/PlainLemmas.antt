@@ -6,7 +6,7 @@ use Rattle.entry_codec.specs.Spelling.{cost_of}
 use Rattle.gw_base.specs.EntryLaws.{is_close_due-append}
 use Rattle.gw_base.specs.HeldKeys.{held_by, held_keys, promised_octets}
 use Rattle.gw_base.specs.HeldLaws.{held_keys-append}
-use Rattle.gw_base.specs.History.{due_after, is_close_due}
+use Rattle.gw_base.specs.History.{is_close_due}
 use Rattle.gw_base.specs.View.{stays_held}
 use Rattle.gw_base.specs.declared.held.HeldKey.{HeldKey}
 use Rattle.gw_base.specs.declared.history.HistoryAct.{HistoryAct}

@@ -1,5 +1,5 @@
 -- Lemmas on the records of packets, for the loops that walk them.
-use Rattle.std.proofs.Common.{◌≡◌, ℕ, ◌+◌, Bool, true, false, List, ◌∷◌, refl, ap, sym, ◌∙◌, ◌++◌, [], append_assoc}
+use Rattle.std.proofs.Common.{◌≡◌, ℕ, Bool, true, false, List, ◌∷◌, refl}
 use Rattle.std.specs.List.{list_all}
 
 -- All of some records.

@@ -5,7 +5,7 @@ use Rattle.std.proofs.lemmas.List.{append-nil, take-append-drop}
 use Rattle.area_disk.specs.declared.area.Area.{Ghosts}
 use Rattle.gate_journal.specs.Moments.{Told}
 use Rattle.cgf_journal.specs.Outcomes.{AllFirm, AreTorn, FirmStays, IsKept, TornDropped, TornStand}
-use Rattle.cgf_journal.specs.Trail.{area_of, entries, firm_entries, firm_length, is_closed, length_of, waiting}
+use Rattle.cgf_journal.specs.Trail.{area_of, firm_entries, firm_length, is_closed, length_of, waiting}
 use Rattle.cgf_journal.specs.declared.trail.Trail.{Trail}
 use Rattle.gw_base.specs.declared.history.HistoryEntry.{HistoryEntry}
 use Rattle.gw_base.specs.declared.item.Item.{Item}

@@ -1,29 +1,20 @@
 -- What a side says of keys and nodes goes on, where one number, a known node or the greatest number changes.
-use Rattle.std.proofs.Common.{◌≡◌, ℕ, ◌+◌, ◌^◌, ◌<◌, ◌≤◌, ◌==◌, ◌&&◌, ◌||◌, not, cond, Bool, true, false, if◌then◌else◌, List, [], ◌∷◌, ◌++◌, Some, None, length, length-append, filter, count_by, refl, sym, ap, subst, ◌∙◌, append_assoc, true≢false, arith}
-use Rattle.std.specs.List.{list_any}
+use Rattle.std.proofs.Common.{◌≡◌, ℕ, ◌+◌, ◌^◌, ◌<◌, ◌==◌, ◌&&◌, ◌||◌, not, cond, Bool, true, false, if◌then◌else◌, List, [], ◌∷◌, ◌++◌, Some, length, length-append, filter, count_by, refl, sym, ap, ◌∙◌, true≢false, arith}
 use Rattle.std.proofs.lemmas.Bool.{and_parts, eqb-true, eq-eqb}
-use Rattle.std.proofs.lemmas.List.{append-nil}
 use Rattle.std.proofs.lemmas.List.Folds.{list_any-append}
 use Rattle.std.proofs.lemmas.List.Sums.{count_by-le-length}
 use Rattle.gw_base.specs.declared.address.NodeId.{NodeId}
 use Rattle.gw_base.specs.declared.held.HeldKey.{HeldKey}
-use Rattle.gw_base.specs.declared.history.Caller.{Caller}
-use Rattle.gw_base.specs.declared.history.HistoryAct.{HistoryAct}
-use Rattle.gw_base.specs.declared.history.HistoryAct.TheVariants.{Path, Release, Cancel}
 use Rattle.gw_base.specs.declared.history.HistoryEntry.{HistoryEntry}
 use Rattle.gw_base.specs.declared.history.PacketKey.{PacketKey}
 use Rattle.gw_base.specs.declared.key_state.KeyState.{KeyState}
-use Rattle.gw_base.specs.declared.key_state.KeyState.TheVariants.{Released, Cancelled}
-use Rattle.gw_base.specs.EntryLaws.{epoch_of-append, state_of-append}
 use Rattle.gw_base.specs.Faults.{next_count}
-use Rattle.gw_base.specs.HeldKeys.{held_by, held_keys, holds, is_held, is_key}
-use Rattle.gw_base.specs.HeldLaws.{held_keys-append, stranded-append}
-use Rattle.gw_base.specs.History.{begins_epoch, copies_of, epoch_of, given_state, names, state_of}
+use Rattle.gw_base.specs.HeldKeys.{held_keys, holds, is_held, is_key}
+use Rattle.gw_base.specs.History.{copies_of, epoch_of, names, state_of}
 use Rattle.gw_base.specs.Known.{is_known, same_node, with_node}
 use Rattle.gw_base.specs.Lists.{raised}
-use Rattle.gw_base.specs.View.{NodeView, node_view_after, node_view_of, stays_held, strands}
-use Rattle.gw_base.specs.ViewLaws.{node_view_of-append}
-use Rattle.gateway_book.specs.Sides.{Side, all_named, learnt, named, no_node, opened, present_key, recounted, same_key, topped, view_of_mark}
+use Rattle.gw_base.specs.View.{NodeView}
+use Rattle.gateway_book.specs.Sides.{Side, learnt, named, no_node, present_key, recounted, same_key, topped, view_of_mark}
 use Rattle.gateway_book.specs.declared.node_mark.NodeMark.{NodeMark}
 use Rattle.gateway_book.proofs.HeldCounts.{copies-le, count-append, count-cons, count-without, count_once, held_once, length-is_count}
 

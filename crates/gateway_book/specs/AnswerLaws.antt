@@ -1,9 +1,8 @@
 -- An answer records an act only where it accepts a request or opens an epoch.
-use Rattle.std.proofs.Common.{◌≡◌, ◌⊎◌, inl, inr, ℕ, Bool, true, false, if◌then◌else◌, List, [], ◌∷◌, Option, Some, None, refl, sym, ap, subst, map, ⊎_elim, ◌≢◌}
+use Rattle.std.proofs.Common.{◌≡◌, inl, inr, ℕ, Bool, true, false, if◌then◌else◌, List, Option, Some, None, refl, sym, ap, subst, map, ⊎_elim, ◌≢◌}
 use Rattle.std.proofs.lemmas.Bool.{false≢true}
-use Rattle.std.specs.Prelude.{⊤}
 use Rattle.std.specs.Option.{option_map}
-use Rattle.gtpp_message.specs.Message.{MessageValue, TransferValue, Send, Possible, Cancel, Release, NodeAliveResponse, TransferResponse}
+use Rattle.gtpp_message.specs.Message.{MessageValue, TransferValue, Send, Possible, Cancel, Release, TransferResponse}
 use Rattle.gtpp_message.specs.declared.reading.Why.TheVariants.{NoRoom}
 use Rattle.gw_base.specs.Observed.{Observed}
 use Rattle.gw_base.specs.declared.address.Addr.{Addr}
@@ -12,7 +11,7 @@ use Rattle.gw_base.specs.declared.cause.TheConstants.{ACCEPTED, NO_RESOURCES}
 use Rattle.gw_base.specs.declared.history.HistoryAct.{HistoryAct}
 use Rattle.gw_base.specs.declared.history.HistoryAct.TheVariants as act
 use Rattle.gw_base.specs.declared.key_state.KeyState.{KeyState}
-use Rattle.gw_base.specs.declared.key_state.KeyState.TheVariants.{Fresh, Filed, Sealed, Held, Released, Cancelled}
+use Rattle.gw_base.specs.declared.key_state.KeyState.TheVariants.{Fresh}
 use Rattle.gw_base.specs.Nearest.{nearest}
 use Rattle.path_mgmt.specs.GatewayPath.{opened_by}
 use Rattle.path_mgmt.specs.declared.event.PathEvent.{PathEvent}
@@ -23,7 +22,7 @@ use Rattle.transfer_cmd.specs.declared.decision.Ask.{Ask}
 use Rattle.transfer_cmd.specs.declared.decision.Ask.TheVariants as ask
 use Rattle.transfer_cmd.specs.declared.verdict.Verdict.{Verdict}
 use Rattle.transfer_cmd.specs.declared.verdict.Verdict.TheVariants.{Wrong, Before, Change}
-use Rattle.gateway_book.specs.Answer.{Given, Drops, Replies, answer_by, asked_by, changes, held_ones, listed, may_record, node_of, opening_epoch, path_given, recorded_as, recording, replying, responding, sent, tabled}
+use Rattle.gateway_book.specs.Answer.{Given, Drops, Replies, answer_by, asked_by, changes, held_ones, listed, may_record, node_of, opening_epoch, path_given, recorded_as, recording, replying, responding, tabled}
 use Rattle.gateway_book.specs.Preparing.{PreparedValue, Drop, OtherVersion, Refused, Path, Request}
 use Rattle.gateway_book.specs.Recording.{Accepts, IfRecords}
 

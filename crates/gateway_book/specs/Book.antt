@@ -1,11 +1,11 @@
 -- What contracts see of a book.
-use Rattle.std.specs.Prelude.{◌≡◌, ◌≢◌, ℕ, ◌≤◌, IsTrue, Bool, true, false, List, ◌++◌}
-use Rattle.area_disk.specs.Disk.{Rose, counted}
+use Rattle.std.specs.Prelude.{◌≡◌, ℕ, ◌≤◌, Bool, true, false, List, ◌++◌}
+use Rattle.area_disk.specs.Disk.{Rose}
 use Rattle.area_disk.specs.declared.area.Area.{Ghosts}
-use Rattle.gate_journal.specs.Moments.{Calls, Leaves, Told}
+use Rattle.gate_journal.specs.Moments.{Leaves, Told}
 use Rattle.cgf_journal.specs.Trail as trail
 use Rattle.gateway_book.specs.Calls.{Left}
-use Rattle.gateway_book.specs.Value.{BookValue, Fortune, Reopening, Whole, Gone, Refused, is_batch_full}
+use Rattle.gateway_book.specs.Value.{BookValue, Fortune, Reopening, Whole, Gone, Refused}
 use Rattle.gateway_book.specs.declared.book.Book.{Book}
 
 -- what a book stands for

@@ -1,5 +1,5 @@
 -- What the calls of a book make of the value that it stands for, and what they answer.
-use Rattle.std.specs.Prelude.{ℕ, ◌+◌, ◌-◌, nat_lt, if◌then◌else◌, List, length, Option, Some, None, Result, Ok, Err}
+use Rattle.std.specs.Prelude.{ℕ, ◌+◌, ◌-◌, nat_lt, if◌then◌else◌, length, Result, Ok, Err}
 use Rattle.entry_codec.specs.Room.{capacity_of, costs_of}
 use Rattle.gw_base.specs.HeldKeys.{promised_octets}
 use Rattle.gw_base.specs.History.{copies_of}

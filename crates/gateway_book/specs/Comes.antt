@@ -1,5 +1,5 @@
 -- What the calls of a book ask of the device, and what comes of that by a plan that arms one call of the device.
-use Rattle.std.specs.Prelude.{◌≡◌, ◌⊎◌, ℕ, IsTrue, Bool, true, false, ◌&&◌, if◌then◌else◌, List, [], ◌∷◌, ◌++◌}
+use Rattle.std.specs.Prelude.{◌≡◌, ◌⊎◌, ℕ, IsTrue, true, false, ◌&&◌, if◌then◌else◌, List, [], ◌∷◌, ◌++◌}
 use Rattle.area_disk.specs.Armed.{Armed, IsArmed, calls_under}
 use Rattle.area_disk.specs.Course.{Course, IsTied}
 use Rattle.area_disk.specs.Disk.{counted}

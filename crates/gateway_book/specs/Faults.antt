@@ -1,5 +1,4 @@
 -- The fault of a book whose trail wasn't opened.
-use Rattle.std.specs.Prelude.{ℕ}
 use Rattle.gate_journal.specs.declared.faults.OpenFault.{OpenFault}
 use Rattle.gate_journal.specs.declared.faults.OpenFault.TheVariants as opening
 use Rattle.gateway_book.specs.declared.outcome.BookFault.{BookFault}

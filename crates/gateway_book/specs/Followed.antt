@@ -1,5 +1,5 @@
 -- What is true of a book at rest: its index follows its trail, whose history is fit.
-use Rattle.std.specs.Prelude.{ℕ, ◌≤◌, true, false, List, [], ◌∷◌, ◌++◌}
+use Rattle.std.specs.Prelude.{◌≤◌, true, false, List, ◌++◌}
 use Rattle.area_disk.specs.declared.area.Area.{Ghosts}
 use Rattle.gate_journal.specs.Moments.{Told}
 use Rattle.cgf_journal.specs.Trail.{area_of, firm_entries, waiting}

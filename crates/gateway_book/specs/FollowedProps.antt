@@ -1,6 +1,6 @@
 -- That a history is fit, and that an index follows one, is one fact each: there are no two proofs of it.
 use Rattle.std.specs.Prelude.{ℕ, Bool, List, [], ◌∷◌, ◌++◌}
-use Rattle.std.specs.Coded.{×_prop, Unit-prop, le_prop}
+use Rattle.std.specs.Coded.{×_prop, Unit-prop}
 use Rattle.std.proofs.Props.{props}
 use Rattle.cgf_journal.specs.Fit as journal
 use Rattle.gw_base.specs.declared.history.HistoryEntry.{HistoryEntry}

@@ -1,5 +1,5 @@
 -- Items gathered one after the other.
-use Rattle.std.specs.Prelude.{ℕ, ◌-◌, List, [], ◌∷◌, ◌++◌, length, map, take, drop}
+use Rattle.std.specs.Prelude.{ℕ, ◌-◌, List, [], ◌++◌, length, map, take, drop}
 use Rattle.gtpp_message.specs.Packet.{PacketValue, Empty, Full}
 use Rattle.gw_base.specs.CdrKind.{kind_of}
 use Rattle.gw_base.specs.declared.item.Item.{Item}

@@ -1,5 +1,5 @@
 -- What the judge of an opening keeps of the entries that it was asked of.
-use Rattle.std.specs.Prelude.{◌≡◌, ℕ, ◌+◌, ◌*◌, Bool, true, false, if◌then◌else◌, nat_le, List}
+use Rattle.std.specs.Prelude.{◌≡◌, ℕ, ◌+◌, ◌*◌, Bool, false, if◌then◌else◌, nat_le, List}
 use Rattle.entry_codec.specs.Room.{capacity_of, costs_of}
 use Rattle.gw_base.specs.declared.history.HistoryEntry.{HistoryEntry}
 use Rattle.gateway_book.specs.Index.{Follows, side_of}

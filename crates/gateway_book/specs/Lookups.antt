@@ -1,5 +1,5 @@
 -- What one side of an index tells of the nodes' paths.
-use Rattle.std.specs.Prelude.{ℕ, List, Option}
+use Rattle.std.specs.Prelude.{List, Option}
 use Rattle.std.specs.List.{filter_map}
 use Rattle.std.specs.Option.{option_map}
 use Rattle.gw_base.specs.declared.address.Addr.{Addr}

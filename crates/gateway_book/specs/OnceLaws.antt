@@ -1,13 +1,13 @@
 -- In a fit history each record is filed at most once.
 use Rattle.std.proofs.Common.{◌≡◌, ℕ, ◌+◌, ◌<◌, ◌≤◌, ◌==◌, ◌&&◌, ◌||◌, not, Bool, true, false, cond, if◌then◌else◌, List, [], ◌∷◌, ◌++◌, filter, Option, Some, None, refl, sym, ap, subst, ◌∙◌, arith}
-use Rattle.std.proofs.lemmas.Bool.{and_from, and_parts, and_right, eqb-true, false≢true, ne_eqb}
+use Rattle.std.proofs.lemmas.Bool.{and_parts, and_right, eqb-true, false≢true, ne_eqb}
 use Rattle.std.proofs.lemmas.List.{append-nil}
 use Rattle.std.proofs.lemmas.List.Sums.{sum_by-append, sum_by-cons}
 use Rattle.std.specs.List.{list_all, list_any}
 use Rattle.std.specs.Option.{option_map_or}
 use Rattle.gtpp_message.specs.Packet.{PacketForm, packet_of}
 use Rattle.gw_base.specs.EntryLaws.{present_state_is, state_of-append}
-use Rattle.gw_base.specs.History.{epoch_entries, epoch_of, given_state, last_naming, names, present_state, state_by, state_of}
+use Rattle.gw_base.specs.History.{epoch_entries, epoch_of, last_naming, present_state, state_by, state_of}
 use Rattle.gw_base.specs.Lists.{once}
 use Rattle.gw_base.specs.Observed.{Observed, observed}
 use Rattle.gw_base.specs.View.{state_after}
@@ -19,9 +19,9 @@ use Rattle.gw_base.specs.declared.history.PacketKey.{PacketKey}
 use Rattle.gw_base.specs.declared.key_state.KeyState.{KeyState}
 use Rattle.gw_base.specs.declared.key_state.KeyState.TheVariants.{Fresh, Filed, Sealed, Held, Released, Cancelled}
 use Rattle.transfer_cmd.specs.Lists.{is_held}
-use Rattle.gateway_book.specs.Filed.{along, filed, filed_by, filed_by_act, filed_record, held_packet, present_key, records_from, records_in, records_of, released_by, released_records}
+use Rattle.gateway_book.specs.Filed.{filed, filed_by, filed_by_act, filed_record, held_packet, present_key, records_from, records_in, records_of, released_by, released_records}
 use Rattle.gateway_book.specs.FiledLaws.{along-append}
-use Rattle.gateway_book.specs.Fit.{IsFit, are_distinct, is_act_fit, is_fresh, is_in_window, is_list_fit, is_new, is_packet_fit}
+use Rattle.gateway_book.specs.Fit.{are_distinct, is_act_fit, is_fresh, is_in_window, is_list_fit, is_new, is_packet_fit}
 use Rattle.gateway_book.specs.FitHistory.{AllFit}
 use Rattle.gateway_book.specs.FitHistoryLaws.{by_fit}
 use Rattle.gateway_book.specs.Limits.{has_place, is_in_range, may_hold}

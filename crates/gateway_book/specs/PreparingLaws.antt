@@ -2,7 +2,7 @@
 use Rattle.std.proofs.Common.{◌≡◌, ℕ, ◌==◌, Bool, true, false, if◌then◌else◌, List, refl, sym, subst}
 use Rattle.gtpp_message.specs.Message.{MessageValue, TransferValue, EchoRequest, EchoResponse, VersionNotSupported, NodeAliveRequest, NodeAliveResponse, RedirectionRequest, RedirectionResponse, TransferRequest, TransferResponse}
 use Rattle.gtpp_message.specs.Reading.{ReadingValue, Drop, Message, OtherVersion, Refused, reading}
-use Rattle.gtpp_message.specs.Role.{for_role, has_refusal, is_stray, refused, role_reading}
+use Rattle.gtpp_message.specs.Role.{for_role, has_refusal, is_stray, role_reading}
 use Rattle.gtpp_message.specs.Writing.{IsSendableMessage, IsSendableTransfer, message_type}
 use Rattle.gtpp_message.specs.declared.message_types.TheConstants.{VERSION_NOT_SUPPORTED}
 use Rattle.gtpp_message.specs.declared.reading.Why.TheVariants as why

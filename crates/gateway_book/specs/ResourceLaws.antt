@@ -1,8 +1,8 @@
 -- Where there is room, no request is refused for want of resources.
-use Rattle.std.proofs.Common.{◌≡◌, ℕ, ◌==◌, ◌&&◌, Bool, true, false, if◌then◌else◌, List, [], ◌∷◌, Option, Some, None, refl, ap, map}
+use Rattle.std.proofs.Common.{◌≡◌, ℕ, ◌&&◌, Bool, true, false, if◌then◌else◌, List, Some, None, refl, map}
 use Rattle.std.proofs.lemmas.Bool.{and_from, false≢true}
 use Rattle.gtpp_message.specs.Message.{TransferValue, Send, Possible, Cancel, Release}
-use Rattle.gtpp_message.specs.Packet.{PacketValue, packet_octets}
+use Rattle.gtpp_message.specs.Packet.{packet_octets}
 use Rattle.gw_base.specs.Nearest.{nearest}
 use Rattle.gw_base.specs.Observed.{Observed}
 use Rattle.gw_base.specs.declared.address.Addr.{Addr}
@@ -18,7 +18,7 @@ use Rattle.transfer_cmd.specs.declared.decision.Ask.{Ask}
 use Rattle.transfer_cmd.specs.declared.decision.Ask.TheVariants as ask
 use Rattle.transfer_cmd.specs.declared.verdict.Verdict.{Verdict}
 use Rattle.transfer_cmd.specs.declared.verdict.Verdict.TheVariants.{Wrong, Before, Change}
-use Rattle.gateway_book.specs.Answer.{Given, answer_by, asked_by, changes, held_ones, listed, node_of, recorded_as, recording, responding, sending, sending_again, sent, tabled}
+use Rattle.gateway_book.specs.Answer.{Given, answer_by, asked_by, changes, held_ones, listed, node_of, recorded_as, recording, responding, sending, sending_again, tabled}
 use Rattle.gateway_book.specs.Answered.{act_given}
 use Rattle.gateway_book.specs.Limits.{has_place, is_in_range, may_hold, within_limits}
 use Rattle.gateway_book.specs.Preparing.{Request}

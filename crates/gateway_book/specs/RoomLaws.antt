@@ -1,14 +1,14 @@
 -- There is always room to release or to cancel what is held, and to close files.
-use Rattle.std.proofs.Common.{◌≡◌, ◌≢◌, ℕ, ◌==◌, ◌&&◌, not, All, Bool, true, false, if◌then◌else◌, List, [], ◌∷◌, Some, None, refl, ap, sym, ◌∙◌, map}
+use Rattle.std.proofs.Common.{◌≡◌, ◌≢◌, ℕ, ◌==◌, not, All, Bool, true, false, if◌then◌else◌, List, [], ◌∷◌, Some, None, refl, ap, ◌∙◌, map}
 use Rattle.std.proofs.lemmas.Bool.{and_parts, false≢true, not-true}
 use Rattle.std.proofs.lemmas.List.Elements.{All-cons, All-nil}
-use Rattle.std.specs.List.{AllByRecursion, IsDistinct, list_all, list_any}
+use Rattle.std.specs.List.{AllByRecursion, IsDistinct, list_all}
 use Rattle.entry_codec.specs.Room.{IsWithin, has_room}
-use Rattle.gtpp_message.specs.Message.{TransferValue, Cancel, Release}
+use Rattle.gtpp_message.specs.Message.{Cancel, Release}
 use Rattle.gw_base.specs.EntryLaws.{present_state_is}
 use Rattle.gw_base.specs.HeldKeys.{held_keys, holds}
 use Rattle.gw_base.specs.HeldKeys as keys
-use Rattle.gw_base.specs.History.{epoch_of, is_close_due, moment_after, present_state, state_of}
+use Rattle.gw_base.specs.History.{epoch_of, moment_after, present_state, state_of}
 use Rattle.gw_base.specs.Nearest.{nearest}
 use Rattle.gw_base.specs.Observed.{Observed, observed}
 use Rattle.gw_base.specs.declared.address.Addr.{Addr}
@@ -18,11 +18,10 @@ use Rattle.gw_base.specs.declared.history.Caller.{Caller}
 use Rattle.gw_base.specs.declared.history.HistoryAct.{HistoryAct}
 use Rattle.gw_base.specs.declared.history.HistoryAct.TheVariants as act
 use Rattle.gw_base.specs.declared.history.HistoryEntry.{HistoryEntry}
-use Rattle.gw_base.specs.declared.key_state.KeyState.{KeyState}
 use Rattle.transfer_cmd.specs.Lists.{is_held, verdict_cause, verdict_of}
 use Rattle.transfer_cmd.specs.declared.verdict.Verdict.{Verdict}
 use Rattle.transfer_cmd.specs.declared.verdict.Verdict.TheVariants.{Wrong, Before, Change}
-use Rattle.gateway_book.specs.Answer.{changes, changing, held_ones, listed, node_of, recording, responding, tabled}
+use Rattle.gateway_book.specs.Answer.{changes, changing, held_ones, listed, node_of, responding, tabled}
 use Rattle.gateway_book.specs.Answered.{answer_to, no_caller, room_for}
 use Rattle.gateway_book.specs.Fit.{are_distinct, is_list_fit}
 use Rattle.gateway_book.specs.ListFitLaws.{change_is_held, held_ones_fit}

@@ -1,5 +1,5 @@
 -- A gateway by the plan of its device: what holds of one that is up, and what a call makes of that.
-use Rattle.std.specs.Prelude.{◌≡◌, ℕ, ◌≤◌, IsTrue, Bool, true, false, ◌&&◌, ◌==◌, nat_le, if◌then◌else◌, List, ◌++◌}
+use Rattle.std.specs.Prelude.{◌≡◌, ℕ, ◌≤◌, Bool, true, false, ◌&&◌, ◌==◌, nat_le, if◌then◌else◌, List, ◌++◌}
 use Rattle.area_disk.specs.Armed.{Armed, Came, IsArmed, calls_under}
 use Rattle.area_disk.specs.Armed.Armed.{Nothing}
 use Rattle.area_disk.specs.Armed.Came.{Ran, FailedAt, StoppedAt}
@@ -8,7 +8,7 @@ use Rattle.area_disk.specs.declared.plan.Outcome3.{Outcome3}
 use Rattle.gate_journal.specs.Planned.{is_new}
 use Rattle.cgf_journal.specs.Trail.{stop_stands}
 use Rattle.gw_base.specs.declared.history.HistoryEntry.{HistoryEntry}
-use Rattle.gateway_book.specs.Book.{area_of, header_of, value_of}
+use Rattle.gateway_book.specs.Book.{header_of, value_of}
 use Rattle.gateway_book.specs.Calls.{Left}
 use Rattle.gateway_book.specs.Comes.{Asked, AsksCommit, AsksNothing, AsksReopening, asked_to_commit, asked_to_ready, left_by_stop, plan_of}
 use Rattle.gateway_book.specs.Opened.{StandsFitFor}

@@ -1,5 +1,5 @@
 -- What a call makes of a gateway that is up, by what is armed for the calls of its device.
-use Rattle.std.proofs.Common.{◌≡◌, ℕ, ◌≤◌, Bool, true, false, ◌&&◌, ◌==◌, if◌then◌else◌, List, [], ◌∷◌, ◌++◌, Option, Some, None, Result, refl, sym, ap, subst, ◌∙◌}
+use Rattle.std.proofs.Common.{◌≡◌, ℕ, ◌≤◌, Bool, true, false, ◌&&◌, if◌then◌else◌, List, [], ◌∷◌, ◌++◌, Option, Some, None, Result, refl, sym, ap, subst, ◌∙◌}
 use Rattle.std.specs.Prelude.{IsTrue, nat_le}
 use Rattle.std.proofs.lemmas.Bool.{true≢false}
 use Rattle.area_disk.specs.Armed.{Armed, Came, IsArmed, ReadsRun, calls_under}
@@ -18,22 +18,21 @@ use Rattle.gw_base.specs.declared.address.Addr.{Addr}
 use Rattle.gw_base.specs.declared.history.Caller.{Caller}
 use Rattle.gw_base.specs.declared.history.HistoryAct.{HistoryAct}
 use Rattle.gw_base.specs.declared.history.HistoryEntry.{HistoryEntry}
-use Rattle.gateway_book.specs.Answer.{Decided, decided}
+use Rattle.gateway_book.specs.Answer.{decided}
 use Rattle.gateway_book.specs.Answered.{act_decided}
-use Rattle.gateway_book.specs.Book.{IsLeft, Stays, area_of, fortune_of, header_of, reopening_of, value_of}
-use Rattle.gateway_book.specs.Calls.{Left, closed, commit_answer, commit_left, given_at, left_by, marked_at, marked_if_ready, taken, ticked}
+use Rattle.gateway_book.specs.Book.{IsLeft, area_of, fortune_of, header_of, reopening_of, value_of}
+use Rattle.gateway_book.specs.Calls.{Left, commit_answer, commit_left, given_at, left_by, marked_at, marked_if_ready}
 use Rattle.gateway_book.specs.Comes.{Asked, AsksCommit, AsksNothing, AsksReopening, AsPlanned, CommitsAsPlanned, LeavesFit, ReopensAsPlanned, asked_to_commit, asked_to_ready, asked_with, left_by_stop, plan_of}
-use Rattle.gateway_book.specs.Marks.{Mark, Makes, NoRoom, NotDue, close_mark, tick_mark}
+use Rattle.gateway_book.specs.Marks.{Mark, Makes, NoRoom, NotDue}
 use Rattle.gateway_book.specs.Opened.{IsOpened, StandsFitFor}
 use Rattle.gateway_book.specs.Preparing.{PreparedValue}
 use Rattle.gateway_book.specs.Read.{IsUnchanged}
-use Rattle.gateway_book.specs.Up.{HasLeft, IsCut, IsDown, IsUp, Sequel, Stands, commit_sequel, fortune_by, reopening_sequel, sequel_of}
-use Rattle.gateway_book.specs.Value.{BookValue, Fortune, Gone, Refused, Reopening, Whole, after_commit, is_batch_full, history_of, readied, recorded_if, reopened, tried, tried_with}
+use Rattle.gateway_book.specs.Up.{HasLeft, IsCut, IsDown, IsUp, Stands, commit_sequel, fortune_by, reopening_sequel, sequel_of}
+use Rattle.gateway_book.specs.Value.{BookValue, Fortune, Gone, Refused, Reopening, Whole, after_commit, is_batch_full, readied, recorded_if, reopened, tried, tried_with}
 use Rattle.gateway_book.specs.declared.book.Book.{Book}
 use Rattle.gateway_book.specs.declared.outcome.Broken.{Broken}
 use Rattle.gateway_book.specs.declared.outcome.Marked.{Marked}
 use Rattle.gateway_book.specs.declared.outcome.Marked.TheVariants as marked
-use Rattle.gateway_book.specs.declared.outcome.Outcome.{Outcome}
 
 and_true : (b : Bool) → (b && true) ≡ b
 and_true true = refl

@@ -1,11 +1,11 @@
 -- What a gateway that has just begun to run answers to datagrams of one sender, one after the other: worked values.
-use Rattle.std.specs.Prelude.{ℕ, List, [], ◌∷◌, ◌++◌, Option, Some, None}
-use Rattle.gtpp_message.specs.Message.{MessageValue, TransferResponse}
-use Rattle.gtpp_message.specs.Packet.{PacketForm, PacketValue, Full}
+use Rattle.std.specs.Prelude.{ℕ, List, [], ◌∷◌}
+use Rattle.gtpp_message.specs.Message.{TransferResponse}
+use Rattle.gtpp_message.specs.Packet.{PacketValue, Full}
 use Rattle.gw_base.specs.declared.address.Addr.{Addr}
 use Rattle.gw_base.specs.declared.history.HistoryAct.TheVariants as act
 use Rattle.gw_base.specs.declared.history.HistoryEntry.{HistoryEntry}
-use Rattle.gateway_book.specs.Answer.{Given, Drops, Replies}
+use Rattle.gateway_book.specs.Answer.{Given, Replies}
 use Rattle.gateway_book.specs.Answered.{after_answer, answer_to, entry_by, no_caller}
 use Rattle.gateway_book.specs.Preparing.{PreparedValue}
 

@@ -24,13 +24,11 @@ use crate::case::Case;
 use crate::decision::Decision;
 use crate::index::Index;
 use crate::listing::Scratch;
-use crate::observe::Observe;
+use crate::seen::Seen;
 use area_disk::Area;
 use cgf_journal::Trail;
 use gtpp_message::Why;
-use gw_base::{
-    Absolute, Act, Addr, Caller, Entry, KeyState, Moment, NoMemory, NodeId, Opening, Short,
-};
+use gw_base::{Act, Addr, Caller, Entry, Moment, NoMemory, Short};
 
 /// Adds an entry behind the others, where it waits for a commit. Without memory nothing is added.
 pub(crate) fn record<A: Area>(
@@ -52,47 +50,6 @@ pub(crate) fn record<A: Area>(
             Ok(())
         }
         Err(_) => unreachable!(),
-    }
-}
-
-/// What the index of an open trail tells, where there is room for any act, or for none.
-#[derive(Drop)]
-struct Seen<'a> {
-    index: &'a Index,
-    has_room: bool,
-}
-
-impl Observe for Seen<'_> {
-    ghost seen = { λ s node. observed_by false s.index.now node };
-
-    ghost room = { λ s act. s.has_room };
-
-    fn own(&self) -> u8 {
-        self.index.own(false)
-    }
-
-    fn opening(&self, node: NodeId) -> Option<Opening> {
-        self.index.opening(false, node)
-    }
-
-    fn top(&self, node: NodeId) -> Option<Absolute> {
-        self.index.top(false, node)
-    }
-
-    fn state(&self, node: NodeId, number: Absolute) -> KeyState {
-        self.index.state(false, node, number)
-    }
-
-    fn has_place(&self, node: NodeId) -> bool {
-        self.index.has_place(false, node)
-    }
-
-    fn may_hold(&self) -> bool {
-        self.index.may_hold(false)
-    }
-
-    fn has_room(&self, _: &Act<'_>) -> bool {
-        self.has_room
     }
 }
 

@@ -137,8 +137,8 @@ fn gather<A: Area>(
     Ok(())
 }
 
-/// Gives the items of the firm entries from number `from` on, at most `max`, and leaves the cursor behind the last entry
-/// whose items were all told.
+/// Gives the items of the firm entries from number `from` on, at most `max`, and leaves the cursor behind the last
+/// entry whose items were all told.
 pub(crate) fn items_from<A: Area>(
     alloc: Global,
     trail: &mut Trail<A>,

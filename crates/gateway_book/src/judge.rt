@@ -7,12 +7,12 @@ ghost use Rattle.gateway_book.specs.Index.{MayCome, observed_by, side_of};
 
 use crate::fit::is_act_fit;
 use crate::index::Index;
-use crate::observe::Observe;
 use crate::observed::an_index_tells_its_history;
+use crate::seen::Seen;
 use crate::totals::Totals;
 use cgf_journal::Judge;
 use entry_codec::cost;
-use gw_base::{Absolute, Act, Entry, KeyState, NoMemory, NodeId, Opening};
+use gw_base::{Act, Entry, NoMemory};
 use std::alloc::Global;
 
 /// What is promised for a held key: a Release or a Cancel of it, and a Close.
@@ -30,49 +30,6 @@ pub(crate) struct FitJudge {
     pub(crate) index: Index,
     /// What the entries cost.
     pub(crate) costs: u64,
-}
-
-/// What an index tells of all entries, which says nothing of room.
-#[derive(Clone, Copy, Debug)]
-struct Unbounded<'a> {
-    index: &'a Index,
-}
-
-impl<'a> Observe for Unbounded<'a> {
-    ghost use Rattle.std.specs.Prelude.{false};
-    ghost use Rattle.gateway_book.specs.Index.{observed_by};
-
-    ghost seen = { λ s node. observed_by false s.index.now node };
-
-    ghost room = { λ s act. false };
-
-    fn own(&self) -> u8 {
-        self.index.own(false)
-    }
-
-    fn opening(&self, node: NodeId) -> Option<Opening> {
-        self.index.opening(false, node)
-    }
-
-    fn top(&self, node: NodeId) -> Option<Absolute> {
-        self.index.top(false, node)
-    }
-
-    fn state(&self, node: NodeId, number: Absolute) -> KeyState {
-        self.index.state(false, node, number)
-    }
-
-    fn has_place(&self, node: NodeId) -> bool {
-        self.index.has_place(false, node)
-    }
-
-    fn may_hold(&self) -> bool {
-        self.index.may_hold(false)
-    }
-
-    fn has_room(&self, _: &Act<'_>) -> bool {
-        false
-    }
 }
 
 impl FitJudge {
@@ -98,7 +55,10 @@ impl FitJudge {
         if moment < self.index.totals(false).moment.seconds() {
             return false;
         }
-        let seen = Unbounded { index: &self.index };
+        let seen = Seen {
+            index: &self.index,
+            has_room: false,
+        };
         is_act_fit(&seen, &entry.act)
     }
 

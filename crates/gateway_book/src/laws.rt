@@ -181,8 +181,8 @@ pub fn what_a_gateway_leaves<A: Area>()
         (w.is_broken ≡ false) × IsUp header w armed false book }
 {}
 
-/// An area that stands for a history of fit entries neither starts nor is another's: it is opened, and not refused. What
-/// is another's doesn't start.
+/// An area that stands for a history of fit entries neither starts nor is another's: it is opened, and not refused.
+/// What is another's doesn't start.
 pub fn what_stands_is_ours()
     ensures starts { (size address : ℕ) (octets : List ℕ) (h : List HistoryEntry) →
         StandsFitFor (header size address 0) octets h → ¬ (Starts (header size address 0) octets) }
@@ -192,4 +192,5 @@ pub fn what_stands_is_ours()
         ¬ (Starts (header size address 0) octets) }
 {
     cgf_journal::laws::what_stands_is_ours();
+    entry_codec::laws::entries_are_read_back();
 }

@@ -34,6 +34,7 @@ mod plain;
 mod preparing;
 mod reading;
 mod readying;
+mod seen;
 mod states;
 mod taking;
 mod told;

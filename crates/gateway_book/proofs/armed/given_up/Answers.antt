@@ -1,4 +1,4 @@
-use Rattle.std.proofs.Common.{ℕ, ◌&&◌, if◌then◌else◌, List, ◌++◌, subst, sym}
+use Rattle.std.proofs.Common.{◌&&◌, if◌then◌else◌, ◌++◌, subst, sym}
 use Rattle.gate_journal.specs.Planned.{is_new}
 use Rattle.gateway_book.specs.Opened.{StandsFitFor}
 use Rattle.gateway_book.specs.Up.{IsDown}

@@ -1,5 +1,5 @@
-use Rattle.std.proofs.Common.{List, ap, subst}
-use Rattle.std.specs.Prelude.{◌≡◌, ℕ, IfOk}
+use Rattle.std.proofs.Common.{subst}
+use Rattle.std.specs.Prelude.{◌≡◌, IfOk}
 use Rattle.gateway_book.specs.Items.{items_between}
 use Rattle.gateway_book.specs.Value.{BookValue}
 use Rattle.gateway_book.proofs.armed.told.Goals as goal

@@ -1,5 +1,4 @@
-use Rattle.std.proofs.Common.{ℕ, List, sym, subst, ap, ◌∙◌, length, arith}
-use Rattle.cgf_journal.specs.Trail.{firm_entries, firm_length}
+use Rattle.std.proofs.Common.{ℕ, List, subst, ap, ◌∙◌, length, arith}
 use Rattle.gw_base.specs.declared.history.HistoryEntry.{HistoryEntry}
 use Rattle.gateway_book.specs.Cursor.{IsWithin}
 use Rattle.gateway_book.proofs.CursorLemmas.{end_items, stands_still}

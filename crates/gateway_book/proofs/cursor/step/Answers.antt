@@ -1,7 +1,6 @@
-use Rattle.std.proofs.Common.{◌≡◌, ℕ, List, sym, subst, ap, ◌∙◌, eqb-true, eq-eqb, true≢false, arith}
-use Rattle.cgf_journal.specs.Trail.{firm_entries, firm_length}
+use Rattle.std.proofs.Common.{sym, ◌∙◌, eqb-true, eq-eqb, true≢false, arith}
+use Rattle.cgf_journal.specs.Trail.{firm_length}
 use Rattle.gw_base.specs.Entry.{act_view, entry_view}
-use Rattle.gw_base.specs.declared.history.HistoryEntry.{HistoryEntry}
 use Rattle.gateway_book.specs.HeldCopies.{places_of}
 use Rattle.gateway_book.proofs.CursorLemmas.{at_more, at_still, below_up, full_on, passed_on, was_gathered, within_more}
 use Rattle.gateway_book.proofs.ReadLemmas.{read_on}

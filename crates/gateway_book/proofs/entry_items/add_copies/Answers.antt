@@ -1,5 +1,4 @@
 use Rattle.std.proofs.Common.{ℕ, refl, sym, subst, ◌∙◌}
-use Rattle.cgf_journal.specs.Trail.{area_of}
 use Rattle.gateway_book.specs.HeldCopies.{AreBelow, places_of}
 use Rattle.gateway_book.proofs.CursorLemmas.{held_still}
 use Rattle.gateway_book.proofs.ItemsLemmas.{released_end, released_on}

@@ -1,5 +1,5 @@
-use Rattle.std.proofs.Common.{refl, sym, ap, ◌∙◌, List, ℕ}
-use Rattle.gateway_book.specs.HeldCopies.{hold_in, without_holds}
+use Rattle.std.proofs.Common.{refl, ◌∙◌}
+use Rattle.gateway_book.specs.HeldCopies.{hold_in}
 use Rattle.gateway_book.proofs.HeldCopiesLemmas.{none_left, one_dropped_of}
 use Rattle.gateway_book.proofs.held_copies.forget_all.Goals as goal
 

@@ -7,7 +7,7 @@ pub returns-clause-starts : goal.returns-clause-starts
 returns-clause-starts c = λ size address octets h stands. c.what_stands_is_ours.ensures.starts size address 0 octets h stands.stands
 
 pub returns-clause-ours : goal.returns-clause-ours
-returns-clause-ours c = λ size address octets h at stands. stands_or_not_ours (header size address 0) octets h at (length-header size address 0) stands
+returns-clause-ours c = λ size address octets h at stands. stands_or_not_ours c.entries_are_read_back.ensures (header size address 0) octets h at (length-header size address 0) stands
 
 pub returns-clause-others : goal.returns-clause-others
 returns-clause-others c = λ size address octets at other starts. not_ours_or_starts (header size address 0) octets at (length-header size address 0) (first-header size address 0) other starts

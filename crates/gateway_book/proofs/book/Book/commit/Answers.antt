@@ -1,4 +1,4 @@
-use Rattle.std.proofs.Common.{◌≡◌, true, false, sym, ap, ◌∙◌}
+use Rattle.std.proofs.Common.{ap, ◌∙◌}
 use Rattle.std.specs.Prelude.{is_err}
 use Rattle.gateway_book.specs.Book.{fortune_of, value_of}
 use Rattle.gateway_book.specs.Value.{after_commit}

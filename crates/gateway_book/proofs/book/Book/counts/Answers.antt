@@ -1,13 +1,8 @@
-use Rattle.std.proofs.Common.{◌≡◌, ℕ, Bool, true, false, if◌then◌else◌, List, ◌++◌, length, refl, sym, ap, ◌∙◌}
-use Rattle.gate_journal.specs.Moments.{Told}
-use Rattle.gw_base.specs.HeldKeys.{held_keys}
-use Rattle.gw_base.specs.declared.history.HistoryEntry.{HistoryEntry}
-use Rattle.cgf_journal.specs.Trail.{firm_entries, is_closed, waiting}
+use Rattle.std.proofs.Common.{ap, ◌∙◌}
+use Rattle.cgf_journal.specs.Trail.{firm_entries, is_closed}
 use Rattle.gateway_book.specs.Book.{value_of}
 use Rattle.gateway_book.specs.Followed.{all_entries}
-use Rattle.gateway_book.specs.Index.{Follows}
 use Rattle.gateway_book.specs.Value.{history_of}
-use Rattle.gateway_book.specs.declared.index.Index.{Index}
 use Rattle.gateway_book.specs.declared.totals.Totals.{Totals}
 use Rattle.gateway_book.proofs.Committing.{asked}
 use Rattle.gateway_book.proofs.book.Book.counts.Goals as goal

@@ -1,11 +1,9 @@
-use Rattle.std.proofs.Common.{◌≡◌, ◌⊎◌, inl, inr, ⊎_elim, ℕ, List, [], refl, sym, ap, ◌∙◌}
+use Rattle.std.proofs.Common.{◌≡◌, ◌⊎◌, [], refl, sym, ◌∙◌}
 use Rattle.area_disk.specs.Disk.{counted}
 use Rattle.gate_journal.specs.Format.{Starts, header}
-use Rattle.gate_journal.specs.Moments.{Leaves, Told}
-use Rattle.gate_journal.specs.declared.faults.OpenFault.{OpenFault}
+use Rattle.gate_journal.specs.Moments.{Leaves}
 use Rattle.cgf_journal.specs.Format.{StandsFor}
 use Rattle.cgf_journal.specs.Trail.{firm_entries}
-use Rattle.gateway_book.specs.Faults.{book_fault}
 use Rattle.gateway_book.proofs.OpeningPlans.{opened_as_planned, refused_as_planned}
 use Rattle.gateway_book.proofs.Openings.{device_is, err_is, foreign_is, found_fit, if_ok_area, listed_as, not_ours_is, ok_is, on_area, unwritten_is}
 use Rattle.gateway_book.proofs.book.Book.open.Goals as goal

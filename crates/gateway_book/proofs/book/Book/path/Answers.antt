@@ -1,8 +1,6 @@
-use Rattle.std.proofs.Common.{◌≡◌, Bool, true, false, List, sym, ap, ◌∙◌, slice_get}
-use Rattle.std.specs.Prelude.{Option}
+use Rattle.std.proofs.Common.{ap, ◌∙◌, slice_get}
 use Rattle.std.specs.List.{filter_map}
 use Rattle.std.specs.Option.{option_map}
-use Rattle.gate_journal.specs.Moments.{Told}
 use Rattle.gw_base.specs.declared.address.Addr.{Addr}
 use Rattle.gw_base.specs.declared.address.NodeId.{NodeId}
 use Rattle.gw_base.specs.declared.history.Opening.{Opening}
@@ -10,7 +8,7 @@ use Rattle.gw_base.specs.Observed.{Observed}
 use Rattle.cgf_journal.specs.Trail.{firm_entries, is_closed}
 use Rattle.gateway_book.specs.Book.{value_of}
 use Rattle.gateway_book.specs.Followed.{all_entries}
-use Rattle.gateway_book.specs.Index.{observed_by, side_of}
+use Rattle.gateway_book.specs.Index.{observed_by}
 use Rattle.gateway_book.specs.Value.{history_of}
 use Rattle.gateway_book.proofs.Committing.{asked}
 use Rattle.gateway_book.proofs.book.Book.path.Goals as goal

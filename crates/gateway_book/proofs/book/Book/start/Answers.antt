@@ -1,15 +1,10 @@
-use Rattle.std.proofs.Common.{◌≡◌, ℕ, true, false, if◌then◌else◌, List, [], ◌∷◌, ◌++◌, refl, sym, ap, ◌∙◌}
+use Rattle.std.proofs.Common.{false, if◌then◌else◌, refl, sym, ap, ◌∙◌}
 use Rattle.entry_codec.specs.Room.{has_room}
-use Rattle.gate_journal.specs.Moments.{Told}
-use Rattle.gw_base.specs.Entry.{entry_view}
-use Rattle.gw_base.specs.History.{last_moment}
 use Rattle.gw_base.specs.declared.history.HistoryAct.TheVariants.{Start}
 use Rattle.gw_base.specs.declared.history.HistoryEntry.{HistoryEntry}
-use Rattle.cgf_journal.specs.Trail.{area_of, entries, firm_entries, is_closed, waiting}
+use Rattle.cgf_journal.specs.Trail.{area_of, firm_entries}
 use Rattle.gateway_book.specs.Book.{value_of}
 use Rattle.gateway_book.specs.Followed.{all_entries}
-use Rattle.gateway_book.specs.Index.{side_of}
-use Rattle.gateway_book.specs.Value.{BookValue}
 use Rattle.gateway_book.specs.declared.totals.Totals.{Totals}
 use Rattle.gateway_book.proofs.Openings.{both_followed, start_added, start_is_fit, start_left_out}
 use Rattle.gateway_book.proofs.StandingLemmas.{stands_started}

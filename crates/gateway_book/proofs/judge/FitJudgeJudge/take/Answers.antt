@@ -1,14 +1,12 @@
-use Rattle.std.proofs.Common.{◌≡◌, ℕ, ◌+◌, ◌<◌, ◌≤◌, ◌^◌, Bool, true, false, List, [], ◌∷◌, ◌++◌, nat_le, sym, ap, ◌∙◌, arith, rules}
+use Rattle.std.proofs.Common.{◌≡◌, ◌+◌, true, false, [], ◌∷◌, ◌++◌, nat_le, sym, ◌∙◌, arith, rules}
 use Rattle.std.proofs.lemmas.Bool.{and_parts, leb-true}
-use Rattle.entry_codec.specs.Laws.{costs_of-append}
 use Rattle.entry_codec.specs.Room.{capacity_of, costs_of}
 use Rattle.entry_codec.specs.Spelling.{cost_of}
 use Rattle.gw_base.specs.Entry.{act_view, entry_view}
 use Rattle.gw_base.specs.HeldKeys.{promised_octets}
-use Rattle.gw_base.specs.declared.history.HistoryEntry.{HistoryEntry}
 use Rattle.gateway_book.specs.Fit.{is_act_fit}
 use Rattle.gateway_book.specs.Index.{observed_by, side_of}
-use Rattle.gateway_book.specs.Judging.{IsJudging, promised_of}
+use Rattle.gateway_book.specs.Judging.{promised_of}
 use Rattle.gateway_book.specs.declared.judge.FitJudge.{FitJudge}
 use Rattle.gateway_book.proofs.JudgeLemmas.{is_fit, judged, may_come, no_room, refused}
 use Rattle.gateway_book.proofs.judge.FitJudgeJudge.take.Goals as goal
