@@ -69,10 +69,10 @@ module _ {A : Type 0} (tells : Ghosts A) (call : Call) (old new : A) where
   -- a call that ran
   pub one_went : (IsTrue tells.tells_calls → tells.calls new ≡ counted 1 (tells.calls old))
       → (IsTrue tells.tells_files → tells.files new ≡ tells.files old ++ seals (call ∷ []))
-      → tells.faults old ≤ tells.faults new
+      → tells.faults new ≡ tells.faults old
       → (IsTrue tells.tells_plan → IsPlanned false (tells.plan old) (tells.plan new))
       → Makes tells (call ∷ []) Went old new
-  one_went called sealed faults planned = record {
+  one_went called sealed same planned = record {
     tried = 1;
     within = omega arith;
     all = λ e. refl;
@@ -85,7 +85,7 @@ module _ {A : Type 0} (tells : Ghosts A) (call : Call) (old new : A) where
       each = λ e. refl;
       files = sealed told;
     };
-    faults = record { later = faults; failed = λ e. absurd (cc) };
+    faults = record { later = omega (arith, same); failed = λ e. absurd (cc); still = λ e. same };
     planned = λ told memory. went_comes (planned told);
   }
 
@@ -168,15 +168,15 @@ module _ {A : Type 0} (tells : Ghosts A) (call : Call) (old new : A) where
     some = λ e. omega arith;
     called = called;
     sealed = λ told. maybe_sealed (sealed told);
-    faults = record { later = later; failed = λ e. rose };
+    faults = record { later = later; failed = λ e. rose; still = λ e. absurd (cc) };
     planned = λ told memory. failed_comes (planned told) (left told);
   }
 
   -- no memory for it
   pub one_starved : (IsTrue tells.tells_calls → tells.calls new ≡ tells.calls old)
-      → tells.files new ≡ tells.files old → tells.faults old ≤ tells.faults new
+      → tells.files new ≡ tells.files old → tells.faults new ≡ tells.faults old
       → Makes tells (call ∷ []) Starved old new
-  one_starved called same later = record {
+  one_starved called same still = record {
     tried = 0;
     within = omega arith;
     all = λ e. absurd (cc);
@@ -189,7 +189,7 @@ module _ {A : Type 0} (tells : Ghosts A) (call : Call) (old new : A) where
       each = λ e. refl;
       files = none_sealed same;
     };
-    faults = record { later = later; failed = λ e. absurd (cc) };
+    faults = record { later = omega (arith, still); failed = λ e. absurd (cc); still = λ e. still };
     planned = λ told memory. absurd (cc);
   }
 
@@ -324,6 +324,7 @@ module _ {A : Type 0} (tells : Ghosts A) (xs ys : List Call) where
         faults = record {
           later = omega (arith, first.faults.later, next.faults.later);
           failed = λ e. omega (arith, first.faults.later, next.faults.failed e);
+          still = λ e. next.faults.still e ∙ first.faults.still refl;
         };
         planned = λ told memory a armed.
             subst (λ (came : Came). Comes tells (xs ++ ys) ended (length xs + next.tried) old new came)
@@ -405,7 +406,7 @@ makes_none tells here = record {
     each = λ e. refl;
     files = sym (append-nil (tells.files here));
   };
-  faults = record { later = omega arith; failed = λ e. absurd (cc) };
+  faults = record { later = omega arith; failed = λ e. absurd (cc); still = λ e. refl };
   planned = λ told memory a armed. record { runs = refl; is_armed = armed };
 }
 

@@ -14,6 +14,7 @@ pub record IsAsked {A : Type 0} (tells : Ghosts A) (failed : Bool) (old new : A)
   pub calls : IsTrue tells.tells_calls → tells.calls new ≡ tells.calls old
   pub later : tells.faults old ≤ tells.faults new
   pub rose : failed ≡ true → Rose (tells.faults old) (tells.faults new)
+  pub still : failed ≡ false → tells.faults new ≡ tells.faults old
   pub planned : IsTrue tells.tells_plan → (a : Armed) → IsArmed a (tells.plan old)
       → (failed ≡ false) × IsArmed a (tells.plan new)
 

@@ -52,10 +52,11 @@ pub record HasSealed (calls : List Call) (ended : Ending) (tried : ℕ) (old new
   pub each : is_failed ended ≡ false → count ≡ tried
   pub files : new ≡ old ++ seals (take count calls)
 
--- The count of faults doesn't fall, and rose where a call failed.
+-- The count of faults doesn't fall, and rose where a call failed, in no other case.
 pub record HasFaults (ended : Ending) (before now : ℕ) : Type 0 where
   pub later : before ≤ now
   pub failed : ended ≡ Failed → Rose before now
+  pub still : is_failed ended ≡ false → now ≡ before
 
 -- how many of the calls up to a stop have done what they are to do
 abbrev pub done_at : ℕ → Outcome3 → ℕ

@@ -1,9 +1,10 @@
 //! What a writer asks of a shelf when it recovers.
-ghost use Rattle.std.specs.Prelude.{◌≡◌, ◌<◌, IsTrue, IfOk, OnOk, is_err, length};
+ghost use Rattle.std.specs.Prelude.{◌≡◌, ◌<◌, IsTrue, IfErr, IfOk, OnOk, is_err, length};
 ghost use Rattle.cdr_shelf.specs.Files.{greatest_in};
 ghost use Rattle.file_rotate.specs.Items.{AreLimits};
 ghost use Rattle.file_writer.specs.Asking.{HasAsked, IsAsked, IsFreshStream};
 ghost use Rattle.file_writer.specs.Streams.{stream_count};
+ghost use Rattle.file_writer.specs.declared.fault.ShelfFault.TheVariants.{Device};
 
 use crate::fault::ShelfFault;
 use crate::progress::Progress;
@@ -23,6 +24,7 @@ fn fresh_stream<F: Shelf>(
     ensures greatest { IsTrue F.tells_files →
         IfOk result (λ stream. stream.file.sealed ≡ greatest_in s (F.files shelf.old)) }
     ensures asked { IsAsked F.Shelf (is_err result) shelf.old shelf.new }
+    ensures cause { IfErr result (λ fault. fault ≡ Device) }
 {
     match shelf.sealed(s) {
         Ok(sealed) => Ok(Stream {
@@ -48,6 +50,7 @@ pub(crate) fn ask_all<F: Shelf>(
     requires sixteen { length streams.old ≡ stream_count }
     requires each { length sequences.now ≡ stream_count }
     ensures asked { IsAsked F.Shelf (is_err result) shelf.old shelf.new }
+    ensures cause { IfErr result (λ fault. fault ≡ Device) }
     ensures fresh { OnOk result (HasAsked F.Shelf limits sequences.now stream_count streams.new shelf.old shelf.new) }
 {
     for s in 0..16u8 {

@@ -1,4 +1,4 @@
-ghost use Rattle.std.specs.Prelude.{◌≡◌, ◌+◌, ◌-◌, ◌<◌, ◌^◌, ◌++◌, ℕ, List, [], IsTrue, OnOk, IfOk, All, true, false, is_err, length, min, slice_index};
+ghost use Rattle.std.specs.Prelude.{◌≡◌, ◌+◌, ◌-◌, ◌<◌, ◌^◌, ◌++◌, ℕ, List, [], IsTrue, OnOk, IfErr, IfOk, All, true, false, is_err, length, min, slice_index};
 ghost use Rattle.std.proofs.Props.{props};
 ghost use Rattle.cdr_shelf.specs.Files.{SealedFile, greatest_in};
 ghost use Rattle.file_rotate.specs.Items.{AreLimits};
@@ -7,6 +7,7 @@ ghost use Rattle.file_writer.specs.AllStreams.{IsFit};
 ghost use Rattle.file_writer.specs.Props.{Pairs-prop, ReadyWhere-prop};
 ghost use Rattle.file_writer.specs.Sound.{IsSound};
 ghost use Rattle.file_writer.specs.Streams.{stream_count};
+ghost use Rattle.file_writer.specs.declared.fault.ShelfFault.TheVariants.{Device};
 
 use crate::all_streams::take_all;
 use crate::asking::ask_all;
@@ -107,11 +108,12 @@ impl<F: Shelf> Writer<F> {
 
     /// Asks the shelf for the sealed files, and begins the items anew: the next one is the first of all.
     ///
-    /// It makes no counted call. After `Device` the writer is broken.
+    /// It makes no counted call. Its one fault is `Device`, after which the writer is broken.
     pub fn recover(&mut self) -> Result<(), ShelfFault>
         ensures broken { is_broken self.new ≡ is_err result }
         ensures settings { settings_in self.new ≡ settings_in self.old }
         ensures asked { IsAsked F.Shelf (is_err result) (shelf_of self.old) (shelf_of self.new) }
+        ensures cause { IfErr result (λ fault. fault ≡ Device) }
         ensures recovered { OnOk result (HasRecovered F.Shelf (λ s. 0) 0 self.old self.new) }
     {
         self.recover_from(0, [0; 16])
@@ -120,12 +122,13 @@ impl<F: Shelf> Writer<F> {
     /// Asks the shelf for the sealed files, and begins the items anew at the one with a number: of each stream so many
     /// files were closed before it, fewer than 2^31, and none is open.
     ///
-    /// It makes no counted call. After `Device` the writer is broken.
+    /// It makes no counted call. Its one fault is `Device`, after which the writer is broken.
     pub fn recover_from(&mut self, item: u64, sequences: [u32; 16]) -> Result<(), ShelfFault>
         requires { (s : ℕ) → s < stream_count → slice_index sequences s < 2 ^ 31 }
         ensures broken { is_broken self.new ≡ is_err result }
         ensures settings { settings_in self.new ≡ settings_in self.old }
         ensures asked { IsAsked F.Shelf (is_err result) (shelf_of self.old) (shelf_of self.new) }
+        ensures cause { IfErr result (λ fault. fault ≡ Device) }
         ensures recovered { OnOk result (HasRecovered F.Shelf (λ s. slice_index sequences s) item self.old self.new) }
     {
         self.is_broken = true;

@@ -13,6 +13,7 @@ returns-in-Err-clause-asked g c =
       calls = e.calls;
       later = e.cause.later;
       rose = λ h. e.cause.failed;
+      still = λ h. not_both h;
       planned = λ told a armed. not_both ((e.planned told).fails
           ∙ reads_run (g.F.Shelf.plan c.args.shelf.now) (armed_reads_run a (g.F.Shelf.plan c.args.shelf.now) armed));
     }

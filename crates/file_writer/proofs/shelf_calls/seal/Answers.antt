@@ -11,7 +11,7 @@ returns-in-Ok-clause-makes g c = λ file as_file.
     let e = c.in-Ok.ensures {u = tt} in
     one_went g.F.Shelf (Seals file) _ _ (λ told. e.calls told)
     (λ told. e.sealed told ∙ ap (λ (files : List SealedFile). g.F.Shelf.files c.args.shelf.now ++ files)
-    (as_file told)) e.cause.later
+    (as_file told)) e.cause.ok
     (λ told. let p = e.planned told in record { fails = p.fails; schedule = p.schedule })
 
 maybe_file : (new old files : List SealedFile) (file : SealedFile) → files ≡ file ∷ [] → (new ≡ old)

@@ -6,7 +6,7 @@ use Rattle.file_writer.proofs.shelf_calls.sync.Goals as goal
 pub returns-in-Ok-clause-makes : goal.returns-in-Ok-clause-makes
 returns-in-Ok-clause-makes g c =
     let e = c.in-Ok.ensures {u = tt} in
-    one_went g.F.Shelf Writes _ _ (λ told. e.calls told) (λ told. unsealed_by e.files) e.cause.later
+    one_went g.F.Shelf Writes _ _ (λ told. e.calls told) (λ told. unsealed_by e.files) e.cause.ok
     (λ told. let p = e.planned told in record { fails = p.fails; schedule = p.schedule })
 
 pub returns-in-Err-clause-makes : goal.returns-in-Err-clause-makes
