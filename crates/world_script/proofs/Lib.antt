@@ -5,12 +5,14 @@ pub mod LineLemmas
 pub mod OctetLemmas
 pub mod PrintLemmas
 pub mod PrintedLemmas
+pub mod ReadLemmas
 pub mod RecordLemmas
 pub mod SampleGrammar
 pub mod SampleLemmas
 pub mod SampleLines
 pub mod SampleTaken
 pub mod ScriptLemmas
+pub mod SettingLemmas
 pub mod SpokenLemmas
 pub mod TextLemmas
 pub mod ValueLemmas

@@ -1,6 +1,7 @@
 -- Which lines of a replay its world never refuses, as the lines before them say.
-use Rattle.std.specs.Prelude.{ℕ, Bool, true, false, not, ◌&&◌, ◌==◌, nat_le, List, [], ◌∷◌, filter}
+use Rattle.std.specs.Prelude.{ℕ, Bool, true, false, not, ◌&&◌, ◌==◌, nat_le, if◌then◌else◌, List, [], ◌∷◌, filter}
 use Rattle.std.specs.List.{list_any}
+use Rattle.world_script.specs.Script.{is_action_line, is_setting_line}
 use Rattle.world_script.specs.declared.line.Line.{Line}
 use Rattle.world_script.specs.declared.line.Line.TheVariants as line
 
@@ -65,9 +66,16 @@ after_line s (line.At moment) = record s { moment = moment }
 after_line s (line.Stop gateway) = record s { stopped = gateway ∷ s.stopped }
 after_line s (line.Open gateway) = record s { stopped = filter (λ g. not (g == gateway)) s.stopped }
 after_line s line.Settle = record s { stopped = [] }
+after_line s line.End = record s { stopped = [] }
 after_line s _ = s
 
 -- the world surely takes each of these lines
 abbrev pub takes_all : Scene → List Line → Bool
 takes_all s [] = true
 takes_all s (said ∷ lines) = takes s said && takes_all (after_line s said) lines
+
+-- settings stand before all other lines
+abbrev pub are_settings_first : List Line → Bool
+are_settings_first [] = true
+are_settings_first (said ∷ lines) =
+    if is_action_line said then not (list_any is_setting_line lines) else are_settings_first lines

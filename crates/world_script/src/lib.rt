@@ -14,6 +14,7 @@ mod extent;
 mod fault;
 mod keyword;
 mod kind;
+pub mod laws;
 mod line;
 mod mode;
 mod printing;
