@@ -34,7 +34,7 @@ torn_book v cuts = record { firm = v.firm; rest = v.rest; cuts = cuts; is_broken
 abbrev left_with : Gateway → List HistoryEntry → Gateway
 left_with g left = record { book = record g.book { rest = left; is_broken = false }; waiting = []; is_down = true; redirects = g.redirects }
 
-not_reached : (book : BookValue) (ws : List Waiting) (w : Waiting) → Contains (filter (λ v. not (is_reached book v)) ws) w → is_reached book w ≡ false
+pub not_reached : (book : BookValue) (ws : List Waiting) (w : Waiting) → Contains (filter (λ v. not (is_reached book v)) ws) w → is_reached book w ≡ false
 not_reached book ws w is = by (is_reached book w) (passed (λ v. not (is_reached book v)) ws w is)
   where
     by : (b : Bool) → not b ≡ true → b ≡ false

@@ -41,14 +41,14 @@ use Rattle.once_core.proofs.SceneLemmas.{at_same}
 -- ---- moves that come first
 
 -- a full batch that is committed leaves the history as it is
-book_is : (book : BookValue) (g : Gateway) → (with_book book g).gateway.book ≡ book
+pub book_is : (book : BookValue) (g : Gateway) → (with_book book g).gateway.book ≡ book
 book_is book g = by book.is_broken
   where
     by : (b : Bool) → (if b then giving_up (record g { book = book }) else settling (record g { book = book })).gateway.book ≡ book
     by true = refl
     by false = refl
 
-ready_history : (rules : Rules) (f : Fortune) (g : Gateway) → g.book.is_broken ≡ false → (readying rules f g).gateway.book.is_broken ≡ false
+pub ready_history : (rules : Rules) (f : Fortune) (g : Gateway) → g.book.is_broken ≡ false → (readying rules f g).gateway.book.is_broken ≡ false
     → history_of (readying rules f g).gateway.book ≡ history_of g.book
 ready_history rules f g sound = by (g.book.is_broken || rules.is_full g.book)
   where

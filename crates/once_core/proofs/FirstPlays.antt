@@ -105,7 +105,7 @@ times_behind zero x k le = refl
 times_behind (suc n) x zero le = absurd (omega (arith, le))
 times_behind (suc n) x (suc k) le = times_behind n x k (omega (arith, le))
 
-times_each : {A : Type 0} (n : ℕ) (x : A) (k : ℕ) (y : A) → slice_get (times_of n x) k ≡ Some y → x ≡ y
+pub times_each : {A : Type 0} (n : ℕ) (x : A) (k : ℕ) (y : A) → slice_get (times_of n x) k ≡ Some y → x ≡ y
 times_each zero x k y e = absurd (cc)
 times_each (suc n) x zero y e = cc
 times_each (suc n) x (suc k) y e = times_each n x k y e

@@ -2,7 +2,7 @@
 use Rattle.std.proofs.Common.{◌≡◌, ⊎_elim, ℕ, suc, ◌≤◌, ◌==◌, nat_lt, Bool, true, false, if◌then◌else◌, List, [], ◌∷◌, Option, Some, None, Contains, refl, sym, ap, subst, ◌∙◌, arith}
 use Rattle.std.proofs.lemmas.List.Elements.{Contains-push_cases}
 use Rattle.gtpp_message.specs.Packet.{PacketForm}
-use Rattle.node_core.specs.Log.{LogEntry, Began, Halted, Submitted, Appointed, forms_of, runs, submitted}
+use Rattle.node_core.specs.Log.{LogEntry, Began, Halted, Submitted, Appointed, forms_of, paths_of, runs, submitted}
 use Rattle.node_core.specs.Moving.{appointing}
 use Rattle.node_core.specs.Reached.{NodeCall, call_entries, log_of, most_submissions, submit_entries}
 use Rattle.node_core.specs.Reached as call
@@ -86,6 +86,10 @@ pub appointed_runs : (o : Option ℕ) (log : List LogEntry) → runs (logged (ap
 appointed_runs None log = refl
 appointed_runs (Some gateway) log = refl
 
+pub appointed_paths : (first : ℕ) (o : Option ℕ) (log : List LogEntry) → paths_of first (logged (appointing o) log) ≡ paths_of first log
+appointed_paths first None log = refl
+appointed_paths first (Some gateway) log = refl
+
 -- ---- calls
 
 module _ (gateways place : ℕ) (log : List LogEntry) (is : NodeRightly gateways place log) where
@@ -102,7 +106,7 @@ module _ (gateways place : ℕ) (log : List LogEntry) (is : NodeRightly gateways
   }
 
   -- a packet that is taken, or not
-  either : (P : List LogEntry → Type 0) (form : PacketForm) → P log → P (Submitted form ∷ log) → P (log_after gateways place (call.Submit form) log)
+  pub either : (P : List LogEntry → Type 0) (form : PacketForm) → P log → P (Submitted form ∷ log) → P (log_after gateways place (call.Submit form) log)
   either P form none one = by (runs log)
     where
       by_number : (b : Bool) → P (logged (if b then Submitted form ∷ [] else []) log)

@@ -79,17 +79,17 @@ path_silent back m number (AliveTold n) =
 
 -- ---- a start that becomes known is greater than the one before
 
-fresh_start : (h : List HistoryEntry) (m : world.Message) → is_expired h m ≡ false → start_of (node_ip m.node) h ≤ m.start
+pub fresh_start : (h : List HistoryEntry) (m : world.Message) → is_expired h m ≡ false → start_of (node_ip m.node) h ≤ m.start
 fresh_start h m fresh = by (nat_lt m.start (present_start h m)) refl fresh
   where
     by : (b : Bool) → nat_lt m.start (present_start h m) ≡ b → (b || (is_request m && is_expired_request h m)) ≡ false → start_of (node_ip m.node) h ≤ m.start
     by true e isnt = absurd (false≢true (sym isnt))
     by false e isnt = ltb-false m.start (present_start h m) e
 
-some_number : (a b : ℕ) → Some a ≡ Some b → a ≡ b
+pub some_number : (a b : ℕ) → Some a ≡ Some b → a ≡ b
 some_number a b e = ap (λ (o : Option ℕ). elim o [ None ↦ a | Some c ↦ c ]) e
 
-rises : (opening : Option Opening) (counter path : ℕ) → 1 ≤ counter → start_by opening ≤ counter
+pub rises : (opening : Option Opening) (counter path : ℕ) → 1 ≤ counter → start_by opening ≤ counter
     → opened_by (option_map (λ o. o.counter) opening) counter ≡ Some path → nat_lt (start_by opening) path ≡ true
 rises None counter path some low e = let same = some_number counter path e in lt-ltb 0 path (omega (arith, some, same))
 rises (Some o) counter path some low e = by (o.counter == counter) refl e

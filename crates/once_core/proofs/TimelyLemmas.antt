@@ -78,7 +78,7 @@ fresh_message h m present read =
 -- ---- a request of a tick is about an open copy
 
 module _ (sent : RequestsSent) (one_each : OneCopyEach) (setup : NodeSetup) (calls : List NodeCall) (some : 1 ≤ length setup.gateways) (running : runs (log_of setup calls) ≡ true) where
-  abbrev behind : List LogEntry
+  abbrev pub behind : List LogEntry
   behind = Ticked (due (reached setup calls)) ∷ logged (appointing (moved_at_tick (reached setup calls))) (log_of setup calls)
 
   ticked : (o : Option ℕ) (sendings : List Sending) → logged (appointing o ++ Ticked sendings ∷ []) (log_of setup calls) ≡ Ticked sendings ∷ logged (appointing o) (log_of setup calls)

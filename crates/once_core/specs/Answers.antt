@@ -75,6 +75,12 @@ delivered rules now f m g =
     if g.is_down then still g
     else if_broken (delivered_broken rules now f m) (delivered_running rules now f m) g
 
+-- the same where nobody asks whether the message is expired
+abbrev pub taken_in : Rules → ℕ → Fortune → Message → Gateway → Moved
+taken_in rules now f m g =
+    if g.is_down then still g
+    else followed (readying rules f g) (if_broken (if g.book.is_broken then still else failed m) (answered rules now m))
+
 -- Marks.
 
 -- a mark is recorded where it is due, once the journal is ready

@@ -25,3 +25,13 @@ pub mod Story
 -- What a world is by what its messages mean.
 pub mod Meaning
 pub mod Shown
+-- What a world that runs keeps.
+pub mod Standing
+pub mod HistoryKept
+pub mod GatewayFields
+pub mod Moves
+pub mod Redirecting
+pub mod NodeMoves
+pub mod KeptTurn
+pub mod Stepping
+pub mod WorldFields

@@ -3,7 +3,8 @@ use gw_base::{Moment, Octets};
 /// What happens next in a world. Gateways, nodes and messages are counted from 1.
 #[derive(Debug, Drop)]
 pub enum Event {
-    /// A node is given a packet, by the octets of its value.
+    /// A node is given a packet, by the octets of its value. What is no draft, or what the node refuses,
+    /// does nothing.
     Submit {
         node: u8,
         packet: Octets,
@@ -37,8 +38,8 @@ pub enum Event {
     Start {
         node: u8,
     },
-    /// A gateway asks all nodes that it has a path to to send elsewhere, to another gateway where
-    /// that is given.
+    /// A gateway asks each node to which it has a path to send elsewhere, to another gateway where one
+    /// is given.
     Redirect {
         gateway: u8,
         cause: u8,
@@ -86,6 +87,6 @@ pub enum Stepped {
     Done { first: u64, count: u64 },
     /// The world doesn't allow it, and is as before.
     Refused(WorldKind),
-    /// The world is as before.
+    /// There isn't enough memory, and no event is played any more.
     NoMemory,
 }

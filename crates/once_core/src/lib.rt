@@ -6,16 +6,31 @@
 //! filing once means. The contract is that of the laws, which hold for all settings and whatever
 //! happens: `world_laws` of worlds with the octets of their messages, first of all that each record is
 //! filed once; `once_laws` of what messages mean; and `shown_laws` of how a world is what happens where
-//! messages are what they mean. No call plays events yet.
+//! messages are what they mean. `World` plays events, each as a turn of the definition.
 #![tactic(auto)]
 
+mod addresses;
 mod event;
+mod expired;
+mod gateway;
+mod gateway_turn;
 mod message;
+mod node_turn;
 pub mod once_laws;
+#[cfg(test)]
+mod random_tests;
+mod refusing;
+mod room;
 pub mod shown_laws;
 #[cfg(test)]
+mod stories;
+#[cfg(test)]
 mod worked_tests;
+mod world;
 pub mod world_laws;
+#[cfg(test)]
+mod world_tests;
 
 pub use event::{Event, Stepped, WorldKind};
 pub use message::{Message, Waiting};
+pub use world::World;

@@ -1,5 +1,8 @@
-use gw_base::{Absolute, Octets};
+ghost use Rattle.std.specs.Prelude.{◌≡◌, IfOk};
+
+use gw_base::{Absolute, NoMemory, Octets};
 use node_core::Port;
+use std::alloc::Global;
 
 /// A message that was sent, with what its sender meant by it. Gateways and nodes are places in the
 /// world's lists, counted from 0.
@@ -19,6 +22,24 @@ pub struct Message {
     /// The whole number of the copy that a release or a cancel names.
     pub named: Option<Absolute>,
     pub octets: Octets,
+}
+
+impl Message {
+    /// The same message.
+    pub(crate) fn copy(&self, alloc: Global) -> Result<Message, NoMemory>
+        ensures { IfOk result (λ message. message ≡ self.now) }
+    {
+        Ok(Message {
+            to_gateway: self.to_gateway,
+            gateway: self.gateway,
+            node: self.node,
+            port: self.port,
+            start: self.start,
+            number: self.number,
+            named: self.named,
+            octets: Octets::of(alloc, self.octets.octets())?,
+        })
+    }
 }
 
 /// An answer that is sent once so many entries of the gateway's history are firm.

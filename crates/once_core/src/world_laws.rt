@@ -1,6 +1,6 @@
 //! Laws of worlds. Each holds for all settings, and stands on a function that does nothing.
 
-ghost use Rattle.std.specs.Prelude.{◌≡◌, ◌-◌, ◌≤◌, ℕ, Bool, true, false, Contains, List, None, Some, length, slice_get};
+ghost use Rattle.std.specs.Prelude.{◌≡◌, ◌-◌, ◌<◌, ◌≤◌, ℕ, Bool, true, false, Contains, List, None, Some, length, slice_get};
 ghost use Rattle.file_writer.specs.Places.{FilePlace, place_in};
 ghost use Rattle.file_writer.specs.Streams.{Settings};
 ghost use Rattle.gateway_book.specs.Filed.{filed};
@@ -11,17 +11,18 @@ ghost use Rattle.gw_base.specs.History.{state_of};
 ghost use Rattle.gw_base.specs.declared.history.HistoryEntry.{HistoryEntry};
 ghost use Rattle.gw_base.specs.declared.history.PacketKey.{PacketKey};
 ghost use Rattle.once_core.specs.Admitted.{AllAdmitted, moves_on};
+ghost use Rattle.once_core.specs.Answers.{taken_in};
 ghost use Rattle.once_core.specs.Beginning.{world_of};
 ghost use Rattle.once_core.specs.FilePlaces.{file_places};
 ghost use Rattle.once_core.specs.Gateway.{Gateway, Rules, cut};
-ghost use Rattle.once_core.specs.Expired.{is_expired, present_start};
+ghost use Rattle.once_core.specs.Expired.{is_expired};
 ghost use Rattle.once_core.specs.Growing.{GoesOn, HoldSame, IsBetween};
 ghost use Rattle.once_core.specs.Messages.{is_request};
 ghost use Rattle.once_core.specs.Once.{Once, firm_in};
 ghost use Rattle.once_core.specs.Shown.{post_of};
-ghost use Rattle.once_core.specs.Turn.{Turn, log_in, refusal_of, turns};
+ghost use Rattle.once_core.specs.Turn.{Turn, at_gateway, log_in, refusal_of, turn, turns};
 ghost use Rattle.once_core.specs.World.{World, ticking};
-ghost use Rattle.once_core.specs.declared.event.Event.TheVariants.{Tick};
+ghost use Rattle.once_core.specs.declared.event.Event.TheVariants.{Deliver, Tick};
 ghost use Rattle.once_core.specs.declared.message.Message.{Message};
 
 use crate::once_laws::{a_node_follows_the_procedure, a_node_knows_what_it_was_told};
@@ -41,15 +42,22 @@ pub fn each_record_is_filed_once()
     a_node_follows_the_procedure();
 }
 
-/// A request that a node sends in a tick isn't expired at a gateway whose present epoch is that of the
-/// node's start, be the gateway asked by what is firm alone or with entries that follow.
-pub fn a_request_of_the_present_start_is_not_expired()
-    ensures { (rules : Rules) (gateways nodes : ℕ) (all : List Turn) (node : ℕ) (m : Message) (g : Gateway)
+/// A Data Record Transfer Request that a node sends in a tick isn't expired: in the world right after
+/// the tick its gateway knows the node's start as the present one, and takes the number that the
+/// request speaks of for the one that was meant, by what is firm alone and with any entries that
+/// follow. So where the next event delivers it, the gateway does what it does to a message whose age
+/// nobody asks for.
+pub fn what_a_tick_sends_is_not_expired()
+    ensures sent { (rules : Rules) (gateways nodes : ℕ) (all : List Turn) (node : ℕ) (m : Message) (g : Gateway)
         (h : List HistoryEntry) → 1 ≤ gateways → let w = turns rules (world_of rules gateways nodes) all in
         refusal_of w (Tick node) ≡ None →
         Contains (ticking (length w.gateways) (node - 1) (log_in w node)).sends m → is_request m ≡ true →
-        slice_get w.gateways m.gateway ≡ Some g → IsBetween (post_of g) h → present_start h m ≡ m.start →
-        is_expired h m ≡ false }
+        slice_get w.gateways m.gateway ≡ Some g → IsBetween (post_of g) h → is_expired h m ≡ false }
+    ensures delivered { (rules : Rules) (gateways nodes : ℕ) (all : List Turn) (tick next : Turn) (node number : ℕ)
+        (m : Message) → 1 ≤ gateways → let before = turns rules (world_of rules gateways nodes) all in
+        let after = turn rules before tick in tick.event ≡ Tick node → next.event ≡ Deliver number →
+        length before.messages < number → slice_get after.messages (number - 1) ≡ Some m → is_request m ≡ true →
+        turn rules after next ≡ at_gateway after m.gateway (taken_in rules after.now next.fortune m) }
 {
     gw_base::nearest_is_the_one();
     gtpp_message::laws::written_is_read_back();

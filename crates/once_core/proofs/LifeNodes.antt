@@ -1,0 +1,211 @@
+-- A gateway is alive to a node only where the node's start is firm: what a node's calls leave of that.
+use Rattle.std.proofs.Common.{◌≡◌, ⊎_elim, ℕ, ◌≤◌, ◌==◌, ◌&&◌, ◌||◌, inl, inr, not, Bool, true, false, if◌then◌else◌, List, [], ◌∷◌, ◌++◌, map, Option, Some, None, Contains, refl, sym, ap, subst, ◌∙◌, arith}
+use Rattle.std.specs.Option.{option_map_or}
+use Rattle.std.proofs.lemmas.Bool.{eqb-true, false≢true}
+use Rattle.gtpp_message.specs.Message.{MessageValue, EchoRequest, EchoResponse, VersionNotSupported, NodeAliveRequest, NodeAliveResponse, RedirectionRequest, RedirectionResponse, TransferRequest, TransferResponse}
+use Rattle.gtpp_message.specs.Packet.{PacketForm}
+use Rattle.gtpp_message.specs.Reading.{Message, ReadingValue}
+use Rattle.gtpp_message.specs.Role.{for_role}
+use Rattle.gtpp_message.specs.Writing.{written}
+use Rattle.gtpp_message.specs.declared.message_types.TheConstants.{NODE_ALIVE_RESPONSE}
+use Rattle.gtpp_message.specs.declared.role.Role.TheVariants as role
+use Rattle.gateway_book.specs.PreparingLaws.{RolesRead}
+use Rattle.gw_base.specs.Nearest.{nearest}
+use Rattle.gw_base.specs.declared.cause.TheConstants.{ACCEPTED}
+use Rattle.path_mgmt.specs.NodePath.{is_alive, node_anew}
+use Rattle.path_mgmt.specs.declared.event.PathEvent.TheVariants.{EchoAsked, EchoTold, AliveTold}
+use Rattle.node_core.specs.Hearing.{Says, Taken, entries_from, heard_entries, heeding, heeds, heeds_from, taken_entries, taken_of}
+use Rattle.node_core.specs.Log.{LogEntry, Began, Halted, Submitted, Appointed, Ticked, Heard, Saying, Path, Redirects, Responds, Other, paths_of, runs}
+use Rattle.node_core.specs.Moving.{appointing, moved_at_tick, moved_by}
+use Rattle.node_core.specs.Octets.{outgoing}
+use Rattle.node_core.specs.Peers.{last_number, place_of}
+use Rattle.node_core.specs.Reached as call
+use Rattle.node_core.specs.Ticks.{due, tick_entries}
+use Rattle.node_core.specs.Value.{NodeValue, logged}
+use Rattle.node_core.specs.declared.sending.Sending.{Sending}
+use Rattle.once_core.specs.Addresses.{gateway_address}
+use Rattle.once_core.specs.Expired.{is_expired_at_node, is_taken_for_another, starts_in}
+use Rattle.once_core.specs.Messages.{answering, is_response}
+use Rattle.once_core.specs.World.{Called, answers_of, called, delivered_to_node, draft_of, message_of, node_value, submitting, submitting_form, ticking}
+use Rattle.once_core.specs.declared.message.Message as world
+use Rattle.once_core.proofs.AliveLemmas.{none_alive, told_cases}
+use Rattle.once_core.proofs.LifeMoves.{tells_alive}
+use Rattle.once_core.proofs.ListLemmas.{in_cons, in_none}
+use Rattle.once_core.proofs.LogLemmas.{place_is, starts_again, starts_same}
+use Rattle.once_core.proofs.MeaningLemmas.{FromGateway, GatewaySaid, IsWritten, ReadsBack, role_read_of, type_of}
+use Rattle.once_core.proofs.NodePlays.{NodeRightly, appointed_paths, appointed_starts, either}
+use Rattle.once_core.proofs.RequestPlays.{both_false, not_false}
+use Rattle.once_core.proofs.WaitingLemmas.{of_map}
+
+-- Where a gateway is alive to the node of this log, the node's starts are at most those that the gateway knows firmly.
+abbrev pub LifeIn : (ℕ → ℕ) → List LogEntry → Type 0
+LifeIn known log = (gateway : ℕ) → is_alive (paths_of 1 log) gateway ≡ true → starts_in log ≤ known gateway
+
+-- a call leaves it so; what it sends is of the node, and of a start that it made
+pub record LifeCalled (known : ℕ → ℕ) (place : ℕ) (log : List LogEntry) (done : Called) : Type 0 where
+  pub grows : starts_in log ≤ starts_in done.log
+  pub alive : LifeIn known done.log
+  pub sends : (m : world.Message) → Contains done.sends m → (m.to_gateway ≡ true) × (m.node ≡ place) × (m.start ≤ starts_in done.log)
+
+module _ (known : ℕ → ℕ) (place : ℕ) (log : List LogEntry) (life : LifeIn known log) where
+  -- nothing is sent
+  quiet_life : (after : List LogEntry) → starts_in log ≤ starts_in after → LifeIn known after → LifeCalled known place log (record { log = after; sends = [] })
+  quiet_life after grows alive = record { grows = grows; alive = alive; sends = λ m is. absurd (in_none m is) }
+
+  same_life : LifeCalled known place log (record { log = log; sends = [] })
+  same_life = quiet_life log (omega arith) life
+
+  -- a node that begins or ends knows of no gateway that is alive
+  anew_life : (after : List LogEntry) (counter : ℕ) → paths_of 1 after ≡ node_anew counter → LifeIn known after
+  anew_life after counter is gateway alive = absurd (false≢true (sym (ap (λ paths. is_alive paths gateway) is ∙ none_alive counter gateway) ∙ alive))
+
+  -- an entry that neither begins the node nor is heard
+  entry_life : (entry : LogEntry) → starts_in (entry ∷ log) ≡ starts_in log → paths_of 1 (entry ∷ log) ≡ paths_of 1 log → LifeIn known (entry ∷ log)
+  entry_life entry starts paths gateway alive = let low = life gateway (ap (λ p. is_alive p gateway) (sym paths) ∙ alive) in omega (arith, starts, low)
+
+  -- ---- what the driver asks
+
+  pub halt_life : (gateways : ℕ) → LifeCalled known place log (called gateways place call.Halt log)
+  halt_life gateways = by (runs log)
+    where
+      halted : LifeCalled known place log (record { log = Halted ∷ log; sends = [] })
+      halted = quiet_life (Halted ∷ log) (let same = starts_same Halted log refl in omega (arith, same)) (anew_life (Halted ∷ log) _ refl)
+
+      by : (b : Bool) → LifeCalled known place log (record { log = logged (if b then Halted ∷ [] else Halted ∷ []) log; sends = [] })
+      by true = halted
+      by false = halted
+
+  pub start_life : (gateways : ℕ) → LifeCalled known place log (called gateways place call.Start log)
+  start_life gateways = by (runs log)
+    where
+      by : (b : Bool) → LifeCalled known place log (record { log = logged (if b then [] else Began ∷ []) log; sends = [] })
+      by true = same_life
+      by false = quiet_life (Began ∷ log) (let more = starts_again log in omega (arith, more)) (anew_life (Began ∷ log) _ refl)
+
+  pub submit_life : (gateways : ℕ) → NodeRightly gateways place log → (octets : List ℕ) → LifeCalled known place log (submitting gateways place octets log)
+  submit_life gateways rightly octets = by (draft_of octets)
+    where
+      by : (o : Option PacketForm) → LifeCalled known place log (submitting_form gateways place o log)
+      by None = same_life
+      by (Some form) =
+          either gateways place log rightly (λ l. LifeCalled known place log (record { log = l; sends = [] })) form same_life
+          (let same = starts_same (Submitted form) log refl in quiet_life (Submitted form ∷ log) (omega (arith, same)) (entry_life (Submitted form) same refl))
+
+  pub tick_life : (gateways : ℕ) → LifeCalled known place log (ticking gateways place log)
+  tick_life gateways = by (runs log)
+    where
+      all_sent : (after : List LogEntry) → starts_in log ≤ starts_in after → (m : world.Message)
+          → Contains (map (λ s. message_of place log (outgoing (node_value gateways place log) s)) (due (node_value gateways place log))) m
+          → (m.to_gateway ≡ true) × (m.node ≡ place) × (m.start ≤ starts_in after)
+      all_sent after grows m is =
+          let there = of_map (λ (s : Sending). message_of place log (outgoing (node_value gateways place log) s)) (due (node_value gateways place log)) m is in
+          subst (λ (k : world.Message). (k.to_gateway ≡ true) × (k.node ≡ place) × (k.start ≤ starts_in after)) there.2 (refl, refl, grows)
+
+      one : (after : List LogEntry) → starts_in after ≡ starts_in log → paths_of 1 after ≡ paths_of 1 log
+          → LifeCalled known place log (record { log = after; sends = map (λ s. message_of place log (outgoing (node_value gateways place log) s)) (due (node_value gateways place log)) })
+      one after starts paths = record {
+        grows = omega (arith, starts);
+        alive = λ gateway alive. let low = life gateway (ap (λ p. is_alive p gateway) (sym paths) ∙ alive) in omega (arith, starts, low);
+        sends = all_sent after (omega (arith, starts));
+      }
+
+      moved : (o : Option ℕ) (sendings : List Sending) → LifeCalled known place log (record {
+        log = logged (appointing o ++ Ticked sendings ∷ []) log;
+        sends = map (λ s. message_of place log (outgoing (node_value gateways place log) s)) (due (node_value gateways place log));
+      })
+      moved None sendings = one (Ticked sendings ∷ log) (starts_same (Ticked sendings) log refl) refl
+      moved (Some gateway) sendings = one (Ticked sendings ∷ Appointed gateway ∷ log)
+          (starts_same (Ticked sendings) (Appointed gateway ∷ log) refl ∙ starts_same (Appointed gateway) log refl) refl
+
+      by : (b : Bool) → LifeCalled known place log (record {
+        log = logged (if b then tick_entries (node_value gateways place log) else []) log;
+        sends = map (λ s. message_of place log (outgoing (node_value gateways place log) s)) (due (node_value gateways place log));
+      })
+      by true = moved (moved_at_tick (node_value gateways place log)) (due (node_value gateways place log))
+      by false = one log refl refl
+
+-- ---- what a node hears
+
+module _ (known : ℕ → ℕ) (gateways : ℕ) (m : world.Message) (log : List LogEntry) (life : LifeIn known log) (back : ReadsBack) (roles : RolesRead) (from : m.to_gateway ≡ false)
+    (said : GatewaySaid m) (told : tells_alive m ≡ true → m.start ≤ known m.gateway) where
+  abbrev value : NodeValue
+  value = node_value gateways m.node log
+
+  nothing_life : LifeCalled known m.node log (record { log = log; sends = [] })
+  nothing_life = same_life known m.node log life
+
+  module _ (start : m.start ≡ starts_in log) where
+    answers_life : (reply : Option (List ℕ)) (after : List LogEntry) → starts_in log ≤ starts_in after → (k : world.Message)
+        → Contains (option_map_or (λ octets. answering m octets ∷ []) reply []) k → (k.to_gateway ≡ true) × (k.node ≡ m.node) × (k.start ≤ starts_in after)
+    answers_life None after grows k is = absurd (in_none k is)
+    answers_life (Some octets) after grows k is =
+        subst (λ (j : world.Message). (j.to_gateway ≡ true) × (j.node ≡ m.node) × (j.start ≤ starts_in after))
+        (elim (in_cons (answering m octets) k [] is) [ inl e ↦ e | inr none ↦ absurd (in_none k none) ]) (ap not from, refl, omega (arith, start, grows))
+
+    -- what is heard leaves the starts as they are; the gateways that are alive then were alive, or told so
+    heard_life : (saying : Saying) (reply : Option (List ℕ))
+        → ((gateway : ℕ) → is_alive (paths_of 1 (Heard m.port m.gateway saying ∷ log)) gateway ≡ true → starts_in log ≤ known gateway)
+        → (sends : List world.Message) → sends ≡ option_map_or (λ octets. answering m octets ∷ []) reply []
+        → LifeCalled known m.node log (record { log = logged (appointing (moved_by value m.port m.gateway saying)) (Heard m.port m.gateway saying ∷ log); sends = sends })
+    heard_life saying reply alive sends e = record {
+      grows = omega (arith, starts);
+      alive = λ gateway is.
+          let low = alive gateway (ap (λ p. is_alive p gateway) (sym (appointed_paths 1 (moved_by value m.port m.gateway saying) (Heard m.port m.gateway saying ∷ log))) ∙ is) in
+          omega (arith, low, starts);
+      sends = λ k is. answers_life reply (logged (appointing (moved_by value m.port m.gateway saying)) (Heard m.port m.gateway saying ∷ log)) (omega (arith, starts)) k
+          (subst (λ (ks : List world.Message). Contains ks k) e is);
+    }
+      where
+        starts : starts_in (logged (appointing (moved_by value m.port m.gateway saying)) (Heard m.port m.gateway saying ∷ log)) ≡ starts_in log
+        starts = appointed_starts (moved_by value m.port m.gateway saying) (Heard m.port m.gateway saying ∷ log) ∙ starts_same (Heard m.port m.gateway saying) log refl
+
+    abbrev taking : Taken → Called
+    taking t = record { log = logged (taken_entries value m.port m.gateway t) log; sends = answers_of m (heeding value m.port m.gateway t) }
+
+    quiet_heard : (saying : Saying) (reply : Option (List ℕ)) → paths_of 1 (Heard m.port m.gateway saying ∷ log) ≡ paths_of 1 log → LifeCalled known m.node log (taking (Says saying reply))
+    quiet_heard saying reply same = heard_life saying reply (λ gateway is. life gateway (ap (λ p. is_alive p gateway) (sym same) ∙ is)) (answers_of m (heeding value m.port m.gateway (Says saying reply))) refl
+
+    abbrev read : MessageValue → Called
+    read message = taking (taken_of value.paths.counter (last_number value.gateways m.gateway) (for_role role.Node (Message said.path message)))
+
+    message_life : (message : MessageValue) → IsWritten m.octets said.path message → FromGateway m said.path message → LifeCalled known m.node log (read message)
+    message_life (TransferResponse cause responded) w fits = quiet_heard (Responds cause (map (nearest (Some (last_number value.gateways m.gateway))) responded)) None refl
+    message_life (RedirectionRequest cause to) w fits = quiet_heard (Redirects to) (Some (written said.path (RedirectionResponse ACCEPTED))) refl
+    message_life (RedirectionResponse cause) w fits = quiet_heard Other None refl
+    message_life EchoRequest w fits = quiet_heard (Path (EchoAsked said.path)) (Some (written said.path (EchoResponse value.paths.counter))) refl
+    message_life (EchoResponse counter) w fits = quiet_heard (Path (EchoTold said.path counter)) None refl
+    message_life NodeAliveResponse w fits = heard_life (Path (AliveTold said.path)) None
+        (λ gateway is. ⊎_elim
+        (λ same. let low = tells in subst (λ (q : ℕ). starts_in log ≤ known q) (sym same) (omega (arith, low, start)))
+        (λ was. life gateway was)
+        (told_cases (paths_of 1 log) m.gateway said.path gateway is))
+        [] refl
+      where
+        tells : m.start ≤ known m.gateway
+        tells = told (ap (λ (o : Option ℕ). option_map_or (λ k. k == NODE_ALIVE_RESPONSE) o false) (type_of m.octets said.path NodeAliveResponse w.is))
+    message_life (NodeAliveRequest address) w fits = nothing_life
+    message_life VersionNotSupported w fits = nothing_life
+    message_life (TransferRequest body) w fits = absurd fits
+
+  pub hear_life : LifeCalled known m.node log (delivered_to_node gateways m.node m log)
+  hear_life = by (runs log) refl (is_expired_at_node log value m) refl
+    where
+      heard : (start : m.start ≡ starts_in log) → (o : Option ℕ) → place_of value.gateways (gateway_address m.gateway).ip ≡ o
+          → LifeCalled known m.node log (record { log = logged (entries_from value m.port o m.octets) log; sends = answers_of m (heeds_from value m.port o m.octets) })
+      heard start None e = nothing_life
+      heard start (Some p) e =
+          subst (λ (q : ℕ). LifeCalled known m.node log (record { log = logged (entries_from value m.port (Some q) m.octets) log; sends = answers_of m (heeds_from value m.port (Some q) m.octets) }))
+          (sym (place_is gateways log m.gateway p e))
+          (subst (λ (r : ReadingValue). LifeCalled known m.node log (taking start (taken_of value.paths.counter (last_number value.gateways m.gateway) r)))
+          (sym (role_read_of back roles role.Node m.octets said.path said.message said.written)) (message_life start said.message said.written said.fits))
+
+      by : (running : Bool) → runs log ≡ running → (late : Bool) → is_expired_at_node log value m ≡ late
+          → LifeCalled known m.node log (if not running || late then record { log = log; sends = [] } else record {
+            log = logged (if running then heard_entries value m.port (gateway_address m.gateway) m.octets else []) log;
+            sends = answers_of m (heeds value m.port (gateway_address m.gateway) m.octets);
+          })
+      by false e late isnt = nothing_life
+      by true e true isnt = nothing_life
+      by true e false isnt =
+          let both = both_false (not (m.start == starts_in log)) (is_response m && is_taken_for_another value m) isnt in
+          heard (eqb-true m.start (starts_in log) (not_false (m.start == starts_in log) both.0)) (place_of value.gateways (gateway_address m.gateway).ip) refl

@@ -1,0 +1,123 @@
+-- A turn of a world that is kept is the turn of the world that it stands for.
+use Rattle.std.proofs.Common.{◌≡◌, ℕ, ◌-◌, ◌≤◌, Bool, true, false, not, if◌then◌else◌, List, [], ◌∷◌, length, Option, Some, None, refl, ap, sym, ◌∙◌, subst, true≢false}
+use Rattle.std.specs.Option.{option_map, option_map_or, option_or}
+use Rattle.std.specs.Prelude.{slice_get}
+use Rattle.node_core.specs.Log.{LogEntry, Halted, runs}
+use Rattle.node_core.specs.Reached.{Halt, Start}
+use Rattle.node_core.specs.Ticks.{tick_entries}
+use Rattle.once_core.proofs.KeptMoveLemmas.{keeps_committing, keeps_cut, keeps_delivered, keeps_marking_close, keeps_marking_tick, moves_kept, opened_kept, redirects_kept}
+use Rattle.once_core.proofs.KeptTurnLemmas.{gateway_changes, gateway_turns, node_changes, node_turns}
+use Rattle.once_core.proofs.NodeCallLemmas.{NodeLaw, calls_halt, calls_hear, calls_start, calls_submit, nothing}
+use Rattle.once_core.proofs.NodeTickLemmas.{calls_tick}
+use Rattle.once_core.specs.Answers.{delivered, making_close, making_tick, marked, redirected}
+use Rattle.once_core.specs.Beginning.{default_rules}
+use Rattle.once_core.specs.Expired.{starts_in}
+use Rattle.once_core.specs.Gateway.{committing, cut, opened, still}
+use Rattle.once_core.specs.KeptTurn.{reaching, started_again, turn_kept, with_gateway, with_node}
+use Rattle.once_core.specs.NodeMoves.{answered_by, due_messages, heard_by, submitted_entries, with_entries}
+use Rattle.once_core.specs.Redirecting.{redirected_kept}
+use Rattle.once_core.specs.Standing.{quiet, world_kept}
+use Rattle.once_core.specs.Turn.{at_gateway, at_node, calm, delivering, log_in, no_node, refusal_of, refusal_to_start, refusing, turn, turn_by, unless_refused}
+use Rattle.once_core.specs.World.{World, called, delivered_to_node, draft_of, submitting, ticking}
+use Rattle.once_core.specs.declared.event.Event.{Event}
+use Rattle.once_core.specs.declared.event.Event.TheVariants as event
+use Rattle.once_core.specs.declared.event.WorldKind.{WorldKind}
+use Rattle.once_core.specs.declared.event.WorldKind.TheVariants.{Halted as IsHalted, Running}
+use Rattle.once_core.specs.declared.message.Message.{Message}
+
+-- ---- what an event that isn't refused tells
+
+pub or_none : (a b : Option WorldKind) → option_or a b ≡ None → b ≡ None
+or_none None b is = is
+or_none (Some k) b is = absurd (cc is)
+
+pub first_none : (a b : Option WorldKind) → option_or a b ≡ None → a ≡ None
+first_none None b is = refl
+first_none (Some k) b is = absurd (cc is)
+
+pub refusing_none : (b : Bool) (k : WorldKind) → refusing b k ≡ None → b ≡ false
+refusing_none true k is = absurd (cc is)
+refusing_none false k is = refl
+
+pub not_false : (b : Bool) → not b ≡ false → b ≡ true
+not_false true is = refl
+not_false false is = absurd (true≢false is)
+
+log_found : (w : World) (number : ℕ) (log : List LogEntry) → slice_get w.nodes (number - 1) ≡ Some log → log_in w number ≡ log
+log_found w number log is = ap (λ (o : Option (List LogEntry)). option_map_or (λ log. log) o []) is
+
+module _ (law : NodeLaw) (w : World) (few : length w.gateways ≤ 256) where
+  runs_where : (number : ℕ) (log : List LogEntry) → slice_get w.nodes (number - 1) ≡ Some log → option_or (no_node w number) (refusing (not (runs (log_in w number))) IsHalted) ≡ None → runs log ≡ true
+  runs_where number log found allowed =
+      ap runs (sym (log_found w number log found))
+      ∙ not_false (runs (log_in w number)) (refusing_none (not (runs (log_in w number))) IsHalted (or_none (no_node w number) (refusing (not (runs (log_in w number))) IsHalted) allowed))
+
+  reaches_gateway : (m : Message) → with_gateway (world_kept w) m.gateway (delivered default_rules w.now quiet m) ≡ world_kept (at_gateway w m.gateway (delivered default_rules w.now quiet m))
+  reaches_gateway m = gateway_turns w m.gateway (delivered default_rules w.now quiet m) (delivered default_rules w.now quiet m)
+      (λ g. moves_kept (delivered default_rules w.now quiet m) (keeps_delivered default_rules w.now quiet m) g)
+
+  reaches_node : (m : Message) → with_node (world_kept w) m.node (λ n. heard_by n m) (λ n. answered_by n m) ≡ world_kept (at_node w m.node (delivered_to_node (length w.gateways) m.node m))
+  reaches_node m = node_turns w m.node (delivered_to_node (length w.gateways) m.node m) (λ n. heard_by n m) (λ n. answered_by n m)
+      (λ log is. calls_hear law (length w.gateways) m.node m log)
+
+  reaches : (m : Message) → reaching (world_kept w) m ≡ world_kept (delivering default_rules quiet w m)
+  reaches m = by_test m.to_gateway
+    where
+      by_test : (b : Bool) →
+          (if b then with_gateway (world_kept w) m.gateway (delivered default_rules w.now quiet m)
+          else with_node (world_kept w) m.node (λ n. heard_by n m) (λ n. answered_by n m))
+          ≡ world_kept (if b then at_gateway w m.gateway (delivered default_rules w.now quiet m) else at_node w m.node (delivered_to_node (length w.gateways) m.node m))
+      by_test true = reaches_gateway m
+      by_test false = reaches_node m
+
+  delivers_kept : (o : Option Message) → option_map_or (reaching (world_kept w)) o (world_kept w) ≡ world_kept (option_map_or (delivering default_rules quiet w) o w)
+  delivers_kept None = refl
+  delivers_kept (Some m) = reaches m
+
+  down_where : (number : ℕ) (log : List LogEntry) → slice_get w.nodes (number - 1) ≡ Some log → refusal_to_start w number ≡ None → runs log ≡ false
+  down_where number log found allowed =
+      ap runs (sym (log_found w number log found))
+      ∙ refusing_none (runs (log_in w number)) Running (first_none (refusing (runs (log_in w number)) Running) _ (or_none (no_node w number) _ allowed))
+
+  pub turned : (e : Event) → ((number : ℕ) → e ≡ event.Start number → 1 ≤ starts_in (log_in w number)) → refusal_of w e ≡ None → turn_kept (world_kept w) e ≡ world_kept (turn_by default_rules w (calm e) e)
+  turned (event.Submit node packet) begun allowed =
+      node_changes (world_kept w) (node - 1) (λ n. with_entries (submitted_entries n.node (draft_of packet)) n)
+      ∙ node_turns w (node - 1) (submitting (length w.gateways) (node - 1) packet) (λ n. with_entries (submitted_entries n.node (draft_of packet)) n) nothing
+      (λ log is. calls_submit law (length w.gateways) (node - 1) packet log (runs_where node log is allowed))
+  turned (event.Tick node) begun allowed =
+      node_turns w (node - 1) (ticking (length w.gateways) (node - 1)) (λ n. with_entries (tick_entries n.node) n) (due_messages (node - 1))
+      (λ log is. calls_tick law (length w.gateways) (node - 1) few log (runs_where node log is allowed))
+  turned (event.Deliver message) begun allowed = delivers_kept (slice_get w.messages (message - 1))
+  turned (event.Commit gateway) begun allowed =
+      gateway_turns w (gateway - 1) (committing quiet) (committing quiet) (λ g. moves_kept (committing quiet) (keeps_committing quiet) g)
+  turned (event.Cut gateway keep) begun allowed =
+      gateway_changes (world_kept w) (gateway - 1) (cut keep false)
+      ∙ gateway_turns w (gateway - 1) (λ g. still (cut keep false g)) (λ g. still (cut keep false g)) (λ g. moves_kept (λ x. still (cut keep false x)) (keeps_cut keep false) g)
+  turned (event.Open gateway) begun allowed =
+      gateway_changes (world_kept w) (gateway - 1) (opened default_rules)
+      ∙ gateway_turns w (gateway - 1) (λ g. still (opened default_rules g)) (λ g. still (opened default_rules g)) (λ g. opened_kept default_rules g)
+  turned (event.Halt node) begun allowed =
+      node_changes (world_kept w) (node - 1) (with_entries (Halted ∷ []))
+      ∙ node_turns w (node - 1) (called (length w.gateways) (node - 1) Halt) (with_entries (Halted ∷ [])) nothing
+      (λ log is. calls_halt law (length w.gateways) (node - 1) log (runs_where node log is allowed))
+  turned (event.Start node) begun allowed =
+      node_changes (world_kept w) (node - 1) started_again
+      ∙ node_turns w (node - 1) (called (length w.gateways) (node - 1) Start) started_again nothing
+      (λ log is. calls_start law (length w.gateways) (node - 1) log (down_where node log is allowed)
+      (subst (λ (l : List LogEntry). 1 ≤ starts_in l) (log_found w node log is) (begun node refl)))
+  turned (event.Redirect gateway cause to) begun allowed =
+      gateway_turns w (gateway - 1) (redirected (gateway - 1) cause (option_map (λ number. number - 1) to)) (redirected_kept (gateway - 1) cause (option_map (λ number. number - 1) to))
+      (λ g. redirects_kept (gateway - 1) cause (option_map (λ number. number - 1) to) g)
+  turned (event.Moment now) begun allowed = refl
+  turned (event.Mark gateway) begun allowed =
+      gateway_turns w (gateway - 1) (marked default_rules quiet (making_tick default_rules w.now)) (marked default_rules quiet (making_tick default_rules w.now))
+      (λ g. moves_kept (marked default_rules quiet (making_tick default_rules w.now)) (keeps_marking_tick default_rules quiet w.now) g)
+  turned (event.Close gateway) begun allowed =
+      gateway_turns w (gateway - 1) (marked default_rules quiet (making_close w.now)) (marked default_rules quiet (making_close w.now))
+      (λ g. moves_kept (marked default_rules quiet (making_close w.now)) (keeps_marking_close default_rules quiet w.now) g)
+
+  -- the turn of an event that isn't refused
+  pub turn_is : (e : Event) → ((number : ℕ) → e ≡ event.Start number → 1 ≤ starts_in (log_in w number)) → refusal_of w e ≡ None → turn_kept (world_kept w) e ≡ world_kept (turn default_rules w (calm e))
+  turn_is e begun allowed =
+      turned e begun allowed
+      ∙ ap (λ (o : Option WorldKind). world_kept (unless_refused o w (turn_by default_rules w (calm e) e))) (sym allowed)

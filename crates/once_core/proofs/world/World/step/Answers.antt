@@ -1,0 +1,52 @@
+use Rattle.std.proofs.Common.{◌≡◌, ◌+◌, ◌-◌, ◌≤◌, None, [], ◌∷◌, ◌++◌, ap, sym, ◌∙◌, refl, length, arith, rules}
+use Rattle.once_core.proofs.ArmLemmas.{turn_stays}
+use Rattle.once_core.proofs.SteppedLemmas.{made_then, step_played, step_refused, step_spent}
+use Rattle.once_core.specs.Beginning.{default_rules}
+use Rattle.once_core.specs.KeptTurn.{turn_kept}
+use Rattle.once_core.specs.Standing.{WorldKept}
+use Rattle.once_core.specs.Stepping.{made}
+use Rattle.once_core.specs.Turn.{calm}
+use Rattle.once_core.proofs.world.World.step.Goals as goal
+
+pub returns-in-Some-clause-gives : goal.returns-in-Some-clause-gives
+returns-in-Some-clause-gives c = λ w stands.
+    step_refused w c.args.event.now c.args.self.now c.args.self.now stands c.in-Some.kind (sym c.in-Some.ensures.kind) refl
+
+pub overflow_sub-result : goal.overflow_sub-result
+overflow_sub-result c =
+    let grown = turn_stays c.args.self.now c.args.event.now in
+    let new : length c.play.new.self.messages ≡ length (turn_kept c.args.self.now c.args.event.now).messages =
+    ap (λ (k : WorldKept). length k.messages) c.in-Ok.ensures in
+    let here : length c.self.inside.messages.items ≡ length c.args.self.now.messages = ap (λ (k : WorldKept). length k.messages) c.self.view_is in
+    let there : length c.self-2.inside.messages.items ≡ length c.play.new.self.messages = ap (λ (k : WorldKept). length k.messages) c.self-2.view_is in
+    omega (arith, grown, new, here, there, c.len-before.ensures, c.len.ensures, c.self.inside.messages.ok, c.self-2.inside.messages.ok)
+
+pub returns-in-Ok-clause-gives : goal.returns-in-Ok-clause-gives
+returns-in-Ok-clause-gives c = λ w stands.
+    let none : c.refusal_of.result ≡ None = search rules in
+    let few : length c.args.self.now.gateways ≤ 8 = omega (arith, c.self.invariant, ap (λ (k : WorldKept). length k.gateways) c.self.view_is) in
+    step_played w c.args.event.now c.args.self.now c.play.new.self stands c.a_node_stands_for_its_log.ensures few
+    (c.refusal_of.ensures.begun none) (sym c.refusal_of.ensures.kind ∙ none) c.in-Ok.ensures (c.len-before.result + 1) (c.len.result - c.len-before.result)
+    (omega (arith, c.len-before.ensures, c.self.inside.messages.ok, ap (λ (k : WorldKept). length k.messages) c.self.view_is))
+    (omega (
+      arith,
+      c.len-before.ensures,
+      c.len.ensures,
+      c.self.inside.messages.ok,
+      c.self-2.inside.messages.ok,
+      ap (λ (k : WorldKept). length k.messages) c.self.view_is,
+      ap (λ (k : WorldKept). length k.messages) c.self-2.view_is,
+    ))
+
+pub returns-in-Err-clause-gives : goal.returns-in-Err-clause-gives
+returns-in-Err-clause-gives c = λ w stands.
+    let none : c.refusal_of.result ≡ None = search rules in
+    step_spent w c.args.event.now c.args.self.now _ stands (sym c.refusal_of.ensures.kind ∙ none) refl
+
+pub returns-in-Ok-clause-once : goal.returns-in-Ok-clause-once
+returns-in-Ok-clause-once c = λ gateways nodes all some stands.
+    record {
+      stands = made_then gateways nodes all c.args.event.now c.play.new.self
+          (returns-in-Ok-clause-gives c (made gateways nodes all) stands).turned;
+      once = c.each_record_is_filed_once.ensures default_rules gateways nodes (all ++ calm c.args.event.now ∷ []) some;
+    }
