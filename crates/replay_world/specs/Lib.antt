@@ -8,4 +8,5 @@ pub mod Steps
 pub mod Telling
 pub mod Lines
 pub mod Report
+pub mod Taken
 pub mod Worked

@@ -1,12 +1,18 @@
 //! Laws of replays. Each stands on a function that does nothing.
 
-ghost use Rattle.std.specs.Prelude.{◌≡◌, ◌≤◌, List};
+ghost use Rattle.std.specs.Prelude.{◌≡◌, ◌≤◌, ℕ, List, None, false, true};
+ghost use Rattle.std.specs.List.{list_any};
 ghost use Rattle.once_core.specs.Once.{Once};
 ghost use Rattle.once_core.specs.Turn.{turns};
-ghost use Rattle.replay_world.specs.Lines.{line_after, turns_of};
-ghost use Rattle.replay_world.specs.Report.{lines_after, turns_from};
-ghost use Rattle.replay_world.specs.Setup.{Setup, rules_in};
-ghost use Rattle.replay_world.specs.Value.{ReplayValue, begun};
+ghost use Rattle.replay_world.specs.Lines.{line_after, refusal_of_line, turns_of};
+ghost use Rattle.replay_world.specs.Report.{lines_after, refused_from, refusal_of_lines, turns_from, turns_of_lines};
+ghost use Rattle.replay_world.specs.Setup.{Setup, rules_in, setup_of};
+ghost use Rattle.replay_world.specs.Taken.{Allows, IsAsSaid};
+ghost use Rattle.replay_world.specs.Value.{ReplayValue, begun, replay_of};
+ghost use Rattle.world_script.specs.Sample.{sample_of};
+ghost use Rattle.world_script.specs.Script.{is_setting_line};
+ghost use Rattle.world_script.specs.World.{Scene, after_line, are_settings_first, first_scene, takes, takes_all};
+ghost use Rattle.world_script.specs.declared.extent.Extent.{Extent};
 ghost use Rattle.world_script.specs.declared.line.Line.{Line};
 
 /// A line moves the world as its turns do, and lines as theirs, one after the other. Settings stay.
@@ -28,4 +34,36 @@ pub fn a_replay_files_each_record_once()
 {
     once_core::world_laws::each_record_is_filed_once();
     a_line_is_its_turns();
+}
+
+/// What a world surely takes, as the lines before it say, isn't refused: neither the line nor any of
+/// its turns. So it is line by line in a replay that is as the scene says, whatever failures are armed
+/// there, and of a whole script from its beginning, where its settings stand before its other lines.
+pub fn what_a_world_surely_takes_is_not_refused()
+    ensures line { (s : Scene) (v : ReplayValue) (said : Line) →
+        IsAsSaid s v → is_setting_line said ≡ false → takes s said ≡ true → refusal_of_line v said ≡ None }
+    ensures turns { (s : Scene) (v : ReplayValue) (said : Line) →
+        IsAsSaid s v → is_setting_line said ≡ false → takes s said ≡ true →
+        Allows (rules_in v.setup) v.world (turns_of v said) }
+    ensures after { (s : Scene) (v : ReplayValue) (said : Line) →
+        IsAsSaid s v → is_setting_line said ≡ false → takes s said ≡ true →
+        IsAsSaid (after_line s said) (line_after v said) }
+    ensures lines { (s : Scene) (v : ReplayValue) (place : ℕ) (lines : List Line) →
+        IsAsSaid s v → list_any is_setting_line lines ≡ false → takes_all s lines ≡ true →
+        refused_from place v lines ≡ None }
+    ensures script { (lines : List Line) → are_settings_first lines ≡ true → takes_all first_scene lines ≡ true →
+        refusal_of_lines lines ≡ None }
+    ensures script_turns { (lines : List Line) → are_settings_first lines ≡ true → takes_all first_scene lines ≡ true →
+        Allows (rules_in (setup_of lines)) (replay_of lines).world (turns_of_lines lines) }
+{}
+
+/// The world refuses no line of a sample, and none of its turns.
+pub fn no_line_of_a_sample_is_refused()
+    ensures lines { (seed : ℕ) (e : Extent) → refusal_of_lines (sample_of seed e) ≡ None }
+    ensures turns { (seed : ℕ) (e : Extent) →
+        Allows (rules_in (setup_of (sample_of seed e))) (replay_of (sample_of seed e)).world
+        (turns_of_lines (sample_of seed e)) }
+{
+    world_script::laws::a_sample_is_taken();
+    what_a_world_surely_takes_is_not_refused();
 }

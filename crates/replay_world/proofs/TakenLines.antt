@@ -1,0 +1,322 @@
+-- The lines that a world surely takes: none is refused, each of their turns is allowed, and the replay stays as they say.
+use Rattle.std.proofs.Common.{◌≡◌, ⊎_elim, ℕ, zero, suc, ◌+◌, ◌-◌, ◌%◌, ◌≤◌, ◌<◌, ◌==◌, ◌&&◌, not, nat_le, nat_lt, Bool, true, false, if◌then◌else◌, List, [], ◌∷◌, ◌++◌, length, map, Option, Some, None, slice_get, slice_set, refl, sym, ap, subst, ◌∙◌, arith, append-nil, eqb-true, eq-eqb, eq-or-lt_of_le, le-leb, leb-true, ltb-true, length-set}
+use Rattle.std.proofs.lemmas.Bool.{and_parts, eqb-false, ne_eqb}
+use Rattle.std.specs.List.{AllByRecursion, flat_map, range_with_len}
+use Rattle.std.specs.Option.{option_map_or, option_or}
+use Rattle.area_disk.specs.Armed.Armed.{Nothing}
+use Rattle.node_core.specs.Log.{runs}
+use Rattle.once_core.specs.Gateway.{Gateway, Moved, cut, opened, still}
+use Rattle.once_core.specs.Turn.{at_gateway, gateway_moved, is_down_in, is_none_of, log_in, no_gateway, no_running_gateway, no_running_node, refusal_of, refusing}
+use Rattle.once_core.specs.World.{World}
+use Rattle.once_core.specs.declared.event.Event.TheVariants as event
+use Rattle.once_core.specs.declared.message.Message.{Message}
+use Rattle.once_core.specs.declared.event.WorldKind.TheVariants.{Earlier, Halted, NoGateway, NoMessage, NoNode, Running, Stopped}
+use Rattle.rand_pcg.specs.Lcg.{Lcg}
+use Rattle.rand_pcg.specs.Pcg.{pcg32}
+use Rattle.replay_world.specs.Device.{disarmed}
+use Rattle.replay_world.specs.Lines.{delivers, lot_steps, mixed_steps, settling_steps}
+use Rattle.replay_world.specs.Setup.{rules_in}
+use Rattle.replay_world.specs.Steps.{Arms, Loses, Plays, Step, Writes}
+use Rattle.replay_world.specs.Taken.{IsAsSaid}
+use Rattle.replay_world.specs.Value.{ReplayValue}
+use Rattle.replay_world.proofs.TakenPasses.{Facts, Holds, HoldsOf, Passes, arms_passes, calm_passes, loses_passes, passes_none, quiet_passes, within, writes_passes}
+use Rattle.replay_world.proofs.TakenSteps.{both, is_there, not_not, with_unarmed}
+use Rattle.world_script.specs.World.{Scene, is_stopped}
+
+-- ---- what a scene says of a replay
+
+abbrev pub facts : Scene → ℕ → (ℕ → Bool) → Facts
+facts s messages down =
+    record { gateways = s.gateways; nodes = s.nodes; moment = s.moment; messages = messages; down = down }
+
+pub said_holds : (s : Scene) (v : ReplayValue) → IsAsSaid s v → Holds (facts s (length v.world.messages) (is_stopped s)) v
+said_holds s v is = record {
+  world = record {
+    gateways = is.gateways;
+    nodes = is.nodes;
+    moment = is.moment;
+    messages = omega arith;
+    down = is.stopped;
+    running = is.running;
+  };
+  sent = is.sent;
+  unarmed = is.unarmed;
+}
+
+pub holds_said : (s : Scene) (messages : ℕ) (down : ℕ → Bool) (v : ReplayValue)
+    → ((gateway : ℕ) → within s.gateways gateway ≡ true → down gateway ≡ is_stopped s gateway) → Holds (facts s messages down) v → IsAsSaid s v
+holds_said s messages down v same h = record {
+  gateways = h.world.gateways;
+  nodes = h.world.nodes;
+  moment = h.world.moment;
+  stopped = λ gateway is. h.world.down gateway is ∙ same gateway is;
+  running = h.world.running;
+  sent = h.sent;
+  unarmed = h.unarmed;
+}
+
+-- ---- refusals that don't come
+
+count_there : (count length_is number : ℕ) → length_is ≡ count → within count number ≡ true → is_none_of length_is number ≡ false
+count_there count length_is number e h =
+    let parts = and_parts (nat_le 1 number) (nat_le number count) h in
+    is_there length_is number (leb-true 1 number parts.0) (omega (arith, leb-true number count parts.1, e))
+
+not_earlier : (a b : ℕ) → a ≤ b → nat_lt b a ≡ false
+not_earlier a b h = by (nat_lt b a) refl
+  where
+    by : (c : Bool) → nat_lt b a ≡ c → c ≡ false
+    by true e = absurd (omega (arith, h, ltb-true b a e))
+    by false e = refl
+
+module _ (f : Facts) (w : World) (h : HoldsOf f w) where
+  gateway_there : (gateway : ℕ) → within f.gateways gateway ≡ true → no_gateway w gateway ≡ None
+  gateway_there gateway is =
+      ap (λ (b : Bool). refusing b NoGateway) (count_there f.gateways (length w.gateways) gateway h.gateways is)
+
+  pub gateway_runs : (gateway : ℕ) → within f.gateways gateway ≡ true → f.down gateway ≡ false → no_running_gateway w gateway ≡ None
+  gateway_runs gateway is up =
+      ap (λ o. option_or o (refusing (is_down_in w gateway) Stopped)) (gateway_there gateway is)
+      ∙ ap (λ (b : Bool). refusing b Stopped) (h.down gateway is ∙ up)
+
+  pub gateway_opens : (gateway : ℕ) → within f.gateways gateway ≡ true → f.down gateway ≡ true → refusal_of w (event.Open gateway) ≡ None
+  gateway_opens gateway is down =
+      ap (λ o. option_or o (refusing (not (is_down_in w gateway)) Running)) (gateway_there gateway is)
+      ∙ ap (λ (b : Bool). refusing (not b) Running) (h.down gateway is ∙ down)
+
+  pub node_runs : (node : ℕ) → within f.nodes node ≡ true → no_running_node w node ≡ None
+  node_runs node is =
+      ap (λ o. option_or o (refusing (not (runs (log_in w node))) Halted))
+      (ap (λ (b : Bool). refusing b NoNode) (count_there f.nodes (length w.nodes) node h.nodes is))
+      ∙ ap (λ (b : Bool). refusing (not b) Halted) (h.running node is)
+
+  message_there : (message : ℕ) → is_none_of f.messages message ≡ false → is_none_of (length w.messages) message ≡ false
+  message_there message e =
+      let parts = and_parts (nat_lt 0 message) (nat_le message f.messages) (not_not (nat_lt 0 message && nat_le message f.messages) e) in
+      is_there (length w.messages) message (omega (arith, ltb-true 0 message parts.0)) (omega (arith, h.messages, leb-true message f.messages parts.1))
+
+  pub moment_comes : (moment : ℕ) → nat_le f.moment moment ≡ true → refusal_of w (event.Moment moment) ≡ None
+  moment_comes moment e =
+      ap (λ (b : Bool). refusing b Earlier) (not_earlier w.now moment (omega (arith, h.moment, leb-true f.moment moment e)))
+
+-- ---- a gateway that stops or opens
+
+set_here : {A B : Type 0} (get : A → B) (d : B) (xs : List A) (p : ℕ) (x y : A) → slice_get xs p ≡ Some x
+    → option_map_or get (slice_get (slice_set xs p y) p) d ≡ get y
+set_here get d [] p x y e = absurd (cc)
+set_here get d (z ∷ xs) zero x y e = refl
+set_here get d (z ∷ xs) (suc p) x y e = set_here get d xs p x y e
+
+set_other : {A B : Type 0} (get : A → B) (d : B) (xs : List A) (p q : ℕ) (y : A) → (p ≡ q → ⊥)
+    → option_map_or get (slice_get (slice_set xs p y) q) d ≡ option_map_or get (slice_get xs q) d
+set_other get d [] p q y other = refl
+set_other get d (z ∷ xs) zero zero y other = absurd (other refl)
+set_other get d (z ∷ xs) zero (suc q) y other = refl
+set_other get d (z ∷ xs) (suc p) zero y other = refl
+set_other get d (z ∷ xs) (suc p) (suc q) y other = set_other get d xs p q y (λ e. other (ap suc e))
+
+set_changed : {A B : Type 0} (get : A → B) (d : B) (xs : List A) (p q : ℕ) (x y : A) → slice_get xs p ≡ Some x
+    → option_map_or get (slice_get (slice_set xs p y) q) d ≡ (if p == q then get y else option_map_or get (slice_get xs q) d)
+set_changed get d xs p q x y e = by (p == q) refl
+  where
+    by : (b : Bool) → (p == q) ≡ b
+        → option_map_or get (slice_get (slice_set xs p y) q) d ≡ (if b then get y else option_map_or get (slice_get xs q) d)
+    by true is =
+        subst (λ (k : ℕ). option_map_or get (slice_get (slice_set xs p y) k) d ≡ get y) (eqb-true p q is)
+        (set_here get d xs p x y e)
+    by false is = set_other get d xs p q y (eqb-false p q is)
+
+some_at : {A : Type 0} (xs : List A) (p : ℕ) → p < length xs → slice_get xs p ≡ None → ⊥
+some_at [] p h e = omega (arith, h)
+some_at (x ∷ xs) zero h e = cc
+some_at (x ∷ xs) (suc p) h e = some_at xs p (omega (arith, h)) e
+
+same_place : (a b : ℕ) → 1 ≤ a → 1 ≤ b → (a - 1 == b - 1) ≡ (a == b)
+same_place a b h k = by (a == b) refl
+  where
+    by : (c : Bool) → (a == b) ≡ c → (a - 1 == b - 1) ≡ c
+    by true e = eq-eqb (a - 1) (b - 1) (ap (λ n. n - 1) (eqb-true a b e))
+    by false e = ne_eqb (a - 1) (b - 1) (λ same. eqb-false a b e (omega (arith, same, h, k)))
+
+abbrev pub changed : ℕ → Bool → (ℕ → Bool) → ℕ → Bool
+changed gateway is_down down other = if gateway == other then is_down else down other
+
+module _ (s : Scene) (messages : ℕ) (down : ℕ → Bool) (w : World) (h : HoldsOf (facts s messages down) w) where
+  pub changes : (gateway : ℕ) (move : Gateway → Moved) (is_down : Bool) → within s.gateways gateway ≡ true
+      → ((g : Gateway) → (move g).gateway.is_down ≡ is_down) → ((g : Gateway) → (move g).sends ≡ [])
+      → HoldsOf (facts s messages (changed gateway is_down down)) (at_gateway w (gateway - 1) move)
+      × (length w.messages ≤ length (at_gateway w (gateway - 1) move).messages)
+  changes gateway move is_down is becomes sends = by (slice_get w.gateways (gateway - 1)) refl
+    where
+      low : 1 ≤ gateway
+      low = leb-true 1 gateway (and_parts (nat_le 1 gateway) (nat_le gateway s.gateways) is).0
+
+      high : gateway ≤ s.gateways
+      high = leb-true gateway s.gateways (and_parts (nat_le 1 gateway) (nat_le gateway s.gateways) is).1
+
+      by_same : (other : ℕ) (b : Bool) → is_down_in w other ≡ down other → (if b then is_down else is_down_in w other) ≡ (if b then is_down else down other)
+      by_same other true e = refl
+      by_same other false e = e
+
+      by : (o : Option Gateway) → slice_get w.gateways (gateway - 1) ≡ o
+          → HoldsOf (facts s messages (changed gateway is_down down)) (option_map_or (λ g. gateway_moved w (gateway - 1) (move g)) o w)
+          × (length w.messages ≤ length (option_map_or (λ g. gateway_moved w (gateway - 1) (move g)) o w).messages)
+      by None e = absurd (some_at w.gateways (gateway - 1) (omega (arith, low, high, h.gateways)) e)
+      by (Some g) e =
+          let same : w.messages ++ (move g).sends ≡ w.messages =
+          ap (λ (ms : List Message). w.messages ++ ms) (sends g) ∙ append-nil w.messages in
+          let long : length (w.messages ++ (move g).sends) ≡ length w.messages = ap length same in (
+            record {
+              gateways = length-set w.gateways (gateway - 1) (move g).gateway ∙ h.gateways;
+              nodes = h.nodes;
+              moment = h.moment;
+              messages = omega (arith, h.messages, long);
+              down = λ other within_is.
+                  set_changed (λ (g : Gateway). g.is_down) true w.gateways (gateway - 1) (other - 1) g (move g).gateway e
+                  ∙ ap (λ (b : Bool). if gateway - 1 == other - 1 then b else is_down_in w other) (becomes g)
+                  ∙ ap (λ (b : Bool). if b then is_down else is_down_in w other)
+                  (same_place gateway other low (leb-true 1 other (and_parts (nat_le 1 other) (nat_le other s.gateways) within_is).0))
+                  ∙ by_same other (gateway == other) (h.down other within_is);
+              running = h.running;
+            },
+            omega (arith, long),
+          )
+
+-- ---- messages that come
+
+delivers_passes : (f : Facts) (v : ReplayValue) (message : ℕ) (later : List Step) (P : ReplayValue → Type 0) → is_none_of f.messages message ≡ false
+    → Holds f v → ((u : ReplayValue) → Holds f u → Passes u later P) → Passes v (delivers message ∷ later) P
+delivers_passes f v message later P there h rest =
+    quiet_passes f v (event.Deliver message) later P refl
+    (ap (λ (b : Bool). refusing b NoMessage) (message_there f v.world h.world message there)) h rest
+
+pub flow_passes : (f : Facts) (v : ReplayValue) (waiting : List ℕ) (P : ReplayValue → Type 0) → AllByRecursion (λ message. is_none_of f.messages message ≡ false) waiting
+    → Holds f v → ((u : ReplayValue) → Holds f u → P u) → Passes v (map delivers waiting) P
+flow_passes f v [] P there h done = passes_none v P (done v h)
+flow_passes f v (message ∷ waiting) P there h done =
+    delivers_passes f v message (map delivers waiting) P there.0 h (λ u k. flow_passes f u waiting P there.1 k done)
+
+lot_passes : (f : Facts) (v : ReplayValue) (lot message : ℕ) (later : List Step) (P : ReplayValue → Type 0) → is_none_of f.messages message ≡ false
+    → Holds f v → ((u : ReplayValue) → Holds f u → Passes u later P) → Passes v (lot_steps lot message ++ later) P
+lot_passes f v lot message later P there h rest = by (lot == 0) (lot == 1) (lot == 2)
+  where
+    by : (none twice waits : Bool) → Passes v ((if none then Loses message ∷ [] else if twice then delivers message ∷ delivers message ∷ []
+        else if waits then [] else delivers message ∷ []) ++ later) P
+    by true twice waits = loses_passes f v message later P h rest
+    by false true waits =
+        delivers_passes f v message (delivers message ∷ later) P there h (λ u k. delivers_passes f u message later P there k rest)
+    by false false true = rest v h
+    by false false false = delivers_passes f v message later P there h rest
+
+pub mix_passes : (f : Facts) (v : ReplayValue) (g : Lcg) (waiting : List ℕ) (P : ReplayValue → Type 0) → AllByRecursion (λ message. is_none_of f.messages message ≡ false) waiting
+    → Holds f v → ((u : ReplayValue) → Holds f u → P u) → Passes v (mixed_steps g waiting) P
+mix_passes f v g [] P there h done = passes_none v P (done v h)
+mix_passes f v g (message ∷ waiting) P there h done =
+    lot_passes f v ((pcg32 g).0 % 8) message (mixed_steps (pcg32 g).1 waiting) P there.0 h
+    (λ u k. mix_passes f u (pcg32 g).1 waiting P there.1 k done)
+
+-- ---- gateways that settle
+
+pub arms_all : (f : Facts) (v : ReplayValue) (gateways : List ℕ) (later : List Step) (P : ReplayValue → Type 0) → Holds f v
+    → ((u : ReplayValue) → Holds f u → Passes u later P) → Passes v (map (λ gateway. Arms (gateway - 1) Nothing) gateways ++ later) P
+arms_all f v [] later P h rest = rest v h
+arms_all f v (gateway ∷ gateways) later P h rest =
+    arms_passes f v (gateway - 1) (map (λ gateway. Arms (gateway - 1) Nothing) gateways ++ later) P h
+    (λ u k. arms_all f u gateways later P k rest)
+
+weaker_holds : (s : Scene) (messages : ℕ) (down other : ℕ → Bool) (v : ReplayValue)
+    → ((gateway : ℕ) → within s.gateways gateway ≡ true → down gateway ≡ other gateway) → Holds (facts s messages down) v → Holds (facts s messages other) v
+weaker_holds s messages down other v same h = record {
+  world = record {
+    gateways = h.world.gateways;
+    nodes = h.world.nodes;
+    moment = h.world.moment;
+    messages = h.world.messages;
+    down = λ gateway is. h.world.down gateway is ∙ same gateway is;
+    running = h.world.running;
+  };
+  sent = h.sent;
+  unarmed = h.unarmed;
+}
+
+changed_here : (gateway : ℕ) (b : Bool) (down : ℕ → Bool) → changed gateway b down gateway ≡ b
+changed_here gateway b down = ap (λ (c : Bool). if c then b else down gateway) (eq-eqb gateway gateway refl)
+
+unchanged : (gateway : ℕ) (down : ℕ → Bool) (b : Bool) → down gateway ≡ b → (other : ℕ) → down other ≡ changed gateway b down other
+unchanged gateway down b is other = by (gateway == other) refl
+  where
+    by : (c : Bool) → (gateway == other) ≡ c → down other ≡ (if c then b else down other)
+    by true e = ap down (sym (eqb-true gateway other e)) ∙ is
+    by false e = refl
+
+module _ (s : Scene) (messages : ℕ) where
+  pub opens_passes : (down : ℕ → Bool) (v : ReplayValue) (gateway : ℕ) (later : List Step) (P : ReplayValue → Type 0) → within s.gateways gateway ≡ true
+      → down gateway ≡ true → Holds (facts s messages down) v
+      → ((u : ReplayValue) → Holds (facts s messages (changed gateway false down)) u → Passes u later P) → Passes v (Plays (event.Open gateway) ∷ later) P
+  opens_passes down v gateway later P is stopped h rest =
+      let moves = changes s messages down v.world h.world gateway (λ g. still (opened (rules_in v.setup) g)) false is (λ g. refl) (λ g. refl) in
+      calm_passes (facts s messages down) (facts s messages (changed gateway false down)) v (event.Open gateway) later P refl
+      (gateway_opens (facts s messages down) v.world h.world gateway is stopped) h.unarmed moves.0 moves.1 h rest
+
+  pub stops_passes : (down : ℕ → Bool) (v : ReplayValue) (gateway : ℕ) (later : List Step) (P : ReplayValue → Type 0) → within s.gateways gateway ≡ true
+      → down gateway ≡ false → Holds (facts s messages down) v
+      → ((u : ReplayValue) → Holds (facts s messages (changed gateway true down)) u → Passes u later P) → Passes v (Plays (event.Cut gateway 0) ∷ later) P
+  stops_passes down v gateway later P is up h rest =
+      let moves = changes s messages down v.world h.world gateway (λ g. still (cut 0 false g)) true is (λ g. refl) (λ g. refl) in
+      calm_passes (facts s messages down) (facts s messages (changed gateway true down)) v (event.Cut gateway 0) later P refl
+      (gateway_runs (facts s messages down) v.world h.world gateway is up)
+      (with_unarmed v (gateway - 1) disarmed (λ m k. refl) h.unarmed) moves.0 moves.1 h rest
+
+  -- a gateway that runs commits, closes its files, commits again and writes
+  runs_settling : (down : ℕ → Bool) (v : ReplayValue) (gateway : ℕ) (later : List Step) (P : ReplayValue → Type 0) → within s.gateways gateway ≡ true
+      → down gateway ≡ false → Holds (facts s messages down) v
+      → ((u : ReplayValue) → Holds (facts s messages down) u → Passes u later P)
+      → Passes v (Plays (event.Commit gateway) ∷ Plays (event.Close gateway) ∷ Plays (event.Commit gateway) ∷ Writes (gateway - 1) ∷ later) P
+  runs_settling down v gateway later P is up h rest =
+      let f = facts s messages down in
+      quiet_passes f v (event.Commit gateway) _ P refl (gateway_runs f v.world h.world gateway is up) h (λ a ha.
+      quiet_passes f a (event.Close gateway) _ P refl (gateway_runs f a.world ha.world gateway is up) ha (λ b hb.
+      quiet_passes f b (event.Commit gateway) _ P refl (gateway_runs f b.world hb.world gateway is up) hb (λ c hc.
+      writes_passes f c (gateway - 1) later P hc rest)))
+
+  settles_one : (from : ReplayValue) (down : ℕ → Bool) (v : ReplayValue) (gateway : ℕ) (later : List Step) (P : ReplayValue → Type 0)
+      → within s.gateways gateway ≡ true → is_down_in from.world gateway ≡ down gateway → Holds (facts s messages down) v
+      → ((u : ReplayValue) → Holds (facts s messages (changed gateway false down)) u → Passes u later P) → Passes v (settling_steps from gateway ++ later) P
+  settles_one from down v gateway later P is same h rest = by (is_down_in from.world gateway) (sym same)
+    where
+      by : (b : Bool) → down gateway ≡ b → Passes v (((if b then Plays (event.Open gateway) ∷ [] else [])
+          ++ Plays (event.Commit gateway) ∷ Plays (event.Close gateway) ∷ Plays (event.Commit gateway) ∷ Writes (gateway - 1) ∷ []) ++ later) P
+      by true e = opens_passes down v gateway _ P is e h (λ u k. runs_settling (changed gateway false down) u gateway later P is (changed_here gateway false down) k rest)
+      by false e =
+          runs_settling (changed gateway false down) v gateway later P is (changed_here gateway false down)
+          (weaker_holds s messages down (changed gateway false down) v (λ other within_is. unchanged gateway down false e other) h) rest
+
+  pub settles_from : (from : ReplayValue) (a n : ℕ) (down : ℕ → Bool) (v : ReplayValue) (P : ReplayValue → Type 0) → 1 ≤ a → a + n ≡ suc s.gateways
+      → ((gateway : ℕ) → 1 ≤ gateway → gateway < a → down gateway ≡ false)
+      → ((gateway : ℕ) → a ≤ gateway → gateway ≤ s.gateways → is_down_in from.world gateway ≡ down gateway)
+      → Holds (facts s messages down) v → ((u : ReplayValue) → Holds (facts s messages (λ gateway. false)) u → P u)
+      → Passes v (flat_map (settling_steps from) (range_with_len a n)) P
+  settles_from from a zero down v P low all up same h done =
+      passes_none v P (done v (weaker_holds s messages down (λ gateway. false) v (λ gateway is.
+      let parts = and_parts (nat_le 1 gateway) (nat_le gateway s.gateways) is in
+      up gateway (leb-true 1 gateway parts.0) (omega (arith, leb-true gateway s.gateways parts.1, all))) h))
+  settles_from from a (suc n) down v P low all up same h done =
+      settles_one from down v a (flat_map (settling_steps from) (range_with_len (a + 1) n)) P here (same a (omega arith) (omega (arith, all))) h
+      (λ u k. settles_from from (a + 1) n (changed a false down) u P (omega arith) (omega (arith, all)) lower higher k done)
+    where
+      here : within s.gateways a ≡ true
+      here = both (nat_le 1 a) (nat_le a s.gateways) (le-leb 1 a low) (le-leb a s.gateways (omega (arith, all)))
+
+      lower : (gateway : ℕ) → 1 ≤ gateway → gateway < a + 1 → changed a false down gateway ≡ false
+      lower gateway some less = by (a == gateway) refl
+        where
+          by : (c : Bool) → (a == gateway) ≡ c → (if c then false else down gateway) ≡ false
+          by true e = refl
+          by false e =
+              ⊎_elim (λ is. absurd (eqb-false a gateway e (sym is))) (λ lt. up gateway some lt)
+              (eq-or-lt_of_le (omega (arith, less)))
+
+      higher : (gateway : ℕ) → a + 1 ≤ gateway → gateway ≤ s.gateways → is_down_in from.world gateway ≡ changed a false down gateway
+      higher gateway more less =
+          same gateway (omega (arith, more)) less
+          ∙ sym (ap (λ (c : Bool). if c then false else down gateway) (ne_eqb a gateway (λ e. omega (arith, more, e))))
