@@ -31,11 +31,11 @@ struct Feed {
 }
 
 /// What is printed for the lines of a script, up to the first that can't be run.
-pub fn report(alloc: Global, script: &Script) -> Result<Report, NoMemory>
-    requires { AreInRange script.now.lines }
-    ensures { IfOk result (λ report. IsFed (fed_of script.now.lines) report) }
+pub fn report(alloc: Global, script: Script) -> Result<Report, NoMemory>
+    requires { AreInRange script.lines }
+    ensures { IfOk result (λ report. IsFed (fed_of script.lines) report) }
 {
-    let settings = Settings::of(alloc, script)?;
+    let settings = Settings::of(alloc, &script)?;
     let mut feed = Feed::open(alloc, &settings)?;
     let mut at = 0;
     while let Some(line) = script.line(at) {
@@ -45,6 +45,7 @@ pub fn report(alloc: Global, script: &Script) -> Result<Report, NoMemory>
         feed.run(alloc, line)?;
         at += 1;
     }
+    drop(script);
     feed.end(alloc, settings)
 }
 
@@ -123,39 +124,47 @@ impl Feed {
         }
     }
 
-    /// Closes the open files, and gives all that is printed.
-    fn end(mut self, alloc: Global, settings: Settings) -> Result<Report, NoMemory>
+    /// Closes the open files, and gives all that is printed. The gateway is let go before the files are made.
+    fn end(self, alloc: Global, settings: Settings) -> Result<Report, NoMemory>
         requires { AreSound settings }
         ensures printed { IfOk result (λ report. report.printed.items ≡ self.printed.items
             ++ end_lines (settings_seen settings) (after_close self.gateway self.moment).history) }
         ensures refused { IfOk result (λ report. report.refused ≡ None) }
     {
-        self.gateway.close(self.moment)?;
-        let items = self.gateway.items(alloc)?;
-        print_files(alloc, &mut self.printed, settings, &items)?;
-        let counts = self.gateway.counts();
-        print_counts(alloc, &mut self.printed, counts, records_in(&items))?;
+        let Feed {
+            mut gateway,
+            moment,
+            mut printed,
+        } = self;
+        gateway.close(moment)?;
+        let items = gateway.items(alloc)?;
+        let counts = gateway.counts();
+        drop(gateway);
+        let records = records_in(&items);
+        print_files(alloc, &mut printed, settings, items)?;
+        print_counts(alloc, &mut printed, counts, records)?;
         Ok(Report {
-            printed: self.printed,
+            printed,
             refused: None,
         })
     }
 }
 
-/// Appends the lines of the closed files of these items, stream after stream.
+/// Appends the lines of the closed files of these items, stream after stream. The items are let go before that.
 fn print_files(
     alloc: Global,
     printed: &mut Vec<u8>,
     settings: Settings,
-    items: &[Item],
+    items: Vec<Item>,
 ) -> Result<(), NoMemory>
     requires sound { AreSound settings }
-    requires few { length items.now < 2 ^ 31 }
-    requires fit { All IsFit items.now }
+    requires few { length items.items < 2 ^ 31 }
+    requires fit { All IsFit items.items }
     ensures { OnOk result (printed.new.items ≡
-        printed.old.items ++ flat_map file_line (files_of (settings_seen settings).files items.now)) }
+        printed.old.items ++ flat_map file_line (files_of (settings_seen settings).files items.items)) }
 {
-    let shelf = write_files(alloc, settings, items)?;
+    let shelf = write_files(alloc, settings, &items)?;
+    drop(items);
     for stream in 0..STREAMS {
         print_stream(alloc, printed, &shelf, stream)?;
     }

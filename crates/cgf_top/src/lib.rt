@@ -94,7 +94,7 @@ pub fn run_cgf<S: Source, K: Sink>(
         Err(ReadEnd::Failed) => return Status::Read,
         Err(ReadEnd::NoMemory) => return Status::Memory,
     };
-    match report_of(alloc, command, &octets) {
+    match report_of(alloc, command, octets) {
         Ok(report) => match write_all(sink, &report.printed) {
             Ok(()) => ended_by(report.refused),
             Err(_) => Status::Write,
@@ -114,12 +114,13 @@ fn ended_by(refused: Option<Refusal>) -> Status
     }
 }
 
-/// What a command prints for the octets of its input, or their first place that the grammar refuses.
-fn report_of(alloc: Global, command: Command, octets: &[u8]) -> Result<Report, NoReport>
-    ensures within { OnOk result (length octets.now < most_read command) }
-    ensures report { IfOk result (λ report. IsReport command octets.now report) }
+/// What a command prints for the octets of its input, or their first place that the grammar refuses. The octets are let
+/// go once they are read.
+fn report_of(alloc: Global, command: Command, octets: Vec<u8>) -> Result<Report, NoReport>
+    ensures within { OnOk result (length octets.items < most_read command) }
+    ensures report { IfOk result (λ report. IsReport command octets.items report) }
     ensures refused { (refusal : Refusal) →
-        result ≡ Err (NoReport.Refused refusal) → IsRefusal command octets.now refusal }
+        result ≡ Err (NoReport.Refused refusal) → IsRefusal command octets.items refusal }
 {
     match command {
         Command::Feed => feed_report_of(alloc, octets),
@@ -129,14 +130,16 @@ fn report_of(alloc: Global, command: Command, octets: &[u8]) -> Result<Report, N
 
 /// What is printed for a script, or its first line that the grammar refuses.
 #[tactic(auto, using(crate::proofs::Script::lines_in_range, crate::proofs::Whole::fed_within, crate::proofs::FeedLemmas::fed_is_report, crate::proofs::FeedLemmas::refused_is))]
-fn feed_report_of(alloc: Global, text: &[u8]) -> Result<Report, NoReport>
-    ensures within { OnOk result (length text.now < most_read Command.Feed) }
-    ensures report { IfOk result (λ report. IsReport Command.Feed text.now report) }
+fn feed_report_of(alloc: Global, text: Vec<u8>) -> Result<Report, NoReport>
+    ensures within { OnOk result (length text.items < most_read Command.Feed) }
+    ensures report { IfOk result (λ report. IsReport Command.Feed text.items report) }
     ensures refused { (refusal : Refusal) →
-        result ≡ Err (NoReport.Refused refusal) → IsRefusal Command.Feed text.now refusal }
+        result ≡ Err (NoReport.Refused refusal) → IsRefusal Command.Feed text.items refusal }
 {
-    match Script::read(alloc, text) {
-        Ok(script) => Ok(feed::report(alloc, &script)?),
+    let read = Script::read(alloc, &text);
+    drop(text);
+    match read {
+        Ok(script) => Ok(feed::report(alloc, script)?),
         Err(InputFault::Bad { place, kind }) => {
             let kind = kind.into();
             Err(NoReport::Refused(Refusal { place, kind }))

@@ -13,13 +13,15 @@ use std::alloc::Global;
 
 /// The listing of a CDR file, or where its octets are none and why.
 #[tactic(auto, using(crate::proofs::Whole::shown_within, crate::proofs::Whole::shown_refusal))]
-pub fn report(alloc: Global, octets: &[u8]) -> Result<Report, NoReport>
-    ensures within { OnOk result (length octets.now < most_read Command.Show) }
-    ensures report { IfOk result (λ report. IsReport Command.Show octets.now report) }
+pub fn report(alloc: Global, octets: Vec<u8>) -> Result<Report, NoReport>
+    ensures within { OnOk result (length octets.items < most_read Command.Show) }
+    ensures report { IfOk result (λ report. IsReport Command.Show octets.items report) }
     ensures refused { (refusal : Refusal) →
-        result ≡ Err (NoReport.Refused refusal) → IsRefusal Command.Show octets.now refusal }
+        result ≡ Err (NoReport.Refused refusal) → IsRefusal Command.Show octets.items refusal }
 {
-    match read(alloc, octets) {
+    let file = read(alloc, &octets);
+    drop(octets);
+    match file {
         Ok(file) => {
             let printed = list(alloc, &file)?;
             Ok(Report {

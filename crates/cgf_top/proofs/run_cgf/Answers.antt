@@ -1,6 +1,5 @@
-use Rattle.std.proofs.Common.{ℕ, List, map, string_bytes, Err, ap, sym, subst}
+use Rattle.std.proofs.Common.{ℕ, map, string_bytes, Err, ap, sym, subst}
 use Rattle.cgf_top.specs.Run.{IsRead}
-use Rattle.cgf_top.specs.Steps.{IsRefusal}
 use Rattle.cgf_top.specs.declared.report.NoReport.{NoReport}
 use Rattle.cgf_top.proofs.Whole.{writes_refusal}
 use Rattle.cgf_top.proofs.run_cgf.Goals as goal
@@ -12,5 +11,4 @@ returns-in-Err-Refused-clause-input g c refusal same =
     (sym c.in-Some.ensures)
     (subst (λ (most : ℕ). IsRead most (g.S.Source.left c.args.source.now) (g.S.Source.left c.read_input.new.source) c.in-Ok.octets.items)
     c.most_read.ensures c.in-Ok.ensures.read)
-    (subst (λ (octets : List ℕ). IsRefusal c.in-Some.command octets c.in-Err-Refused.field-0-0) c.deref.ensures.value
-    (c.in-Err-Refused.ensures.refused c.in-Err-Refused.field-0-0 (ap (λ (e : NoReport). Err e) c.in-Err-Refused.field-0-is)))
+    (c.in-Err-Refused.ensures.refused c.in-Err-Refused.field-0-0 (ap (λ (e : NoReport). Err e) c.in-Err-Refused.field-0-is))

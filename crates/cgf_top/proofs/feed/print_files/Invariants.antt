@@ -8,4 +8,4 @@ use Rattle.cgf_top.proofs.feed.print_files.Given as goal
 -- the lines of the files of the streams so far were printed
 abbrev pub invariant-loop-stream : goal.invariant-loop-stream
 invariant-loop-stream l =
-    l.printed.items ≡ l.fn.printed.items ++ flat_map file_line (files_below l.stream (settings_seen l.fn.settings).files l.items)
+    l.printed.items ≡ l.fn.printed.items ++ flat_map file_line (files_below l.stream (settings_seen l.fn.settings).files l.fn.items.items)

@@ -7,7 +7,7 @@ use Rattle.cgf_top.proofs.feed.report.Goals as goal
 
 pub loop-line-init : goal.loop-line-init
 loop-line-init c = record {
-  fed = feed_begins c.args.script.now.lines (settings_seen c.in_ok-settings.settings) (state_of c.in_ok-feed.feed) c.in_ok-feed.feed.printed.items
+  fed = feed_begins c.args.script.lines (settings_seen c.in_ok-settings.settings) (state_of c.in_ok-feed.feed) c.in_ok-feed.feed.printed.items
       c.in_ok-settings.ensures.settings c.in_ok-feed.ensures.state c.in_ok-feed.ensures.printed;
   settings = c.in_ok-settings.ensures.settings;
   sound = c.in_ok-settings.ensures.sound;
@@ -15,30 +15,30 @@ loop-line-init c = record {
 }
 
 pub overflow_add-at : goal.overflow_add-at
-overflow_add-at c = omega (arith, c.requires.few, below_at c.args.script.now.lines c.loop-line.at c.in-Some.line.now (sym c.in-Some.ensures))
+overflow_add-at c = omega (arith, c.requires.few, below_at c.args.script.lines c.loop-line.at c.in-Some.line.now (sym c.in-Some.ensures))
 
 pub refused-requires : goal.refused-requires
-refused-requires c = omega (arith, c.requires.few, below_at c.args.script.now.lines c.loop-line.at c.in-Some.line.now (sym c.in-Some.ensures))
+refused-requires c = omega (arith, c.requires.few, below_at c.args.script.lines c.loop-line.at c.in-Some.line.now (sym c.in-Some.ensures))
 
 pub loop-line-smaller : goal.loop-line-smaller
-loop-line-smaller c = omega (arith, below_at c.args.script.now.lines c.loop-line.at c.in-Some.line.now (sym c.in-Some.ensures))
+loop-line-smaller c = omega (arith, below_at c.args.script.lines c.loop-line.at c.in-Some.line.now (sym c.in-Some.ensures))
 
 pub loop-line-preserved : goal.loop-line-preserved
 loop-line-preserved c = record {
-  fed = feed_goes_on c.args.script.now.lines c.loop-line.at (state_of c.loop-line.feed) c.loop-line.feed.printed.items (state_of c.run.new.self)
+  fed = feed_goes_on c.args.script.lines c.loop-line.at (state_of c.loop-line.feed) c.loop-line.feed.printed.items (state_of c.run.new.self)
       c.in-Some.line.now c.run.new.self.printed.items (sym c.in-Some.ensures) (sym c.is_earlier.ensures ∙ c.if-is_earlier.false)
       c.in_ok-run.ensures.state c.in_ok-run.ensures.printed c.loop-line.invariant.fed;
   settings = c.loop-line.invariant.settings;
   sound = c.loop-line.invariant.sound;
-  within = omega (arith, below_at c.args.script.now.lines c.loop-line.at c.in-Some.line.now (sym c.in-Some.ensures));
+  within = omega (arith, below_at c.args.script.lines c.loop-line.at c.in-Some.line.now (sym c.in-Some.ensures));
 }
 
 pub returns-then-is_earlier : goal.returns-then-is_earlier
 returns-then-is_earlier c =
-    feed_stops c.args.script.now.lines c.loop-line.at (state_of c.loop-line.feed) c.loop-line.feed.printed.items c.in-Some.line.now c.refused.result
+    feed_stops c.args.script.lines c.loop-line.at (state_of c.loop-line.feed) c.loop-line.feed.printed.items c.in-Some.line.now c.refused.result
     (sym c.in-Some.ensures) (sym c.is_earlier.ensures ∙ c.if-is_earlier.true) c.refused.ensures.printed c.refused.ensures.refused c.loop-line.invariant.fed
 
 pub returns : goal.returns
 returns c =
-    feed_ends_if c.args.script.now.lines c.loop-line.at (state_of c.loop-line.feed) c.loop-line.feed.printed.items (settings_seen c.in_ok-settings.settings)
+    feed_ends_if c.args.script.lines c.loop-line.at (state_of c.loop-line.feed) c.loop-line.feed.printed.items (settings_seen c.in_ok-settings.settings)
     c.end.result (sym c.in_default.ensures) c.loop-line.invariant.settings c.end.ensures.printed c.end.ensures.refused c.loop-line.invariant.fed

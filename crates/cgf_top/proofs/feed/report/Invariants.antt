@@ -8,11 +8,11 @@ use Rattle.cgf_top.proofs.feed.report.Given as goal
 -- what was printed, and what is printed for the lines that are left
 abbrev pub invariant-loop-line : goal.invariant-loop-line
 invariant-loop-line l = record {
-  fed : with_print l.feed.printed.items (fed_from (settings_of l.script.lines) (l.at + 1) (state_of l.feed) (drop l.at l.script.lines)) ≡ fed_of l.script.lines;
-  settings : settings_seen l.settings ≡ settings_of l.script.lines;
+  fed : with_print l.feed.printed.items (fed_from (settings_of l.fn.script.lines) (l.at + 1) (state_of l.feed) (drop l.at l.fn.script.lines)) ≡ fed_of l.fn.script.lines;
+  settings : settings_seen l.settings ≡ settings_of l.fn.script.lines;
   sound : AreSound l.settings;
-  within : l.at ≤ length l.script.lines;
+  within : l.at ≤ length l.fn.script.lines;
 }
 
 abbrev pub decreases-loop-line : goal.decreases-loop-line
-decreases-loop-line l = length l.script.lines - l.at
+decreases-loop-line l = length l.fn.script.lines - l.at
