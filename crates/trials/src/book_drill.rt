@@ -1,124 +1,47 @@
 // A book whose device fails or stops at each of its calls.
 ghost use Rattle.std.specs.Prelude.{◌≤◌};
 
-use area_disk::{Area, Drill, Fate, MemoryArea, Outcome3, Plan, Stop};
-use gateway_book::{Book, BookFault, Outcome, Receipt, Settled, Setup, prepare};
-use gtpp_message::Why;
-use gw_base::{Addr, Caller, Moment};
-use std::alloc::{AllocError, Global};
-use std::process::Abort;
-use std::test::Fail;
-
-const SETUP: Setup = Setup {
-    address: 0x0A00_0001,
-    open_time: 60,
+use crate::book::{
+    FROM, REQUEST, answered, area, area_of, commits, entries, failing, firm, moment, open, opened,
+    revived, sends, settles, sound, stopping, take,
 };
-
-/// A Data Record Transfer Request with one record under the number 0.
-const REQUEST: [u8; 22] = [
-    0x4E, 0xF0, 0x00, 0x10, 0x00, 0x00, 0x7E, 0x01, 0xFC, 0x00, 0x0B, 0x01, 0x01, 0x06, 0x00, 0x00,
-    0x05, 0xA0, 0x03, 0x80, 0x01, 0x05,
-];
-
-// A plan for one counted call.
-fn plan(alloc: Global, call: u64, fate: Fate) -> Result<Plan, AllocError> {
-    let (fail, stop) = match fate {
-        Fate::Runs => (Vec::new(alloc), None),
-        Fate::Fails => (vec![in alloc; call]?, None),
-        Fate::Stops(outcome) => (Vec::new(alloc), Some(Stop { call, outcome })),
-    };
-    Ok(Plan {
-        fail,
-        read_fail: Vec::new(alloc),
-        stop,
-    })
-}
-
-fn area(alloc: Global, length: u64, call: u64, fate: Fate) -> Result<MemoryArea, Fail> {
-    Ok(MemoryArea::new(alloc, length, plan(alloc, call, fate)?)?)
-}
-
-fn open(
-    rt: &impl Abort,
-    alloc: Global,
-    area: MemoryArea,
-) -> Result<Book<MemoryArea>, (BookFault, MemoryArea)> {
-    assert!(rt; area.length() >= 100);
-    assert!(rt; area.length() <= 100_000);
-    Book::open(alloc, area, SETUP)
-}
-
-fn opened(rt: &impl Abort, alloc: Global, area: MemoryArea) -> Book<MemoryArea> {
-    match open(rt, alloc, area) {
-        Ok(book) => book,
-        Err(_) => panic!(rt; "not opened"),
-    }
-}
-
-// The book after the device runs again, with nothing planned.
-fn opened_again(
-    rt: &impl Abort,
-    alloc: Global,
-    mut area: MemoryArea,
-) -> Result<Book<MemoryArea>, Fail> {
-    area.revive();
-    area.arm(plan(alloc, 0, Fate::Runs)?);
-    Ok(opened(rt, alloc, area))
-}
-
-fn node(index: u32) -> Addr
-    requires { index ≤ 100 }
-{
-    Addr {
-        ip: 0x0A00_0101 + index,
-        port: 40_001,
-    }
-}
-
-fn taken(rt: &impl Abort, book: &mut Book<MemoryArea>, from: Addr, octets: &[u8]) -> Outcome {
-    let Some(now) = Moment::of(5) else {
-        panic!(rt; "no such moment")
-    };
-    book.take(from, &prepare(octets), now, Caller::NONE)
-}
-
-fn answered(rt: &impl Abort, book: &mut Book<MemoryArea>, from: Addr, octets: &[u8]) -> Receipt {
-    match taken(rt, book, from, octets) {
-        Outcome::Answer(receipt) => receipt,
-        _ => panic!(rt; "not answered"),
-    }
-}
-
-// The cause of a Data Record Transfer Response.
-fn cause(rt: &impl Abort, receipt: &Receipt) -> u8 {
-    let octets = receipt.reply.octets();
-    assert!(rt; octets.len() == 13);
-    octets[7]
-}
+use area_disk::{Drill, MemoryArea, Outcome3, Stop};
+use gateway_book::{Book, BookFault, Outcome, Settled};
+use gtpp_message::Why;
+use gw_base::Addr;
+use std::alloc::Global;
+use std::process::Abort;
 
 // Five calls of the device make an area anew, and the next four are a commit's. The call that fails, the cause of the
 // request that is sent once more, and how many entries are firm after the next commit.
 const FAILURES: [(u64, u8, u64); 4] = [(6, 128, 1), (7, 128, 1), (8, 128, 1), (9, 253, 2)];
 
+// A book whose first commit failed at this call of the device, and took an accepted request with it.
+fn failed(rt: &impl Abort, alloc: Global, call: u64) -> Book<MemoryArea> {
+    let area = area(rt, alloc, 400, failing(rt, alloc, &[call]));
+    let mut book = opened(rt, alloc, area);
+    let first = sends(rt, &mut book, FROM, &REQUEST, 128);
+    assert!(rt; !commits(&mut book));
+    assert_eq!(rt; book.calls(), call);
+    let lost = Settled::Lost { faults: 1 };
+    settles(rt, &book, (first.front, first.faults), lost);
+    book
+}
+
+// The request is sent once more, and a commit succeeds.
+fn serves_again(rt: &impl Abort, book: &mut Book<MemoryArea>, again: u8, wanted: u64) {
+    let second = sends(rt, book, FROM, &REQUEST, again);
+    assert!(rt; commits(book));
+    settles(rt, book, (second.front, second.faults), Settled::Firm);
+    assert_eq!(rt; firm(book), wanted);
+}
+
 #[test]
-fn a_commit_may_fail_at_each_of_its_calls(rt: HostRuntime) -> Result<(), Fail> {
-    let alloc = rt.alloc();
+fn a_commit_may_fail_at_each_of_its_calls(rt: HostRuntime) {
     for (call, again, firm) in &FAILURES {
-        let mut book = opened(&rt, alloc, area(alloc, 400, *call, Fate::Fails)?);
-        let first = answered(&rt, &mut book, node(0), &REQUEST);
-        assert_eq!(&rt; cause(&rt, &first), 128);
-        assert!(&rt; book.commit().is_err());
-        assert_eq!(&rt; book.calls(), *call);
-        let settled = book.settled(first.front, first.faults);
-        assert_eq!(&rt; settled, Settled::Lost { faults: 1 });
-        let second = answered(&rt, &mut book, node(0), &REQUEST);
-        assert_eq!(&rt; cause(&rt, &second), *again);
-        assert!(&rt; book.commit().is_ok());
-        let settled = book.settled(second.front, second.faults);
-        assert_eq!(&rt; settled, Settled::Firm);
-        assert_eq!(&rt; book.counts().firm, *firm);
+        let mut book = failed(&rt, rt.alloc(), *call);
+        serves_again(&rt, &mut book, *again, *firm);
     }
-    Ok(())
 }
 
 const MODES: [Outcome3; 3] = [Outcome3::Old, Outcome3::New, Outcome3::Rot];
@@ -133,23 +56,40 @@ const OPENINGS: [(u64, [u64; 3]); 5] = [
     (5, [5, 1, 5]),
 ];
 
-#[test]
-fn an_opening_may_be_stopped_at_each_of_its_calls(rt: HostRuntime) -> Result<(), Fail> {
-    let alloc = rt.alloc();
-    for (call, row) in &OPENINGS {
-        for (mode, calls) in MODES.iter().zip(row) {
-            let Err((fault, area)) = open(&rt, alloc, area(alloc, 400, *call, Fate::Stops(*mode))?)
-            else {
-                panic!(&rt; "opened")
-            };
-            assert_eq!(&rt; fault, BookFault::Device);
-            assert!(&rt; area.stopped());
-            let book = opened_again(&rt, alloc, area)?;
-            assert_eq!(&rt; book.calls(), *calls);
-            assert_eq!(&rt; book.counts().entries, 1);
+// The area after an opening that was stopped.
+fn stopped_opening(rt: &impl Abort, alloc: Global, stop: Stop) -> MemoryArea {
+    match open(rt, alloc, area(rt, alloc, 400, stopping(alloc, stop))) {
+        Ok(_) => panic!(rt; "opened"),
+        Err((fault, area)) => {
+            assert_eq!(rt; fault, BookFault::Device);
+            assert!(rt; area.stopped());
+            area
         }
     }
-    Ok(())
+}
+
+// The book after the device runs again, which makes so many calls to open it.
+fn opened_again(rt: &impl Abort, alloc: Global, area: MemoryArea, calls: u64) -> Book<MemoryArea> {
+    let book = opened(rt, alloc, revived(alloc, area));
+    assert_eq!(rt; book.calls(), calls);
+    book
+}
+
+// Stops an opening at this call, in each mode.
+fn stop_openings(rt: &impl Abort, alloc: Global, call: u64, row: &[u64; 3]) {
+    for (mode, calls) in MODES.iter().zip(row) {
+        let outcome = *mode;
+        let area = stopped_opening(rt, alloc, Stop { call, outcome });
+        let book = opened_again(rt, alloc, area, *calls);
+        assert_eq!(rt; entries(&book), 1);
+    }
+}
+
+#[test]
+fn an_opening_may_be_stopped_at_each_of_its_calls(rt: HostRuntime) {
+    for (call, row) in &OPENINGS {
+        stop_openings(&rt, rt.alloc(), *call, row);
+    }
 }
 
 // How many entries are firm after a commit of two was stopped, by the call and the mode.
@@ -160,21 +100,31 @@ const COMMITS: [(u64, [u64; 3]); 4] = [
     (9, [0, 2, 0]),
 ];
 
-#[test]
-fn a_commit_may_be_stopped_at_each_of_its_calls(rt: HostRuntime) -> Result<(), Fail> {
-    let alloc = rt.alloc();
-    for (call, row) in &COMMITS {
-        for (mode, firm) in MODES.iter().zip(row) {
-            let mut book = opened(&rt, alloc, area(alloc, 400, *call, Fate::Stops(*mode))?);
-            answered(&rt, &mut book, node(0), &REQUEST);
-            assert!(&rt; book.commit().is_err());
-            assert!(&rt; book.stopped());
-            let again = opened_again(&rt, alloc, book.into_area())?;
-            assert_eq!(&rt; again.calls(), 1);
-            assert_eq!(&rt; again.counts().firm, *firm);
-        }
+// The area after a commit of an accepted request that was stopped.
+fn stopped_commit(rt: &impl Abort, alloc: Global, stop: Stop) -> MemoryArea {
+    let area = area(rt, alloc, 400, stopping(alloc, stop));
+    let mut book = opened(rt, alloc, area);
+    let _ = answered(rt, &mut book, FROM, &REQUEST, 5);
+    assert!(rt; !commits(&mut book));
+    assert!(rt; book.stopped());
+    area_of(book)
+}
+
+// Stops a commit at this call, in each mode.
+fn stop_commits(rt: &impl Abort, alloc: Global, call: u64, row: &[u64; 3]) {
+    for (mode, wanted) in MODES.iter().zip(row) {
+        let outcome = *mode;
+        let area = stopped_commit(rt, alloc, Stop { call, outcome });
+        let book = opened_again(rt, alloc, area, 1);
+        assert_eq!(rt; firm(&book), *wanted);
     }
-    Ok(())
+}
+
+#[test]
+fn a_commit_may_be_stopped_at_each_of_its_calls(rt: HostRuntime) {
+    for (call, row) in &COMMITS {
+        stop_commits(&rt, rt.alloc(), *call, row);
+    }
 }
 
 /// An Echo Request, a Node Alive Request, and an Echo Request of version 1.
@@ -201,44 +151,76 @@ const EMPTY: [u8; 11] = [
     0x4E, 0xF0, 0x00, 0x05, 0x00, 0x00, 0x7E, 0x02, 0xFC, 0x00, 0x00,
 ];
 
-/// A release and a cancel of the number 0.
-const LISTS: [[u8; 13]; 2] = [
-    [
-        0x4E, 0xF0, 0x00, 0x07, 0x00, 0x01, 0x7E, 0x04, 0xF9, 0x00, 0x02, 0x00, 0x00,
-    ],
-    [
-        0x4E, 0xF0, 0x00, 0x07, 0x00, 0x02, 0x7E, 0x03, 0xFA, 0x00, 0x02, 0x00, 0x00,
-    ],
+/// A release of the number 0.
+const RELEASE: [u8; 13] = [
+    0x4E, 0xF0, 0x00, 0x07, 0x00, 0x01, 0x7E, 0x04, 0xF9, 0x00, 0x02, 0x00, 0x00,
 ];
 
-#[test]
-fn a_65th_node_finds_no_place(rt: HostRuntime) -> Result<(), Fail> {
-    let alloc = rt.alloc();
-    let mut book = opened(&rt, alloc, area(alloc, 20_000, 0, Fate::Runs)?);
+/// A cancel of the number 0.
+const CANCEL: [u8; 13] = [
+    0x4E, 0xF0, 0x00, 0x07, 0x00, 0x02, 0x7E, 0x03, 0xFA, 0x00, 0x02, 0x00, 0x00,
+];
+
+// The requests of a node that isn't known where no other has a place, and the causes of their answers.
+const REFUSED: [(&[u8], u8); 5] = [
+    (&REQUEST, 199),
+    (&POSSIBLE, 199),
+    (&EMPTY, 199),
+    (&RELEASE, 254),
+    (&CANCEL, 254),
+];
+
+fn node(index: u32) -> Addr
+    requires { index ≤ 100 }
+{
+    Addr {
+        ip: 0x0A00_0101 + index,
+        port: 40_001,
+    }
+}
+
+// A book that knows 64 nodes.
+fn full(rt: &impl Abort, alloc: Global) -> Book<MemoryArea> {
+    let mut book = opened(rt, alloc, area(rt, alloc, 20_000, sound(alloc)));
     for index in 0..64 {
-        let receipt = answered(&rt, &mut book, node(index), &REQUEST);
-        assert_eq!(&rt; cause(&rt, &receipt), 128);
+        let _ = sends(rt, &mut book, node(index), &REQUEST, 128);
     }
-    let last = node(64);
+    book
+}
+
+// The type of the message that answers a datagram.
+fn type_told(rt: &impl Abort, book: &mut Book<MemoryArea>, from: Addr, octets: &[u8]) -> u8 {
+    let receipt = answered(rt, book, from, octets, 5);
+    let reply = receipt.reply.octets();
+    assert!(rt; reply.len() >= 6);
+    reply[1]
+}
+
+fn is_told(rt: &impl Abort, book: &mut Book<MemoryArea>, from: Addr) {
     for (octets, kind) in ASKED.iter().zip(&TOLD) {
-        let receipt = answered(&rt, &mut book, last, octets);
-        let reply = receipt.reply.octets();
-        assert!(&rt; reply.len() >= 6);
-        assert_eq!(&rt; reply[1], *kind);
+        assert_eq!(rt; type_told(rt, book, from, octets), *kind);
     }
-    let Outcome::Drop(Why::NoRoom) = taken(&rt, &mut book, last, &ECHO) else {
-        panic!(&rt; "not dropped")
-    };
-    for octets in [&REQUEST, &POSSIBLE] {
-        let receipt = answered(&rt, &mut book, last, octets);
-        assert_eq!(&rt; cause(&rt, &receipt), 199);
+}
+
+fn is_dropped(rt: &impl Abort, book: &mut Book<MemoryArea>, from: Addr, octets: &[u8]) {
+    match take(book, from, octets, moment(rt, 5)) {
+        Outcome::Drop(Why::NoRoom) => {}
+        _ => panic!(rt; "not dropped"),
     }
-    let receipt = answered(&rt, &mut book, last, &EMPTY);
-    assert_eq!(&rt; cause(&rt, &receipt), 199);
-    for octets in &LISTS {
-        let receipt = answered(&rt, &mut book, last, octets);
-        assert_eq!(&rt; cause(&rt, &receipt), 254);
+}
+
+fn is_refused(rt: &impl Abort, book: &mut Book<MemoryArea>, from: Addr) {
+    for (octets, wanted) in REFUSED {
+        let _ = sends(rt, book, from, octets, wanted);
     }
-    assert_eq!(&rt; book.counts().entries, 65);
-    Ok(())
+}
+
+#[test]
+fn a_65th_node_finds_no_place(rt: HostRuntime) {
+    let mut book = full(&rt, rt.alloc());
+    let last = node(64);
+    is_told(&rt, &mut book, last);
+    is_dropped(&rt, &mut book, last, &ECHO);
+    is_refused(&rt, &mut book, last);
+    assert_eq!(&rt; entries(&book), 65);
 }

@@ -1,17 +1,10 @@
 // What a book's history makes for a writer of files.
-ghost use Rattle.std.specs.Prelude.{◌≤◌};
-
-use area_disk::{Area, MemoryArea, Plan};
-use gateway_book::{Book, Marked, Outcome, Setup, prepare};
-use gw_base::{Addr, Caller, CdrKind, Item, Moment};
+use crate::book::{FROM, answered, area, area_of, cause, closes, commits, failing, opened, ticks};
+use area_disk::MemoryArea;
+use gateway_book::{Book, Marked};
+use gw_base::{CdrKind, Item};
 use std::alloc::Global;
 use std::process::Abort;
-use std::test::Fail;
-
-const FROM: Addr = Addr {
-    ip: 0x0A00_0101,
-    port: 40_001,
-};
 
 /// Release 3, version 0, format 1.
 const KIND: CdrKind = CdrKind {
@@ -20,55 +13,10 @@ const KIND: CdrKind = CdrKind {
     format: 1,
 };
 
-/// An area whose 13th call fails: five calls make it anew, and each commit makes four, so that the second commit fails at
-/// its last call, and what it wrote stands.
-fn area(rt: &impl Abort, alloc: Global) -> MemoryArea {
-    let fail = match vec![in alloc; 13] {
-        Ok(fail) => fail,
-        Err(_) => panic!(rt; "no memory for a plan"),
-    };
-    let plan = Plan {
-        fail,
-        read_fail: Vec::new(alloc),
-        stop: None,
-    };
-    match MemoryArea::new(alloc, 4000, plan) {
-        Ok(area) => area,
-        Err(_) => panic!(rt; "no memory for an area"),
-    }
-}
-
-fn opened(rt: &impl Abort, alloc: Global, area: MemoryArea) -> Book<MemoryArea> {
-    let setup = Setup {
-        address: 0x0A00_0001,
-        open_time: 60,
-    };
-    assert!(rt; area.length() >= 100);
-    assert!(rt; area.length() <= 5000);
-    match Book::open(alloc, area, setup) {
-        Ok(book) => book,
-        Err(_) => panic!(rt; "not opened"),
-    }
-}
-
-fn moment(rt: &impl Abort, seconds: u64) -> Moment {
-    match Moment::of(seconds) {
-        Some(moment) => moment,
-        None => panic!(rt; "no such moment"),
-    }
-}
-
 /// Sends a request, which is accepted.
 fn send(rt: &impl Abort, book: &mut Book<MemoryArea>, request: &[u8], seconds: u64) {
-    let now = moment(rt, seconds);
-    match book.take(FROM, &prepare(request), now, Caller::NONE) {
-        Outcome::Answer(receipt) => {
-            let octets = receipt.reply.octets();
-            assert!(rt; octets.len() == 13);
-            assert_eq!(rt; octets[7], 128);
-        }
-        _ => panic!(rt; "not answered"),
-    }
+    let receipt = answered(rt, book, FROM, request, seconds);
+    assert_eq!(rt; cause(rt, &receipt), 128);
 }
 
 /// A request with one record, whose last octet tells it from others: under a command and a number.
@@ -144,25 +92,33 @@ const ALL: [Expected; 9] = [
 /// the list above.
 type Question = (u64, u32, usize, usize);
 
+/// The items are these, from this one on.
+fn are_as_expected(rt: &impl Abort, items: &[Item], first: usize) {
+    let mut expected = ALL.iter();
+    for _ in 0..first {
+        expected.next();
+    }
+    for item in items {
+        match expected.next() {
+            Some(expected) => assert_eq!(rt; told(rt, item), *expected, "from {first}"),
+            None => panic!(rt; "one item more"),
+        }
+    }
+}
+
 fn ask(
     rt: &impl Abort,
     alloc: Global,
     book: &mut Book<MemoryArea>,
     (from, max, count, first): Question,
-) -> Result<(), Fail> {
-    let items = book.items(alloc, from, max)?;
-    assert_eq!(rt; items.len(), count, "{from} {max}");
-    let mut expected = ALL.iter();
-    for _ in 0..first {
-        expected.next();
-    }
-    for item in items.iter() {
-        match expected.next() {
-            Some(expected) => assert_eq!(rt; told(rt, item), *expected, "{from} {max}"),
-            None => panic!(rt; "one item more"),
+) {
+    match book.items(alloc, from, max) {
+        Ok(items) => {
+            assert_eq!(rt; items.len(), count, "{from} {max}");
+            are_as_expected(rt, &items, first);
         }
+        Err(_) => panic!(rt; "no items"),
     }
-    Ok(())
 }
 
 /// What is asked for where the first batch is firm.
@@ -191,16 +147,10 @@ const LAST: [Question; 6] = [
     (0, 100, 9, 0),
 ];
 
-fn ask_all(
-    rt: &impl Abort,
-    alloc: Global,
-    book: &mut Book<MemoryArea>,
-    questions: &[Question],
-) -> Result<(), Fail> {
+fn ask_all(rt: &impl Abort, alloc: Global, book: &mut Book<MemoryArea>, questions: &[Question]) {
     for asked in questions {
-        ask(rt, alloc, book, *asked)?;
+        ask(rt, alloc, book, *asked);
     }
-    Ok(())
 }
 
 /// What comes before the Tick, which is made at 90.
@@ -215,40 +165,60 @@ fn before_the_tick(rt: &impl Abort, book: &mut Book<MemoryArea>) {
 
 /// The Tick, the Close and what is released behind them.
 fn marks(rt: &impl Abort, book: &mut Book<MemoryArea>) {
-    let made = book.tick(moment(rt, 90), Caller::NONE);
     let ticked = Marked::Made {
         front: 8,
         faults: 0,
     };
-    assert_eq!(rt; made, ticked);
+    ticks(rt, book, 90, ticked);
     send(rt, book, &listing(3, 0xFA, 6, 2), 91);
-    let made = book.close(moment(rt, 95), Caller::NONE);
     let closed = Marked::Made {
         front: 10,
         faults: 0,
     };
-    assert_eq!(rt; made, closed);
+    closes(rt, book, 95, closed);
     send(rt, book, &listing(4, 0xF9, 7, 3), 96);
 }
 
+/// A book of which nothing is firm, and which has no items.
+fn before_a_commit(rt: &impl Abort, alloc: Global) -> Book<MemoryArea> {
+    // five calls of the device make an area anew, and each commit makes four: the second commit fails at its last call,
+    // and what it wrote stands
+    let area = area(rt, alloc, 4000, failing(rt, alloc, &[13]));
+    let mut book = opened(rt, alloc, area);
+    ask(rt, alloc, &mut book, (0, 100, 0, 0));
+    before_the_tick(rt, &mut book);
+    marks(rt, &mut book);
+    ask(rt, alloc, &mut book, (0, 100, 0, 0));
+    book
+}
+
+/// A commit succeeds, and the next one fails: both leave the items of the first.
+fn first_batch(rt: &impl Abort, alloc: Global, book: &mut Book<MemoryArea>) {
+    assert!(rt; commits(book));
+    send(rt, book, &one_record(1, 8, 12), 97);
+    ask_all(rt, alloc, book, &FIRST);
+    assert!(rt; !commits(book));
+    ask_all(rt, alloc, book, &FIRST);
+}
+
+/// The second batch stands after all, and an item stays what it was.
+fn other_batches(rt: &impl Abort, alloc: Global, book: &mut Book<MemoryArea>) {
+    assert!(rt; commits(book));
+    send(rt, book, &one_record(1, 9, 13), 98);
+    assert!(rt; commits(book));
+    ask_all(rt, alloc, book, &LAST);
+}
+
+/// The book after its area is opened again has the items of all batches.
+fn opened_again(rt: &impl Abort, alloc: Global, book: Book<MemoryArea>) {
+    let mut again = opened(rt, alloc, area_of(book));
+    ask(rt, alloc, &mut again, (0, 100, 9, 0));
+}
+
 #[test]
-fn the_firm_records_and_marks_are_told_in_order(rt: HostRuntime) -> Result<(), Fail> {
-    let alloc = rt.alloc();
-    let area = area(&rt, alloc);
-    let mut book = opened(&rt, alloc, area);
-    before_the_tick(&rt, &mut book);
-    marks(&rt, &mut book);
-    ask(&rt, alloc, &mut book, (0, 100, 0, 0))?;
-    assert!(&rt; book.commit().is_ok());
-    send(&rt, &mut book, &one_record(1, 8, 12), 97);
-    ask_all(&rt, alloc, &mut book, &FIRST)?;
-    assert!(&rt; book.commit().is_err());
-    ask_all(&rt, alloc, &mut book, &FIRST)?;
-    // the batch stands after all, and an item stays what it was
-    assert!(&rt; book.commit().is_ok());
-    send(&rt, &mut book, &one_record(1, 9, 13), 98);
-    assert!(&rt; book.commit().is_ok());
-    ask_all(&rt, alloc, &mut book, &LAST)?;
-    let mut again = opened(&rt, alloc, book.into_area());
-    ask(&rt, alloc, &mut again, (0, 100, 9, 0))
+fn the_firm_records_and_marks_are_told_in_order(rt: HostRuntime) {
+    let mut book = before_a_commit(&rt, rt.alloc());
+    first_batch(&rt, rt.alloc(), &mut book);
+    other_batches(&rt, rt.alloc(), &mut book);
+    opened_again(&rt, rt.alloc(), book);
 }

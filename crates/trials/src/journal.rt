@@ -83,6 +83,11 @@ fn commit(rt: &impl Abort, trail: &mut Trail<MemoryArea>) -> Result<u64, Device>
     trail.commit()
 }
 
+// A commit succeeds, and so many entries are firm.
+fn commits(rt: &impl Abort, trail: &mut Trail<MemoryArea>, firm: u64) {
+    assert_eq!(rt; commit(rt, trail), Ok(firm));
+}
+
 fn seal() -> Act<'static> {
     Act::Seal {
         node: NODE,
@@ -131,19 +136,51 @@ fn act_of(kind: u64) -> Act<'static> {
     }
 }
 
+// An entry is pushed, and leaves so many octets free.
+fn leaves(rt: &impl Abort, trail: &mut Trail<MemoryArea>, act: Act<'_>, free: u64) {
+    push(rt, trail, act);
+    assert_eq!(rt; trail.free(), free);
+}
+
+fn has_room(rt: &impl Abort, trail: &Trail<MemoryArea>, act: Act<'_>) -> bool {
+    trail.room(&entry(rt, act))
+}
+
 #[test]
 fn a_held_packet_keeps_room_for_its_release_and_a_close(rt: HostRuntime) {
     let mut trail = fresh(&rt, rt.alloc(), 234);
     assert_eq!(&rt; trail.free(), 201);
-    for (act, free) in [(Act::Start, 171), (hold(), 42), (seal(), 0)] {
-        push(&rt, &mut trail, act);
-        assert_eq!(&rt; trail.free(), free);
-    }
-    assert!(&rt; !trail.room(&entry(&rt, seal())));
+    leaves(&rt, &mut trail, Act::Start, 171);
+    leaves(&rt, &mut trail, hold(), 42);
+    leaves(&rt, &mut trail, seal(), 0);
+    assert!(&rt; !has_room(&rt, &trail, seal()));
     push(&rt, &mut trail, release());
     push(&rt, &mut trail, Act::Close);
-    assert_eq!(&rt; commit(&rt, &mut trail), Ok(5));
+    commits(&rt, &mut trail, 5);
     assert_eq!(&rt; trail.free(), 0);
+}
+
+// The octets of a firm entry.
+fn octets_of(
+    rt: &impl Abort,
+    alloc: Global,
+    trail: &mut Trail<MemoryArea>,
+    k: u64,
+) -> Result<Vec<u8>, Fail> {
+    assert!(rt; k < trail.length());
+    assert!(rt; k < trail.firm());
+    let place = trail.entry_at(k);
+    let mut octets = vec![in alloc; 0; place.length as usize]?;
+    trail.read(place, &mut octets)?;
+    Ok(octets)
+}
+
+// The octets say the entry of this kind, and nothing else.
+fn says(rt: &impl Abort, octets: &[u8], kind: u64) {
+    let mut numbers = [0; 16];
+    assert!(rt; octets.len() < 128);
+    let wanted = entry(rt, act_of(kind));
+    assert_eq!(rt; read(octets, &mut numbers), Ok((wanted, octets.len())));
 }
 
 // The entries of a trail are one of each kind.
@@ -154,69 +191,72 @@ fn holds_each_kind(
 ) -> Result<(), Fail> {
     assert_eq!(rt; trail.length(), KINDS);
     for kind in 0..KINDS {
-        assert!(rt; kind < trail.length());
-        assert!(rt; kind < trail.firm());
-        let place = trail.entry_at(kind);
-        let mut octets = vec![in alloc; 0; place.length as usize]?;
-        trail.read(place, &mut octets)?;
-        let mut numbers = [0; 16];
-        assert!(rt; octets.len() < 128);
-        assert_eq!(rt;
-            read(&octets, &mut numbers),
-            Ok((entry(rt, act_of(kind)), octets.len()))
-        );
+        says(rt, &octets_of(rt, alloc, trail, kind)?, kind);
     }
     Ok(())
+}
+
+// Pushes an entry of each of these kinds.
+fn push_kinds(rt: &impl Abort, trail: &mut Trail<MemoryArea>, from: u64, to: u64) {
+    for kind in from..to {
+        push(rt, trail, act_of(kind));
+    }
 }
 
 #[test]
 fn each_kind_of_entry_is_read_back(rt: HostRuntime) -> Result<(), Fail> {
     let alloc = rt.alloc();
     let mut trail = fresh(&rt, alloc, 1000);
-    for kind in 0..KINDS {
-        push(&rt, &mut trail, act_of(kind));
-        if kind == 3 {
-            assert_eq!(&rt; commit(&rt, &mut trail), Ok(4));
-            assert_eq!(&rt; commit(&rt, &mut trail), Ok(4));
-        }
-    }
+    push_kinds(&rt, &mut trail, 0, 4);
+    commits(&rt, &mut trail, 4);
+    commits(&rt, &mut trail, 4);
+    push_kinds(&rt, &mut trail, 4, KINDS);
     assert_eq!(&rt; trail.firm(), 4);
-    assert_eq!(&rt; commit(&rt, &mut trail), Ok(KINDS));
+    commits(&rt, &mut trail, KINDS);
     holds_each_kind(&rt, alloc, &mut trail)?;
     let mut again = opened(&rt, alloc, trail.into_area());
     holds_each_kind(&rt, alloc, &mut again)
 }
 
-#[test]
-fn a_batch_that_is_no_entry_is_not_ours(rt: HostRuntime) {
-    let alloc = rt.alloc();
-    let area = area_of(&rt, alloc, 100, plan(alloc, None));
-    assert_eq!(&rt; area.length(), 100);
+// An area with a batch that is no entry.
+fn with_a_batch(rt: &impl Abort, alloc: Global) -> MemoryArea {
+    let area = area_of(rt, alloc, 100, plan(alloc, None));
+    assert_eq!(rt; area.length(), 100);
     let Ok(mut journal) = Journal::open(alloc, area, ADDRESS, 0) else {
-        panic!(&rt; "not opened")
+        panic!(rt; "not opened")
     };
-    assert!(&rt; !journal.is_closed());
-    assert_eq!(&rt; journal.append(&[0xAA, 0xBB]), Ok(()));
-    let area = journal.into_area();
-    assert_eq!(&rt; area.length(), 100);
-    let Err((fault, _)) = Trail::open(alloc, area, ADDRESS) else {
-        panic!(&rt; "opened")
-    };
-    assert_eq!(&rt; fault, OpenFault::NotOurs { at: 32 });
+    assert!(rt; !journal.is_closed());
+    assert_eq!(rt; journal.append(&[0xAA, 0xBB]), Ok(()));
+    journal.into_area()
 }
 
-// How many entries are found after an opening under this plan.
-fn length_after_open(rt: &impl Abort, alloc: Global, plan: Plan) -> u64 {
+#[test]
+fn a_batch_that_is_no_entry_is_not_ours(rt: HostRuntime) {
+    let area = with_a_batch(&rt, rt.alloc());
+    assert_eq!(&rt; area.length(), 100);
+    match Trail::open(rt.alloc(), area, ADDRESS) {
+        Ok(_) => panic!(&rt; "opened"),
+        Err((fault, _)) => assert_eq!(&rt; fault, OpenFault::NotOurs { at: 32 }),
+    }
+}
+
+// The area after an opening under a plan failed.
+fn not_opened(rt: &impl Abort, alloc: Global, plan: Plan) -> MemoryArea {
     let area = area_of(rt, alloc, 200, plan);
     assert_eq!(rt; area.length(), 200);
     match Trail::open(alloc, area, ADDRESS) {
         Ok(_) => panic!(rt; "opened"),
-        Err((fault, mut area)) => {
+        Err((fault, area)) => {
             assert_eq!(rt; fault, OpenFault::Device);
-            area.revive();
-            opened(rt, alloc, area).length()
+            area
         }
     }
+}
+
+// How many entries are found once the device runs again.
+fn length_again(rt: &impl Abort, alloc: Global, mut area: MemoryArea) -> u64 {
+    area.revive();
+    opened(rt, alloc, area).length()
 }
 
 // A closed trail, whose commit of one entry failed by this plan.
@@ -231,25 +271,26 @@ fn torn(rt: &impl Abort, alloc: Global, plan: Plan) -> Trail<MemoryArea> {
     trail
 }
 
-// How many entries are found after a commit under this plan.
-fn length_after_commit(rt: &impl Abort, alloc: Global, plan: Plan) -> u64 {
-    let mut area = torn(rt, alloc, plan).into_area();
-    area.revive();
-    opened(rt, alloc, area).length()
-}
-
 #[test]
 fn a_stop_at_the_gate_leaves_the_entries_of_a_commit(rt: HostRuntime) {
     let alloc = rt.alloc();
-    for outcome in [Outcome3::Old, Outcome3::New] {
+    for (outcome, stands) in [(Outcome3::Old, 0), (Outcome3::New, 1)] {
         let stop = Some(Stop { call: 3, outcome });
-        assert_eq!(&rt; length_after_open(&rt, alloc, plan(alloc, stop)), 0);
-        let stands = outcome == Outcome3::New;
-        assert_eq!(&rt;
-            length_after_commit(&rt, alloc, plan(alloc, stop)),
-            u64::from(stands)
-        );
+        let area = not_opened(&rt, alloc, plan(alloc, stop));
+        assert_eq!(&rt; length_again(&rt, alloc, area), 0);
+        let area = torn(&rt, alloc, plan(alloc, stop)).into_area();
+        assert_eq!(&rt; length_again(&rt, alloc, area), stands);
     }
+}
+
+// After a commit failed at this call the trail is opened again: its entry stands where the gate had been written.
+fn reopens(rt: &impl Abort, trail: &mut Trail<MemoryArea>, call: u64) {
+    assert_eq!(rt; trail.calls(), call);
+    assert!(rt; !trail.stopped());
+    assert!(rt; trail.is_closed());
+    assert_eq!(rt; trail.reopen(), Ok(call == 4));
+    assert_eq!(rt; trail.length(), u64::from(call == 4));
+    assert_eq!(rt; trail.firm(), trail.length());
 }
 
 #[test]
@@ -257,29 +298,29 @@ fn a_failed_commit_stands_by_its_gate(rt: HostRuntime) -> Result<(), Fail> {
     let alloc = rt.alloc();
     for call in 3..5 {
         let mut trail = torn(&rt, alloc, failing(alloc, call)?);
-        assert_eq!(&rt; trail.calls(), call);
-        assert!(&rt; !trail.stopped());
-        assert!(&rt; trail.is_closed());
-        assert_eq!(&rt; trail.reopen(), Ok(call == 4));
-        assert_eq!(&rt; trail.length(), u64::from(call == 4));
-        assert_eq!(&rt; trail.firm(), trail.length());
+        reopens(&rt, &mut trail, call);
     }
     Ok(())
+}
+
+// The octets that wait are so many, and begin here.
+fn waits(rt: &impl Abort, trail: &Trail<MemoryArea>, at: u64, length: usize) {
+    let waiting = trail.waiting();
+    assert_eq!(rt; waiting.at, at);
+    assert_eq!(rt; waiting.octets.len(), length);
 }
 
 #[test]
 fn the_entries_that_wait_are_lent(rt: HostRuntime) {
     let mut trail = fresh(&rt, rt.alloc(), 300);
-    assert_eq!(&rt; trail.waiting().octets.len(), 0);
+    waits(&rt, &trail, 0, 0);
     push(&rt, &mut trail, Act::Start);
-    assert_eq!(&rt; trail.waiting().at, 0);
-    assert_eq!(&rt; trail.waiting().octets.len(), 25);
-    assert_eq!(&rt; commit(&rt, &mut trail), Ok(1));
+    waits(&rt, &trail, 0, 25);
+    commits(&rt, &mut trail, 1);
     push(&rt, &mut trail, seal());
     assert!(&rt; trail.length() > 1);
     assert_eq!(&rt; trail.entry_at(1).length, 37);
-    assert_eq!(&rt; trail.waiting().at, 25);
-    assert_eq!(&rt; trail.waiting().octets.len(), 37);
+    waits(&rt, &trail, 25, 37);
 }
 
 // To this judge no entry is fit.
@@ -298,20 +339,25 @@ impl Judge for TakesNone {
     }
 }
 
+// An area of generation 3 with a Start.
+fn with_a_start(rt: &impl Abort, alloc: Global) -> MemoryArea {
+    let area = area_of(rt, alloc, 200, plan(alloc, None));
+    assert_eq!(rt; area.length(), 200);
+    let Ok(mut trail) = Trail::open_at(alloc, area, ADDRESS, 3) else {
+        panic!(rt; "not opened")
+    };
+    push(rt, &mut trail, Act::Start);
+    commits(rt, &mut trail, 1);
+    trail.into_area()
+}
+
 #[test]
 fn an_unfit_entry_is_not_ours(rt: HostRuntime) {
-    let alloc = rt.alloc();
-    let area = area_of(&rt, alloc, 200, plan(alloc, None));
+    let area = with_a_start(&rt, rt.alloc());
     assert_eq!(&rt; area.length(), 200);
-    let Ok(mut trail) = Trail::open_at(alloc, area, ADDRESS, 3) else {
-        panic!(&rt; "not opened")
-    };
-    push(&rt, &mut trail, Act::Start);
-    assert_eq!(&rt; commit(&rt, &mut trail), Ok(1));
-    let area = trail.into_area();
     let mut judge = TakesNone;
-    let Err((fault, _)) = Trail::open_judged(alloc, area, ADDRESS, 3, &mut judge) else {
-        panic!(&rt; "opened")
-    };
-    assert_eq!(&rt; fault, OpenFault::NotOurs { at: 32 });
+    match Trail::open_judged(rt.alloc(), area, ADDRESS, 3, &mut judge) {
+        Ok(_) => panic!(&rt; "opened"),
+        Err((fault, _)) => assert_eq!(&rt; fault, OpenFault::NotOurs { at: 32 }),
+    }
 }

@@ -1,6 +1,6 @@
 //! A node's ticks and what it makes of answers, octet for octet, with values worked out by hand.
 
-use gw_base::Addr;
+use gw_base::{Addr, NodeId, PacketId};
 use node_core::{Draft, Heeded, Node, NodeCopy, NodeCounts, Outgoing, Phase, Port, SubmitFault};
 use std::alloc::Global;
 use std::process::Abort;
@@ -46,8 +46,16 @@ const ALIVE_RESPONSE: [u8; 6] = [0x4E, 5, 0, 0, 0, 0];
 /// An Echo Request with number 7.
 const ECHO_REQUEST: [u8; 6] = [0x4E, 1, 0, 0, 0, 7];
 
-/// The Redirection Request of a gateway that is about to go down.
+/// The Redirection Request of a gateway that is about to go down, and the response to it.
 const REDIRECTION: [u8; 8] = [0x4E, 6, 0, 2, 0, 0, 1, 63];
+
+const REDIRECTED: [u8; 8] = [0x4E, 7, 0, 2, 0, 0, 1, 128];
+
+/// The node's first packet.
+const PACKET: PacketId = PacketId {
+    node: NodeId(0x0A00_0101),
+    number: 1,
+};
 
 const GATEWAYS: [Addr; 3] = [
     Addr {
@@ -103,7 +111,16 @@ fn hears<R: Abort>(rt: &R, node: &mut Node, port: Port, gateway: u8, octets: &[u
     heeded
 }
 
-/// Hears a gateway's answer to a number; whether this makes the packet resolved, and done.
+/// Hears a datagram from a gateway, and answers it so.
+fn replies<R: Abort>(rt: &R, node: &mut Node, gateway: u8, octets: &[u8], wanted: &[u8]) {
+    let heeded = hears(rt, node, Port::First, gateway, octets);
+    let Some(reply) = heeded.reply else {
+        panic!(rt; "no answer to {octets:?}");
+    };
+    assert_eq!(rt; reply.octets(), wanted);
+}
+
+/// Hears a gateway's answer to a number, which isn't answered; whether this makes the first packet resolved, and done.
 fn answers<R: Abort>(
     rt: &R,
     node: &mut Node,
@@ -114,7 +131,16 @@ fn answers<R: Abort>(
 ) -> (bool, bool) {
     let octets = [0x4E, 0xF1, 0, 7, 0, number, 1, cause, 0xFD, 0, 2, 0, number];
     let heeded = hears(rt, node, port, gateway, &octets);
-    (heeded.resolved.is_some(), heeded.done.is_some())
+    assert!(rt; heeded.reply.is_none());
+    (is_made(rt, heeded.resolved), is_made(rt, heeded.done))
+}
+
+/// Whether a packet is told, which is the node's first.
+fn is_made<R: Abort>(rt: &R, told: Option<PacketId>) -> bool {
+    if told.is_some() {
+        assert_eq!(rt; told, Some(PACKET));
+    }
+    told.is_some()
 }
 
 /// Plays what happens to a node.
@@ -122,9 +148,7 @@ fn play<R: Abort>(rt: &R, alloc: Global, node: &mut Node, steps: &[Step<'_>]) {
     for step in steps {
         match *step {
             Step::Sends(wanted) => sends(rt, alloc, node, wanted),
-            Step::GoesDown(gateway) => {
-                let _ = hears(rt, node, Port::First, gateway, &REDIRECTION);
-            }
+            Step::GoesDown(gateway) => replies(rt, node, gateway, &REDIRECTION, &REDIRECTED),
             Step::Answers(port, gateway, number, cause, wanted) => {
                 let made = answers(rt, node, port, gateway, number, cause);
                 assert_eq!(rt; made, wanted, "{port:?} {cause}");
@@ -135,11 +159,8 @@ fn play<R: Abort>(rt: &R, alloc: Global, node: &mut Node, steps: &[Step<'_>]) {
 
 /// Hears a gateway's Echo Request, and tells this counter.
 fn tells<R: Abort>(rt: &R, node: &mut Node, gateway: u8, counter: u8) {
-    let asked = hears(rt, node, Port::First, gateway, &ECHO_REQUEST);
-    let Some(told) = asked.reply else {
-        panic!(rt; "no answer");
-    };
-    assert_eq!(rt; told.octets(), &[0x4E, 2, 0, 2, 0, 7, 0x0E, counter][..]);
+    let told = [0x4E, 2, 0, 2, 0, 7, 0x0E, counter];
+    replies(rt, node, gateway, &ECHO_REQUEST, &told);
 }
 
 /// Submits the packet with one record.
@@ -235,10 +256,28 @@ fn a_sealed_packet_releases_one_duplicate_and_cancels_the_other(rt: HostRuntime)
     assert_eq!(rt; node.counts(), counts);
 }
 
+#[test]
+fn after_three_ticks_of_silence_the_next_gateway_gets_a_duplicate(rt: HostRuntime) {
+    let mut node = ready(&rt, rt.alloc(), &GATEWAYS[..2]);
+    // the tick that appoints a gateway is the first of its three
+    let steps = [
+        Step::Sends(&[(Port::First, 1, &PLAIN)]),
+        Step::Sends(&[(Port::First, 1, &PLAIN)]),
+        Step::Sends(&[(Port::First, 1, &PLAIN)]),
+        Step::Sends(&[(Port::First, 2, &DUPLICATE)]),
+        Step::Sends(&[(Port::First, 2, &DUPLICATE)]),
+        Step::Sends(&[(Port::First, 2, &DUPLICATE)]),
+        Step::Sends(&[(Port::First, 1, &PLAIN)]),
+    ];
+    play(&rt, rt.alloc(), &mut node, &steps);
+}
+
 /// What a cause tells at a port: whether it ends a packet that has the plain copy alone, and how many datagrams the
 /// next tick sends; and, where the plain copy isn't answered and this is said of a duplicate at the second gateway,
 /// from which port and to which gateway the next tick sends.
-const TELLINGS: [(Port, u8, bool, usize, Port, u8); 22] = [
+type Telling = (Port, u8, bool, usize, Port, u8);
+
+const TELLINGS: [Telling; 22] = [
     (Port::First, 128, true, 0, Port::Second, 1),
     (Port::First, 177, false, 1, Port::First, 2),
     (Port::First, 193, false, 1, Port::First, 2),
@@ -263,33 +302,51 @@ const TELLINGS: [(Port, u8, bool, usize, Port, u8); 22] = [
     (Port::Second, 255, false, 1, Port::First, 2),
 ];
 
-#[test]
-fn each_cause_tells_what_it_does_at_its_port(rt: HostRuntime) {
-    for (port, cause, is_done, count, from, to) in TELLINGS {
-        let mut node = ready(&rt, rt.alloc(), &GATEWAYS[..1]);
-        sends(&rt, rt.alloc(), &mut node, &[(Port::First, 1, &PLAIN)]);
-        let made = answers(&rt, &mut node, port, 1, 0, cause);
-        assert_eq!(rt; made, (is_done, is_done), "{port:?} {cause}");
+/// What is told of the plain copy, where there is no other.
+fn tells_of_the_plain_copy<R: Abort>(rt: &R, alloc: Global, telling: Telling) {
+    let (port, cause, is_done, count, _, _) = telling;
+    let mut node = ready(rt, alloc, &GATEWAYS[..1]);
+    sends(rt, alloc, &mut node, &[(Port::First, 1, &PLAIN)]);
+    let made = answers(rt, &mut node, port, 1, 0, cause);
+    assert_eq!(rt; made, (is_done, is_done), "{port:?} {cause}");
+    assert_eq!(rt; tick(rt, alloc, &mut node).len(), count, "{port:?} {cause}");
+}
+
+/// A node that sent a duplicate, as the first gateway is about to go down.
+fn with_a_duplicate<R: Abort>(rt: &R, alloc: Global) -> Node {
+    let mut node = ready(rt, alloc, &GATEWAYS[..2]);
+    sends(rt, alloc, &mut node, &[(Port::First, 1, &PLAIN)]);
+    replies(rt, &mut node, 1, &REDIRECTION, &REDIRECTED);
+    sends(rt, alloc, &mut node, &[(Port::First, 2, &DUPLICATE)]);
+    node
+}
+
+/// What is told of a duplicate.
+fn tells_of_a_duplicate<R: Abort>(rt: &R, alloc: Global, telling: Telling) {
+    let (port, cause, _, _, from, to) = telling;
+    let mut node = with_a_duplicate(rt, alloc);
+    let made = answers(rt, &mut node, port, 2, 0, cause);
+    assert_eq!(rt; made, (false, false), "{port:?} {cause}");
+    for sent in &tick(rt, alloc, &mut node) {
         assert_eq!(rt;
-            tick(&rt, rt.alloc(), &mut node).len(),
-            count,
+            (sent.port, sent.to),
+            (from, address(to)),
             "{port:?} {cause}"
         );
-
-        let mut node = ready(&rt, rt.alloc(), &GATEWAYS[..2]);
-        sends(&rt, rt.alloc(), &mut node, &[(Port::First, 1, &PLAIN)]);
-        let _ = hears(&rt, &mut node, Port::First, 1, &REDIRECTION);
-        sends(&rt, rt.alloc(), &mut node, &[(Port::First, 2, &DUPLICATE)]);
-        let made = answers(&rt, &mut node, port, 2, 0, cause);
-        assert_eq!(rt; made, (false, false), "{port:?} {cause}");
-        for sent in &tick(&rt, rt.alloc(), &mut node) {
-            assert_eq!(rt;
-                (sent.port, sent.to),
-                (from, address(to)),
-                "{port:?} {cause}"
-            );
-        }
     }
+}
+
+#[test]
+fn each_cause_tells_what_it_does_at_its_port(rt: HostRuntime) {
+    for telling in &TELLINGS {
+        tells_of_the_plain_copy(&rt, rt.alloc(), *telling);
+        tells_of_a_duplicate(&rt, rt.alloc(), *telling);
+    }
+}
+
+/// Submits the packet with one record, which is answered so.
+fn submits<R: Abort>(rt: &R, alloc: Global, node: &mut Node, wanted: Result<u64, SubmitFault>) {
+    assert_eq!(rt; submit(rt, alloc, node), wanted);
 }
 
 #[test]
@@ -297,12 +354,12 @@ fn a_sixty_fifth_open_packet_is_refused(rt: HostRuntime) {
     let alloc = rt.alloc();
     let mut node = ready(&rt, alloc, &GATEWAYS[..1]);
     for number in 2..=64 {
-        assert_eq!(rt; submit(&rt, alloc, &mut node), Ok(number));
+        submits(&rt, alloc, &mut node, Ok(number));
     }
-    assert_eq!(rt; submit(&rt, alloc, &mut node), Err(SubmitFault::InFlight));
+    submits(&rt, alloc, &mut node, Err(SubmitFault::InFlight));
     restart(&rt, &mut node);
     assert_eq!(rt; (node.counter(), node.id().0), (2, 0x0A00_0101));
-    assert_eq!(rt; submit(&rt, alloc, &mut node), Ok(65));
+    submits(&rt, alloc, &mut node, Ok(65));
 }
 
 #[test]

@@ -11,6 +11,7 @@ use file_writer::*;
 use gw_base::{Item, Moment, Octets, Tag, cdr_kind};
 use route_filter::{Rules, decoded};
 use std::alloc::Global;
+use std::process::Abort;
 use std::test::Fail;
 
 /// The gateway's address, 10.0.0.1.
@@ -44,12 +45,18 @@ fn part(
     })
 }
 
-fn no_plan(alloc: Global) -> Plan {
-    Plan {
+/// A shelf in memory, with one stop or with none.
+fn shelf(alloc: Global, stop: Option<Stop>) -> Result<MemoryShelf, Fail> {
+    let plan = Plan {
         fail: Vec::new(alloc),
         read_fail: Vec::new(alloc),
-        stop: None,
-    }
+        stop,
+    };
+    Ok(MemoryShelf::new(alloc, plan)?)
+}
+
+fn offset(minutes: i16) -> Result<Offset16, Fail> {
+    Ok(Offset16::of(minutes).ok_or("an offset past the last")?)
 }
 
 /// The greatest size at which a file may be closed.
@@ -100,6 +107,47 @@ fn has_file(
     Ok(found == expected.as_slice())
 }
 
+/// The first stream has these files.
+fn has_files(
+    rt: &impl Abort,
+    alloc: Global,
+    shelf: &MemoryShelf,
+    files: &[(u32, &str)],
+) -> Result<(), Fail> {
+    for (sequence, octets) in files {
+        assert!(rt; has_file(alloc, shelf, 0, *sequence, octets)?, "{sequence}");
+    }
+    Ok(())
+}
+
+/// A size and a count at which files are closed, and the minutes of the offset from UTC.
+type Setting = (u32, u32, i16);
+
+/// A writer on this shelf takes all items, and then the first stream has these files.
+fn takes_all(
+    rt: &impl Abort,
+    alloc: Global,
+    shelf: MemoryShelf,
+    setting: Setting,
+    items: &[Item],
+    files: &[(u32, &str)],
+) -> Result<(), Fail>
+    requires few { length items.now < 2 ^ 31 }
+    requires fit { All IsFit items.now }
+{
+    let (size, count, minutes) = setting;
+    let limits = limits(size, count);
+    let (shelf, answer) = write(shelf, Rules::none(alloc), limits, offset(minutes)?, items);
+    assert_eq!(rt; answer, Ok(items.len() as u64));
+    has_files(rt, alloc, &shelf, files)
+}
+
+const FIRST: [u8; 5] = [0xA0, 3, 0x80, 1, 5];
+
+const SECOND: [u8; 5] = [0xA0, 3, 0x80, 1, 6];
+
+const THIRD: [u8; 5] = [0xA0, 3, 0x80, 1, 7];
+
 const TWO_RECORDS_BY_SIZE: &str =
     "000000460000003460602ED1D0DE2ED1D0DE00000002000000010100000000000000000000\
 FFFF0A00000100000000000000000000056020A00380010500056020A003800106";
@@ -119,47 +167,72 @@ FFFF0A00000100000000000000000000058020A003800106";
 const AT_A_TICK: &str = "0000003D0000003460602E8008002E80080000000001000000010200000000000000000000\
 FFFF0A00000100000000000000000000056020A003800105";
 
+fn two_of_a_kind(alloc: Global) -> Result<Vec<Item>, Fail>
+    ensures fit { IfOk result (λ items. All IsFit items.items) }
+    ensures few { IfOk result (λ items. length items.items < 2 ^ 31) }
+{
+    let first = part(alloc, None, RELEASE_3, &FIRST, 1_709_251_140)?;
+    let second = part(alloc, None, RELEASE_3, &SECOND, 1_709_251_140)?;
+    Ok(vec![in alloc; first, second]?)
+}
+
+fn two_kinds_and_a_close(alloc: Global) -> Result<Vec<Item>, Fail>
+    ensures fit { IfOk result (λ items. All IsFit items.items) }
+    ensures few { IfOk result (λ items. length items.items < 2 ^ 31) }
+{
+    let first = part(alloc, None, RELEASE_3, &FIRST, 1_709_251_140)?;
+    let second = part(alloc, None, RELEASE_4, &SECOND, 1_709_251_140)?;
+    let moment = moment(1_709_251_140)?;
+    Ok(vec![in alloc; first, second, Item::Close { moment }]?)
+}
+
+fn one_and_a_tick(alloc: Global) -> Result<Vec<Item>, Fail>
+    ensures fit { IfOk result (λ items. All IsFit items.items) }
+    ensures few { IfOk result (λ items. length items.items < 2 ^ 31) }
+{
+    let first = part(alloc, None, RELEASE_3, &FIRST, 1_709_164_800)?;
+    let moment = moment(1_709_164_860)?;
+    Ok(vec![in alloc; first, Item::Tick { moment }]?)
+}
+
 #[test]
-fn files_are_closed_at_each_limit(rt: HostRuntime) -> Result<(), Fail> {
+fn files_are_closed_at_a_size_and_a_count(rt: HostRuntime) -> Result<(), Fail> {
     let alloc = rt.alloc();
-    let west = Offset16::of(-210).ok_or("an offset past the last")?;
-    let utc = Offset16::of(0).ok_or("an offset past the last")?;
-    let (first, second) = ([0xA0, 3, 0x80, 1, 5], [0xA0, 3, 0x80, 1, 6]);
+    let items = two_of_a_kind(alloc)?;
     for (size, count, octets) in [(70, 3, TWO_RECORDS_BY_SIZE), (71, 2, TWO_RECORDS_BY_COUNT)] {
-        let items = [
-            part(alloc, None, RELEASE_3, &first, 1_709_251_140)?,
-            part(alloc, None, RELEASE_3, &second, 1_709_251_140)?,
-        ];
-        let shelf = MemoryShelf::new(alloc, no_plan(alloc))?;
-        let (shelf, answer) = write(shelf, Rules::none(alloc), limits(size, count), west, &items);
-        assert_eq!(rt; answer, Ok(2));
-        assert!(rt; has_file(alloc, &shelf, 0, 1, octets)?);
+        let (shelf, setting) = (shelf(alloc, None)?, (size, count, -210));
+        takes_all(&rt, alloc, shelf, setting, &items, &[(1, octets)])?;
     }
-
-    let items = [
-        part(alloc, None, RELEASE_3, &first, 1_709_251_140)?,
-        part(alloc, None, RELEASE_4, &second, 1_709_251_140)?,
-        Item::Close {
-            moment: moment(1_709_251_140)?,
-        },
-    ];
-    let shelf = MemoryShelf::new(alloc, no_plan(alloc))?;
-    let (shelf, answer) = write(shelf, Rules::none(alloc), limits(1000, 9), west, &items);
-    assert_eq!(rt; answer, Ok(3));
-    assert!(rt; has_file(alloc, &shelf, 0, 1, BEFORE_ANOTHER_KIND)?);
-    assert!(rt; has_file(alloc, &shelf, 0, 2, AT_A_CLOSE)?);
-
-    let items = [
-        part(alloc, None, RELEASE_3, &first, 1_709_164_800)?,
-        Item::Tick {
-            moment: moment(1_709_164_860)?,
-        },
-    ];
-    let shelf = MemoryShelf::new(alloc, no_plan(alloc))?;
-    let (shelf, answer) = write(shelf, Rules::none(alloc), limits(1000, 9), utc, &items);
-    assert_eq!(rt; answer, Ok(2));
-    assert!(rt; has_file(alloc, &shelf, 0, 1, AT_A_TICK)?);
     Ok(())
+}
+
+#[test]
+fn files_are_closed_before_another_kind_and_at_a_close(rt: HostRuntime) -> Result<(), Fail> {
+    let alloc = rt.alloc();
+    let items = two_kinds_and_a_close(alloc)?;
+    let files = [(1, BEFORE_ANOTHER_KIND), (2, AT_A_CLOSE)];
+    takes_all(
+        &rt,
+        alloc,
+        shelf(alloc, None)?,
+        (1000, 9, -210),
+        &items,
+        &files,
+    )
+}
+
+#[test]
+fn files_are_closed_at_a_tick(rt: HostRuntime) -> Result<(), Fail> {
+    let alloc = rt.alloc();
+    let items = one_and_a_tick(alloc)?;
+    takes_all(
+        &rt,
+        alloc,
+        shelf(alloc, None)?,
+        (1000, 9, 0),
+        &items,
+        &[(1, AT_A_TICK)],
+    )
 }
 
 const FIRST_OF_TWO: &str =
@@ -170,56 +243,67 @@ const SECOND_OF_TWO: &str =
     "0000003D0000003460602E8008002E80080000000001000000020400000000000000000000\
 FFFF0A00000100000000000000000000056020A003800107";
 
+/// The first and the second file after all items.
+const BOTH: [(u32, &str); 2] = [(1, FIRST_OF_TWO), (2, SECOND_OF_TWO)];
+
+fn three_and_a_close(alloc: Global) -> Result<Vec<Item>, Fail>
+    ensures fit { IfOk result (λ items. All IsFit items.items) }
+    ensures few { IfOk result (λ items. length items.items < 2 ^ 31) }
+{
+    let first = part(alloc, None, RELEASE_3, &FIRST, 1_709_164_800)?;
+    let second = part(alloc, None, RELEASE_3, &[], 1_709_164_801)?;
+    let third = part(alloc, None, RELEASE_3, &THIRD, 1_709_164_802)?;
+    let moment = moment(1_709_164_803)?;
+    Ok(vec![in alloc; first, second, third, Item::Close { moment }]?)
+}
+
+/// The shelf after a writer was stopped, with the device running again.
+fn stopped(
+    rt: &impl Abort,
+    shelf: MemoryShelf,
+    rules: Rules,
+    setting: Setting,
+    items: &[Item],
+) -> Result<MemoryShelf, Fail>
+    requires few { length items.now < 2 ^ 31 }
+    requires fit { All IsFit items.now }
+{
+    let (size, count, minutes) = setting;
+    let limits = limits(size, count);
+    let (mut shelf, answer) = write(shelf, rules, limits, offset(minutes)?, items);
+    assert_eq!(rt; answer, Err(ShelfFault::Device));
+    shelf.revive();
+    Ok(shelf)
+}
+
+/// Stops at this call: whether the first file is sealed then, and both files after all items are taken once more.
+fn stop_and_go_on(rt: &impl Abort, alloc: Global, items: &[Item], stop: Stop) -> Result<(), Fail>
+    requires few { length items.now < 2 ^ 31 }
+    requires fit { All IsFit items.now }
+{
+    let sealed = stop.call > 9 || stop.call == 9 && stop.outcome == Outcome3::New;
+    let (call, setting) = (stop.call, (1000, 2, 0));
+    let shelf = stopped(
+        rt,
+        shelf(alloc, Some(stop))?,
+        Rules::none(alloc),
+        setting,
+        items,
+    )?;
+    assert!(rt;
+        has_file(alloc, &shelf, 0, 1, FIRST_OF_TWO)? == sealed,
+        "{call}"
+    );
+    takes_all(rt, alloc, shelf, setting, items, &BOTH)
+}
+
 #[test]
 fn a_stop_at_each_call_leaves_the_same_files_in_the_end(rt: HostRuntime) -> Result<(), Fail> {
     let alloc = rt.alloc();
-    let utc = Offset16::of(0).ok_or("an offset past the last")?;
-    let items = [
-        part(
-            alloc,
-            None,
-            RELEASE_3,
-            &[0xA0, 3, 0x80, 1, 5],
-            1_709_164_800,
-        )?,
-        part(alloc, None, RELEASE_3, &[], 1_709_164_801)?,
-        part(
-            alloc,
-            None,
-            RELEASE_3,
-            &[0xA0, 3, 0x80, 1, 7],
-            1_709_164_802,
-        )?,
-        Item::Close {
-            moment: moment(1_709_164_803)?,
-        },
-    ];
+    let items = three_and_a_close(alloc)?;
     for outcome in [Outcome3::Old, Outcome3::New, Outcome3::Rot] {
         for call in 1..=16 {
-            let plan = Plan {
-                fail: Vec::new(alloc),
-                read_fail: Vec::new(alloc),
-                stop: Some(Stop { call, outcome }),
-            };
-            let shelf = MemoryShelf::new(alloc, plan)?;
-            let (mut shelf, answer) = write(
-                shelf,
-                Rules::none(alloc),
-                limits(1000, 2),
-                utc,
-                &items,
-            );
-            assert_eq!(rt; answer, Err(ShelfFault::Device), "{call}");
-            shelf.revive();
-            let sealed = call > 9 || call == 9 && outcome == Outcome3::New;
-            assert!(rt;
-                has_file(alloc, &shelf, 0, 1, FIRST_OF_TWO)? == sealed,
-                "{call}"
-            );
-            let (shelf, answer) = write(shelf, Rules::none(alloc), limits(1000, 2), utc, &items);
-            assert_eq!(rt; answer, Ok(4), "{call}");
-            assert!(rt; has_file(alloc, &shelf, 0, 1, FIRST_OF_TWO)?, "{call}");
-            assert!(rt; has_file(alloc, &shelf, 0, 2, SECOND_OF_TWO)?, "{call}");
+            stop_and_go_on(&rt, alloc, &items, Stop { call, outcome })?;
         }
     }
     Ok(())
@@ -273,10 +357,21 @@ fn a_record_for_each(alloc: Global) -> Result<Vec<Item>, Fail>
     Ok(items)
 }
 
+/// The streams up to this one have a sealed file, and no other.
+fn are_sealed_up_to(rt: &impl Abort, shelf: &MemoryShelf, last: u8) {
+    for stream in 0..16u8 {
+        let name = FileName {
+            stream,
+            sequence: 1,
+        };
+        let is_sealed = shelf.file(name).is_some();
+        assert!(rt; is_sealed == (stream <= last), "{last} {stream}");
+    }
+}
+
 #[test]
 fn streams_close_at_one_mark_in_order_of_number(rt: HostRuntime) -> Result<(), Fail> {
     let alloc = rt.alloc();
-    let utc = Offset16::of(0).ok_or("an offset past the last")?;
     let items = a_record_for_each(alloc)?;
     for last in 0..16u8 {
         // Four calls begin each file, and three close it: the seal of this stream's file stops.
@@ -284,25 +379,9 @@ fn streams_close_at_one_mark_in_order_of_number(rt: HostRuntime) -> Result<(), F
             call: 64 + 3 * (u64::from(last) + 1),
             outcome: Outcome3::New,
         };
-        let plan = Plan {
-            fail: Vec::new(alloc),
-            read_fail: Vec::new(alloc),
-            stop: Some(stop),
-        };
-        let shelf = MemoryShelf::new(alloc, plan)?;
-        let (mut shelf, answer) = write(shelf, rules(alloc)?, limits(1000, 9), utc, &items);
-        assert_eq!(rt; answer, Err(ShelfFault::Device), "{last}");
-        shelf.revive();
-        for stream in 0..16u8 {
-            let name = FileName {
-                stream,
-                sequence: 1,
-            };
-            assert!(rt;
-                shelf.file(name).is_some() == (stream <= last),
-                "{last} {stream}"
-            );
-        }
+        let shelf = shelf(alloc, Some(stop))?;
+        let shelf = stopped(&rt, shelf, rules(alloc)?, (1000, 9, 0), &items)?;
+        are_sealed_up_to(&rt, &shelf, last);
     }
     Ok(())
 }
