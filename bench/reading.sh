@@ -1,9 +1,10 @@
 #!/bin/bash
-# How long scripts of 16 MiB and CDR files of 64 MiB take to be read: scripts of comments, of the shortest lines, of rules
-# and of datagrams; files of CDRs of 65,535 octets and of 60; how long a replay of 10 MB takes, and how long samples take
-# to be made. It builds a small program beside a copy of the crates that it stands on, which proves what isn't proved
-# yet, and runs it as the optimising compiler makes it. Run it at the top of the repository. Each line is the milliseconds
-# of processor time that the reading takes, without taking the octets in: a busy machine changes it little.
+# How long scripts of 16 MiB and CDR files of 64 MiB take to be read: scripts of comments, of the shortest lines, of
+# rules and of datagrams; files of CDRs of 65,535 octets and of 60; how long a replay of 10 MB takes, and how long
+# samples take to be made. It builds a small program beside a copy of the crates that it stands on, which proves what
+# isn't proved yet, and runs it as the optimising compiler makes it. Run it at the top of the repository. Each line is
+# the milliseconds that the reading takes, without taking the octets in: of the processor, which a busy machine changes
+# little, and by the clock.
 cd "$(dirname "$0")/.." || exit 1
 work=$(mktemp -d)
 trap 'rm -rf "$work"' EXIT
@@ -39,7 +40,7 @@ cat >"$work/crates/reading_bench/src/main.rt" <<'END'
 
 use cdr_file::read;
 use std::io::Read;
-use std::time::CpuClock;
+use std::time::{Clock, CpuClock};
 use std::{env, io};
 use world_script::{Script, ScriptKind, sample};
 
@@ -47,6 +48,7 @@ fn main(rt: HostRuntime) -> io::Result<()> {
     let words = env::args(&rt)?.count();
     let mut octets = Vec::new(rt.alloc());
     rt.stdin().read_to_end(&mut octets)?;
+    let started = rt.monotonic()?;
     let begun = rt.thread_cpu_time()?;
     let is_read = match words {
         2 => read(rt.alloc(), &octets).is_ok(),
@@ -57,7 +59,8 @@ fn main(rt: HostRuntime) -> io::Result<()> {
     };
     let word = if is_read { "read" } else { "refused" };
     let took = rt.thread_cpu_time()?.saturating_sub(begun);
-    println!(rt; "{:6} ms {word}", took.as_millis())?;
+    let passed = rt.monotonic()?.saturating_sub(started);
+    println!(rt; "{:6} ms, {:6} by the clock  {word}", took.as_millis(), passed.as_millis())?;
     Ok(())
 }
 END
@@ -70,8 +73,8 @@ timed() {
 script '#' | timed 'a script of comments'
 script mark | timed 'a script of marks'
 script 'in 1.1.1.1:1 00' | timed 'a script of short datagrams'
-(yes 'rule A0 1 15' | head -n 256; script "in 10.0.1.1:40001 $(head -c 4000 /dev/zero | tr '\0' 0)") | head -c $((MOST - 5)) |
-    sed '$d' | (cat; echo end) | timed 'a script of rules and long datagrams'
+(yes 'rule A0 1 15' | head -n 256; script "in 10.0.1.1:40001 $(head -c 4000 /dev/zero | tr '\0' 0)") |
+    head -c $((MOST - 5)) | sed '$d' | (cat; echo end) | timed 'a script of rules and long datagrams'
 file 1024 65535 | timed 'a file of CDRs of 65,535 octets' file
 file 1048575 60 | timed 'a file of CDRs of 60 octets' file
 MOST=10485760
