@@ -5,7 +5,7 @@ use Rattle.std.proofs.Math.Seq.{take-add}
 use Rattle.std.proofs.lemmas.List.{drop_all, drop_more, drop-drop, drop-append-le, length-take, length-take-le, length-drop}
 use Rattle.std.proofs.lemmas.List.Elements.{All-nil, All-push}
 use Rattle.byteorder.specs.Endian.{big_bytes}
-use Rattle.gate_journal.specs.Format.{open_gate, spelled, IsSmall, gate_at}
+use Rattle.gate_journal.specs.Format.{IsSmall, gate_at, longest_batch, open_gate, spelled}
 use Rattle.gate_journal.specs.State.{batches_in, batches_below}
 use Rattle.gate_journal.specs.Verdicts.{AreBelow}
 use Rattle.gate_journal.specs.Spelling.{batches_in-spelled, spelled-nil, spelled-one, spelled-append, length-spelled}
@@ -55,7 +55,7 @@ module _ (at number : ℕ) (octets : List ℕ) (low : 32 ≤ at) (inside : at + 
       five : 5 + number ≡ suc (4 + number)
       five = omega arith
 
-  pub one_more : number ≤ 1048576 → AreBelow at octets → AreBelow (at + (5 + number)) octets
+  pub one_more : number ≤ longest_batch → AreBelow at octets → AreBelow (at + (5 + number)) octets
   one_more short below =
       let batches = batches_below at octets in
       let batch = take number (drop (at + 5) octets) in

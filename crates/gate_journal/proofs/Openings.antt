@@ -81,11 +81,12 @@ module _ {A : Type 0} {g : Ghosts A} where
 
   -- the faults of a call and of one that had none before it
   pub rose_on : (result : Result (Journal A g) (OpenFault × A)) (area mid : A) → g.faults mid ≡ g.faults area → RoseByDevice g mid result → RoseByDevice g area result
-  rose_on (Ok journal) area mid same rose = record { faults = rose.faults ∙ same; faults_err = tt; device = tt }
+  rose_on (Ok journal) area mid same rose = record { faults = rose.faults ∙ same; faults_err = tt; device = tt; still = tt }
   rose_on (Err fault) area mid same rose = record {
     faults = tt;
     faults_err = subst (λ n. n ≤ g.faults fault.1) same rose.faults_err;
     device = λ is. subst (λ n. Rose n (g.faults fault.1)) same (rose.device is);
+    still = λ other. rose.still other ∙ same;
   }
 
   -- the calls of a sync and of n behind it

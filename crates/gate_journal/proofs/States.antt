@@ -7,7 +7,7 @@ use Rattle.area_disk.specs.Disk.{Only, Within, Torn, overwritten}
 use Rattle.area_disk.specs.declared.area.Area.{Ghosts}
 use Rattle.area_disk.specs.declared.plan.Outcome3.TheVariants.{New}
 use Rattle.gate_journal.specs.Adding.{added, IsAdding}
-use Rattle.gate_journal.specs.Format.{open_gate, frame, header, longest_batch, gate_at, IsSmall, end_of}
+use Rattle.gate_journal.specs.Format.{IsSmall, end_of, frame, gate_at, header, longest_batch, longest_frame, open_gate}
 use Rattle.gate_journal.specs.Moments.{Told, Leaves}
 use Rattle.gate_journal.specs.State.{batches_below, Content, IsReady, IsSound, Keeps, gate_after, front_after}
 use Rattle.gate_journal.specs.Journal.{closed_by, is_closed, batches, torn, front_of, header_of, KeepsOr, IsSettled, Rests, torn_stands, stop_stands}
@@ -134,7 +134,7 @@ module _ {A : Type 0} (g : Ghosts A) (holds : (a : A) → g.may_leave a (g.octet
               short = omega (arith, sound.short);
               low = omega (arith, sound.low);
               high = omega (arith, sound.high);
-              buffer_size = same_buffer ∙ sound.buffer_size ∙ ap (λ n. min 1048581 n) (sym size);
+              buffer_size = same_buffer ∙ sound.buffer_size ∙ ap (λ n. min longest_frame n) (sym size);
               torn_size = short;
               torn_held = omega (arith, same_buffer, sound.buffer_size, sound.high);
               torn_fits = λ e. absurd (other_bool (sym e ∙ ready.whole));
@@ -160,7 +160,7 @@ module _ {A : Type 0} (g : Ghosts A) (holds : (a : A) → g.may_leave a (g.octet
               short = omega (arith, sound.short);
               low = sound.low;
               high = omega (arith, sound.high);
-              buffer_size = same_buffer ∙ sound.buffer_size ∙ ap (λ n. min 1048581 n) (sym size);
+              buffer_size = same_buffer ∙ sound.buffer_size ∙ ap (λ n. min longest_frame n) (sym size);
               torn_size = short;
               torn_held = omega (arith, same_buffer, sound.buffer_size, sound.high);
               torn_fits = λ e. omega (arith, sound.high);
@@ -184,7 +184,7 @@ module _ {A : Type 0} (g : Ghosts A) (holds : (a : A) → g.may_leave a (g.octet
       short = omega (arith, sound.short);
       low = sound.low;
       high = omega (arith, sound.high);
-      buffer_size = sound.buffer_size ∙ ap (λ n. min 1048581 n) (sym size);
+      buffer_size = sound.buffer_size ∙ ap (λ n. min longest_frame n) (sym size);
       torn_size = sound.torn_size;
       torn_held = sound.torn_held;
       torn_fits = λ e. omega (arith, sound.torn_fits e);
@@ -243,7 +243,7 @@ module _ {A : Type 0} (g : Ghosts A) (holds : (a : A) → g.may_leave a (g.octet
           short = omega (arith, sound.short);
           low = gates.0;
           high = omega (arith, gates.1);
-          buffer_size = sound.buffer_size ∙ ap (λ n. min 1048581 n) (sym size);
+          buffer_size = sound.buffer_size ∙ ap (λ n. min longest_frame n) (sym size);
           torn_size = sound.torn_size;
           torn_held = sound.torn_held;
           torn_fits = λ e. absurd (other_bool (sym e));
@@ -281,7 +281,7 @@ module _ {A : Type 0} (g : Ghosts A) (holds : (a : A) → g.may_leave a (g.octet
         short = omega (arith, sound.short);
         low = sound.low;
         high = omega (arith, sound.high);
-        buffer_size = sound.buffer_size ∙ ap (λ n. min 1048581 n) (sym size);
+        buffer_size = sound.buffer_size ∙ ap (λ n. min longest_frame n) (sym size);
         torn_size = sound.torn_size;
         torn_held = sound.torn_held;
         torn_fits = λ e. omega (arith, sound.torn_fits e);
@@ -308,7 +308,7 @@ module _ {A : Type 0} (g : Ghosts A) (holds : (a : A) → g.may_leave a (g.octet
               short = omega (arith, sound.short);
               low = sound.low;
               high = omega (arith, sound.high);
-              buffer_size = sound.buffer_size ∙ ap (λ n. min 1048581 n) (sym size);
+              buffer_size = sound.buffer_size ∙ ap (λ n. min longest_frame n) (sym size);
               torn_size = sound.torn_size;
               torn_held = sound.torn_held;
               torn_fits = λ e. omega (arith, sound.torn_fits e);

@@ -35,14 +35,17 @@ module _ {A : Type 0} {tells : Ghosts A} (old new : Journal A tells) where
 
   -- A crash at any moment of the call leaves the batches from before it, with the new one or without.
   abbrev pub AppendLeaves : List ℕ → Type 0
-  AppendLeaves batch = Leaves tells (area_of old) (area_of new) (KeepsOr (front_of old) (header_of old) (batches old) batch)
+  AppendLeaves batch =
+      Leaves tells (area_of old) (area_of new) (KeepsOr (front_of old) (header_of old) (batches old) batch)
 
-  -- The faults rose where the device failed and nowhere else, and it made four calls, or those up to the one that failed.
+  -- The faults rose where the device failed and nowhere else, and it made four calls, or those up to the one that
+  -- failed.
   pub record AppendCounts {T : Type 0} (result : Result T AppendFault) : Type 0 where
     pub later : tells.faults (area_of old) ≤ tells.faults (area_of new)
     pub none : OnOk result (tells.faults (area_of new) ≡ tells.faults (area_of old))
     pub rose : result ≡ Err Device → Rose (tells.faults (area_of old)) (tells.faults (area_of new))
-    pub calls : IsTrue tells.tells_calls → OnOk result (tells.calls (area_of new) ≡ counted 4 (tells.calls (area_of old)))
+    pub calls : IsTrue tells.tells_calls
+        → OnOk result (tells.calls (area_of new) ≡ counted 4 (tells.calls (area_of old)))
     pub calls_device : IsTrue tells.tells_calls → result ≡ Err Device →
         RoseUpTo 4 (tells.calls (area_of old)) (tells.calls (area_of new))
 

@@ -20,6 +20,7 @@ IsFoundBefore octets end gate found = (header : List ℕ) (some : List (List ℕ
 
 -- these octets are the n from this place on, where those are the content of one of the batches before some end
 abbrev pub IsReadBefore : List ℕ → ℕ → ℕ → List ℕ → Type 0
-IsReadBefore octets at n read = (header : List ℕ) (end : ℕ) (some : List (List ℕ)) (batch : List ℕ) (more : List (List ℕ)) →
+IsReadBefore octets at n read =
+    (header : List ℕ) (end : ℕ) (some : List (List ℕ)) (batch : List ℕ) (more : List (List ℕ)) →
     length header ≡ header_length → AreBefore header octets end (some ++ batch ∷ more) → at ≡ end_of some + 5 →
     n ≡ length batch → read ≡ batch

@@ -14,14 +14,25 @@ closed_gate = 0
 abbrev pub header_length : ℕ
 header_length = 32
 
--- the most octets of a batch
+-- the fewest octets of an area, and the most
+abbrev pub fewest_octets : ℕ
+fewest_octets = 100
+
+abbrev pub most_octets : ℕ
+most_octets = 268435456
+
+-- the most octets of a batch, and with its frame: its length, and the gate behind it
 abbrev pub longest_batch : ℕ
 longest_batch = 1048576
+
+abbrev pub longest_frame : ℕ
+longest_frame = 1048581
 
 -- An area's header: the format's name, the area's length, the address of the gateway, the generation, and eight
 -- octets 0.
 unfoldable pub header : ℕ → ℕ → ℕ → List ℕ
-header size address generation = codes "CGFJRNL1" ++ big_bytes 8 size ++ big_bytes 4 address ++ big_bytes 4 generation ++ replicate 8 0
+header size address generation =
+    codes "CGFJRNL1" ++ big_bytes 8 size ++ big_bytes 4 address ++ big_bytes 4 generation ++ replicate 8 0
 
 -- what stands behind the gate of a batch: its length, its content and the next gate, closed
 unfoldable pub frame : List ℕ → List ℕ
@@ -41,7 +52,7 @@ taken (batch ∷ batches) = length batch + 5 + taken batches
 abbrev pub end_of : List (List ℕ) → ℕ
 end_of batches = header_length + taken batches
 
--- what is left in an area of this length beside these batches and the closed gate behind them
+-- what is left in an area of this length beside the header, these batches and the closed gate behind them
 abbrev pub free_beside : ℕ → List (List ℕ) → ℕ
 free_beside size batches = size - 33 - taken batches
 

@@ -34,7 +34,7 @@ module _ {A : Type 0} {tells : Ghosts A} (old new : Journal A tells) where
   abbrev pub FoundLeaves : Type 0
   FoundLeaves = Told tells → Leaves tells (area_of old) (area_of new) (Keeps Founding (header_of old) (batches old))
 
-  -- A founding came out as was planned, as the writing of octet 0 and a sync: and what a stop leaves is what it makes of
-  -- that octet.
+  -- A founding came out as was planned, as the writing of octet 0 and a sync: and what a stop leaves is what it makes
+  -- of that octet.
   abbrev pub FoundFollows : {T E : Type 0} → Result T E → Type 0
   FoundFollows result = PutPlanned (tells.fate (area_of old)) 0 (67 ∷ []) result (tells.fate (area_of new))

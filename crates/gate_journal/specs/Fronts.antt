@@ -12,13 +12,15 @@ front_of_front m n a b le same = sym (take-take m n a le) ∙ ap (λ (l : List �
 
 -- and so is the octet at an earlier one
 pub at_front : (i n d : ℕ) (a b : List ℕ) → i < n → take n a ≡ take n b → get_or a i d ≡ get_or b i d
-at_front i n d a b lt same = sym (get_or-take n a i d lt) ∙ ap (λ (l : List ℕ). get_or l i d) same ∙ get_or-take n b i d lt
+at_front i n d a b lt same =
+    sym (get_or-take n a i d lt) ∙ ap (λ (l : List ℕ). get_or l i d) same ∙ get_or-take n b i d lt
 
 -- what is the same from a place on is the same from a later one
 pub back_of_back : (m n : ℕ) (a b : List ℕ) → n ≤ m → drop n a ≡ drop n b → drop m a ≡ drop m b
 back_of_back m n a b le same =
     let is : n + (m - n) ≡ m = omega arith in
-    ap (λ k. drop k a) (sym is) ∙ sym (drop-drop (m - n) n a) ∙ ap (λ (l : List ℕ). drop (m - n) l) same ∙ drop-drop (m - n) n b ∙ ap (λ k. drop k b) is
+    ap (λ k. drop k a) (sym is) ∙ sym (drop-drop (m - n) n a)
+    ∙ ap (λ (l : List ℕ). drop (m - n) l) same ∙ drop-drop (m - n) n b ∙ ap (λ k. drop k b) is
 
 -- a list is its front, the element there and what is behind it
 pub around : (at d : ℕ) (a : List ℕ) → at < length a → a ≡ take at a ++ get_or a at d ∷ drop (at + 1) a
@@ -29,7 +31,8 @@ module _ (at : ℕ) (front back : List ℕ) (e : ℕ) (is : length front ≡ at)
   take_around = take_at front (e ∷ back) at is
 
   pub drop_around : drop (at + 1) (front ++ e ∷ back) ≡ back
-  drop_around = sym (drop-drop 1 at (front ++ e ∷ back)) ∙ ap (λ (l : List ℕ). drop 1 l) (drop_at front (e ∷ back) at is)
+  drop_around =
+      sym (drop-drop 1 at (front ++ e ∷ back)) ∙ ap (λ (l : List ℕ). drop 1 l) (drop_at front (e ∷ back) at is)
 
 -- lists that differ in their first element alone
 pub front_but_first : (n : ℕ) (a b : List ℕ) → drop 1 a ≡ drop 1 b → drop 1 (take n a) ≡ drop 1 (take n b)

@@ -53,11 +53,13 @@ torn_stands {tells = tells} journal = journal.is_torn && (gate_at (tells.octets 
 
 -- that batch stands after a stop with this outcome that comes now
 unfoldable pub stop_stands : {A : Type 0} {tells : Ghosts A} → Outcome3 → Journal A tells → Bool
-stop_stands {tells = tells} outcome journal = journal.is_torn && (gate_at ((tells.fate journal.area).leaves outcome) journal.gate == open_gate)
+stop_stands {tells = tells} outcome journal =
+    journal.is_torn && (gate_at ((tells.fate journal.area).leaves outcome) journal.gate == open_gate)
 
 -- the list that such a stop leaves
 abbrev pub left_by_stop : {A : Type 0} {tells : Ghosts A} → Outcome3 → Journal A tells → List (List ℕ)
-left_by_stop outcome journal = if stop_stands outcome journal then batches journal ++ torn journal ∷ [] else batches journal
+left_by_stop outcome journal =
+    if stop_stands outcome journal then batches journal ++ torn journal ∷ [] else batches journal
 
 -- the list after it is opened again: with the batch whose append failed where that stands
 abbrev pub reopened : {A : Type 0} {tells : Ghosts A} → Journal A tells → List (List ℕ)
@@ -91,12 +93,15 @@ pub record NoneTorn {A : Type 0} {tells : Ghosts A} (journal : Journal A tells) 
 
 -- What is written stands: what a read gives stands for the batches, and so does all that a crash may leave.
 pub record IsSettled {A : Type 0} {tells : Ghosts A} (journal : Journal A tells) : Type 0 where
-  pub reads : Told tells → Keeps (front_of journal) (header_of journal) (batches journal) (tells.octets (area_of journal))
-  pub crash : Told tells → (c : List ℕ) → tells.may_leave (area_of journal) c → Keeps (front_of journal) (header_of journal) (batches journal) c
+  pub reads : Told tells
+      → Keeps (front_of journal) (header_of journal) (batches journal) (tells.octets (area_of journal))
+  pub crash : Told tells → (c : List ℕ)
+      → tells.may_leave (area_of journal) c → Keeps (front_of journal) (header_of journal) (batches journal) c
   pub place : Told tells → end journal ≡ end_of (batches journal)
   pub free : Told tells → free_of journal ≡ free_beside (tells.size (area_of journal)) (batches journal)
 
 -- a stop that comes now leaves the batches, with the torn one where that stands after its outcome
 abbrev pub StopLeaves : {A : Type 0} {tells : Ghosts A} → Journal A tells → Type 0
 StopLeaves {tells = tells} journal = (outcome : Outcome3) →
-    Keeps (front_of journal) (header_of journal) (left_by_stop outcome journal) ((tells.fate (area_of journal)).leaves outcome)
+    Keeps (front_of journal)
+    (header_of journal) (left_by_stop outcome journal) ((tells.fate (area_of journal)).leaves outcome)

@@ -9,14 +9,16 @@ use Rattle.gate_journal.specs.declared.journal.Front.{Front}
 use Rattle.gate_journal.specs.declared.journal.Journal.{Journal}
 
 -- a journal with this header that takes batches
-pub record IsReadyWith {A : Type 0} {tells : Ghosts A} (made : Front) (head : List ℕ) (journal : Journal A tells) : Type 0 where
+pub record IsReadyWith
+    {A : Type 0} {tells : Ghosts A} (made : Front) (head : List ℕ) (journal : Journal A tells) : Type 0 where
   pub ready : is_closed journal ≡ false
   pub front : front_of journal ≡ made
   pub header : header_of journal ≡ head
   pub settled : IsSettled journal
 
 -- and that has none yet
-pub record IsAnew {A : Type 0} {tells : Ghosts A} (made : Front) (head : List ℕ) (journal : Journal A tells) : Type 0 where
+pub record IsAnew
+    {A : Type 0} {tells : Ghosts A} (made : Front) (head : List ℕ) (journal : Journal A tells) : Type 0 where
   pub is : IsReadyWith made head journal
   pub batches : Told tells → batches journal ≡ []
 

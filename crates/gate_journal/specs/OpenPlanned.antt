@@ -16,7 +16,8 @@ pub record IsCalm (old : Prospect) : Type 0 where
   pub runs : is_failure (fate_of_sync (course_of old)) ≡ false
 
 -- the device didn't fail, and where a journal was made this is the plan then
-pub record MadeBy {A : Type 0} (tells : Ghosts A) (result : Result (Journal A tells) (OpenFault × A)) (course : Course) : Type 0 where
+pub record MadeBy
+    {A : Type 0} (tells : Ghosts A) (result : Result (Journal A tells) (OpenFault × A)) (course : Course) : Type 0 where
   pub runs : is_device result ≡ false
   pub after : IfOk result (λ journal. course_of (tells.fate (area_of journal)) ≡
       with_reads (tells.fate (area_of journal)).schedule.reads course)

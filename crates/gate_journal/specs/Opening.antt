@@ -88,6 +88,7 @@ module _ {A : Type 0} (tells : Ghosts A) (area : A) where
       pub faults : IfOk result (λ journal. tells.faults (area_of journal) ≡ tells.faults area)
       pub faults_err : IfErr result (λ fault. tells.faults area ≤ tells.faults fault.1)
       pub device : IfErr result (λ fault. fault.0 ≡ Device → Rose (tells.faults area) (tells.faults fault.1))
+      pub still : IfErr result (λ fault. fault.0 ≢ Device → tells.faults fault.1 ≡ tells.faults area)
 
     -- one call of the device, or five where the area is made anew
     pub record OpenCounts (head : List ℕ) : Type 0 where

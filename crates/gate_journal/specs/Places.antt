@@ -8,17 +8,20 @@ use Rattle.byteorder.specs.Numbers.{big_from-take, length-bytes_high_first}
 use Rattle.gate_journal.specs.Format.{open_gate, spelled, taken, end_of, IsSmall, IsWhole, gate_at, length_at}
 use Rattle.gate_journal.specs.Spelling.{spelled-append, taken-append, spelled-cons, length-spelled, read_length, drop_length}
 
-module _ (header : List ℕ) (long : length header ≡ 32) (place : ℕ) (octets : List ℕ) (some : List (List ℕ)) (batch : List ℕ) (more : List (List ℕ)) (high : place ≤ length octets)
+module _ (header : List ℕ) (long : length header ≡ 32) (place : ℕ)
+    (octets : List ℕ) (some : List (List ℕ)) (batch : List ℕ) (more : List (List ℕ)) (high : place ≤ length octets)
     (listed : drop 1 (take place octets) ≡ drop 1 header ++ spelled (some ++ batch ∷ more)) where
   -- from the gate of the batch on
   from_gate : drop (end_of some) (take place octets) ≡ open_gate ∷ (big_bytes 4 (length batch) ++ batch ++ spelled more)
   from_gate =
       let at : 1 + (31 + taken some) ≡ end_of some = omega arith in
-      let front : length (drop 1 header ++ spelled some) ≡ 31 + taken some = omega (arith, long, length-drop 1 header, length-spelled some, length-append (drop 1 header) (spelled some)) in
+      let front : length (drop 1 header ++ spelled some) ≡ 31 + taken some = omega
+      (arith, long, length-drop 1 header, length-spelled some, length-append (drop 1 header) (spelled some)) in
       ap (λ n. drop n (take place octets)) (sym at)
       ∙ sym (drop-drop (31 + taken some) 1 (take place octets))
       ∙ ap (λ (l : List ℕ). drop (31 + taken some) l)
-      (listed ∙ ap (λ (l : List ℕ). drop 1 header ++ l) (spelled-append some (batch ∷ more)) ∙ sym (append_assoc (drop 1 header) (spelled some) (spelled (batch ∷ more))))
+      (listed ∙ ap (λ (l : List ℕ). drop 1 header ++ l) (spelled-append some (batch ∷ more))
+      ∙ sym (append_assoc (drop 1 header) (spelled some) (spelled (batch ∷ more))))
       ∙ drop_at (drop 1 header ++ spelled some) (spelled (batch ∷ more)) (31 + taken some) front
       ∙ spelled-cons batch more
 
@@ -48,7 +51,8 @@ module _ (header : List ℕ) (long : length header ≡ 32) (place : ℕ) (octets
       ∙ sym (get_or-drop (end_of some) (take place octets) 0 open_gate)
       ∙ ap (λ (l : List ℕ). get_or l 0 open_gate) from_gate
 
-  behind_gate : (n : ℕ) → 1 ≤ n → drop (end_of some + n) (take place octets) ≡ drop (n - 1) (big_bytes 4 (length batch) ++ batch ++ spelled more)
+  behind_gate : (n : ℕ) → 1 ≤ n
+      → drop (end_of some + n) (take place octets) ≡ drop (n - 1) (big_bytes 4 (length batch) ++ batch ++ spelled more)
   behind_gate n low =
       let one : 1 + (n - 1) ≡ n = omega arith in
       sym (drop-drop n (end_of some) (take place octets))
@@ -74,15 +78,18 @@ module _ (header : List ℕ) (long : length header ≡ 32) (place : ℕ) (octets
         ∙ read_length batch (spelled more) small
 
     pub whole_there : place < length octets → IsWhole octets (end_of some)
-    whole_there inside = record { short = omega (arith, length_is, small); inside = omega (arith, length_is, gate_before) }
+    whole_there inside =
+        record { short = omega (arith, length_is, small); inside = omega (arith, length_is, gate_before) }
 
     pub content_is : take (length batch) (drop (end_of some + 5) octets) ≡ batch
     content_is =
         within (end_of some + 5) (length batch) (omega (arith, gate_before))
-        ∙ ap (λ (l : List ℕ). take (length batch) l) (behind_gate 5 (omega arith) ∙ drop_length batch (spelled more) small)
+        ∙ ap (λ (l : List ℕ). take (length batch) l)
+        (behind_gate 5 (omega arith) ∙ drop_length batch (spelled more) small)
         ∙ take_at batch (spelled more) (length batch) refl
 
-    pub part_is : (at n : ℕ) → end_of some + 5 ≤ at → at + n ≤ end_of some + 5 + length batch → take n (drop at octets) ≡ take n (drop (at - (end_of some + 5)) batch)
+    pub part_is : (at n : ℕ) → end_of some + 5 ≤ at → at + n ≤ end_of some + 5 + length batch
+        → take n (drop at octets) ≡ take n (drop (at - (end_of some + 5)) batch)
     part_is at n low fits =
         let start = end_of some + 5 in
         let k = at - (end_of some + 5) in
@@ -91,26 +98,35 @@ module _ (header : List ℕ) (long : length header ≡ 32) (place : ℕ) (octets
         ∙ ap (λ (l : List ℕ). take n l) (sym (drop-drop (at - (end_of some + 5)) (end_of some + 5) octets))
         ∙ sym (drop-take (at - (end_of some + 5)) n (drop (end_of some + 5) octets))
         ∙ ap (λ (l : List ℕ). drop (at - (end_of some + 5)) l)
-        (sym (take-take (at - (end_of some + 5) + n) (length batch) (drop (end_of some + 5) octets) (omega arith)) ∙ ap (λ (l : List ℕ). take (at - (end_of some + 5) + n) l) content_is)
+        (sym (take-take (at - (end_of some + 5) + n) (length batch) (drop (end_of some + 5) octets) (omega arith))
+        ∙ ap (λ (l : List ℕ). take (at - (end_of some + 5) + n) l) content_is)
         ∙ drop-take (at - (end_of some + 5)) n batch
 
 -- a gate before the place has a batch behind it
-pub behind_some : (batches some more : List (List ℕ)) → batches ≡ some ++ more → end_of some < end_of batches → (batch : List ℕ) × (rest : List (List ℕ)) × (batches ≡ some ++ batch ∷ rest)
+pub behind_some : (batches some more : List (List ℕ)) → batches ≡ some ++ more
+    → end_of some < end_of batches → (batch : List ℕ) × (rest : List (List ℕ)) × (batches ≡ some ++ batch ∷ rest)
 behind_some batches some [] is lt = absurd (omega (arith, ap taken (is ∙ append-nil some)))
 behind_some batches some (batch ∷ rest) is lt = (batch, rest, is)
 
-small_one : (some : List (List ℕ)) (batch : List ℕ) (more : List (List ℕ)) → All IsSmall (some ++ batch ∷ more) → IsSmall batch
+small_one : (some : List (List ℕ)) (batch : List ℕ) (more : List (List ℕ))
+    → All IsSmall (some ++ batch ∷ more) → IsSmall batch
 small_one [] batch more small = All-head IsSmall batch more small
-small_one (b ∷ some) batch more small = small_one some batch more (All-drop IsSmall 1 (b ∷ (some ++ batch ∷ more)) small)
+small_one (b ∷ some) batch more small =
+    small_one some batch more (All-drop IsSmall 1 (b ∷ (some ++ batch ∷ more)) small)
 
-pub small_among : (batches some : List (List ℕ)) (batch : List ℕ) (more : List (List ℕ)) → batches ≡ some ++ batch ∷ more → All IsSmall batches → IsSmall batch
-small_among batches some batch more is small = small_one some batch more (subst (λ (bs : List (List ℕ)). All IsSmall bs) is small)
+pub small_among : (batches some : List (List ℕ)) (batch : List ℕ) (more : List (List ℕ))
+    → batches ≡ some ++ batch ∷ more → All IsSmall batches → IsSmall batch
+small_among batches some batch more is small =
+    small_one some batch more (subst (λ (bs : List (List ℕ)). All IsSmall bs) is small)
 
 -- and no batch is behind the place itself
-pub before_end : (batches some : List (List ℕ)) (batch : List ℕ) (more : List (List ℕ)) → batches ≡ some ++ batch ∷ more → end_of some < end_of batches
+pub before_end : (batches some : List (List ℕ)) (batch : List ℕ) (more : List (List ℕ))
+    → batches ≡ some ++ batch ∷ more → end_of some < end_of batches
 before_end batches some batch more is = omega (arith, ap taken is, taken-append some (batch ∷ more))
 
 -- one more batch leads to the next gate
-pub next_gate : (batches before : List (List ℕ)) (content : List ℕ) (behind : List (List ℕ)) (gate : ℕ) → batches ≡ before ++ content ∷ behind → gate ≡ end_of before
+pub next_gate : (batches before : List (List ℕ)) (content : List ℕ) (behind : List (List ℕ)) (gate : ℕ)
+    → batches ≡ before ++ content ∷ behind → gate ≡ end_of before
     → (batches ≡ before ++ content ∷ [] ++ behind) × (gate + 5 + length content ≡ end_of (before ++ content ∷ []))
-next_gate batches before content behind gate is at = (is ∙ sym (append_assoc before (content ∷ []) behind), omega (arith, at, taken-append before (content ∷ [])))
+next_gate batches before content behind gate is at =
+    (is ∙ sym (append_assoc before (content ∷ []) behind), omega (arith, at, taken-append before (content ∷ [])))

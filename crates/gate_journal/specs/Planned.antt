@@ -52,10 +52,12 @@ left_by (AtSync Fails) old at from outcome = written_as outcome (old outcome) at
 left_by (AtSync (Stops stop)) old at from outcome = written_as stop (old stop) at from
 
 -- a write and a sync came out as was planned
-pub record PutPlanned {T E : Type 0} (old : Prospect) (at : ℕ) (from : List ℕ) (result : Result T E) (new : Prospect) : Type 0 where
+pub record PutPlanned
+    {T E : Type 0} (old : Prospect) (at : ℕ) (from : List ℕ) (result : Result T E) (new : Prospect) : Type 0 where
   pub fails : is_err result ≡ is_ended (ending_of (course_of old))
   pub course : course_of new ≡ after_put (course_of old)
-  pub leaves : (outcome : Outcome3) → new.leaves outcome ≡ left_by (ending_of (course_of old)) old.leaves at from outcome
+  pub leaves : (outcome : Outcome3)
+      → new.leaves outcome ≡ left_by (ending_of (course_of old)) old.leaves at from outcome
 
 abbrev pub is_new : Outcome3 → Bool
 is_new Old = false
@@ -93,10 +95,12 @@ abbrev pub after_append : Course → Course
 after_append course = course_after (ending_of course) (after_put course) (after_put (after_put course))
 
 -- An append came out as was planned.
-pub record AppendPlanned {T E : Type 0} (old : Prospect) (gate : ℕ) (result : Result T E) (new : Prospect) : Type 0 where
+pub record AppendPlanned
+    {T E : Type 0} (old : Prospect) (gate : ℕ) (result : Result T E) (new : Prospect) : Type 0 where
   pub fails : is_err result ≡ append_fails (ending_of (course_of old)) (ending_of (after_put (course_of old)))
   pub course : course_of new ≡ after_append (course_of old)
-  pub opened : (outcome : Outcome3) → (gate_at (new.leaves outcome) gate == open_gate) ≡ batch_stands (ending_of (course_of old)) (ending_of (after_put (course_of old))) outcome
+  pub opened : (outcome : Outcome3) → (gate_at (new.leaves outcome) gate == open_gate)
+      ≡ batch_stands (ending_of (course_of old)) (ending_of (after_put (course_of old))) outcome
 
 -- after a sync with this fate, a stop with an outcome leaves what one with this outcome would have left before
 abbrev pub outcome_left : Fate → Outcome3 → Outcome3
@@ -112,4 +116,5 @@ pub record SyncPlanned (old : Prospect) (failed : Bool) (new : Prospect) : Type 
   pub fails : is_failure (fate_of_sync (course_of old)) ≡ true → failed ≡ true
   pub runs : old.schedule.read_fail ≡ [] → failed ≡ is_failure (fate_of_sync (course_of old))
   pub course : course_of new ≡ with_reads new.schedule.reads (after_sync (fate_of_sync (course_of old)) (course_of old))
-  pub leaves : (outcome : Outcome3) → new.leaves outcome ≡ old.leaves (outcome_left (fate_of_sync (course_of old)) outcome)
+  pub leaves : (outcome : Outcome3)
+      → new.leaves outcome ≡ old.leaves (outcome_left (fate_of_sync (course_of old)) outcome)

@@ -10,7 +10,8 @@ use Rattle.gate_journal.specs.declared.journal.Journal.{Journal}
 pub record IsGate {A : Type 0} {tells : Ghosts A} (journal : Journal A tells) (gate : ℕ) : Type 0 where
   pub low : 32 ≤ gate
   pub high : gate ≤ end journal
-  pub behind : Told tells → (some : List (List ℕ)) × (more : List (List ℕ)) × (batches journal ≡ some ++ more) × (gate ≡ end_of some)
+  pub behind : Told tells
+      → (some : List (List ℕ)) × (more : List (List ℕ)) × (batches journal ≡ some ++ more) × (gate ≡ end_of some)
 
 -- a batch of the journal: behind this gate its content begins at this place and has so many octets
 pub record IsBatch {A : Type 0} {tells : Ghosts A} (journal : Journal A tells) (gate at n : ℕ) : Type 0 where
@@ -25,7 +26,8 @@ pub record IsBatch {A : Type 0} {tells : Ghosts A} (journal : Journal A tells) (
 -- These octets lie in the content of one batch, and in the area in any case.
 pub record IsInside {A : Type 0} {tells : Ghosts A} (journal : Journal A tells) (at n : ℕ) : Type 0 where
   pub high : at + n ≤ end journal
-  pub content : Told tells → (some : List (List ℕ)) × (batch : List ℕ) × (more : List (List ℕ)) × (batches journal ≡ some ++ batch ∷ more) × (end_of some + 5 ≤ at) × (at + n ≤ end_of some + 5 + length batch)
+  pub content : Told tells → (some : List (List ℕ)) × (batch : List ℕ) × (more : List (List ℕ))
+      × (batches journal ≡ some ++ batch ∷ more) × (end_of some + 5 ≤ at) × (at + n ≤ end_of some + 5 + length batch)
 
 -- the content of a whole batch was found behind this gate, and the place after it is a gate again
 pub record IsContent {A : Type 0} {tells : Ghosts A} (old new : Journal A tells) (gate at n : ℕ) : Type 0 where

@@ -47,4 +47,5 @@ module _ {A : Type 0} {tells : Ghosts A} (old new : Journal A tells) where
   pub record ReopenFollows (failed : Bool) : Type 0 where
     pub planned : SyncPlanned (tells.fate (area_of old)) failed (tells.fate (area_of new))
     pub stands : failed ≡ true → (outcome : Outcome3) →
-        stop_stands outcome new ≡ stop_stands (outcome_left (fate_of_sync (course_of (tells.fate (area_of old)))) outcome) old
+        stop_stands outcome new
+        ≡ stop_stands (outcome_left (fate_of_sync (course_of (tells.fate (area_of old)))) outcome) old

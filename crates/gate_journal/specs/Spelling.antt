@@ -8,7 +8,8 @@ use Rattle.byteorder.specs.Numbers.{big_number-reads_back, length-bytes_high_fir
 use Rattle.gate_journal.specs.Format.{open_gate, closed_gate, frame, header, spelled, taken, IsSmall}
 use Rattle.gate_journal.specs.State.{batches_in, batches_below}
 
-pub spelled-cons : (batch : List ℕ) (batches : List (List ℕ)) → spelled (batch ∷ batches) ≡ open_gate ∷ (big_bytes 4 (length batch) ++ batch ++ spelled batches)
+pub spelled-cons : (batch : List ℕ) (batches : List (List ℕ))
+    → spelled (batch ∷ batches) ≡ open_gate ∷ (big_bytes 4 (length batch) ++ batch ++ spelled batches)
 unfolding spelled
 spelled-cons batch batches = refl
 
@@ -32,7 +33,8 @@ spelled-append [] more = ap (λ (l : List ℕ). l ++ spelled more) (sym spelled-
 spelled-append (batch ∷ some) more =
     spelled-cons batch (some ++ more)
     ∙ ap (λ (l : List ℕ). open_gate ∷ (big_bytes 4 (length batch) ++ batch ++ l)) (spelled-append some more)
-    ∙ ap (λ (l : List ℕ). open_gate ∷ l) (sym (append_assoc (big_bytes 4 (length batch) ++ batch) (spelled some) (spelled more)))
+    ∙ ap (λ (l : List ℕ). open_gate ∷ l)
+    (sym (append_assoc (big_bytes 4 (length batch) ++ batch) (spelled some) (spelled more)))
     ∙ ap (λ (l : List ℕ). l ++ spelled more) (sym (spelled-cons batch some))
 
 pub taken-append : (some more : List (List ℕ)) → taken (some ++ more) ≡ taken some + taken more
@@ -40,7 +42,8 @@ taken-append [] more = omega arith
 taken-append (batch ∷ some) more = omega (arith, taken-append some more)
 
 pub spelled-one : (batch : List ℕ) → spelled (batch ∷ []) ≡ open_gate ∷ (big_bytes 4 (length batch) ++ batch)
-spelled-one batch = spelled-cons batch [] ∙ ap (λ (l : List ℕ). open_gate ∷ (big_bytes 4 (length batch) ++ batch ++ l)) spelled-nil ∙ ap (λ (l : List ℕ). open_gate ∷ l) (append-nil (big_bytes 4 (length batch) ++ batch))
+spelled-one batch = spelled-cons batch [] ∙ ap (λ (l : List ℕ). open_gate ∷ (big_bytes 4 (length batch) ++ batch ++ l))
+    spelled-nil ∙ ap (λ (l : List ℕ). open_gate ∷ l) (append-nil (big_bytes 4 (length batch) ++ batch))
 
 pub frame-is : (batch : List ℕ) → frame batch ≡ big_bytes 4 (length batch) ++ batch ++ closed_gate ∷ []
 unfolding frame
@@ -58,10 +61,12 @@ length-frame batch = omega (
 -- a length and what follows it
 module _ (batch rest : List ℕ) (small : IsSmall batch) where
   pub read_length : big_number 4 (big_bytes 4 (length batch) ++ batch ++ rest) ≡ length batch
-  read_length = ap (λ (l : List ℕ). big_number 4 l) (append_assoc (big_bytes 4 (length batch)) batch rest) ∙ big_number-reads_back 4 (length batch) (batch ++ rest) (omega arith)
+  read_length = ap (λ (l : List ℕ). big_number 4 l) (append_assoc (big_bytes 4 (length batch)) batch rest)
+      ∙ big_number-reads_back 4 (length batch) (batch ++ rest) (omega arith)
 
   pub drop_length : drop 4 (big_bytes 4 (length batch) ++ batch ++ rest) ≡ batch ++ rest
-  drop_length = ap (λ (l : List ℕ). drop 4 l) (append_assoc (big_bytes 4 (length batch)) batch rest) ∙ drop_at (big_bytes 4 (length batch)) (batch ++ rest) 4 (length-bytes_high_first 4 (length batch))
+  drop_length = ap (λ (l : List ℕ). drop 4 l) (append_assoc (big_bytes 4 (length batch)) batch rest)
+      ∙ drop_at (big_bytes 4 (length batch)) (batch ++ rest) 4 (length-bytes_high_first 4 (length batch))
 
   pub take_content : take (length batch) (drop 4 (big_bytes 4 (length batch) ++ batch ++ rest)) ≡ batch
   take_content = ap (λ (l : List ℕ). take (length batch) l) drop_length ∙ take_at batch rest (length batch) refl
@@ -69,7 +74,8 @@ module _ (batch rest : List ℕ) (small : IsSmall batch) where
   pub drop_content : drop (length batch) (drop 4 (big_bytes 4 (length batch) ++ batch ++ rest)) ≡ rest
   drop_content = ap (λ (l : List ℕ). drop (length batch) l) drop_length ∙ drop_at batch rest (length batch) refl
 
-batches_in-cons : (most gate : ℕ) (octets : List ℕ) → batches_in (suc most) (gate ∷ octets) ≡ take (big_number 4 octets) (drop 4 octets) ∷ batches_in most (drop (big_number 4 octets) (drop 4 octets))
+batches_in-cons : (most gate : ℕ) (octets : List ℕ) → batches_in (suc most) (gate ∷ octets)
+    ≡ take (big_number 4 octets) (drop 4 octets) ∷ batches_in most (drop (big_number 4 octets) (drop 4 octets))
 unfolding batches_in
 batches_in-cons most gate octets = refl
 
@@ -79,7 +85,8 @@ batches_in-nil zero = refl
 batches_in-nil (suc most) = refl
 
 -- what is spelled is read back
-pub batches_in-spelled : (batches : List (List ℕ)) (most : ℕ) → All IsSmall batches → taken batches ≤ most → batches_in most (spelled batches) ≡ batches
+pub batches_in-spelled : (batches : List (List ℕ)) (most : ℕ)
+    → All IsSmall batches → taken batches ≤ most → batches_in most (spelled batches) ≡ batches
 batches_in-spelled [] most small le = ap (λ (l : List ℕ). batches_in most l) spelled-nil ∙ batches_in-nil most
 batches_in-spelled (batch ∷ batches) zero small le = absurd (omega arith)
 batches_in-spelled (batch ∷ batches) (suc most) small le =
@@ -91,14 +98,17 @@ batches_in-spelled (batch ∷ batches) (suc most) small le =
     ∙ ap (λ n. take n (drop 4 octets) ∷ batches_in most (drop n (drop 4 octets))) (read_length batch tail here)
     ∙ ap (λ (b : List ℕ). b ∷ batches_in most (drop (length batch) (drop 4 octets))) (take_content batch tail here)
     ∙ ap (λ (l : List ℕ). batch ∷ batches_in most l) (drop_content batch tail here)
-    ∙ ap (λ (bs : List (List ℕ)). batch ∷ bs) (batches_in-spelled batches most (All-tail IsSmall batch batches small) (omega arith))
+    ∙ ap (λ (bs : List (List ℕ)). batch ∷ bs)
+    (batches_in-spelled batches most (All-tail IsSmall batch batches small) (omega arith))
 
 -- the batches below a place are those that are spelled there
-pub batches_below-is : (place : ℕ) (octets rest : List ℕ) (batches : List (List ℕ)) → length rest ≡ 31 → drop 1 (take place octets) ≡ rest ++ spelled batches → All IsSmall batches
+pub batches_below-is : (place : ℕ) (octets rest : List ℕ) (batches : List (List ℕ))
+    → length rest ≡ 31 → drop 1 (take place octets) ≡ rest ++ spelled batches → All IsSmall batches
     → batches_below place octets ≡ batches
 unfolding batches_below
 batches_below-is place octets rest batches long listed small =
-    let spelling : drop 32 (take place octets) ≡ spelled batches = sym (drop-drop 31 1 (take place octets)) ∙ ap (λ (l : List ℕ). drop 31 l) listed ∙ drop_at rest (spelled batches) 31 long in
+    let spelling : drop 32 (take place octets) ≡ spelled batches = sym (drop-drop 31 1 (take place octets))
+    ∙ ap (λ (l : List ℕ). drop 31 l) listed ∙ drop_at rest (spelled batches) 31 long in
     ap (λ (l : List ℕ). batches_in (length l) l) spelling
     ∙ batches_in-spelled batches (length (spelled batches)) small (omega (arith, length-spelled batches))
 

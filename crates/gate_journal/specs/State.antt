@@ -3,7 +3,7 @@ use Rattle.std.specs.Prelude.{◌≡◌, ◌≢◌, ◌⊎◌, ℕ, zero, suc, �
 use Rattle.area_disk.specs.Disk.{Only}
 use Rattle.area_disk.specs.declared.area.Area.{Ghosts}
 use Rattle.byteorder.specs.Endian.{big_number}
-use Rattle.gate_journal.specs.Format.{open_gate, header, frame, spelled, longest_batch, gate_at, IsSmall, Stands, Starts}
+use Rattle.gate_journal.specs.Format.{IsSmall, Stands, Starts, fewest_octets, frame, gate_at, header, longest_batch, longest_frame, most_octets, open_gate, spelled}
 use Rattle.gate_journal.specs.Moments.{Told}
 use Rattle.gate_journal.specs.declared.journal.Front.{Front}
 use Rattle.gate_journal.specs.declared.journal.Front.TheVariants.{Founded, Draft, Founding}
@@ -39,12 +39,14 @@ front_after Founding first = if first == 67 then Founded else Draft
 
 -- These octets are those of a journal with these batches and a gate behind them: closed, or one with this batch
 -- behind it where it is open.
-pub record Content (header : List ℕ) (front : Front) (is_torn : Bool) (batches : List (List ℕ)) (batch : List ℕ) (place : ℕ) (octets : List ℕ) : Type 0 where
+pub record Content (header : List ℕ) (front : Front)
+    (is_torn : Bool) (batches : List (List ℕ)) (batch : List ℕ) (place : ℕ) (octets : List ℕ) : Type 0 where
   pub listed : drop 1 (take place octets) ≡ drop 1 header ++ spelled batches
   pub founded : front ≡ Founded → slice_index octets 0 ≡ slice_index header 0
   pub drafted : front ≡ Draft → slice_index octets 0 ≢ slice_index header 0
   pub shut : is_torn ≡ false → gate_at octets place ≢ open_gate
-  pub framed : is_torn ≡ true → gate_at octets place ≡ open_gate → take (length batch + 5) (drop (place + 1) octets) ≡ frame batch
+  pub framed : is_torn ≡ true
+      → gate_at octets place ≡ open_gate → take (length batch + 5) (drop (place + 1) octets) ≡ frame batch
 
 -- the octets of a journal that may be added to, with the batches below this gate
 pub record IsListed (header : List ℕ) (front : Front) (gate : ℕ) (octets : List ℕ) : Type 0 where
@@ -60,17 +62,19 @@ pub record IsReady (front : Front) (is_torn : Bool) : Type 0 where
   pub founded : front ≢ Founding
 
 -- What is true of each journal, open or closed.
-pub record IsSound {A : Type 0} (tells : Ghosts A) (area : A) (buffer : List ℕ) (gate torn_length : ℕ) (is_torn : Bool) (front : Front) (address generation : ℕ) : Type 0 where
-  pub long : 100 ≤ tells.size area
-  pub short : tells.size area ≤ 268435456
+pub record IsSound {A : Type 0} (tells : Ghosts A) (area : A)
+    (buffer : List ℕ) (gate torn_length : ℕ) (is_torn : Bool) (front : Front) (address generation : ℕ) : Type 0 where
+  pub long : fewest_octets ≤ tells.size area
+  pub short : tells.size area ≤ most_octets
   pub low : 32 ≤ gate
   pub high : gate + 1 ≤ tells.size area
-  pub buffer_size : length buffer ≡ min 1048581 (tells.size area)
+  pub buffer_size : length buffer ≡ min longest_frame (tells.size area)
   pub torn_size : torn_length ≤ longest_batch
   pub torn_held : torn_length + 5 ≤ length buffer
   pub torn_fits : is_torn ≡ true → gate + torn_length + 6 ≤ tells.size area
   pub founding_whole : front ≡ Founding → is_torn ≡ false
   pub small : Told tells → All IsSmall (batches_below gate (tells.octets area))
   pub content : Told tells → (c : List ℕ) → tells.may_leave area c →
-      Content (header (tells.size area) address generation) front is_torn (batches_below gate (tells.octets area)) (take torn_length (drop 4 buffer)) gate c
+      Content (header (tells.size area) address generation)
+      front is_torn (batches_below gate (tells.octets area)) (take torn_length (drop 4 buffer)) gate c
   pub durable : Told tells → IsReady front is_torn → Only (tells.octets area) (tells.may_leave area)

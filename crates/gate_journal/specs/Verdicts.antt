@@ -20,7 +20,8 @@ IsVerdict header octets (Other at) = Differs header octets at
 -- what stands at a gate
 abbrev pub IsBehind : List ℕ → ℕ → Behind → Type 0
 IsBehind octets at Shut = gate_at octets at ≢ open_gate
-IsBehind octets at (Whole length) = (gate_at octets at ≡ open_gate) × (length ≡ length_at octets at) × (take 4 (drop (at + 1) octets) ≡ big_bytes 4 length)
+IsBehind octets at (Whole length) = (gate_at octets at ≡ open_gate)
+    × (length ≡ length_at octets at) × (take 4 (drop (at + 1) octets) ≡ big_bytes 4 length)
 IsBehind octets at Cut = (gate_at octets at ≡ open_gate) × (IsWhole octets at → ⊥)
 
 -- the batch behind the gate at this place lies in an area of this size

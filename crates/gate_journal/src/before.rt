@@ -2,7 +2,7 @@
 ghost use Rattle.std.specs.Prelude.{◌≡◌, ◌+◌, ◌<◌, ◌≤◌, IsTrue, IfOk, IfSome, OnOk, false, is_err, length};
 ghost use Rattle.area_disk.specs.Disk.{HasCause};
 ghost use Rattle.gate_journal.specs.Before.{IsFoundBefore, IsReadBefore};
-ghost use Rattle.gate_journal.specs.Format.{longest_batch};
+ghost use Rattle.gate_journal.specs.Format.{longest_batch, most_octets};
 ghost use Rattle.gate_journal.specs.Moments.{Kept};
 ghost use Rattle.gate_journal.specs.Planned.{ReadsRun};
 
@@ -21,7 +21,7 @@ pub fn batch_before<A: Area>(
     end: u64,
 ) -> Result<Option<(u64, u32)>, Device>
     requires inside { gate < end }
-    requires short { A.size area.old ≤ 268435456 }
+    requires short { A.size area.old ≤ most_octets }
 
     ensures found { IsTrue A.tells_octets → IfOk result (λ found. IsFoundBefore (A.octets area.old) end gate found) }
     ensures inside { IfOk result (λ found.

@@ -2,7 +2,7 @@
 ghost use Rattle.std.specs.Prelude.{◌≡◌, ◌≢◌, ◌+◌, ◌≤◌, ℕ, List, length, IsTrue, OnOk};
 ghost use Rattle.area_disk.specs.Disk.{overwritten, Torn, Only, HasCause};
 ghost use Rattle.gate_journal.specs.Adding.{added, IsAdding};
-ghost use Rattle.gate_journal.specs.Format.{open_gate, gate_at};
+ghost use Rattle.gate_journal.specs.Format.{gate_at, most_octets, open_gate};
 ghost use Rattle.gate_journal.specs.Planned.{PutPlanned, AppendPlanned};
 ghost use Rattle.gate_journal.specs.Moments.{Told, Leaves, Calls};
 
@@ -31,7 +31,7 @@ pub fn put<A: Area>(area: &mut A, at: u64, from: &[u8]) -> Result<(), Failed>
 /// Writes a frame behind a closed gate and, when it stands, opens the gate.
 pub fn add<A: Area>(area: &mut A, gate: u64, frame: &[u8]) -> Result<(), Failed>
     requires inside { gate + 1 + length frame.now ≤ A.size area.old }
-    requires short { A.size area.old ≤ 268435456 }
+    requires short { A.size area.old ≤ most_octets }
 
     ensures size { A.size area.new ≡ A.size area.old }
     ensures added { IsTrue A.tells_octets → OnOk result (A.octets area.new ≡ added gate frame.now (A.octets area.old)) }

@@ -11,7 +11,7 @@ pub const OPEN: u8 = 0xA5;
 pub const CLOSED: u8 = 0;
 
 /// The most octets of a batch.
-pub const LONGEST: usize = 1_048_576;
+pub const LONGEST_BATCH: usize = 1_048_576;
 
 /// Octet 0 of a header, which is written last.
 pub const FIRST: u8 = b'C';

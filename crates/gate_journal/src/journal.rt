@@ -2,7 +2,7 @@
 ghost use Rattle.std.specs.Prelude.{vec_len, min, ◌≡◌, ◌↔◌, ◌≢◌, ℕ, ◌+◌, ◌<◌, ◌≤◌, IsTrue, IsNone, IfSome, false, true, length, is_err, OnOk, OnErr, IfOk};
 ghost use Rattle.area_disk.specs.Disk.{HasCause, Only};
 ghost use Rattle.area_disk.specs.Plan.{ReadAsPlanned};
-ghost use Rattle.gate_journal.specs.Format.{end_of, header, longest_batch};
+ghost use Rattle.gate_journal.specs.Format.{end_of, fewest_octets, header, longest_batch, longest_frame, most_octets};
 ghost use Rattle.gate_journal.specs.Moments.{Counts, CountsOne, Told};
 ghost use Rattle.gate_journal.specs.Planned.{ReadsRun};
 ghost use Rattle.gate_journal.specs.State.{IsListed, IsSound, batches_below, front_after, gate_after};
@@ -65,11 +65,11 @@ impl<A: Area> Journal<A> {
         address: u32,
         generation: u32,
     ) -> Self
-        requires long { 100 ≤ A.size area }
-        requires short { A.size area ≤ 268435456 }
+        requires long { fewest_octets ≤ A.size area }
+        requires short { A.size area ≤ most_octets }
         requires low { 32 ≤ gate }
         requires high { gate < A.size area }
-        requires buffer { vec_len buffer ≡ min 1048581 (A.size area) }
+        requires buffer { vec_len buffer ≡ min longest_frame (A.size area) }
         requires front { front ≢ Founding }
         requires listed { Told A.Area → IsListed (header (A.size area) address generation) front gate (A.octets area) }
         requires durable { Told A.Area → Only (A.octets area) (A.may_leave area) }
@@ -262,8 +262,8 @@ impl<A: Area> Journal<A> {
     /// Hands the area back as it is.
     pub fn into_area(self) -> A
         ensures area { result ≡ area_of self }
-        ensures long { 100 ≤ A.size result }
-        ensures short { A.size result ≤ 268435456 }
+        ensures long { fewest_octets ≤ A.size result }
+        ensures short { A.size result ≤ most_octets }
         ensures rests { Rests self }
         ensures stop { IsTrue A.tells_fate → Told A.Area → StopLeaves self }
     {
@@ -283,7 +283,7 @@ impl<A: Area> Journal<A> {
 
 // The gate behind a batch that may stand, or before it.
 fn next_gate(is_torn: bool, gate: u64, length: u64, octet: u8) -> u64
-    requires fits { is_torn ≡ true → gate + length + 6 ≤ 268435456 }
+    requires fits { is_torn ≡ true → gate + length + 6 ≤ most_octets }
     ensures { result ≡ gate_after is_torn gate length octet }
 {
     if is_torn {
@@ -313,7 +313,7 @@ fn next_front(front: Front, first: u8) -> Front
 // The place and the length of the content of a whole batch that ends before the first closed gate.
 pub(crate) fn content_behind(behind: Behind, gate: u64, end: u64) -> Option<(u64, u32)>
     requires fits { gate < end }
-    requires short { end ≤ 268435456 }
+    requires short { end ≤ most_octets }
     ensures { result ≡ content_at behind gate end }
 {
     match behind {

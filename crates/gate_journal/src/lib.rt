@@ -20,8 +20,6 @@ mod starting;
 
 pub use before::{batch_before, read_before};
 pub use faults::{AppendFault, Device, OpenFault};
+pub use format::LONGEST_BATCH;
 pub use journal::{Front, Journal};
 pub use starting::starts;
-
-#[cfg(test)]
-mod tests;

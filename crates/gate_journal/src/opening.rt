@@ -1,7 +1,7 @@
 // How a journal is opened, drafted and made anew.
 ghost use Rattle.std.specs.Prelude.{vec_len, ◌≡◌, ◌⊎◌, ◌+◌, ◌≤◌, ℕ, IsTrue, min, false, [], ◌∷◌, ◌++◌, length, take, drop, slice_index, is_err, OnOk, IfOk, IfErr, IsErrAnd};
 ghost use Rattle.area_disk.specs.Disk.{HasCause, Only, counted};
-ghost use Rattle.gate_journal.specs.Format.{IsBroken, IsForeign, Starts, header};
+ghost use Rattle.gate_journal.specs.Format.{IsBroken, IsForeign, Starts, fewest_octets, header, longest_frame, most_octets};
 ghost use Rattle.gate_journal.specs.Journal.{area_of};
 ghost use Rattle.gate_journal.specs.Making.{IsAnew, IsDeviceOr, IsReadyWith};
 ghost use Rattle.gate_journal.specs.Moments.{Calls, Kept, Leaves, RoseUpTo, Told};
@@ -13,7 +13,7 @@ ghost use Rattle.gate_journal.specs.declared.journal.Front.TheVariants.{Draft, F
 ghost use Rattle.gate_journal.specs.declared.reading.Verdict.TheVariants.{Starts as Begins};
 
 use crate::device::put;
-use crate::format::{CLOSED, LONGEST, header_of};
+use crate::format::{CLOSED, LONGEST_BATCH, header_of};
 use crate::reading::{Scanned, Verdict, look, scan};
 use crate::{Device, Front, Journal, OpenFault};
 use area_disk::{Area, Failed};
@@ -30,7 +30,7 @@ fn front_octets(header: &[u8; 32]) -> [u8; 32]
 
 // Makes an area that starts, without its octet 0.
 fn lay_front<A: Area>(area: &mut A, header: &[u8; 32], blank: bool) -> Result<(), Failed>
-    requires long { 100 ≤ A.size area.old }
+    requires long { fewest_octets ≤ A.size area.old }
     requires first { slice_index header.now 0 ≡ 67 }
     requires begun { IsTrue A.tells_octets → IsVerdict header.now (A.octets area.old) (Begins blank) }
 
@@ -53,10 +53,10 @@ fn lay_front<A: Area>(area: &mut A, header: &[u8; 32], blank: bool) -> Result<()
 }
 
 fn buffer_for(alloc: Global, length: u64) -> Result<Vec<u8>, AllocError>
-    requires { length ≤ 268435456 }
-    ensures { IfOk result (λ buffer. vec_len buffer ≡ min 1048581 length) }
+    requires { length ≤ most_octets }
+    ensures { IfOk result (λ buffer. vec_len buffer ≡ min longest_frame length) }
 {
-    let most = length.min(LONGEST as u64 + 5);
+    let most = length.min(LONGEST_BATCH as u64 + 5);
     vec![in alloc; 0; most as usize]
 }
 
@@ -68,8 +68,8 @@ fn lay<A: Area>(
     address: u32,
     generation: u32,
 ) -> Result<Journal<A>, (OpenFault, A)>
-    requires long { 100 ≤ A.size area }
-    requires short { A.size area ≤ 268435456 }
+    requires long { fewest_octets ≤ A.size area }
+    requires short { A.size area ≤ most_octets }
     requires begun { IsTrue A.tells_octets →
         IsVerdict (header (A.size area) address generation) (A.octets area) (Begins blank) }
     requires durable { IsTrue A.tells_crash → Only (A.octets area) (A.may_leave area) }
@@ -105,8 +105,8 @@ fn list<A: Area>(
     address: u32,
     generation: u32,
 ) -> Result<Journal<A>, (OpenFault, A)>
-    requires long { 100 ≤ A.size area }
-    requires short { A.size area ≤ 268435456 }
+    requires long { fewest_octets ≤ A.size area }
+    requires short { A.size area ≤ most_octets }
     requires same { IsTrue A.tells_octets → take 32 (A.octets area) ≡ header (A.size area) address generation }
     requires durable { IsTrue A.tells_crash → Only (A.octets area) (A.may_leave area) }
 
@@ -140,8 +140,8 @@ fn make_anew<A: Area>(
     address: u32,
     generation: u32,
 ) -> Result<Journal<A>, (OpenFault, A)>
-    requires long { 100 ≤ A.size area }
-    requires short { A.size area ≤ 268435456 }
+    requires long { fewest_octets ≤ A.size area }
+    requires short { A.size area ≤ most_octets }
     requires begun { IsTrue A.tells_octets →
         IsVerdict (header (A.size area) address generation) (A.octets area) (Begins blank) }
     requires durable { IsTrue A.tells_crash → Only (A.octets area) (A.may_leave area) }
@@ -180,8 +180,8 @@ impl<A: Area> Journal<A> {
         address: u32,
         generation: u32,
     ) -> Result<Journal<A>, (OpenFault, A)>
-        requires long { 100 ≤ A.size area }
-        requires short { A.size area ≤ 268435456 }
+        requires long { fewest_octets ≤ A.size area }
+        requires short { A.size area ≤ most_octets }
 
         ensures ok { IfOk result (λ journal.
             IsOpened A.Area area (header_for A.Area area address generation) journal) }
@@ -218,8 +218,8 @@ impl<A: Area> Journal<A> {
         address: u32,
         generation: u32,
     ) -> Result<Journal<A>, (OpenFault, A)>
-        requires long { 100 ≤ A.size area }
-        requires short { A.size area ≤ 268435456 }
+        requires long { fewest_octets ≤ A.size area }
+        requires short { A.size area ≤ most_octets }
 
         ensures ok { IfOk result (λ journal.
             IsDrafted A.Area area (header_for A.Area area address generation) journal) }

@@ -2,12 +2,12 @@
 ghost use Rattle.std.specs.Prelude.{◌≡◌, ◌≢◌, ◌+◌, ◌<◌, ◌≤◌, ℕ, IsTrue, IfOk, OnOk, MatchOption, false, is_err, length, take, drop, slice_index};
 ghost use Rattle.area_disk.specs.Disk.{Only, HasCause, counted};
 ghost use Rattle.byteorder.specs.Endian.{big_number, big_bytes};
-ghost use Rattle.gate_journal.specs.Format.{gate_at, length_at};
+ghost use Rattle.gate_journal.specs.Format.{fewest_octets, gate_at, length_at, most_octets};
 ghost use Rattle.gate_journal.specs.Planned.{ReadsRun, SyncPlanned};
 ghost use Rattle.gate_journal.specs.Moments.{Leaves, Kept};
 ghost use Rattle.gate_journal.specs.Verdicts.{IsVerdict, IsBehind, Fits, IsScanned, LiesIn};
 
-use crate::format::{LONGEST, OPEN};
+use crate::format::{LONGEST_BATCH, OPEN};
 use area_disk::{Area, Failed};
 use byteorder::{BigEndian, ByteOrder};
 
@@ -80,7 +80,7 @@ fn judge(header: &[u8; 32], read: &[u8; 32]) -> Verdict
 
 /// Waits until what was written stands, and reads the first octets.
 pub fn look<A: Area>(area: &mut A, header: &[u8; 32]) -> Result<Verdict, Failed>
-    requires { 100 ≤ A.size area.old }
+    requires { fewest_octets ≤ A.size area.old }
 
     ensures size { A.size area.new ≡ A.size area.old }
     ensures octets { IsTrue A.tells_octets → OnOk result (A.octets area.new ≡ A.octets area.old) }
@@ -122,7 +122,7 @@ fn octet_at<A: Area>(area: &mut A, at: u64) -> Result<u8, Failed>
 // Reads the length that stands behind a gate.
 fn length_behind<A: Area>(area: &mut A, at: u64) -> Result<u32, Failed>
     requires inside { at + 5 ≤ A.size area.old }
-    requires short { A.size area.old ≤ 268435456 }
+    requires short { A.size area.old ≤ most_octets }
 
     ensures length { IsTrue A.tells_octets → IfOk result (λ length. (length ≡ length_at (A.octets area.old) at) ×
         (take 4 (drop (at + 1) (A.octets area.old)) ≡ big_bytes 4 length)) }
@@ -138,7 +138,7 @@ fn length_behind<A: Area>(area: &mut A, at: u64) -> Result<u32, Failed>
 /// Reads a gate and the length behind it.
 pub fn read_gate<A: Area>(area: &mut A, at: u64) -> Result<Behind, Failed>
     requires inside { at < A.size area.old }
-    requires short { A.size area.old ≤ 268435456 }
+    requires short { A.size area.old ≤ most_octets }
 
     ensures reads { IsTrue A.tells_octets → IfOk result (λ b. IsBehind (A.octets area.old) at b) }
     ensures fits { IfOk result (λ b. Fits (A.size area.old) at b) }
@@ -155,7 +155,7 @@ pub fn read_gate<A: Area>(area: &mut A, at: u64) -> Result<Behind, Failed>
         return Ok(Behind::Cut);
     }
     let length = length_behind(area, at)?;
-    if length as usize > LONGEST {
+    if length as usize > LONGEST_BATCH {
         return Ok(Behind::Cut);
     }
     if size <= at + 5 + u64::from(length) {
@@ -166,8 +166,8 @@ pub fn read_gate<A: Area>(area: &mut A, at: u64) -> Result<Behind, Failed>
 
 /// Reads the gates and the lengths of the batches, up to the first gate that is closed or has no whole batch.
 pub fn scan<A: Area>(area: &mut A) -> Result<Scanned, Failed>
-    requires long { 100 ≤ A.size area.old }
-    requires short { A.size area.old ≤ 268435456 }
+    requires long { fewest_octets ≤ A.size area.old }
+    requires short { A.size area.old ≤ most_octets }
 
     ensures reads { IsTrue A.tells_octets → IfOk result (λ s. IsScanned (A.octets area.old) s) }
     ensures inside { IfOk result (λ s. LiesIn (A.size area.old) s) }

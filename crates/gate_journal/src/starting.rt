@@ -1,7 +1,7 @@
 // Whether an opening makes an area anew.
 ghost use Rattle.std.specs.Prelude.{◌≡◌, ◌↔◌, ◌≤◌, IsTrue, IfOk, OnOk, is_err};
 ghost use Rattle.area_disk.specs.Disk.{Only};
-ghost use Rattle.gate_journal.specs.Format.{Starts, header};
+ghost use Rattle.gate_journal.specs.Format.{Starts, fewest_octets, header};
 ghost use Rattle.gate_journal.specs.Moments.{CountsOne, Leaves};
 ghost use Rattle.gate_journal.specs.Planned.{SyncPlanned};
 
@@ -15,7 +15,7 @@ use area_disk::{Area, Failed};
 ///
 /// It takes no memory.
 pub fn starts<A: Area>(area: &mut A, address: u32, generation: u32) -> Result<bool, Device>
-    requires { 100 ≤ A.size area.old }
+    requires { fewest_octets ≤ A.size area.old }
 
     ensures starts { IsTrue A.tells_octets → IfOk result (λ starts.
         IsTrue starts ↔ Starts (header (A.size area.old) address generation) (A.octets area.old)) }
