@@ -18,14 +18,15 @@ AreGroups (octet ∷ []) = octet < 128
 AreGroups (octet ∷ next ∷ octets) = (128 ≤ octet) × AreGroups (next ∷ octets)
 
 -- The tag number stands in bits 5 to 1 of the leading octet, with no octet after it, or, where these bits are all 1, in
--- the octets after it, in base 128 (clauses 8.1.2.3 and 8.1.2.4). Leading zero groups, and numbers below 31 in the long
--- form, which the standard forbids, are accepted here.
+-- the octets after it, in base 128 (clauses 8.1.2.2 c and 8.1.2.4). Leading zero groups, and numbers below 31 in the
+-- long form, which the standard forbids, are accepted here.
 abbrev pub IsTagNumber : ℕ → List ℕ → ℕ → Type 0
 IsTagNumber leading groups number =
     ((leading % 32 < 31) × (groups ≡ []) × (number ≡ leading % 32))
     ⊎ ((leading % 32 ≡ 31) × AreGroups groups × (number ≡ number_in 128 (map low_bits groups)))
 
--- the class stands in bits 8 and 7 of the leading octet, and bit 6 says whether the value is constructed (clause 8.1.2.2)
+-- the class stands in bits 8 and 7 of the leading octet, and bit 6 says whether the value is constructed (clause
+-- 8.1.2.2)
 abbrev pub tag_of : ℕ → ℕ → Tag
 tag_of leading number = record { class = leading / 64; constructed = (leading / 32 % 2) == 1; number = number }
 

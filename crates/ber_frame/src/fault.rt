@@ -8,8 +8,10 @@ pub struct BerFault {
     pub kind: BerKind,
 }
 
-/// What may be wrong with a BER value (ITU-T X.690, clause 8.1), in the order in which it is told
-/// of one value; `Trailing` comes last.
+/// What may be wrong with a BER value (ITU-T X.690, clause 8.1). A value is read from left to right,
+/// and the first that fails is told: an identifier that is cut, its tag number, length octets that
+/// are cut, the length they give, an indefinite one, the depth, contents that are cut; then the
+/// values inside, one after the other. `Trailing` comes last.
 #[derive(Clone, Copy, Debug, PartialEq, Eq)]
 pub enum BerKind {
     /// The octets, or those of the enclosing value, end before the value does.

@@ -1,4 +1,4 @@
-use Rattle.std.proofs.Common.{◌≡◌, ◌↔◌, ℕ, List, All, ◌<◌, Result, Ok, Err, Some, ap}
+use Rattle.std.proofs.Common.{◌≡◌, Result, Ok, Err, Some, ap}
 use Rattle.std.specs.Result.{result_ok}
 use Rattle.gw_base.specs.declared.tag.Tag.{Tag}
 use Rattle.ber_frame.specs.declared.fault.BerFault.{BerFault}
