@@ -3,10 +3,10 @@ ghost use Rattle.std.specs.Option.{ForSome};
 ghost use Rattle.file_rotate.specs.Cutting.{IsBelow, kind_change, limit_reached, mark_reason, with_record};
 ghost use Rattle.file_rotate.specs.Division.{still};
 ghost use Rattle.file_rotate.specs.Items.{AreLimits, same_kind};
-ghost use Rattle.gw_base.specs.TickDue.{is_long_ago};
 
 use crate::limits::Limits;
 use cdr_file::{ClosureReason, cdr_header_length, header_length};
+use gw_base::scan::is_long_ago;
 use gw_base::{CdrKind, Moment};
 
 /// What is kept of an open file.
@@ -63,16 +63,6 @@ pub(crate) fn mark_reason(
         Some(ClosureReason::OpenTimeLimit)
     } else {
         None
-    }
-}
-
-/// Whether a file that was opened at a moment has been open for the open time, in seconds.
-fn is_long_ago(open_time: u64, now: Moment, opened: Moment) -> bool
-    ensures { result ≡ is_long_ago open_time now opened }
-{
-    match now.seconds().checked_sub(opened.seconds()) {
-        Some(since) => open_time <= since,
-        None => false,
     }
 }
 

@@ -8,7 +8,7 @@ use Rattle.gw_base.specs.declared.key_state.KeyState.TheVariants.{Fresh, Filed, 
 use Rattle.transfer_cmd.specs.declared.decision.Ask.{Ask}
 use Rattle.transfer_cmd.specs.declared.decision.Ask.TheVariants.{Send, Possible, Empty}
 use Rattle.transfer_cmd.specs.Rows.{mark_of, place_of_state, row_for, rows_for, state_marked}
-use Rattle.transfer_cmd.specs.Table.{answer_cause, state_given}
+use Rattle.transfer_cmd.specs.Table.{state_given}
 
 -- each row is found by its key
 row_by_key : (ask : Ask) (state : KeyState) → find (has_key (place_of_state state)) (rows_for ask) ≡ Some (row_for ask state)

@@ -2,15 +2,11 @@
 use Rattle.std.specs.Prelude.{ℕ, Bool, true, false, if◌then◌else◌, List, [], ◌∷◌}
 use Rattle.std.specs.List.{list_any}
 use Rattle.gw_base.specs.declared.cause.TheConstants.{ACCEPTED, DUPLICATE_ALREADY_FULFILLED, NUMBERS_INCORRECT}
+pub use Rattle.gw_base.specs.HeldKeys.{is_held}
 use Rattle.gw_base.specs.declared.key_state.KeyState.{KeyState}
 use Rattle.gw_base.specs.declared.key_state.KeyState.TheVariants.{Held, Released, Cancelled}
 use Rattle.transfer_cmd.specs.declared.verdict.Verdict.{Verdict}
 use Rattle.transfer_cmd.specs.declared.verdict.Verdict.TheVariants.{Wrong, Before, Change}
-
--- whether a number of this state is held
-abbrev pub is_held : KeyState → Bool
-is_held Held = true
-is_held _ = false
 
 -- whether a release may not name a number of this state
 abbrev pub is_wrong_to_release : KeyState → Bool
@@ -33,7 +29,8 @@ is_wrong false = is_wrong_to_cancel
 abbrev pub verdict_of : Bool → List KeyState → Verdict
 verdict_of release [] = Wrong
 verdict_of release (s ∷ states) =
-    if list_any (is_wrong release) (s ∷ states) then Wrong else (if list_any is_held (s ∷ states) then Change else Before)
+    if list_any (is_wrong release) (s ∷ states) then Wrong
+    else (if list_any is_held (s ∷ states) then Change else Before)
 
 -- the cause that answers a list by its verdict
 abbrev pub verdict_cause : Verdict → ℕ

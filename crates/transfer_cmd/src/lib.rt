@@ -15,4 +15,4 @@ mod tests;
 mod verdict;
 
 pub use decision::{Ask, decide};
-pub use verdict::{Verdict, judge};
+pub use verdict::{Verdict, is_held, judge};

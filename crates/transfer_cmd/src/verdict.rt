@@ -67,7 +67,8 @@ fn is_wrong(state: KeyState, release: bool) -> bool
     }
 }
 
-fn is_held(state: KeyState) -> bool
+/// Whether a number of this state is held.
+pub fn is_held(state: KeyState) -> bool
     ensures { result ≡ is_held state }
 {
     matches!(state, KeyState::Held)
