@@ -23,11 +23,11 @@ mod fits;
 mod kind;
 pub mod laws;
 mod reading;
-#[cfg(test)]
-mod tests;
+mod room;
 mod writing;
 
 pub use fault::EntryFault;
+pub use room::{capacity, promised};
 pub use writing::{cost, write};
 
 /// Reads the entry that the octets begin with, and says how many octets it has.
