@@ -1,5 +1,5 @@
 -- Lists of held keys in order: they are the same where as many keys of each pass each test.
-use Rattle.std.proofs.Common.{inl, inr, ◌≡◌, ℕ, zero, suc, ◌+◌, ◌<◌, ◌≤◌, ◌^◌, ◌==◌, ◌&&◌, Bool, true, false, cond, nat_lt, List, [], ◌∷◌, ◌++◌, length, map, filter, refl, sym, ap, ◌∙◌, arith}
+use Rattle.std.proofs.Common.{inl, inr, ◌≡◌, ℕ, suc, ◌+◌, ◌<◌, ◌≤◌, ◌^◌, ◌==◌, ◌&&◌, Bool, true, false, cond, nat_lt, List, [], ◌∷◌, length, map, filter, refl, sym, ap, ◌∙◌, arith}
 use Rattle.std.specs.Prelude.{slice_index_or, ⊤}
 use Rattle.std.proofs.lemmas.Bool.{cases_order, eq-eqb, ltb-false, ltb-true, ne_eqb}
 use Rattle.gw_base.specs.declared.held.HeldKey.{HeldKey}
@@ -96,8 +96,8 @@ counted_up s r t (kept ∷ keys) up small =
 pub sorted_up : (s : Bool) (keys : SortedKeys) → AreInOrder (keys_of s keys)
 sorted_up s keys = counted_up s keys.round keys.round keys.keys.items keys.ascending keys.up_to
 
-pub both_up : (s : Bool) (old young : SortedKeys) → AreInOrder (held_in_order s old young)
-both_up s old young = all_placed (keys_of s young) (keys_of s old) (sorted_up s young) (sorted_up s old)
+pub both_up : (s : Bool) (early late : SortedKeys) → AreInOrder (held_in_order s early late)
+both_up s early late = all_placed (keys_of s late) (keys_of s early) (sorted_up s late) (sorted_up s early)
 
 pub after_up : (act : HistoryAct) (keys : List HeldKey) → AreInOrder (held_by act []) → AreInOrder keys → AreInOrder (held_after act keys)
 after_up act keys held up = all_placed (held_by act []) (filter (λ (key : HeldKey). stays_held act key) keys) held (filtered (λ (key : HeldKey). stays_held act key) keys up)
@@ -137,21 +137,21 @@ same_list (a ∷ keys) (b ∷ others) up down alike = elim (cases_order (place a
 
 -- ---- two lists
 
-pub held_as : (s : Bool) (old young : SortedKeys) (p : HeldKey → Bool) → passing p (held_in_order s old young) ≡ held_in s old young p
-held_as s old young p = passing_all_in_order p (keys_of s young) (keys_of s old)
+pub held_as : (s : Bool) (early late : SortedKeys) (p : HeldKey → Bool) → passing p (held_in_order s early late) ≡ held_in s early late p
+held_as s early late p = passing_all_in_order p (keys_of s late) (keys_of s early)
 
-pub same_held : (s : Bool) (old young now new : SortedKeys) → ((p : HeldKey → Bool) → held_in s now new p ≡ held_in s old young p) → held_in_order s now new ≡ held_in_order s old young
-same_held s old young now new alike =
-    same_list (held_in_order s now new) (held_in_order s old young) (both_up s now new) (both_up s old young) (λ p. held_as s now new p ∙ alike p ∙ sym (held_as s old young p))
+pub same_held : (s : Bool) (early late early_new late_new : SortedKeys) → ((p : HeldKey → Bool) → held_in s early_new late_new p ≡ held_in s early late p) → held_in_order s early_new late_new ≡ held_in_order s early late
+same_held s early late early_new late_new alike =
+    same_list (held_in_order s early_new late_new) (held_in_order s early late) (both_up s early_new late_new) (both_up s early late) (λ p. held_as s early_new late_new p ∙ alike p ∙ sym (held_as s early late p))
 
-pub held_then : (act : HistoryAct) (s : Bool) (old young now new : SortedKeys) → AreInOrder (held_by act [])
-    → ((p : HeldKey → Bool) → held_in s now new p ≡ held_in s old young (λ (key : HeldKey). stays_held act key && p key) + passing p (held_by act []))
-    → held_in_order s now new ≡ held_after act (held_in_order s old young)
-held_then act s old young now new fits alike =
-    same_list (held_in_order s now new) (held_after act (held_in_order s old young)) (both_up s now new) (after_up act (held_in_order s old young) fits (both_up s old young))
-    (λ p. held_as s now new p ∙ alike p
-    ∙ ap (λ (n : ℕ). n + passing p (held_by act [])) (sym (held_as s old young (λ (key : HeldKey). stays_held act key && p key)))
-    ∙ sym (passing_after p act (held_in_order s old young)))
+pub held_then : (act : HistoryAct) (s : Bool) (early late early_new late_new : SortedKeys) → AreInOrder (held_by act [])
+    → ((p : HeldKey → Bool) → held_in s early_new late_new p ≡ held_in s early late (λ (key : HeldKey). stays_held act key && p key) + passing p (held_by act []))
+    → held_in_order s early_new late_new ≡ held_after act (held_in_order s early late)
+held_then act s early late early_new late_new fits alike =
+    same_list (held_in_order s early_new late_new) (held_after act (held_in_order s early late)) (both_up s early_new late_new) (after_up act (held_in_order s early late) fits (both_up s early late))
+    (λ p. held_as s early_new late_new p ∙ alike p
+    ∙ ap (λ (n : ℕ). n + passing p (held_by act [])) (sym (held_as s early late (λ (key : HeldKey). stays_held act key && p key)))
+    ∙ sym (passing_after p act (held_in_order s early late)))
 
 pub none_up : (keys : List HeldKey) → length keys ≡ 0 → AreInOrder keys
 none_up [] none = tt

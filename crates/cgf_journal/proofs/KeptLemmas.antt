@@ -1,5 +1,5 @@
 -- Two lists of keys, of which an entry makes something.
-use Rattle.std.proofs.Common.{◌≡◌, ℕ, zero, suc, zero-add, ◌+◌, ◌<◌, ◌≤◌, ◌==◌, ◌&&◌, not, ◌^◌, Bool, true, false, cond, if◌then◌else◌, List, [], ◌∷◌, length, filter, refl, sym, ap, ◌∙◌, arith}
+use Rattle.std.proofs.Common.{◌≡◌, ℕ, ◌+◌, ◌<◌, ◌≤◌, ◌==◌, ◌&&◌, not, ◌^◌, Bool, true, false, cond, List, [], ◌∷◌, length, filter, refl, ap, ◌∙◌, arith}
 use Rattle.std.proofs.lemmas.Bool.{and_parts, eqb-true}
 use Rattle.gw_base.specs.declared.address.NodeId.{NodeId}
 use Rattle.gw_base.specs.declared.held.HeldKey.{HeldKey}
@@ -60,35 +60,35 @@ once_held n x packet held fewer gone once m y = by_name (is_named m y (record { 
         omega (arith, gone, same)
     by_name false is = omega (arith, once m y, fewer (λ (key : HeldKey). stays_held (Seal n x) key) (λ (key : HeldKey). is_named m y key))
 
-held_fewer : (firm : Bool) (old young : SortedKeys) (q p : HeldKey → Bool) → held_in firm old young (λ (key : HeldKey). q key && p key) ≤ held_in firm old young p
-held_fewer firm old young q p = omega (arith, passing_both_le q p (keys_of firm old), passing_both_le q p (keys_of firm young))
+held_fewer : (firm : Bool) (early late : SortedKeys) (q p : HeldKey → Bool) → held_in firm early late (λ (key : HeldKey). q key && p key) ≤ held_in firm early late p
+held_fewer firm early late q p = omega (arith, passing_both_le q p (keys_of firm early), passing_both_le q p (keys_of firm late))
 
-held_gone : (n : NodeId) (x : ℕ) (old young : SortedKeys) → held_in false old young (λ (key : HeldKey). stays_held (Seal n x) key && is_named n.0 x key) ≡ 0
-held_gone n x old young =
+held_gone : (n : NodeId) (x : ℕ) (early late : SortedKeys) → held_in false early late (λ (key : HeldKey). stays_held (Seal n x) key && is_named n.0 x key) ≡ 0
+held_gone n x early late =
     let p : HeldKey → Bool = λ key. stays_held (Seal n x) key && is_named n.0 x key in
-    omega (arith, passing_no p (live_keys old) (λ key. neither (is_named n.0 x key)), passing_no p (live_keys young) (λ key. neither (is_named n.0 x key)))
+    omega (arith, passing_no p (live_keys early) (λ key. neither (is_named n.0 x key)), passing_no p (live_keys late) (λ key. neither (is_named n.0 x key)))
 
 once_same : (held now : (HeldKey → Bool) → ℕ) → ((p : HeldKey → Bool) → now p ≡ held p) → IsOnceEach held → IsOnceEach now
 once_same held now same once n x = omega (arith, same (λ (key : HeldKey). is_named n x key), once n x)
 
-pub ready_let_go : (act : HistoryAct) (old young now new : SortedKeys) (spare : ℕ) → count_held act ≡ 0 → AreNoted act 0 old young now new → AreReady old young spare → AreReady now new spare
-ready_let_go act old young now new spare none noted ready = record {
+pub ready_let_go : (act : HistoryAct) (early late early_new late_new : SortedKeys) (spare : ℕ) → count_held act ≡ 0 → AreNoted act 0 early late early_new late_new → AreReady early late spare → AreReady early_new late_new spare
+ready_let_go act early late early_new late_new spare none noted ready = record {
   room = omega (arith, ready.room, noted.reserved);
   some = omega (arith, ready.some, noted.room);
-  firm_once = once_same (λ p. held_in true old young p) (λ p. held_in true now new p) noted.firm ready.firm_once;
+  firm_once = once_same (λ p. held_in true early late p) (λ p. held_in true early_new late_new p) noted.firm ready.firm_once;
   live_once =
-      once_same (held_behind act (λ p. held_in false old young p)) (λ p. held_in false now new p) noted.live
-      (once_let_go act (λ p. held_in false old young p) (held_fewer false old young) none ready.live_once);
+      once_same (held_behind act (λ p. held_in false early late p)) (λ p. held_in false early_new late_new p) noted.live
+      (once_let_go act (λ p. held_in false early late p) (held_fewer false early late) none ready.live_once);
 }
 
-pub ready_held : (n : NodeId) (x : ℕ) (packet : List ℕ) (old young now new : SortedKeys) (spare : ℕ) → AreNoted (Hold n x packet) 1 old young now new → AreReady old young spare → AreReady now new spare
-ready_held n x packet old young now new spare noted ready = record {
+pub ready_held : (n : NodeId) (x : ℕ) (packet : List ℕ) (early late early_new late_new : SortedKeys) (spare : ℕ) → AreNoted (Hold n x packet) 1 early late early_new late_new → AreReady early late spare → AreReady early_new late_new spare
+ready_held n x packet early late early_new late_new spare noted ready = record {
   room = omega (arith, ready.room, noted.reserved);
   some = omega (arith, ready.some, noted.room);
-  firm_once = once_same (λ p. held_in true old young p) (λ p. held_in true now new p) noted.firm ready.firm_once;
+  firm_once = once_same (λ p. held_in true early late p) (λ p. held_in true early_new late_new p) noted.firm ready.firm_once;
   live_once =
-      once_same (held_behind (Hold n x packet) (λ p. held_in false old young p)) (λ p. held_in false now new p) noted.live
-      (once_held n x packet (λ p. held_in false old young p) (held_fewer false old young) (held_gone n x old young) ready.live_once);
+      once_same (held_behind (Hold n x packet) (λ p. held_in false early late p)) (λ p. held_in false early_new late_new p) noted.live
+      (once_held n x packet (λ p. held_in false early late p) (held_fewer false early late) (held_gone n x early late) ready.live_once);
 }
 
 -- ---- what an entry makes of two lists
@@ -96,97 +96,97 @@ ready_held n x packet old young now new spare noted ready = record {
 same_length : (keys others : List HeldKey) → keys ≡ others → (p : HeldKey → Bool) → passing p keys ≡ passing p others
 same_length keys others is p = ap (λ (l : List HeldKey). passing p l) is
 
-pub let_go_both : (act : HistoryAct) (old young now new : SortedKeys) → count_held act ≡ 0
-    → live_keys now ≡ held_after act (live_keys old) → GrowsBy (count_held act) old now → live_keys new ≡ held_after act (live_keys young) → GrowsBy (count_held act) young new → AreNoted act 0 old young now new
-let_go_both act old young now new none one_live one two_live two = record {
+pub let_go_both : (act : HistoryAct) (early late early_new late_new : SortedKeys) → count_held act ≡ 0
+    → live_keys early_new ≡ held_after act (live_keys early) → GrowsBy (count_held act) early early_new → live_keys late_new ≡ held_after act (live_keys late) → GrowsBy (count_held act) late late_new → AreNoted act 0 early late early_new late_new
+let_go_both act early late early_new late_new none one_live one two_live two = record {
   live = λ p. omega (
     arith,
     none,
     passing_le p (held_by act []),
-    same_length (live_keys now) (held_after act (live_keys old)) one_live p,
-    passing_after p act (live_keys old),
-    same_length (live_keys new) (held_after act (live_keys young)) two_live p,
-    passing_after p act (live_keys young),
+    same_length (live_keys early_new) (held_after act (live_keys early)) one_live p,
+    passing_after p act (live_keys early),
+    same_length (live_keys late_new) (held_after act (live_keys late)) two_live p,
+    passing_after p act (live_keys late),
   );
-  firm = λ p. omega (arith, same_length (firm_keys now) (firm_keys old) one.firm p, same_length (firm_keys new) (firm_keys young) two.firm p);
+  firm = λ p. omega (arith, same_length (firm_keys early_new) (firm_keys early) one.firm p, same_length (firm_keys late_new) (firm_keys late) two.firm p);
   count = omega (arith, none, one.count, two.count);
   reserved = one.reserved;
   room = two.reserved;
 }
 
-pub hold_one : (n : NodeId) (x : ℕ) (packet : List ℕ) (old young now new : SortedKeys)
-    → live_keys now ≡ held_after (Seal n x) (live_keys old) → GrowsBy 0 old now → live_keys new ≡ held_after (Hold n x packet) (live_keys young) → GrowsBy 1 young new → AreNoted (Hold n x packet) 1 old young now new
-hold_one n x packet old young now new one_live one two_live two = record {
+pub hold_one : (n : NodeId) (x : ℕ) (packet : List ℕ) (early late early_new late_new : SortedKeys)
+    → live_keys early_new ≡ held_after (Seal n x) (live_keys early) → GrowsBy 0 early early_new → live_keys late_new ≡ held_after (Hold n x packet) (live_keys late) → GrowsBy 1 late late_new → AreNoted (Hold n x packet) 1 early late early_new late_new
+hold_one n x packet early late early_new late_new one_live one two_live two = record {
   live = λ p. omega (
     arith,
-    same_length (live_keys now) (held_after (Seal n x) (live_keys old)) one_live p,
-    passing_after p (Seal n x) (live_keys old),
-    same_length (live_keys new) (held_after (Hold n x packet) (live_keys young)) two_live p,
-    passing_after p (Hold n x packet) (live_keys young),
+    same_length (live_keys early_new) (held_after (Seal n x) (live_keys early)) one_live p,
+    passing_after p (Seal n x) (live_keys early),
+    same_length (live_keys late_new) (held_after (Hold n x packet) (live_keys late)) two_live p,
+    passing_after p (Hold n x packet) (live_keys late),
   );
-  firm = λ p. omega (arith, same_length (firm_keys now) (firm_keys old) one.firm p, same_length (firm_keys new) (firm_keys young) two.firm p);
+  firm = λ p. omega (arith, same_length (firm_keys early_new) (firm_keys early) one.firm p, same_length (firm_keys late_new) (firm_keys late) two.firm p);
   count = omega (arith, one.count, two.count);
   reserved = one.reserved;
   room = two.reserved;
 }
 
--- ---- room in the second list
+-- ---- room in the late list
 
 emptied_none : (s : Bool) (emptied : SortedKeys) → emptied.keys.items ≡ [] → (p : HeldKey → Bool) → passing p (keys_of s emptied) ≡ 0
 emptied_none s emptied none p = ap (λ (l : List KeptKey). passing p (counted_keys s emptied.round l)) none
 
-absorbed_held : (s : Bool) (old young new emptied : SortedKeys) → IsAbsorbed old young new emptied → (p : HeldKey → Bool) → held_in s new emptied p ≡ held_in s old young p
-absorbed_held s old young new emptied absorbed p = omega (arith, absorbed.held s p, emptied_none s emptied absorbed.none p)
+absorbed_held : (s : Bool) (early late early_new late_new : SortedKeys) → IsAbsorbed early late early_new late_new → (p : HeldKey → Bool) → held_in s early_new late_new p ≡ held_in s early late p
+absorbed_held s early late early_new late_new absorbed p = omega (arith, absorbed.held s p, emptied_none s late_new absorbed.none p)
 
-pub room_made : (old young new emptied : SortedKeys) → 1 ≤ young.reserved → IsAbsorbed old young new emptied → HaveRoom old young new emptied
-room_made old young new emptied some absorbed = record {
-  held = λ s p. absorbed_held s old young new emptied absorbed p;
+pub room_made : (early late early_new late_new : SortedKeys) → 1 ≤ late.reserved → IsAbsorbed early late early_new late_new → HaveRoom early late early_new late_new
+room_made early late early_new late_new some absorbed = record {
+  held = λ s p. absorbed_held s early late early_new late_new absorbed p;
   count = omega (arith, absorbed.count, ap (λ (l : List KeptKey). length l) absorbed.none);
   reserved = absorbed.reserved;
   room = omega (arith, some, absorbed.room, ap (λ (l : List KeptKey). length l) absorbed.none);
 }
 
-pub ready_absorbed : (old young new emptied : SortedKeys) (spare now : ℕ) → AreReady old young spare → IsAbsorbed old young new emptied → old.reserved ≤ now → AreReady new emptied now
-ready_absorbed old young new emptied spare now ready absorbed room = record {
+pub ready_absorbed : (early late early_new late_new : SortedKeys) (spare spare_new : ℕ) → AreReady early late spare → IsAbsorbed early late early_new late_new → early.reserved ≤ spare_new → AreReady early_new late_new spare_new
+ready_absorbed early late early_new late_new spare spare_new ready absorbed room = record {
   room = omega (arith, room, absorbed.reserved);
   some = omega (arith, ready.some, absorbed.room);
-  firm_once = once_same (λ p. held_in true old young p) (λ p. held_in true new emptied p) (λ p. absorbed_held true old young new emptied absorbed p) ready.firm_once;
-  live_once = once_same (λ p. held_in false old young p) (λ p. held_in false new emptied p) (λ p. absorbed_held false old young new emptied absorbed p) ready.live_once;
+  firm_once = once_same (λ p. held_in true early late p) (λ p. held_in true early_new late_new p) (λ p. absorbed_held true early late early_new late_new absorbed p) ready.firm_once;
+  live_once = once_same (λ p. held_in false early late p) (λ p. held_in false early_new late_new p) (λ p. absorbed_held false early late early_new late_new absorbed p) ready.live_once;
 }
 
-pub room_there : (old young : SortedKeys) → length young.keys.items < young.reserved → HaveRoom old young old young
-room_there old young room = record { held = λ s p. refl; count = omega arith; reserved = refl; room = room }
+pub room_there : (early late : SortedKeys) → length late.keys.items < late.reserved → HaveRoom early late early late
+room_there early late room = record { held = λ s p. refl; count = omega arith; reserved = refl; room = room }
 
 -- ---- what contracts see of two lists
 
 abbrev pub seen : SortedKeys → SortedKeys → Kept
-seen old young = record {
-  firm = held_in_order true old young;
-  live = held_in_order false old young;
-  count = length old.keys.items + length young.keys.items;
-  reserved = old.reserved;
+seen early late = record {
+  firm = held_in_order true early late;
+  live = held_in_order false early late;
+  count = length early.keys.items + length late.keys.items;
+  reserved = early.reserved;
 }
 
-chosen : (b : Bool) (old young : SortedKeys) (kept : Kept) → seen old young ≡ kept → held_in_order b old young ≡ held_of b kept
-chosen true old young kept is = ap (λ (k : Kept). k.firm) is
-chosen false old young kept is = ap (λ (k : Kept). k.live) is
+chosen : (b : Bool) (early late : SortedKeys) (kept : Kept) → seen early late ≡ kept → held_in_order b early late ≡ held_of b kept
+chosen true early late kept is = ap (λ (k : Kept). k.firm) is
+chosen false early late kept is = ap (λ (k : Kept). k.live) is
 
-pub counted_both : (b : Bool) (old young : SortedKeys) (kept : Kept) (n m : ℕ) → seen old young ≡ kept → n ≡ length (keys_of b old) → m ≡ length (keys_of b young) → n + m ≡ length (held_of b kept)
-counted_both b old young kept n m is one two =
-    omega (arith, one, two, length-in_order (keys_of b young) (keys_of b old), ap (λ (l : List HeldKey). length l) (chosen b old young kept is))
+pub counted_both : (b : Bool) (early late : SortedKeys) (kept : Kept) (n m : ℕ) → seen early late ≡ kept → n ≡ length (keys_of b early) → m ≡ length (keys_of b late) → n + m ≡ length (held_of b kept)
+counted_both b early late kept n m is one two =
+    omega (arith, one, two, length-in_order (keys_of b late) (keys_of b early), ap (λ (l : List HeldKey). length l) (chosen b early late kept is))
 
-pub staying_both : (p : HeldKey → Bool) (b : Bool) (old young : SortedKeys) (kept : Kept) (n m : ℕ) → seen old young ≡ kept
-    → n ≡ length (filter p (keys_of b old)) → m ≡ length (filter p (keys_of b young)) → n + m ≡ length (filter p (held_of b kept))
-staying_both p b old young kept n m is one two =
+pub staying_both : (p : HeldKey → Bool) (b : Bool) (early late : SortedKeys) (kept : Kept) (n m : ℕ) → seen early late ≡ kept
+    → n ≡ length (filter p (keys_of b early)) → m ≡ length (filter p (keys_of b late)) → n + m ≡ length (filter p (held_of b kept))
+staying_both p b early late kept n m is one two =
     omega (
       arith,
       one,
       two,
-      passing_of p (keys_of b old),
-      passing_of p (keys_of b young),
-      passing_of p (held_in_order b old young),
-      held_as b old young p,
-      ap (λ (l : List HeldKey). length (filter p l)) (chosen b old young kept is),
+      passing_of p (keys_of b early),
+      passing_of p (keys_of b late),
+      passing_of p (held_in_order b early late),
+      held_as b early late p,
+      ap (λ (l : List HeldKey). length (filter p l)) (chosen b early late kept is),
     )
 
 -- ---- one more entry, seen so
@@ -194,86 +194,86 @@ staying_both p b old young kept n m is one two =
 pub held_fits : (n : NodeId) (x : ℕ) (packet : List ℕ) → x < 2 ^ 64 → AreInOrder (held_by (Hold n x packet) [])
 held_fits n x packet small = (small, (tt, tt))
 
-noted_live : (act : HistoryAct) (more : ℕ) (old young now new : SortedKeys) → AreInOrder (held_by act []) → AreNoted act more old young now new → held_in_order false now new ≡ held_after act (held_in_order false old young)
-noted_live act more old young now new fits noted = held_then act false old young now new fits noted.live
+noted_live : (act : HistoryAct) (more : ℕ) (early late early_new late_new : SortedKeys) → AreInOrder (held_by act []) → AreNoted act more early late early_new late_new → held_in_order false early_new late_new ≡ held_after act (held_in_order false early late)
+noted_live act more early late early_new late_new fits noted = held_then act false early late early_new late_new fits noted.live
 
-noted_firm : (act : HistoryAct) (more : ℕ) (old young now new : SortedKeys) → AreNoted act more old young now new → held_in_order true now new ≡ held_in_order true old young
-noted_firm act more old young now new noted = same_held true old young now new noted.firm
+noted_firm : (act : HistoryAct) (more : ℕ) (early late early_new late_new : SortedKeys) → AreNoted act more early late early_new late_new → held_in_order true early_new late_new ≡ held_in_order true early late
+noted_firm act more early late early_new late_new noted = same_held true early late early_new late_new noted.firm
 
-module _ (act : HistoryAct) (old young now new : SortedKeys) (kept : Kept) (is : seen old young ≡ kept) where
-  pub seen_let_go : count_held act ≡ 0 → AreNoted act 0 old young now new → held_in_order false now new ≡ held_after act kept.live
-  seen_let_go none noted = noted_live act 0 old young now new (none_up (held_by act []) none) noted ∙ ap (λ (k : Kept). held_after act k.live) is
+module _ (act : HistoryAct) (early late early_new late_new : SortedKeys) (kept : Kept) (is : seen early late ≡ kept) where
+  pub seen_let_go : count_held act ≡ 0 → AreNoted act 0 early late early_new late_new → held_in_order false early_new late_new ≡ held_after act kept.live
+  seen_let_go none noted = noted_live act 0 early late early_new late_new (none_up (held_by act []) none) noted ∙ ap (λ (k : Kept). held_after act k.live) is
 
-  pub seen_same : (more : ℕ) → AreNoted act more old young now new → KeepsFirm more kept (seen now new)
+  pub seen_same : (more : ℕ) → AreNoted act more early late early_new late_new → KeepsFirm more kept (seen early_new late_new)
   seen_same more noted = record {
-    firm = noted_firm act more old young now new noted ∙ ap (λ (k : Kept). k.firm) is;
+    firm = noted_firm act more early late early_new late_new noted ∙ ap (λ (k : Kept). k.firm) is;
     count = omega (arith, noted.count, ap (λ (k : Kept). k.count) is);
     reserved = noted.reserved ∙ ap (λ (k : Kept). k.reserved) is;
   }
 
-module _ (n : NodeId) (x : ℕ) (packet : List ℕ) (small : x < 2 ^ 64) (old young mid other now new : SortedKeys) (kept : Kept) (is : seen old young ≡ kept) (room : HaveRoom old young mid other) (noted : AreNoted (Hold n x packet) 1 mid other now new) where
-  pub seen_held : held_in_order false now new ≡ held_after (Hold n x packet) kept.live
+module _ (n : NodeId) (x : ℕ) (packet : List ℕ) (small : x < 2 ^ 64) (early late early_mid late_mid early_new late_new : SortedKeys) (kept : Kept) (is : seen early late ≡ kept) (room : HaveRoom early late early_mid late_mid) (noted : AreNoted (Hold n x packet) 1 early_mid late_mid early_new late_new) where
+  pub seen_held : held_in_order false early_new late_new ≡ held_after (Hold n x packet) kept.live
   seen_held =
-      noted_live (Hold n x packet) 1 mid other now new (held_fits n x packet small) noted
-      ∙ ap (λ (l : List HeldKey). held_after (Hold n x packet) l) (same_held false old young mid other (room.held false))
+      noted_live (Hold n x packet) 1 early_mid late_mid early_new late_new (held_fits n x packet small) noted
+      ∙ ap (λ (l : List HeldKey). held_after (Hold n x packet) l) (same_held false early late early_mid late_mid (room.held false))
       ∙ ap (λ (k : Kept). held_after (Hold n x packet) k.live) is
 
-  pub seen_kept : KeepsFirm 1 kept (seen now new)
+  pub seen_kept : KeepsFirm 1 kept (seen early_new late_new)
   seen_kept = record {
-    firm = noted_firm (Hold n x packet) 1 mid other now new noted ∙ same_held true old young mid other (room.held true) ∙ ap (λ (k : Kept). k.firm) is;
+    firm = noted_firm (Hold n x packet) 1 early_mid late_mid early_new late_new noted ∙ same_held true early late early_mid late_mid (room.held true) ∙ ap (λ (k : Kept). k.firm) is;
     count = omega (arith, noted.count, room.count, ap (λ (k : Kept). k.count) is);
     reserved = noted.reserved ∙ room.reserved ∙ ap (λ (k : Kept). k.reserved) is;
   }
 
-pub refused : (old young : SortedKeys) (kept : Kept) → seen old young ≡ kept → old.reserved ≤ length old.keys.items + length young.keys.items → HasNoRoom 1 kept
-refused old young kept is full = record { one = refl; full = omega (arith, full, ap (λ (k : Kept). k.count) is, ap (λ (k : Kept). k.reserved) is) }
+pub refused : (early late : SortedKeys) (kept : Kept) → seen early late ≡ kept → early.reserved ≤ length early.keys.items + length late.keys.items → HasNoRoom 1 kept
+refused early late kept is full = record { one = refl; full = omega (arith, full, ap (λ (k : Kept). k.count) is, ap (λ (k : Kept). k.reserved) is) }
 
 -- ---- settled and reverted
 
-pub settled_seen : (old young now new : SortedKeys) (kept : Kept) → seen old young ≡ kept → firm_keys now ≡ live_keys old → live_keys now ≡ live_keys old → firm_keys new ≡ live_keys young → live_keys new ≡ live_keys young
-    → length now.keys.items ≡ length old.keys.items → length new.keys.items ≡ length young.keys.items → now.reserved ≡ old.reserved
-    → seen now new ≡ record { firm = kept.live; live = kept.live; count = kept.count; reserved = kept.reserved }
-settled_seen old young now new kept is a b c d e f g =
+pub settled_seen : (early late early_new late_new : SortedKeys) (kept : Kept) → seen early late ≡ kept → firm_keys early_new ≡ live_keys early → live_keys early_new ≡ live_keys early → firm_keys late_new ≡ live_keys late → live_keys late_new ≡ live_keys late
+    → length early_new.keys.items ≡ length early.keys.items → length late_new.keys.items ≡ length late.keys.items → early_new.reserved ≡ early.reserved
+    → seen early_new late_new ≡ record { firm = kept.live; live = kept.live; count = kept.count; reserved = kept.reserved }
+settled_seen early late early_new late_new kept is a b c d e f g =
     (λ i. record { firm = keys_in_order (c i) (a i); live = keys_in_order (d i) (b i); count = e i + f i; reserved = g i })
     ∙ ap (λ (k : Kept). let r : Kept = record { firm = k.live; live = k.live; count = k.count; reserved = k.reserved } in r) is
 
-pub settled_within : (old young : SortedKeys) (kept : Kept) → seen old young ≡ kept → length kept.live ≤ kept.count
-settled_within old young kept is =
+pub settled_within : (early late : SortedKeys) (kept : Kept) → seen early late ≡ kept → length kept.live ≤ kept.count
+settled_within early late kept is =
     omega (
       arith,
       ap (λ (k : Kept). length k.live) is,
       ap (λ (k : Kept). k.count) is,
-      length-in_order (live_keys young) (live_keys old),
-      counted_le false old.round old.keys.items,
-      counted_le false young.round young.keys.items,
+      length-in_order (live_keys late) (live_keys early),
+      counted_le false early.round early.keys.items,
+      counted_le false late.round late.keys.items,
     )
 
-pub settled_ready : (old young now new : SortedKeys) (spare : ℕ) → firm_keys now ≡ live_keys old → live_keys now ≡ live_keys old → firm_keys new ≡ live_keys young → live_keys new ≡ live_keys young
-    → now.reserved ≡ old.reserved → new.reserved ≡ young.reserved → AreReady old young spare → AreReady now new spare
-settled_ready old young now new spare a b c d g h ready = record {
+pub settled_ready : (early late early_new late_new : SortedKeys) (spare : ℕ) → firm_keys early_new ≡ live_keys early → live_keys early_new ≡ live_keys early → firm_keys late_new ≡ live_keys late → live_keys late_new ≡ live_keys late
+    → early_new.reserved ≡ early.reserved → late_new.reserved ≡ late.reserved → AreReady early late spare → AreReady early_new late_new spare
+settled_ready early late early_new late_new spare a b c d g h ready = record {
   room = omega (arith, ready.room, g);
   some = omega (arith, ready.some, h);
-  firm_once = once_same (λ p. held_in false old young p) (λ p. held_in true now new p) (λ p i. passing p (a i) + passing p (c i)) ready.live_once;
-  live_once = once_same (λ p. held_in false old young p) (λ p. held_in false now new p) (λ p i. passing p (b i) + passing p (d i)) ready.live_once;
+  firm_once = once_same (λ p. held_in false early late p) (λ p. held_in true early_new late_new p) (λ p i. passing p (a i) + passing p (c i)) ready.live_once;
+  live_once = once_same (λ p. held_in false early late p) (λ p. held_in false early_new late_new p) (λ p i. passing p (b i) + passing p (d i)) ready.live_once;
 }
 
-pub reverted_seen : (old young now new : SortedKeys) (kept : Kept) → seen old young ≡ kept → firm_keys now ≡ firm_keys old → live_keys now ≡ firm_keys old → firm_keys new ≡ firm_keys young → live_keys new ≡ firm_keys young
-    → length now.keys.items ≡ length (firm_keys old) → length new.keys.items ≡ length (firm_keys young) → now.reserved ≡ old.reserved
-    → seen now new ≡ record { firm = kept.firm; live = kept.firm; count = length kept.firm; reserved = kept.reserved }
-reverted_seen old young now new kept is a b c d e f g =
+pub reverted_seen : (early late early_new late_new : SortedKeys) (kept : Kept) → seen early late ≡ kept → firm_keys early_new ≡ firm_keys early → live_keys early_new ≡ firm_keys early → firm_keys late_new ≡ firm_keys late → live_keys late_new ≡ firm_keys late
+    → length early_new.keys.items ≡ length (firm_keys early) → length late_new.keys.items ≡ length (firm_keys late) → early_new.reserved ≡ early.reserved
+    → seen early_new late_new ≡ record { firm = kept.firm; live = kept.firm; count = length kept.firm; reserved = kept.reserved }
+reverted_seen early late early_new late_new kept is a b c d e f g =
     (λ i. record { firm = keys_in_order (c i) (a i); live = keys_in_order (d i) (b i); count = counted i; reserved = g i })
     ∙ ap (λ (k : Kept). let r : Kept = record { firm = k.firm; live = k.firm; count = length k.firm; reserved = k.reserved } in r) is
   where
-    counted : length now.keys.items + length new.keys.items ≡ length (held_in_order true old young)
-    counted = omega (arith, e, f, length-in_order (firm_keys young) (firm_keys old))
+    counted : length early_new.keys.items + length late_new.keys.items ≡ length (held_in_order true early late)
+    counted = omega (arith, e, f, length-in_order (firm_keys late) (firm_keys early))
 
-pub reverted_ready : (old young now new : SortedKeys) (spare : ℕ) → firm_keys now ≡ firm_keys old → live_keys now ≡ firm_keys old → firm_keys new ≡ firm_keys young → live_keys new ≡ firm_keys young
-    → now.reserved ≡ old.reserved → new.reserved ≡ young.reserved → AreReady old young spare → AreReady now new spare
-reverted_ready old young now new spare a b c d g h ready = record {
+pub reverted_ready : (early late early_new late_new : SortedKeys) (spare : ℕ) → firm_keys early_new ≡ firm_keys early → live_keys early_new ≡ firm_keys early → firm_keys late_new ≡ firm_keys late → live_keys late_new ≡ firm_keys late
+    → early_new.reserved ≡ early.reserved → late_new.reserved ≡ late.reserved → AreReady early late spare → AreReady early_new late_new spare
+reverted_ready early late early_new late_new spare a b c d g h ready = record {
   room = omega (arith, ready.room, g);
   some = omega (arith, ready.some, h);
-  firm_once = once_same (λ p. held_in true old young p) (λ p. held_in true now new p) (λ p i. passing p (a i) + passing p (c i)) ready.firm_once;
-  live_once = once_same (λ p. held_in true old young p) (λ p. held_in false now new p) (λ p i. passing p (b i) + passing p (d i)) ready.firm_once;
+  firm_once = once_same (λ p. held_in true early late p) (λ p. held_in true early_new late_new p) (λ p i. passing p (a i) + passing p (c i)) ready.firm_once;
+  live_once = once_same (λ p. held_in true early late p) (λ p. held_in false early_new late_new p) (λ p i. passing p (b i) + passing p (d i)) ready.firm_once;
 }
 
 pub keeps_so : (more other : ℕ) (a b : Kept) → KeepsFirm more a b → other ≡ more → KeepsFirm other a b

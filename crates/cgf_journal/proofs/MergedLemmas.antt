@@ -1,14 +1,12 @@
--- Two lists of kept keys ks one.
-use Rattle.std.proofs.Common.{inl, inr, ◌≡◌, ℕ, zero, suc, zero-add, ◌+◌, ◌<◌, ◌≤◌, ◌^◌, ◌==◌, ◌&&◌, ◌||◌, Bool, true, false, cond, if◌then◌else◌, nat_lt, List, [], ◌∷◌, length, drop, map, filter, refl, subst, sym, ap, ◌∙◌, arith}
+-- Two lists of kept keys as one.
+use Rattle.std.proofs.Common.{◌≡◌, ℕ, zero, suc, zero-add, ◌+◌, ◌<◌, ◌≤◌, ◌^◌, ◌==◌, ◌||◌, Bool, true, false, cond, if◌then◌else◌, nat_lt, List, [], ◌∷◌, ◌++◌, length, drop, take, map, filter, refl, subst, sym, ap, ◌∙◌, arith}
 use Rattle.std.specs.Prelude.{slice_index_or}
-use Rattle.std.proofs.lemmas.Bool.{eq-eqb, ltb-false, ltb-true}
+use Rattle.std.proofs.lemmas.Bool.{eq-eqb, lt-ltb, ltb-false, ltb-true, true≢false}
 use Rattle.std.proofs.lemmas.List.{drop_all, drop_more, length-map}
-use Rattle.gw_base.specs.declared.address.NodeId.{NodeId}
 use Rattle.gw_base.specs.declared.held.HeldKey.{HeldKey}
 use Rattle.cgf_journal.specs.Held.{IsOnceEach, passing}
 use Rattle.cgf_journal.specs.Keys.{AreAscending, AreUpTo, counted_keys, counts, is_named, key_of, rank}
 use Rattle.cgf_journal.specs.Merged.{joined_key, merged, merged_from, moved_key, moved_keys}
-use Rattle.cgf_journal.specs.Rank.{rank_of}
 use Rattle.cgf_journal.specs.declared.key.KeptKey.{KeptKey}
 use Rattle.cgf_journal.specs.Sorted.{keys_of}
 use Rattle.cgf_journal.specs.declared.sorted.SortedKeys.{SortedKeys}
@@ -21,12 +19,19 @@ merged-none : (r : ℕ) (keys : List KeptKey) → merged r keys [] ≡ keys
 merged-none r [] = refl
 merged-none r (kept ∷ keys) = refl
 
-pub takes_last : (from r i j : ℕ) (keys others : List KeptKey) (d : KeptKey) → i < length keys → length others ≤ j
-    → merged r (drop i keys) (moved_keys from r (drop j others)) ≡ slice_index_or keys i d ∷ merged r (drop (i + 1) keys) (moved_keys from r (drop j others))
-takes_last from r i j keys others d inside end =
-    let none : moved_keys from r (drop j others) ≡ [] = ap (λ (l : List KeptKey). moved_keys from r l) (drop_all j others end) in
-    (λ k. merged r (drop_more keys i d inside k) (none k))
-    ∙ ap (λ (l : List KeptKey). slice_index_or keys i d ∷ l) (sym (ap (λ (l : List KeptKey). merged r (drop (i + 1) keys) l) none ∙ merged-none r (drop (i + 1) keys)))
+-- behind the last of the others the rest of the keys stand as they are
+pub left_over : (from r i j : ℕ) (keys others : List KeptKey) → length others ≤ j → merged r (drop i keys) (moved_keys from r (drop j others)) ≡ drop i keys
+left_over from r i j keys others end =
+    ap (λ (l : List KeptKey). merged r (drop i keys) (moved_keys from r l)) (drop_all j others end) ∙ merged-none r (drop i keys)
+
+-- behind the last of the keys the next of the others comes
+pub takes_other : (from r i j : ℕ) (keys others : List KeptKey) (d : KeptKey) → length keys ≤ i → j < length others
+    → merged r (drop i keys) (moved_keys from r (drop j others)) ≡ moved_key from r (slice_index_or others j d) ∷ merged r (drop i keys) (moved_keys from r (drop (j + 1) others))
+takes_other from r i j keys others d end inside =
+    let none : drop i keys ≡ [] = drop_all i keys end in
+    ap (λ (l : List KeptKey). merged r l (moved_keys from r (drop j others))) none
+    ∙ ap (λ (l : List KeptKey). moved_keys from r l) (drop_more others j d inside)
+    ∙ ap (λ (l : List KeptKey). moved_key from r (slice_index_or others j d) ∷ merged r l (moved_keys from r (drop (j + 1) others))) (sym none)
 
 first_comes : (r : ℕ) (a b : KeptKey) (ks ls : List KeptKey) → nat_lt (rank a) (rank b) ≡ true → merged r (a ∷ ks) (b ∷ ls) ≡ a ∷ merged r ks (b ∷ ls)
 first_comes r a b ks ls lt = rw lt refl
@@ -36,6 +41,22 @@ second_comes r a b ks ls nt lt = rw nt (rw lt refl)
 
 both_come : (r : ℕ) (a b : KeptKey) (ks ls : List KeptKey) → nat_lt (rank a) (rank b) ≡ false → nat_lt (rank b) (rank a) ≡ false → merged r (a ∷ ks) (b ∷ ls) ≡ joined_key r a b ∷ merged r ks ls
 both_come r a b ks ls nt none = rw nt (rw none refl)
+
+-- keys before the first of the others stay where they are
+stays_before : (r at : ℕ) (keys : List KeptKey) (b : KeptKey) (ls : List KeptKey) → at ≤ length keys → ((j : ℕ) (d : KeptKey) → j < at → rank (slice_index_or keys j d) < rank b)
+    → take at keys ++ merged r (drop at keys) (b ∷ ls) ≡ merged r keys (b ∷ ls)
+stays_before r zero keys b ls inside before = refl
+stays_before r (suc at) [] b ls inside before = absurd (omega (arith, inside))
+stays_before r (suc at) (a ∷ keys) b ls inside before =
+    ap (λ (l : List KeptKey). a ∷ l) (stays_before r at keys b ls (omega (arith, inside)) (λ j d lt. before (suc j) d (omega (arith, lt))))
+    ∙ sym (first_comes r a b keys ls (lt-ltb (rank a) (rank b) (before 0 a (omega arith))))
+
+pub stays_in_place : (from r at : ℕ) (keys others : List KeptKey) (first : KeptKey) → (length others == 0) ≡ false → ((d : KeptKey) → first ≡ slice_index_or others 0 d) → at ≤ length keys
+    → ((j : ℕ) (d : KeptKey) → j < at → rank (slice_index_or keys j d) < rank first)
+    → take at keys ++ merged r (drop at keys) (moved_keys from r others) ≡ merged r keys (moved_keys from r others)
+stays_in_place from r at keys [] first some is inside before = absurd (true≢false some)
+stays_in_place from r at keys (other ∷ others) first some is inside before =
+    stays_before r at keys (moved_key from r other) (moved_keys from r others) inside (λ j d lt. omega (arith, before j d lt, ap (λ (k : KeptKey). rank k) (is first)))
 
 module _ (from r i j : ℕ) (keys others : List KeptKey) (d : KeptKey) (first : i < length keys) (second : j < length others) where
   abbrev kept_first : KeptKey
@@ -302,44 +323,44 @@ apart_if s r ks ls first second once i j d lt within same one two =
 
 -- ---- a list with the keys of another
 
-module _ (old young : SortedKeys) (items : List KeptKey) (is : items ≡ merged old.round old.keys.items (moved_keys young.round old.round young.keys.items)) where
+module _ (early late : SortedKeys) (items : List KeptKey) (is : items ≡ merged early.round early.keys.items (moved_keys late.round early.round late.keys.items)) where
   pub absorbed_up : AreAscending items
   absorbed_up =
       let P : List KeptKey → Type 0 = λ l. AreAscending l in
-      subst P (sym is) (ascending-merged old.round old.keys.items (moved_keys young.round old.round young.keys.items) old.ascending (ascending-moved young.round old.round young.keys.items young.ascending))
+      subst P (sym is) (ascending-merged early.round early.keys.items (moved_keys late.round early.round late.keys.items) early.ascending (ascending-moved late.round early.round late.keys.items late.ascending))
 
-  pub absorbed_up_to : AreUpTo old.round items
+  pub absorbed_up_to : AreUpTo early.round items
   absorbed_up_to =
-      let P : List KeptKey → Type 0 = λ l. AreUpTo old.round l in
-      subst P (sym is) (up_to-merged old.round old.keys.items (moved_keys young.round old.round young.keys.items) old.up_to (up_to-moved young.round old.round young.keys.items young.up_to))
+      let P : List KeptKey → Type 0 = λ l. AreUpTo early.round l in
+      subst P (sym is) (up_to-merged early.round early.keys.items (moved_keys late.round early.round late.keys.items) early.up_to (up_to-moved late.round early.round late.keys.items late.up_to))
 
-  pub absorbed_length : length items ≤ length old.keys.items + length young.keys.items
+  pub absorbed_length : length items ≤ length early.keys.items + length late.keys.items
   absorbed_length =
       omega (
         arith,
         ap (λ (l : List KeptKey). length l) is,
-        length-merged old.round old.keys.items (moved_keys young.round old.round young.keys.items),
-        length-map young.keys.items (λ (kept : KeptKey). moved_key young.round old.round kept),
+        length-merged early.round early.keys.items (moved_keys late.round early.round late.keys.items),
+        length-map late.keys.items (λ (kept : KeptKey). moved_key late.round early.round kept),
       )
 
-  pub absorbed_held : (s : Bool) → IsOnceEach (λ (p : HeldKey → Bool). passing p (keys_of s old) + passing p (keys_of s young)) → (p : HeldKey → Bool)
-      → passing p (counted_keys s old.round items) ≡ passing p (keys_of s old) + passing p (keys_of s young)
+  pub absorbed_held : (s : Bool) → IsOnceEach (λ (p : HeldKey → Bool). passing p (keys_of s early) + passing p (keys_of s late)) → (p : HeldKey → Bool)
+      → passing p (counted_keys s early.round items) ≡ passing p (keys_of s early) + passing p (keys_of s late)
   absorbed_held s once p =
-      let moved = moved_keys young.round old.round young.keys.items in
-      let same = counted-moved s young.round old.round young.keys.items in
-      let first = small_of old.round old.keys.items old.up_to in
-      let second = small_of old.round moved (up_to-moved young.round old.round young.keys.items young.up_to) in
-      ap (λ (l : List KeptKey). passing p (counted_keys s old.round l)) is
-      ∙ passing-merged p s old.round old.keys.items moved first second
-      (apart_if s old.round old.keys.items moved first second (λ n x. omega (arith, once n x, ap (λ (l : List HeldKey). passing (λ (key : HeldKey). is_named n x key) l) same)))
-      ∙ ap (λ (l : List HeldKey). passing p (keys_of s old) + passing p l) same
+      let moved = moved_keys late.round early.round late.keys.items in
+      let same = counted-moved s late.round early.round late.keys.items in
+      let first = small_of early.round early.keys.items early.up_to in
+      let second = small_of early.round moved (up_to-moved late.round early.round late.keys.items late.up_to) in
+      ap (λ (l : List KeptKey). passing p (counted_keys s early.round l)) is
+      ∙ passing-merged p s early.round early.keys.items moved first second
+      (apart_if s early.round early.keys.items moved first second (λ n x. omega (arith, once n x, ap (λ (l : List HeldKey). passing (λ (key : HeldKey). is_named n x key) l) same)))
+      ∙ ap (λ (l : List HeldKey). passing p (keys_of s early) + passing p l) same
 
-  pub absorbed_all : IsOnceEach (λ (p : HeldKey → Bool). passing p (keys_of true old) + passing p (keys_of true young)) → IsOnceEach (λ (p : HeldKey → Bool). passing p (keys_of false old) + passing p (keys_of false young))
-      → (s : Bool) (p : HeldKey → Bool) → passing p (counted_keys s old.round items) ≡ passing p (keys_of s old) + passing p (keys_of s young)
+  pub absorbed_all : IsOnceEach (λ (p : HeldKey → Bool). passing p (keys_of true early) + passing p (keys_of true late)) → IsOnceEach (λ (p : HeldKey → Bool). passing p (keys_of false early) + passing p (keys_of false late))
+      → (s : Bool) (p : HeldKey → Bool) → passing p (counted_keys s early.round items) ≡ passing p (keys_of s early) + passing p (keys_of s late)
   absorbed_all firm live true p = absorbed_held true firm p
   absorbed_all firm live false p = absorbed_held false live p
 
-  pub absorbed_counted : (s : Bool) → IsOnceEach (λ (p : HeldKey → Bool). passing p (keys_of s old) + passing p (keys_of s young)) → (n m : ℕ) → n ≡ length (keys_of s old) → m ≡ length (keys_of s young)
-      → n + m ≡ length (counted_keys s old.round items)
+  pub absorbed_counted : (s : Bool) → IsOnceEach (λ (p : HeldKey → Bool). passing p (keys_of s early) + passing p (keys_of s late)) → (n m : ℕ) → n ≡ length (keys_of s early) → m ≡ length (keys_of s late)
+      → n + m ≡ length (counted_keys s early.round items)
   absorbed_counted s once n m one two =
-      omega (arith, one, two, absorbed_held s once (λ key. true), passing_all (counted_keys s old.round items), passing_all (keys_of s old), passing_all (keys_of s young))
+      omega (arith, one, two, absorbed_held s once (λ key. true), passing_all (counted_keys s early.round items), passing_all (keys_of s early), passing_all (keys_of s late))

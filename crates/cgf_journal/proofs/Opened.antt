@@ -143,12 +143,13 @@ module _ {A : Type 0} {tells : Ghosts A} (area mid : A) (same_faults : tells.fau
 
   pub err_is : (Foreign : List ℕ → ℕ → Type 0) (r : Result (Trail A tells) (OpenFault × A)) → (Told tells → IfErr r (λ fault. (at : ℕ) → fault.0 ≡ NotOurs at → Foreign (tells.octets area) at))
       → IfErr r (λ fault. fault.0 ≡ Device → Rose (tells.faults mid) (tells.faults fault.1)) → IfErr r (λ fault. tells.faults mid ≤ tells.faults fault.1)
-      → (Told tells → IfErr r (λ fault. tells.octets fault.1 ≡ tells.octets area)) → IfErr r (λ fault. IsRefused tells area Foreign fault)
-  err_is Foreign (Ok trail) place cause faults unwritten = tt
-  err_is Foreign (Err fault) place cause faults unwritten = record {
+      → IfErr r (λ fault. fault.0 ≢ Device → tells.faults fault.1 ≡ tells.faults mid) → (Told tells → IfErr r (λ fault. tells.octets fault.1 ≡ tells.octets area)) → IfErr r (λ fault. IsRefused tells area Foreign fault)
+  err_is Foreign (Ok trail) place cause faults still unwritten = tt
+  err_is Foreign (Err fault) place cause faults still unwritten = record {
     place = place;
     cause = λ e. subst (λ n. Rose n (tells.faults fault.1)) same_faults (cause e);
     faults = subst (λ n. n ≤ tells.faults fault.1) same_faults faults;
+    still = λ other. still other ∙ same_faults;
     unwritten = λ told. inr (unwritten told);
   }
 
@@ -174,6 +175,7 @@ module _ {A : Type 0} {tells : Ghosts A} (header : List ℕ) (area : A) (fits : 
       by_result (Err fault) err = record {
         place = λ told at is. unfit_foreign fits each header (tells.octets area) at (err.place told at is);
         cause = err.cause;
+        still = err.still;
         faults = err.faults;
         unwritten = err.unwritten;
       }

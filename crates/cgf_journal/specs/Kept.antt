@@ -19,22 +19,22 @@ pub record Kept : Type 0 where
 
 -- the keys of two lists, held by the firm entries or else by all, in order
 abbrev pub held_in_order : Bool → SortedKeys → SortedKeys → List HeldKey
-held_in_order firm old young = keys_in_order (keys_of firm young) (keys_of firm old)
+held_in_order firm early late = keys_in_order (keys_of firm late) (keys_of firm early)
 
 -- how many keys of two lists, held by the firm entries or else by all, pass a test
 abbrev pub held_in : Bool → SortedKeys → SortedKeys → (HeldKey → Bool) → ℕ
-held_in firm old young p = passing p (keys_of firm old) + passing p (keys_of firm young)
+held_in firm early late p = passing p (keys_of firm early) + passing p (keys_of firm late)
 
 -- the keys of the firm entries, or else of all
 abbrev pub held_of : Bool → Kept → List HeldKey
 held_of firm kept = if firm then kept.firm else kept.live
 
 -- Both lists can be made one in a spare one: no key is held in both.
-pub record AreReady (old young : SortedKeys) (spare : ℕ) : Type 0 where
-  pub room : old.reserved ≤ spare
-  pub some : 1 ≤ young.reserved
-  pub firm_once : IsOnceEach (λ p. held_in true old young p)
-  pub live_once : IsOnceEach (λ p. held_in false old young p)
+pub record AreReady (early late : SortedKeys) (spare : ℕ) : Type 0 where
+  pub room : early.reserved ≤ spare
+  pub some : 1 ≤ late.reserved
+  pub firm_once : IsOnceEach (λ p. held_in true early late p)
+  pub live_once : IsOnceEach (λ p. held_in false early late p)
 
 -- What the firm entries hold stays, at most so many keys more are kept, and as many are reserved.
 pub record KeepsFirm (more : ℕ) (old new : Kept) : Type 0 where
@@ -53,16 +53,16 @@ pub record ArePaid (kept : Kept) (firm live : Sum) : Type 0 where
   pub live_paid : cheapest_hold * kept.count ≤ live.costs
 
 -- What an entry makes of two lists: at most so many keys more are kept.
-pub record AreNoted (act : HistoryAct) (more : ℕ) (old young now new : SortedKeys) : Type 0 where
-  pub live : (p : HeldKey → Bool) → held_in false now new p ≡ held_behind act (λ q. held_in false old young q) p
-  pub firm : (p : HeldKey → Bool) → held_in true now new p ≡ held_in true old young p
-  pub count : length now.keys.items + length new.keys.items ≤ length old.keys.items + length young.keys.items + more
-  pub reserved : now.reserved ≡ old.reserved
-  pub room : new.reserved ≡ young.reserved
+pub record AreNoted (act : HistoryAct) (more : ℕ) (early late early_new late_new : SortedKeys) : Type 0 where
+  pub live : (p : HeldKey → Bool) → held_in false early_new late_new p ≡ held_behind act (λ q. held_in false early late q) p
+  pub firm : (p : HeldKey → Bool) → held_in true early_new late_new p ≡ held_in true early late p
+  pub count : length early_new.keys.items + length late_new.keys.items ≤ length early.keys.items + length late.keys.items + more
+  pub reserved : early_new.reserved ≡ early.reserved
+  pub room : late_new.reserved ≡ late.reserved
 
--- There is memory for one more key in the second list, and the same keys are held.
-pub record HaveRoom (old young now new : SortedKeys) : Type 0 where
-  pub held : (firm : Bool) (p : HeldKey → Bool) → held_in firm now new p ≡ held_in firm old young p
-  pub count : length now.keys.items + length new.keys.items ≤ length old.keys.items + length young.keys.items
-  pub reserved : now.reserved ≡ old.reserved
-  pub room : length new.keys.items < new.reserved
+-- There is memory for one more key in the late list, and the same keys are held.
+pub record HaveRoom (early late early_new late_new : SortedKeys) : Type 0 where
+  pub held : (firm : Bool) (p : HeldKey → Bool) → held_in firm early_new late_new p ≡ held_in firm early late p
+  pub count : length early_new.keys.items + length late_new.keys.items ≤ length early.keys.items + length late.keys.items
+  pub reserved : early_new.reserved ≡ early.reserved
+  pub room : length late_new.keys.items < late_new.reserved

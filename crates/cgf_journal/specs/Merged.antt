@@ -1,5 +1,5 @@
 -- Two lists of kept keys as one.
-use Rattle.std.specs.Prelude.{ℕ, ◌||◌, Bool, true, false, if◌then◌else◌, nat_lt, List, [], ◌∷◌, map}
+use Rattle.std.specs.Prelude.{ℕ, ◌||◌, true, if◌then◌else◌, nat_lt, List, [], ◌∷◌, map}
 use Rattle.cgf_journal.specs.Keys.{counts, rank}
 use Rattle.cgf_journal.specs.declared.key.KeptKey.{KeptKey}
 

@@ -1,5 +1,5 @@
 -- What an opening finds, and what it leaves of the area.
-use Rattle.std.specs.Prelude.{◌≡◌, ◌⊎◌, ℕ, ◌≤◌, IsTrue, false, List, [], Result, Ok, Err, IfOk, IsErrAnd}
+use Rattle.std.specs.Prelude.{◌≡◌, ◌≢◌, ◌⊎◌, ℕ, ◌≤◌, IsTrue, false, List, [], Result, Ok, Err, IfOk, IsErrAnd}
 use Rattle.area_disk.specs.Disk.{Rose, counted}
 use Rattle.area_disk.specs.declared.area.Area.{Ghosts}
 use Rattle.gw_base.specs.declared.history.HistoryEntry.{HistoryEntry}
@@ -37,6 +37,7 @@ module _ {A : Type 0} (tells : Ghosts A) where
   pub record IsRefused (area : A) (Foreign : List ℕ → ℕ → Type 0) (fault : OpenFault × A) : Type 0 where
     pub place : Told tells → (at : ℕ) → fault.0 ≡ NotOurs at → Foreign (tells.octets area) at
     pub cause : fault.0 ≡ Device → Rose (tells.faults area) (tells.faults fault.1)
+    pub still : fault.0 ≢ Device → tells.faults fault.1 ≡ tells.faults area
     pub faults : tells.faults area ≤ tells.faults fault.1
     pub unwritten : Told tells → (fault.0 ≡ Device) ⊎ (tells.octets fault.1 ≡ tells.octets area)
 

@@ -40,9 +40,9 @@ pub record IsFull (more : ℕ) (old : SortedKeys) : Type 0 where
   pub full : old.reserved ≤ length old.keys.items
 
 -- The keys of another list were taken in, and that keeps none.
-pub record IsAbsorbed (old young new emptied : SortedKeys) : Type 0 where
-  pub held : (firm : Bool) (p : HeldKey → Bool) → passing p (keys_of firm new) ≡ passing p (keys_of firm old) + passing p (keys_of firm young)
-  pub count : length new.keys.items ≤ length old.keys.items + length young.keys.items
-  pub reserved : new.reserved ≡ old.reserved
-  pub none : emptied.keys.items ≡ []
-  pub room : emptied.reserved ≡ young.reserved
+pub record IsAbsorbed (early late early_new late_new : SortedKeys) : Type 0 where
+  pub held : (firm : Bool) (p : HeldKey → Bool) → passing p (keys_of firm early_new) ≡ passing p (keys_of firm early) + passing p (keys_of firm late)
+  pub count : length early_new.keys.items ≤ length early.keys.items + length late.keys.items
+  pub reserved : early_new.reserved ≡ early.reserved
+  pub none : late_new.keys.items ≡ []
+  pub room : late_new.reserved ≡ late.reserved

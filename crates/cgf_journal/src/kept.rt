@@ -122,7 +122,7 @@ impl KeptKeys {
     }
 }
 
-// Makes room for one more key in the second list, where it is full, by taking its keys into the first.
+// Makes room for one more key in the late list, where it is full, by taking its keys into the early one.
 fn make_room(
     early: &mut SortedKeys,
     late: &mut SortedKeys,
@@ -140,7 +140,7 @@ fn make_room(
     early.absorb(late, spare)
 }
 
-// Holds a number of a node in the second list.
+// Holds a number of a node in the late list.
 fn hold(
     early: &mut SortedKeys,
     late: &mut SortedKeys,

@@ -1,6 +1,6 @@
 // The batches that an opening finds, taken in one after the other.
 ghost use Rattle.std.specs.Prelude.{vec_len, ◌≡◌, ◌≢◌, ℕ, ◌+◌, ◌*◌, ◌<◌, ◌≤◌, min, IsTrue, false, List, [], ◌∷◌, ◌++◌, length, Ok, Err, OnOk, OnErr, IfOk};
-ghost use Rattle.gate_journal.specs.Format.{end_of, longest_batch};
+ghost use Rattle.gate_journal.specs.Format.{end_of, fewest_octets, longest_batch, most_octets};
 ghost use Rattle.area_disk.specs.Disk.{Rose};
 ghost use Rattle.gate_journal.specs.Journal.{IsSettled, area_of, batches, end, is_closed};
 ghost use Rattle.gate_journal.specs.Kept.{IsKept};
@@ -19,12 +19,10 @@ use crate::judging::judge_all;
 use crate::places::Places;
 use crate::tally::Tally;
 use area_disk::Area;
-use gate_journal::{Device, Journal, OpenFault, batch_before, read_before};
+use entry_codec::capacity;
+use gate_journal::{Device, Journal, LONGEST_BATCH, OpenFault, batch_before, read_before};
 use gw_base::NoMemory;
 use std::alloc::Global;
-
-/// The most octets of a batch.
-pub(crate) const LONGEST: usize = 1_048_576;
 
 /// What an entry costs at least.
 const CHEAPEST: usize = 30;
@@ -34,10 +32,10 @@ const CHEAPEST_HOLD: usize = 42;
 
 /// A buffer for the content of each batch of an area of this size.
 pub(crate) fn content_for(alloc: Global, size: u64) -> Result<Vec<u8>, NoMemory>
-    requires { size ≤ 268435456 }
+    requires { size ≤ most_octets }
     ensures { IfOk result (λ content. vec_len content ≡ min longest_batch size) }
 {
-    let longest = size.min(LONGEST as u64);
+    let longest = size.min(LONGEST_BATCH as u64);
     Ok(vec![in alloc; 0; longest as usize]?)
 }
 
@@ -54,11 +52,11 @@ impl Listing {
     /// A listing that has taken in nothing, for batches of at most so many octets of an area of this size. Memory is
     /// reserved for the places of all entries and keys that the area has room for.
     pub(crate) fn new(alloc: Global, longest: usize, size: u64) -> Result<Listing, NoMemory>
-        requires { size ≤ 268435456 }
+        requires { size ≤ most_octets }
         ensures numbers { IfOk result (λ listing. longest ≤ 8 * vec_len listing.numbers) }
         ensures taken { IfOk result (λ listing. AreTakenIn size 32 [] listing.places listing.tally) }
     {
-        let capacity = size.saturating_sub(33) as usize;
+        let capacity = capacity(size) as usize;
         Ok(Listing {
             numbers: vec![in alloc; 0; longest / 8 + 1]?,
             places: Places::reserve(alloc, capacity / CHEAPEST)?,
@@ -68,8 +66,8 @@ impl Listing {
 
     // Takes in the batch behind this gate, which has this content, and answers the next gate.
     fn take(&mut self, gate: u64, content: &[u8], size: u64) -> Result<u64, OpenFault>
-        requires long { 100 ≤ size }
-        requires short { size ≤ 268435456 }
+        requires long { fewest_octets ≤ size }
+        requires short { size ≤ most_octets }
         requires inside { gate + 5 + length content.now ≤ size }
         requires numbers { length content.now ≤ 8 * vec_len self.old.numbers }
         requires costs { self.old.tally.live.costs ≤ capacity_of size }
@@ -94,7 +92,7 @@ impl Listing {
             &mut self.tally,
         ) {
             Ok(true) => {
-                if size - 33 < self.tally.costs() {
+                if capacity(size) < self.tally.costs() {
                     return Err(OpenFault::NotOurs { at: gate });
                 }
                 Ok(at + content.len() as u64)
@@ -111,8 +109,8 @@ impl Listing {
         content: &[u8],
         size: u64,
     ) -> Result<u64, OpenFault>
-        requires long { 100 ≤ size }
-        requires short { size ≤ 268435456 }
+        requires long { fewest_octets ≤ size }
+        requires short { size ≤ most_octets }
         requires inside { gate + 5 + length content.now ≤ size }
         requires numbers { length content.now ≤ 8 * vec_len self.old.numbers }
         requires costs { self.old.tally.live.costs ≤ capacity_of size }
@@ -151,8 +149,8 @@ fn take_next<A: Area, J: Judge>(
     requires ready { is_closed journal.old ≡ false }
     requires ends { Told A.Area → end journal.old ≡ end_of (batches journal.old) }
     requires size { size ≡ A.size (area_of journal.old) }
-    requires long { 100 ≤ size }
-    requires short { size ≤ 268435456 }
+    requires long { fewest_octets ≤ size }
+    requires short { size ≤ most_octets }
     requires end { end journal.old < size }
     requires inside { gate < end journal.old }
     requires taken { IsTakenUpTo (AreListed A.Area (batches journal.old)) (IsJudged J.Judge size judge.old)
@@ -169,7 +167,8 @@ fn take_next<A: Area, J: Judge>(
     ensures kept { IsKept journal.old journal.new }
     ensures device { result ≡ Err OpenFault.Device →
         Rose (A.faults (area_of journal.old)) (A.faults (area_of journal.new)) }
-    ensures faults { OnOk result (A.faults (area_of journal.new) ≡ A.faults (area_of journal.old)) }
+    ensures still { result ≢ Err OpenFault.Device →
+        A.faults (area_of journal.new) ≡ A.faults (area_of journal.old) }
     ensures faults_err { A.faults (area_of journal.old) ≤ A.faults (area_of journal.new) }
     ensures runs { IsTrue A.tells_fate → ReadsRun (A.fate (area_of journal.old)).schedule →
         result ≢ Err OpenFault.Device }
@@ -200,8 +199,8 @@ pub(crate) fn list<A: Area, J: Judge>(
     requires ready { is_closed journal.old ≡ false }
     requires settled { IsSettled journal.old }
     requires size { size ≡ A.size (area_of journal.old) }
-    requires long { 100 ≤ size }
-    requires short { size ≤ 268435456 }
+    requires long { fewest_octets ≤ size }
+    requires short { size ≤ most_octets }
     requires taken { AreTakenIn size 32 [] listing.old.places listing.old.tally }
     requires follows { J.follows judge.old [] }
     requires buffers { AreBuffers size (length content.old) (vec_len listing.old.numbers) }
@@ -214,7 +213,8 @@ pub(crate) fn list<A: Area, J: Judge>(
     ensures kept { IsKept journal.old journal.new }
     ensures device { result ≡ Err OpenFault.Device →
         Rose (A.faults (area_of journal.old)) (A.faults (area_of journal.new)) }
-    ensures faults { OnOk result (A.faults (area_of journal.new) ≡ A.faults (area_of journal.old)) }
+    ensures still { result ≢ Err OpenFault.Device →
+        A.faults (area_of journal.new) ≡ A.faults (area_of journal.old) }
     ensures faults_err { A.faults (area_of journal.old) ≤ A.faults (area_of journal.new) }
     ensures runs { IsTrue A.tells_fate → ReadsRun (A.fate (area_of journal.old)).schedule →
         result ≢ Err OpenFault.Device }
@@ -238,8 +238,8 @@ fn take_before<A: Area, J: Judge>(
     judge: &mut J,
 ) -> Result<u64, OpenFault>
     requires size { size ≡ A.size area.old }
-    requires long { 100 ≤ size }
-    requires short { size ≤ 268435456 }
+    requires long { fewest_octets ≤ size }
+    requires short { size ≤ most_octets }
     requires inside { gate < end }
     requires taken { IsTakenUpTo (AreListedBefore A.tells_octets (A.octets area.old) end)
         (IsJudged J.Judge size judge.old) size gate listing.old.places listing.old.tally }
@@ -255,7 +255,7 @@ fn take_before<A: Area, J: Judge>(
     ensures kept { Kept A.Area area.old area.new }
     ensures device { result ≡ Err OpenFault.Device → Rose (A.faults area.old) (A.faults area.new) }
     ensures faults { A.faults area.old ≤ A.faults area.new }
-    ensures faults_ok { OnOk result (A.faults area.new ≡ A.faults area.old) }
+    ensures still { result ≢ Err OpenFault.Device → A.faults area.new ≡ A.faults area.old }
     ensures runs { IsTrue A.tells_fate → ReadsRun (A.fate area.old).schedule → result ≢ Err OpenFault.Device }
 {
     let Ok(found) = batch_before(area, gate, end) else {
@@ -283,8 +283,8 @@ pub(crate) fn list_before<A: Area, J: Judge>(
     judge: &mut J,
 ) -> Result<(), OpenFault>
     requires size { size ≡ A.size area.old }
-    requires long { 100 ≤ size }
-    requires short { size ≤ 268435456 }
+    requires long { fewest_octets ≤ size }
+    requires short { size ≤ most_octets }
     requires taken { AreTakenIn size 32 [] listing.old.places listing.old.tally }
     requires follows { J.follows judge.old [] }
     requires buffers { AreBuffers size (length content.old) (vec_len listing.old.numbers) }
@@ -297,6 +297,7 @@ pub(crate) fn list_before<A: Area, J: Judge>(
     ensures kept { Kept A.Area area.old area.new }
     ensures device { result ≡ Err OpenFault.Device → Rose (A.faults area.old) (A.faults area.new) }
     ensures faults { A.faults area.old ≤ A.faults area.new }
+    ensures still { result ≢ Err OpenFault.Device → A.faults area.new ≡ A.faults area.old }
     ensures runs { IsTrue A.tells_fate → ReadsRun (A.fate area.old).schedule → result ≢ Err OpenFault.Device }
 {
     let mut gate = 32;

@@ -15,8 +15,7 @@ fn next_of(
     to: u64,
 ) -> (KeptKey, (usize, usize))
     requires first { places.0 ≤ length keys.now }
-    requires second { places.1 ≤ length others.now }
-    requires some { places.0 + places.1 < length keys.now + length others.now }
+    requires second { places.1 < length others.now }
     ensures next { merged to (drop places.0 keys.now) (moved_keys from to (drop places.1 others.now)) ≡
         result.0 ∷ merged to (drop result.1.0 keys.now) (moved_keys from to (drop result.1.1 others.now)) }
     ensures first { result.1.0 ≤ length keys.now }
@@ -24,14 +23,11 @@ fn next_of(
     ensures past { places.0 + places.1 < result.1.0 + result.1.1 }
 {
     let (i, j) = places;
+    let other = others[j].moved(from, to);
     if i == keys.len() {
-        return (others[j].moved(from, to), (i, j + 1));
-    }
-    if j == others.len() {
-        return (keys[i], (i + 1, j));
+        return (other, (i, j + 1));
     }
     let kept = keys[i];
-    let other = others[j].moved(from, to);
     if kept.is_before(other.node, other.number) {
         return (kept, (i + 1, j));
     }
@@ -57,10 +53,12 @@ pub(crate) fn merge(
 {
     into.clear();
     let mut places = (0, 0);
-    while places.0 + places.1 < keys.len() + others.len() {
+    while places.1 < others.len() {
         let (kept, next) = next_of(keys, others, places, from, to);
         into.push(kept)?;
         places = next;
     }
+    let (_, rest) = keys.split_at(places.0);
+    into.extend_from_slice(rest)?;
     Ok(())
 }

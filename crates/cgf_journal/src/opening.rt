@@ -2,7 +2,7 @@
 ghost use Rattle.std.specs.Prelude.{vec_len, ◌≡◌, ◌≢◌, ◌⊎◌, ◌≤◌, ℕ, IsTrue, false, [], List, length, IfOk, IfErr, OnErr};
 ghost use Rattle.area_disk.specs.Disk.{Rose};
 ghost use Rattle.gw_base.specs.declared.history.HistoryEntry.{HistoryEntry};
-ghost use Rattle.gate_journal.specs.Format.{Starts, header};
+ghost use Rattle.gate_journal.specs.Format.{Starts, fewest_octets, header, longest_batch, most_octets};
 ghost use Rattle.gate_journal.specs.Journal as gates;
 ghost use Rattle.gate_journal.specs.Moments.{Kept, Told};
 ghost use Rattle.gate_journal.specs.Opening.{is_device};
@@ -18,10 +18,10 @@ ghost use Rattle.cgf_journal.specs.Trail.{area_of, firm_entries};
 
 use crate::Trail;
 use crate::judge::{Judge, TakesAll};
-use crate::listing::{LONGEST, Listing, content_for, list, list_before};
+use crate::listing::{Listing, content_for, list, list_before};
 use area_disk::Area;
 use entry_codec::laws::entries_are_read_back;
-use gate_journal::{Journal, OpenFault};
+use gate_journal::{Journal, LONGEST_BATCH, OpenFault};
 use gw_base::Buffer;
 use std::alloc::Global;
 
@@ -36,8 +36,8 @@ fn fault_before<A: Area, J: Judge>(
     judge: &mut J,
 ) -> OpenFault
     requires size { size ≡ A.size area.old }
-    requires long { 100 ≤ size }
-    requires short { size ≤ 268435456 }
+    requires long { fewest_octets ≤ size }
+    requires short { size ≤ most_octets }
     requires taken { AreTakenIn size 32 [] listing.places listing.tally }
     requires follows { J.follows judge.old [] }
     requires buffers { AreBuffers size (length content.old) (vec_len listing.numbers) }
@@ -49,6 +49,7 @@ fn fault_before<A: Area, J: Judge>(
     ensures kept { Kept A.Area area.old area.new }
     ensures device { result ≡ OpenFault.Device → Rose (A.faults area.old) (A.faults area.new) }
     ensures faults { A.faults area.old ≤ A.faults area.new }
+    ensures still { result ≢ OpenFault.Device → A.faults area.new ≡ A.faults area.old }
     ensures runs { IsTrue A.tells_fate → ReadsRun (A.fate area.old).schedule → result ≢ OpenFault.Device }
 {
     match list_before(area, at, size, content, &mut listing, judge) {
@@ -60,8 +61,8 @@ fn fault_before<A: Area, J: Judge>(
 impl<A: Area> Trail<A> {
     /// Opens the history of an area, for a gateway's address and generation 0, as `open_at` does.
     pub fn open(alloc: Global, area: A, address: u32) -> Result<Trail<A>, (OpenFault, A)>
-        requires long { 100 ≤ A.size area }
-        requires short { A.size area ≤ 268435456 }
+        requires long { fewest_octets ≤ A.size area }
+        requires short { A.size area ≤ most_octets }
 
         ensures ok { let h = header (A.size area) address 0 in IfOk result (IsOpened A.Area h area (StandsFor h)) }
         ensures err { let h = header (A.size area) address 0 in IfErr result (IsRefused A.Area area (IsForeignTo h)) }
@@ -84,19 +85,20 @@ impl<A: Area> Trail<A> {
     ///
     /// It refuses an area that is no journal of this gateway's, or whose batches aren't entries within the capacity,
     /// with `NotOurs` and the place that shows it: the first octet of the header that differs, or the first open gate
-    /// whose batch isn't whole. It hands the area back where it fails; after `NotOurs` and `NoMemory` nothing was written.
+    /// whose batch isn't whole. It hands the area back where it fails; after `NotOurs` and `NoMemory` nothing was
+    /// written.
     ///
     /// It takes memory for the entries that will wait (1,048,576 octets), for one batch and its numbers, which are no
     /// longer than the area needs, and for the places and keys of as many entries as the area has octets for: 16 octets
-    /// for each 30 and 24 for each 42. So no later call takes any.
+    /// for each 30 and twice 24 for each 42, and 24,576 for the keys that come last. So no later call takes any.
     pub fn open_at(
         alloc: Global,
         area: A,
         address: u32,
         generation: u32,
     ) -> Result<Trail<A>, (OpenFault, A)>
-        requires long { 100 ≤ A.size area }
-        requires short { A.size area ≤ 268435456 }
+        requires long { fewest_octets ≤ A.size area }
+        requires short { A.size area ≤ most_octets }
 
         // The area stands for the history found, or it was made anew.
         ensures ok { let h = header (A.size area) address generation in
@@ -130,8 +132,8 @@ impl<A: Area> Trail<A> {
         generation: u32,
         judge: &mut J,
     ) -> Result<Trail<A>, (OpenFault, A)>
-        requires long { 100 ≤ A.size area }
-        requires short { A.size area ≤ 268435456 }
+        requires long { fewest_octets ≤ A.size area }
+        requires short { A.size area ≤ most_octets }
         requires follows { J.follows judge.old [] }
 
         // The area stands for the history found, which is fit, or it was made anew.
@@ -160,7 +162,7 @@ impl<A: Area> Trail<A> {
         let Ok(listing) = Listing::new(alloc, content.len(), size) else {
             return Err((OpenFault::NoMemory, area));
         };
-        let Ok(waiting) = Buffer::with(alloc, LONGEST) else {
+        let Ok(waiting) = Buffer::with(alloc, LONGEST_BATCH) else {
             return Err((OpenFault::NoMemory, area));
         };
         entries_are_read_back();
@@ -188,9 +190,9 @@ impl<A: Area> Trail<A> {
         requires founded { gates.front_of journal ≡ Founded }
         requires settled { gates.IsSettled journal }
         requires size { size ≡ A.size (gates.area_of journal) }
-        requires long { 100 ≤ size }
-        requires short { size ≤ 268435456 }
-        requires waiting { waiting ≡ record { octets = []; capacity = 1048576 } }
+        requires long { fewest_octets ≤ size }
+        requires short { size ≤ most_octets }
+        requires waiting { waiting ≡ record { octets = []; capacity = longest_batch } }
         requires taken { AreTakenIn size 32 [] listing.places listing.tally }
         requires follows { J.follows judge.old [] }
         requires buffers { AreBuffers size (length content.old) (vec_len listing.numbers) }
@@ -208,6 +210,8 @@ impl<A: Area> Trail<A> {
             Rose (A.faults (gates.area_of journal)) (A.faults fault.1)) }
         ensures faults { IfOk result (λ trail. A.faults (area_of trail) ≡ A.faults (gates.area_of journal)) }
         ensures faults_err { IfErr result (λ fault. A.faults (gates.area_of journal) ≤ A.faults fault.1) }
+        ensures still { IfErr result (λ fault. fault.0 ≢ OpenFault.Device →
+            A.faults fault.1 ≡ A.faults (gates.area_of journal)) }
         ensures runs { IsTrue A.tells_fate → ReadsRun (A.fate (gates.area_of journal)).schedule →
             is_device result ≡ false }
     {
@@ -229,7 +233,7 @@ impl<A: Area> Trail<A> {
         requires founded { gates.front_of journal ≡ Founded }
         requires settled { gates.IsSettled journal }
         requires size { size ≡ A.size (gates.area_of journal) }
-        requires waiting { waiting ≡ record { octets = []; capacity = 1048576 } }
+        requires waiting { waiting ≡ record { octets = []; capacity = longest_batch } }
         requires taken { IsTakenUpTo (AreListed A.Area (gates.batches journal)) (IsJudged J.Judge size judge.now)
             size (gates.end journal) listing.places listing.tally }
 

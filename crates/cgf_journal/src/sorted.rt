@@ -1,9 +1,10 @@
 // The keys that a tally keeps, in order.
-ghost use Rattle.std.specs.Prelude.{◌≡◌, ◌&&◌, count_by, ◌+◌, ◌<◌, ◌≤◌, ◌^◌, [], true, false, filter, length, vec_capacity, vec_len, nat_le, IfSome, IfOk, IfErr, OnOk, OnErr, slice_index_or, slice_set, map};
+ghost use Rattle.std.specs.Prelude.{◌≡◌, ◌&&◌, ℕ, count_by, ◌+◌, ◌<◌, ◌≤◌, ◌^◌, [], ◌++◌, true, false, drop, filter, length, take, vec_capacity, vec_len, nat_le, IfSome, IfOk, IfErr, OnOk, OnErr, slice_index_or, slice_set, map};
 ghost use Rattle.gw_base.specs.Entry.{act_view};
 ghost use Rattle.gw_base.specs.View.{stays_held};
 ghost use Rattle.gw_base.specs.declared.history.HistoryAct.TheVariants.{Path, Release, Seal};
 ghost use Rattle.cgf_journal.specs.Keys.{AreAscending, AreUpTo, IsAbsent, IsFirstOf, IsFound, counted_keys, counts, key_of, settled_key};
+ghost use Rattle.cgf_journal.specs.Merged.{merged, moved_keys};
 ghost use Rattle.cgf_journal.specs.declared.key.KeptKey.{KeptKey};
 ghost use Rattle.cgf_journal.specs.Tally.{held_after, held_with};
 
@@ -43,6 +44,39 @@ fn end_of(keys: &[KeptKey], node: NodeId) -> usize
     ensures { IsFirstOf keys.now result (node.0 + 1) }
 {
     keys.partition_point(|kept| kept.is_up_to(node))
+}
+
+/// How many keys stand before the first of another list. Both lists are in order; where they are made one, these keys
+/// stay where they are.
+fn count_before(keys: &[KeptKey], others: &[KeptKey]) -> usize
+    requires { AreAscending keys.now }
+    ensures inside { result ≤ length keys.now }
+    ensures stay { (from to : ℕ) →
+        take result keys.now ++ merged to (drop result keys.now) (moved_keys from to others.now) ≡
+        merged to keys.now (moved_keys from to others.now) }
+{
+    if others.is_empty() {
+        return 0;
+    }
+    let first = kept_at(others, 0);
+    keys.partition_point(|kept| kept.is_before(first.node, first.number))
+}
+
+/// Puts other keys, for which there is memory, in the place of those from here on.
+fn replace_from(keys: &mut Vec<KeptKey>, at: usize, others: &mut Vec<KeptKey>)
+    requires { at + length others.old.items ≤ vec_capacity keys.old }
+    ensures items { keys.new.items ≡ take at keys.old.items ++ others.old.items }
+    ensures capacity { (n : ℕ) → n ≤ vec_capacity keys.old → n ≤ vec_capacity others.old →
+        (n ≤ vec_capacity keys.new) × (n ≤ vec_capacity others.new) }
+{
+    if at == 0 {
+        mem::swap(keys, others);
+        return;
+    }
+    keys.truncate(at);
+    let Ok(()) = keys.extend_from_slice(others) else {
+        unreachable!();
+    };
 }
 
 fn count_staying(keys: &[KeptKey], firm: bool, round: u64, act: &Act<'_>) -> u64
@@ -266,27 +300,31 @@ impl SortedKeys {
         self.reserved <= self.keys.len()
     }
 
-    /// Takes in the keys of another list, which keeps none afterwards. Both are made one in `spare`, which takes
-    /// memory only where there is none for all of them; without it nothing changes.
+    /// Takes in the keys of another list, which keeps none afterwards. The keys before the first of those stay where they
+    /// are, and the others are made one with those in `spare`. Where fewer are reserved than all of them, nothing changes.
     pub(crate) fn absorb(
         &mut self,
-        young: &mut SortedKeys,
+        late: &mut SortedKeys,
         spare: &mut Vec<KeptKey>,
     ) -> Result<(), NoMemory>
         requires spare { self.old.reserved ≤ vec_capacity spare.old }
-        requires firm { IsOnceEach (λ p. passing p (firm_keys self.old) + passing p (firm_keys young.old)) }
-        requires live { IsOnceEach (λ p. passing p (live_keys self.old) + passing p (live_keys young.old)) }
-        ensures ok { OnOk result (IsAbsorbed self.old young.old self.new young.new) }
-        ensures err { OnErr result ((self.new ≡ self.old) × (young.new ≡ young.old)) }
-        ensures full { OnErr result (vec_capacity spare.old <
-            length self.old.keys.items + length young.old.keys.items) }
+        requires firm { IsOnceEach (λ p. passing p (firm_keys self.old) + passing p (firm_keys late.old)) }
+        requires live { IsOnceEach (λ p. passing p (live_keys self.old) + passing p (live_keys late.old)) }
+        ensures ok { OnOk result (IsAbsorbed self.old late.old self.new late.new) }
+        ensures err { OnErr result ((self.new ≡ self.old) × (late.new ≡ late.old)) }
+        ensures full { OnErr result (self.old.reserved < length self.old.keys.items + length late.old.keys.items) }
         ensures spare { self.old.reserved ≤ vec_capacity spare.new }
     {
-        merge(&self.keys, &young.keys, young.round, self.round, spare)?;
-        mem::swap(&mut self.keys, spare);
-        self.firm += young.firm;
-        self.live += young.live;
-        young.clear();
+        if self.reserved.saturating_sub(self.keys.len()) < late.keys.len() {
+            return Err(NoMemory);
+        }
+        let at = count_before(&self.keys, &late.keys);
+        let (_, moving) = self.keys.split_at(at);
+        merge(moving, &late.keys, late.round, self.round, spare)?;
+        replace_from(&mut self.keys, at, spare);
+        self.firm += late.firm;
+        self.live += late.live;
+        late.clear();
         Ok(())
     }
 

@@ -7,19 +7,10 @@ ghost use Rattle.cgf_journal.specs.Tally.{free_beside, has_room_behind, tally_be
 
 use crate::kept::KeptKeys;
 use crate::sum::{Sum, count_added};
-use entry_codec::cost;
+use entry_codec::{capacity, cost, promised};
 use gw_base::{Entry, NoMemory};
 use std::alloc::Global;
 use std::marker::Model;
-
-/// What is promised for a held key: a Release or a Cancel of it, and a Close.
-const PROMISED_FOR_A_KEY: u128 = 76;
-
-/// What is promised where a Close is due.
-const PROMISED_FOR_A_CLOSE: u128 = 30;
-
-/// The octets of an area that no batch has: the header's, and the gate after the last batch.
-const TAKEN: u64 = 33;
 
 /// What the entries of a trail cost of its journal and what they promise: the firm ones, and all of
 /// them.
@@ -120,7 +111,8 @@ impl Tally {
         let sum = Sum::of(behind_firm, self.firm, self.live);
         let held = self.keys.count(behind_firm);
         let taken = u128::from(sum.costs) + promised(held, 0, sum.is_close_due);
-        capacity(size).saturating_sub(taken) as u64
+        let whole = u128::from(capacity(size));
+        whole.saturating_sub(taken) as u64
     }
 
     /// What the firm entries cost.
@@ -138,29 +130,9 @@ impl Tally {
     }
 }
 
-/// The octets that are promised where so many keys are held, and so many more.
-fn promised(held: u64, more: u64, due: bool) -> u128
-    ensures { result ≡ 76 * (held + more) + (if due then 30 else 0) }
-{
-    let keys = PROMISED_FOR_A_KEY * (u128::from(held) + u128::from(more));
-    if due {
-        keys + PROMISED_FOR_A_CLOSE
-    } else {
-        keys
-    }
-}
-
-/// The octets that an area of this size has for batches.
-fn capacity(size: u64) -> u128
-    ensures value { result ≡ capacity_of size }
-    ensures within { result < 2 ^ 64 }
-{
-    u128::from(size.saturating_sub(TAKEN))
-}
-
 /// Whether costs, one more cost and what is promised are within the capacity.
 fn fits(costs: u64, cost: u64, held: u64, more: u64, due: bool, size: u64) -> bool
     ensures { result ≡ nat_le (costs + cost + (76 * (held + more) + (if due then 30 else 0))) (capacity_of size) }
 {
-    u128::from(costs) + u128::from(cost) + promised(held, more, due) <= capacity(size)
+    u128::from(costs) + u128::from(cost) + promised(held, more, due) <= u128::from(capacity(size))
 }

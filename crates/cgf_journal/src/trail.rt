@@ -4,7 +4,7 @@ ghost use Rattle.area_disk.specs.Disk.{HasCause};
 ghost use Rattle.gw_base.specs.Entry.{entry_view};
 ghost use Rattle.gw_base.specs.HeldKeys.{promised_octets};
 ghost use Rattle.gw_base.specs.declared.history.HistoryEntry.{HistoryEntry};
-ghost use Rattle.gate_journal.specs.Format.{longest_batch};
+ghost use Rattle.gate_journal.specs.Format.{fewest_octets, longest_batch, most_octets};
 ghost use Rattle.gate_journal.specs.Moments.{Kept, Told};
 ghost use Rattle.std.proofs.Props.{props};
 ghost use Rattle.entry_codec.specs.Content.{AreEntries, spelled};
@@ -262,8 +262,8 @@ impl<A: Area> Trail<A> {
     /// Hands the area back as it is. It takes no memory.
     pub fn into_area(self) -> A
         ensures area { result ≡ area_of self }
-        ensures long { 100 ≤ A.size result }
-        ensures short { A.size result ≤ 268435456 }
+        ensures long { fewest_octets ≤ A.size result }
+        ensures short { A.size result ≤ most_octets }
         ensures rests { IsAtRest self }
         ensures stop { IsTrue A.tells_fate → Told A.Area → (outcome : Outcome3) →
             StandsFor (header_of self) ((A.fate (area_of self)).leaves outcome) (left_by_stop outcome self) }

@@ -1,4 +1,4 @@
-use Rattle.std.proofs.Common.{◌≡◌, sym, ap, ◌∙◌, rules, arith}
+use Rattle.std.proofs.Common.{◌≡◌, sym, ap, ◌∙◌, rules}
 use Rattle.std.specs.Prelude.{vec_capacity}
 use Rattle.gw_base.specs.Entry.{act_view}
 use Rattle.gw_base.specs.declared.entry.Act.{Act}

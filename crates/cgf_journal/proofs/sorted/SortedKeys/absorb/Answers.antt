@@ -1,46 +1,86 @@
-use Rattle.std.proofs.Common.{◌≡◌, length, true, false, sym, ap, ◌∙◌, refl, arith}
-use Rattle.std.specs.Prelude.{vec_capacity}
-use Rattle.cgf_journal.specs.Merged.{merged, moved_keys}
+use Rattle.std.proofs.Common.{◌≡◌, ◌+◌, List, ◌++◌, length, take, drop, true, false, sym, ap, ◌∙◌, refl, arith}
+use Rattle.cgf_journal.specs.Merged.{merged, moved_key, moved_keys}
+use Rattle.cgf_journal.specs.declared.key.KeptKey.{KeptKey}
+use Rattle.std.proofs.lemmas.List.{length-map}
 use Rattle.cgf_journal.proofs.KeysLemmas.{counted_le}
-use Rattle.cgf_journal.proofs.MergedLemmas.{absorbed_all, absorbed_counted, absorbed_length, absorbed_up, absorbed_up_to}
+use Rattle.cgf_journal.proofs.MergedLemmas.{absorbed_all, absorbed_counted, absorbed_length, absorbed_up, absorbed_up_to, length-merged}
 use Rattle.cgf_journal.proofs.sorted.SortedKeys.absorb.Goals as goal
 
 pub overflow_add-self : goal.overflow_add-self
 overflow_add-self c =
-    let old = c.args.self.now in
-    let young = c.args.young.now in
-    omega (arith, old.firm_counted, counted_le true old.round old.keys.items, old.keys.ok, old.keys.small, young.firm_counted, counted_le true young.round young.keys.items, young.keys.ok, young.keys.small)
+    let early = c.args.self.now in
+    let late = c.args.late.now in
+    omega (arith, early.firm_counted, counted_le true early.round early.keys.items, early.keys.ok, early.keys.small, late.firm_counted, counted_le true late.round late.keys.items, late.keys.ok, late.keys.small)
 
 pub overflow_add-self-2 : goal.overflow_add-self-2
 overflow_add-self-2 c =
-    let old = c.args.self.now in
-    let young = c.args.young.now in
-    omega (arith, old.live_counted, counted_le false old.round old.keys.items, old.keys.ok, old.keys.small, young.live_counted, counted_le false young.round young.keys.items, young.keys.ok, young.keys.small)
+    let early = c.args.self.now in
+    let late = c.args.late.now in
+    omega (arith, early.live_counted, counted_le false early.round early.keys.items, early.keys.ok, early.keys.small, late.live_counted, counted_le false late.round late.keys.items, late.keys.ok, late.keys.small)
+
+pub replace_from-requires : goal.replace_from-requires
+replace_from-requires c =
+    let early = c.args.self.now in
+    let late = c.args.late.now in
+    omega (
+      arith,
+      ap (λ (l : List KeptKey). length l) c.in_ok-merge.ensures.ok,
+      length-merged early.round c.split_at.result.1.now (moved_keys late.round early.round c.deref-4.result.now),
+      length-map c.deref-4.result.now (λ (kept : KeptKey). moved_key late.round early.round kept),
+      ap (λ (l : List KeptKey). length l) c.deref-4.ensures.value,
+      ap (λ (l : List KeptKey). length l) c.deref-3.ensures.value,
+      ap (λ (l : List KeptKey). length l) c.deref.ensures.value,
+      c.split_at.ensures.back_len,
+      c.count_before-at.ensures.inside,
+      c.if-saturating_sub-len.false,
+      c.saturating_sub.ensures,
+      c.len.ensures,
+      c.len-2.ensures,
+      early.enough,
+    )
 
 pub invariant_of-self : goal.invariant_of-self
 invariant_of-self c =
-    let old = c.args.self.now in
-    let young = c.args.young.now in
-    let is : c.swap.new.x.items ≡ merged old.round old.keys.items (moved_keys young.round old.round young.keys.items) =
-    (λ i. (c.swap.ensures.x_after i).items) ∙ c.in_ok-merge.ensures.ok ∙ (λ i. merged old.round (c.deref.ensures.value i) (moved_keys young.round old.round (c.deref-2.ensures.value i))) in
-    let room : vec_capacity c.swap.new.x ≡ vec_capacity c.merge.new.into = λ i. vec_capacity (c.swap.ensures.x_after i) in
+    let early = c.args.self.now in
+    let late = c.args.late.now in
+    let at = c.count_before-at.result in
+    let stays : take at early.keys.items ++ merged early.round (drop at early.keys.items) (moved_keys late.round early.round late.keys.items) ≡ merged early.round early.keys.items (moved_keys late.round early.round late.keys.items) =
+    (λ i. take at (sym c.deref.ensures.value i) ++ merged early.round (drop at (sym c.deref.ensures.value i)) (moved_keys late.round early.round (sym c.deref-2.ensures.value i)))
+    ∙ c.count_before-at.ensures.stay late.round early.round
+    ∙ (λ i. merged early.round (c.deref.ensures.value i) (moved_keys late.round early.round (c.deref-2.ensures.value i))) in
+    let others = λ (l : List KeptKey). moved_keys late.round early.round l in
+    let is : c.replace_from.new.keys.items ≡ merged early.round early.keys.items (others late.keys.items) =
+    c.replace_from.ensures.items
+    ∙ ap (λ (l : List KeptKey). take at early.keys.items ++ l)
+    (c.in_ok-merge.ensures.ok ∙ (λ i. merged early.round ((c.split_at.ensures.back ∙ ap (λ (l : List KeptKey). drop at l) c.deref-3.ensures.value) i) (others (c.deref-4.ensures.value i))))
+    ∙ stays in
+    let room = c.replace_from.ensures.capacity early.reserved early.enough (omega (arith, c.requires.spare, c.merge.ensures.capacity)) in
     record {
-      enough = omega (arith, c.requires.spare, c.merge.ensures.capacity, room);
-      ascending = absorbed_up old young c.swap.new.x.items is;
-      up_to = absorbed_up_to old young c.swap.new.x.items is;
-      firm_counted = absorbed_counted old young c.swap.new.x.items is true c.requires.firm old.firm young.firm old.firm_counted young.firm_counted;
-      live_counted = absorbed_counted old young c.swap.new.x.items is false c.requires.live old.live young.live old.live_counted young.live_counted;
+      enough = room.0;
+      ascending = absorbed_up early late c.replace_from.new.keys.items is;
+      up_to = absorbed_up_to early late c.replace_from.new.keys.items is;
+      firm_counted = absorbed_counted early late c.replace_from.new.keys.items is true c.requires.firm early.firm late.firm early.firm_counted late.firm_counted;
+      live_counted = absorbed_counted early late c.replace_from.new.keys.items is false c.requires.live early.live late.live early.live_counted late.live_counted;
     }
 
 pub returns-clause-ok : goal.returns-clause-ok
 returns-clause-ok c =
-    let old = c.args.self.now in
-    let young = c.args.young.now in
-    let is : c.swap.new.x.items ≡ merged old.round old.keys.items (moved_keys young.round old.round young.keys.items) =
-    (λ i. (c.swap.ensures.x_after i).items) ∙ c.in_ok-merge.ensures.ok ∙ (λ i. merged old.round (c.deref.ensures.value i) (moved_keys young.round old.round (c.deref-2.ensures.value i))) in
+    let early = c.args.self.now in
+    let late = c.args.late.now in
+    let at = c.count_before-at.result in
+    let stays : take at early.keys.items ++ merged early.round (drop at early.keys.items) (moved_keys late.round early.round late.keys.items) ≡ merged early.round early.keys.items (moved_keys late.round early.round late.keys.items) =
+    (λ i. take at (sym c.deref.ensures.value i) ++ merged early.round (drop at (sym c.deref.ensures.value i)) (moved_keys late.round early.round (sym c.deref-2.ensures.value i)))
+    ∙ c.count_before-at.ensures.stay late.round early.round
+    ∙ (λ i. merged early.round (c.deref.ensures.value i) (moved_keys late.round early.round (c.deref-2.ensures.value i))) in
+    let others = λ (l : List KeptKey). moved_keys late.round early.round l in
+    let is : c.replace_from.new.keys.items ≡ merged early.round early.keys.items (others late.keys.items) =
+    c.replace_from.ensures.items
+    ∙ ap (λ (l : List KeptKey). take at early.keys.items ++ l)
+    (c.in_ok-merge.ensures.ok ∙ (λ i. merged early.round ((c.split_at.ensures.back ∙ ap (λ (l : List KeptKey). drop at l) c.deref-3.ensures.value) i) (others (c.deref-4.ensures.value i))))
+    ∙ stays in
     record {
-      held = absorbed_all old young c.swap.new.x.items is c.requires.firm c.requires.live;
-      count = absorbed_length old young c.swap.new.x.items is;
+      held = absorbed_all early late c.replace_from.new.keys.items is c.requires.firm c.requires.live;
+      count = absorbed_length early late c.replace_from.new.keys.items is;
       reserved = refl;
       none = c.clear.ensures.none;
       room = c.clear.ensures.reserved;

@@ -6,4 +6,4 @@ pub returns : goal.returns
 returns c =
     left_free c.args.behind_firm c.self.inside.keys c.self.inside.firm c.self.inside.live c.of-sum.result c.args.self.now c.args.size c.count-held.result c.promised.result c.saturating_sub.result
     c.self.view_is c.of-sum.ensures c.count-held.ensures c.promised.ensures
-    (omega (arith, c.saturating_sub.ensures, c.capacity.ensures.value, c.from.ensures))
+    (omega (arith, c.saturating_sub.ensures, c.capacity.ensures, c.from-whole.ensures, c.from.ensures))

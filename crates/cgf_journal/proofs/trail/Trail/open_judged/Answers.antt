@@ -66,7 +66,7 @@ returns-in-Ok-open-clause-err g c =
     (λ told.
     places_are fits h long begins o j c.length-size.result (laws.whole c.args.area told.0 ∙ sym c.length-size.ensures) (stands_or_anew fits h long begins o j told (opened.found told) opened.front opened.settled opened.header)
     (opened.anew told) c.over.result (c.over.ensures.breaks told) (c.over.ensures.some told))
-    c.over.ensures.device c.over.ensures.faults_err
+    c.over.ensures.device c.over.ensures.faults_err c.over.ensures.still
     (λ told. unwritten_is o h j c.over.result (opened.found told) (opened.anew told) (c.over.ensures.some told) c.over.ensures.kept)
 
 pub returns-in-Ok-open-clause-reads : goal.returns-in-Ok-open-clause-reads
@@ -161,6 +161,7 @@ returns-in-Err-NotOurs-default-clause-err g c =
           (opened.err.not_ours told at0 c.in-Err-NotOurs-default.field-0-0-is) here
           (λ all listed. first all (subst (λ (l : List ℕ). AreListedBefore g.A.Area.tells_octets l c.in-Err-NotOurs-default.at all) (sym (same (opened.err.unwritten told))) listed)) is;
       cause = λ e. rises (g.A.Area.faults a) (g.A.Area.faults mid) _ opened.counted.cause.faults_err (c.fault_before-fault.ensures.device e);
+      still = λ other. c.fault_before-fault.ensures.still other ∙ opened.counted.cause.still (λ e. other_fault (sym c.in-Err-NotOurs-default.field-0-0-is ∙ e));
       faults = le_trans opened.counted.cause.faults_err c.fault_before-fault.ensures.faults;
       unwritten = λ told. inr (kept.octets ∙ same (opened.err.unwritten told));
     }
