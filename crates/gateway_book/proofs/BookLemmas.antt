@@ -2,6 +2,7 @@
 use Rattle.std.proofs.Common.{◌≡◌, ℕ, ◌≤◌, not, Bool, true, false, List, [], ◌∷◌, ◌++◌, refl, sym, subst, ◌∙◌, append_assoc}
 use Rattle.std.proofs.lemmas.List.{append-nil}
 use Rattle.area_disk.specs.declared.area.Area.{Ghosts}
+use Rattle.gate_journal.specs.Format.{most_octets}
 use Rattle.gate_journal.specs.Moments.{Told}
 use Rattle.cgf_journal.specs.Fit as journal
 use Rattle.cgf_journal.specs.Outcomes.{IsReopened, TornDropped, TornStand}
@@ -32,10 +33,10 @@ fit_more size h e fit one = fit_more_of size [] h e fit one
 
 module _ {A : Type 0} {tells : Ghosts A} (old new : Trail A tells) (before after : Index) where
   -- the entries that an index follows on both sides, none behind them
-  settled_on : (h : List HistoryEntry) → tells.size (area_of new) ≡ tells.size (area_of old) → tells.size (area_of old) ≤ 268435456 → (Told tells → firm_entries new ≡ h) → waiting new ≡ []
+  settled_on : (h : List HistoryEntry) → tells.size (area_of new) ≡ tells.size (area_of old) → tells.size (area_of old) ≤ most_octets → (Told tells → firm_entries new ≡ h) → waiting new ≡ []
       → (Told tells → (side : Bool) → Follows side after h) → (Told tells → AllFit (tells.size (area_of old)) h) → IsFollowed new after
   settled_on h size short listed none follows fit = record {
-    short = subst (λ (n : ℕ). n ≤ 268435456) (sym size) short;
+    short = subst (λ (n : ℕ). n ≤ most_octets) (sym size) short;
     firm = λ told. subst (λ (g : List HistoryEntry). Follows true after g) (sym (listed told)) (follows told true);
     live = λ told. subst (λ (g : List HistoryEntry). Follows false after g) (sym (all told)) (follows told false);
     fit = λ told. subst (λ (n : ℕ). AllFit n (all_entries new)) (sym size) (subst (λ (g : List HistoryEntry). AllFit (tells.size (area_of old)) g) (sym (all told)) (fit told));

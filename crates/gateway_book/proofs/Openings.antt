@@ -2,6 +2,7 @@
 use Rattle.std.proofs.Common.{◌≡◌, ◌⊎◌, inl, inr, ℕ, ◌*◌, ◌≤◌, true, false, if◌then◌else◌, max, List, [], ◌∷◌, ◌++◌, Result, Ok, Err, length, refl, sym, ap, subst, ◌∙◌, append_assoc, arith}
 use Rattle.std.specs.Prelude.{IfErr, IfOk, OnErr, OnOk}
 use Rattle.area_disk.specs.declared.area.Area.{Ghosts}
+use Rattle.gate_journal.specs.Format.{most_octets}
 use Rattle.gate_journal.specs.Moments.{Told}
 use Rattle.gate_journal.specs.declared.faults.OpenFault.{OpenFault}
 use Rattle.gate_journal.specs.declared.faults.OpenFault.TheVariants as opening
@@ -36,7 +37,7 @@ costs_at_least [] = omega arith
 costs_at_least (e ∷ h) = omega (arith, costs_at_least h)
 
 -- a fit history may grow
-pub fit_may_grow : (size : ℕ) (h : List HistoryEntry) → size ≤ 268435456 → AllFit size h → MayGrow h
+pub fit_may_grow : (size : ℕ) (h : List HistoryEntry) → size ≤ most_octets → AllFit size h → MayGrow h
 fit_may_grow size h short fit =
     let within : IsWithin h size = fit_is_within size h fit in
     omega (arith, short, within, costs_at_least h)
@@ -59,7 +60,7 @@ module _ {A : Type 0} {tells : Ghosts A} (old new : Trail A tells) (before after
   added_followed fits =
       let size : tells.size (area_of new) ≡ tells.size (area_of old) = ap (λ (a : A). tells.size a) added.stays.area in
       record {
-        short = subst (λ (n : ℕ). n ≤ 268435456) (sym size) followed.short;
+        short = subst (λ (n : ℕ). n ≤ most_octets) (sym size) followed.short;
         firm = λ told. subst (λ (h : List HistoryEntry). Follows true after h) (sym added.stays.listed) (added.firm (firm_entries old) (followed.firm told));
         live = λ told.
             subst (λ (h : List HistoryEntry). Follows false after h) (sym all_more)
@@ -76,7 +77,7 @@ both_followed old new before after e (Ok x) followed added kept fits = added_fol
 both_followed {tells = tells} old new before after e (Err fault) followed added kept fits =
     let same : all_entries new ≡ all_entries old = λ i. kept.stays.listed i ++ kept.kept.waiting i in
     record {
-      short = subst (λ (n : ℕ). n ≤ 268435456) (sym kept.kept.size) followed.short;
+      short = subst (λ (n : ℕ). n ≤ most_octets) (sym kept.kept.size) followed.short;
       firm = λ told. subst (λ (h : List HistoryEntry). Follows true after h) (sym kept.stays.listed) (kept.follows true (firm_entries old) (followed.firm told));
       live = λ told. subst (λ (h : List HistoryEntry). Follows false after h) (sym same) (kept.follows false (all_entries old) (followed.live told));
       fit = λ told. subst (λ (n : ℕ). AllFit n (all_entries new)) (sym kept.kept.size) (subst (λ (h : List HistoryEntry). AllFit (tells.size (area_of old)) h) (sym same) (followed.fit told));
@@ -163,6 +164,7 @@ module _ {A : Type 0} {tells : Ghosts A} (header : List ℕ) (area : A) (t : Tra
         place = λ told at e. absurd (apart_not_ours at (sym kind ∙ e));
         unwritten = λ told at e. absurd (apart_not_ours at (sym kind ∙ e));
         cause = λ e. absurd (apart_device (sym kind ∙ e));
+        still = λ other. ap (λ (f : BookFault × A). tells.faults f.1) err ∙ faults;
         faults = omega (arith, faults, ap (λ (f : BookFault × A). tells.faults f.1) err);
       }
 

@@ -1,5 +1,5 @@
 -- How an update of one key changes the states by states.
-use Rattle.std.proofs.Common.{◌≡◌, ℕ, ◌==◌, ◌&&◌, ◌||◌, Bool, true, false, cond, if◌then◌else◌, List, [], ◌∷◌, ◌++◌, Option, Some, None, refl, sym, ap, ◌∙◌, true≢false, arith}
+use Rattle.std.proofs.Common.{◌≡◌, ℕ, ◌==◌, ◌&&◌, ◌||◌, Bool, true, false, cond, if◌then◌else◌, List, [], ◌∷◌, ◌++◌, Option, Some, None, refl, subst, sym, ap, ◌∙◌, true≢false, arith}
 use Rattle.std.specs.Prelude.{Err, IsSome, Ok, OnOk, Result, nat_lt}
 use Rattle.std.specs.BTreeMap.{BTreeMap, Updates, get}
 use Rattle.std.specs.List.{list_any}
@@ -97,6 +97,29 @@ fresh_listed old new key none u = record {
     by_side true q = same_there (stateful true) old key Fresh (ap (stateful true) none) q
     by_side false q = same_there (stateful false) old key Fresh (ap (stateful false) none) q
 
+-- what a look-up of the map finds is what the states list
+
+pub state_there : (firm : Bool) (old : BTreeMap PacketKey States) (key : PacketKey) (states : States) → states_of old key ≡ Some states → (if firm then states.firm else states.live) ≡ state_in firm old key
+state_there firm old key states e = sym (ap (stateful firm) e)
+
+pub is_there : (states : BTreeMap PacketKey States) (key : PacketKey) → IsSome (states_of states key) → IsSome (get key_order states key)
+unfolding states_of
+is_there states key some = some
+
+pub looked_up : (states : BTreeMap PacketKey States) (key : PacketKey) (found : Option States) → found ≡ get key_order states key → states_of states key ≡ found
+unfolding states_of
+looked_up states key found e = sym e
+
+pub found_there : (states : BTreeMap PacketKey States) (key : PacketKey) (there : States) → Some there ≡ get key_order states key → IsSome (get key_order states key)
+found_there states key there e = subst (λ (o : Option States). IsSome o) e refl
+
+pub state_at : (side : Bool) (states : BTreeMap PacketKey States) (key : PacketKey) (there : States) → Some there ≡ get key_order states key
+    → (if side then there.firm else there.live) ≡ state_in side states key
+state_at side states key there e = state_there side states key there (looked_up states key (Some there) e)
+
+pub never_none : (states : BTreeMap PacketKey States) (key : PacketKey) → IsSome (states_of states key) → None ≡ get key_order states key → ⊥
+never_none states key some e = true≢false (sym (subst (λ (o : Option States). IsSome o) (looked_up states key None e) some))
+
 pub marked : (old new : BTreeMap PacketKey States) (key : PacketKey) (firm state : KeyState) → firm ≡ state_in true old key
     → Updates key_order old new key (Some (record { firm = firm; live = state })) → IsMarking key state old new
 marked old new key firm state e u = record {
@@ -127,6 +150,11 @@ none_settled old key firm side none q = by_test (same_key key q) refl
     by_test : (b : Bool) → same_key key q ≡ b → state_in side old q ≡ (if b then state_in firm old q else state_in side old q)
     by_test true s = ap (stateful side) (ap (states_of old) (sym (equal_keys key q s)) ∙ none) ∙ ap (stateful firm) (sym none ∙ ap (states_of old) (equal_keys key q s))
     by_test false s = refl
+
+pub rested : (old new : BTreeMap PacketKey States) (key : PacketKey) (firm side : Bool) → new ≡ old → None ≡ get key_order old key → (q : PacketKey)
+    → state_in side new q ≡ (if same_key key q then state_in firm old q else state_in side old q)
+rested old new key firm side e none q =
+    ap (λ (m : BTreeMap PacketKey States). state_in side m q) e ∙ none_settled old key firm side (looked_up old key None none) q
 
 same_sym : (key other : PacketKey) → same_key key other ≡ same_key other key
 same_sym key other = by_tests (same_key key other) (same_key other key) refl refl
@@ -200,9 +228,6 @@ none_listed states e firm q = rw e refl
 pub none_from_test : {A : Type 0} (o : Option A) → is_some o ≡ false → o ≡ None
 none_from_test None e = refl
 none_from_test (Some x) e = absurd (true≢false e)
-
-pub state_there : (firm : Bool) (old : BTreeMap PacketKey States) (key : PacketKey) (states : States) → states_of old key ≡ Some states → (if firm then states.firm else states.live) ≡ state_in firm old key
-state_there firm old key states e = sym (ap (stateful firm) e)
 
 pub on_ok : {T E P Q : Type 0} (r : Result T E) → (P → Q) → OnOk r P → OnOk r Q
 on_ok (Ok x) f p = f p

@@ -1,6 +1,7 @@
 -- What an answer leaves of a book.
 use Rattle.std.proofs.Common.{◌≡◌, ◌≢◌, ℕ, ◌≤◌, true, false, if◌then◌else◌, List, [], ◌∷◌, ◌++◌, Option, Some, None, refl, sym, ap, subst, ◌∙◌, append_assoc}
 use Rattle.area_disk.specs.declared.area.Area.{Ghosts}
+use Rattle.gate_journal.specs.Format.{most_octets}
 use Rattle.gate_journal.specs.Moments.{Told}
 use Rattle.cgf_journal.specs.Outcomes.{FirmStays}
 use Rattle.cgf_journal.specs.Trail.{area_of, entries, firm_entries, is_closed, waiting}
@@ -40,7 +41,7 @@ module _ {A : Type 0} {tells : Ghosts A} (old new : Trail A tells) (before after
 
   pub followed_added : (e : HistoryEntry) → IsFollowed old before → IsAdded old new before after e → (Told tells → IsFit (tells.size (area_of old)) (all_entries old) e) → IsFollowed new after
   followed_added e followed added fits = record {
-    short = subst (λ (n : ℕ). n ≤ 268435456) (sym (same_area added.stays.area)) followed.short;
+    short = subst (λ (n : ℕ). n ≤ most_octets) (sym (same_area added.stays.area)) followed.short;
     firm = λ told. subst (λ (h : List HistoryEntry). Follows true after h) (sym added.stays.listed) (added.firm (firm_entries old) (followed.firm told));
     live = λ told. subst (λ (h : List HistoryEntry). Follows false after h) (sym all) (added.live (all_entries old) (fit_may_grow (tells.size (area_of old)) (all_entries old) followed.short (followed.fit told)) (followed.live told));
     fit = λ told. subst (λ (n : ℕ). AllFit n (all_entries new)) (sym (same_area added.stays.area))
@@ -55,7 +56,7 @@ module _ {A : Type 0} {tells : Ghosts A} (old new : Trail A tells) (before after
 
   pub followed_kept : IsFollowed old before → AreKept old new before after → IsFollowed new after
   followed_kept followed kept = record {
-    short = subst (λ (n : ℕ). n ≤ 268435456) (sym (same_area kept.stays.area)) followed.short;
+    short = subst (λ (n : ℕ). n ≤ most_octets) (sym (same_area kept.stays.area)) followed.short;
     firm = λ told. subst (λ (h : List HistoryEntry). Follows true after h) (sym kept.stays.listed) (kept.follows true (firm_entries old) (followed.firm told));
     live = λ told. subst (λ (h : List HistoryEntry). Follows false after h) (sym all) (kept.follows false (all_entries old) (followed.live told));
     fit = λ told. subst (λ (n : ℕ). AllFit n (all_entries new)) (sym (same_area kept.stays.area)) (subst (λ (h : List HistoryEntry). AllFit (tells.size (area_of old)) h) (sym all) (followed.fit told));

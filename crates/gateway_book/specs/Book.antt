@@ -1,6 +1,6 @@
 -- What contracts see of a book.
 use Rattle.std.specs.Prelude.{◌≡◌, ℕ, ◌≤◌, Bool, true, false, List, ◌++◌}
-use Rattle.area_disk.specs.Disk.{Rose}
+use Rattle.area_disk.specs.Disk.{Rose, counted}
 use Rattle.area_disk.specs.declared.area.Area.{Ghosts}
 use Rattle.gate_journal.specs.Moments.{Leaves, Told}
 use Rattle.cgf_journal.specs.Trail as trail
@@ -56,10 +56,14 @@ module _ {A : Type 0} {tells : Ghosts A} (old new : Book A tells) where
     pub header : header_of new ≡ header_of old
     pub open_time : open_time_of new ≡ open_time_of old
 
-  -- The count of faults never falls, and where the book is broken afterwards it rose in the call.
+  -- The count of faults rose in the call where the book is broken afterwards and nowhere else, and so did that of the
+  -- commits and openings again that failed, by one.
   pub record HasCause : Type 0 where
     pub later : tells.faults (area_of old) ≤ tells.faults (area_of new)
     pub broken : trail.is_closed new.trail ≡ true → Rose (tells.faults (area_of old)) (tells.faults (area_of new))
+    pub still : trail.is_closed new.trail ≡ false → tells.faults (area_of new) ≡ tells.faults (area_of old)
+    pub cut : trail.is_closed new.trail ≡ true → new.cuts ≡ counted 1 old.cuts
+    pub uncut : trail.is_closed new.trail ≡ false → new.cuts ≡ old.cuts
 
   -- A crash at any moment of the call leaves the firm entries, or these with those behind them.
   abbrev pub CrashLeaves : Type 0

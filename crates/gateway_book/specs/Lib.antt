@@ -25,6 +25,7 @@ pub mod Up
 pub mod Value
 -- Laws of these, with their proofs.
 pub mod AnswerLaws
+pub mod FaultLaws
 pub mod FiledLaws
 pub mod FitHistoryLaws
 pub mod FitLaws

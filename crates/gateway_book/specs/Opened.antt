@@ -1,5 +1,5 @@
 -- What an opening of a book finds, and what it leaves of the area.
-use Rattle.std.specs.Prelude.{◌≡◌, ◌⊎◌, ℕ, ◌≤◌, IsTrue, false, List, [], Result, Ok, Err, IfOk, IsErrAnd}
+use Rattle.std.specs.Prelude.{◌≡◌, ◌≢◌, ◌⊎◌, ℕ, ◌≤◌, IsTrue, false, List, [], Result, Ok, Err, IfOk, IsErrAnd}
 use Rattle.area_disk.specs.Disk.{Rose, counted}
 use Rattle.area_disk.specs.declared.area.Area.{Ghosts}
 use Rattle.gate_journal.specs.Format.{Starts}
@@ -50,6 +50,7 @@ module _ {A : Type 0} (tells : Ghosts A) (area : A) where
     pub place : Told tells → (at : ℕ) → fault.0 ≡ NotOurs at → IsNotOurs header (tells.octets area) at
     pub unwritten : Told tells → (at : ℕ) → fault.0 ≡ NotOurs at → tells.octets fault.1 ≡ tells.octets area
     pub cause : fault.0 ≡ Device → Rose (tells.faults area) (tells.faults fault.1)
+    pub still : fault.0 ≢ Device → tells.faults fault.1 ≡ tells.faults area
     pub faults : tells.faults area ≤ tells.faults fault.1
 
 module _ {A : Type 0} {tells : Ghosts A} (area : A) (result : Result (Book A tells) (BookFault × A)) where

@@ -15,9 +15,10 @@ use Rattle.gateway_book.specs.declared.book.Book.{Book}
 use Rattle.gateway_book.specs.declared.outcome.ItemsFault.{ItemsFault}
 use Rattle.gateway_book.specs.declared.outcome.ItemsFault.TheVariants.{Device}
 
--- `Device` comes only where the count of faults rose in the call; it never falls.
+-- The count of faults rose where the answer is `Device` and nowhere else; it never falls.
 pub record ReadCause {R : Type 0} (before now : ℕ) (result : Result R ItemsFault) : Type 0 where
   pub device : result ≡ Err Device → Rose before now
+  pub still : result ≢ Err Device → now ≡ before
   pub ok : OnOk result (now ≡ before)
   pub later : before ≤ now
 
@@ -39,11 +40,15 @@ abbrev pub RunsOn : {A R : Type 0} {tells : Ghosts A} → Trail A tells → Resu
 RunsOn {tells = tells} old result = IsTrue tells.tells_fate → ReadsRun (tells.fate (trail.area_of old)).schedule → result ≢ Err Device
 
 module _ {A : Type 0} {tells : Ghosts A} (old new : Book A tells) where
-  -- The book is as before, a broken one too: what an opening again will find stays.
+  -- The book is as before, a broken one too: what it counts, and what an opening again will find.
   pub record IsUnchanged : Type 0 where
     pub value : Told tells → value_of new ≡ value_of old
     pub broken : trail.is_closed new.trail ≡ trail.is_closed old.trail
     pub cuts : new.cuts ≡ old.cuts
+    pub entries : trail.length_of new.trail ≡ trail.length_of old.trail
+    pub firm : trail.firm_length new.trail ≡ trail.firm_length old.trail
+    pub free : trail.free_of new.trail ≡ trail.free_of old.trail
+    pub index : new.index ≡ old.index
     pub torn_stands : trail.torn_stands new.trail ≡ trail.torn_stands old.trail
     pub stays : Stays old new
 

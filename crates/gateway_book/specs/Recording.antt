@@ -1,11 +1,12 @@
 -- What answers record, for laws.
 use Rattle.std.specs.Prelude.{◌≡◌, ◌⊎◌, ℕ, ◌==◌, Bool, true, false, [], ◌∷◌, Some, None, ⊤}
 use Rattle.gtpp_message.specs.Message.{MessageValue, NodeAliveResponse, TransferResponse}
+use Rattle.gtpp_message.specs.declared.reading.Why.TheVariants.{Device}
 use Rattle.gw_base.specs.Observed.{Observed}
 use Rattle.gw_base.specs.Nearest.{nearest}
 use Rattle.gw_base.specs.declared.address.Addr.{Addr}
 use Rattle.gw_base.specs.declared.address.NodeId.{NodeId}
-use Rattle.gw_base.specs.declared.cause.TheConstants.{ACCEPTED, NO_RESOURCES}
+use Rattle.gw_base.specs.declared.cause.TheConstants.{ACCEPTED, NO_RESOURCES, SYSTEM_FAILURE}
 use Rattle.gw_base.specs.declared.history.HistoryAct.{HistoryAct}
 use Rattle.gateway_book.specs.Answer.{Given, Drops, Replies, answer_by}
 use Rattle.gateway_book.specs.Answered.{act_given}
@@ -31,6 +32,12 @@ Fits of room number message act = (is_act_fit of act ≡ true) × (room act ≡ 
 abbrev pub is_without_resources : Given → Bool
 is_without_resources (Replies number (TransferResponse cause responded) act) = cause == NO_RESOURCES
 is_without_resources _ = false
+
+-- whether an answer says that the device failed: a request fails by the system, and what isn't answered is dropped for it
+abbrev pub tells_a_fault : Given → Bool
+tells_a_fault (Drops Device) = true
+tells_a_fault (Replies number (TransferResponse cause responded) act) = cause == SYSTEM_FAILURE
+tells_a_fault _ = false
 
 -- whatever act a request calls for, there is room for it: for the one that would be recorded if there were room for each
 abbrev pub HasRoomFor : Observed → Addr → PreparedValue → (HistoryAct → Bool) → Type 0

@@ -1,7 +1,7 @@
 //! How a book's history is made firm, what has become of its answers, and how it ends.
 ghost use Rattle.std.specs.Prelude.{◌≡◌, ◌≤◌, IsTrue, is_err};
-ghost use Rattle.area_disk.specs.Disk.{HasCause as HasFaults};
 ghost use Rattle.area_disk.specs.declared.plan.Outcome3.{Outcome3};
+ghost use Rattle.gate_journal.specs.Format.{fewest_octets, most_octets};
 ghost use Rattle.gate_journal.specs.Moments.{Told};
 ghost use Rattle.cgf_journal.specs.Format.{StandsFor};
 ghost use Rattle.cgf_journal.specs.Trail.{IsAtRest, firm_length, is_closed, left_by_stop};
@@ -48,7 +48,7 @@ impl<A: Area> Book<A> {
         ensures closed { is_closed self.new.trail ≡ is_err result }
         ensures any_moment { CrashLeaves self.old self.new }
         ensures stays { Stays self.old self.new }
-        ensures faults { HasFaults (A.faults (area_of self.old)) (A.faults (area_of self.new)) result }
+        ensures cause { HasCause self.old self.new }
         ensures planned { AsPlanned self.old self.new (asked_to_commit (value_of self.old)) }
     {
         if self.trail.is_closed() {
@@ -95,8 +95,8 @@ impl<A: Area> Book<A> {
     /// Hands the area back as it is. It takes no memory.
     pub fn into_area(self) -> A
         ensures area { result ≡ area_of self }
-        ensures long { 100 ≤ A.size result }
-        ensures short { A.size result ≤ 268435456 }
+        ensures long { fewest_octets ≤ A.size result }
+        ensures short { A.size result ≤ most_octets }
         // At rest the area stands for the firm entries, or these with those behind them.
         ensures rests { IsAtRest self.trail }
         ensures stop { IsTrue A.tells_fate → Told A.Area → (outcome : Outcome3) →

@@ -7,7 +7,6 @@ ghost use Rattle.gw_base.specs.Observed.{observed};
 ghost use Rattle.gw_base.specs.declared.address.NodeId.{NodeId};
 ghost use Rattle.gw_base.specs.declared.history.PacketKey.{PacketKey};
 ghost use Rattle.gw_base.specs.declared.history.HistoryEntry.{HistoryEntry};
-ghost use Rattle.gw_base.specs.HeldKeys.{is_held};
 ghost use Rattle.gateway_book.specs.Limits.{has_place};
 ghost use Rattle.gateway_book.specs.Sides.{acted, all_named, learnt, named, numbered, opened, present_key, side_after, topped};
 
@@ -21,6 +20,7 @@ use gw_base::scan::{
 };
 use gw_base::{Absolute, Act, Entry, KeyState, NoMemory, NodeId, Opening, PacketKey};
 use std::alloc::Global;
+use transfer_cmd::is_held;
 
 /// What a gateway keeps of its history, so that it answers without reading it: the state of each key, the known nodes
 /// with what each needs, and some counts. It has a firm side, which follows the firm entries, and a live side, which
@@ -113,9 +113,8 @@ impl Index {
     {
         let key = self.key(false, node, number);
         let mark = self.nodes.mark(false, node);
-        let before = is_held(self.states.state(false, key));
+        let before = is_held(self.states.set(key, state));
         let after = is_held(state);
-        self.states.set(key, state);
         let held = recounted(mark.held, before, after);
         self.nodes.set(node, NodeMark { held, ..mark });
         self.live.held = recounted(self.live.held, before, after);
@@ -253,11 +252,4 @@ fn raised(top: Option<Absolute>, number: Absolute) -> Absolute
         Some(top) => top.max(number),
         None => number,
     }
-}
-
-// Whether a state is that of a held key.
-fn is_held(state: KeyState) -> bool
-    ensures { result ≡ is_held state }
-{
-    matches!(state, KeyState::Held)
 }

@@ -1,5 +1,5 @@
 //! Whether the entries of a journal are fit, as it is opened.
-ghost use Rattle.std.specs.Prelude.{◌≡◌, ◌≤◌, ◌&&◌, ◌+◌, ◌*◌, ◌<◌, ◌^◌, ℕ, true, false, List, [], nat_le, if◌then◌else◌, IfOk};
+ghost use Rattle.std.specs.Prelude.{◌≡◌, ◌≤◌, ◌&&◌, ◌+◌, ◌<◌, ◌^◌, ℕ, true, false, List, [], nat_le, IfOk};
 ghost use Rattle.entry_codec.specs.Room.{capacity_of};
 ghost use Rattle.gw_base.specs.Entry.{act_view, entry_view};
 ghost use Rattle.gateway_book.specs.Fit.{is_act_fit, latest_moment};
@@ -11,18 +11,9 @@ use crate::observed::an_index_tells_its_history;
 use crate::seen::Seen;
 use crate::totals::Totals;
 use cgf_journal::Judge;
-use entry_codec::cost;
+use entry_codec::{capacity, cost, promised};
 use gw_base::{Act, Entry, NoMemory};
 use std::alloc::Global;
-
-/// What is promised for a held key: a Release or a Cancel of it, and a Close.
-const PROMISED_FOR_A_KEY: u128 = 76;
-
-/// What is promised where a Close is due.
-const PROMISED_FOR_A_CLOSE: u128 = 30;
-
-/// The octets of an area that no batch has: the header's, and the gate after the last batch.
-const TAKEN: u64 = 33;
 
 /// Judges entries by an index that follows them.
 #[derive(Debug, Drop)]
@@ -66,20 +57,9 @@ impl FitJudge {
     fn is_within(&self, size: u64) -> bool
         ensures { result ≡ is_within self.now size }
     {
-        let taken = u128::from(self.costs) + promised(self.index.totals(false));
-        taken <= u128::from(size.saturating_sub(TAKEN))
-    }
-}
-
-/// The octets that are promised.
-fn promised(totals: Totals) -> u128
-    ensures { result ≡ 76 * totals.held + (if totals.is_close_due then 30 else 0) }
-{
-    let keys = PROMISED_FOR_A_KEY * u128::from(totals.held);
-    if totals.is_close_due {
-        keys + PROMISED_FOR_A_CLOSE
-    } else {
-        keys
+        let totals = self.index.totals(false);
+        let taken = u128::from(self.costs) + promised(totals.held, 0, totals.is_close_due);
+        taken <= u128::from(capacity(size))
     }
 }
 

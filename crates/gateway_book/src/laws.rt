@@ -23,7 +23,7 @@ ghost use Rattle.gw_base.specs.declared.history.PacketKey.{PacketKey};
 ghost use Rattle.gateway_book.specs.Answer.{Replies, answer_by};
 ghost use Rattle.gateway_book.specs.Answered.{answer_to, entry_by, room_for};
 ghost use Rattle.gateway_book.specs.Book.{IsLeft, Stays, area_of, fortune_of, value_of};
-ghost use Rattle.gateway_book.specs.Calls.{closed, commit_left, taken, ticked};
+ghost use Rattle.gateway_book.specs.Calls.{closed, commit_left, given_at, taken, ticked};
 ghost use Rattle.gateway_book.specs.Comes.{AsPlanned, LeavesFit, asked_to_commit, asked_to_ready, plan_of};
 ghost use Rattle.gateway_book.specs.Filed.{along, filed, filed_by};
 ghost use Rattle.gateway_book.specs.Fit.{IsFit, latest_moment};
@@ -34,7 +34,7 @@ ghost use Rattle.gateway_book.specs.Once.{times_filed};
 ghost use Rattle.gateway_book.specs.Opened.{IsNotOurs, IsOpened, StandsFitFor};
 ghost use Rattle.gateway_book.specs.Preparing.{IsWhole, PreparedValue, Request, prepared_of};
 ghost use Rattle.gateway_book.specs.Read.{IsUnchanged};
-ghost use Rattle.gateway_book.specs.Recording.{Accepts, HasRoomFor, IfRecords, IsWithinLimits, is_without_resources};
+ghost use Rattle.gateway_book.specs.Recording.{Accepts, HasRoomFor, IfRecords, IsWithinLimits, is_without_resources, tells_a_fault};
 ghost use Rattle.gateway_book.specs.Up.{HasLeft, IsCut, IsDown, IsUp, commit_sequel_of, fortune_by, ready_sequel_of};
 ghost use Rattle.gateway_book.specs.Value.{BookValue};
 ghost use Rattle.gateway_book.specs.declared.book.Book.{Book};
@@ -53,6 +53,15 @@ pub fn only_what_is_accepted_is_recorded()
         (number cause : ℕ) (responded : List ℕ) (act : Option HistoryAct) →
         answer_by o from datagram room ≡ Replies number (TransferResponse cause responded) act → cause ≢ ACCEPTED →
         act ≡ None }
+{}
+
+/// A gateway that is ready says that its device failed, by the cause system failure or by dropping what isn't a request,
+/// only where its book is broken.
+pub fn only_a_broken_gateway_tells_a_fault()
+    ensures running { (o : Observed) (from : Addr) (octets : List ℕ) (room : HistoryAct → Bool) →
+        tells_a_fault (answer_by o from (prepared_of octets) room) ≡ false }
+    ensures broken { (ready : BookValue) (from : Addr) (octets : List ℕ) (size : ℕ) →
+        tells_a_fault (given_at ready from (prepared_of octets) size) ≡ true → ready.is_broken ≡ true }
 {}
 
 /// What a gateway makes of any octets is whole: the packet that a request sends is the one that its

@@ -12,6 +12,7 @@ ghost use Rattle.gateway_book.specs.Steps.{holds_one, promised_by};
 ghost use Rattle.gw_base.specs.View.{stays_held};
 
 use crate::observe::Observe;
+use entry_codec::{capacity, promised};
 use gw_base::{
     Absolute, Act, Caller, Entry, HistoryEntry, KeyState, Moment, NoMemory, NodeId, Opening,
     PacketKey, scan,
@@ -146,12 +147,7 @@ fn promised_by(held: &[HeldKey], due: bool, act: &Act<'_>) -> u128
     ensures bound { result ≤ 76 * 2 ^ 64 + 106 }
 {
     let stay = count_staying(held, act);
-    let keys = (stay as u128 + holds_one(act)) * PROMISED_FOR_A_KEY;
-    if act.due_after(due) {
-        keys + PROMISED_FOR_A_CLOSE
-    } else {
-        keys
-    }
+    promised(stay as u64, holds_one(act), act.due_after(due))
 }
 
 /// How many keys stay held after an act.
@@ -162,7 +158,7 @@ fn count_staying(held: &[HeldKey], act: &Act<'_>) -> usize
 }
 
 /// How many keys an act holds.
-fn holds_one(act: &Act<'_>) -> u128
+fn holds_one(act: &Act<'_>) -> u64
     ensures value { result ≡ holds_one (act_view act.now) }
     ensures bound { result ≤ 1 }
 {
@@ -172,15 +168,6 @@ fn holds_one(act: &Act<'_>) -> u128
     }
 }
 
-/// What a held key may need of the journal: a Release or a Cancel of it, and a Close.
-const PROMISED_FOR_A_KEY: u128 = 76;
-
-/// What a Close that is due needs of the journal.
-const PROMISED_FOR_A_CLOSE: u128 = 30;
-
-/// The octets of an area that no batch has: the header's, and the gate behind the last batch.
-const TAKEN: u64 = 33;
-
 /// Whether costs and promises are within the capacity of a journal on so many octets.
 fn has_room(costs: u128, cost: u64, promised: u128, size: u64) -> bool
     requires { promised ≤ 76 * 2 ^ 64 + 106 }
@@ -189,5 +176,5 @@ fn has_room(costs: u128, cost: u64, promised: u128, size: u64) -> bool
     if costs > u128::from(size) {
         return false;
     }
-    costs + u128::from(cost) + promised <= u128::from(size.saturating_sub(TAKEN))
+    costs + u128::from(cost) + promised <= u128::from(capacity(size))
 }

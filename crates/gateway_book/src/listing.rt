@@ -1,10 +1,8 @@
 // The answers to requests that name lists of numbers.
 ghost use Rattle.std.specs.Prelude.{◌≡◌, ◌<◌, ◌^◌, ℕ, [], ◌∷◌, ◌++◌, map, Option, IfOk, IfSome, OnOk};
-ghost use Rattle.std.specs.Option.{option_map};
 ghost use Rattle.gw_base.specs.Entry.{act_view};
 ghost use Rattle.gw_base.specs.Nearest.{nearest};
-ghost use Rattle.transfer_cmd.specs.Lists.{is_held};
-ghost use Rattle.gateway_book.specs.Answer.{changes, changing, decided, held_ones, listed};
+ghost use Rattle.gateway_book.specs.Answer.{changing, decided, held_ones, listed};
 ghost use Rattle.gateway_book.specs.Decisions.{decision_view};
 ghost use Rattle.gateway_book.specs.Steps.{with_held};
 ghost use Rattle.gateway_book.specs.WireMarks.{AreMarked};
@@ -16,7 +14,7 @@ use crate::wire_marks::WireMarks;
 use gtpp_elements::Numbers;
 use gw_base::{Absolute, Act, KeyState, NoMemory, NodeId, nearest_number};
 use std::alloc::Global;
-use transfer_cmd::{Verdict, judge};
+use transfer_cmd::{Verdict, is_held, judge};
 
 /// The lists in which answers are worked out: the numbers that a request names, their states, and
 /// the held ones. They keep their memory from one answer to the next.
@@ -31,7 +29,11 @@ pub(crate) struct Scratch {
 
 impl Scratch {
     /// Empty lists.
-    pub(crate) fn new(alloc: Global) -> Result<Scratch, NoMemory> {
+    pub(crate) fn new(alloc: Global) -> Result<Scratch, NoMemory>
+        ensures numbers { IfOk result (λ scratch. scratch.numbers.items ≡ []) }
+        ensures states { IfOk result (λ scratch. scratch.states.items ≡ []) }
+        ensures held { IfOk result (λ scratch. scratch.held.items ≡ []) }
+    {
         Ok(Scratch {
             numbers: Vec::new(alloc),
             states: Vec::new(alloc),
@@ -56,23 +58,21 @@ pub(crate) fn listed<'a, O: Observe>(
     let top = seen.top(node);
     name_numbers(top, numbers, &mut scratch.numbers)?;
     find_states(seen, node, &scratch.numbers, &mut scratch.states)?;
-    let (held, marks) = (&mut scratch.held, &mut scratch.marks);
-    find_held(seen, node, top, numbers, held, marks)?;
     let verdict = judge(&scratch.states, release);
-    let act = changes(verdict, release, node, &scratch.held);
-    Ok(tabled(seen, node, number, verdict.cause(), act))
-}
-
-/// What a list is recorded as by its verdict.
-fn changes(verdict: Verdict, release: bool, node: NodeId, numbers: &[Absolute]) -> Option<Act<'_>>
-    ensures { option_map act_view result ≡ changes verdict release node numbers.now }
-{
     match verdict {
-        Verdict::Wrong | Verdict::Before => None,
-        Verdict::Change => Some(changing(release, node, numbers)),
+        Verdict::Wrong | Verdict::Before => {
+            Ok(tabled(seen, node, number, verdict.cause(), None))
+        }
+        Verdict::Change => {
+            let (held, marks) = (&mut scratch.held, &mut scratch.marks);
+            find_held(seen, node, top, numbers, held, marks)?;
+            let act = changing(release, node, &scratch.held);
+            Ok(tabled(seen, node, number, verdict.cause(), Some(act)))
+        }
     }
 }
 
+/// What a list is recorded as that changes its numbers.
 fn changing(release: bool, node: NodeId, numbers: &[Absolute]) -> Act<'_>
     ensures { act_view result ≡ changing release node numbers.now }
 {
@@ -173,10 +173,4 @@ fn add(
     into.push(number)?;
     marks.set(wire);
     Ok(())
-}
-
-fn is_held(state: KeyState) -> bool
-    ensures { result ≡ is_held state }
-{
-    matches!(state, KeyState::Held)
 }

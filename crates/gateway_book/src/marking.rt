@@ -46,6 +46,7 @@ impl<A: Area> Book<A> {
         ensures any_moment { CrashLeaves self.old self.new }
         ensures stays { Stays self.old self.new }
         ensures cause { HasCause self.old self.new }
+        ensures device { result ≡ Marked.Device → is_closed self.new.trail ≡ true }
         ensures planned { AsPlanned self.old self.new (asked_to_ready (value_of self.old)) }
     {
         match self.ready() {
@@ -68,6 +69,7 @@ impl<A: Area> Book<A> {
         ensures any_moment { CrashLeaves self.old self.new }
         ensures stays { Stays self.old self.new }
         ensures cause { HasCause self.old self.new }
+        ensures device { result ≡ Marked.Device → is_closed self.new.trail ≡ true }
         ensures planned { AsPlanned self.old self.new (asked_to_ready (value_of self.old)) }
     {
         match self.ready() {
@@ -109,6 +111,8 @@ impl<A: Area> Book<A> {
         ensures no_memory { Told A.Area → result ≡ Marked.NoMemory → value_of self.new ≡ value_of self.old }
         ensures firm { FirmStays self.old.trail self.new.trail }
         ensures stays { Stays self.old self.new }
+        ensures uncut { self.new.cuts ≡ self.old.cuts }
+        ensures never_device { result ≢ Marked.Device }
     {
         if !self.is_tick_due(now) {
             return Marked::NotDue;
@@ -125,6 +129,8 @@ impl<A: Area> Book<A> {
         ensures no_memory { Told A.Area → result ≡ Marked.NoMemory → value_of self.new ≡ value_of self.old }
         ensures firm { FirmStays self.old.trail self.new.trail }
         ensures stays { Stays self.old self.new }
+        ensures uncut { self.new.cuts ≡ self.old.cuts }
+        ensures never_device { result ≢ Marked.Device }
     {
         a_due_close_has_room();
         if !self.is_close_due() {
@@ -145,6 +151,7 @@ impl<A: Area> Book<A> {
         ensures no_memory { Told A.Area → result ≡ Marked.NoMemory → value_of self.new ≡ value_of self.old }
         ensures firm { FirmStays self.old.trail self.new.trail }
         ensures stays { Stays self.old self.new }
+        ensures quiet { (self.new.cuts ≡ self.old.cuts) × (result ≢ Marked.Device) }
     {
         let moment = self.moment_after(now);
         let entry = Entry {
@@ -175,6 +182,7 @@ impl<A: Area> Book<A> {
         ensures err { OnErr result (value_of self.new ≡ value_of self.old) }
         ensures firm { FirmStays self.old.trail self.new.trail }
         ensures stays { Stays self.old self.new }
+        ensures uncut { self.new.cuts ≡ self.old.cuts }
     {
         let (trail, index) = (&mut self.trail, &mut self.index);
         record(trail, index, entry)

@@ -1,6 +1,6 @@
 //! How a book is opened.
 ghost use Rattle.std.specs.Prelude.{◌≡◌, ◌≤◌, ℕ, IsTrue, true, false, [], List, IfErr, IfOk, OnOk, OnErr};
-ghost use Rattle.gate_journal.specs.Format.{Starts, header};
+ghost use Rattle.gate_journal.specs.Format.{Starts, fewest_octets, header, most_octets};
 ghost use Rattle.gate_journal.specs.Moments.{Told};
 ghost use Rattle.cgf_journal.specs.Trail.{area_of as trail_area, firm_entries, has_room_of, is_closed, waiting, waiting_octets};
 ghost use Rattle.gw_base.specs.declared.history.HistoryEntry.{HistoryEntry};
@@ -42,8 +42,8 @@ impl<A: Area> Book<A> {
     /// first octet of the header that differs, or the first open gate whose batch isn't whole or holds an entry that
     /// isn't fit; nothing was written then. It hands the area back where it fails.
     pub fn open(alloc: Global, area: A, setup: Setup) -> Result<Book<A>, (BookFault, A)>
-        requires long { 100 ≤ A.size area }
-        requires short { A.size area ≤ 268435456 }
+        requires long { fewest_octets ≤ A.size area }
+        requires short { A.size area ≤ most_octets }
 
         // The book has the history that the area stands for, or the area was made anew.
         ensures ok { let h = header (A.size area) setup.address 0 in IfOk result (IsOpened h area setup.open_time) }
@@ -79,7 +79,7 @@ impl<A: Area> Book<A> {
         scratch: Scratch,
         open_time: u64,
     ) -> Result<Book<A>, (BookFault, A)>
-        requires short { A.size (trail_area trail) ≤ 268435456 }
+        requires short { A.size (trail_area trail) ≤ most_octets }
         requires ready { is_closed trail ≡ false }
         requires none { waiting trail ≡ [] }
         requires emptied { waiting_octets trail ≡ 0 }

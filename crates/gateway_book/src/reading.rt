@@ -21,7 +21,10 @@ pub(crate) struct EntryBuffers {
 
 impl EntryBuffers {
     /// No octets, which take no memory.
-    pub(crate) fn new(alloc: Global) -> EntryBuffers {
+    pub(crate) fn new(alloc: Global) -> EntryBuffers
+        ensures octets { vec_len result.octets ≡ 0 }
+        ensures numbers { vec_len result.numbers ≡ 0 }
+    {
         EntryBuffers {
             octets: Vec::new(alloc),
             numbers: Vec::new(alloc),

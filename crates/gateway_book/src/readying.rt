@@ -1,6 +1,5 @@
 // What comes before a datagram is answered or a mark is made.
 ghost use Rattle.std.specs.Prelude.{◌≡◌, ◌≢◌, ◌≤◌, ◌+◌, IsTrue, true, false, if◌then◌else◌, OnOk, is_err};
-ghost use Rattle.area_disk.specs.Disk.{HasCause as HasFaults};
 ghost use Rattle.area_disk.specs.declared.plan.Outcome3.TheVariants.{New};
 ghost use Rattle.gate_journal.specs.Moments.{Told};
 ghost use Rattle.gate_journal.specs.Format.{longest_batch};
@@ -11,15 +10,13 @@ ghost use Rattle.gateway_book.specs.Value.{committed, faulted, is_batch_full, mo
 use crate::book::Book;
 use area_disk::Area;
 use cgf_journal::Device;
+use gate_journal::LONGEST_BATCH;
 
 /// The octets of a batch that the answer to one more datagram may need.
 const MOST_FOR_ONE: usize = 270_000;
 
-/// The most octets of a batch.
-const LONGEST_BATCH: usize = 1_048_576;
-
 impl<A: Area> Book<A> {
-    ghost use Rattle.gateway_book.specs.Book.{CrashLeaves, Stays, area_of, fortune_of, reopening_of, value_of};
+    ghost use Rattle.gateway_book.specs.Book.{CrashLeaves, HasCause, Stays, fortune_of, reopening_of, value_of};
     ghost use Rattle.gateway_book.specs.Comes.{AsPlanned, CommitsAsPlanned, ReopensAsPlanned};
 
     /// Opens the journal of a broken book again: it makes one call of the device, and writes nothing. After `Device`
@@ -33,7 +30,7 @@ impl<A: Area> Book<A> {
         ensures emptied { OnOk result (waiting_octets self.new.trail ≡ 0) }
         ensures any_moment { CrashLeaves self.old self.new }
         ensures stays { Stays self.old self.new }
-        ensures faults { HasFaults (A.faults (area_of self.old)) (A.faults (area_of self.new)) result }
+        ensures cause { HasCause self.old self.new }
         ensures planned { (IsTrue A.tells_fate → torn_stands self.old.trail ≡ stop_stands New self.old.trail) →
             ReopensAsPlanned self.old self.new }
     {
@@ -60,7 +57,7 @@ impl<A: Area> Book<A> {
         ensures emptied { OnOk result (waiting_octets self.new.trail ≡ 0) }
         ensures any_moment { CrashLeaves self.old self.new }
         ensures stays { Stays self.old self.new }
-        ensures faults { HasFaults (A.faults (area_of self.old)) (A.faults (area_of self.new)) result }
+        ensures cause { HasCause self.old self.new }
         ensures planned { waiting_octets self.old.trail ≢ 0 → CommitsAsPlanned self.old self.new }
     {
         let _firm = self.trail.firm();
@@ -92,7 +89,7 @@ impl<A: Area> Book<A> {
         ensures free { OnOk result (waiting_octets self.new.trail + most_for_one ≤ longest_batch) }
         ensures any_moment { CrashLeaves self.old self.new }
         ensures stays { Stays self.old self.new }
-        ensures faults { HasFaults (A.faults (area_of self.old)) (A.faults (area_of self.new)) result }
+        ensures cause { HasCause self.old self.new }
         ensures planned { AsPlanned self.old self.new (asked_to_ready (value_of self.old)) }
     {
         if self.trail.is_closed() {

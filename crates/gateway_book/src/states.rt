@@ -67,36 +67,36 @@ fn list(states: &mut BTreeMap<PacketKey, States>, key: PacketKey) -> Result<(), 
     }
 }
 
-// Gives a listed key a state on the live side.
-#[tactic(auto, unfolding(crate::specs::States::states_of))]
-fn mark(states: &mut BTreeMap<PacketKey, States>, key: PacketKey, state: KeyState)
+// Gives a listed key a state on the live side, and answers the one before.
+fn mark(states: &mut BTreeMap<PacketKey, States>, key: PacketKey, state: KeyState) -> KeyState
     requires { IsSome (states_of states.old key) }
-    ensures { IsMarking key state states.old states.new }
+    ensures before { result ≡ state_in false states.old key }
+    ensures marking { IsMarking key state states.old states.new }
 {
-    let firm = state_by(states, true, key);
-    match states.insert(key, States { firm, live: state }) {
-        Ok(_) => {}
-        Err(_) => unreachable!(),
+    match states.get_mut(&key) {
+        Some(states) => {
+            let before = states.live;
+            states.live = state;
+            before
+        }
+        None => unreachable!(),
     }
 }
 
 // Makes both states of a key those of one side.
-#[tactic(auto, unfolding(crate::specs::States::states_of))]
 fn settle(states: &mut BTreeMap<PacketKey, States>, key: PacketKey, firm: bool)
     ensures { (side : Bool) (q : PacketKey) → state_in side states.new q ≡
         (if same_key key q then state_in firm states.old q else state_in side states.old q) }
 {
-    let Some(old) = states_of(states, key) else {
-        return;
-    };
-    let state = old.state(firm);
-    let settled = States {
-        firm: state,
-        live: state,
-    };
-    match states.insert(key, settled) {
-        Ok(_) => {}
-        Err(_) => unreachable!(),
+    match states.get_mut(&key) {
+        Some(states) => {
+            let state = states.state(firm);
+            *states = States {
+                firm: state,
+                live: state,
+            };
+        }
+        None => {}
     }
 }
 
@@ -149,13 +149,14 @@ impl StateTable {
         list(&mut self.states, key)
     }
 
-    /// Gives a key a state on the live side.
-    pub(crate) fn set(&mut self, key: PacketKey, state: KeyState)
+    /// Gives a key a state on the live side, and answers the one before.
+    pub(crate) fn set(&mut self, key: PacketKey, state: KeyState) -> KeyState
         requires { IsPlaced self.old key }
+        ensures before { result ≡ state_in false self.old.states key }
         ensures marking { IsMarking key state self.old.states self.new.states }
         ensures placed { (q : PacketKey) → IsPlaced self.old q → IsPlaced self.new q }
     {
-        mark(&mut self.states, key, state);
+        mark(&mut self.states, key, state)
     }
 
     /// Makes both sides what one of them is.

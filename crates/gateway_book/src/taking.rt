@@ -102,6 +102,7 @@ impl<A: Area> Book<A> {
             (decided (answer_to (history_of (value_of self.old)) from (case_value case.now) (size_of self.old))) }
         ensures firm { FirmStays self.old.trail self.new.trail }
         ensures stays { Stays self.old self.new }
+        ensures uncut { self.new.cuts ≡ self.old.cuts }
     {
         an_index_tells_its_history();
         let moment = self.moment_after(now);
@@ -120,6 +121,7 @@ impl<A: Area> Book<A> {
         ensures no_memory { Told A.Area → result ≡ NoMemory → value_of self.new ≡ value_of self.old }
         ensures firm { FirmStays self.old.trail self.new.trail }
         ensures stays { Stays self.old self.new }
+        ensures uncut { self.new.cuts ≡ self.old.cuts }
     {
         match self.add_answer(from, case, now, who) {
             Done::Silent(why) => Outcome::Drop(why),

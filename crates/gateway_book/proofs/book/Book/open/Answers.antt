@@ -1,9 +1,10 @@
-use Rattle.std.proofs.Common.{◌≡◌, ◌⊎◌, [], refl, sym, ◌∙◌}
+use Rattle.std.proofs.Common.{◌≡◌, ◌⊎◌, [], refl, sym, ap, ◌∙◌}
 use Rattle.area_disk.specs.Disk.{counted}
 use Rattle.gate_journal.specs.Format.{Starts, header}
 use Rattle.gate_journal.specs.Moments.{Leaves}
 use Rattle.cgf_journal.specs.Format.{StandsFor}
 use Rattle.cgf_journal.specs.Trail.{firm_entries}
+use Rattle.gateway_book.specs.Faults.{book_fault}
 use Rattle.gateway_book.proofs.OpeningPlans.{opened_as_planned, refused_as_planned}
 use Rattle.gateway_book.proofs.Openings.{device_is, err_is, foreign_is, found_fit, if_ok_area, listed_as, not_ours_is, ok_is, on_area, unwritten_is}
 use Rattle.gateway_book.proofs.book.Book.open.Goals as goal
@@ -61,6 +62,7 @@ returns-in-Err-clause-err g c =
       place = λ told at e. refused.place told at (not_ours_is c.in-Err.fault at (sym c.fault_of.ensures ∙ e));
       unwritten = λ told at e. unwritten_is c.in-Err.fault at (not_ours_is c.in-Err.fault at (sym c.fault_of.ensures ∙ e)) (refused.unwritten told);
       cause = λ e. refused.cause (device_is c.in-Err.fault (sym c.fault_of.ensures ∙ e));
+      still = λ other. refused.still (λ e. other (c.fault_of.ensures ∙ ap book_fault e));
       faults = refused.faults;
     }
 

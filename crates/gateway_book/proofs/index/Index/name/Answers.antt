@@ -12,7 +12,7 @@ pub returns : goal.returns
 unfolding side_of named
 returns c =
     let mark = sym c.mark-mark.ensures.mark in
-    let before = c.is_held-before.ensures ∙ ap (λ (state : KeyState). is_held state) (c.state.ensures ∙ ap (λ (key : PacketKey). state_in false c.args.self.now.states.states key) c.key-key.ensures) in
+    let before = c.is_held-before.ensures ∙ ap (λ (state : KeyState). is_held state) (c.set.ensures.before ∙ ap (λ (key : PacketKey). state_in false c.args.self.now.states.states key) c.key-key.ensures) in
     let held = sym (c.recounted-held.ensures ∙ (λ i. recounted (before i) (c.is_held-after.ensures i) (c.mark-mark.ensures.mark i).held)) in
     let total = sym (c.recounted-self.ensures ∙ (λ i. recounted (before i) (c.is_held-after.ensures i) c.args.self.now.live.held)) in
     remarked_step (named c.args.node c.args.number c.args.state) c.args.self.now _ c.args.node _ (named c.args.node c.args.number c.args.state (side_of false c.args.self.now)).state refl c.set.ensures.marking.firm

@@ -8,8 +8,8 @@ mark-requires c = c.requires.0
 
 pub invariant_of-self : goal.invariant_of-self
 unfolding IsPlaced
-invariant_of-self c = record { agree = agree_still _ _ _ _ _ c.args.self.now.agree c.requires.1 c.mark.ensures }
+invariant_of-self c = record { agree = agree_still _ _ _ _ _ c.args.self.now.agree c.requires.1 c.mark.ensures.marking }
 
 pub returns-clause-placed : goal.returns-clause-placed
 unfolding IsPlaced
-returns-clause-placed c = λ q h. (c.mark.ensures.listed q h.0, h.1)
+returns-clause-placed c = λ q h. (c.mark.ensures.marking.listed q h.0, h.1)
