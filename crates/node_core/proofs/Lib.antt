@@ -30,3 +30,6 @@ pub mod SentLemmas
 pub mod WaitsLemmas
 pub mod StillWaitsLemmas
 pub mod RequestsLemmas
+pub mod DrawnLemmas
+pub mod RisingLemmas
+pub mod KnowingLemmas

@@ -1,11 +1,13 @@
 -- One more entry of the log makes of a node what befalls it.
-use Rattle.std.proofs.Common.{◌≡◌, ℕ, zero, suc, min, ◌+◌, ◌%◌, ◌==◌, Bool, true, false, IsTrue, if◌then◌else◌, List, [], ◌∷◌, ◌++◌, length, map, Option, Some, None, refl, sym, ap, ◌∙◌, arith}
+use Rattle.std.proofs.Common.{◌≡◌, ℕ, zero, suc, min, ◌+◌, ◌%◌, ◌==◌, nat_lt, Bool, true, false, IsTrue, if◌then◌else◌, List, [], ◌∷◌, ◌++◌, map, Option, Some, None, refl, sym, ap, ◌∙◌, arith}
 use Rattle.std.specs.Prelude.{slice_get, slice_set}
 use Rattle.std.specs.Option.{option_map_or}
 use Rattle.gw_base.specs.declared.address.Addr.{Addr}
 use Rattle.path_mgmt.specs.NodePath.{PathsOfNode, node_after, node_anew}
 use Rattle.path_mgmt.specs.declared.event.PathEvent.{PathEvent}
 use Rattle.path_mgmt.specs.declared.event.PathEvent.TheVariants.{EchoAsked, EchoTold, AliveAsked, AliveTold}
+use Rattle.gtpp_message.specs.Packet.{PacketForm}
+use Rattle.node_core.specs.declared.fault.SubmitFault.{SubmitFault}
 use Rattle.node_core.specs.declared.peer.Peer.{Peer}
 use Rattle.node_core.specs.declared.port.Port.{Port}
 use Rattle.node_core.specs.declared.sending.Sending.{Sending}
@@ -13,7 +15,9 @@ use Rattle.node_core.specs.declared.sending.Sending.TheVariants as send
 use Rattle.node_core.specs.Log.{LogEntry, Began, Halted, Submitted, Appointed, Ticked, Heard, NodeSetup, Saying, Path, Redirects, Responds, Other, counter_of, favourite, has_entries, paths_hearing, paths_of, peers_of, quiet_ticks, restarted}
 use Rattle.node_core.specs.Hearing.{Dropped, Says, Taken, entries_from, heard_entries, taken, taken_entries}
 use Rattle.node_core.specs.Moving.{appointing, moved_at_tick, moved_by}
-use Rattle.node_core.specs.Peers.{all_drawn, at_place, drawn, end_of_numbers, number_drawn, path_drawn, peer_anew, place_of}
+use Rattle.node_core.specs.Peers.{all_drawn, at_place, drawn, end_of_numbers, number_drawn, peer_anew, place_of}
+use Rattle.node_core.specs.Reached.{NodeCall, Submit, Tick, Hear, Halt, Start, call_entries, entries_halted, entries_running, log_of, most_submissions, reached, submit_entries}
+use Rattle.node_core.specs.Submitting.{refusal}
 use Rattle.node_core.specs.Ticks.{due, tick_entries}
 use Rattle.node_core.specs.Value.{IsNode, NodeValue, CanFollow, CanFollowAll, befallen, befell, logged, most_quiet, node_of, peers_anew}
 
@@ -153,3 +157,50 @@ heard_follow node log port from octets = by (place_of node.gateways from.ip)
     by : (place : Option ℕ) → CanFollowAll (entries_from node port place octets) log
     by None = tt
     by (Some gateway) = taken_follow node log port gateway (taken node gateway octets)
+
+-- ---- one more call
+
+logged_has : (entries log : List LogEntry) → has_entries log ≡ true → has_entries (logged entries log) ≡ true
+logged_has [] log has = has
+logged_has (entry ∷ entries) log has = logged_has entries (entry ∷ log) refl
+
+log_begun : (setup : NodeSetup) (calls : List NodeCall) → has_entries (log_of setup calls) ≡ true
+log_begun setup [] = refl
+log_begun setup (call ∷ calls) =
+    logged_has (call_entries (node_of setup (log_of setup calls)) call) (log_of setup calls) (log_begun setup calls)
+
+submit_follow : (node : NodeValue) (fault : Option SubmitFault) (form : PacketForm) (log : List LogEntry) →
+    CanFollowAll (submit_entries node fault form) log
+submit_follow node None form log = by (nat_lt node.submissions most_submissions)
+  where
+    by : (is : Bool) → CanFollowAll (if is then Submitted form ∷ [] else []) log
+    by true = (tt, tt)
+    by false = tt
+submit_follow node (Some fault) form log = tt
+
+running_follow : (node : NodeValue) (call : NodeCall) (log : List LogEntry) → CanFollowAll (entries_running node call) log
+running_follow node (Submit form) log = submit_follow node (refusal node form) form log
+running_follow node Tick log = tick_follow node log
+running_follow node (Hear port from octets) log = heard_follow node log port from octets
+running_follow node Halt log = (tt, tt)
+running_follow node Start log = tt
+
+halted_follow : (call : NodeCall) (log : List LogEntry) → has_entries log ≡ true → CanFollowAll (entries_halted call) log
+halted_follow (Submit form) log has = tt
+halted_follow Tick log has = tt
+halted_follow (Hear port from octets) log has = tt
+halted_follow Halt log has = (tt, tt)
+halted_follow Start log has = (has, tt)
+
+call_follow : (node : NodeValue) (call : NodeCall) (log : List LogEntry) → has_entries log ≡ true → CanFollowAll (call_entries node call) log
+call_follow node call log has = by node.is_running
+  where
+    by : (is : Bool) → CanFollowAll (if is then entries_running node call else entries_halted call) log
+    by true = running_follow node call log
+    by false = halted_follow call log has
+
+pub call_goes_on : (setup : NodeSetup) (call : NodeCall) (calls : List NodeCall) →
+    reached setup (call ∷ calls) ≡ befallen (call_entries (reached setup calls) call) (reached setup calls)
+call_goes_on setup call calls =
+    entries_befall setup (call_entries (reached setup calls) call) (log_of setup calls)
+    (call_follow (reached setup calls) call (log_of setup calls) (log_begun setup calls))

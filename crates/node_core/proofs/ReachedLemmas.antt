@@ -92,7 +92,7 @@ path_alike gateway number peers = by (slice_get peers gateway) refl
     by None e = alike_itself peers
     by (Some peer) e = record { size = size_set peers gateway _; numbers = λ other. next_set peers gateway other peer _ e refl }
 
-probes_alike : (gateway : ℕ) (paths : PathsOfNode) (probed peers : List Peer) → Alike peers (all_drawn (probes_from gateway paths probed) peers)
+pub probes_alike : (gateway : ℕ) (paths : PathsOfNode) (probed peers : List Peer) → Alike peers (all_drawn (probes_from gateway paths probed) peers)
 probes_alike gateway paths [] peers = alike_itself peers
 probes_alike gateway paths (peer ∷ probed) peers = by (is_alive paths gateway) (probes_alike (suc gateway) paths probed)
   where
@@ -101,12 +101,12 @@ probes_alike gateway paths (peer ∷ probed) peers = by (is_alive paths gateway)
     by true rest = rest peers
     by false rest = alike_on peers _ _ (path_alike gateway peer.path peers) (rest (path_drawn gateway peer.path peers))
 
-go_on : (peers other : List Peer) → Alike peers other → GoOn peers other
+pub go_on : (peers other : List Peer) → Alike peers other → GoOn peers other
 go_on peers other is = record { size = is.size; numbers = λ gateway. omega (arith, is.numbers gateway) }
 
 -- ---- where the favourite moves to
 
-abbrev Within : ℕ → Option ℕ → Type 0
+abbrev pub Within : ℕ → Option ℕ → Type 0
 Within size to = IfSome to (λ gateway. gateway < size)
 
 next_within : (size gateway : ℕ) → Within size (next_place size gateway)
@@ -149,7 +149,7 @@ redirected_within peers gateway to = either (another gateway (option_and_then (p
     either None is = next_within (length peers) gateway
     either (Some place) is = is
 
-tick_within : (node : NodeValue) → Within (length node.gateways) (moved_at_tick node)
+pub tick_within : (node : NodeValue) → Within (length node.gateways) (moved_at_tick node)
 tick_within node = by (is_silent node)
   where
     by : (is : Bool) → Within (length node.gateways) (if is then next_place (length node.gateways) node.favourite_place else None)

@@ -157,7 +157,7 @@ module _ (favourite : ℕ) (up : Bool) where
       let here : packet_weight gateway packet ≡ weight gateway packet.copies = ap (λ (b : Bool). weight_unless b (weight gateway packet.copies)) open_yet in
       omega (arith, bounded gateway within, here, left, few)
 
-  one_packet : (most : ℕ) (peers : List Peer) (packet : PacketState) (packets : List PacketState) → most ≤ 9223372036854775808 → favourite < length peers →
+  pub one_packet : (most : ℕ) (peers : List Peer) (packet : PacketState) (packets : List PacketState) → most ≤ 9223372036854775808 → favourite < length peers →
       IsKept peers packet.copies → Bounded most peers (packet ∷ packets) →
       Moves peers (packet ∷ packets) (all_drawn (due_for favourite up peers packet) peers) (packet_after_all (due_for favourite up peers packet) packet ∷ packets)
   one_packet most peers packet packets few within kept bounded = by (is_done packet.copies) refl

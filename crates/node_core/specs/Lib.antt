@@ -23,3 +23,4 @@ pub mod Roles
 pub mod Choosing
 pub mod Sent
 pub mod Nearness
+pub mod Knowing

@@ -1,9 +1,11 @@
--- What the request numbers of a gateway are used for: each that was drawn since the start is the number of one copy, or of one
--- release or cancel.
+-- What the request numbers of a gateway are used for: each that was drawn since the start is the number of one copy, or
+-- of one release or cancel; and numbers rise.
 use Rattle.std.specs.Prelude.{◌≡◌, ◌≢◌, ℕ, ◌+◌, ◌<◌, ◌≤◌, ◌==◌, true, false, if◌then◌else◌, All, AllPairs, IfSome, List, [], ◌∷◌, length, Option, Some, None}
 use Rattle.node_core.specs.declared.copy.Command.{Command}
 use Rattle.node_core.specs.declared.copy.PacketCopy.{PacketCopy}
 use Rattle.node_core.specs.declared.peer.Peer.{Peer}
+use Rattle.node_core.specs.declared.sending.Sending.{Sending}
+use Rattle.node_core.specs.declared.sending.Sending.TheVariants as send
 use Rattle.node_core.specs.Packets.{PacketState}
 use Rattle.node_core.specs.Peers.{next_number}
 use Rattle.node_core.specs.Value.{NodeValue}
@@ -36,6 +38,15 @@ pub record HasOneRole (node : NodeValue) (gateway number : ℕ) : Type 0 where
   pub before : number < 65536 → uses gateway number node.packets ≡ 0
   pub drawn : 65536 ≤ number → number < next_number node.gateways gateway → uses gateway number node.packets ≡ 1
   pub behind : next_number node.gateways gateway ≤ number → uses gateway number node.packets ≡ 0
+
+-- a number that the sending draws is at least the next one of its gateway before, and below the next one after
+abbrev pub DrawsBetween : List Peer → List Peer → Sending → Type 0
+DrawsBetween before after (send.Probe gateway path) = Unit {0}
+DrawsBetween before after (send.Data packet gateway number is_plain is_new) =
+    is_new ≡ true → (next_number before gateway ≤ number) × (number < next_number after gateway)
+DrawsBetween before after (send.Test packet gateway number) = Unit {0}
+DrawsBetween before after (send.Command packet gateway named number order is_new) =
+    is_new ≡ true → (next_number before gateway ≤ number) × (number < next_number after gateway)
 
 -- ---- the copies of a packet
 

@@ -7,12 +7,13 @@ ghost use Rattle.node_core.specs.declared.copy.Order.TheVariants as order;
 ghost use Rattle.node_core.specs.declared.sending.Sending.TheVariants as send;
 ghost use Rattle.node_core.specs.Choosing.{IsChoiceOf, ReleasesChoice};
 ghost use Rattle.node_core.specs.Growing.{Extends, PacketGrows, is_within_start};
+ghost use Rattle.node_core.specs.Knowing.{AreKnown};
 ghost use Rattle.node_core.specs.Log.{LogEntry, NodeSetup, packets_of};
 ghost use Rattle.node_core.specs.Nearness.{ComesSoon, HasCopy, HasOpenCopy, IsCopyOrBase, all_unsettled_at};
 ghost use Rattle.node_core.specs.Peers.{next_number};
-ghost use Rattle.node_core.specs.Reached.{NodeCall, Tick, reached};
+ghost use Rattle.node_core.specs.Reached.{NodeCall, Tick, log_of, reached};
 ghost use Rattle.node_core.specs.Resting.{AllRestOn, since_start};
-ghost use Rattle.node_core.specs.Roles.{HasOneRole, IsSingle};
+ghost use Rattle.node_core.specs.Roles.{DrawsBetween, HasOneRole, IsSingle};
 ghost use Rattle.node_core.specs.Sent.{IsSent};
 ghost use Rattle.node_core.specs.Submitting.{least, unsettled_at};
 ghost use Rattle.node_core.specs.Ticks.{due};
@@ -22,6 +23,14 @@ ghost use Rattle.node_core.specs.Value.{NodeValue};
 /// that it heard since its start from the copy's gateway and that names just this number.
 pub fn knowledge_rests_on_responses()
     ensures { (log : List LogEntry) → All (AllRestOn (since_start log)) (packets_of log) }
+{}
+
+/// What a node knows of an open packet's copy is what the first response tells that says something
+/// of it, among those to its number that were heard from its gateway since the number was drawn. A
+/// release or a cancel is fulfilled where one of those to its own number says so.
+pub fn the_first_telling_response_decides()
+    ensures { (setup : NodeSetup) (calls : List NodeCall) → 1 ≤ length setup.gateways →
+        All (AreKnown (log_of setup calls)) (reached setup calls).packets }
 {}
 
 /// Within a start packets and copies stay, what is known of them stays, and what is resolved or done
@@ -64,6 +73,18 @@ pub fn a_gateway_gets_one_copy()
 pub fn each_number_has_one_role()
     ensures { (setup : NodeSetup) (calls : List NodeCall) (gateway number : ℕ) → 1 ≤ length setup.gateways →
         gateway < length setup.gateways → HasOneRole (reached setup calls) gateway number }
+{}
+
+/// Numbers rise: each request number that a tick draws is at least the gateway's next one before it and
+/// below the next one after it, and no next number falls.
+pub fn numbers_rise()
+    ensures drawn { (setup : NodeSetup) (calls : List NodeCall) → 1 ≤ length setup.gateways →
+        (reached setup calls).is_running ≡ true →
+        All (DrawsBetween (reached setup calls).gateways (reached setup (Tick ∷ calls)).gateways)
+        (due (reached setup calls)) }
+    ensures next { (setup : NodeSetup) (calls : List NodeCall) (gateway : ℕ) → 1 ≤ length setup.gateways →
+        next_number (reached setup calls).gateways gateway
+        ≤ next_number (reached setup (Tick ∷ calls)).gateways gateway }
 {}
 
 /// At each gateway the number of an open packet's copy is at most 16,511 below the next one.

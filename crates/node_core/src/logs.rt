@@ -5,6 +5,7 @@ ghost use Rattle.gw_base.specs.declared.address.Addr.{Addr};
 ghost use Rattle.node_core.specs.declared.port.Port.{Port};
 ghost use Rattle.node_core.specs.Hearing.{heard_entries};
 ghost use Rattle.node_core.specs.Log.{LogEntry, NodeSetup};
+ghost use Rattle.node_core.specs.Reached.{NodeCall, call_entries, reached};
 ghost use Rattle.node_core.specs.Ticks.{tick_entries};
 ghost use Rattle.node_core.specs.Value.{CanFollowAll, IsNode, NodeValue, befallen, logged};
 
@@ -20,4 +21,11 @@ pub fn ticks_and_messages_follow_every_log()
     ensures tick { (node : NodeValue) (log : List LogEntry) → CanFollowAll (tick_entries node) log }
     ensures hear { (node : NodeValue) (log : List LogEntry) (port : Port) (from : Addr) (octets : List ℕ) →
         CanFollowAll (heard_entries node port from octets) log }
+{}
+
+/// A node after one more call is what befalls it by that call. So a node that each of its calls moves
+/// so is one that its calls reach, and what holds of every such node holds of it.
+pub fn each_call_goes_on()
+    ensures { (setup : NodeSetup) (call : NodeCall) (calls : List NodeCall) → reached setup (call ∷ calls)
+        ≡ befallen (call_entries (reached setup calls) call) (reached setup calls) }
 {}

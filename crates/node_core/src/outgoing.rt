@@ -14,12 +14,9 @@ use crate::node::Node;
 use crate::peer::address_at;
 use crate::sending::Sending;
 use gtpp_elements::Numbers;
-use gtpp_message::{Message, Packet, Transfer, write};
+use gtpp_message::{Message, Packet, Transfer, reply, write};
 use gw_base::{Buffer, NoMemory, Octets};
 use std::alloc::Global;
-
-/// Room for the octets of a message that sends no packet.
-const SHORT_OCTETS: usize = 64;
 
 /// How many octets a request has before the value of its packet: the header, the command, and type and
 /// length of the packet's element.
@@ -65,7 +62,7 @@ impl Node {
                 let message = Message::NodeAliveRequest {
                     address: Some(&address),
                 };
-                message_octets(alloc, SHORT_OCTETS, u64::from(number), &message)
+                short_octets(alloc, u64::from(number), &message)
             }
             Sending::Data {
                 packet,
@@ -84,12 +81,7 @@ impl Node {
             }
             Sending::Test { number, .. } => {
                 let body = Transfer::Possible(Packet::Empty);
-                message_octets(
-                    alloc,
-                    SHORT_OCTETS,
-                    number,
-                    &Message::TransferRequest { body },
-                )
+                short_octets(alloc, number, &Message::TransferRequest { body })
             }
             Sending::Command {
                 named,
@@ -125,12 +117,7 @@ fn order_octets(alloc: Global, number: u64, order: Order, named: u64) -> Result<
         Order::Release => Transfer::Release(numbers),
         Order::Cancel => Transfer::Cancel(numbers),
     };
-    message_octets(
-        alloc,
-        SHORT_OCTETS,
-        number,
-        &Message::TransferRequest { body },
-    )
+    short_octets(alloc, number, &Message::TransferRequest { body })
 }
 
 /// How many octets the value of a packet has.
@@ -141,6 +128,15 @@ fn value_length(packet: &Packet<'_>) -> usize
         Packet::Full { value, .. } => value.len(),
         Packet::Empty => 0,
     }
+}
+
+/// The octets of a message that sends no packet, with the last 16 bits of this number.
+fn short_octets(alloc: Global, number: u64, message: &Message<'_>) -> Result<Octets, NoMemory>
+    requires { length (body_octets (message_value message.now)) + 6 ≤ 64 }
+    ensures { IfOk result (λ octets. octets ≡ written (wire number) (message_value message.now)) }
+{
+    let short = reply((number % 65_536) as u16, message);
+    Octets::of(alloc, short.octets())
 }
 
 /// The octets of a message with the last 16 bits of this number, where they have so much room.

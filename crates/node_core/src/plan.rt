@@ -34,20 +34,21 @@ pub(crate) fn plan_all(
         ≡ all_drawn (due_for_all aim.favourite aim.is_alive peers.old packets.now) peers.old) }
     ensures numbers { AreNumbers peers.new }
 {
+    let mut own = Vec::new(alloc);
     for packet in packets {
         let mut packet = packet.copied(alloc)?;
-        plan(alloc, aim, peers, &mut packet, sendings)?;
+        plan(aim, peers, &mut packet, &mut own, sendings)?;
         after.push(packet)?;
     }
     Ok(())
 }
 
-/// Plans what is due for a packet, and notes it.
+/// Plans what is due for a packet, and notes it. What `own` held is forgotten.
 fn plan(
-    alloc: Global,
     aim: Aim,
     peers: &mut [Peer],
     packet: &mut NodePacket,
+    own: &mut Vec<Sending>,
     sendings: &mut Vec<Sending>,
 ) -> Result<(), NoMemory>
     requires { AreNumbers peers.old }
@@ -59,10 +60,10 @@ fn plan(
         ≡ all_drawn (due_for aim.favourite aim.is_alive peers.old packet.old) peers.old) }
     ensures numbers { AreNumbers peers.new }
 {
-    let mut own = Vec::new(alloc);
-    due_for(aim, peers, packet, &mut own)?;
-    send_all(&own, peers, packet)?;
-    sendings.extend_from_slice(&own)?;
+    own.clear();
+    due_for(aim, peers, packet, own)?;
+    send_all(own, peers, packet)?;
+    sendings.extend_from_slice(own)?;
     Ok(())
 }
 
