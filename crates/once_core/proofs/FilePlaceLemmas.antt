@@ -1,6 +1,7 @@
--- Each record that a history files stands at one place of its files.
-use Rattle.std.proofs.Common.{◌≡◌, ℕ, zero, suc, ◌+◌, Bool, true, false, cond, List, [], ◌∷◌, ◌++◌, length, map, Option, Some, None, refl, sym, ap, subst, ◌∙◌, arith}
+-- Each record that a history files stands at one place of its files, and what stands there is the record.
+use Rattle.std.proofs.Common.{◌≡◌, ⊎_elim, ℕ, zero, suc, ◌+◌, Bool, true, false, cond, List, [], ◌∷◌, ◌++◌, length, map, Option, Some, None, Contains, refl, sym, ap, subst, ◌∙◌, arith}
 use Rattle.std.proofs.lemmas.Bool.{false≢true}
+use Rattle.std.proofs.lemmas.List.Elements.{Contains-append_cases, Contains-append_left, Contains-append_right}
 use Rattle.std.proofs.lemmas.List.Sums.{sum_by-append, sum_by-cons}
 use Rattle.std.specs.Prelude.{count_by, is_some, slice_get}
 use Rattle.std.specs.List.{cons_option, enumerate_from, filter_map}
@@ -19,7 +20,9 @@ use Rattle.gw_base.specs.declared.item.Item.{Item}
 use Rattle.gw_base.specs.declared.item.Item.TheVariants as item
 use Rattle.gw_base.specs.declared.kind.CdrKind.{CdrKind}
 use Rattle.gw_base.specs.declared.tag.Tag.{Tag}
-use Rattle.once_core.specs.FilePlaces.{file_places, is_source, place_where, sources_by, sources_by_act, sources_of}
+use Rattle.once_core.specs.FilePlaces.{IsRecordAt, StandsAt, file_places, is_source, place_where, sources_by, sources_by_act, sources_of}
+use Rattle.once_core.proofs.ListLemmas.{get_contains, in_cons, in_none}
+use Rattle.once_core.proofs.WaitingLemmas.{of_map}
 
 -- ---- each item has its source
 
@@ -160,3 +163,111 @@ module _ (key : PacketKey) (index : ℕ) where
       where
         none_before : (k : ℕ) → k ≡ 0 + k
         none_before k = omega arith
+
+-- ---- what stands at a place
+
+-- the item with a number is of the record that its source is
+pub same_item : (h : List HistoryEntry) (k : ℕ) (r : FiledRecord) → slice_get (sources_of h) k ≡ Some (Some r) → slice_get (items_of h) k ≡ Some (part_of r)
+same_item h k r e = item_at (sources_of h) (items_of h) (of_history [] h) k r e
+
+-- each source is a filed record
+of_some : (rs : List FiledRecord) (r : FiledRecord) → Contains (map Some rs) (Some r) → Contains rs r
+of_some rs r is =
+    let there = of_map (λ (x : FiledRecord). Some x) rs (Some r) is in
+    subst (Contains rs) (ap (λ (o : Option FiledRecord). option_map_or (λ x. x) o r) there.2) there.1
+
+no_mark : (r : FiledRecord) → Contains (None ∷ []) (Some r) → ⊥
+no_mark r is = ⊎_elim (λ e. absurd (false≢true (ap is_some e))) (λ none. in_none (Some r) none) (in_cons None (Some r) [] is)
+
+filed_act : (before : List HistoryEntry) (moment : ℕ) (a : HistoryAct) (r : FiledRecord) → Contains (sources_by_act before moment a) (Some r)
+    → Contains (filed_by_act before moment a) r
+filed_act before moment act.Start r is = absurd (in_none (Some r) is)
+filed_act before moment (act.Path n port counter) r is = absurd (in_none (Some r) is)
+filed_act before moment (act.File n x packet) r is = of_some (filed_by_act before moment (act.File n x packet)) r is
+filed_act before moment (act.Hold n x packet) r is = absurd (in_none (Some r) is)
+filed_act before moment (act.Seal n x) r is = absurd (in_none (Some r) is)
+filed_act before moment (act.Release n xs) r is = of_some (filed_by_act before moment (act.Release n xs)) r is
+filed_act before moment (act.Cancel n xs) r is = absurd (in_none (Some r) is)
+filed_act before moment act.Tick r is = absurd (no_mark r is)
+filed_act before moment act.Close r is = absurd (no_mark r is)
+
+filed_along : (before h : List HistoryEntry) (r : FiledRecord) → Contains (along sources_by before h) (Some r) → Contains (along filed_by before h) r
+filed_along before [] r is = absurd (in_none (Some r) is)
+filed_along before (e ∷ h) r is = ⊎_elim
+    (λ here. Contains-append_left (filed_by before e) (along filed_by (before ++ e ∷ []) h) r (filed_act before e.moment e.act r here))
+    (λ later. Contains-append_right (filed_by before e) (along filed_by (before ++ e ∷ []) h) r (filed_along (before ++ e ∷ []) h r later))
+    (Contains-append_cases (sources_by before e) (along sources_by (before ++ e ∷ []) h) (Some r) is)
+
+module _ (key : PacketKey) (index : ℕ) (settings : Settings) (h : List HistoryEntry) where
+  abbrev found_at : ℕ × Option FiledRecord → Option FilePlace
+  found_at item = place_where (is_source key index item.1) settings h item.0
+
+  -- a place of theirs is that of one of these sources, which stand from a number on
+  record IsFrom (n : ℕ) (ss : List (Option FiledRecord)) (place : FilePlace) : Type 0 where
+    k : ℕ
+    filing : FiledRecord
+    source : slice_get ss k ≡ Some (Some filing)
+    is : is_record_of key index filing ≡ true
+    place_is : place_in settings (items_of h) (n + k) ≡ Some place
+
+  is_later : (n : ℕ) (s : Option FiledRecord) (ss : List (Option FiledRecord)) (place : FilePlace) → IsFrom (n + 1) ss place → IsFrom n (s ∷ ss) place
+  is_later n s ss place rest =
+      let shift : n + 1 + rest.k ≡ n + suc rest.k = omega arith in
+      record {
+        k = suc rest.k;
+        filing = rest.filing;
+        source = rest.source;
+        is = rest.is;
+        place_is = subst (λ (m : ℕ). place_in settings (items_of h) m ≡ Some place) shift rest.place_is;
+      }
+
+  is_here : (n : ℕ) (r : FiledRecord) (ss : List (Option FiledRecord)) (place : FilePlace) → is_record_of key index r ≡ true → place_in settings (items_of h) n ≡ Some place
+      → IsFrom n (Some r ∷ ss) place
+  is_here n r ss place test found =
+      let none_before : n ≡ n + 0 = omega arith in
+      record {
+        k = 0;
+        filing = r;
+        source = refl;
+        is = test;
+        place_is = subst (λ (m : ℕ). place_in settings (items_of h) m ≡ Some place) none_before found;
+      }
+
+  is_from : (n : ℕ) (ss : List (Option FiledRecord)) (place : FilePlace) → Contains (filter_map found_at (enumerate_from n ss)) place → IsFrom n ss place
+  is_from n [] place is = absurd (in_none place is)
+  is_from n (None ∷ ss) place is = is_later n None ss place (is_from (n + 1) ss place is)
+  is_from n (Some r ∷ ss) place is =
+      by_test (is_record_of key index r) refl is (λ later. is_later n (Some r) ss place (is_from (n + 1) ss place later))
+    where
+      by_place : is_record_of key index r ≡ true → (o : Option FilePlace) → place_in settings (items_of h) n ≡ o
+          → Contains (cons_option o (filter_map found_at (enumerate_from (n + 1) ss))) place
+          → (Contains (filter_map found_at (enumerate_from (n + 1) ss)) place → IsFrom n (Some r ∷ ss) place) → IsFrom n (Some r ∷ ss) place
+      by_place test None e is later = later is
+      by_place test (Some p) e is later = ⊎_elim
+          (λ here. is_here n r ss place test (e ∙ ap (λ (q : FilePlace). Some q) here))
+          later
+          (in_cons p place (filter_map found_at (enumerate_from (n + 1) ss)) is)
+
+      by_test : (b : Bool) → is_record_of key index r ≡ b
+          → Contains (cons_option (place_where b settings h n) (filter_map found_at (enumerate_from (n + 1) ss))) place
+          → (Contains (filter_map found_at (enumerate_from (n + 1) ss)) place → IsFrom n (Some r ∷ ss) place) → IsFrom n (Some r ∷ ss) place
+      by_test true test is later = by_place test (place_in settings (items_of h) n) refl is later
+      by_test false test is later = later is
+
+  -- what stands at each of the places of a record is the record, as it was filed
+  pub record_there : ((items : List Item) (k : ℕ) (kind : CdrKind) (tag : Option Tag) (octets : List ℕ) (moment : ℕ)
+      → slice_get items k ≡ Some (item.Part kind tag octets moment) → HasPlace settings items k kind tag octets moment)
+      → (place : FilePlace) → Contains (file_places settings key index h) place → IsRecordAt settings key index h place
+  record_there has place is =
+      let from = is_from 0 (sources_of h) place is in
+      let r = from.filing in
+      let place_has = has (items_of h) from.k r.kind r.tag r.octets r.moment (same_item h from.k r from.source) in
+      let shift : from.k ≡ 0 + from.k = omega arith in
+      let both : Some place_has.place ≡ Some place = sym place_has.found ∙ ap (place_in settings (items_of h)) shift ∙ from.place_is in
+      let same : place_has.place ≡ place = ap (λ (o : Option FilePlace). option_map_or (λ p. p) o place) both in
+      record {
+        filing = r;
+        kept = filed_along [] h r (get_contains (sources_of h) from.k (Some r) from.source);
+        is = from.is;
+        there = subst (λ (p : FilePlace). StandsAt settings h p r) same place_has.there;
+      }

@@ -133,6 +133,7 @@ first_made values rules gateways nodes some = record {
         (cases_lt p nodes);
     letters = λ m is speaking. absurd (in_none m is);
   };
+  strangers = λ node less. first.deeds node;
   sound = record {
     some = let many = times_many gateways (first_gateway rules) in omega (arith, some, many);
     gateways = λ place g is. subst Rightly (times_each gateways (first_gateway rules) place g is) (none_waits (first_gateway rules) refl);

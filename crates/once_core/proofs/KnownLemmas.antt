@@ -9,7 +9,7 @@ use Rattle.gw_base.specs.declared.key_state.KeyState.TheVariants as state
 use Rattle.node_core.specs.Choosing.{IsChoice, ReleasesChoice}
 use Rattle.node_core.specs.Copies.{is_chosen, is_filing, is_fulfilled, is_release, is_released, is_unknown, names, told}
 use Rattle.node_core.specs.Log as log
-use Rattle.node_core.specs.Log.{LogEntry, Responds}
+use Rattle.node_core.specs.Log.{Responds}
 use Rattle.node_core.specs.Packets.{PacketState}
 use Rattle.node_core.specs.Resting.{AllRestOn, IsFulfilled, RestsOn}
 use Rattle.node_core.specs.Roles.{IsPlainFirst}
@@ -150,15 +150,21 @@ module _ (scene : Scene) (holds : SceneHolds scene) (node start : ℕ) (values :
     pub tells : Tells (firm gateway) (letter_of gateway port number (Answers cause)) request cause
     pub known : IsKnown (firm gateway) node start (about request number)
 
+  -- an answer among the messages
+  pub told_by : (gateway : ℕ) (port : Port) (number cause : ℕ) → Contains scene.letters (letter_of gateway port number (Answers cause)) → is_telling cause ≡ true
+      → IsAnswered gateway port number cause
+  told_by gateway port number cause kept telling =
+      let is = holds.told (letter_of gateway port number (Answers cause)) kept telling in
+      record { request = is.request; may = may_send gateway port number is.request is.asked; tells = is.tells; known = is.known }
+
   pub answered : (gateway : ℕ) (port : Port) (number cause : ℕ) (numbers : List ℕ) → Contains (heard_in start (scene.deeds node)) (log.Heard port gateway (Responds cause numbers))
       → names numbers number ≡ true → is_telling cause ≡ true → IsAnswered gateway port number cause
   answered gateway port number cause numbers heard named telling =
       let was = heard_among (scene.deeds node) (scene.deeds node) start port gateway cause number numbers (λ deed there. there) named heard in
       let there = holds.heard node (record { node = was.node; start = start; gateway = gateway; port = port; number = number; says = Answers cause }) was.kept in
-      let kept : Contains scene.letters (letter_of gateway port number (Answers cause)) =
-      subst (λ (n : ℕ). Contains scene.letters (record { node = n; start = start; gateway = gateway; port = port; number = number; says = Answers cause })) there.0 there.1 in
-      let is = holds.told (letter_of gateway port number (Answers cause)) kept telling in
-      record { request = is.request; may = may_send gateway port number is.request is.asked; tells = is.tells; known = is.known }
+      told_by gateway port number cause
+      (subst (λ (n : ℕ). Contains scene.letters (record { node = n; start = start; gateway = gateway; port = port; number = number; says = Answers cause })) there.0 there.1)
+      telling
 
   pub rests_of : (packet : PacketState) (copy : PacketCopy) → IsCopyOf packets packet copy → RestsOn (heard_in start (scene.deeds node)) copy
   rests_of packet copy is =
@@ -191,14 +197,18 @@ module _ (scene : Scene) (holds : SceneHolds scene) (node start : ℕ) (values :
       by Tests may tells = tells
       by (Orders which named) may tells = absurd (no_command packet plain named (record { order = which; number = plain.number; is_answered = may.1 }) is may.2 refl)
 
+  pub sealed_by_answer : (packet : PacketState) (plain : PacketCopy) (port : Port) (cause : ℕ) → IsCopyOf packets packet plain → told port true cause ≡ verdict.Sealed
+      → (is_telling cause ≡ true → IsAnswered plain.gateway port plain.number cause) → IsState (firm plain.gateway) node start plain.number state.Sealed
+  sealed_by_answer packet plain port cause is tells answer =
+      let by = sealed_by port cause tells in
+      (by_test_answer packet plain cause port by.0 is (answer (ap is_telling by.1))).1 by.1
+
   pub is_sealed : (packet : PacketState) (plain : PacketCopy) → IsCopyOf packets packet plain → plain.is_plain ≡ true → plain.verdict ≡ verdict.Sealed
       → IsState (firm plain.gateway) node start plain.number state.Sealed
   is_sealed packet plain is first sealed =
       let of = (rests_of packet plain is).verdict (ap is_unknown sealed) in
-      let by = sealed_by of.port of.cause (ap (λ (b : Bool). told of.port b of.cause) (sym first) ∙ of.tells ∙ sealed) in
-      let telling : is_telling of.cause ≡ true = ap is_telling by.1 in
-      let answer = answered plain.gateway of.port plain.number of.cause of.numbers of.heard of.named telling in
-      (by_test_answer packet plain of.cause of.port by.0 is answer).1 by.1
+      sealed_by_answer packet plain of.port of.cause is (ap (λ (b : Bool). told of.port b of.cause) (sym first) ∙ of.tells ∙ sealed)
+      (answered plain.gateway of.port plain.number of.cause of.numbers of.heard of.named)
 
   by_first_answer : (packet : PacketState) (plain : PacketCopy) (cause : ℕ) (port : Port) → port ≡ First → is_filing cause ≡ true → IsCopyOf packets packet plain → plain.is_plain ≡ true
       → IsAnswered plain.gateway port plain.number cause → IsState (firm plain.gateway) node start plain.number state.Filed
@@ -213,22 +223,23 @@ module _ (scene : Scene) (holds : SceneHolds scene) (node start : ℕ) (values :
       by Tests may tells = absurd (not_first (sym may.0 ∙ first))
       by (Orders which named) may tells = absurd (not_first (sym may.0 ∙ first))
 
+  pub filed_by_answer : (packet : PacketState) (plain : PacketCopy) (port : Port) (cause : ℕ) → IsCopyOf packets packet plain → plain.is_plain ≡ true → told port true cause ≡ verdict.Filed
+      → (is_telling cause ≡ true → IsAnswered plain.gateway port plain.number cause) → IsState (firm plain.gateway) node start plain.number state.Filed
+  filed_by_answer packet plain port cause is first tells answer = ⊎_elim
+      (λ at. by_first_answer packet plain cause port at.0 at.1 is first (answer (filing_tells cause at.1)))
+      (λ at. (by_test_answer packet plain cause port at.0 is (answer (ap is_telling at.1))).0 at.1)
+      (filed_by port cause tells)
+
   pub is_filed_there : (packet : PacketState) (plain : PacketCopy) → IsCopyOf packets packet plain → plain.is_plain ≡ true → plain.verdict ≡ verdict.Filed
       → IsState (firm plain.gateway) node start plain.number state.Filed
   is_filed_there packet plain is first filed =
       let of = (rests_of packet plain is).verdict (ap is_unknown filed) in
-      ⊎_elim
-      (λ at.
-      by_first_answer packet plain of.cause of.port at.0 at.1 is first
-      (answered plain.gateway of.port plain.number of.cause of.numbers of.heard of.named (filing_tells of.cause at.1)))
-      (λ at.
-      let telling : is_telling of.cause ≡ true = ap is_telling at.1 in
-      (by_test_answer packet plain of.cause of.port at.0 is (answered plain.gateway of.port plain.number of.cause of.numbers of.heard of.named telling)).0 at.1)
-      (filed_by of.port of.cause (ap (λ (b : Bool). told of.port b of.cause) (sym first) ∙ of.tells ∙ filed))
+      filed_by_answer packet plain of.port of.cause is first (ap (λ (b : Bool). told of.port b of.cause) (sym first) ∙ of.tells ∙ filed)
+      (answered plain.gateway of.port plain.number of.cause of.numbers of.heard of.named)
 
   -- ---- a copy whose release is answered is released
 
-  by_release_answer : (packet : PacketState) (copy : PacketCopy) (command : Command) (cause : ℕ) (port : Port) → is_fulfilled cause ≡ true → IsCopyOf packets packet copy
+  pub by_release_answer : (packet : PacketState) (copy : PacketCopy) (command : Command) (cause : ℕ) (port : Port) → is_fulfilled cause ≡ true → IsCopyOf packets packet copy
       → copy.command ≡ Some command → command.order ≡ order.Release → IsAnswered copy.gateway port command.number cause → IsState (firm copy.gateway) node start copy.number state.Released
   by_release_answer packet copy command cause port fulfilled is e release answer = by answer.request answer.may answer.tells
     where

@@ -72,3 +72,7 @@ pub mod AliveLemmas
 pub mod LifeNodes
 pub mod LifeWorlds
 pub mod PresentLemmas
+pub mod RisingLemmas
+pub mod MarkLemmas
+pub mod StandsLemmas
+pub mod ToldLemmas

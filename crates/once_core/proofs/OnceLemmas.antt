@@ -161,7 +161,7 @@ module _ (scene : Scene) (holds : SceneHolds scene) (node start : ℕ) (values :
       (stands packet copy index is)
 
   -- the first copy of a packet of which one is chosen is sealed
-  first_sealed : (packet : PacketState) (copy : PacketCopy) → IsCopyOf packets packet copy → (choice : IsChoice packet.copies copy.gateway copy.number)
+  pub first_sealed : (packet : PacketState) (copy : PacketCopy) → IsCopyOf packets packet copy → (choice : IsChoice packet.copies copy.gateway copy.number)
       → IsState (firm_of choice.plain.gateway) node start choice.plain.number state.Sealed
   first_sealed packet copy is choice =
       is_sealed scene holds node start values packets follows packet choice.plain

@@ -1,7 +1,8 @@
--- What a node sends in a tick isn't expired: a gateway to which it sends a request knows its start as the present one.
-use Rattle.std.proofs.Common.{◌≡◌, ℕ, zero, suc, ◌-◌, ◌<◌, ◌≤◌, ◌&&◌, nat_le, nat_lt, not, Bool, true, false, if◌then◌else◌, List, [], ◌∷◌, ◌++◌, ◌||◌, length, Option, Some, None, Contains, slice_get, refl, sym, ap, subst, ◌∙◌, arith, append-nil}
+-- What a node sends in a tick isn't expired: a gateway to which it sends a request knows its start as the present one,
+-- and no gateway knows of a later one.
+use Rattle.std.proofs.Common.{◌≡◌, ℕ, zero, suc, ◌-◌, ◌<◌, ◌≤◌, ◌==◌, ◌&&◌, nat_le, nat_lt, not, Bool, true, false, if◌then◌else◌, List, [], ◌∷◌, ◌++◌, ◌||◌, length, Option, Some, None, Contains, slice_get, refl, sym, ap, subst, ◌∙◌, arith, append-nil}
 use Rattle.std.specs.Option.{option_map_or}
-use Rattle.std.proofs.lemmas.Bool.{and_from, false≢true, le-leb, lt-ltb}
+use Rattle.std.proofs.lemmas.Bool.{and_from, false≢true, le-leb, le-ltb, lt-ltb}
 use Rattle.std.proofs.lemmas.Option.{slice_get_within}
 use Rattle.gw_base.specs.Starts.{start_of}
 use Rattle.gw_base.specs.declared.history.HistoryEntry.{HistoryEntry}
@@ -21,10 +22,10 @@ use Rattle.once_core.specs.Addresses.{addresses_from, first_node_ip, gateway_at,
 use Rattle.once_core.specs.Answers.{answered, delivered, delivered_broken, delivered_running, failed, if_broken, taken_in}
 use Rattle.once_core.specs.Beginning.{world_of}
 use Rattle.once_core.specs.Epochs.{StartsRise}
-use Rattle.once_core.specs.Expired.{is_expired, present_start, starts_in}
+use Rattle.once_core.specs.Expired.{is_expired, present_start, starts_in, taken_for}
 use Rattle.once_core.specs.Gateway.{Gateway, Moved, Rules, committing, followed, readying, still, with_book}
 use Rattle.once_core.specs.Growing.{IsBetween}
-use Rattle.once_core.specs.Messages.{is_request}
+use Rattle.once_core.specs.Messages.{about, is_request}
 use Rattle.once_core.specs.Once.{firm_in}
 use Rattle.once_core.specs.Shown.{post_of, values_of}
 use Rattle.once_core.specs.Turn.{Turn, at_gateway, at_node, delivering, gateway_moved, node_called, refusal_of, refusing, turn, turn_by, turns, unless_refused}
@@ -135,7 +136,28 @@ module _ (laws : Laws) (sent : RequestsSent) (w : World) (values : ℕ → ℕ �
       subst (λ (k : Message). present_start h k ≡ k.start) s.2
       (each_present s.0 asked (ap is_request s.2 ∙ request) g h (ap (λ (k : Message). slice_get w.gateways k.gateway) s.2 ∙ here) between)
 
+  -- no gateway knows of a later start of the node
+  pub sent_low : (m : Message) (g : Gateway) (h : List HistoryEntry) → Contains (ticking (length w.gateways) (node - 1) log).sends m
+      → slice_get w.gateways m.gateway ≡ Some g → IsBetween (post_of g) h → present_start h m ≤ m.start
+  sent_low m g h is here between =
+      let s = of_map sent_by (due (node_value (length w.gateways) (node - 1) log)) m is in
+      let truly = lives.gateways m.gateway g here in
+      let rises_all = subst StartsRise between.back.is truly.rises in
+      let second = start_rises ip h between.back.more rises_all in
+      let whole = ap (start_of ip) between.back.is in
+      let low = truly.low ip in
+      let own : node - 1 ≡ ip - first_node_ip = omega arith in
+      let made_starts = ap (λ (p : ℕ). starts_in (log_at w p)) own in
+      let of_log = ap starts_in log_there in
+      subst (λ (k : Message). present_start h k ≤ k.start) s.2 (omega (arith, second, whole, low, made_starts, of_log))
+
 -- ---- what a tick sends
+
+-- a message that is no request is expired by its start alone
+low_fresh : (h : List HistoryEntry) (m : Message) → is_request m ≡ false → present_start h m ≤ m.start → is_expired h m ≡ false
+low_fresh h m none low =
+    ap (λ (b : Bool). nat_lt m.start (present_start h m) || (b && (not (m.start == present_start h m) || not (taken_for h m == about m)))) none
+    ∙ ap (λ (b : Bool). b || false) (le-ltb m.start (present_start h m) low)
 
 module _ (laws : Laws) (numbers : Numbers) (sent : RequestsSent) (rules : Rules) (gateways nodes : ℕ) (all : List Turn) (some : 1 ≤ gateways) (node : ℕ) where
   abbrev w : World
@@ -145,15 +167,23 @@ module _ (laws : Laws) (numbers : Numbers) (sent : RequestsSent) (rules : Rules)
   values place = values_of (log_at (turns rules (world_of rules gateways nodes) all) place)
 
   pub sent_fresh : (m : Message) (g : Gateway) (h : List HistoryEntry) → refusal_of w (event.Tick node) ≡ None → Contains (ticking (length w.gateways) (node - 1) (log_at w (node - 1))).sends m
-      → is_request m ≡ true → slice_get w.gateways m.gateway ≡ Some g → IsBetween (post_of g) h → is_expired h m ≡ false
-  sent_fresh m g h allowed is request here between =
-      tick_is_timely laws numbers sent rules gateways nodes all some node m g h allowed is request here between (by (slice_get w.nodes (node - 1)) refl)
+      → slice_get w.gateways m.gateway ≡ Some g → IsBetween (post_of g) h → is_expired h m ≡ false
+  sent_fresh m g h allowed is here between = by (slice_get w.nodes (node - 1)) refl
     where
-      by : (o : Option (List LogEntry)) → slice_get w.nodes (node - 1) ≡ o → present_start h m ≡ m.start
+      of_log : (log : List LogEntry) → slice_get w.nodes (node - 1) ≡ Some log → Contains (ticking (length w.gateways) (node - 1) log).sends m
+      of_log log e = subst (λ (l : List LogEntry). Contains (ticking (length w.gateways) (node - 1) l).sends m) (ap (λ (o : Option (List LogEntry)). option_map_or (λ l. l) o []) e) is
+
+      by_request : (log : List LogEntry) → slice_get w.nodes (node - 1) ≡ Some log → (b : Bool) → is_request m ≡ b → is_expired h m ≡ false
+      by_request log e true request =
+          tick_is_timely laws numbers sent rules gateways nodes all some node m g h allowed is request here between
+          (sent_present laws sent w values (world_made laws rules gateways nodes all some) (world_lives laws rules gateways nodes all some) node allowed log e m g h (of_log log e) request here between)
+      by_request log e false none =
+          low_fresh h m none
+          (sent_low laws sent w values (world_made laws rules gateways nodes all some) (world_lives laws rules gateways nodes all some) node allowed log e m g h (of_log log e) here between)
+
+      by : (o : Option (List LogEntry)) → slice_get w.nodes (node - 1) ≡ o → is_expired h m ≡ false
       by None e = absurd (false≢true (sym (ap (λ (o : Option (List LogEntry)). runs (option_map_or (λ l. l) o [])) e) ∙ it_runs w node allowed))
-      by (Some log) e =
-          sent_present laws sent w values (world_made laws rules gateways nodes all some) (world_lives laws rules gateways nodes all some) node allowed log e m g h
-          (subst (λ (l : List LogEntry). Contains (ticking (length w.gateways) (node - 1) l).sends m) (ap (λ (o : Option (List LogEntry)). option_map_or (λ l. l) o []) e) is) request here between
+      by (Some log) e = by_request log e (is_request m) refl
 
 -- ---- and what comes next
 
@@ -225,8 +255,8 @@ module _ (laws : Laws) (numbers : Numbers) (sent : RequestsSent) (rules : Rules)
   abbrev before : World
   before = turns rules (world_of rules gateways nodes) all
 
-  -- what stands behind the messages that were there before the tick is a request of the node, and isn't expired
-  module _ (t : Turn) (k : ℕ) (m : Message) (within : length before.messages ≤ k) (request : is_request m ≡ true) where
+  -- what stands behind the messages that were there before the tick is a message of the node to a gateway, and isn't expired
+  module _ (t : Turn) (k : ℕ) (m : Message) (within : length before.messages ≤ k) where
     record IsFresh (w : World) : Type 0 where
       to : m.to_gateway ≡ true
       fresh : (f : Fortune) (g : Gateway) → slice_get w.gateways m.gateway ≡ Some g → is_expired (history_asked rules f g) m ≡ false
@@ -242,7 +272,7 @@ module _ (laws : Laws) (numbers : Numbers) (sent : RequestsSent) (rules : Rules)
           to = ap (λ (n : Message). n.to_gateway) (sym s.2);
           fresh = λ f g here. sent_fresh laws numbers sent rules gateways nodes all some node m g (history_asked rules f g) allowed
               (subst (λ (l : List LogEntry). Contains (ticking (length before.gateways) (node - 1) l).sends m) (sym (ap (λ (o : Option (List LogEntry)). option_map_or (λ l. l) o []) e)) there)
-              request here (asked_between rules f g);
+              here (asked_between rules f g);
         }
 
     next_fresh : t.event ≡ event.Tick node → slice_get (turn rules before t).messages k ≡ Some m → IsFresh (turn rules before t)
@@ -257,9 +287,9 @@ module _ (laws : Laws) (numbers : Numbers) (sent : RequestsSent) (rules : Rules)
 
   -- so the next event has the gateway take it in
   pub next_taken : (t next : Turn) (number : ℕ) (m : Message) → t.event ≡ event.Tick node → next.event ≡ event.Deliver number → length before.messages < number
-      → slice_get (turn rules before t).messages (number - 1) ≡ Some m → is_request m ≡ true
+      → slice_get (turn rules before t).messages (number - 1) ≡ Some m
       → turn rules (turn rules before t) next ≡ at_gateway (turn rules before t) m.gateway (taken_in rules (turn rules before t).now next.fortune m)
-  next_taken t next number m ticks delivers within is request =
+  next_taken t next number m ticks delivers within is =
       ap (λ (v : Event). unless_refused (refusal_of (turn rules before t) v) (turn rules before t) (turn_by rules (turn rules before t) next v)) delivers
       ∙ ap (λ (b : Bool). unless_refused (refusing (not b) NoMessage) (turn rules before t) (turn_by rules (turn rules before t) next (event.Deliver number))) there
       ∙ ap (λ (o : Option Message). option_map_or (delivering rules next.fortune (turn rules before t)) o (turn rules before t)) is
@@ -267,8 +297,8 @@ module _ (laws : Laws) (numbers : Numbers) (sent : RequestsSent) (rules : Rules)
       else at_node (turn rules before t) m.node (delivered_to_node (length (turn rules before t).gateways) m.node m)) fresh.to
       ∙ by (slice_get (turn rules before t).gateways m.gateway) refl
     where
-      fresh : IsFresh t (number - 1) m (omega (arith, within)) request (turn rules before t)
-      fresh = next_fresh t (number - 1) m (omega (arith, within)) request ticks is
+      fresh : IsFresh t (number - 1) m (omega (arith, within)) (turn rules before t)
+      fresh = next_fresh t (number - 1) m (omega (arith, within)) ticks is
 
       there : (nat_lt 0 number && nat_le number (length (turn rules before t).messages)) ≡ true
       there =

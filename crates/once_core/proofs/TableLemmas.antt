@@ -1,7 +1,8 @@
--- Each entry that a gateway of a world records keeps to the table of answers.
+-- Each entry that a gateway of a world records keeps to the table of answers, and each mark is due.
 use Rattle.std.proofs.Common.{◌≡◌, ℕ, zero, suc, ◌-◌, ◌&&◌, ◌||◌, Bool, true, false, if◌then◌else◌, List, [], ◌∷◌, ◌++◌, length, take, drop, Option, Some, None, refl, sym, ap, subst, ◌∙◌, append_assoc, append-nil, take-append-drop}
 use Rattle.std.specs.Prelude.{option_map, slice_get, slice_set}
 use Rattle.std.specs.Option.{option_map_or}
+use Rattle.std.proofs.lemmas.Bool.{and_parts, false≢true}
 use Rattle.gateway_book.specs.Answer.{Decided, Given, Drops, Replies, Silent, Says, answer_by, decided, failure_answer}
 use Rattle.gateway_book.specs.Answered.{entry_by, no_caller}
 use Rattle.gateway_book.specs.Fit.{is_act_fit}
@@ -9,9 +10,9 @@ use Rattle.gateway_book.specs.FitLaws.{records_fit}
 use Rattle.gateway_book.specs.Preparing.{IsWhole, prepared_of}
 use Rattle.gateway_book.specs.Recording.{Fits, IfRecords}
 use Rattle.gateway_book.specs.Value.{BookValue, Fortune, Gone, Refused, Reopening, Whole, committed, faulted, history_of, recorded, reopened, standing_for, tried}
-use Rattle.gw_base.specs.History.{is_close_due}
+use Rattle.gw_base.specs.History.{is_close_due, moment_after}
 use Rattle.gw_base.specs.Observed.{observed}
-use Rattle.gw_base.specs.TickDue.{is_tick_due}
+use Rattle.gw_base.specs.TickDue.{is_long_ago, is_tick_due, last_tick}
 use Rattle.gw_base.specs.declared.history.HistoryAct.{HistoryAct}
 use Rattle.gw_base.specs.declared.history.HistoryAct.TheVariants.{Start, Tick, Close}
 use Rattle.gw_base.specs.declared.history.HistoryEntry.{HistoryEntry}
@@ -19,9 +20,10 @@ use Rattle.node_core.specs.Log.{LogEntry}
 use Rattle.node_core.specs.Reached.{Halt}
 use Rattle.node_core.specs.Reached as call
 use Rattle.once_core.specs.Addresses.{node_address, node_id}
-use Rattle.once_core.specs.Admitted.{AllAdmitted, IsAdmitted}
+use Rattle.once_core.specs.Admitted.{AllAdmitted, AllMarksDue, IsAdmitted, IsMarkDue, is_mark}
 use Rattle.once_core.specs.Answers.{acting, answered, delivered, delivered_broken, delivered_running, failed, failed_by, if_broken, making_close, making_tick, marked, recorded_where, redirected, unless_expired}
 use Rattle.once_core.specs.Beginning.{first_gateway, times_of, world_of}
+use Rattle.once_core.specs.Epochs.{EachBehind}
 use Rattle.once_core.specs.Expired.{is_expired}
 use Rattle.once_core.specs.Gateway.{Gateway, Moved, Rules, book_committing, committing, cut, entries_left, followed, giving_up, opened, readying, settling, still, with_book, with_start}
 use Rattle.once_core.specs.Turn.{Turn, at_gateway, at_node, delivering, gateway_moved, node_called, refusal_of, turn, turn_by, turns, unless_refused}
@@ -30,27 +32,39 @@ use Rattle.once_core.specs.declared.event.Event.{Event}
 use Rattle.once_core.specs.declared.event.Event.TheVariants as event
 use Rattle.once_core.specs.declared.event.WorldKind.{WorldKind}
 use Rattle.once_core.specs.declared.message.Message.{Message}
-use Rattle.once_core.proofs.EachLemmas.{each_front, each_more}
+use Rattle.once_core.proofs.EachLemmas.{each_also, each_front, each_more}
+use Rattle.once_core.proofs.MarkLemmas.{NoMark, answers_no_mark}
 
--- all entries of a book, those that wait or are torn among them, keep to the table
+-- an entry keeps to the table, and a mark is due
+abbrev pub IsRight : List HistoryEntry → HistoryEntry → Type 0
+IsRight before e = IsAdmitted before e × IsMarkDue before e
+
+abbrev pub AllRight : List HistoryEntry → Type 0
+AllRight h = EachBehind IsRight [] h
+
+-- all entries of a book, those that wait or are torn among them, are such
 abbrev pub Keeps : BookValue → Type 0
-Keeps v = AllAdmitted (v.firm ++ v.rest)
+Keeps v = AllRight (v.firm ++ v.rest)
 
-firm_keeps : (v : BookValue) → Keeps v → AllAdmitted v.firm
-firm_keeps v keeps = each_front IsAdmitted [] v.firm v.rest keeps
+firm_keeps : (v : BookValue) → Keeps v → AllRight v.firm
+firm_keeps v keeps = each_front IsRight [] v.firm v.rest keeps
 
-alone : (h : List HistoryEntry) → AllAdmitted h → AllAdmitted (h ++ [])
-alone h all = subst AllAdmitted (sym (append-nil h)) all
+alone : (h : List HistoryEntry) → AllRight h → AllRight (h ++ [])
+alone h all = subst AllRight (sym (append-nil h)) all
 
 history_is : (v : BookValue) → v.is_broken ≡ false → history_of v ≡ v.firm ++ v.rest
 history_is v e = ap (λ (b : Bool). if b then v.firm else v.firm ++ v.rest) e
 
 recorded_keeps : (v : BookValue) (now : ℕ) (a : HistoryAct) → v.is_broken ≡ false → is_act_fit (observed (history_of v)) a ≡ true
-    → Keeps v → Keeps (recorded v now no_caller a)
-recorded_keeps v now a sound fit keeps =
-    subst AllAdmitted (append_assoc v.firm v.rest (entry_by (history_of v) now no_caller a ∷ []))
-    (each_more IsAdmitted [] (v.firm ++ v.rest) (entry_by (history_of v) now no_caller a) keeps
-    (subst (λ (h : List HistoryEntry). is_act_fit (observed h) a ≡ true) (history_is v sound) fit))
+    → (is_mark a ≡ true → is_close_due (history_of v) ≡ true) → Keeps v → Keeps (recorded v now no_caller a)
+recorded_keeps v now a sound fit due keeps =
+    subst AllRight (append_assoc v.firm v.rest (entry_by (history_of v) now no_caller a ∷ []))
+    (each_more IsRight [] (v.firm ++ v.rest) (entry_by (history_of v) now no_caller a) keeps
+    (subst (λ (h : List HistoryEntry). (is_act_fit (observed h) a ≡ true) × (is_mark a ≡ true → is_close_due h ≡ true)) (history_is v sound) (fit, due)))
+
+-- one that is none
+no_mark : {P : Type 0} (a : HistoryAct) → is_mark a ≡ false → is_mark a ≡ true → P
+no_mark a isnt is = absurd (false≢true (sym isnt ∙ is))
 
 -- ---- moves of a gateway
 
@@ -107,11 +121,11 @@ broken_keeps breaks goes_on a b g keeps = by_test g.book.is_broken refl
     by_test true e = a g keeps
     by_test false e = b g e keeps
 
-acting_keeps : (now : ℕ) (m : Message) (g : Gateway) (room : HistoryAct → Bool) (given : Given) → IfRecords (Fits (observed (history_of g.book)) room) given
+acting_keeps : (now : ℕ) (m : Message) (g : Gateway) (room : HistoryAct → Bool) (given : Given) → IfRecords (Fits (observed (history_of g.book)) room) given → NoMark given
     → g.book.is_broken ≡ false → Keeps g.book → Keeps (acting now g m (decided given)).gateway.book
-acting_keeps now m g room (Drops why) fits sound keeps = keeps
-acting_keeps now m g room (Replies number message None) fits sound keeps = keeps
-acting_keeps now m g room (Replies number message (Some a)) fits sound keeps = recorded_keeps g.book now a sound fits.0 keeps
+acting_keeps now m g room (Drops why) fits isnt sound keeps = keeps
+acting_keeps now m g room (Replies number message None) fits isnt sound keeps = keeps
+acting_keeps now m g room (Replies number message (Some a)) fits isnt sound keeps = recorded_keeps g.book now a sound fits.0 (no_mark a isnt) keeps
 
 failed_keeps : (m : Message) → KeepsOn (failed m)
 failed_keeps m g keeps = by_decision (decided (failure_answer (prepared_of m.octets)))
@@ -128,38 +142,44 @@ expired_keeps m deliver keep g sound keeps = by_test (is_expired (history_of g.b
     by_test false = keep g sound keeps
 
 recorded_where_keeps : (is_due : Bool) (now : ℕ) (a : HistoryAct) (g : Gateway) → is_act_fit (observed (history_of g.book)) a ≡ true
-    → g.book.is_broken ≡ false → Keeps g.book → Keeps (recorded_where is_due now a g).gateway.book
-recorded_where_keeps true now a g fit sound keeps = recorded_keeps g.book now a sound fit keeps
-recorded_where_keeps false now a g fit sound keeps = keeps
+    → (is_due ≡ true → is_close_due (history_of g.book) ≡ true) → g.book.is_broken ≡ false → Keeps g.book → Keeps (recorded_where is_due now a g).gateway.book
+recorded_where_keeps true now a g fit due sound keeps = recorded_keeps g.book now a sound fit (λ is. due refl) keeps
+recorded_where_keeps false now a g fit due sound keeps = keeps
+
+-- a Tick is due only where a Close is
+tick_due : (open_time now : ℕ) (h : List HistoryEntry) (room : Bool) → (is_tick_due open_time now h && room) ≡ true → is_close_due h ≡ true
+tick_due open_time now h room is =
+    (and_parts (is_close_due h) (option_map_or (λ moment. is_long_ago open_time (moment_after h now) moment) (last_tick h) true)
+    (and_parts (is_tick_due open_time now h) room is).0).0
 
 marked_keeps : (rules : Rules) (f : Fortune) (mark : Gateway → Moved) → KeepsSound mark → KeepsOn (marked rules f mark)
 marked_keeps rules f mark keep =
     followed_keeps (readying rules f) (if_broken still mark) (readying_keeps rules f) (broken_keeps still mark still_keeps keep)
 
-left_keeps : (keep : ℕ) (keeps_torn : Bool) (v : BookValue) → Keeps v → AllAdmitted (v.firm ++ entries_left keep keeps_torn v)
+left_keeps : (keep : ℕ) (keeps_torn : Bool) (v : BookValue) → Keeps v → AllRight (v.firm ++ entries_left keep keeps_torn v)
 left_keeps keep keeps_torn v keeps = by_test v.is_broken keeps_torn
   where
-    part : AllAdmitted (v.firm ++ take (keep - length v.firm) v.rest)
-    part = each_front IsAdmitted [] (v.firm ++ take (keep - length v.firm) v.rest) (drop (keep - length v.firm) v.rest)
-        (subst AllAdmitted (sym (append_assoc v.firm (take (keep - length v.firm) v.rest) (drop (keep - length v.firm) v.rest)
+    part : AllRight (v.firm ++ take (keep - length v.firm) v.rest)
+    part = each_front IsRight [] (v.firm ++ take (keep - length v.firm) v.rest) (drop (keep - length v.firm) v.rest)
+        (subst AllRight (sym (append_assoc v.firm (take (keep - length v.firm) v.rest) (drop (keep - length v.firm) v.rest)
         ∙ ap (λ (xs : List HistoryEntry). v.firm ++ xs) (take-append-drop (keep - length v.firm) v.rest))) keeps)
 
-    by_test : (broken torn : Bool) → AllAdmitted (v.firm ++ (if broken then (if torn then v.rest else []) else take (keep - length v.firm) v.rest))
+    by_test : (broken torn : Bool) → AllRight (v.firm ++ (if broken then (if torn then v.rest else []) else take (keep - length v.firm) v.rest))
     by_test true true = keeps
     by_test true false = alone v.firm (firm_keeps v keeps)
     by_test false torn = part
 
-begun_keeps : (rules : Rules) (h : List HistoryEntry) → AllAdmitted h → Keeps (with_start rules (standing_for h))
+begun_keeps : (rules : Rules) (h : List HistoryEntry) → AllRight h → Keeps (with_start rules (standing_for h))
 begun_keeps rules h all = by_room (rules.room (h ++ []) Start)
   where
     by_room : (b : Bool) → Keeps (if b then recorded (standing_for h) 0 no_caller Start else standing_for h)
-    by_room true = recorded_keeps (standing_for h) 0 Start refl refl (alone h all)
+    by_room true = recorded_keeps (standing_for h) 0 Start refl refl (no_mark Start refl) (alone h all)
     by_room false = alone h all
 
 opened_keeps : (rules : Rules) → KeepsOn (λ g. still (opened rules g))
 opened_keeps rules g keeps = begun_keeps rules (history_of g.book) (by_test g.book.is_broken)
   where
-    by_test : (b : Bool) → AllAdmitted (if b then g.book.firm else g.book.firm ++ g.book.rest)
+    by_test : (b : Bool) → AllRight (if b then g.book.firm else g.book.firm ++ g.book.rest)
     by_test true = firm_keeps g.book keeps
     by_test false = keeps
 
@@ -170,25 +190,25 @@ all_at gs q = option_map_or (λ (g : Gateway). g.book.firm ++ g.book.rest) (slic
 
 -- so do those of all gateways of a world
 abbrev pub WorldKeeps : World → Type 0
-WorldKeeps w = (q : ℕ) → AllAdmitted (all_at w.gateways q)
+WorldKeeps w = (q : ℕ) → AllRight (all_at w.gateways q)
 
-list_keeps : (move : Gateway → Moved) → KeepsOn move → (gs : List Gateway) (p q : ℕ) → ((k : ℕ) → AllAdmitted (all_at gs k))
-    → AllAdmitted (all_at (option_map_or (λ g. slice_set gs p (move g).gateway) (slice_get gs p) gs) q)
+list_keeps : (move : Gateway → Moved) → KeepsOn move → (gs : List Gateway) (p q : ℕ) → ((k : ℕ) → AllRight (all_at gs k))
+    → AllRight (all_at (option_map_or (λ g. slice_set gs p (move g).gateway) (slice_get gs p) gs) q)
 list_keeps move keep [] p q all = all q
 list_keeps move keep (x ∷ xs) zero zero all = keep x (all zero)
 list_keeps move keep (x ∷ xs) zero (suc q) all = all (suc q)
 list_keeps move keep (x ∷ xs) (suc p) q all = by_rest (slice_get xs p) q (λ k. list_keeps move keep xs p k (λ j. all (suc j)))
   where
     by_rest : (o : Option Gateway) (k : ℕ)
-        → ((k : ℕ) → AllAdmitted (all_at (option_map_or (λ g. slice_set xs p (move g).gateway) o xs) k))
-        → AllAdmitted (all_at (option_map_or (λ g. slice_set (x ∷ xs) (suc p) (move g).gateway) o (x ∷ xs)) k)
+        → ((k : ℕ) → AllRight (all_at (option_map_or (λ g. slice_set xs p (move g).gateway) o xs) k))
+        → AllRight (all_at (option_map_or (λ g. slice_set (x ∷ xs) (suc p) (move g).gateway) o (x ∷ xs)) k)
     by_rest None k rest = all k
     by_rest (Some g) zero rest = all zero
     by_rest (Some g) (suc k) rest = rest k
 
 gateway_keeps : (w : World) (p : ℕ) (move : Gateway → Moved) → KeepsOn move → WorldKeeps w → WorldKeeps (at_gateway w p move)
 gateway_keeps w p move keep all q =
-    subst (λ (gs : List Gateway). AllAdmitted (all_at gs q)) (sym (gateways_are (slice_get w.gateways p))) (list_keeps move keep w.gateways p q all)
+    subst (λ (gs : List Gateway). AllRight (all_at gs q)) (sym (gateways_are (slice_get w.gateways p))) (list_keeps move keep w.gateways p q all)
   where
     gateways_are : (o : Option Gateway)
         → (option_map_or (λ g. gateway_moved w p (move g)) o w).gateways ≡ option_map_or (λ g. slice_set w.gateways p (move g).gateway) o w.gateways
@@ -209,6 +229,7 @@ module _ (whole : (octets : List ℕ) → IsWhole (prepared_of octets)) where
       acting_keeps now m g (rules.room (history_of g.book))
       (answer_by (observed (history_of g.book) (node_id m.node)) (node_address m.node m.port) (prepared_of m.octets) (rules.room (history_of g.book)))
       (records_fit (observed (history_of g.book)) (node_address m.node m.port) (prepared_of m.octets) (rules.room (history_of g.book)) (whole m.octets))
+      (answers_no_mark (observed (history_of g.book) (node_id m.node)) (node_address m.node m.port) (prepared_of m.octets) (rules.room (history_of g.book)))
       sound keeps
 
   delivered_keeps : (rules : Rules) (now : ℕ) (f : Fortune) (m : Message) → KeepsOn (delivered rules now f m)
@@ -255,10 +276,11 @@ module _ (whole : (octets : List ℕ) → IsWhole (prepared_of octets)) where
   event_keeps rules w t (event.Mark gateway) all =
       gateway_keeps w (gateway - 1) (marked rules t.fortune (making_tick rules w.now))
       (marked_keeps rules t.fortune (making_tick rules w.now)
-      (λ g. recorded_where_keeps (is_tick_due rules.open_time w.now (history_of g.book) && rules.room (history_of g.book) Tick) w.now Tick g refl)) all
+      (λ g. recorded_where_keeps (is_tick_due rules.open_time w.now (history_of g.book) && rules.room (history_of g.book) Tick) w.now Tick g refl
+      (λ is. tick_due rules.open_time w.now (history_of g.book) (rules.room (history_of g.book) Tick) is))) all
   event_keeps rules w t (event.Close gateway) all =
       gateway_keeps w (gateway - 1) (marked rules t.fortune (making_close w.now))
-      (marked_keeps rules t.fortune (making_close w.now) (λ g. recorded_where_keeps (is_close_due (history_of g.book)) w.now Close g refl)) all
+      (marked_keeps rules t.fortune (making_close w.now) (λ g. recorded_where_keeps (is_close_due (history_of g.book)) w.now Close g refl (λ is. is))) all
 
   turn_keeps : (rules : Rules) (w : World) (t : Turn) → WorldKeeps w → WorldKeeps (turn rules w t)
   turn_keeps rules w t all = by_refusal (refusal_of w t.event)
@@ -279,15 +301,21 @@ first_keeps rules gateways nodes = each gateways
     first : Keeps (first_gateway rules).book
     first = alone ((with_start rules (standing_for [])).firm ++ (with_start rules (standing_for [])).rest) (begun_keeps rules [] tt)
 
-    each : (n q : ℕ) → AllAdmitted (all_at (times_of n (first_gateway rules)) q)
+    each : (n q : ℕ) → AllRight (all_at (times_of n (first_gateway rules)) q)
     each zero q = tt
     each (suc n) zero = first
     each (suc n) (suc q) = each n q
 
-pub firm_admitted : (w : World) → WorldKeeps w → (q : ℕ) → AllAdmitted (option_map_or (λ (g : Gateway). g.book.firm) (slice_get w.gateways q) [])
-firm_admitted w all q = by_gateway (slice_get w.gateways q) (all q)
+firm_right : (w : World) → WorldKeeps w → (q : ℕ) → AllRight (option_map_or (λ (g : Gateway). g.book.firm) (slice_get w.gateways q) [])
+firm_right w all q = by_gateway (slice_get w.gateways q) (all q)
   where
-    by_gateway : (o : Option Gateway) → AllAdmitted (option_map_or (λ (g : Gateway). g.book.firm ++ g.book.rest) o [])
-        → AllAdmitted (option_map_or (λ (g : Gateway). g.book.firm) o [])
+    by_gateway : (o : Option Gateway) → AllRight (option_map_or (λ (g : Gateway). g.book.firm ++ g.book.rest) o [])
+        → AllRight (option_map_or (λ (g : Gateway). g.book.firm) o [])
     by_gateway None all = tt
     by_gateway (Some g) all = firm_keeps g.book all
+
+pub firm_admitted : (w : World) → WorldKeeps w → (q : ℕ) → AllAdmitted (option_map_or (λ (g : Gateway). g.book.firm) (slice_get w.gateways q) [])
+firm_admitted w all q = each_also IsRight IsAdmitted (λ h e is. is.0) [] (option_map_or (λ (g : Gateway). g.book.firm) (slice_get w.gateways q) []) (firm_right w all q)
+
+pub firm_marks_due : (w : World) → WorldKeeps w → (q : ℕ) → AllMarksDue (option_map_or (λ (g : Gateway). g.book.firm) (slice_get w.gateways q) [])
+firm_marks_due w all q = each_also IsRight IsMarkDue (λ h e is. is.1) [] (option_map_or (λ (g : Gateway). g.book.firm) (slice_get w.gateways q) []) (firm_right w all q)

@@ -119,6 +119,7 @@ module _ (laws : Laws) (rules : Rules) (values : ℕ → ℕ → List ℕ) (w : 
     scene = made.scene;
     is = made.is;
     shows = record { posts = made.shows.posts; deeds = made.shows.deeds; letters = made.shows.letters };
+    strangers = made.strangers;
     sound = record { some = made.sound.some; gateways = made.sound.gateways; nodes = made.sound.nodes; messages = made.sound.messages };
   }
   event_made t (event.Mark gateway) allowed =

@@ -49,7 +49,7 @@ turns_made laws rules values w (t ∷ later) made are =
     are
 
 -- the octets of the packets of a world
-abbrev values_in : World → ℕ → ℕ → List ℕ
+abbrev pub values_in : World → ℕ → ℕ → List ℕ
 values_in w place = values_of (log_at w place)
 
 pub world_made : Laws → (rules : Rules) (gateways nodes : ℕ) (all : List Turn) → 1 ≤ gateways
@@ -84,14 +84,14 @@ firm_of (Some g) = refl
 
 module _ (laws : Laws) (w : World) (made : Made (values_in w) w) where
   -- the firm parts are those of the scene
-  firm_at : (gateway : ℕ) → (made.scene.posts gateway).firm ≡ firm_in w gateway
+  pub firm_at : (gateway : ℕ) → (made.scene.posts gateway).firm ≡ firm_in w gateway
   firm_at gateway = ap (λ (p : Post). p.firm) (made.shows.posts gateway) ∙ firm_of (slice_get w.gateways gateway)
 
   firm_is : ◌≡◌ {A = ℕ → List HistoryEntry} (λ gateway. (made.scene.posts gateway).firm) (firm_in w)
   firm_is = λ i gateway. firm_at gateway i
 
   -- what the node did in each of its starts follows the procedure
-  it_follows : (node : ℕ) (log : List LogEntry) → slice_get w.nodes node ≡ Some log → (start : ℕ)
+  pub it_follows : (node : ℕ) (log : List LogEntry) → slice_get w.nodes node ≡ Some log → (start : ℕ)
       → Follows (made.scene.deeds (node_ip node)) start (values_in w node) (packets_in start (log_at w node))
   it_follows node log there start =
       let rightly = made.sound.nodes node log there in
@@ -110,11 +110,11 @@ module _ (laws : Laws) (w : World) (made : Made (values_in w) w) where
     value_is : values_of (log_at w node) packet.state.number ≡ value_octets packet.form
     value_is = (values_are (log_at w node)).each packet.state.number packet.form form_there
 
-    in_start : Contains (packets_in packet.start (log_at w node)) packet.state
+    pub in_start : Contains (packets_in packet.start (log_at w node)) packet.state
     in_start = in_map (λ (p : Followed). p.state) (filter (λ p. p.start == packet.start) (all_followed (log_at w node))) packet
         (kept_in (λ (p : Followed). p.start == packet.start) (all_followed (log_at w node)) packet is (eq-eqb packet.start packet.start refl))
 
-    some_log : (o : Option (List LogEntry)) → slice_get w.nodes node ≡ o → (log : List LogEntry) × (slice_get w.nodes node ≡ Some log)
+    pub some_log : (o : Option (List LogEntry)) → slice_get w.nodes node ≡ o → (log : List LogEntry) × (slice_get w.nodes node ≡ Some log)
     some_log (Some log) e = (log, e)
     some_log None e = absurd (in_none packet (subst (λ (l : List LogEntry). Contains (all_followed l) packet) (ap (λ (o : Option (List LogEntry)). option_map_or (λ l. l) o []) e) is))
 
@@ -138,7 +138,7 @@ module _ (laws : Laws) (w : World) (made : Made (values_in w) w) where
         (subst (λ (l : List LogEntry). Contains (forms_ever l) packet.form) (log_is (values_in w) w made node there.0 there.1)
         (get_contains (forms_ever (log_at w node)) (packet.state.number - 1) packet.form form_there))
 
-    records_are : records_within (value_octets packet.form) ≡ packet.form.records
+    pub records_are : records_within (value_octets packet.form) ≡ packet.form.records
     records_are =
         ap records_within (value_octets_are packet.form good.some)
         ∙ ap (λ (o : Option PacketForm). option_map_or (λ form. form.records) o []) good.read
@@ -154,7 +154,7 @@ module _ (laws : Laws) (w : World) (made : Made (values_in w) w) where
         ap (λ (rs : List (List ℕ)). slice_get rs filing.index) (sym records_are) ∙ content filing under
 
   pub once : Once w
-  once = record { placed = placed; octets = λ node packet copy filing is filed_for. octets_placed node packet is copy filing filed_for }
+  once = record { placed = placed; octets = λ node packet copy filing is filed_for. octets_placed node packet is copy filing filed_for; records = records_are }
 
 pub each_world_is_once : Laws → (rules : Rules) (gateways nodes : ℕ) (all : List Turn) → 1 ≤ gateways → Once (turns rules (world_of rules gateways nodes) all)
 each_world_is_once laws rules gateways nodes all some = once laws (turns rules (world_of rules gateways nodes) all) (world_made laws rules gateways nodes all some)

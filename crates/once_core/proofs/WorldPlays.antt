@@ -1,10 +1,10 @@
 -- A world goes on with a gateway's move and with a node's call.
-use Rattle.std.proofs.Common.{◌≡◌, ◌≢◌, ⊎_elim, ℕ, zero, suc, ◌≤◌, ◌==◌, Bool, true, false, List, [], ◌∷◌, ◌++◌, length, length-set, Option, Some, None, Contains, slice_get, slice_set, refl, sym, ap, subst, ◌∙◌, arith}
+use Rattle.std.proofs.Common.{◌≡◌, ◌≢◌, ⊎_elim, ℕ, zero, suc, ◌<◌, ◌≤◌, ◌==◌, Bool, true, false, List, [], ◌∷◌, ◌++◌, length, length-set, Option, Some, None, Contains, slice_get, slice_set, refl, sym, ap, subst, ◌∙◌, arith}
 use Rattle.std.specs.Option.{option_map_or}
 use Rattle.std.proofs.lemmas.Bool.{eqb-true, eqb-false, ne_eqb}
 use Rattle.std.proofs.lemmas.List.Elements.{Contains-append_cases}
 use Rattle.node_core.specs.Log.{LogEntry}
-use Rattle.once_core.specs.Addresses.{node_ip}
+use Rattle.once_core.specs.Addresses.{first_node_ip, node_ip}
 use Rattle.once_core.specs.Deeds.{deeds_of}
 use Rattle.once_core.specs.Gateway.{Gateway, Moved}
 use Rattle.once_core.specs.Happenings.{Happening, Post, Scene}
@@ -41,11 +41,13 @@ pub record Sound (w : World) : Type 0 where
   pub nodes : (place : ℕ) (log : List LogEntry) → slice_get w.nodes place ≡ Some log → NodeRightly (length w.gateways) place log
   pub messages : (m : Message) → Contains w.messages m → Said m
 
+-- some happenings make it, and what is no node of a world does nothing
 pub record Made (values : ℕ → ℕ → List ℕ) (w : World) : Type 0 where
   pub happenings : List Happening
   pub scene : Scene
   pub is : scene_after happenings ≡ scene
   pub shows : Shows values w scene
+  pub strangers : (node : ℕ) → node < first_node_ip → scene.deeds node ≡ []
   pub sound : Sound w
 
 abbrev no_post : Post
@@ -90,6 +92,7 @@ module _ (values : ℕ → ℕ → List ℕ) (w : World) (made : Made values w) 
             (λ new. plays.sends m new speaking)
             (Contains-append_cases w.messages moved.sends m is);
       };
+      strangers = λ p less. plays.goes.deeds p ∙ made.strangers p less;
       sound = record {
         some = let same = length-set w.gateways place moved.gateway in let some = made.sound.some in omega (arith, same, some);
         gateways = λ q a is. rightly_on q (q == place) refl a is;
@@ -140,6 +143,7 @@ module _ (values : ℕ → ℕ → List ℕ) (w : World) (made : Made values w) 
             (λ new. plays.sends m new speaking)
             (Contains-append_cases w.messages call.sends m is);
       };
+      strangers = λ p less. plays.others p (ne_eqb p (node_ip place) (λ same. absurd (omega (arith, same, less)))) ∙ made.strangers p less;
       sound = record {
         some = made.sound.some;
         gateways = made.sound.gateways;

@@ -1,6 +1,9 @@
 -- Histories that keep to the table of answers.
 use Rattle.std.specs.Prelude.{◌≡◌, Bool, true, false, List, []}
+use Rattle.gw_base.specs.History.{is_close_due}
 use Rattle.gw_base.specs.Observed.{observed}
+use Rattle.gw_base.specs.declared.history.HistoryAct.{HistoryAct}
+use Rattle.gw_base.specs.declared.history.HistoryAct.TheVariants.{Tick, Close}
 use Rattle.gw_base.specs.declared.history.HistoryEntry.{HistoryEntry}
 use Rattle.gw_base.specs.declared.key_state.KeyState.{KeyState}
 use Rattle.gw_base.specs.declared.key_state.KeyState.TheVariants.{Fresh, Filed, Sealed, Held, Released, Cancelled}
@@ -15,6 +18,20 @@ IsAdmitted before e = is_act_fit (observed before) e.act ≡ true
 -- so is the act of each entry of a history, behind those before it
 abbrev pub AllAdmitted : List HistoryEntry → Type 0
 AllAdmitted h = EachBehind IsAdmitted [] h
+
+-- a mark closes files
+abbrev pub is_mark : HistoryAct → Bool
+is_mark Tick = true
+is_mark Close = true
+is_mark _ = false
+
+-- a mark stands behind these entries only where a record was filed after the last Close
+abbrev pub IsMarkDue : List HistoryEntry → HistoryEntry → Type 0
+IsMarkDue before e = is_mark e.act ≡ true → is_close_due before ≡ true
+
+-- so does each mark of a history, behind the entries before it
+abbrev pub AllMarksDue : List HistoryEntry → Type 0
+AllMarksDue h = EachBehind IsMarkDue [] h
 
 -- A key's state moves forward: a fresh one gets any state, a held one may be released or cancelled, and each other stays.
 abbrev pub moves_on : KeyState → KeyState → Bool

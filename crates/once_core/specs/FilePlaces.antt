@@ -1,13 +1,13 @@
 -- Where the records of a copy stand in the files of its gateway.
-use Rattle.std.specs.Prelude.{ℕ, Bool, true, false, List, [], ◌∷◌, map, Option, Some, None}
+use Rattle.std.specs.Prelude.{◌≡◌, ℕ, Bool, true, false, List, [], ◌∷◌, map, Option, Some, None, Contains}
 use Rattle.std.specs.List.{enumerate_from, filter_map}
 use Rattle.gw_base.specs.declared.history.HistoryAct.{HistoryAct}
 use Rattle.gw_base.specs.declared.history.HistoryAct.TheVariants as act
 use Rattle.gw_base.specs.declared.history.HistoryEntry.{HistoryEntry}
 use Rattle.gw_base.specs.declared.history.PacketKey.{PacketKey}
-use Rattle.file_writer.specs.Places.{FilePlace, place_in}
-use Rattle.file_writer.specs.Streams.{Settings}
-use Rattle.gateway_book.specs.Filed.{along, filed_by_act}
+use Rattle.file_writer.specs.Places.{FilePlace, place_in, record_at}
+use Rattle.file_writer.specs.Streams.{Settings, filed_record}
+use Rattle.gateway_book.specs.Filed.{along, filed, filed_by_act}
 use Rattle.gateway_book.specs.Items.{items_of}
 use Rattle.gateway_book.specs.Once.{is_record_of}
 use Rattle.gateway_book.specs.declared.filing.FiledRecord.{FiledRecord}
@@ -38,3 +38,16 @@ place_where false settings h k = None
 abbrev pub file_places : Settings → PacketKey → ℕ → List HistoryEntry → List FilePlace
 file_places settings key index h =
     filter_map (λ item. place_where (is_source key index item.1) settings h item.0) (enumerate_from 0 (sources_of h))
+
+-- a filed record stands at a place in the files of a history
+abbrev pub StandsAt : Settings → List HistoryEntry → FilePlace → FiledRecord → Type 0
+StandsAt settings h place filing =
+    record_at settings (items_of h) place ≡ Some (filed_record filing.kind filing.octets filing.moment)
+
+-- the record that was filed with this index of the packet under a key stands at a place
+pub record IsRecordAt (settings : Settings) (key : PacketKey) (index : ℕ) (h : List HistoryEntry)
+    (place : FilePlace) : Type 0 where
+  pub filing : FiledRecord
+  pub kept : Contains (filed h) filing
+  pub is : is_record_of key index filing ≡ true
+  pub there : StandsAt settings h place filing

@@ -10,6 +10,7 @@ pub mod Beginning
 pub mod Followed
 pub mod Once
 pub mod FilePlaces
+pub mod StandsOnce
 pub mod Growing
 pub mod Admitted
 pub mod Worked
@@ -25,6 +26,7 @@ pub mod Story
 -- What a world is by what its messages mean.
 pub mod Meaning
 pub mod Shown
+pub mod Told
 -- What a world that runs keeps.
 pub mod Standing
 pub mod HistoryKept

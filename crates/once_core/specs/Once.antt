@@ -11,7 +11,7 @@ use Rattle.once_core.specs.Addresses.{node_ip}
 use Rattle.once_core.specs.Epochs.{epoch_with, key_in}
 use Rattle.once_core.specs.Followed.{Followed, all_followed}
 use Rattle.once_core.specs.Gateway.{Gateway}
-use Rattle.once_core.specs.OncePlaced.{IsOnce}
+use Rattle.once_core.specs.OncePlaced.{IsOnce, records_within}
 use Rattle.once_core.specs.World.{World, log_at}
 
 -- the firm part of the history of the gateway in this place
@@ -32,9 +32,11 @@ pub record IsFiledFor (h : List HistoryEntry) (node : ℕ) (packet : Followed) (
 
 -- Of each packet that was ever resolved each record is filed exactly once, and of any other packet each record at most
 -- once. For a copy that is held, a stranded one too, or was cancelled nothing is filed. What is filed for a copy is its
--- packet's record with that index.
+-- packet's record with that index. And the records that are spoken of are those that the node was given.
 pub record Once (w : World) : Type 0 where
   pub placed : (node : ℕ) (packet : Followed) → IsFollowed w node packet →
       IsOnce (firm_in w) (node_ip node) packet.start (value_octets packet.form) packet.state
   pub octets : (node : ℕ) (packet : Followed) (copy : PacketCopy) (filing : FiledRecord) → IsFollowed w node packet →
       IsFiledFor (firm_in w copy.gateway) node packet copy filing → slice_get packet.form.records filing.index ≡ Some filing.octets
+  pub records : (node : ℕ) (packet : Followed) → IsFollowed w node packet →
+      records_within (value_octets packet.form) ≡ packet.form.records

@@ -133,7 +133,7 @@ impl KeptGateway {
         let all = self.history.len();
         let left = self.firm.max(keep.min(all as u64) as usize);
         self.history.truncate(left);
-        self.waiting.clear();
+        give_up(&mut self.waiting);
         self.is_down = true;
     }
 
@@ -147,6 +147,13 @@ impl KeptGateway {
         self.redirects = 0;
         self.start()
     }
+}
+
+/// Gives up all answers.
+fn give_up(answers: &mut Vec<Waiting>)
+    ensures { answers.new.items ≡ [] }
+{
+    answers.clear();
 }
 
 /// Sends the answers whose front is firm, in their order, and keeps the others.

@@ -24,6 +24,7 @@ mod room;
 pub mod shown_laws;
 #[cfg(test)]
 mod stories;
+pub mod told_laws;
 #[cfg(test)]
 mod worked_tests;
 mod world;

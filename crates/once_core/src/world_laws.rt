@@ -4,22 +4,24 @@ ghost use Rattle.std.specs.Prelude.{◌≡◌, ◌-◌, ◌<◌, ◌≤◌, ℕ,
 ghost use Rattle.file_writer.specs.Places.{FilePlace, place_in};
 ghost use Rattle.file_writer.specs.Streams.{Settings};
 ghost use Rattle.gateway_book.specs.Filed.{filed};
-ghost use Rattle.gateway_book.specs.Items.{items_of};
+ghost use Rattle.gateway_book.specs.Items.{items_of, part_of};
 ghost use Rattle.gateway_book.specs.Once.{times_filed};
 ghost use Rattle.gateway_book.specs.Value.{BookValue, Gone, Refused, Whole, faulted, history_of, reopened, standing_for};
+ghost use Rattle.gateway_book.specs.declared.filing.FiledRecord.{FiledRecord};
 ghost use Rattle.gw_base.specs.History.{state_of};
 ghost use Rattle.gw_base.specs.declared.history.HistoryEntry.{HistoryEntry};
 ghost use Rattle.gw_base.specs.declared.history.PacketKey.{PacketKey};
-ghost use Rattle.once_core.specs.Admitted.{AllAdmitted, moves_on};
+ghost use Rattle.once_core.specs.Admitted.{AllAdmitted, AllMarksDue, moves_on};
 ghost use Rattle.once_core.specs.Answers.{taken_in};
 ghost use Rattle.once_core.specs.Beginning.{world_of};
-ghost use Rattle.once_core.specs.FilePlaces.{file_places};
+ghost use Rattle.once_core.specs.FilePlaces.{IsRecordAt, file_places, sources_of};
+ghost use Rattle.once_core.specs.Epochs.{StartsRise};
 ghost use Rattle.once_core.specs.Gateway.{Gateway, Rules, cut};
 ghost use Rattle.once_core.specs.Expired.{is_expired};
 ghost use Rattle.once_core.specs.Growing.{GoesOn, HoldSame, IsBetween};
-ghost use Rattle.once_core.specs.Messages.{is_request};
 ghost use Rattle.once_core.specs.Once.{Once, firm_in};
 ghost use Rattle.once_core.specs.Shown.{post_of};
+ghost use Rattle.once_core.specs.StandsOnce.{StandsOnce};
 ghost use Rattle.once_core.specs.Turn.{Turn, at_gateway, log_in, refusal_of, turn, turns};
 ghost use Rattle.once_core.specs.World.{World, ticking};
 ghost use Rattle.once_core.specs.declared.event.Event.TheVariants.{Deliver, Tick};
@@ -42,21 +44,21 @@ pub fn each_record_is_filed_once()
     a_node_follows_the_procedure();
 }
 
-/// A Data Record Transfer Request that a node sends in a tick isn't expired: in the world right after
-/// the tick its gateway knows the node's start as the present one, and takes the number that the
-/// request speaks of for the one that was meant, by what is firm alone and with any entries that
-/// follow. So where the next event delivers it, the gateway does what it does to a message whose age
-/// nobody asks for.
+/// What a node sends in a tick isn't expired: in the world right after the tick its gateway knows of no
+/// later start of the node; and of a Data Record Transfer Request it knows the node's start as the
+/// present one, and takes the number that the request speaks of for the one that was meant, by what is
+/// firm alone and with any entries that follow. So where the next event delivers it, the gateway does
+/// what it does to a message whose age nobody asks for.
 pub fn what_a_tick_sends_is_not_expired()
     ensures sent { (rules : Rules) (gateways nodes : ℕ) (all : List Turn) (node : ℕ) (m : Message) (g : Gateway)
         (h : List HistoryEntry) → 1 ≤ gateways → let w = turns rules (world_of rules gateways nodes) all in
         refusal_of w (Tick node) ≡ None →
-        Contains (ticking (length w.gateways) (node - 1) (log_in w node)).sends m → is_request m ≡ true →
+        Contains (ticking (length w.gateways) (node - 1) (log_in w node)).sends m →
         slice_get w.gateways m.gateway ≡ Some g → IsBetween (post_of g) h → is_expired h m ≡ false }
     ensures delivered { (rules : Rules) (gateways nodes : ℕ) (all : List Turn) (tick next : Turn) (node number : ℕ)
         (m : Message) → 1 ≤ gateways → let before = turns rules (world_of rules gateways nodes) all in
         let after = turn rules before tick in tick.event ≡ Tick node → next.event ≡ Deliver number →
-        length before.messages < number → slice_get after.messages (number - 1) ≡ Some m → is_request m ≡ true →
+        length before.messages < number → slice_get after.messages (number - 1) ≡ Some m →
         turn rules after next ≡ at_gateway after m.gateway (taken_in rules after.now next.fortune m) }
 {
     gw_base::nearest_is_the_one();
@@ -99,16 +101,56 @@ pub fn each_filed_record_has_one_place()
     file_writer::places::each_record_has_one_place();
 }
 
+/// What stands at a place of a record is the record as it was filed. And the sources of a history's
+/// items, by which places are told, are those of the items one by one.
+pub fn what_stands_at_a_place_was_filed()
+    ensures item { (h : List HistoryEntry) (k : ℕ) (filing : FiledRecord) →
+        slice_get (sources_of h) k ≡ Some (Some filing) → slice_get (items_of h) k ≡ Some (part_of filing) }
+    ensures there { (settings : Settings) (key : PacketKey) (index : ℕ) (h : List HistoryEntry) (place : FilePlace) →
+        Contains (file_places settings key index h) place → IsRecordAt settings key index h place }
+{
+    file_writer::places::each_record_has_one_place();
+}
+
+/// Whatever happens in a world of at least one gateway, each record of each packet that its node ever
+/// resolved stands at one place of the files of all gateways, each record of any other packet at one
+/// at most, and what stands there is the record as it was submitted. Each gateway has settings of its
+/// files of its own.
+pub fn each_record_stands_once()
+    ensures { (rules : Rules) (settings : ℕ → Settings) (gateways nodes : ℕ) (all : List Turn) → 1 ≤ gateways →
+        StandsOnce settings (turns rules (world_of rules gateways nodes) all) }
+{
+    each_record_is_filed_once();
+    each_filed_record_has_one_place();
+    what_stands_at_a_place_was_filed();
+}
+
 /// Each entry of a firm part keeps to the table of answers: what it files, holds or seals was fresh,
-/// and what it releases or cancels was held. So the states of keys only move forward.
+/// and what it releases or cancels was held. So the states of keys only move forward. And a mark stands
+/// only where a record was filed after the last Close.
 pub fn histories_keep_to_the_table()
     ensures entries { (rules : Rules) (gateways nodes : ℕ) (all : List Turn) (place : ℕ) →
         AllAdmitted (firm_in (turns rules (world_of rules gateways nodes) all) place) }
+    ensures marks { (rules : Rules) (gateways nodes : ℕ) (all : List Turn) (place : ℕ) →
+        AllMarksDue (firm_in (turns rules (world_of rules gateways nodes) all) place) }
     ensures states { (rules : Rules) (gateways nodes : ℕ) (first later : List Turn) (place : ℕ) (key : PacketKey) →
         moves_on (state_of key (firm_in (turns rules (world_of rules gateways nodes) first) place))
         (state_of key (firm_in (turns rules (turns rules (world_of rules gateways nodes) first) later) place)) ≡ true }
 {
     gateway_book::laws::what_is_prepared_is_whole();
+}
+
+/// The starts of each node rise in what is firm at a gateway. So no two epochs of a node there begin
+/// with the same start, and the present one begins with the greatest.
+pub fn starts_only_rise()
+    ensures { (rules : Rules) (gateways nodes : ℕ) (all : List Turn) (place : ℕ) → 1 ≤ gateways →
+        StartsRise (firm_in (turns rules (world_of rules gateways nodes) all) place) }
+{
+    gtpp_message::laws::written_is_read_back();
+    gtpp_message::laws::a_role_reads_what_is_read();
+    gtpp_message::laws::records_are_spelled();
+    node_core::laws::a_gateway_gets_one_copy();
+    a_node_follows_the_procedure();
 }
 
 /// A commit that fails, with an opening again, leaves what a stop leaves with an opening that

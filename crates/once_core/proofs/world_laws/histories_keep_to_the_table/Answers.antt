@@ -3,7 +3,7 @@ use Rattle.gw_base.specs.History.{state_of}
 use Rattle.gw_base.specs.declared.history.HistoryEntry.{HistoryEntry}
 use Rattle.once_core.proofs.AdmittedLemmas.{states_move}
 use Rattle.once_core.proofs.GrowingLemmas.{turns_grow}
-use Rattle.once_core.proofs.TableLemmas.{firm_admitted, first_keeps, turns_keep}
+use Rattle.once_core.proofs.TableLemmas.{firm_admitted, firm_marks_due, first_keeps, turns_keep}
 use Rattle.once_core.proofs.world_laws.histories_keep_to_the_table.Goals as goal
 use Rattle.once_core.specs.Admitted.{AllAdmitted, moves_on}
 use Rattle.once_core.specs.Beginning.{world_of}
@@ -13,6 +13,11 @@ use Rattle.once_core.specs.Turn.{turns}
 pub returns-clause-entries : goal.returns-clause-entries
 returns-clause-entries c rules gateways nodes all place =
     firm_admitted (turns rules (world_of rules gateways nodes) all)
+    (turns_keep c.what_is_prepared_is_whole.ensures rules (world_of rules gateways nodes) all (first_keeps rules gateways nodes)) place
+
+pub returns-clause-marks : goal.returns-clause-marks
+returns-clause-marks c rules gateways nodes all place =
+    firm_marks_due (turns rules (world_of rules gateways nodes) all)
     (turns_keep c.what_is_prepared_is_whole.ensures rules (world_of rules gateways nodes) all (first_keeps rules gateways nodes)) place
 
 pub returns-clause-states : goal.returns-clause-states

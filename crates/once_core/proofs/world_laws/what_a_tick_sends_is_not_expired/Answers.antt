@@ -21,7 +21,7 @@ returns-clause-sent c = λ rules gateways nodes all node m g h some. sent_fresh
     c.requests_are_of_copies.ensures rules gateways nodes all some node m g h
 
 pub returns-clause-delivered : goal.returns-clause-delivered
-returns-clause-delivered c = λ rules gateways nodes all tick next node number m some ticks delivers within is request. next_taken
+returns-clause-delivered c = λ rules gateways nodes all tick next node number m some ticks delivers within is. next_taken
     (record {
       back = c.written_is_read_back.ensures;
       roles = c.a_role_reads_what_is_read.ensures;
@@ -37,4 +37,4 @@ returns-clause-delivered c = λ rules gateways nodes all tick next node number m
       knows = c.a_node_knows_what_it_was_told.ensures;
       follow = c.a_node_follows_the_procedure.ensures;
     })
-    c.requests_are_of_copies.ensures rules gateways nodes all some node tick next number m ticks delivers within is request
+    c.requests_are_of_copies.ensures rules gateways nodes all some node tick next number m ticks delivers within is

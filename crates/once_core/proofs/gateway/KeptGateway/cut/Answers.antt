@@ -14,8 +14,8 @@ invariant_of-self c = record {
 
 pub returns : goal.returns
 returns c =
-    cuts c.self.inside.history.items c.truncate.new.self.items c.self.inside.firm c.args.keep c.max-left.result c.clear.new.self.items c.self.inside.waiting.items
-    c.self.inside.is_down c.self.inside.redirects c.truncate.ensures.items c.clear.ensures.items
+    cuts c.self.inside.history.items c.truncate.new.self.items c.self.inside.firm c.args.keep c.max-left.result c.give_up.new.answers.items c.self.inside.waiting.items
+    c.self.inside.is_down c.self.inside.redirects c.truncate.ensures.items c.give_up.ensures
     (are_left c.self.inside.history.items c.self.inside.firm c.args.keep c.max-left.result c.self.invariant.firm
     (omega (arith, c.max-left.ensures, c.min.ensures, c.len-all.ensures, c.self.inside.history.ok)))
     ∙ ap (λ (g : Gateway). cut c.args.keep false g) c.self.view_is

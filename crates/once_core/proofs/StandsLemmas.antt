@@ -1,0 +1,95 @@
+-- Each record of each packet stands once in the files of all gateways, as it was filed once.
+use Rattle.std.proofs.Common.{◌≡◌, ℕ, ◌<◌, ◌≤◌, ◌==◌, true, List, [], length, Option, Some, None, Contains, slice_get, sum_by, refl, sym, ap, ◌∙◌, arith}
+use Rattle.std.specs.Option.{option_map_or}
+use Rattle.std.proofs.lemmas.Bool.{and_from, and_parts, eq-eqb, eqb-true}
+use Rattle.file_writer.specs.Places.{FilePlace}
+use Rattle.file_writer.specs.Streams.{Settings}
+use Rattle.gateway_book.specs.Filed.{filed}
+use Rattle.gateway_book.specs.Once.{same_key, times_filed}
+use Rattle.gtpp_message.specs.Packet.{PacketForm, packet_of}
+use Rattle.gw_base.specs.declared.history.HistoryEntry.{HistoryEntry}
+use Rattle.gw_base.specs.declared.history.PacketKey.{PacketKey}
+use Rattle.node_core.specs.Drafts.{value_octets}
+use Rattle.node_core.specs.Packets.{is_resolved}
+use Rattle.node_core.specs.declared.copy.PacketCopy.{PacketCopy}
+use Rattle.once_core.specs.Addresses.{node_ip}
+use Rattle.once_core.specs.Epochs.{epoch_with, key_in, times_with}
+use Rattle.once_core.specs.FilePlaces.{IsRecordAt, file_places}
+use Rattle.once_core.specs.Followed.{Followed}
+use Rattle.once_core.specs.Once.{IsFiledFor, IsFollowed, Once, firm_in}
+use Rattle.once_core.specs.OncePlaced.{places_of, record_count}
+use Rattle.once_core.specs.StandsOnce.{IsPacketRecordAt, StandsOnce, copy_places, places_at, places_in}
+use Rattle.once_core.specs.World.{World}
+use Rattle.once_core.proofs.ListLemmas.{in_none}
+
+-- as many places as it was filed times
+abbrev pub Counts : Settings → Type 0
+Counts settings = (key : PacketKey) (index : ℕ) (h : List HistoryEntry) → length (file_places settings key index h) ≡ times_filed key index (filed h)
+
+-- and the record at each
+abbrev pub Stands : Settings → Type 0
+Stands settings = (key : PacketKey) (index : ℕ) (h : List HistoryEntry) (place : FilePlace) → Contains (file_places settings key index h) place → IsRecordAt settings key index h place
+
+count_is : (o : Option PacketForm) → option_map_or (λ form. length form.records) o 0 ≡ length (option_map_or (λ (form : PacketForm). form.records) o [])
+count_is None = refl
+count_is (Some form) = refl
+
+module _ (settings : ℕ → Settings) (counts : (q : ℕ) → Counts (settings q)) (there : (q : ℕ) → Stands (settings q)) (w : World) (once : Once w) where
+  many : (s : Settings) → Counts s → (node start number index : ℕ) (h : List HistoryEntry) → length (copy_places s node start number index h) ≡ times_with node start number index h
+  many s count node start number index h = by (epoch_with node start h)
+    where
+      by : (o : Option ℕ) → length (option_map_or (λ epoch. file_places s (key_in node number epoch) index h) o [])
+          ≡ option_map_or (λ epoch. times_filed (key_in node number epoch) index (filed h)) o 0
+      by None = refl
+      by (Some epoch) = count (key_in node number epoch) index h
+
+  module _ (node : ℕ) (packet : Followed) (index : ℕ) (is : IsFollowed w node packet) where
+    each : (copy : PacketCopy) → length (places_at settings w node packet index copy) ≡ times_with (node_ip node) packet.start copy.number index (firm_in w copy.gateway)
+    each copy = many (settings copy.gateway) (counts copy.gateway) (node_ip node) packet.start copy.number index (firm_in w copy.gateway)
+
+    summed : places_in settings w node packet index ≡ places_of (firm_in w) (node_ip node) packet.start packet.state.copies index
+    summed = ap (λ (f : PacketCopy → ℕ). sum_by f packet.state.copies) (λ i copy. each copy i)
+
+    within : index < length packet.form.records → index < record_count (value_octets packet.form)
+    within less =
+        let count = count_is (packet_of (value_octets packet.form)) in
+        let same = ap length (once.records node packet is) in
+        omega (arith, less, count, same)
+
+    resolved : is_resolved packet.state.copies ≡ true → index < length packet.form.records → places_in settings w node packet index ≡ 1
+    resolved done less = summed ∙ (once.placed node packet is).resolved done index (within less)
+
+    at_most : places_in settings w node packet index ≤ 1
+    at_most = let one = (once.placed node packet is).at_most index in let same = summed in omega (arith, one, same)
+
+    octets : (copy : PacketCopy) (place : FilePlace) → Contains packet.state.copies copy → Contains (places_at settings w node packet index copy) place
+        → IsPacketRecordAt (settings copy.gateway) (firm_in w copy.gateway) packet index place
+    octets copy place kept = by (epoch_with (node_ip node) packet.start (firm_in w copy.gateway)) refl
+      where
+        by : (o : Option ℕ) → epoch_with (node_ip node) packet.start (firm_in w copy.gateway) ≡ o
+            → Contains (option_map_or (λ epoch. file_places (settings copy.gateway) (key_in (node_ip node) copy.number epoch) index (firm_in w copy.gateway)) o []) place
+            → IsPacketRecordAt (settings copy.gateway) (firm_in w copy.gateway) packet index place
+        by None e at = absurd (in_none place at)
+        by (Some epoch) e at =
+            let stands = there copy.gateway (key_in (node_ip node) copy.number epoch) index (firm_in w copy.gateway) place at in
+            let parts = and_parts (same_key stands.filing.key (key_in (node_ip node) copy.number epoch)) (stands.filing.index == index) stands.is in
+            let filed_for : IsFiledFor (firm_in w copy.gateway) node packet copy stands.filing = record {
+              copy_is = kept;
+              epoch = epoch;
+              begun = e;
+              kept = stands.kept;
+              key_is = and_from (same_key stands.filing.key (key_in (node_ip node) copy.number epoch)) (stands.filing.index == stands.filing.index) parts.0
+                  (eq-eqb stands.filing.index stands.filing.index refl);
+            } in
+            record {
+              filing = stands.filing;
+              there = stands.there;
+              octets = ap (slice_get packet.form.records) (sym (eqb-true stands.filing.index index parts.1)) ∙ once.octets node packet copy stands.filing is filed_for;
+            }
+
+  pub stands_once : StandsOnce settings w
+  stands_once = record {
+    resolved = λ node packet index is. resolved node packet index is;
+    at_most = λ node packet index is. at_most node packet index is;
+    octets = λ node packet index copy place is. octets node packet index is copy place;
+  }

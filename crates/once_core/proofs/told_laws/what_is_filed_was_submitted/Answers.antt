@@ -1,0 +1,13 @@
+use Rattle.once_core.proofs.ToldLemmas.{world_was_submitted}
+use Rattle.once_core.proofs.told_laws.what_is_filed_was_submitted.Goals as goal
+
+pub returns : goal.returns
+returns c = λ rules gateways nodes all place filing some. world_was_submitted
+    (record {
+      back = c.written_is_read_back.ensures;
+      roles = c.a_role_reads_what_is_read.ensures;
+      records = c.records_are_spelled.ensures;
+      follow = c.a_node_follows_the_procedure.ensures;
+      one_each = c.a_gateway_gets_one_copy.ensures;
+    })
+    rules gateways nodes all some place filing

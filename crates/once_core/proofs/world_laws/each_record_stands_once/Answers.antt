@@ -1,0 +1,11 @@
+use Rattle.once_core.proofs.StandsLemmas.{stands_once}
+use Rattle.once_core.proofs.world_laws.each_record_stands_once.Goals as goal
+use Rattle.once_core.specs.Beginning.{world_of}
+use Rattle.once_core.specs.Turn.{turns}
+
+pub returns : goal.returns
+returns c = λ rules settings gateways nodes all some.
+    stands_once settings (λ q. c.each_filed_record_has_one_place.ensures (settings q))
+    (λ q. c.what_stands_at_a_place_was_filed.ensures.there (settings q))
+    (turns rules (world_of rules gateways nodes) all)
+    (c.each_record_is_filed_once.ensures rules gateways nodes all some)

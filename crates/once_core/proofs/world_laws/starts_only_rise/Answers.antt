@@ -1,0 +1,11 @@
+use Rattle.once_core.proofs.RisingLemmas.{starts_rise}
+use Rattle.once_core.proofs.world_laws.starts_only_rise.Goals as goal
+
+pub returns : goal.returns
+returns c = starts_rise (record {
+  back = c.written_is_read_back.ensures;
+  roles = c.a_role_reads_what_is_read.ensures;
+  records = c.records_are_spelled.ensures;
+  follow = c.a_node_follows_the_procedure.ensures;
+  one_each = c.a_gateway_gets_one_copy.ensures;
+})

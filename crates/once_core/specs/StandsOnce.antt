@@ -1,0 +1,52 @@
+-- Whether each record of each packet stands once in the files of all gateways.
+use Rattle.std.specs.Prelude.{◌≡◌, ℕ, ◌<◌, ◌≤◌, true, Contains, List, [], length, Some, slice_get, sum_by}
+use Rattle.std.specs.Option.{option_map_or}
+use Rattle.file_writer.specs.Places.{FilePlace}
+use Rattle.file_writer.specs.Streams.{Settings}
+use Rattle.gateway_book.specs.declared.filing.FiledRecord.{FiledRecord}
+use Rattle.gw_base.specs.declared.history.HistoryEntry.{HistoryEntry}
+use Rattle.node_core.specs.Packets.{is_resolved}
+use Rattle.node_core.specs.declared.copy.PacketCopy.{PacketCopy}
+use Rattle.once_core.specs.Addresses.{node_ip}
+use Rattle.once_core.specs.Epochs.{epoch_with, key_in}
+use Rattle.once_core.specs.FilePlaces.{StandsAt, file_places}
+use Rattle.once_core.specs.Followed.{Followed}
+use Rattle.once_core.specs.Once.{IsFollowed, firm_in}
+use Rattle.once_core.specs.World.{World}
+
+-- the places at which the record with this index of a copy's packet stands in the files of a history, where the node
+-- sent the copy in a start
+abbrev pub copy_places : Settings → ℕ → ℕ → ℕ → ℕ → List HistoryEntry → List FilePlace
+copy_places settings node start number index h =
+    option_map_or (λ epoch. file_places settings (key_in node number epoch) index h) (epoch_with node start h) []
+
+-- the same of a copy of the packet that the node in this place followed, at the copy's gateway; each gateway has
+-- settings of its files of its own
+abbrev pub places_at : (ℕ → Settings) → World → ℕ → Followed → ℕ → PacketCopy → List FilePlace
+places_at settings w node packet index copy =
+    copy_places (settings copy.gateway) (node_ip node) packet.start copy.number index (firm_in w copy.gateway)
+
+-- at how many places of the files of all gateways it stands
+abbrev pub places_in : (ℕ → Settings) → World → ℕ → Followed → ℕ → ℕ
+places_in settings w node packet index =
+    sum_by (λ (copy : PacketCopy). length (places_at settings w node packet index copy)) packet.state.copies
+
+-- what stands at a place is the packet's record with this index
+pub record IsPacketRecordAt (settings : Settings) (h : List HistoryEntry) (packet : Followed) (index : ℕ)
+    (place : FilePlace) : Type 0 where
+  pub filing : FiledRecord
+  pub there : StandsAt settings h place filing
+  pub octets : slice_get packet.form.records index ≡ Some filing.octets
+
+-- Each record of each packet that was ever resolved stands at exactly one place, and each record of any other packet at
+-- one at most. What stands at a place is the packet's record, octet for octet.
+pub record StandsOnce (settings : ℕ → Settings) (w : World) : Type 0 where
+  pub resolved : (node : ℕ) (packet : Followed) (index : ℕ) → IsFollowed w node packet →
+      is_resolved packet.state.copies ≡ true → index < length packet.form.records →
+      places_in settings w node packet index ≡ 1
+  pub at_most : (node : ℕ) (packet : Followed) (index : ℕ) → IsFollowed w node packet →
+      places_in settings w node packet index ≤ 1
+  pub octets : (node : ℕ) (packet : Followed) (index : ℕ) (copy : PacketCopy) (place : FilePlace) →
+      IsFollowed w node packet → Contains packet.state.copies copy →
+      Contains (places_at settings w node packet index copy) place →
+      IsPacketRecordAt (settings copy.gateway) (firm_in w copy.gateway) packet index place
