@@ -1,6 +1,7 @@
 -- What the grammar of scripts makes sure of the lines of a script.
 use Rattle.std.specs.Prelude.{◌≤◌, ◌-◌, ◌^◌, List, length, All, IsSome, IsUtf8}
 use Rattle.std.specs.List.{flat_map}
+use Rattle.gate_journal.specs.Format.{fewest_octets, most_octets}
 use Rattle.jiff_core.specs.Calendar.{IsWithin}
 use Rattle.route_filter.specs.Rules.{most_rules, rule_of}
 use Rattle.world_script.specs.Script.{most_text}
@@ -10,7 +11,7 @@ use Rattle.cgf_top.specs.FeedSettings.{rules_in}
 
 -- a setting is in its range, and a rule is one, in text
 abbrev pub IsInRange : Line → Type 0
-IsInRange (line.Reserve length) = (100 ≤ length) × (length ≤ 268435456)
+IsInRange (line.Reserve length) = (fewest_octets ≤ length) × (length ≤ most_octets)
 IsInRange (line.LimitRecords count) = 1 ≤ count
 IsInRange (line.LimitSize size) = (1 ≤ size) × (size ≤ 2 ^ 32 - 2 ^ 17)
 IsInRange (line.Offset minutes) = IsWithin 959 minutes

@@ -1,6 +1,7 @@
 -- Words for the steps in which settings are read.
 use Rattle.std.specs.Prelude.{◌≤◌, ◌++◌}
 use Rattle.file_rotate.specs.Items.{AreLimits}
+use Rattle.gate_journal.specs.Format.{fewest_octets, most_octets}
 use Rattle.world_script.specs.declared.line.Line.{Line}
 use Rattle.cgf_top.specs.FeedSettings.{FeedSettings, gateway_address, offset_in, open_time_in, records_in, reserve_in, rules_in, set_by, size_in}
 use Rattle.cgf_top.specs.declared.settings.Settings.{Settings}
@@ -13,8 +14,8 @@ settings_seen s = record {
 
 -- the area isn't too short or too long, and files have limits
 pub record AreSound (s : Settings) : Type 0 where
-  pub long : 100 ≤ s.reserved
-  pub short : s.reserved ≤ 268435456
+  pub long : fewest_octets ≤ s.reserved
+  pub short : s.reserved ≤ most_octets
   pub limits : AreLimits s.limits
 
 -- settings after one line

@@ -1,6 +1,7 @@
 //! A gateway in memory, whose device never fails: each entry is firm before the next call.
 ghost use Rattle.std.specs.Prelude.{◌≡◌, ◌≢◌, ◌≤◌, ◌<◌, ◌^◌, All, IfOk, OnOk, length, false};
 ghost use Rattle.file_writer.specs.AllStreams.{IsFit};
+ghost use Rattle.gate_journal.specs.Format.{fewest_octets, most_octets};
 ghost use Rattle.gateway_book.specs.Book.{Stays, value_of};
 ghost use Rattle.gateway_book.specs.Calls.{counts_of};
 ghost use Rattle.gateway_book.specs.Items.{items_of};
@@ -40,8 +41,8 @@ impl Gateway {
     /// A gateway that begins to run on an area of so many octets, each of them 0. A Tick closes a file that was opened
     /// at least so many seconds before it.
     pub fn open(alloc: Global, reserved: u64, open_time: u64) -> Result<Gateway, NoMemory>
-        requires long { 100 ≤ reserved }
-        requires short { reserved ≤ 268435456 }
+        requires long { fewest_octets ≤ reserved }
+        requires short { reserved ≤ most_octets }
         ensures { IfOk result (λ gateway. gateway ≡ new_gateway reserved open_time) }
     {
         let Ok(area) = QuietArea::new(alloc, reserved) else {

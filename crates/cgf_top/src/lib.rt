@@ -15,8 +15,6 @@ ghost use Rattle.cgf_top.specs.Steps.{IsRefusal, IsReport, ended_by};
 ghost use Rattle.cgf_top.specs.declared.report.Refusal.{Refusal};
 
 mod command;
-#[cfg(test)]
-mod datagram_tests;
 mod feed;
 mod files;
 mod gateway;
@@ -27,11 +25,7 @@ mod printing;
 mod report;
 mod settings;
 mod show;
-#[cfg(test)]
-mod show_tests;
 mod status;
-#[cfg(test)]
-mod tests;
 
 use crate::command::Command;
 use crate::input::{ReadEnd, read_input};
