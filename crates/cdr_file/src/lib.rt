@@ -39,8 +39,3 @@ pub use reading::read;
 pub use run::{RunFacts, cdr_header_length, header_length, node_address, run_header};
 pub use stamp_fields::StampFields;
 pub use timestamp::stamp;
-
-#[cfg(test)]
-mod reading_tests;
-#[cfg(test)]
-mod tests;

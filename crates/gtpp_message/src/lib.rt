@@ -12,8 +12,6 @@
 
 pub mod command;
 mod draft;
-#[cfg(test)]
-mod end_tests;
 mod flaw;
 pub mod laws;
 mod message;
@@ -27,8 +25,6 @@ mod reading;
 mod records;
 mod role;
 mod spell;
-#[cfg(test)]
-mod tests;
 
 pub use message::{Message, Transfer};
 pub use packet::Packet;

@@ -23,7 +23,7 @@ pub const REQUEST: [u8; 22] = [
 ];
 
 /// A device of which nothing fails.
-pub fn sound(alloc: Global) -> Plan {
+pub(crate) fn sound(alloc: Global) -> Plan {
     Plan {
         fail: Vec::new(alloc),
         read_fail: Vec::new(alloc),
@@ -32,7 +32,7 @@ pub fn sound(alloc: Global) -> Plan {
 }
 
 /// A device whose counted calls with these numbers fail.
-pub fn failing(rt: &impl Abort, alloc: Global, calls: &[u64]) -> Plan {
+pub(crate) fn failing(rt: &impl Abort, alloc: Global, calls: &[u64]) -> Plan {
     let mut fail = Vec::new(alloc);
     if fail.extend_from_slice(calls).is_err() {
         panic!(rt; "no memory for a plan");
@@ -45,7 +45,7 @@ pub fn failing(rt: &impl Abort, alloc: Global, calls: &[u64]) -> Plan {
 }
 
 /// A device that stops at a counted call.
-pub fn stopping(alloc: Global, stop: Stop) -> Plan {
+pub(crate) fn stopping(alloc: Global, stop: Stop) -> Plan {
     Plan {
         fail: Vec::new(alloc),
         read_fail: Vec::new(alloc),
@@ -53,7 +53,7 @@ pub fn stopping(alloc: Global, stop: Stop) -> Plan {
     }
 }
 
-pub fn area(rt: &impl Abort, alloc: Global, length: u64, plan: Plan) -> MemoryArea {
+pub(crate) fn area(rt: &impl Abort, alloc: Global, length: u64, plan: Plan) -> MemoryArea {
     match MemoryArea::new(alloc, length, plan) {
         Ok(area) => area,
         Err(_) => panic!(rt; "no memory for an area"),
@@ -61,13 +61,13 @@ pub fn area(rt: &impl Abort, alloc: Global, length: u64, plan: Plan) -> MemoryAr
 }
 
 /// The area after the device runs again, with nothing planned.
-pub fn revived(alloc: Global, mut area: MemoryArea) -> MemoryArea {
+pub(crate) fn revived(alloc: Global, mut area: MemoryArea) -> MemoryArea {
     area.revive();
     area.arm(sound(alloc));
     area
 }
 
-pub fn open(
+pub(crate) fn open(
     rt: &impl Abort,
     alloc: Global,
     area: MemoryArea,
@@ -75,7 +75,7 @@ pub fn open(
     open_as(rt, alloc, area, SETUP)
 }
 
-pub fn open_as(
+pub(crate) fn open_as(
     rt: &impl Abort,
     alloc: Global,
     area: MemoryArea,
@@ -86,26 +86,26 @@ pub fn open_as(
     Book::open(alloc, area, setup)
 }
 
-pub fn opened(rt: &impl Abort, alloc: Global, area: MemoryArea) -> Book<MemoryArea> {
+pub(crate) fn opened(rt: &impl Abort, alloc: Global, area: MemoryArea) -> Book<MemoryArea> {
     match open(rt, alloc, area) {
         Ok(book) => book,
         Err(_) => panic!(rt; "not opened"),
     }
 }
 
-pub fn moment(rt: &impl Abort, seconds: u64) -> Moment {
+pub(crate) fn moment(rt: &impl Abort, seconds: u64) -> Moment {
     match Moment::of(seconds) {
         Some(moment) => moment,
         None => panic!(rt; "no such moment"),
     }
 }
 
-pub fn take(book: &mut Book<MemoryArea>, from: Addr, octets: &[u8], now: Moment) -> Outcome {
+pub(crate) fn take(book: &mut Book<MemoryArea>, from: Addr, octets: &[u8], now: Moment) -> Outcome {
     book.take(from, &prepare(octets), now, Caller::NONE)
 }
 
 /// The answer to a datagram.
-pub fn answered(
+pub(crate) fn answered(
     rt: &impl Abort,
     book: &mut Book<MemoryArea>,
     from: Addr,
@@ -119,14 +119,14 @@ pub fn answered(
 }
 
 /// The cause of a Data Record Transfer Response.
-pub fn cause(rt: &impl Abort, receipt: &Receipt) -> u8 {
+pub(crate) fn cause(rt: &impl Abort, receipt: &Receipt) -> u8 {
     let octets = receipt.reply.octets();
     assert!(rt; octets.len() == 13);
     octets[7]
 }
 
 /// Sends a request, which is answered by this cause.
-pub fn sends(
+pub(crate) fn sends(
     rt: &impl Abort,
     book: &mut Book<MemoryArea>,
     from: Addr,
@@ -139,12 +139,12 @@ pub fn sends(
 }
 
 /// Whether a commit succeeds.
-pub fn commits(book: &mut Book<MemoryArea>) -> bool {
+pub(crate) fn commits(book: &mut Book<MemoryArea>) -> bool {
     book.commit().is_ok()
 }
 
 /// Whether what was answered at this front and these faults may be sent is told so.
-pub fn settles(
+pub(crate) fn settles(
     rt: &impl Abort,
     book: &Book<MemoryArea>,
     (front, faults): (u64, u64),
@@ -154,25 +154,25 @@ pub fn settles(
 }
 
 /// How many entries there are.
-pub fn entries(book: &Book<MemoryArea>) -> u64 {
+pub(crate) fn entries(book: &Book<MemoryArea>) -> u64 {
     book.counts().entries
 }
 
 /// How many entries are firm.
-pub fn firm(book: &Book<MemoryArea>) -> u64 {
+pub(crate) fn firm(book: &Book<MemoryArea>) -> u64 {
     book.counts().firm
 }
 
-pub fn area_of(book: Book<MemoryArea>) -> MemoryArea {
+pub(crate) fn area_of(book: Book<MemoryArea>) -> MemoryArea {
     book.into_area()
 }
 
 /// A Tick at this moment is answered so.
-pub fn ticks(rt: &impl Abort, book: &mut Book<MemoryArea>, seconds: u64, wanted: Marked) {
+pub(crate) fn ticks(rt: &impl Abort, book: &mut Book<MemoryArea>, seconds: u64, wanted: Marked) {
     assert_eq!(rt; book.tick(moment(rt, seconds), Caller::NONE), wanted);
 }
 
 /// A Close at this moment is answered so.
-pub fn closes(rt: &impl Abort, book: &mut Book<MemoryArea>, seconds: u64, wanted: Marked) {
+pub(crate) fn closes(rt: &impl Abort, book: &mut Book<MemoryArea>, seconds: u64, wanted: Marked) {
     assert_eq!(rt; book.close(moment(rt, seconds), Caller::NONE), wanted);
 }

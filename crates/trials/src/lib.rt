@@ -4,6 +4,8 @@
 #![tactic(auto)]
 
 #[cfg(test)]
+mod batches;
+#[cfg(test)]
 mod book;
 #[cfg(test)]
 mod book_drill;
@@ -18,10 +20,28 @@ mod book_taking;
 #[cfg(test)]
 mod book_worked;
 #[cfg(test)]
+mod cdr_files;
+#[cfg(test)]
+mod cdr_reading;
+#[cfg(test)]
+mod entries;
+#[cfg(test)]
+mod job;
+#[cfg(test)]
+mod job_datagrams;
+#[cfg(test)]
+mod job_show;
+#[cfg(test)]
 mod journal;
+#[cfg(test)]
+mod message_ends;
+#[cfg(test)]
+mod messages;
 #[cfg(test)]
 mod node_drafts;
 #[cfg(test)]
 mod node_driving;
+#[cfg(test)]
+mod scripts;
 #[cfg(test)]
 mod writer;

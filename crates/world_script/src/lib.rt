@@ -36,6 +36,3 @@ pub use samples::sample;
 pub use script::{Script, read};
 pub use text::{TextLine, first_line, is_blank};
 pub use values::address;
-
-#[cfg(test)]
-mod tests;

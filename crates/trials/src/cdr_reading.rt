@@ -1,5 +1,5 @@
-use crate::tests::{ONE_CDR, one_cdr_file};
-use crate::{FileFault, FileKind, Offset16, StampFields, cdr_line, list, read};
+use crate::cdr_files::{ONE_CDR, one_cdr_file};
+use cdr_file::{FileFault, FileKind, Offset16, StampFields, cdr_line, list, read};
 use gw_base::{CdrKind, GatewayId, Moment};
 use std::test::Fail;
 

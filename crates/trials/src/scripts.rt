@@ -1,8 +1,8 @@
-use crate::{InputFault, InputKind, Line, Mode, Script, ScriptKind, print, read, sample};
 use gw_base::Addr;
 use std::alloc::Global;
 use std::process::Abort;
 use std::test::Fail;
+use world_script::{InputFault, InputKind, Line, Mode, Script, ScriptKind, print, read, sample};
 
 /// A script of every form of line, whose last line lacks its line feed.
 const EVERY_FORM: &str = "# settings\n\

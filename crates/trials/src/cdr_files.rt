@@ -2,7 +2,7 @@ ghost use Rattle.std.specs.Prelude.{◌≡◌, ◌<◌, ◌∷◌, [], length, p
 ghost use Rattle.cdr_file.specs.CdrFile.{file_octets};
 ghost use Rattle.cdr_file.specs.Timestamp.{stamp_of};
 
-use crate::{
+use cdr_file::{
     CdrHeader, ClosureReason, FileHeader, Offset16, node_address, stamp, write_cdr, write_header,
 };
 use gw_base::{CdrKind, GatewayId, Moment};

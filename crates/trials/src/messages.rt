@@ -2,8 +2,8 @@ ghost use Rattle.std.specs.Prelude.{◌≤◌, length};
 ghost use Rattle.gtpp_message.specs.Values.{message_value};
 ghost use Rattle.gtpp_message.specs.Writing.{body_octets};
 
-use super::*;
 use gtpp_elements::Numbers;
+use gtpp_message::*;
 use gw_base::{Buffer, Full};
 
 #[test]

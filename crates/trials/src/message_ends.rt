@@ -1,4 +1,4 @@
-use super::*;
+use gtpp_message::*;
 use path_mgmt::PathEvent;
 
 /// How an end of the path drops or refuses a datagram.
