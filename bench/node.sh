@@ -1,7 +1,8 @@
 #!/bin/bash
-# How long a serving node takes: a tick that sends 64 open packets again, at one of eight gateways that are alive, and
-# packets through a node whose gateway answers each at once. It builds a small program beside a copy of the crates that it
-# stands on, which proves what isn't proved yet. Run it at the top of the repository.
+# How long a serving node takes, with eight gateways that are alive: a tick that sends 64 open packets again to one of
+# them, a tick with a copy of each at all eight, and packets through a node whose gateway answers each at once. It
+# builds a small program beside a copy of the crates that it stands on, which proves what isn't proved yet. Run it at
+# the top of the repository.
 cd "$(dirname "$0")/.." || exit 1
 work=$(mktemp -d)
 trap 'rm -rf "$work"' EXIT
@@ -13,7 +14,7 @@ for crate in gw_base case_table ber_frame path_mgmt gtpp_header gtpp_elements gt
 done >"$work/crates.txt"
 echo 'node_bench: gw_base node_core' >>"$work/crates.txt"
 cat >"$work/crates/node_bench/src/main.rt" <<'END'
-//! Times the ticks of a node with 64 open packets, or so many packets through a node, by the first word.
+//! Times the ticks of a node with 64 open packets, or so many packets through a node, by the number of words.
 #![tactic(auto)]
 
 use gw_base::{Addr, NoMemory};
@@ -50,11 +51,16 @@ fn tick(alloc: Global, node: &mut Node) -> usize {
     }
 }
 
+/// Hears a datagram at a port from the n-th gateway.
+fn hear_at(port: Port, node: &mut Node, n: u8, octets: &[u8]) {
+    if node.runs() {
+        let _ = node.hear(port, gateway(n), octets);
+    }
+}
+
 /// Hears a datagram from the n-th gateway.
 fn hear(node: &mut Node, n: u8, octets: &[u8]) {
-    if node.runs() {
-        let _ = node.hear(Port::First, gateway(n), octets);
-    }
+    hear_at(Port::First, node, n, octets)
 }
 
 /// A node to which eight gateways are alive.
@@ -77,11 +83,35 @@ fn node(alloc: Global) -> Result<Node, NoMemory> {
     Ok(node)
 }
 
-/// A thousand ticks with 64 open packets.
-fn ticks(alloc: Global, node: &mut Node) -> usize {
+/// Submits 64 packets.
+fn fill(alloc: Global, node: &mut Node) {
     for _ in 0..64 {
         submit(alloc, node);
     }
+}
+
+/// The n-th gateway answers the numbers of 64 copies by 128 at a port.
+fn answer(port: Port, node: &mut Node, n: u8) {
+    for k in 0..64u8 {
+        hear_at(port, node, n, &[0x4E, 0xF1, 0, 7, 0, k, 1, 128, 0xFD, 0, 2, 0, k]);
+    }
+}
+
+/// Submits 64 packets, and sends a copy of each to every gateway: the first is sealed, the last held.
+fn spread(alloc: Global, node: &mut Node) {
+    fill(alloc, node);
+    for n in 0..8 {
+        tick(alloc, node);
+        if n < 7 {
+            hear(node, n, &[0x4E, 6, 0, 2, 0, 0, 1, 63]);
+        }
+    }
+    answer(Port::First, node, 7);
+    answer(Port::Second, node, 0);
+}
+
+/// A thousand ticks.
+fn ticks(alloc: Global, node: &mut Node) -> usize {
     let mut sent = 0usize;
     for _ in 0..1000 {
         sent = sent.saturating_add(tick(alloc, node));
@@ -116,10 +146,15 @@ fn main(rt: HostRuntime) -> io::Result<()> {
     let Ok(mut node) = node(rt.alloc()) else {
         return Ok(());
     };
+    match words {
+        1 => fill(rt.alloc(), &mut node),
+        2 => spread(rt.alloc(), &mut node),
+        _ => {}
+    }
     let begun = now(&rt);
     let sent = match words {
-        1 => ticks(rt.alloc(), &mut node),
-        2 => packets(rt.alloc(), &mut node, 10_000),
+        1 | 2 => ticks(rt.alloc(), &mut node),
+        3 => packets(rt.alloc(), &mut node, 10_000),
         _ => packets(rt.alloc(), &mut node, 100_000),
     };
     let micros = now(&rt).saturating_sub(begun);
@@ -129,9 +164,11 @@ fn main(rt: HostRuntime) -> io::Result<()> {
 END
 (cd "$work/crates/node_bench" && rt run) >"$work/log" 2>&1 || { cat "$work/log"; exit 1; }
 program=$work/crates/node_bench/out/node_bench
-printf '%-44s' 'a thousand ticks with 64 open packets'
+printf '%-50s' 'a thousand ticks with 64 packets, a copy each'
 "$program"
-printf '%-44s' 'ten thousand packets that are answered'
+printf '%-50s' 'a thousand ticks with 64 packets, eight copies each'
 "$program" some
-printf '%-44s' 'a hundred thousand packets that are answered'
+printf '%-50s' 'ten thousand packets that are answered'
 "$program" some more
+printf '%-50s' 'a hundred thousand packets that are answered'
+"$program" some more and more
