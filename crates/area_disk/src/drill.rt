@@ -1,5 +1,5 @@
 // Objects in memory whose failures and stops are planned.
-ghost use Rattle.std.specs.Prelude.{◌≡◌, ◌≤◌, ℕ, List, IsTrue, true, false};
+ghost use Rattle.std.specs.Prelude.{◌≡◌, IsTrue, true, false};
 ghost use Rattle.area_disk.specs.Disk.{Within};
 ghost use Rattle.area_disk.specs.Record.{GoesOn, nothing, stopped};
 ghost use Rattle.area_disk.specs.Plan.{Schedule, armed, with_stopped, most_unsynced};

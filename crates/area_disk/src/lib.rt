@@ -28,6 +28,3 @@ pub use memory::MemoryArea;
 pub use plan::{Fate, Outcome3, Plan, Stop};
 pub use planned::PlannedCalls;
 pub use quiet::QuietArea;
-
-#[cfg(test)]
-mod tests;

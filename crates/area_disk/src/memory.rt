@@ -1,11 +1,11 @@
 // An area in memory with planned failures and stops.
-ghost use Rattle.std.specs.Prelude.{◌≡◌, ◌-◌, ◌+◌, ◌≤◌, ℕ, List, [], length, true, false, IsErr, IfOk};
+ghost use Rattle.std.specs.Prelude.{◌≡◌, ◌-◌, ◌+◌, length, true, false, IsErr, IfOk};
 ghost use Rattle.std.proofs.Common.{refl};
 ghost use Rattle.area_disk.specs.Disk.{HasCause, Only, zeros};
 ghost use Rattle.area_disk.specs.Plan.{IsFresh, next_fate, fate_with, most_unsynced};
 ghost use Rattle.area_disk.specs.Outside.{same_refl};
 ghost use Rattle.area_disk.specs.Past.{all_room, moment_of, told_of, LeftSince};
-ghost use Rattle.area_disk.specs.Memory.{prospect_of, room_of, leaves_of, DiskMayLeave, disk_counts_now, disk_only_now, disk_same_size, disk_may_stop, IsKept, IsLeft, kept_disk_size, kept_present, kept_within, kept_goes, kept_leaves_of, kept_disk_spare, left_within, left_goes, left_leaves_of, left_disk_spare};
+ghost use Rattle.area_disk.specs.Memory.{prospect_of, room_of, DiskMayLeave, disk_counts_now, disk_only_now, disk_same_size, disk_may_stop, IsKept, IsLeft, kept_disk_size, kept_present, kept_within, kept_goes, kept_leaves_of, kept_disk_spare, left_within, left_goes, left_leaves_of, left_disk_spare};
 ghost use Rattle.area_disk.specs.declared.plan.Outcome3.{Outcome3};
 
 use crate::disk::Disk;

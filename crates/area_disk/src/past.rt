@@ -1,7 +1,7 @@
 // The record of an area's counted calls, from which each moment's octets can be told.
-ghost use Rattle.std.specs.Prelude.{◌≡◌, ◌+◌, ◌≤◌, ◌<◌, ◌&&◌, nat_lt, nat_le, ℕ, List, [], length, IfOk};
+ghost use Rattle.std.specs.Prelude.{◌≡◌, ◌+◌, ◌≤◌, ◌<◌, ◌&&◌, nat_lt, nat_le, [], length, IfOk};
 ghost use Rattle.area_disk.specs.Plan.{most_unsynced};
-ghost use Rattle.area_disk.specs.Past.{Change, Past, image_after, unsynced_after, changes_of, written_by, EachWithin, anew, pushed, noted, most_calls, most_octets, octets_in};
+ghost use Rattle.area_disk.specs.Past.{Past, image_after, unsynced_after, changes_of, written_by, EachWithin, anew, pushed, noted, most_calls, most_octets, octets_in};
 
 use crate::NoMemory;
 use crate::stretch::{Stretch, overwrite};

@@ -1,4 +1,4 @@
-ghost use Rattle.std.specs.Prelude.{◌≡◌, ◌≤◌, length, List, ℕ, IfOk};
+ghost use Rattle.std.specs.Prelude.{◌≡◌, length, List, ℕ, IfOk};
 ghost use Rattle.gw_base.specs.declared.history.HistoryEntry.{HistoryEntry};
 ghost use Rattle.gw_base.specs.History.{copies_of, epoch_of, state_of};
 ghost use Rattle.gw_base.specs.HeldKeys.{held_keys, holds, is_held, promised_octets};

@@ -64,6 +64,3 @@ pub use short::Short;
 pub use sink::Sink;
 pub use source::Source;
 pub use tag::Tag;
-
-#[cfg(test)]
-mod tests;
