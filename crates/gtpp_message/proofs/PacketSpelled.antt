@@ -1,9 +1,9 @@
 -- A packet is read just where the octets spell it.
-use Rattle.std.proofs.Common.{◌≡◌, ◌↔◌, ℕ, ◌==◌, ◌≤◌, Bool, true, false, cond, List, [], ◌∷◌, length, Option, Some, None, option_map, refl, ap, sym, subst, ◌∙◌, inl, inr, arith}
+use Rattle.std.proofs.Common.{◌≡◌, ◌↔◌, ℕ, ◌==◌, Bool, true, false, cond, List, [], ◌∷◌, length, Option, Some, None, option_map, refl, ap, sym, subst, ◌∙◌, inl, inr, arith}
 use Rattle.std.proofs.lemmas.Bool.{eqb-false, ne_eqb}
 use Rattle.std.proofs.lemmas.Bool.Decides.{eqb_tells}
 use Rattle.gtpp_header.specs.Header.{two_octets}
-use Rattle.gtpp_message.specs.Packet.{PacketForm, PacketValue, Empty, Full, SpellRecords, SpellsEmpty, SpellsForm, SpellsPacket, full_packet, is_empty_packet, packet_in, packet_of, packet_reading, records_at}
+use Rattle.gtpp_message.specs.Packet.{PacketForm, PacketValue, Empty, Full, SpellsEmpty, SpellsForm, SpellsPacket, full_packet, is_empty_packet, packet_in, packet_of, packet_reading, records_at}
 use Rattle.gtpp_message.proofs.PacketLemmas.{full_read, packet_back}
 use Rattle.gtpp_message.proofs.RecordLemmas.{Counted, counted, records_again}
 

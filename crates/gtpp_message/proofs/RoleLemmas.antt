@@ -1,5 +1,5 @@
 -- What an end of a path reads, behind the header and beside what is read at neither end.
-use Rattle.std.proofs.Common.{◌≡◌, ◌↔◌, ℕ, ◌==◌, Bool, true, false, not, nat_lt, if◌then◌else◌, List, [], ◌∷◌, length, take, drop, Result, Ok, Err, refl, ap, sym, subst, ◌∙◌}
+use Rattle.std.proofs.Common.{◌≡◌, ℕ, ◌==◌, Bool, true, false, not, nat_lt, if◌then◌else◌, List, [], ◌∷◌, length, take, drop, Result, Ok, Err, refl, ap, sym, subst, ◌∙◌}
 use Rattle.gtpp_header.specs.Header.{protocol_type_of, two_octets, version_of}
 use Rattle.gtpp_header.specs.Reading.{header_reading}
 use Rattle.gtpp_header.specs.declared.fault.HeadFault.TheVariants as head

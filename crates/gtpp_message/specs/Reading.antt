@@ -15,7 +15,7 @@ use Rattle.gtpp_message.specs.Packet.{PacketValue, packet_reading}
 use Rattle.gtpp_message.specs.declared.command.TheConstants.{CANCEL, RELEASE, SEND, SEND_POSSIBLE}
 use Rattle.gtpp_message.specs.declared.flaw.Flaw.{Flaw}
 use Rattle.gtpp_message.specs.declared.flaw.Flaw.TheVariants.{Elements, Missing, Incorrect}
-use Rattle.gtpp_message.specs.declared.message_types.TheConstants.{ECHO_REQUEST, ECHO_RESPONSE, NODE_ALIVE_REQUEST, NODE_ALIVE_RESPONSE, REDIRECTION_REQUEST, REDIRECTION_RESPONSE, TRANSFER_REQUEST, TRANSFER_RESPONSE, VERSION_NOT_SUPPORTED}
+use Rattle.gtpp_message.specs.declared.message_types.TheConstants.{ECHO_REQUEST, ECHO_RESPONSE, NODE_ALIVE_REQUEST, NODE_ALIVE_RESPONSE, REDIRECTION_REQUEST, REDIRECTION_RESPONSE, TRANSFER_REQUEST, VERSION_NOT_SUPPORTED}
 use Rattle.gtpp_message.specs.declared.reading.Why.{Why}
 use Rattle.gtpp_message.specs.declared.reading.Why.TheVariants as why
 

@@ -11,7 +11,6 @@ use Rattle.gtpp_message.specs.Reading.{ReadingValue, Drop, Message, OtherVersion
 use Rattle.gtpp_message.specs.Writing.{message_type}
 use Rattle.gtpp_message.specs.declared.flaw.Flaw.{Flaw}
 use Rattle.gtpp_message.specs.declared.message_types.TheConstants.{NODE_ALIVE_REQUEST, NODE_ALIVE_RESPONSE, REDIRECTION_REQUEST, REDIRECTION_RESPONSE, TRANSFER_REQUEST, TRANSFER_RESPONSE, VERSION_NOT_SUPPORTED}
-use Rattle.gtpp_message.specs.declared.reading.Why.{Why}
 use Rattle.gtpp_message.specs.declared.reading.Why.TheVariants as why
 use Rattle.gtpp_message.specs.declared.role.Role.{Role}
 use Rattle.gtpp_message.specs.declared.role.Role.TheVariants.{Gateway, Node}

@@ -32,4 +32,4 @@ pub use parse::read;
 pub use reading::{Reading, Why};
 pub use records::Records;
 pub use role::{Role, read_as};
-pub use spell::{reply, write};
+pub use spell::{write, write_short};

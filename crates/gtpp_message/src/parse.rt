@@ -1,4 +1,4 @@
-ghost use Rattle.std.specs.Prelude.{◌≡◌, ◌≤◌, ◌+◌, length, take, drop, Ok};
+ghost use Rattle.std.specs.Prelude.{◌≡◌, ◌≤◌, ◌+◌, length, Ok};
 ghost use Rattle.gtpp_elements.specs.Elements.{first_value};
 ghost use Rattle.gtpp_elements.specs.Reading.{elements_in};
 ghost use Rattle.gtpp_message.specs.Reading.{behind, body_of, echo_response_of, message_of, numbers_among, octet_in, packet_among, reading, redirection_of, redirection_request_of, redirection_response_of, transfer_of, transfer_request_of, transfer_response_of};

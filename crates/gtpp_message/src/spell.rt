@@ -42,7 +42,7 @@ pub fn write(number: u16, message: &Message<'_>, into: &mut Buffer) -> Result<()
 
 /// A message in the one spelling in which it is sent, where that has at most 64 octets, as that of
 /// each response has. It takes no memory.
-pub fn reply(number: u16, message: &Message<'_>) -> Short
+pub fn write_short(number: u16, message: &Message<'_>) -> Short
     requires { length (written number (message_value message.now)) ≤ Short.CAPACITY }
     ensures { result ≡ written number (message_value message.now) }
 {
@@ -52,9 +52,9 @@ pub fn reply(number: u16, message: &Message<'_>) -> Short
         length: parts.length() as u16,
         number,
     };
-    let mut reply = front(header, &parts);
-    reply.append(parts.tail());
-    reply.finish()
+    let mut octets = front(header, &parts);
+    octets.append(parts.tail());
+    octets.finish()
 }
 
 /// What stands before the octets that a message lends.
