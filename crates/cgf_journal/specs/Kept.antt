@@ -9,8 +9,8 @@ use Rattle.cgf_journal.specs.Tally.{keys_in_order}
 use Rattle.cgf_journal.specs.declared.sorted.SortedKeys.{SortedKeys}
 use Rattle.cgf_journal.specs.declared.sum.Sum.{Sum}
 
--- the keys that the firm entries hold, and those that all hold, in order; how many keys are kept, and for how many there
--- is memory
+-- the keys that the firm entries hold, and those that all hold, in order; how many keys are kept, and for how many
+-- there is memory
 pub record Kept : Type 0 where
   pub firm : List HeldKey
   pub live : List HeldKey
@@ -54,15 +54,18 @@ pub record ArePaid (kept : Kept) (firm live : Sum) : Type 0 where
 
 -- What an entry makes of two lists: at most so many keys more are kept.
 pub record AreNoted (act : HistoryAct) (more : ℕ) (early late early_new late_new : SortedKeys) : Type 0 where
-  pub live : (p : HeldKey → Bool) → held_in false early_new late_new p ≡ held_behind act (λ q. held_in false early late q) p
+  pub live : (p : HeldKey → Bool) →
+      held_in false early_new late_new p ≡ held_behind act (λ q. held_in false early late q) p
   pub firm : (p : HeldKey → Bool) → held_in true early_new late_new p ≡ held_in true early late p
-  pub count : length early_new.keys.items + length late_new.keys.items ≤ length early.keys.items + length late.keys.items + more
+  pub count :
+      length early_new.keys.items + length late_new.keys.items ≤ length early.keys.items + length late.keys.items + more
   pub reserved : early_new.reserved ≡ early.reserved
   pub room : late_new.reserved ≡ late.reserved
 
 -- There is memory for one more key in the late list, and the same keys are held.
 pub record HaveRoom (early late early_new late_new : SortedKeys) : Type 0 where
   pub held : (firm : Bool) (p : HeldKey → Bool) → held_in firm early_new late_new p ≡ held_in firm early late p
-  pub count : length early_new.keys.items + length late_new.keys.items ≤ length early.keys.items + length late.keys.items
+  pub count :
+      length early_new.keys.items + length late_new.keys.items ≤ length early.keys.items + length late.keys.items
   pub reserved : early_new.reserved ≡ early.reserved
   pub room : length late_new.keys.items < late_new.reserved

@@ -1,10 +1,13 @@
 -- How far an opening has come: which batches it has taken in, and where it finds one that isn't whole.
-use Rattle.std.specs.Prelude.{◌≡◌, ℕ, ◌*◌, ◌≤◌, min, IsTrue, Bool, List, [], ◌∷◌, ◌++◌, length}
+use Rattle.std.specs.Prelude.{◌≡◌, ◌≢◌, ℕ, ◌*◌, ◌≤◌, min, IsTrue, Bool, List, [], ◌∷◌, ◌++◌, length, Result, Err}
+use Rattle.area_disk.specs.Disk.{Rose}
 use Rattle.area_disk.specs.declared.area.Area.{Ghosts}
 use Rattle.gw_base.specs.declared.history.HistoryEntry.{HistoryEntry}
 use Rattle.gate_journal.specs.Before.{AreBefore}
 use Rattle.gate_journal.specs.Format.{end_of, header_length, longest_batch}
 use Rattle.gate_journal.specs.Moments.{Told}
+use Rattle.gate_journal.specs.declared.faults.OpenFault.{OpenFault}
+use Rattle.gate_journal.specs.declared.faults.OpenFault.TheVariants.{Device}
 use Rattle.cgf_journal.specs.Format.{AreBatches, entries_in}
 use Rattle.cgf_journal.specs.Reserved.{AreEnough, Placed}
 use Rattle.cgf_journal.specs.Sound.{places_behind}
@@ -52,3 +55,9 @@ pub record AreListedBefore (tells_octets : Bool) (octets : List ℕ) (at : ℕ) 
 pub record AreBuffers (size octets numbers : ℕ) : Type 0 where
   pub content : octets ≡ min longest_batch size
   pub entries : octets ≤ 8 * numbers
+
+-- The count of faults rose where the answer is `Device` and nowhere else; it never falls.
+pub record ListingCause {T : Type 0} (before now : ℕ) (result : Result T OpenFault) : Type 0 where
+  pub device : result ≡ Err Device → Rose before now
+  pub still : result ≢ Err Device → now ≡ before
+  pub later : before ≤ now

@@ -1,5 +1,5 @@
 -- What an opening finds, and what it leaves of the area.
-use Rattle.std.specs.Prelude.{◌≡◌, ◌≢◌, ◌⊎◌, ℕ, ◌≤◌, IsTrue, false, List, [], Result, Ok, Err, IfOk, IsErrAnd}
+use Rattle.std.specs.Prelude.{◌≡◌, ◌≢◌, ◌⊎◌, ℕ, ◌≤◌, IsTrue, false, List, [], Result, Ok, Err, IfOk, IfErr, IsErrAnd}
 use Rattle.area_disk.specs.Disk.{Rose, counted}
 use Rattle.area_disk.specs.declared.area.Area.{Ghosts}
 use Rattle.gw_base.specs.declared.history.HistoryEntry.{HistoryEntry}
@@ -32,6 +32,13 @@ module _ {A : Type 0} (tells : Ghosts A) where
     pub found : Told tells → Stands (tells.octets area) (firm_entries trail) ⊎ (Starts header (tells.octets area) × (firm_entries trail ≡ []))
     pub fresh : IsFresh header trail
     pub faults : tells.faults (area_of trail) ≡ tells.faults area
+
+  -- The faults rose where the device failed and nowhere else.
+  pub record RoseByDevice (area : A) (result : Result (Trail A tells) (OpenFault × A)) : Type 0 where
+    pub faults : IfOk result (λ trail. tells.faults (area_of trail) ≡ tells.faults area)
+    pub faults_err : IfErr result (λ fault. tells.faults area ≤ tells.faults fault.1)
+    pub device : IfErr result (λ fault. fault.0 ≡ Device → Rose (tells.faults area) (tells.faults fault.1))
+    pub still : IfErr result (λ fault. fault.0 ≢ Device → tells.faults fault.1 ≡ tells.faults area)
 
   -- The opening failed, and hands the area back; it was foreign at the place that `NotOurs` names.
   pub record IsRefused (area : A) (Foreign : List ℕ → ℕ → Type 0) (fault : OpenFault × A) : Type 0 where

@@ -22,7 +22,8 @@ live_keys s = keys_of false s
 pub record IsChanged (at : ℕ) (held : Bool) (old new : SortedKeys) : Type 0 where
   pub round : new.round ≡ old.round
   pub reserved : new.reserved ≡ old.reserved
-  pub keys : (d : KeptKey) → new.keys.items ≡ slice_set old.keys.items at (changed_key held old.round (slice_index_or old.keys.items at d))
+  pub keys : (d : KeptKey) →
+      new.keys.items ≡ slice_set old.keys.items at (changed_key held old.round (slice_index_or old.keys.items at d))
 
 -- how many keys an entry holds: one or none
 abbrev pub count_held : HistoryAct → ℕ
@@ -41,7 +42,8 @@ pub record IsFull (more : ℕ) (old : SortedKeys) : Type 0 where
 
 -- The keys of another list were taken in, and that keeps none.
 pub record IsAbsorbed (early late early_new late_new : SortedKeys) : Type 0 where
-  pub held : (firm : Bool) (p : HeldKey → Bool) → passing p (keys_of firm early_new) ≡ passing p (keys_of firm early) + passing p (keys_of firm late)
+  pub held : (firm : Bool) (p : HeldKey → Bool) →
+      passing p (keys_of firm early_new) ≡ passing p (keys_of firm early) + passing p (keys_of firm late)
   pub count : length early_new.keys.items ≤ length early.keys.items + length late.keys.items
   pub reserved : early_new.reserved ≡ early.reserved
   pub none : late_new.keys.items ≡ []

@@ -1,5 +1,5 @@
 // A trail on an area that is a `Drill`.
-ghost use Rattle.std.specs.Prelude.{◌≡◌, ◌≤◌, IsTrue};
+ghost use Rattle.std.specs.Prelude.{◌≡◌, IsTrue};
 ghost use Rattle.area_disk.specs.Plan.{armed};
 ghost use Rattle.gate_journal.specs.Moments.{Leaves};
 

@@ -1,5 +1,5 @@
 // The entries of a batch's content, judged one after the other.
-ghost use Rattle.std.specs.Prelude.{◌≡◌, ◌≤◌, ◌*◌, ℕ, true, false, List, ◌++◌, length, None, Ok, IfOk, IfSome};
+ghost use Rattle.std.specs.Prelude.{◌≡◌, ◌≤◌, ◌*◌, true, false, List, ◌++◌, length, None, Ok, IfOk, IfSome};
 ghost use Rattle.gw_base.specs.declared.history.HistoryEntry.{HistoryEntry};
 ghost use Rattle.entry_codec.specs.Content.{IsContent, entries_of};
 ghost use Rattle.entry_codec.specs.Fault.{BeginsWith};

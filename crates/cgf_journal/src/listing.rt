@@ -1,7 +1,6 @@
 // The batches that an opening finds, taken in one after the other.
 ghost use Rattle.std.specs.Prelude.{vec_len, ◌≡◌, ◌≢◌, ℕ, ◌+◌, ◌*◌, ◌<◌, ◌≤◌, min, IsTrue, false, List, [], ◌∷◌, ◌++◌, length, Ok, Err, OnOk, OnErr, IfOk};
 ghost use Rattle.gate_journal.specs.Format.{end_of, fewest_octets, longest_batch, most_octets};
-ghost use Rattle.area_disk.specs.Disk.{Rose};
 ghost use Rattle.gate_journal.specs.Journal.{IsSettled, area_of, batches, end, is_closed};
 ghost use Rattle.gate_journal.specs.Kept.{IsKept};
 ghost use Rattle.gate_journal.specs.Moments.{Kept, Told};
@@ -11,7 +10,7 @@ ghost use Rattle.entry_codec.specs.Content.{IsContent};
 ghost use Rattle.cgf_journal.specs.Fit.{AreFit};
 ghost use Rattle.cgf_journal.specs.Format.{AreBatches, entries_in};
 ghost use Rattle.cgf_journal.specs.Judged.{IsJudged};
-ghost use Rattle.cgf_journal.specs.Opening.{AreBuffers, AreListed, AreListedBefore, AreTakenIn, BreaksAt, IsTakenUpTo};
+ghost use Rattle.cgf_journal.specs.Opening.{AreBuffers, AreListed, AreListedBefore, AreTakenIn, BreaksAt, IsTakenUpTo, ListingCause};
 
 use crate::contents::take_in;
 use crate::judge::Judge;
@@ -165,11 +164,7 @@ fn take_next<A: Area, J: Judge>(
         BreaksAt (AreFit J.fits size) (batches journal.old) at }
     ensures numbers { OnOk result (vec_len listing.new.numbers ≡ vec_len listing.old.numbers) }
     ensures kept { IsKept journal.old journal.new }
-    ensures device { result ≡ Err OpenFault.Device →
-        Rose (A.faults (area_of journal.old)) (A.faults (area_of journal.new)) }
-    ensures still { result ≢ Err OpenFault.Device →
-        A.faults (area_of journal.new) ≡ A.faults (area_of journal.old) }
-    ensures faults_err { A.faults (area_of journal.old) ≤ A.faults (area_of journal.new) }
+    ensures cause { ListingCause (A.faults (area_of journal.old)) (A.faults (area_of journal.new)) result }
     ensures runs { IsTrue A.tells_fate → ReadsRun (A.fate (area_of journal.old)).schedule →
         result ≢ Err OpenFault.Device }
 {
@@ -211,11 +206,7 @@ pub(crate) fn list<A: Area, J: Judge>(
         BreaksAt (AreFit J.fits size) (batches journal.old) at }
     ensures some { Told A.Area → OnErr result (batches journal.old ≢ []) }
     ensures kept { IsKept journal.old journal.new }
-    ensures device { result ≡ Err OpenFault.Device →
-        Rose (A.faults (area_of journal.old)) (A.faults (area_of journal.new)) }
-    ensures still { result ≢ Err OpenFault.Device →
-        A.faults (area_of journal.new) ≡ A.faults (area_of journal.old) }
-    ensures faults_err { A.faults (area_of journal.old) ≤ A.faults (area_of journal.new) }
+    ensures cause { ListingCause (A.faults (area_of journal.old)) (A.faults (area_of journal.new)) result }
     ensures runs { IsTrue A.tells_fate → ReadsRun (A.fate (area_of journal.old)).schedule →
         result ≢ Err OpenFault.Device }
 {
@@ -253,9 +244,7 @@ fn take_before<A: Area, J: Judge>(
         result ≡ Err (OpenFault.NotOurs at) → BreaksAt (AreFit J.fits size) all at }
     ensures numbers { OnOk result (vec_len listing.new.numbers ≡ vec_len listing.old.numbers) }
     ensures kept { Kept A.Area area.old area.new }
-    ensures device { result ≡ Err OpenFault.Device → Rose (A.faults area.old) (A.faults area.new) }
-    ensures faults { A.faults area.old ≤ A.faults area.new }
-    ensures still { result ≢ Err OpenFault.Device → A.faults area.new ≡ A.faults area.old }
+    ensures cause { ListingCause (A.faults area.old) (A.faults area.new) result }
     ensures runs { IsTrue A.tells_fate → ReadsRun (A.fate area.old).schedule → result ≢ Err OpenFault.Device }
 {
     let Ok(found) = batch_before(area, gate, end) else {
@@ -295,9 +284,7 @@ pub(crate) fn list_before<A: Area, J: Judge>(
         result ≡ Err (OpenFault.NotOurs at) → BreaksAt (AreFit J.fits size) all at }
     ensures begun { OnErr result (32 < end) }
     ensures kept { Kept A.Area area.old area.new }
-    ensures device { result ≡ Err OpenFault.Device → Rose (A.faults area.old) (A.faults area.new) }
-    ensures faults { A.faults area.old ≤ A.faults area.new }
-    ensures still { result ≢ Err OpenFault.Device → A.faults area.new ≡ A.faults area.old }
+    ensures cause { ListingCause (A.faults area.old) (A.faults area.new) result }
     ensures runs { IsTrue A.tells_fate → ReadsRun (A.fate area.old).schedule → result ≢ Err OpenFault.Device }
 {
     let mut gate = 32;

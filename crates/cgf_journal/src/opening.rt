@@ -13,7 +13,7 @@ ghost use Rattle.cgf_journal.specs.Format.{IsForeignTo, StandsFor, entries_in};
 ghost use Rattle.cgf_journal.specs.Judged.{IsJudged};
 ghost use Rattle.cgf_journal.specs.OpenPlan.{OpenFollows, is_memory};
 ghost use Rattle.cgf_journal.specs.Opening.{AreBuffers, AreListed, AreListedBefore, AreTakenIn, BreaksAt, IsTakenUpTo};
-ghost use Rattle.cgf_journal.specs.Results.{FindsHistory, IsFresh, IsMadeAnew, IsOpened, IsRefused, OnArea, RefusesForeign};
+ghost use Rattle.cgf_journal.specs.Results.{FindsHistory, IsFresh, IsMadeAnew, IsOpened, IsRefused, OnArea, RefusesForeign, RoseByDevice};
 ghost use Rattle.cgf_journal.specs.Trail.{area_of, firm_entries};
 
 use crate::Trail;
@@ -206,12 +206,7 @@ impl<A: Area> Trail<A> {
             BreaksAt (AreFit J.fits size) (gates.batches journal) at) }
         ensures some { Told A.Area → OnErr result (gates.batches journal ≢ []) }
         ensures kept { OnArea result (λ now. Kept A.Area (gates.area_of journal) now) }
-        ensures device { IfErr result (λ fault. fault.0 ≡ OpenFault.Device →
-            Rose (A.faults (gates.area_of journal)) (A.faults fault.1)) }
-        ensures faults { IfOk result (λ trail. A.faults (area_of trail) ≡ A.faults (gates.area_of journal)) }
-        ensures faults_err { IfErr result (λ fault. A.faults (gates.area_of journal) ≤ A.faults fault.1) }
-        ensures still { IfErr result (λ fault. fault.0 ≢ OpenFault.Device →
-            A.faults fault.1 ≡ A.faults (gates.area_of journal)) }
+        ensures cause { RoseByDevice A.Area (gates.area_of journal) result }
         ensures runs { IsTrue A.tells_fate → ReadsRun (A.fate (gates.area_of journal)).schedule →
             is_device result ≡ false }
     {

@@ -1,5 +1,5 @@
 // The keys that a tally keeps, in order.
-ghost use Rattle.std.specs.Prelude.{◌≡◌, ◌&&◌, ℕ, count_by, ◌+◌, ◌<◌, ◌≤◌, ◌^◌, [], ◌++◌, true, false, drop, filter, length, take, vec_capacity, vec_len, nat_le, IfSome, IfOk, IfErr, OnOk, OnErr, slice_index_or, slice_set, map};
+ghost use Rattle.std.specs.Prelude.{◌≡◌, ◌&&◌, ℕ, count_by, ◌+◌, ◌<◌, ◌≤◌, ◌^◌, [], ◌++◌, true, false, drop, filter, length, take, vec_capacity, nat_le, IfSome, IfOk, IfErr, OnOk, OnErr, slice_index_or, map};
 ghost use Rattle.gw_base.specs.Entry.{act_view};
 ghost use Rattle.gw_base.specs.View.{stays_held};
 ghost use Rattle.gw_base.specs.declared.history.HistoryAct.TheVariants.{Path, Release, Seal};
@@ -300,8 +300,9 @@ impl SortedKeys {
         self.reserved <= self.keys.len()
     }
 
-    /// Takes in the keys of another list, which keeps none afterwards. The keys before the first of those stay where they
-    /// are, and the others are made one with those in `spare`. Where fewer are reserved than all of them, nothing changes.
+    /// Takes in the keys of another list, which keeps none afterwards. The keys before the first of those stay where
+    /// they are, and the others are made one with those in `spare`. Where less memory is reserved than both lists' keys
+    /// need, it answers `NoMemory` and nothing changes.
     pub(crate) fn absorb(
         &mut self,
         late: &mut SortedKeys,

@@ -1,5 +1,5 @@
 // A history on a journal.
-ghost use Rattle.std.specs.Prelude.{◌≡◌, ◌↔◌, ℕ, ◌+◌, ◌-◌, ◌*◌, ◌<◌, ◌≤◌, ◌^◌, IsTrue, false, true, List, [], ◌∷◌, ◌++◌, length, slice_get, Some, Ok, Err, OnOk, OnErr, IfOk, is_err};
+ghost use Rattle.std.specs.Prelude.{◌≡◌, ◌↔◌, ℕ, ◌+◌, ◌-◌, ◌*◌, ◌<◌, ◌≤◌, ◌^◌, IsTrue, false, true, [], ◌∷◌, ◌++◌, length, slice_get, Some, Ok, Err, OnOk, OnErr, IfOk, is_err};
 ghost use Rattle.area_disk.specs.Disk.{HasCause};
 ghost use Rattle.gw_base.specs.Entry.{entry_view};
 ghost use Rattle.gw_base.specs.HeldKeys.{promised_octets};

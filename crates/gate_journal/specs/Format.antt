@@ -21,7 +21,7 @@ fewest_octets = 100
 abbrev pub most_octets : ℕ
 most_octets = 268435456
 
--- the most octets of a batch, and with its frame: its length, and the gate behind it
+-- the most octets of a batch's content, and of its frame: the length, the content and the gate behind it
 abbrev pub longest_batch : ℕ
 longest_batch = 1048576
 

@@ -1,5 +1,5 @@
 // Writes to an area that stand once they are answered.
-ghost use Rattle.std.specs.Prelude.{◌≡◌, ◌≢◌, ◌+◌, ◌≤◌, ℕ, List, length, IsTrue, OnOk};
+ghost use Rattle.std.specs.Prelude.{◌≡◌, ◌≢◌, ◌+◌, ◌≤◌, length, IsTrue, OnOk};
 ghost use Rattle.area_disk.specs.Disk.{overwritten, Torn, Only, HasCause};
 ghost use Rattle.gate_journal.specs.Adding.{added, IsAdding};
 ghost use Rattle.gate_journal.specs.Format.{gate_at, most_octets, open_gate};

@@ -1,5 +1,5 @@
 // What an opening reads: the header, and the batches up to the first closed gate.
-ghost use Rattle.std.specs.Prelude.{◌≡◌, ◌≢◌, ◌+◌, ◌<◌, ◌≤◌, ℕ, IsTrue, IfOk, OnOk, MatchOption, false, is_err, length, take, drop, slice_index};
+ghost use Rattle.std.specs.Prelude.{◌≡◌, ◌≢◌, ◌+◌, ◌<◌, ◌≤◌, IsTrue, IfOk, OnOk, MatchOption, false, is_err, length, take, drop, slice_index};
 ghost use Rattle.area_disk.specs.Disk.{Only, HasCause, counted};
 ghost use Rattle.byteorder.specs.Endian.{big_number, big_bytes};
 ghost use Rattle.gate_journal.specs.Format.{fewest_octets, gate_at, length_at, most_octets};

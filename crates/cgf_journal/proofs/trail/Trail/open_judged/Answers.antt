@@ -47,7 +47,7 @@ returns-in-Ok-open-clause-ok g c =
     (λ told.
     found_is fits h long begins o j c.length-size.result (laws.whole c.args.area told.0 ∙ sym c.length-size.ensures) (stands_or_anew fits h long begins o j told (opened.found told) opened.front opened.settled opened.header)
     (opened.anew told) c.over.result (c.over.ensures.are_fit told) (c.over.ensures.entries told))
-    c.over.ensures.fresh c.over.ensures.faults
+    c.over.ensures.fresh c.over.ensures.cause.faults
 
 pub returns-in-Ok-open-clause-err : goal.returns-in-Ok-open-clause-err
 returns-in-Ok-open-clause-err g c =
@@ -66,7 +66,7 @@ returns-in-Ok-open-clause-err g c =
     (λ told.
     places_are fits h long begins o j c.length-size.result (laws.whole c.args.area told.0 ∙ sym c.length-size.ensures) (stands_or_anew fits h long begins o j told (opened.found told) opened.front opened.settled opened.header)
     (opened.anew told) c.over.result (c.over.ensures.breaks told) (c.over.ensures.some told))
-    c.over.ensures.device c.over.ensures.faults_err c.over.ensures.still
+    c.over.ensures.cause.device c.over.ensures.cause.faults_err c.over.ensures.cause.still
     (λ told. unwritten_is o h j c.over.result (opened.found told) (opened.anew told) (c.over.ensures.some told) c.over.ensures.kept)
 
 pub returns-in-Ok-open-clause-reads : goal.returns-in-Ok-open-clause-reads
