@@ -3,7 +3,7 @@ ghost use Rattle.std.specs.List.{flat_map};
 ghost use Rattle.byteorder.specs.Endian.{big_bytes};
 ghost use Rattle.gw_base.specs.Entry.{act_view, entry_view};
 ghost use Rattle.entry_codec.specs.Appending.{with_octets};
-ghost use Rattle.entry_codec.specs.Spelling.{HasSpelling, body, code_of, cost_of, entry_length, kind_of, spelling};
+ghost use Rattle.entry_codec.specs.Spelling.{HasSpelling, body, cost_of, entry_length, kind_of, spelling};
 
 use crate::fits::entry_fits;
 use crate::kind::Kind;

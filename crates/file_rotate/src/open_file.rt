@@ -1,4 +1,4 @@
-ghost use Rattle.std.specs.Prelude.{◌≡◌, ◌+◌, ◌-◌, ◌<◌, ◌^◌, Option, None, Some};
+ghost use Rattle.std.specs.Prelude.{◌≡◌, ◌+◌, ◌-◌, ◌<◌, Option, None, Some};
 ghost use Rattle.std.specs.Option.{ForSome};
 ghost use Rattle.file_rotate.specs.Cutting.{IsBelow, kind_change, limit_reached, mark_reason, with_record};
 ghost use Rattle.file_rotate.specs.Division.{still};

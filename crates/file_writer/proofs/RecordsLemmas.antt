@@ -13,7 +13,7 @@ use Rattle.gw_base.specs.declared.kind.CdrKind.{CdrKind}
 use Rattle.gw_base.specs.declared.tag.Tag.{Tag}
 use Rattle.route_filter.specs.Rules.{stream_of}
 use Rattle.route_filter.specs.declared.rule.Rule.{Rule}
-use Rattle.file_writer.specs.Places.{FilePlace, HasPlace, in_run, nth_place, place_in, place_of_item, record_at, records_to, runs_of}
+use Rattle.file_writer.specs.Places.{FilePlace, HasPlace, in_run, nth_place, place_in, place_of_item, records_to, runs_of}
 use Rattle.file_writer.specs.Streams.{Settings, filed_record, record_if, stream_division, stream_item, stream_items}
 
 -- ---- elements of joined lists

@@ -1,7 +1,7 @@
 -- Where each filed record stands: its stream, its file's number in the sequence of the stream, and how many records
 -- stand before it in the file. Records of a file that is still open have places too.
 use Rattle.std.specs.Prelude.{◌≡◌, ℕ, ◌+◌, ◌-◌, nat_lt, if◌then◌else◌, List, [], ◌∷◌, ◌++◌, length, map, take, slice_get, Option, None, Some}
-use Rattle.file_rotate.specs.Division.{Division, ClosedRun}
+use Rattle.file_rotate.specs.Division.{Division}
 use Rattle.file_rotate.specs.Items.{Filed, records_of}
 use Rattle.gw_base.specs.declared.item.Item.{Item}
 use Rattle.gw_base.specs.declared.item.Item.TheVariants as item

@@ -1,5 +1,5 @@
 //! All streams of a writer: each item goes to one of them or to all.
-ghost use Rattle.std.specs.Prelude.{◌≡◌, ◌+◌, ◌-◌, ◌<◌, ◌≤◌, ◌^◌, ◌++◌, ◌∷◌, [], ℕ, List, IsTrue, OnOk, All, length};
+ghost use Rattle.std.specs.Prelude.{◌≡◌, ◌+◌, ◌-◌, ◌<◌, ◌^◌, ◌++◌, ◌∷◌, [], ℕ, List, OnOk, All, length};
 ghost use Rattle.gw_base.specs.CdrKind.{IsCdrKind};
 ghost use Rattle.gw_base.specs.declared.item.Item.{Item};
 ghost use Rattle.file_writer.specs.AllStreams.{AllAt, EachAt, EachBelow, EachSafe, Goes, GoesTo, IsFit, part_of, mark_told, up_to};

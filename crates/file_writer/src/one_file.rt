@@ -1,5 +1,5 @@
 //! The calls for one file: it is begun, records are appended, and it is closed.
-ghost use Rattle.std.specs.Prelude.{◌≡◌, ◌+◌, ◌-◌, ◌<◌, ◌≤◌, ◌^◌, IsTrue, OnOk, [], ◌∷◌, length};
+ghost use Rattle.std.specs.Prelude.{◌+◌, ◌-◌, ◌<◌, ◌^◌, IsTrue, OnOk, [], ◌∷◌, length};
 ghost use Rattle.cdr_file.specs.CdrFile.{cdr_octets};
 ghost use Rattle.cdr_shelf.specs.Files.{IsFresh};
 ghost use Rattle.cdr_shelf.specs.Steps.{StepsAt};

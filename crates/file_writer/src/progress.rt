@@ -1,9 +1,8 @@
-ghost use Rattle.std.specs.Prelude.{◌≡◌, ◌+◌, ◌-◌, ◌<◌, ◌≤◌, ◌^◌, ◌++◌, IsTrue, IfOk, OnOk, length, max, false};
-ghost use Rattle.cdr_file.specs.CdrFile.{cdr_octets};
+ghost use Rattle.std.specs.Prelude.{◌≡◌, ◌+◌, ◌-◌, ◌<◌, ◌≤◌, ◌^◌, IsTrue, IfOk, OnOk, length, max, false};
 ghost use Rattle.cdr_shelf.specs.Files.{IsFresh, greatest_in};
 ghost use Rattle.gw_base.specs.CdrKind.{IsCdrKind};
 ghost use Rattle.file_writer.specs.Making.{Makes, ending_of};
-ghost use Rattle.file_writer.specs.Writing.{ClosesOpen, HasKind, IsBounded, IsReady, OthersStay, StillOpen, appending_of, beginning_of, body_behind, body_length, closed_progress, closing_of, filed_of, grown, grown_facts, IsBegun, IsGrown, ReadyWhere, settings_of};
+ghost use Rattle.file_writer.specs.Writing.{ClosesOpen, HasKind, IsBounded, IsReady, OthersStay, StillOpen, appending_of, beginning_of, body_length, closed_progress, closing_of, filed_of, grown, grown_facts, IsBegun, IsGrown, ReadyWhere, settings_of};
 
 use crate::fault::ShelfFault;
 use crate::gateway::Gateway;

@@ -1,6 +1,6 @@
 //! The calls of a shelf, each as one of a list of calls.
-ghost use Rattle.std.specs.Prelude.{◌≡◌, IsTrue, IsSome, OnOk, [], ◌∷◌, List, ℕ};
-ghost use Rattle.cdr_shelf.specs.Files.{IsFresh, SealedFile, UnsealedFile, sealed_as};
+ghost use Rattle.std.specs.Prelude.{◌≡◌, IsTrue, IsSome, OnOk, [], ◌∷◌};
+ghost use Rattle.cdr_shelf.specs.Files.{IsFresh, SealedFile, sealed_as};
 ghost use Rattle.cdr_shelf.specs.Steps.{StepsAt, TakesWrite, begun, left_unsealed, synced, written};
 ghost use Rattle.file_writer.specs.Calls.{Writes, Seals};
 ghost use Rattle.file_writer.specs.Making.{Makes, ending_of};

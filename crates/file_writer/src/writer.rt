@@ -1,6 +1,5 @@
-ghost use Rattle.std.specs.Prelude.{◌≡◌, ◌+◌, ◌-◌, ◌<◌, ◌^◌, ◌++◌, ℕ, List, [], IsTrue, OnOk, IfErr, IfOk, All, true, false, is_err, length, min, slice_index};
+ghost use Rattle.std.specs.Prelude.{◌≡◌, ◌+◌, ◌-◌, ◌<◌, ◌^◌, ℕ, List, OnOk, IfErr, IfOk, All, true, false, is_err, length, min, slice_index};
 ghost use Rattle.std.proofs.Props.{props};
-ghost use Rattle.cdr_shelf.specs.Files.{SealedFile, greatest_in};
 ghost use Rattle.file_rotate.specs.Items.{AreLimits};
 ghost use Rattle.gw_base.specs.declared.item.Item.{Item};
 ghost use Rattle.file_writer.specs.AllStreams.{IsFit};
@@ -103,7 +102,7 @@ impl<F: Shelf> Writer<F> {
 impl<F: Shelf> Writer<F> {
     ghost use Rattle.file_writer.specs.Asking.{IsAsked};
     ghost use Rattle.file_writer.specs.Advancing.{Advances, HasRecovered};
-    ghost use Rattle.file_writer.specs.Writer.{Holds, IsAt, first_of, is_broken, sealed_in, settings_in, shelf_of, taken_of};
+    ghost use Rattle.file_writer.specs.Writer.{IsAt, first_of, is_broken, settings_in, shelf_of, taken_of};
     ghost use Rattle.file_writer.specs.Streams.{closed_of};
 
     /// Asks the shelf for the sealed files, and begins the items anew: the next one is the first of all.

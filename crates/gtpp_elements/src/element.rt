@@ -1,4 +1,4 @@
-ghost use Rattle.std.specs.Prelude.{◌≡◌, ◌<◌, List, ℕ, length, IfOk};
+ghost use Rattle.std.specs.Prelude.{◌≡◌, ◌<◌, length, IfOk};
 ghost use Rattle.gtpp_elements.specs.Elements.{is_fixed};
 ghost use Rattle.gtpp_elements.specs.Reading.{element_at, fixed_at, sized_at};
 ghost use Rattle.gtpp_elements.specs.Parsed.{parsed};

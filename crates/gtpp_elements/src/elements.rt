@@ -1,4 +1,4 @@
-ghost use Rattle.std.specs.Prelude.{◌≡◌, ◌≢◌, ◌↔◌, ℕ, List, All, IsNone, option_map};
+ghost use Rattle.std.specs.Prelude.{◌≡◌, ◌≢◌, ◌↔◌, List, All, IsNone, option_map};
 ghost use Rattle.std.specs.Result.{result_err};
 ghost use Rattle.gtpp_elements.specs.Elements.{Element, SpellElements, first_value};
 ghost use Rattle.gtpp_elements.specs.Reading.{IsFirstFault, elements_in};

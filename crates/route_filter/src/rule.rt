@@ -1,6 +1,5 @@
-ghost use Rattle.std.specs.Prelude.{◌≡◌, map, option_map, Some, IfOk, IfSome, ◌≤◌};
-ghost use Rattle.route_filter.specs.Rules.{any_or, format_in, last_stream, matches, matches_format, matches_tag, rule_by, rule_of, rule_said, same_tag, tag_in};
-ghost use Rattle.route_filter.specs.Words.{octets_in};
+ghost use Rattle.std.specs.Prelude.{◌≡◌, map, Some, IfOk, IfSome, ◌≤◌};
+ghost use Rattle.route_filter.specs.Rules.{any_or, format_in, last_stream, matches, matches_format, matches_tag, rule_by, rule_of, same_tag, tag_in};
 
 use crate::text::{decoded, number, words};
 use ber_frame::identifier;

@@ -1,10 +1,10 @@
 //! The text of a script.
 
-ghost use Rattle.std.specs.Prelude.{◌≡◌, ◌<◌, ◌≤◌, ◌++◌, ◌∷◌, [], map, codes, IfOk, OnOk, Ok};
+ghost use Rattle.std.specs.Prelude.{◌≡◌, ◌<◌, ◌++◌, ◌∷◌, [], map, codes, IfOk, OnOk, Ok};
 ghost use Rattle.std.specs.Fmt.{decimal};
 ghost use Rattle.hex.specs.Hex.{encode_upper};
 ghost use Rattle.world_script.specs.Script.{script_in};
-ghost use Rattle.world_script.specs.Printing.{address_text, fitted, gateway_text, hours_text, line_text, lines_text, mode_text, offset_text, one_number, pair_text, printed, redirect_text, two_digits_text, two_numbers, version_text, words_text};
+ghost use Rattle.world_script.specs.Printing.{address_text, fitted, gateway_text, hours_text, line_text, mode_text, offset_text, one_number, pair_text, printed, redirect_text, two_digits_text, two_numbers, version_text, words_text};
 
 use crate::kind::ScriptKind;
 use crate::line::Line;

@@ -1,7 +1,7 @@
 ghost use Rattle.std.specs.Prelude.{◌≡◌, ◌+◌, ◌<◌, ◌^◌, [], map};
 ghost use Rattle.world_script.specs.Outcome.{Says, progress_after};
 ghost use Rattle.world_script.specs.Script.{formed, is_action_line, is_end_line, is_rule_line, is_setting_line, progress_of, reading_of};
-ghost use Rattle.world_script.specs.Text.{lent_line, line_content, line_size};
+ghost use Rattle.world_script.specs.Text.{lent_line, line_size};
 
 use crate::fault::{InputKind, LineFault};
 use crate::keyword::Keyword;

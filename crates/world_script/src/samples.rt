@@ -1,9 +1,9 @@
 //! The script that a number gives.
 
-ghost use Rattle.std.specs.Prelude.{◌≡◌, if◌then◌else◌, ◌≤◌, ◌<◌, ◌*◌, ◌+◌, ◌%◌, ◌++◌, [], ◌∷◌, ℕ, List, map, Some, None, IfOk, OnOk, true};
+ghost use Rattle.std.specs.Prelude.{◌≡◌, if◌then◌else◌, ◌≤◌, ◌<◌, ◌*◌, ◌+◌, ◌%◌, ◌++◌, [], ◌∷◌, map, Some, None, IfOk, OnOk, true};
 ghost use Rattle.std.specs.List.{range_with_len};
 ghost use Rattle.world_script.specs.World.{first_scene, takes_all};
-ghost use Rattle.world_script.specs.Sample.{after_words, block, blocks, calm_round, commits, opening, packets_from, packets_of, record_octets, runs, sample_of, stopped_during, stormy, submitted, ticks, times, wild_round, wild_rounds, words_of_block, writes};
+ghost use Rattle.world_script.specs.Sample.{after_words, block, blocks, calm_round, commits, opening, packets_from, packets_of, record_octets, runs, sample_of, stopped_during, stormy, ticks, times, wild_round, wild_rounds, words_of_block, writes};
 
 use crate::extent::Extent;
 use crate::kind::ScriptKind;

@@ -1,4 +1,4 @@
-ghost use Rattle.std.specs.Prelude.{◌≡◌, ℕ, ◌+◌, ◌<◌, ◌^◌, IfOk, Ok, Err, slice_get};
+ghost use Rattle.std.specs.Prelude.{◌≡◌, ℕ, ◌<◌, IfOk, Ok, Err, slice_get};
 ghost use Rattle.std.specs.Option.{option_copied};
 ghost use Rattle.world_script.specs.Outcome.{fault_at};
 ghost use Rattle.world_script.specs.Printing.{ReadsBack};

@@ -16,7 +16,7 @@ pub struct TextLine<'a> {
 }
 
 impl<'a> TextLine<'a> {
-    ghost use Rattle.std.specs.Prelude.{ℕ, ◌+◌};
+    ghost use Rattle.std.specs.Prelude.{◌+◌};
     ghost use Rattle.world_script.specs.Text.{line_content, line_size, lent_line};
 
     /// How many octets of the text it has, its line feed included.

@@ -1,4 +1,4 @@
-ghost use Rattle.std.specs.Prelude.{◌≡◌, ◌<◌, ◌≤◌, ◌++◌, map, option_map, IfOk, IfSome, OnOk, is_some, unwrap_or};
+ghost use Rattle.std.specs.Prelude.{◌≡◌, ◌<◌, ◌≤◌, map, IfOk, IfSome};
 ghost use Rattle.world_script.specs.Values.{address_of, ip_of, mode_of, number_between, number_of, offset_of, records_of, signed, two_digits, version_of};
 
 use crate::mode::Mode;
