@@ -13,7 +13,7 @@ use Rattle.gw_base.specs.declared.history.Caller.{Caller}
 use Rattle.gw_base.specs.declared.history.HistoryAct.{HistoryAct}
 use Rattle.gw_base.specs.declared.history.HistoryAct.TheVariants.{Start, Path, File, Hold, Seal, Release, Cancel, Tick, Close}
 use Rattle.gateway_book.specs.Adding.{AddsIf, IsSame, MayAdd, room_in}
-use Rattle.gateway_book.specs.Answer.{Decided, Given, Drops, Replies, Says, Silent, answer_by, decided, node_of}
+use Rattle.gateway_book.specs.Answer.{Decided, Given, Drops, Replies, Says, Silent, answer_within, decided, may_record, node_of}
 use Rattle.gateway_book.specs.Answered.{act_decided, act_given}
 use Rattle.gateway_book.specs.Fit.{is_act_fit, is_fresh, is_in_window, is_new, is_packet_fit}
 use Rattle.gateway_book.specs.FitLaws.{records_fit}
@@ -61,18 +61,18 @@ module _ {A : Type 0} {tells : Ghosts A} (trail : Trail A tells) (index : Index)
   may_add_if (Some a) facts free = let f = facts a refl in (f.0, omega (arith, f.1, free))
 
   -- what an answer records where there is room for any act may be added
-  pub may_add : (from : Addr) (datagram : PreparedValue) (decision : Decided) → decision ≡ decided (answer_by (observed_by false index (node_of from)) from datagram (λ b. true)) → IsWhole datagram → IsShort datagram
+  pub may_add : (from : Addr) (datagram : PreparedValue) (decision : Decided) → decision ≡ decided (answer_within (observed_by false index (node_of from)) from datagram (λ b. true)) → IsWhole datagram → IsShort datagram
       → waiting_octets trail + most_for_one ≤ longest_batch → MayAdd (act_decided decision) trail index moment who
   may_add from datagram decision is whole short free = may_add_if (act_decided decision) facts free
     where
       given : Given
-      given = answer_by (observed_by false index (node_of from)) from datagram (λ b. true)
+      given = answer_within (observed_by false index (node_of from)) from datagram (λ b. true)
 
       facts : (a : HistoryAct) → act_decided decision ≡ Some a → MayCome a index × IsBrief a
       facts a e =
           let recorded : act_given given ≡ Some a = ap (λ (d : Decided). act_decided d) (sym is) ∙ e in (
             fit_may_come index a (recorded_fits given a (records_fit (observed_by false index) from datagram (λ b. true) whole) recorded),
-            recorded_holds IsBrief given a (records_brief (observed_by false index (node_of from)) from datagram (λ b. true) short) recorded,
+            recorded_holds IsBrief given a (records_brief (observed_by false index (node_of from)) from datagram (may_record (observed_by false index (node_of from)) (λ b. true)) short) recorded,
           )
         where
           recorded_fits : (given : Given) (a : HistoryAct) → IfRecords (Fits (observed_by false index) (λ b. true)) given → act_given given ≡ Some a → is_act_fit (observed_by false index) a ≡ true
@@ -81,21 +81,21 @@ module _ {A : Type 0} {tells : Ghosts A} (trail : Trail A tells) (index : Index)
           recorded_fits (Replies number message (Some b)) a is e = let same : b ≡ a = cc e in subst (λ (c : HistoryAct). is_act_fit (observed_by false index) c ≡ true) same is.0
 
 -- where there is room for the act that is recorded, or none is, the answer is the one with room for any
-pub answer_is : (o : Observed) (from : Addr) (datagram : PreparedValue) (room : HistoryAct → Bool) → ((a : HistoryAct) → act_given (answer_by o from datagram (λ b. true)) ≡ Some a → room a ≡ true)
-    → decided (answer_by o from datagram room) ≡ decided (answer_by o from datagram (λ b. true))
+pub answer_is : (o : Observed) (from : Addr) (datagram : PreparedValue) (room : HistoryAct → Bool) → ((a : HistoryAct) → act_given (answer_within o from datagram (λ b. true)) ≡ Some a → room a ≡ true)
+    → decided (answer_within o from datagram room) ≡ decided (answer_within o from datagram (λ b. true))
 answer_is o from datagram room has = ap decided (room_asked o from datagram room (λ b. true) has)
 
 -- where there isn't, it is the one with room for none
-pub answer_is_without : (o : Observed) (from : Addr) (datagram : PreparedValue) (room : HistoryAct → Bool) (a : HistoryAct) → act_given (answer_by o from datagram (λ b. true)) ≡ Some a → room a ≡ false
-    → decided (answer_by o from datagram room) ≡ decided (answer_by o from datagram (λ b. false))
+pub answer_is_without : (o : Observed) (from : Addr) (datagram : PreparedValue) (room : HistoryAct → Bool) (a : HistoryAct) → act_given (answer_within o from datagram (λ b. true)) ≡ Some a → room a ≡ false
+    → decided (answer_within o from datagram room) ≡ decided (answer_within o from datagram (λ b. false))
 answer_is_without o from datagram room a recorded none = ap decided (room_asked o from datagram room (λ b. false) same)
   where
-    same : (b : HistoryAct) → act_given (answer_by o from datagram (λ c. true)) ≡ Some b → room b ≡ false
+    same : (b : HistoryAct) → act_given (answer_within o from datagram (λ c. true)) ≡ Some b → room b ≡ false
     same b e = let one : ◌≡◌ {A = Option HistoryAct} (Some a) (Some b) = sym recorded ∙ e in let there : a ≡ b = cc one in subst (λ (c : HistoryAct). room c ≡ false) there none
 
 -- tests of room that agree on what is recorded where there is room for any act lead to the same answer
-pub answer_alike : (o : Observed) (from : Addr) (datagram : PreparedValue) (room other : HistoryAct → Bool) → ((a : HistoryAct) → act_given (answer_by o from datagram (λ b. true)) ≡ Some a → room a ≡ other a)
-    → decided (answer_by o from datagram room) ≡ decided (answer_by o from datagram other)
+pub answer_alike : (o : Observed) (from : Addr) (datagram : PreparedValue) (room other : HistoryAct → Bool) → ((a : HistoryAct) → act_given (answer_within o from datagram (λ b. true)) ≡ Some a → room a ≡ other a)
+    → decided (answer_within o from datagram room) ≡ decided (answer_within o from datagram other)
 answer_alike o from datagram room other alike = ap decided (room_asked o from datagram room other alike)
 
 -- what was done isn't what was not
@@ -110,8 +110,8 @@ if_some P None a is e = absurd (cc e)
 if_some P (Some b) a is e = let same : b ≡ a = cc e in subst P same is
 
 -- where there is room for no act, none is recorded
-none_without : (index : Index) (from : Addr) (datagram : PreparedValue) → IsWhole datagram → (a : HistoryAct) → act_given (answer_by (observed_by false index (node_of from)) from datagram (λ b. false)) ≡ Some a → ⊥
-none_without index from datagram whole a e = by_given (answer_by (observed_by false index (node_of from)) from datagram (λ b. false)) (records_fit (observed_by false index) from datagram (λ b. false) whole) e
+none_without : (index : Index) (from : Addr) (datagram : PreparedValue) → IsWhole datagram → (a : HistoryAct) → act_given (answer_within (observed_by false index (node_of from)) from datagram (λ b. false)) ≡ Some a → ⊥
+none_without index from datagram whole a e = by_given (answer_within (observed_by false index (node_of from)) from datagram (λ b. false)) (records_fit (observed_by false index) from datagram (λ b. false) whole) e
   where
     by_given : (given : Given) → IfRecords (Fits (observed_by false index) (λ b. false)) given → act_given given ≡ Some a → ⊥
     by_given (Drops why) fits e = absurd (cc e)
@@ -121,7 +121,7 @@ none_without index from datagram whole a e = by_given (answer_by (observed_by fa
 module _ {A : Type 0} {tells : Ghosts A} (old new : Trail A tells) (before after : Index) (moment : ℕ) (who : Caller) (from : Addr) (datagram : PreparedValue) where
   -- what is decided, by a test of room
   abbrev decided_by : (HistoryAct → Bool) → Decided
-  decided_by room = decided (answer_by (observed_by false before (node_of from)) from datagram room)
+  decided_by room = decided (answer_within (observed_by false before (node_of from)) from datagram room)
 
   pub silent_with : (why : Why) → (decided_by (λ b. true) ≡ Silent why) × IsSame old new before after → (decided_by (room_in old moment who) ≡ Silent why) × IsSame old new before after
   silent_with why p = (answer_is (observed_by false before (node_of from)) from datagram (room_in old moment who) (λ a e. absurd (cc (sym e ∙ ap act_decided p.0))) ∙ p.0, p.1)
@@ -139,21 +139,21 @@ module _ {A : Type 0} {tells : Ghosts A} (old new : Trail A tells) (before after
     none : room_in old moment who wanted ≡ false
     same : IsSame old new before after
 
-  without : HasNoRoom → decided_by (room_in old moment who) ≡ decided (answer_by (observed_by false after (node_of from)) from datagram (λ b. false))
+  without : HasNoRoom → decided_by (room_in old moment who) ≡ decided (answer_within (observed_by false after (node_of from)) from datagram (λ b. false))
   without p =
       answer_is_without (observed_by false before (node_of from)) from datagram (room_in old moment who) p.wanted (ap act_decided p.decides) p.none
-      ∙ ap (λ (index : Index). decided (answer_by (observed_by false index (node_of from)) from datagram (λ b. false))) (sym p.same.index)
+      ∙ ap (λ (index : Index). decided (answer_within (observed_by false index (node_of from)) from datagram (λ b. false))) (sym p.same.index)
 
   pub silent_without : (why : Why) → (reply : List ℕ) × (a : HistoryAct) × (decided_by (λ b. true) ≡ Says reply (Some a)) × (room_in old moment who a ≡ false) × IsSame old new before after
-      → decided (answer_by (observed_by false after (node_of from)) from datagram (λ b. false)) ≡ Silent why → (decided_by (room_in old moment who) ≡ Silent why) × IsSame old new before after
+      → decided (answer_within (observed_by false after (node_of from)) from datagram (λ b. false)) ≡ Silent why → (decided_by (room_in old moment who) ≡ Silent why) × IsSame old new before after
   silent_without why p e = (without (record { given = p.0; wanted = p.1; decides = p.2; none = p.3; same = p.4 }) ∙ e, p.4)
 
   pub said_without : IsWhole datagram → (reply : List ℕ) → (reply : List ℕ) × (a : HistoryAct) × (decided_by (λ b. true) ≡ Says reply (Some a)) × (room_in old moment who a ≡ false) × IsSame old new before after
-      → (o : Option HistoryAct) × (decided (answer_by (observed_by false after (node_of from)) from datagram (λ b. false)) ≡ Says reply o)
+      → (o : Option HistoryAct) × (decided (answer_within (observed_by false after (node_of from)) from datagram (λ b. false)) ≡ Says reply o)
       → (o : Option HistoryAct) × (decided_by (room_in old moment who) ≡ Says reply o) × AddsIf old new before after moment who o
   said_without whole reply p q = by_act q.0 q.1
     where
-      by_act : (o : Option HistoryAct) → decided (answer_by (observed_by false after (node_of from)) from datagram (λ b. false)) ≡ Says reply o
+      by_act : (o : Option HistoryAct) → decided (answer_within (observed_by false after (node_of from)) from datagram (λ b. false)) ≡ Says reply o
           → (o : Option HistoryAct) × (decided_by (room_in old moment who) ≡ Says reply o) × AddsIf old new before after moment who o
       by_act None e = (None, without (record { given = p.0; wanted = p.1; decides = p.2; none = p.3; same = p.4 }) ∙ e, p.4)
       by_act (Some a) e = absurd (none_without after from datagram whole a (ap act_decided e))

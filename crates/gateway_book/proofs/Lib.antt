@@ -1,6 +1,8 @@
 pub mod AddingLemmas
 pub mod BookLemmas
+pub mod CallerLemmas
 pub mod Committing
+pub mod Crashing
 pub mod CursorLemmas
 pub mod GatheringLemmas
 pub mod FilingLemmas

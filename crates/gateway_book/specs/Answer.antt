@@ -42,19 +42,20 @@ node_of from = record { 0 = from.ip }
 abbrev pub responding : ℕ → ℕ → Option HistoryAct → Given
 responding number cause act = Replies number (TransferResponse cause (number ∷ [])) act
 
--- an act may be recorded where it is within the limits and there is room for it
+-- Which acts may be recorded is an arbitrary yes or no, `may`. At a gateway that runs it is this: an act may be
+-- recorded where it is within the limits and there is room for it.
 abbrev pub may_record : Observed → (HistoryAct → Bool) → HistoryAct → Bool
 may_record o room act = within_limits o act && room act
 
 -- the answer that calls for an entry; where that may not be recorded, no resources are available
-abbrev pub recording : Observed → (HistoryAct → Bool) → ℕ → ℕ → HistoryAct → Given
-recording o room number cause act =
-    if may_record o room act then responding number cause (Some act) else responding number NO_RESOURCES None
+abbrev pub recording : (HistoryAct → Bool) → ℕ → ℕ → HistoryAct → Given
+recording may number cause act =
+    if may act then responding number cause (Some act) else responding number NO_RESOURCES None
 
 -- the answer by a table, which calls for an entry or not
-abbrev pub tabled : Observed → (HistoryAct → Bool) → ℕ → ℕ → Option HistoryAct → Given
-tabled o room number cause None = responding number cause None
-tabled o room number cause (Some act) = recording o room number cause act
+abbrev pub tabled : (HistoryAct → Bool) → ℕ → ℕ → Option HistoryAct → Given
+tabled may number cause None = responding number cause None
+tabled may number cause (Some act) = recording may number cause act
 
 -- Requests that send a packet.
 
@@ -79,9 +80,9 @@ recorded_as asked node number packet given = option_map (λ state. act_of asked 
 
 -- the answer by the state of the number that the request's sequence number means
 abbrev pub sent : Observed → (HistoryAct → Bool) → NodeId → ℕ → Ask → List ℕ → Given
-sent o room node number asked packet =
+sent o may node number asked packet =
     let meant = nearest o.top number in
-    tabled o room number (answer_cause asked (o.state meant)) (recorded_as asked node meant packet (state_given asked (o.state meant)))
+    tabled may number (answer_cause asked (o.state meant)) (recorded_as asked node meant packet (state_given asked (o.state meant)))
 
 -- Requests that name a list of numbers.
 
@@ -101,19 +102,19 @@ changes Change release node numbers = Some (changing release node numbers)
 
 -- the answer to a list of the numbers that were meant, to release or else to cancel their packets
 abbrev pub judged : Observed → (HistoryAct → Bool) → NodeId → ℕ → Bool → List ℕ → Given
-judged o room node number release numbers =
+judged o may node number release numbers =
     let verdict = verdict_of release (map o.state numbers) in
-    tabled o room number (verdict_cause verdict) (changes verdict release node (held_ones o numbers))
+    tabled may number (verdict_cause verdict) (changes verdict release node (held_ones o numbers))
 
 abbrev pub listed : Observed → (HistoryAct → Bool) → NodeId → ℕ → Bool → List ℕ → Given
-listed o room node number release numbers = judged o room node number release (map (nearest o.top) numbers)
+listed o may node number release numbers = judged o may node number release (map (nearest o.top) numbers)
 
 -- the answer to a request with this sequence number
 abbrev pub asked_by : Observed → (HistoryAct → Bool) → NodeId → ℕ → TransferValue → Given
-asked_by o room node number (Send packet) = sent o room node number (sending packet) (packet_octets packet)
-asked_by o room node number (Possible packet) = sent o room node number (sending_again packet) (packet_octets packet)
-asked_by o room node number (Release numbers) = listed o room node number true numbers
-asked_by o room node number (Cancel numbers) = listed o room node number false numbers
+asked_by o may node number (Send packet) = sent o may node number (sending packet) (packet_octets packet)
+asked_by o may node number (Possible packet) = sent o may node number (sending_again packet) (packet_octets packet)
+asked_by o may node number (Release numbers) = listed o may node number true numbers
+asked_by o may node number (Cancel numbers) = listed o may node number false numbers
 
 -- Path management.
 
@@ -123,27 +124,31 @@ replying (Some event) act = Replies (path_number event) (path_message event None
 replying None act = Drops Stray
 
 -- where a counter opens a new epoch of the sender, its Path is recorded, or nothing is answered
-abbrev pub opening_epoch : Observed → (HistoryAct → Bool) → Addr → Option PathEvent → Option ℕ → Given
-opening_epoch o room from reply None = replying reply None
-opening_epoch o room from reply (Some counter) =
+abbrev pub opening_epoch : (HistoryAct → Bool) → Addr → Option PathEvent → Option ℕ → Given
+opening_epoch may from reply None = replying reply None
+opening_epoch may from reply (Some counter) =
     let path = act.Path (node_of from) from.port counter in
-    if may_record o room path then replying reply (Some path) else Drops NoRoom
+    if may path then replying reply (Some path) else Drops NoRoom
 
-abbrev pub heard : Observed → (HistoryAct → Bool) → Addr → PathAnswer → Given
-heard o room from answer = opening_epoch o room from answer.reply answer.changed
+abbrev pub heard : (HistoryAct → Bool) → Addr → PathAnswer → Given
+heard may from answer = opening_epoch may from answer.reply answer.changed
 
 -- the answer to a message of path management, by the counter that opened the sender's present epoch
 abbrev pub path_given : Observed → (HistoryAct → Bool) → Addr → PathEvent → Given
-path_given o room from event = heard o room from (heard_at_gateway (option_map (λ path. path.counter) o.opening) event o.own)
+path_given o may from event = heard may from (heard_at_gateway (option_map (λ path. path.counter) o.opening) event o.own)
 
 -- The answer to what was made of a datagram from this sender, by what is observed of the history for the sender's node,
--- where `room` tells which acts there is room for.
+-- where `may` tells which acts may be recorded.
 abbrev pub answer_by : Observed → Addr → PreparedValue → (HistoryAct → Bool) → Given
-answer_by o from (Drop why) room = Drops why
-answer_by o from (OtherVersion number) room = Replies number VersionNotSupported None
-answer_by o from (Refused cause number) room = responding number cause None
-answer_by o from (Path event) room = path_given o room from event
-answer_by o from (Request number body) room = asked_by o room (node_of from) number body
+answer_by o from (Drop why) may = Drops why
+answer_by o from (OtherVersion number) may = Replies number VersionNotSupported None
+answer_by o from (Refused cause number) may = responding number cause None
+answer_by o from (Path event) may = path_given o may from event
+answer_by o from (Request number body) may = asked_by o may (node_of from) number body
+
+-- The answer of a gateway that runs, where `room` tells which acts there is room for.
+abbrev pub answer_within : Observed → Addr → PreparedValue → (HistoryAct → Bool) → Given
+answer_within o from datagram room = answer_by o from datagram (may_record o room)
 
 -- The answer where the device fails before any other is made: a request fails, and all else is dropped.
 abbrev pub failure_answer : PreparedValue → Given

@@ -7,7 +7,7 @@ use Rattle.gw_base.specs.declared.address.Addr.{Addr}
 use Rattle.gw_base.specs.declared.history.Caller.{Caller}
 use Rattle.gw_base.specs.declared.history.HistoryAct.{HistoryAct}
 use Rattle.gw_base.specs.declared.history.HistoryEntry.{HistoryEntry}
-use Rattle.gateway_book.specs.Answer.{Decided, Given, Says, Silent, answer_by, decided, node_of}
+use Rattle.gateway_book.specs.Answer.{Decided, Given, Says, Silent, answer_within, decided, node_of}
 use Rattle.gateway_book.specs.Preparing.{PreparedValue, prepared_of}
 
 -- the entry that records an act of this caller: its moment is never less than the last entry's
@@ -24,7 +24,7 @@ room_for h size act = has_room h (entry_by h 0 no_caller act) size
 
 -- what a gateway with this history, whose journal lies on so many octets, answers to what was made of a datagram
 abbrev pub answer_to : List HistoryEntry → Addr → PreparedValue → ℕ → Given
-answer_to h from datagram size = answer_by (observed h (node_of from)) from datagram (room_for h size)
+answer_to h from datagram size = answer_within (observed h (node_of from)) from datagram (room_for h size)
 
 -- what it answers to the octets of a datagram from this sender
 abbrev pub answer : List HistoryEntry → Addr → List ℕ → ℕ → Given

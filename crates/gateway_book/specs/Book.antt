@@ -5,6 +5,7 @@ use Rattle.area_disk.specs.declared.area.Area.{Ghosts}
 use Rattle.gate_journal.specs.Moments.{Leaves, Told}
 use Rattle.cgf_journal.specs.Trail as trail
 use Rattle.gateway_book.specs.Calls.{Left}
+use Rattle.gateway_book.specs.FitHistory.{StandsFitForOr}
 use Rattle.gateway_book.specs.Value.{BookValue, Fortune, Reopening, Whole, Gone, Refused}
 use Rattle.gateway_book.specs.declared.book.Book.{Book}
 
@@ -65,6 +66,7 @@ module _ {A : Type 0} {tells : Ghosts A} (old new : Book A tells) where
     pub cut : trail.is_closed new.trail ≡ true → new.cuts ≡ counted 1 old.cuts
     pub uncut : trail.is_closed new.trail ≡ false → new.cuts ≡ old.cuts
 
-  -- A crash at any moment of the call leaves the firm entries, or these with those behind them.
+  -- A crash at any moment of the call leaves the firm entries, or these with those behind them, all of them fit.
   abbrev pub CrashLeaves : Type 0
-  CrashLeaves = Told tells → Leaves tells (area_of old) (area_of new) (trail.StandsForOr (header_of old) (value_of old).firm ((value_of old).firm ++ (value_of old).rest))
+  CrashLeaves = Told tells → Leaves tells (area_of old) (area_of new)
+      (StandsFitForOr (header_of old) (value_of old).firm ((value_of old).firm ++ (value_of old).rest))

@@ -32,6 +32,10 @@ is_in_window top number = option_map_or (λ h. nat_le h (number + 32768)) top tr
 abbrev pub is_new : Observed → ℕ → Bool
 is_new o number = has_place o && is_fresh (o.state number) && is_in_range number && is_in_window o.top number
 
+-- the same, whatever the limits are
+abbrev pub is_first : Observed → ℕ → Bool
+is_first o number = is_fresh (o.state number) && is_in_window o.top number
+
 -- whether a packet has records, each of which is what its format says
 abbrev pub is_packet_fit : List ℕ → Bool
 is_packet_fit packet = option_map_or has_values (packet_of packet) false
@@ -57,6 +61,19 @@ is_act_fit of (Release n xs) = is_list_fit (of n) xs
 is_act_fit of (Cancel n xs) = is_list_fit (of n) xs
 is_act_fit of Tick = true
 is_act_fit of Close = true
+
+-- Whether an act keeps to the table of answers, whatever the limits are: what it files, holds or seals is fresh, and
+-- what it releases or cancels is held.
+abbrev pub is_act_lawful : (NodeId → Observed) → HistoryAct → Bool
+is_act_lawful of Start = true
+is_act_lawful of (Path n port counter) = true
+is_act_lawful of (File n x packet) = is_first (of n) x && is_packet_fit packet
+is_act_lawful of (Hold n x packet) = is_first (of n) x && is_packet_fit packet
+is_act_lawful of (Seal n x) = is_first (of n) x
+is_act_lawful of (Release n xs) = is_list_fit (of n) xs
+is_act_lawful of (Cancel n xs) = is_list_fit (of n) xs
+is_act_lawful of Tick = true
+is_act_lawful of Close = true
 
 -- An entry is fit behind a history, in a journal on so many octets: its moment is in the range and not before the last
 -- entry's, its act is fit, and costs and promises with it are within the capacity.

@@ -1,6 +1,6 @@
 -- What holds of fit histories.
 use Rattle.std.proofs.Common.{◌≡◌, ℕ, ◌+◌, ◌≤◌, ◌||◌, ◌&&◌, nat_lt, length, length-append, Bool, true, false, if◌then◌else◌, List, [], ◌∷◌, ◌++◌, Some, refl, sym, subst, arith, append_assoc}
-use Rattle.std.proofs.lemmas.Bool.{and_parts, leb-true, ltb-true}
+use Rattle.std.proofs.lemmas.Bool.{and_parts, false≢true, leb-true, ltb-true}
 use Rattle.std.proofs.lemmas.List.{append-nil}
 use Rattle.entry_codec.specs.Laws.{costs_of-append}
 use Rattle.entry_codec.specs.Room.{IsWithin, capacity_of, costs_of}
@@ -15,6 +15,8 @@ use Rattle.gw_base.specs.declared.address.NodeId.{NodeId}
 use Rattle.gw_base.specs.declared.history.HistoryAct.{HistoryAct}
 use Rattle.gw_base.specs.declared.history.HistoryAct.TheVariants.{Start, Path, File, Hold, Seal, Release, Cancel, Tick, Close}
 use Rattle.gw_base.specs.declared.history.HistoryEntry.{HistoryEntry}
+use Rattle.gw_base.specs.declared.key_state.KeyState.{KeyState}
+use Rattle.gw_base.specs.declared.key_state.KeyState.TheVariants.{Fresh, Filed, Sealed, Held, Released, Cancelled}
 use Rattle.gateway_book.specs.Fit.{IsFit, is_act_fit, is_fresh, is_in_window, is_new, is_packet_fit, latest_moment}
 use Rattle.gateway_book.specs.FitHistory.{AllFit, FitBehind}
 use Rattle.gateway_book.specs.Limits.{has_place, is_in_range, may_hold, most_nodes}
@@ -68,6 +70,30 @@ place_of_new o x new = first (has_place o) (is_fresh (o.state x)) (is_in_range x
     first : (a b c d : Bool) → (a && b && c && d) ≡ true → a ≡ true
     first true b c d e = refl
     first false b c d e = e
+
+-- the state of a number that gets its first one
+fresh_of_new : (o : Observed) (x : ℕ) → is_new o x ≡ true → o.state x ≡ Fresh
+fresh_of_new o x new = is (o.state x) (second (has_place o) (is_fresh (o.state x)) (is_in_range x) (is_in_window o.top x) new)
+  where
+    second : (a b c d : Bool) → (a && b && c && d) ≡ true → b ≡ true
+    second true true c d e = refl
+    second true false c d e = e
+    second false b c d e = absurd (false≢true e)
+
+    is : (s : KeyState) → is_fresh s ≡ true → s ≡ Fresh
+    is Fresh e = refl
+    is Filed e = absurd (false≢true e)
+    is Sealed e = absurd (false≢true e)
+    is Held e = absurd (false≢true e)
+    is Released e = absurd (false≢true e)
+    is Cancelled e = absurd (false≢true e)
+
+-- what a Seal names was fresh
+pub sealed_was_fresh : (size : ℕ) (h : List HistoryEntry) (e : HistoryEntry) (node : NodeId) (number : ℕ) → AllFit size (h ++ e ∷ [])
+    → e.act ≡ Seal node number → (observed h node).state number ≡ Fresh
+sealed_was_fresh size h e node number all seal =
+    let fit = (fit_parts size [] h e all).1 in
+    fresh_of_new (observed h node) number (subst (λ (a : HistoryAct). is_act_fit (observed h) a ≡ true) seal fit.act)
 
 known_by_act : (h : List HistoryEntry) (a : HistoryAct) → is_act_fit (observed h) a ≡ true → length (known_nodes h) ≤ most_nodes
     → length (with_node (known_nodes h) (named_node a)) ≤ most_nodes

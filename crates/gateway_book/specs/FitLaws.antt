@@ -32,13 +32,13 @@ use Rattle.transfer_cmd.specs.declared.decision.Ask.{Ask}
 use Rattle.transfer_cmd.specs.declared.decision.Ask.TheVariants as ask
 use Rattle.transfer_cmd.specs.declared.verdict.Verdict.{Verdict}
 use Rattle.transfer_cmd.specs.declared.verdict.Verdict.TheVariants.{Wrong, Before, Change}
-use Rattle.gateway_book.specs.Answer.{Given, Drops, Replies, answer_by, asked_by, changes, held_ones, listed, node_of, opening_epoch, path_given, recorded_as, recording, replying, responding, sent, tabled}
+use Rattle.gateway_book.specs.Answer.{Given, Drops, Replies, answer_by, answer_within, asked_by, changes, held_ones, listed, may_record, node_of, opening_epoch, path_given, recorded_as, recording, replying, responding, sent, tabled}
 use Rattle.gateway_book.specs.Answered.{answer_to, entry_by, no_caller, room_for}
-use Rattle.gateway_book.specs.Fit.{IsFit, is_act_fit, is_fresh, is_in_window, is_new, is_packet_fit, latest_moment}
+use Rattle.gateway_book.specs.Fit.{IsFit, is_act_fit, is_act_lawful, is_first, is_fresh, is_in_window, is_new, is_packet_fit, latest_moment}
 use Rattle.gateway_book.specs.Limits.{has_place, is_in_range, may_hold, within_limits}
 use Rattle.gateway_book.specs.ListFitLaws.{change_is_held, held_ones_fit}
 use Rattle.gateway_book.specs.Preparing.{PreparedValue, Drop, OtherVersion, Refused, Path, Request, IsWhole, has_values}
-use Rattle.gateway_book.specs.Recording.{Fits, IfRecords}
+use Rattle.gateway_book.specs.Recording.{Fits, IfRecords, IsTabled}
 
 -- ---- tests of a few parts
 
@@ -66,32 +66,49 @@ IsPacketFor ask.Send packet = is_packet_fit packet ≡ true
 IsPacketFor ask.Possible packet = is_packet_fit packet ≡ true
 IsPacketFor ask.Empty packet = ⊤
 
-module _ (of : NodeId → Observed) (room : HistoryAct → Bool) (number : ℕ) (node : NodeId) where
+-- what holds of a recorded act holds in other words
+pub records_also : (P Q : ℕ → MessageValue → HistoryAct → Type 0) → ((number : ℕ) (message : MessageValue) (a : HistoryAct) → P number message a → Q number message a)
+    → (given : Given) → IfRecords P given → IfRecords Q given
+records_also P Q also (Drops why) is = tt
+records_also P Q also (Replies number message None) is = tt
+records_also P Q also (Replies number message (Some a)) is = also number message a is
+
+module _ (of : NodeId → Observed) (may : HistoryAct → Bool) (number : ℕ) (node : NodeId) where
+  abbrev Tabled : Given → Type 0
+  Tabled given = IfRecords (λ number message a. IsTabled of node may a) given
+
   new_fits : (x : ℕ) → (of node).state x ≡ Fresh → is_in_window (of node).top x ≡ true → has_place (of node) ≡ true → is_in_range x ≡ true → is_new (of node) x ≡ true
   new_fits x fresh window place range =
       all_four (has_place (of node)) (is_fresh ((of node).state x)) (is_in_range x) (is_in_window (of node).top x) place (ap is_fresh fresh) range window
 
-  recorded : (a : HistoryAct) (cause : ℕ) → (within_limits (of node) a ≡ true → is_act_fit of a ≡ true) → IfRecords (Fits of room) (recording (of node) room number cause a)
-  recorded a cause fit = by_test (within_limits (of node) a) (room a) refl refl
+  first_is : (x : ℕ) → (of node).state x ≡ Fresh → is_in_window (of node).top x ≡ true → is_first (of node) x ≡ true
+  first_is x fresh window = and_from (is_fresh ((of node).state x)) (is_in_window (of node).top x) (ap is_fresh fresh) window
+
+  first_with : (x : ℕ) (packet : List ℕ) → (of node).state x ≡ Fresh → is_in_window (of node).top x ≡ true → is_packet_fit packet ≡ true → (is_first (of node) x && is_packet_fit packet) ≡ true
+  first_with x packet fresh window fit = and_from (is_first (of node) x) (is_packet_fit packet) (first_is x fresh window) fit
+
+  recorded : (a : HistoryAct) (cause : ℕ) → is_act_lawful of a ≡ true → (within_limits (of node) a ≡ true → is_act_fit of a ≡ true) → Tabled (recording may number cause a)
+  recorded a cause lawful fit = by_test (may a) refl
     where
-      by_test : (within has : Bool) → within_limits (of node) a ≡ within → room a ≡ has
-          → IfRecords (Fits of room) (if within && has then responding number cause (Some a) else responding number NO_RESOURCES None)
-      by_test true true limits has = (fit limits, has)
-      by_test true false limits has = tt
-      by_test false has limits _ = tt
+      by_test : (b : Bool) → may a ≡ b → Tabled (if b then responding number cause (Some a) else responding number NO_RESOURCES None)
+      by_test true e = record { lawful = lawful; allowed = e; fit = fit }
+      by_test false e = tt
 
   by_table : (meant : ℕ) → is_in_window (of node).top meant ≡ true → (packet : List ℕ) (asked : Ask) → IsPacketFor asked packet → (state : KeyState) → (of node).state meant ≡ state
-      → IfRecords (Fits of room) (tabled (of node) room number (answer_cause asked state) (recorded_as asked node meant packet (state_given asked state)))
+      → Tabled (tabled may number (answer_cause asked state) (recorded_as asked node meant packet (state_given asked state)))
   by_table meant window packet ask.Send fit Fresh fresh =
-      recorded (act.File node meant packet) ACCEPTED (λ limits.
+      recorded (act.File node meant packet) ACCEPTED (first_with meant packet fresh window fit)
+      (λ limits.
       let parts = and_parts (has_place (of node)) (is_in_range meant) limits in
       and_from (is_new (of node) meant) (is_packet_fit packet) (new_fits meant fresh window parts.0 parts.1) fit)
   by_table meant window packet ask.Possible fit Fresh fresh =
-      recorded (act.Hold node meant packet) ACCEPTED (λ limits.
+      recorded (act.Hold node meant packet) ACCEPTED (first_with meant packet fresh window fit)
+      (λ limits.
       let parts = three_parts (has_place (of node)) (is_in_range meant) (may_hold (of node)) limits in
       all_three (is_new (of node) meant) (is_packet_fit packet) (may_hold (of node)) (new_fits meant fresh window parts.0 parts.1) fit parts.2)
   by_table meant window packet ask.Empty fit Fresh fresh =
-      recorded (act.Seal node meant) ACCEPTED (λ limits.
+      recorded (act.Seal node meant) ACCEPTED (first_is meant fresh window)
+      (λ limits.
       let parts = and_parts (has_place (of node)) (is_in_range meant) limits in
       new_fits meant fresh window parts.0 parts.1)
   by_table meant window packet ask.Send fit _ state = tt
@@ -99,26 +116,28 @@ module _ (of : NodeId → Observed) (room : HistoryAct → Bool) (number : ℕ) 
   by_table meant window packet ask.Empty fit _ state = tt
 
   by_verdict : (release : Bool) (xs : List ℕ) (verdict : Verdict) → verdict_of release (map (of node).state xs) ≡ verdict
-      → IfRecords (Fits of room) (tabled (of node) room number (verdict_cause verdict) (changes verdict release node (held_ones (of node) xs)))
+      → Tabled (tabled may number (verdict_cause verdict) (changes verdict release node (held_ones (of node) xs)))
   by_verdict release xs Wrong e = tt
   by_verdict release xs Before e = tt
   by_verdict true xs Change e =
-      recorded (act.Release node (held_ones (of node) xs)) ACCEPTED (λ limits. held_ones_fit (of node) xs (change_is_held true (map (of node).state xs) e))
+      let held = held_ones_fit (of node) xs (change_is_held true (map (of node).state xs) e) in
+      recorded (act.Release node (held_ones (of node) xs)) ACCEPTED held (λ limits. held)
   by_verdict false xs Change e =
-      recorded (act.Cancel node (held_ones (of node) xs)) ACCEPTED (λ limits. held_ones_fit (of node) xs (change_is_held false (map (of node).state xs) e))
+      let held = held_ones_fit (of node) xs (change_is_held false (map (of node).state xs) e) in
+      recorded (act.Cancel node (held_ones (of node) xs)) ACCEPTED held (λ limits. held)
 
-  by_list : (release : Bool) (numbers : List ℕ) → IfRecords (Fits of room) (listed (of node) room node number release numbers)
+  by_list : (release : Bool) (numbers : List ℕ) → Tabled (listed (of node) may node number release numbers)
   by_list release numbers =
       by_verdict release (map (nearest (of node).top) numbers) (verdict_of release (map (of node).state (map (nearest (of node).top) numbers))) refl
 
-  by_sent : (asked : Ask) (packet : List ℕ) → IsPacketFor asked packet → IfRecords (Fits of room) (sent (of node) room node number asked packet)
+  by_sent : (asked : Ask) (packet : List ℕ) → IsPacketFor asked packet → Tabled (sent (of node) may node number asked packet)
   by_sent asked packet fit =
       by_table (nearest (of node).top number) (nearest_in_window (of node).top number) packet asked fit ((of node).state (nearest (of node).top number)) refl
 
   packet_fits : (form : PacketForm) (value : List ℕ) → packet_of value ≡ Some form → has_values form ≡ true → is_packet_fit value ≡ true
   packet_fits form value is values = ap (λ (p : Option PacketForm). option_map_or has_values p false) is ∙ values
 
-  by_request : (body : TransferValue) → IsWhole (Request number body) → IfRecords (Fits of room) (asked_by (of node) room node number body)
+  by_request : (body : TransferValue) → IsWhole (Request number body) → Tabled (asked_by (of node) may node number body)
   by_request (Send Empty) whole = by_sent ask.Empty [] tt
   by_request (Send (Full form value)) whole = by_sent ask.Send value (packet_fits form value whole.0 whole.1)
   by_request (Possible Empty) whole = by_sent ask.Empty [] tt
@@ -126,40 +145,45 @@ module _ (of : NodeId → Observed) (room : HistoryAct → Bool) (number : ℕ) 
   by_request (Cancel numbers) whole = by_list false numbers
   by_request (Release numbers) whole = by_list true numbers
 
-module _ (of : NodeId → Observed) (room : HistoryAct → Bool) (from : Addr) where
-  by_opening : (told : ℕ) (changed : Option ℕ) → IfRecords (Fits of room) (opening_epoch (of (node_of from)) room from (Some (AliveTold told)) changed)
-  by_opening told None = tt
-  by_opening told (Some counter) = by_test (has_place (of (node_of from))) (room (act.Path (node_of from) from.port counter)) refl refl
-    where
-      by_test : (within has : Bool) → has_place (of (node_of from)) ≡ within → room (act.Path (node_of from) from.port counter) ≡ has
-          → IfRecords (Fits of room) (if within && has then replying (Some (AliveTold told)) (Some (act.Path (node_of from) from.port counter)) else Drops NoRoom)
-      by_test true true place has = (place, has)
-      by_test true false place has = tt
-      by_test false has place _ = tt
+module _ (of : NodeId → Observed) (may : HistoryAct → Bool) (from : Addr) where
+  abbrev TabledFrom : Given → Type 0
+  TabledFrom given = IfRecords (λ number message a. IsTabled of (node_of from) may a) given
 
-  by_path : (event : PathEvent) → IfRecords (Fits of room) (path_given (of (node_of from)) room from event)
+  by_opening : (told : ℕ) (changed : Option ℕ) → TabledFrom (opening_epoch may from (Some (AliveTold told)) changed)
+  by_opening told None = tt
+  by_opening told (Some counter) = by_test (may (act.Path (node_of from) from.port counter)) refl
+    where
+      by_test : (b : Bool) → may (act.Path (node_of from) from.port counter) ≡ b
+          → TabledFrom (if b then replying (Some (AliveTold told)) (Some (act.Path (node_of from) from.port counter)) else Drops NoRoom)
+      by_test true e = record { lawful = refl; allowed = e; fit = λ place. place }
+      by_test false e = tt
+
+  by_path : (event : PathEvent) → TabledFrom (path_given (of (node_of from)) may from event)
   by_path (EchoAsked told) = tt
   by_path (EchoTold told counter) = by_opening told (opened_by (option_map (λ path. path.counter) (of (node_of from)).opening) counter)
   by_path (AliveAsked told) = tt
   by_path (AliveTold told) = tt
 
--- each act that an answer records is fit by what is observed, and has room
+-- each act that an answer records keeps to the table of answers, and may be recorded
+pub records_tabled : (of : NodeId → Observed) (from : Addr) (datagram : PreparedValue) (may : HistoryAct → Bool) → IsWhole datagram
+    → IfRecords (λ number message a. IsTabled of (node_of from) may a) (answer_by (of (node_of from)) from datagram may)
+records_tabled of from (Drop why) may whole = tt
+records_tabled of from (OtherVersion number) may whole = tt
+records_tabled of from (Refused cause number) may whole = tt
+records_tabled of from (Path event) may whole = by_path of may from event
+records_tabled of from (Request number body) may whole = by_request of may number (node_of from) body whole
+
+-- each one of a gateway that keeps to its limits is fit by what is observed, and has room
 pub records_fit : (of : NodeId → Observed) (from : Addr) (datagram : PreparedValue) (room : HistoryAct → Bool) → IsWhole datagram
-    → IfRecords (Fits of room) (answer_by (of (node_of from)) from datagram room)
-records_fit of from (Drop why) room whole = tt
-records_fit of from (OtherVersion number) room whole = tt
-records_fit of from (Refused cause number) room whole = tt
-records_fit of from (Path event) room whole = by_path of room from event
-records_fit of from (Request number body) room whole = by_request of room number (node_of from) body whole
+    → IfRecords (Fits of room) (answer_within (of (node_of from)) from datagram room)
+records_fit of from datagram room whole =
+    records_also (λ number message a. IsTabled of (node_of from) (may_record (of (node_of from)) room) a) (Fits of room) also
+    (answer_within (of (node_of from)) from datagram room) (records_tabled of from datagram (may_record (of (node_of from)) room) whole)
+  where
+    also : (number : ℕ) (message : MessageValue) (a : HistoryAct) → IsTabled of (node_of from) (may_record (of (node_of from)) room) a → Fits of room number message a
+    also number message a is = let parts = and_parts (within_limits (of (node_of from)) a) (room a) is.allowed in (is.fit parts.0, parts.1)
 
 -- ---- of a history
-
--- what holds of a recorded act holds in other words
-pub records_also : (P Q : ℕ → MessageValue → HistoryAct → Type 0) → ((number : ℕ) (message : MessageValue) (a : HistoryAct) → P number message a → Q number message a)
-    → (given : Given) → IfRecords P given → IfRecords Q given
-records_also P Q also (Drops why) is = tt
-records_also P Q also (Replies number message None) is = tt
-records_also P Q also (Replies number message (Some a)) is = also number message a is
 
 -- what is promised behind an entry depends on its act alone
 promised_by_act : (h : List HistoryEntry) (a : HistoryAct) (n m : ℕ) (who whom : Caller)

@@ -2,6 +2,7 @@
 pub mod Answer
 pub mod Answered
 pub mod Book
+pub mod Caller
 pub mod Calls
 pub mod Cases
 pub mod Comes
@@ -25,6 +26,7 @@ pub mod Up
 pub mod Value
 -- Laws of these, with their proofs.
 pub mod AnswerLaws
+pub mod EachAnswer
 pub mod FaultLaws
 pub mod FiledLaws
 pub mod FitHistoryLaws

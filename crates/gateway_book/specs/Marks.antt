@@ -1,11 +1,17 @@
 -- The marks that close files: whether one is due, and whether it is made.
-use Rattle.std.specs.Prelude.{ℕ, Bool, if◌then◌else◌, List}
+use Rattle.std.specs.Prelude.{ℕ, Bool, true, false, if◌then◌else◌, List}
 use Rattle.gw_base.specs.History.{is_close_due}
 use Rattle.gw_base.specs.TickDue.{is_tick_due}
 use Rattle.gw_base.specs.declared.history.HistoryAct.{HistoryAct}
 use Rattle.gw_base.specs.declared.history.HistoryAct.TheVariants.{Tick, Close}
 use Rattle.gw_base.specs.declared.history.HistoryEntry.{HistoryEntry}
 use Rattle.gateway_book.specs.Answered.{room_for}
+
+-- a mark closes files
+abbrev pub is_mark : HistoryAct → Bool
+is_mark Tick = true
+is_mark Close = true
+is_mark _ = false
 
 -- what is made of a mark: it isn't due, there is no room for it, or it is recorded
 pub data Mark : Type 0 where

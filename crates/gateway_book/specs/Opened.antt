@@ -4,12 +4,13 @@ use Rattle.area_disk.specs.Disk.{Rose, counted}
 use Rattle.area_disk.specs.declared.area.Area.{Ghosts}
 use Rattle.gate_journal.specs.Format.{Starts}
 use Rattle.gate_journal.specs.Moments.{Leaves, Told}
-use Rattle.cgf_journal.specs.Fit.{IsUnfitTo, StandsFit}
+use Rattle.cgf_journal.specs.Fit.{IsUnfitTo}
 use Rattle.cgf_journal.specs.Format.{StandsFor}
 use Rattle.cgf_journal.specs.Trail.{is_closed}
 use Rattle.gw_base.specs.declared.history.HistoryEntry.{HistoryEntry}
 use Rattle.gateway_book.specs.Book.{area_of, header_of, open_time_of, value_of}
 use Rattle.gateway_book.specs.Fit.{IsFit}
+pub use Rattle.gateway_book.specs.FitHistory.{StandsFitFor}
 use Rattle.gateway_book.specs.Value.{opened}
 use Rattle.gateway_book.specs.declared.book.Book.{Book}
 use Rattle.gateway_book.specs.declared.outcome.BookFault.{BookFault}
@@ -19,10 +20,6 @@ use Rattle.gateway_book.specs.declared.outcome.BookFault.TheVariants.{Device, No
 abbrev pub OnArea : {A F : Type 0} {tells : Ghosts A} → Result (Book A tells) (F × A) → (A → Type 0) → Type 0
 OnArea (Ok book) P = P (area_of book)
 OnArea (Err fault) P = P fault.1
-
--- the octets stand for this history, each entry of which is fit
-abbrev pub StandsFitFor : List ℕ → List ℕ → List HistoryEntry → Type 0
-StandsFitFor header octets h = StandsFit IsFit header octets h
 
 -- they stand for it, or they start, and it has no entry
 abbrev pub StandsOrStarts : List ℕ → List ℕ → List HistoryEntry → Type 0

@@ -1,5 +1,5 @@
 -- What a call leaves that only reads an area: of a trail, and of a book.
-use Rattle.std.specs.Prelude.{◌≡◌, ◌≢◌, ℕ, ◌≤◌, IsTrue, Result, Err, OnOk}
+use Rattle.std.specs.Prelude.{◌≡◌, ◌≢◌, ℕ, ◌≤◌, IsTrue, Result, Err}
 use Rattle.area_disk.specs.Armed.{ReadsRun}
 use Rattle.area_disk.specs.Course.{ReadOn}
 use Rattle.area_disk.specs.Disk.{Rose}
@@ -19,7 +19,6 @@ use Rattle.gateway_book.specs.declared.outcome.ItemsFault.TheVariants.{Device}
 pub record ReadCause {R : Type 0} (before now : ℕ) (result : Result R ItemsFault) : Type 0 where
   pub device : result ≡ Err Device → Rose before now
   pub still : result ≢ Err Device → now ≡ before
-  pub ok : OnOk result (now ≡ before)
   pub later : before ≤ now
 
 -- A trail was read, or not even that, and is as before. That what a crash leaves stays where nothing is done is a law of
@@ -40,7 +39,7 @@ abbrev pub RunsOn : {A R : Type 0} {tells : Ghosts A} → Trail A tells → Resu
 RunsOn {tells = tells} old result = IsTrue tells.tells_fate → ReadsRun (tells.fate (trail.area_of old)).schedule → result ≢ Err Device
 
 module _ {A : Type 0} {tells : Ghosts A} (old new : Book A tells) where
-  -- The book is as before, a broken one too: what it counts, and what an opening again will find.
+  -- The book is as before, also where it is broken: what it counts, and what an opening again will find.
   pub record IsUnchanged : Type 0 where
     pub value : Told tells → value_of new ≡ value_of old
     pub broken : trail.is_closed new.trail ≡ trail.is_closed old.trail

@@ -18,7 +18,7 @@ use Rattle.transfer_cmd.specs.declared.decision.Ask.{Ask}
 use Rattle.transfer_cmd.specs.declared.decision.Ask.TheVariants as ask
 use Rattle.transfer_cmd.specs.declared.verdict.Verdict.{Verdict}
 use Rattle.transfer_cmd.specs.declared.verdict.Verdict.TheVariants.{Wrong, Before, Change}
-use Rattle.gateway_book.specs.Answer.{Given, answer_by, asked_by, changes, held_ones, listed, node_of, recorded_as, recording, responding, sending, sending_again, tabled}
+use Rattle.gateway_book.specs.Answer.{Given, answer_within, asked_by, changes, held_ones, listed, may_record, node_of, recorded_as, recording, responding, sending, sending_again, tabled}
 use Rattle.gateway_book.specs.Answered.{act_given}
 use Rattle.gateway_book.specs.Limits.{has_place, is_in_range, may_hold, within_limits}
 use Rattle.gateway_book.specs.Preparing.{Request}
@@ -32,7 +32,7 @@ module _ (o : Observed) (room : HistoryAct → Bool) (number : ℕ) where
   abbrev HasResources : ((HistoryAct → Bool) → Given) → Type 0
   HasResources given = ((a : HistoryAct) → act_given (given (λ b. true)) ≡ Some a → room a ≡ true) → is_without_resources (given room) ≡ false
 
-  recorded : (a : HistoryAct) → within_limits o a ≡ true → HasResources (λ r. recording o r number ACCEPTED a)
+  recorded : (a : HistoryAct) → within_limits o a ≡ true → HasResources (λ r. recording (may_record o r) number ACCEPTED a)
   recorded a within has = by_test (within_limits o a) (room a) within (has a (by_limits (within_limits o a) within))
     where
       by_limits : (b : Bool) → b ≡ true → act_given (if b && true then responding number ACCEPTED (Some a) else responding number NO_RESOURCES None) ≡ Some a
@@ -45,7 +45,7 @@ module _ (o : Observed) (room : HistoryAct → Bool) (number : ℕ) where
       by_test false r e f = absurd (false≢true e)
 
   by_table : IsWithinLimits o number → (node : NodeId) (packet : List ℕ) (asked : Ask) (state : KeyState)
-      → HasResources (λ r. tabled o r number (answer_cause asked state) (recorded_as asked node (nearest o.top number) packet (state_given asked state)))
+      → HasResources (λ r. tabled (may_record o r) number (answer_cause asked state) (recorded_as asked node (nearest o.top number) packet (state_given asked state)))
   by_table limits node packet ask.Send Fresh has =
       recorded (act.File node (nearest o.top number) packet) (and_from (has_place o) (is_in_range (nearest o.top number)) limits.place limits.range) has
   by_table limits node packet ask.Possible Fresh has =
@@ -70,18 +70,18 @@ module _ (o : Observed) (room : HistoryAct → Bool) (number : ℕ) where
   by_table limits node packet ask.Empty Cancelled has = refl
 
   by_verdict : (node : NodeId) (release : Bool) (held : List ℕ) (verdict : Verdict)
-      → HasResources (λ r. tabled o r number (verdict_cause verdict) (changes verdict release node held))
+      → HasResources (λ r. tabled (may_record o r) number (verdict_cause verdict) (changes verdict release node held))
   by_verdict node release held Wrong has = refl
   by_verdict node release held Before has = refl
   by_verdict node true held Change has = recorded (act.Release node held) refl has
   by_verdict node false held Change has = recorded (act.Cancel node held) refl has
 
   -- a list meets no limit
-  pub by_list : (node : NodeId) (release : Bool) (numbers : List ℕ) → HasResources (λ r. listed o r node number release numbers)
+  pub by_list : (node : NodeId) (release : Bool) (numbers : List ℕ) → HasResources (λ r. listed o (may_record o r) node number release numbers)
   by_list node release numbers has =
       by_verdict node release (held_ones o (map (nearest o.top) numbers)) (verdict_of release (map o.state (map (nearest o.top) numbers))) has
 
-  by_request : IsWithinLimits o number → (node : NodeId) (body : TransferValue) → HasResources (λ r. asked_by o r node number body)
+  by_request : IsWithinLimits o number → (node : NodeId) (body : TransferValue) → HasResources (λ r. asked_by o (may_record o r) node number body)
   by_request limits node (Send packet) has = by_table limits node (packet_octets packet) (sending packet) (o.state (nearest o.top number)) has
   by_request limits node (Possible packet) has = by_table limits node (packet_octets packet) (sending_again packet) (o.state (nearest o.top number)) has
   by_request limits node (Cancel numbers) has = by_list node false numbers has
@@ -89,5 +89,5 @@ module _ (o : Observed) (room : HistoryAct → Bool) (number : ℕ) where
 
 -- a request within the limits, with room for what it calls for, isn't refused for want of resources
 pub room_is_enough : (o : Observed) (from : Addr) (number : ℕ) (body : TransferValue) (room : HistoryAct → Bool) → IsWithinLimits o number
-    → HasRoomFor o from (Request number body) room → is_without_resources (answer_by o from (Request number body) room) ≡ false
+    → HasRoomFor o from (Request number body) room → is_without_resources (answer_within o from (Request number body) room) ≡ false
 room_is_enough o from number body room limits has = by_request o room number limits (node_of from) body has

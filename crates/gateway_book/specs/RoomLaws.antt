@@ -21,7 +21,7 @@ use Rattle.gw_base.specs.declared.history.HistoryEntry.{HistoryEntry}
 use Rattle.transfer_cmd.specs.Lists.{is_held, verdict_cause, verdict_of}
 use Rattle.transfer_cmd.specs.declared.verdict.Verdict.{Verdict}
 use Rattle.transfer_cmd.specs.declared.verdict.Verdict.TheVariants.{Wrong, Before, Change}
-use Rattle.gateway_book.specs.Answer.{changes, changing, held_ones, listed, node_of, responding, tabled}
+use Rattle.gateway_book.specs.Answer.{changes, changing, held_ones, listed, may_record, node_of, responding, tabled}
 use Rattle.gateway_book.specs.Answered.{answer_to, no_caller, room_for}
 use Rattle.gateway_book.specs.Fit.{are_distinct, is_list_fit}
 use Rattle.gateway_book.specs.ListFitLaws.{change_is_held, held_ones_fit}
@@ -75,7 +75,7 @@ fit_list_has_room change law room h size node (x ∷ xs) within fit =
 
 by_verdict : (o : Observed) (room : HistoryAct → Bool) (number : ℕ) (node : NodeId) (release : Bool) (held : List ℕ) (verdict : Verdict)
     → (verdict ≡ Change → room (changing release node held) ≡ true)
-    → is_without_resources (tabled o room number (verdict_cause verdict) (changes verdict release node held)) ≡ false
+    → is_without_resources (tabled (may_record o room) number (verdict_cause verdict) (changes verdict release node held)) ≡ false
 by_verdict o room number node release held Wrong has = refl
 by_verdict o room number node release held Before has = refl
 by_verdict o room number node true held Change has = by_test (room (act.Release node held)) (has refl)
@@ -95,7 +95,7 @@ module _ (law : HeldKeysAreHeld) (release_room : HeldNumbersHaveRoom act.Release
   fit_list node false xs fit = fit_list_has_room act.Cancel law cancel_room h size node xs within fit
 
   by_list : (node : NodeId) (number : ℕ) (release : Bool) (numbers : List ℕ)
-      → is_without_resources (listed (observed h node) (room_for h size) node number release numbers) ≡ false
+      → is_without_resources (listed (observed h node) (may_record (observed h node) (room_for h size)) node number release numbers) ≡ false
   by_list node number release numbers =
       by_verdict (observed h node) (room_for h size) number node release (held_ones (observed h node) meant) (verdict_of release (map (observed h node).state meant))
       (λ e. fit_list node release (held_ones (observed h node) meant) (held_ones_fit (observed h node) meant (change_is_held release (map (observed h node).state meant) e)))

@@ -3,7 +3,7 @@ ghost use Rattle.std.specs.Option.{option_map};
 ghost use Rattle.gtpp_message.specs.Values.{message_value, packet_value, transfer_value};
 ghost use Rattle.gtpp_message.specs.Writing.{written};
 ghost use Rattle.gw_base.specs.Entry.{act_view};
-ghost use Rattle.gateway_book.specs.Answer.{Replies, act_of, answer_by, asked_by, decided, failure_answer, heard, may_record, node_of, path_given, recorded_as, recording, replying, responding, sending, sending_again, sent, tabled};
+ghost use Rattle.gateway_book.specs.Answer.{Replies, act_of, answer_within, asked_by, decided, failure_answer, heard, may_record, node_of, path_given, recorded_as, recording, replying, responding, sending, sending_again, sent, tabled};
 ghost use Rattle.gateway_book.specs.Cases.{case_value};
 ghost use Rattle.gateway_book.specs.Decisions.{decision_view};
 ghost use Rattle.gateway_book.specs.Limits.{is_in_range, within_limits};
@@ -61,7 +61,7 @@ fn reply<'a>(number: u16, message: &Message<'_>, act: Option<Act<'a>>) -> Decisi
         ≡ decided (Replies number (message_value message.now) (option_map act_view act.entry)) }
 {
     Decision::Reply {
-        reply: gtpp_message::reply(number, message),
+        reply: gtpp_message::write_short(number, message),
         act,
     }
 }
@@ -86,7 +86,7 @@ fn recording<'a, O: Observe>(
     act: Act<'a>,
 ) -> Decision<'a>
     ensures { decision_view result
-        ≡ decided (recording (O.seen seen.now node) (O.room seen.now) number cause (act_view act.entry)) }
+        ≡ decided (recording (may_record (O.seen seen.now node) (O.room seen.now)) number cause (act_view act.entry)) }
 {
     if may_record(seen, node, &act) {
         responding(number, cause, Some(act))
@@ -104,7 +104,8 @@ pub(crate) fn tabled<'a, O: Observe>(
     act: Option<Act<'a>>,
 ) -> Decision<'a>
     ensures { decision_view result
-        ≡ decided (tabled (O.seen seen.now node) (O.room seen.now) number cause (option_map act_view act.entry)) }
+        ≡ decided (tabled (may_record (O.seen seen.now node) (O.room seen.now)) number cause
+        (option_map act_view act.entry)) }
 {
     match act {
         Some(act) => recording(seen, node, number, cause, act),
@@ -176,7 +177,8 @@ fn sent<'a, O: Observe>(
     packet: &'a [u8],
 ) -> Decision<'a>
     ensures { decision_view result
-        ≡ decided (sent (O.seen seen.now node) (O.room seen.now) node number ask packet.now) }
+        ≡ decided (sent (O.seen seen.now node) (may_record (O.seen seen.now node) (O.room seen.now)) node number ask
+        packet.now) }
 {
     let meant = nearest_number(seen.top(node), number);
     let (cause, given) = decide(seen.state(node, meant), ask);
@@ -187,7 +189,8 @@ fn sent<'a, O: Observe>(
 /// The answer to a message of path management.
 fn path_given<O: Observe>(seen: &O, from: Addr, event: PathEvent) -> Decision<'static>
     ensures { decision_view result
-        ≡ decided (path_given (O.seen seen.now (node_of from)) (O.room seen.now) from event) }
+        ≡ decided (path_given (O.seen seen.now (node_of from))
+        (may_record (O.seen seen.now (node_of from)) (O.room seen.now)) from event) }
 {
     let opening = seen.opening(NodeId(from.ip));
     let known = opening.map(|path| path.counter);
@@ -196,7 +199,8 @@ fn path_given<O: Observe>(seen: &O, from: Addr, event: PathEvent) -> Decision<'s
 
 /// The answer by what the gateway's end of the path makes of a message.
 fn heard<O: Observe>(seen: &O, from: Addr, answer: PathAnswer) -> Decision<'static>
-    ensures { decision_view result ≡ decided (heard (O.seen seen.now (node_of from)) (O.room seen.now) from answer) }
+    ensures { decision_view result
+        ≡ decided (heard (may_record (O.seen seen.now (node_of from)) (O.room seen.now)) from answer) }
 {
     let node = NodeId(from.ip);
     let Some(counter) = answer.changed else {
@@ -245,7 +249,7 @@ pub(crate) fn answer_by<'a, 'p: 'a, O: Observe>(
     scratch: &'a mut Scratch,
 ) -> Result<Decision<'a>, NoMemory>
     ensures { IfOk result (λ decision. decision_view decision
-        ≡ decided (answer_by (O.seen seen.now (node_of from)) from (case_value case.now) (O.room seen.now))) }
+        ≡ decided (answer_within (O.seen seen.now (node_of from)) from (case_value case.now) (O.room seen.now))) }
 {
     match case {
         Case::Drop(why) => Ok(Decision::Drop(*why)),
@@ -265,7 +269,8 @@ fn asked_by<'a, 'p: 'a, O: Observe>(
     scratch: &'a mut Scratch,
 ) -> Result<Decision<'a>, NoMemory>
     ensures { IfOk result (λ decision. decision_view decision
-        ≡ decided (asked_by (O.seen seen.now node) (O.room seen.now) node number (transfer_value body.now))) }
+        ≡ decided (asked_by (O.seen seen.now node) (may_record (O.seen seen.now node) (O.room seen.now)) node number
+        (transfer_value body.now))) }
 {
     match body {
         Transfer::Send(packet) => {

@@ -1,12 +1,14 @@
 //! How a book's history is made firm, what has become of its answers, and how it ends.
-ghost use Rattle.std.specs.Prelude.{◌≡◌, ◌≤◌, IsTrue, is_err};
+ghost use Rattle.std.specs.Prelude.{◌≡◌, ◌≤◌, ◌++◌, IsTrue, is_err};
 ghost use Rattle.area_disk.specs.declared.plan.Outcome3.{Outcome3};
 ghost use Rattle.gate_journal.specs.Format.{fewest_octets, most_octets};
 ghost use Rattle.gate_journal.specs.Moments.{Told};
 ghost use Rattle.cgf_journal.specs.Format.{StandsFor};
 ghost use Rattle.cgf_journal.specs.Trail.{IsAtRest, firm_length, is_closed, left_by_stop};
+ghost use Rattle.gateway_book.specs.Caller.{IsCommitTold};
 ghost use Rattle.gateway_book.specs.Calls.{commit_left, counts_of, settled_by, settled_of};
 ghost use Rattle.gateway_book.specs.Comes.{asked_to_commit};
+ghost use Rattle.gateway_book.specs.FitHistory.{AllFit};
 ghost use Rattle.gateway_book.specs.Value.{after_commit};
 
 use crate::book::Book;
@@ -17,7 +19,7 @@ use cgf_journal::Device;
 use gw_base::scan::held_keys_are_as_many_as_held_copies;
 
 impl<A: Area> Book<A> {
-    ghost use Rattle.gateway_book.specs.Book.{CrashLeaves, HasCause, IsLeft, Stays, area_of, fortune_of, header_of, value_of};
+    ghost use Rattle.gateway_book.specs.Book.{CrashLeaves, HasCause, IsLeft, Stays, area_of, fortune_of, header_of, size_of, value_of};
     ghost use Rattle.gateway_book.specs.Comes.{AsPlanned, LeavesFit};
     ghost use Rattle.gateway_book.specs.Told.{AreCounted};
 
@@ -34,6 +36,8 @@ impl<A: Area> Book<A> {
         ensures stays { Stays self.old self.new }
         ensures cause { HasCause self.old self.new }
         ensures planned { AsPlanned self.old self.new (asked_to_commit (value_of self.old)) }
+        // Over every area, also one that tells nothing.
+        ensures told { IsCommitTold self.new result }
     {
         match self.firm_up() {
             Ok(()) => Ok(self.trail.firm()),
@@ -79,6 +83,8 @@ impl<A: Area> Book<A> {
     pub fn counts(&self) -> Counts
         ensures told { Told A.Area → result ≡ counts_of (value_of self.now) (A.size (area_of self.now)) }
         ensures counted { AreCounted self.now result }
+        // Each entry is fit, so that what they cost and promise is within the capacity.
+        ensures fit { Told A.Area → AllFit (size_of self.now) ((value_of self.now).firm ++ (value_of self.now).rest) }
     {
         an_index_tells_its_history();
         held_keys_are_as_many_as_held_copies();

@@ -1,9 +1,8 @@
 // What a gateway keeps of its history.
-ghost use Rattle.std.specs.Prelude.{◌≡◌, ◌≤◌, ◌<◌, ◌+◌, ◌^◌, ℕ, Bool, true, false, List, [], ◌∷◌, ◌++◌, length, Some, IfOk, OnOk, OnErr};
+ghost use Rattle.std.specs.Prelude.{◌≡◌, ◌<◌, ◌+◌, ◌^◌, Bool, true, false, List, [], ◌∷◌, ◌++◌, Some, IfOk, OnOk};
 ghost use Rattle.std.specs.Option.{ForSome};
 ghost use Rattle.gw_base.specs.Lists.{raised};
 ghost use Rattle.gw_base.specs.Entry.{act_view, entry_view};
-ghost use Rattle.gw_base.specs.Observed.{observed};
 ghost use Rattle.gw_base.specs.declared.address.NodeId.{NodeId};
 ghost use Rattle.gw_base.specs.declared.history.PacketKey.{PacketKey};
 ghost use Rattle.gw_base.specs.declared.history.HistoryEntry.{HistoryEntry};

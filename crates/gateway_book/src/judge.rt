@@ -1,18 +1,16 @@
 //! Whether the entries of a journal are fit, as it is opened.
-ghost use Rattle.std.specs.Prelude.{◌≡◌, ◌≤◌, ◌&&◌, ◌+◌, ◌<◌, ◌^◌, ℕ, true, false, List, [], nat_le, IfOk};
-ghost use Rattle.entry_codec.specs.Room.{capacity_of};
-ghost use Rattle.gw_base.specs.Entry.{act_view, entry_view};
+ghost use Rattle.std.specs.Prelude.{◌≡◌, ◌≤◌, ◌&&◌, ◌+◌, ◌<◌, false, [], nat_le, IfOk};
+ghost use Rattle.gw_base.specs.Entry.{act_view};
 ghost use Rattle.gateway_book.specs.Fit.{is_act_fit, latest_moment};
-ghost use Rattle.gateway_book.specs.Index.{MayCome, observed_by, side_of};
+ghost use Rattle.gateway_book.specs.Index.{observed_by, side_of};
 
 use crate::fit::is_act_fit;
 use crate::index::Index;
 use crate::observed::an_index_tells_its_history;
 use crate::seen::Seen;
-use crate::totals::Totals;
 use cgf_journal::Judge;
 use entry_codec::{capacity, cost, promised};
-use gw_base::{Act, Entry, NoMemory};
+use gw_base::{Entry, NoMemory};
 use std::alloc::Global;
 
 /// Judges entries by an index that follows them.

@@ -12,15 +12,17 @@ ghost use Rattle.gate_journal.specs.Planned.{is_new};
 ghost use Rattle.gtpp_message.specs.Message.{Cancel, Release, TransferResponse, TransferValue};
 ghost use Rattle.gw_base.specs.History.{is_close_due, last_moment};
 ghost use Rattle.gw_base.specs.Known.{known_nodes};
-ghost use Rattle.gw_base.specs.Observed.{Observed};
+ghost use Rattle.gw_base.specs.Observed.{Observed, observed};
 ghost use Rattle.gw_base.specs.declared.address.Addr.{Addr};
+ghost use Rattle.gw_base.specs.declared.address.NodeId.{NodeId};
 ghost use Rattle.gw_base.specs.declared.cause.TheConstants.{ACCEPTED};
 ghost use Rattle.gw_base.specs.declared.history.Caller.{Caller};
 ghost use Rattle.gw_base.specs.declared.history.HistoryAct.{HistoryAct};
-ghost use Rattle.gw_base.specs.declared.history.HistoryAct.TheVariants.{Close};
+ghost use Rattle.gw_base.specs.declared.history.HistoryAct.TheVariants.{Close, Seal};
 ghost use Rattle.gw_base.specs.declared.history.HistoryEntry.{HistoryEntry};
 ghost use Rattle.gw_base.specs.declared.history.PacketKey.{PacketKey};
-ghost use Rattle.gateway_book.specs.Answer.{Replies, answer_by};
+ghost use Rattle.gw_base.specs.declared.key_state.KeyState.TheVariants.{Fresh};
+ghost use Rattle.gateway_book.specs.Answer.{Replies, answer_by, answer_within};
 ghost use Rattle.gateway_book.specs.Answered.{answer_to, entry_by, room_for};
 ghost use Rattle.gateway_book.specs.Book.{IsLeft, Stays, area_of, fortune_of, value_of};
 ghost use Rattle.gateway_book.specs.Calls.{closed, commit_left, given_at, taken, ticked};
@@ -47,19 +49,19 @@ use area_disk::Area;
 /// An answer records an act only where it accepts a request, or where it answers Node Alive: a
 /// request that is answered with another cause adds nothing.
 pub fn only_what_is_accepted_is_recorded()
-    ensures records { (o : Observed) (from : Addr) (datagram : PreparedValue) (room : HistoryAct → Bool) →
-        IfRecords Accepts (answer_by o from datagram room) }
-    ensures refused { (o : Observed) (from : Addr) (datagram : PreparedValue) (room : HistoryAct → Bool) →
+    ensures records { (o : Observed) (from : Addr) (datagram : PreparedValue) (may : HistoryAct → Bool) →
+        IfRecords Accepts (answer_by o from datagram may) }
+    ensures refused { (o : Observed) (from : Addr) (datagram : PreparedValue) (may : HistoryAct → Bool) →
         (number cause : ℕ) (responded : List ℕ) (act : Option HistoryAct) →
-        answer_by o from datagram room ≡ Replies number (TransferResponse cause responded) act → cause ≢ ACCEPTED →
+        answer_by o from datagram may ≡ Replies number (TransferResponse cause responded) act → cause ≢ ACCEPTED →
         act ≡ None }
 {}
 
-/// A gateway that is ready says that its device failed, by the cause system failure or by dropping what isn't a request,
-/// only where its book is broken.
+/// A gateway that is ready says that its device failed, by the cause system failure or by dropping what isn't a
+/// request, only where its book is broken.
 pub fn only_a_broken_gateway_tells_a_fault()
-    ensures running { (o : Observed) (from : Addr) (octets : List ℕ) (room : HistoryAct → Bool) →
-        tells_a_fault (answer_by o from (prepared_of octets) room) ≡ false }
+    ensures running { (o : Observed) (from : Addr) (octets : List ℕ) (may : HistoryAct → Bool) →
+        tells_a_fault (answer_by o from (prepared_of octets) may) ≡ false }
     ensures broken { (ready : BookValue) (from : Addr) (octets : List ℕ) (size : ℕ) →
         tells_a_fault (given_at ready from (prepared_of octets) size) ≡ true → ready.is_broken ≡ true }
 {}
@@ -101,7 +103,7 @@ pub fn fit_histories_go_on()
 pub fn room_is_enough()
     ensures { (o : Observed) (from : Addr) (number : ℕ) (body : TransferValue) (room : HistoryAct → Bool) →
         IsWithinLimits o number → HasRoomFor o from (Request number body) room →
-        is_without_resources (answer_by o from (Request number body) room) ≡ false }
+        is_without_resources (answer_within o from (Request number body) room) ≡ false }
 {}
 
 /// Where costs and promises are within the capacity, no release or cancel is refused for want of
@@ -129,6 +131,13 @@ pub fn a_due_close_has_room()
 pub fn each_record_is_filed_once()
     ensures { (key : PacketKey) (index size : ℕ) (h : List HistoryEntry) → AllFit size h →
         times_filed key index (filed h) ≤ 1 }
+{}
+
+/// In a fit history a number is sealed only where nothing named it before in its node's present epoch.
+/// So it is sealed at most once in an epoch, and before nothing else.
+pub fn each_number_is_sealed_once()
+    ensures { (size : ℕ) (h : List HistoryEntry) (e : HistoryEntry) (node : NodeId) (number : ℕ) →
+        AllFit size (h ++ e ∷ []) → e.act ≡ Seal node number → (observed h node).state number ≡ Fresh }
 {}
 
 /// What a history files stays as it is when entries follow.

@@ -44,6 +44,6 @@ mod wire_marks;
 pub use book::Book;
 pub use filing::{FiledRecord, filed};
 pub use outcome::{BookFault, Broken, ItemsFault, Marked, Outcome, Receipt, Settled, Setup};
-pub use plain::{OwnedAnswer, answer};
+pub use plain::{OwnedAnswer, answer, has_room};
 pub use preparing::{Prepared, prepare};
 pub use told::{Counts, Key};

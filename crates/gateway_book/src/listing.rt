@@ -2,7 +2,7 @@
 ghost use Rattle.std.specs.Prelude.{◌≡◌, ◌<◌, ◌^◌, ℕ, [], ◌∷◌, ◌++◌, map, Option, IfOk, IfSome, OnOk};
 ghost use Rattle.gw_base.specs.Entry.{act_view};
 ghost use Rattle.gw_base.specs.Nearest.{nearest};
-ghost use Rattle.gateway_book.specs.Answer.{changing, decided, held_ones, listed};
+ghost use Rattle.gateway_book.specs.Answer.{changing, decided, held_ones, listed, may_record};
 ghost use Rattle.gateway_book.specs.Decisions.{decision_view};
 ghost use Rattle.gateway_book.specs.Steps.{with_held};
 ghost use Rattle.gateway_book.specs.WireMarks.{AreMarked};
@@ -53,7 +53,8 @@ pub(crate) fn listed<'a, O: Observe>(
     scratch: &'a mut Scratch,
 ) -> Result<Decision<'a>, NoMemory>
     ensures { IfOk result (λ decision. decision_view decision
-        ≡ decided (listed (O.seen seen.now node) (O.room seen.now) node number release numbers.now)) }
+        ≡ decided (listed (O.seen seen.now node) (may_record (O.seen seen.now node) (O.room seen.now)) node number
+        release numbers.now)) }
 {
     let top = seen.top(node);
     name_numbers(top, numbers, &mut scratch.numbers)?;
@@ -72,7 +73,7 @@ pub(crate) fn listed<'a, O: Observe>(
     }
 }
 
-/// What a list is recorded as that changes its numbers.
+/// The act by which a list changes the states of its numbers.
 fn changing(release: bool, node: NodeId, numbers: &[Absolute]) -> Act<'_>
     ensures { act_view result ≡ changing release node numbers.now }
 {

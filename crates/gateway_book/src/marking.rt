@@ -9,12 +9,13 @@ ghost use Rattle.gw_base.specs.Entry.{act_view, entry_view};
 ghost use Rattle.gw_base.specs.History.{is_close_due};
 ghost use Rattle.gw_base.specs.TickDue.{is_tick_due};
 ghost use Rattle.gateway_book.specs.Answered.{room_for};
+ghost use Rattle.gateway_book.specs.Caller.{IsMarkTold};
 ghost use Rattle.gateway_book.specs.Calls.{closed, marked_at, ticked};
 ghost use Rattle.gateway_book.specs.Comes.{asked_to_ready};
 ghost use Rattle.gateway_book.specs.Fit.{IsFit};
 ghost use Rattle.gateway_book.specs.Followed.{all_entries};
 ghost use Rattle.gateway_book.specs.Index.{MayCome};
-ghost use Rattle.gateway_book.specs.Marking.{IsMark, with_entry};
+ghost use Rattle.gateway_book.specs.Marking.{IsMark, IsQuiet, with_entry};
 ghost use Rattle.gateway_book.specs.Marks.{close_mark, made_if, tick_mark};
 ghost use Rattle.gateway_book.specs.Value.{history_of, most_for_one, readied};
 
@@ -46,7 +47,8 @@ impl<A: Area> Book<A> {
         ensures any_moment { CrashLeaves self.old self.new }
         ensures stays { Stays self.old self.new }
         ensures cause { HasCause self.old self.new }
-        ensures device { result ≡ Marked.Device → is_closed self.new.trail ≡ true }
+        // Over every area, also one that tells nothing.
+        ensures told { IsMarkTold self.new result }
         ensures planned { AsPlanned self.old self.new (asked_to_ready (value_of self.old)) }
     {
         match self.ready() {
@@ -69,7 +71,8 @@ impl<A: Area> Book<A> {
         ensures any_moment { CrashLeaves self.old self.new }
         ensures stays { Stays self.old self.new }
         ensures cause { HasCause self.old self.new }
-        ensures device { result ≡ Marked.Device → is_closed self.new.trail ≡ true }
+        // Over every area, also one that tells nothing.
+        ensures told { IsMarkTold self.new result }
         ensures planned { AsPlanned self.old self.new (asked_to_ready (value_of self.old)) }
     {
         match self.ready() {
@@ -111,8 +114,7 @@ impl<A: Area> Book<A> {
         ensures no_memory { Told A.Area → result ≡ Marked.NoMemory → value_of self.new ≡ value_of self.old }
         ensures firm { FirmStays self.old.trail self.new.trail }
         ensures stays { Stays self.old self.new }
-        ensures uncut { self.new.cuts ≡ self.old.cuts }
-        ensures never_device { result ≢ Marked.Device }
+        ensures quiet { IsQuiet self.old self.new result }
     {
         if !self.is_tick_due(now) {
             return Marked::NotDue;
@@ -129,8 +131,7 @@ impl<A: Area> Book<A> {
         ensures no_memory { Told A.Area → result ≡ Marked.NoMemory → value_of self.new ≡ value_of self.old }
         ensures firm { FirmStays self.old.trail self.new.trail }
         ensures stays { Stays self.old self.new }
-        ensures uncut { self.new.cuts ≡ self.old.cuts }
-        ensures never_device { result ≢ Marked.Device }
+        ensures quiet { IsQuiet self.old self.new result }
     {
         a_due_close_has_room();
         if !self.is_close_due() {
@@ -151,7 +152,7 @@ impl<A: Area> Book<A> {
         ensures no_memory { Told A.Area → result ≡ Marked.NoMemory → value_of self.new ≡ value_of self.old }
         ensures firm { FirmStays self.old.trail self.new.trail }
         ensures stays { Stays self.old self.new }
-        ensures quiet { (self.new.cuts ≡ self.old.cuts) × (result ≢ Marked.Device) }
+        ensures quiet { IsQuiet self.old self.new result }
     {
         let moment = self.moment_after(now);
         let entry = Entry {

@@ -1,9 +1,8 @@
 // The nodes that an index keeps.
-ghost use Rattle.std.specs.Prelude.{◌≡◌, ◌≤◌, ◌<◌, ◌^◌, ◌++◌, ℕ, Bool, true, false, [], ◌∷◌, ◌==◌, length, slice_get, drop, map, All, IfOk, Some, vec_capacity};
+ghost use Rattle.std.specs.Prelude.{◌≡◌, ◌≤◌, ◌<◌, ◌++◌, false, [], ◌∷◌, ◌==◌, length, slice_get, map, IfOk, Some, vec_capacity};
 ghost use Rattle.std.specs.List.{list_any};
 ghost use Rattle.gw_base.specs.Known.{is_known};
 ghost use Rattle.gateway_book.specs.Nodes.{AreSlots, IsKeeping, IsLearning, IsLow, IsRemarking, fresh_slot, kept_slots, known_at, mark_of, node_at, nodes_of, remarked, settled_slot};
-ghost use Rattle.gateway_book.specs.Sides.{no_node};
 
 use crate::node_mark::NodeMark;
 use gw_base::{NoMemory, NodeId};

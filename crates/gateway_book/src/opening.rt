@@ -32,7 +32,7 @@ const NO_CALLER: Caller = Caller {
 };
 
 impl<A: Area> Book<A> {
-    ghost use Rattle.gateway_book.specs.Book.{area_of, value_of};
+    ghost use Rattle.gateway_book.specs.Book.{area_of};
 
     /// Opens a gateway's history on an area, for its address, and adds a Start where there is room for one, which isn't
     /// firm yet. It makes one sync and reads; an area whose making began, or whose octet 0 is 0, is made anew with four

@@ -1,5 +1,5 @@
 use gtpp_message::Why;
-use gw_base::{NoMemory, Short};
+use gw_base::Short;
 
 /// What a gateway is set up with.
 #[derive(Clone, Copy, Debug, PartialEq, Eq)]
@@ -97,10 +97,4 @@ pub enum ItemsFault {
     Device,
     /// There was no memory.
     NoMemory,
-}
-
-impl From<NoMemory> for ItemsFault {
-    fn from(_: NoMemory) -> ItemsFault {
-        ItemsFault::NoMemory
-    }
 }

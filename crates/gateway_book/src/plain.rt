@@ -2,7 +2,7 @@ ghost use Rattle.std.specs.Prelude.{◌≡◌, IfOk};
 ghost use Rattle.std.specs.Option.{option_map};
 ghost use Rattle.gw_base.specs.Entry.{act_view};
 ghost use Rattle.gateway_book.specs.Answer.{decided};
-ghost use Rattle.gateway_book.specs.Answered.{answer};
+ghost use Rattle.gateway_book.specs.Answered.{answer, room_for};
 ghost use Rattle.gateway_book.specs.Decisions.{decision_view};
 ghost use Rattle.gateway_book.specs.Plain.{IsBounded, answer_view};
 
@@ -10,6 +10,7 @@ use crate::answering::answer_by;
 use crate::decision::Decision;
 use crate::listed::Listed;
 use crate::listing::Scratch;
+use crate::observe::Observe;
 use crate::preparing::Prepared;
 use gtpp_message::Why;
 use gw_base::{Act, Addr, HistoryAct, HistoryEntry, NoMemory, Short};
@@ -44,6 +45,21 @@ pub fn answer(
     let mut scratch = Scratch::new(alloc)?;
     let decision = answer_by(&seen, from, datagram.case(), &mut scratch)?;
     owned(alloc, decision)
+}
+
+/// Whether a gateway with these entries, whose journal lies on an area of `size` octets, has room for
+/// an act.
+pub fn has_room(
+    alloc: Global,
+    history: &[HistoryEntry],
+    act: &Act<'_>,
+    size: u64,
+) -> Result<bool, NoMemory>
+    requires { IsBounded history.now }
+    ensures { IfOk result (λ has. has ≡ room_for history.now size (act_view act.now)) }
+{
+    let seen = Listed::of(alloc, history, size)?;
+    Ok(seen.has_room(act))
 }
 
 /// The same decision, which owns what it says.

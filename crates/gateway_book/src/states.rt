@@ -1,9 +1,7 @@
 // The states of keys.
-ghost use Rattle.std.specs.Prelude.{◌≡◌, Bool, true, false, if◌then◌else◌, IsSome, OnOk, OnErr, Some};
+ghost use Rattle.std.specs.Prelude.{◌≡◌, Bool, false, if◌then◌else◌, IsSome, OnOk, Some};
 ghost use Rattle.std.specs.BTreeMap.{get};
-ghost use Rattle.std.specs.List.{list_any};
-ghost use Rattle.std.specs.Option.{option_copied};
-ghost use Rattle.gateway_book.specs.States.{AgreeBut, IsListing, IsMarking, IsSettling, key_order, states_of, state_in};
+ghost use Rattle.gateway_book.specs.States.{AgreeBut, IsListing, IsMarking, IsSettling, states_of, state_in};
 ghost use Rattle.gateway_book.specs.Sides.{same_key};
 ghost use Rattle.gw_base.specs.declared.key_state.KeyState.TheVariants.{Fresh};
 ghost use Rattle.gw_base.specs.declared.history.PacketKey.{PacketKey};

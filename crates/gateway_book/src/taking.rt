@@ -1,5 +1,5 @@
 // What a gateway answers to a datagram.
-ghost use Rattle.std.specs.Prelude.{◌≡◌, ◌≢◌, ◌≤◌, ◌+◌, Option, true, false};
+ghost use Rattle.std.specs.Prelude.{◌≡◌, ◌≢◌, ◌≤◌, ◌+◌, Option, false};
 ghost use Rattle.gate_journal.specs.Format.{longest_batch};
 ghost use Rattle.gate_journal.specs.Moments.{Told};
 ghost use Rattle.cgf_journal.specs.Outcomes.{FirmStays};
@@ -8,13 +8,14 @@ ghost use Rattle.gw_base.specs.History.{moment_after};
 ghost use Rattle.gw_base.specs.declared.history.HistoryAct.{HistoryAct};
 ghost use Rattle.gateway_book.specs.Answer.{Says, decided, failure_answer};
 ghost use Rattle.gateway_book.specs.Answered.{answer_to};
+ghost use Rattle.gateway_book.specs.Caller.{HasStorage, IsAnswered, IsCounted, IsTold, receipt_of};
 ghost use Rattle.gateway_book.specs.Calls.{left_by, outcome_at, taken};
 ghost use Rattle.gateway_book.specs.Cases.{case_value};
 ghost use Rattle.gateway_book.specs.Comes.{asked_to_ready};
 ghost use Rattle.gateway_book.specs.Fit.{latest_moment};
 ghost use Rattle.gateway_book.specs.Followed.{all_entries};
 ghost use Rattle.gateway_book.specs.Preparing.{IsShort, IsWhole, prepared_of};
-ghost use Rattle.gateway_book.specs.Taking.{IsDone};
+ghost use Rattle.gateway_book.specs.Taking.{IsDone, IsDoneBy};
 ghost use Rattle.gateway_book.specs.Value.{history_of, most_for_one, readied};
 ghost use Rattle.gateway_book.specs.declared.outcome.Outcome.TheVariants.{NoMemory};
 
@@ -23,6 +24,7 @@ use crate::answering::failure_answer;
 use crate::book::Book;
 use crate::case::Case;
 use crate::decision::Decision;
+use crate::laws::what_is_held_can_be_released;
 use crate::observed::an_index_tells_its_history;
 use crate::preparing::Prepared;
 use crate::{Outcome, Receipt};
@@ -30,7 +32,7 @@ use area_disk::Area;
 use gw_base::{Addr, Caller, Moment, Short};
 
 impl<A: Area> Book<A> {
-    ghost use Rattle.gateway_book.specs.Book.{CrashLeaves, HasCause, IsLeft, Stays, area_of, fortune_of, size_of, value_of};
+    ghost use Rattle.gateway_book.specs.Book.{CrashLeaves, HasCause, IsLeft, Stays, fortune_of, size_of, value_of};
     ghost use Rattle.gateway_book.specs.Comes.{AsPlanned};
 
     /// Takes a datagram of this sender. A broken book is opened again first, with one call of the device; one of whose
@@ -50,7 +52,15 @@ impl<A: Area> Book<A> {
         ensures stays { Stays self.old self.new }
         ensures cause { HasCause self.old self.new }
         ensures planned { AsPlanned self.old self.new (asked_to_ready (value_of self.old)) }
+        // Over every area, also one that tells nothing.
+        ensures told { IsTold self.new from (prepared_of request.now) result }
+        // Where the device doesn't fail, no request is refused for want of resources that has room, and no release or
+        // cancel is.
+        ensures storage { Told A.Area → is_closed self.new.trail ≡ false →
+            HasStorage (history_of (readied (fortune_of self.old self.new) (value_of self.old))) from
+            (prepared_of request.now) (size_of self.old) result }
     {
+        what_is_held_can_be_released();
         let case = request.case();
         match self.ready() {
             Ok(()) => self.respond(from, case, now, who),
@@ -62,7 +72,7 @@ impl<A: Area> Book<A> {
     fn receipt(&self, reply: Short) -> Outcome
         ensures answered { Told A.Area → (act : Option HistoryAct) →
             result ≡ outcome_at (value_of self.now) (Says reply act) }
-        ensures never_memory { result ≢ NoMemory }
+        ensures said { result ≡ receipt_of self.now reply }
     {
         Outcome::Answer(Receipt {
             reply,
@@ -75,6 +85,7 @@ impl<A: Area> Book<A> {
     fn fail(&self, case: &Case<'_>) -> Outcome
         ensures answered { Told A.Area →
             result ≡ outcome_at (value_of self.now) (decided (failure_answer (case_value case.now))) }
+        ensures counted { IsCounted self.now result }
         ensures never_memory { result ≢ NoMemory }
     {
         match failure_answer(case) {
@@ -100,6 +111,7 @@ impl<A: Area> Book<A> {
         requires prepared { IsWhole (case_value case.now) × IsShort (case_value case.now) }
         ensures moved { Told A.Area → IsDone result (value_of self.old) (value_of self.new) now who
             (decided (answer_to (history_of (value_of self.old)) from (case_value case.now) (size_of self.old))) }
+        ensures decided { IsDoneBy from (case_value case.now) result }
         ensures firm { FirmStays self.old.trail self.new.trail }
         ensures stays { Stays self.old self.new }
         ensures uncut { self.new.cuts ≡ self.old.cuts }
@@ -119,9 +131,9 @@ impl<A: Area> Book<A> {
             (left_by (value_of self.old) now who (decided
             (answer_to (history_of (value_of self.old)) from (case_value case.now) (size_of self.old)))) result }
         ensures no_memory { Told A.Area → result ≡ NoMemory → value_of self.new ≡ value_of self.old }
-        ensures firm { FirmStays self.old.trail self.new.trail }
+        ensures told { IsAnswered from (case_value case.now) result × IsCounted self.new result }
+        ensures quiet { FirmStays self.old.trail self.new.trail × (self.new.cuts ≡ self.old.cuts) }
         ensures stays { Stays self.old self.new }
-        ensures uncut { self.new.cuts ≡ self.old.cuts }
     {
         match self.add_answer(from, case, now, who) {
             Done::Silent(why) => Outcome::Drop(why),

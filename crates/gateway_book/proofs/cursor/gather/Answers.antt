@@ -1,4 +1,6 @@
 use Rattle.std.proofs.Common.{ℕ, List, subst, ap, ◌∙◌, length, arith}
+use Rattle.std.specs.Prelude.{is_err}
+use Rattle.std.proofs.lemmas.Bool.{false≢true}
 use Rattle.gw_base.specs.declared.history.HistoryEntry.{HistoryEntry}
 use Rattle.gateway_book.specs.Cursor.{IsWithin}
 use Rattle.gateway_book.proofs.CursorLemmas.{end_items, stands_still}
@@ -30,7 +32,7 @@ loop-cursor-preserved g c =
       gathered = λ told h stands.
           c.in_ok-step.ensures.gathered told h (stands_still c.args.trail.now c.loop-cursor.trail h c.args.cursor.now c.loop-cursor.cursor told i.read stands (i.at told h stands)) ∙ i.gathered told h stands;
       read = read_on c.args.trail.now c.loop-cursor.trail c.step.new.trail i.read c.step.ensures.read;
-      faults = c.in_ok-step.ensures.cause.ok ∙ i.faults;
+      faults = c.in_ok-step.ensures.cause.still (λ e. false≢true (ap is_err e)) ∙ i.faults;
     }
 
 pub returns-clause-gathered : goal.returns-clause-gathered

@@ -1,4 +1,6 @@
-use Rattle.std.proofs.Common.{ℕ, refl, sym, subst, ◌∙◌}
+use Rattle.std.proofs.Common.{ℕ, refl, sym, ap, subst, ◌∙◌}
+use Rattle.std.specs.Prelude.{is_err}
+use Rattle.std.proofs.lemmas.Bool.{false≢true}
 use Rattle.gateway_book.specs.HeldCopies.{AreBelow, places_of}
 use Rattle.gateway_book.proofs.CursorLemmas.{held_still}
 use Rattle.gateway_book.proofs.ItemsLemmas.{released_end, released_on}
@@ -19,7 +21,7 @@ loop-number-preserved g c =
           (c.in_ok-add_copy.ensures.items told before (held_still c.args.trail.now before_call (places_of c.args.copies.now) before told i.read are))
           ∙ i.items told before are;
       read = read_on c.args.trail.now before_call c.add_copy.new.trail i.read c.add_copy.ensures.read;
-      faults = c.in_ok-add_copy.ensures.cause.ok ∙ i.faults;
+      faults = c.in_ok-add_copy.ensures.cause.still (λ e. false≢true (ap is_err e)) ∙ i.faults;
     }
 
 pub returns-clause-items : goal.returns-clause-items

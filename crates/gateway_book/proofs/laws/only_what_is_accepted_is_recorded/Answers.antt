@@ -3,8 +3,8 @@ use Rattle.gateway_book.specs.AnswerLaws.{records_accepted, refused_records_noth
 use Rattle.gateway_book.proofs.laws.only_what_is_accepted_is_recorded.Goals as goal
 
 pub returns-clause-records : goal.returns-clause-records
-returns-clause-records c = λ o from datagram room. records_accepted o from datagram room
+returns-clause-records c = λ o from datagram may. records_accepted o from datagram may
 
 pub returns-clause-refused : goal.returns-clause-refused
-returns-clause-refused c = λ o from datagram room number cause responded act is other.
-    refused_records_nothing (answer_by o from datagram room) (records_accepted o from datagram room) number cause responded act is other
+returns-clause-refused c = λ o from datagram may number cause responded act is other.
+    refused_records_nothing (answer_by o from datagram may) (records_accepted o from datagram may) number cause responded act is other

@@ -1,13 +1,14 @@
 use Rattle.std.proofs.Common.{false, List, sym, ap, ◌∙◌}
 use Rattle.gw_base.specs.declared.history.HistoryEntry.{HistoryEntry}
 use Rattle.gateway_book.specs.Adding.{room_in}
-use Rattle.gateway_book.specs.Answer.{answer_by, decided, node_of}
+use Rattle.gateway_book.specs.Answer.{answer_within, decided, node_of}
 use Rattle.gateway_book.specs.Answered.{answer_to}
 use Rattle.gateway_book.specs.Book.{size_of, value_of}
 use Rattle.gateway_book.specs.Cases.{case_value}
 use Rattle.gateway_book.specs.Followed.{all_entries}
 use Rattle.gateway_book.specs.Index.{observed_by}
 use Rattle.gateway_book.specs.Value.{history_of}
+use Rattle.gateway_book.proofs.CallerLemmas.{done_by}
 use Rattle.gateway_book.proofs.StandingLemmas.{stands_firm}
 use Rattle.gateway_book.proofs.TakingLemmas.{answered_is, done_is, firm_stays, followed_answer, history_is, recorded_is_fit, said_is_some}
 use Rattle.gateway_book.proofs.book.Book.add_answer.Goals as goal
@@ -18,7 +19,7 @@ invariant_of-self g c =
     let from = c.args.from in
     let datagram = case_value c.args.case.now in
     let moment = c.moment_after-moment.result in
-    let decision = decided (answer_by (observed_by false book.index (node_of from)) from datagram (room_in book.trail moment c.args.who)) in
+    let decision = decided (answer_within (observed_by false book.index (node_of from)) from datagram (room_in book.trail moment c.args.who)) in
     record {
       followed = followed_answer book.trail c.answer.new.trail book.index c.answer.new.index moment c.args.who decision c.answer.result book.followed c.answer.ensures.silent c.answer.ensures.said c.answer.ensures.no_memory
           (λ told reply a is says.
@@ -36,7 +37,7 @@ returns-clause-moved g c = λ told.
     let from = c.args.from in
     let datagram = case_value c.args.case.now in
     let moment = c.moment_after-moment.result in
-    let decision = decided (answer_by (observed_by false book.index (node_of from)) from datagram (room_in book.trail moment c.args.who)) in
+    let decision = decided (answer_within (observed_by false book.index (node_of from)) from datagram (room_in book.trail moment c.args.who)) in
     let at = c.moment_after-moment.ensures.after told in
     let seen = c.an_index_tells_its_history.ensures.observed false book.index (all_entries book.trail) (node_of from) (book.followed.live told) in
     done_is book.trail c.answer.new.trail book.index c.answer.new.index moment c.args.who decision c.args.now book.cuts (decided (answer_to (history_of (value_of book)) from datagram (size_of book))) c.answer.result c.requires.open at
@@ -50,5 +51,11 @@ pub returns-clause-firm : goal.returns-clause-firm
 returns-clause-firm g c =
     let book = c.args.self.now in
     let moment = c.moment_after-moment.result in
-    let decision = decided (answer_by (observed_by false book.index (node_of c.args.from)) c.args.from (case_value c.args.case.now) (room_in book.trail moment c.args.who)) in
+    let decision = decided (answer_within (observed_by false book.index (node_of c.args.from)) c.args.from (case_value c.args.case.now) (room_in book.trail moment c.args.who)) in
     firm_stays book.trail c.answer.new.trail book.index c.answer.new.index moment c.args.who decision c.answer.result c.answer.ensures.silent c.answer.ensures.said c.answer.ensures.no_memory
+
+pub returns-clause-decided : goal.returns-clause-decided
+returns-clause-decided g c =
+    let book = c.args.self.now in
+    done_by c.args.from (case_value c.args.case.now) (observed_by false book.index (node_of c.args.from)) (room_in book.trail c.moment_after-moment.result c.args.who) c.answer.result
+    (λ why e. (c.answer.ensures.silent why e).0) (λ reply e. ((c.answer.ensures.said reply e).0, (c.answer.ensures.said reply e).1))

@@ -1,0 +1,123 @@
+-- What a book's calls tell their caller.
+use Rattle.std.proofs.Common.{◌≡◌, ◌≢◌, ⊎_elim, inr, ℕ, Bool, true, false, List, [], ◌∷◌, Option, refl, sym, ap, ◌∙◌, arith}
+use Rattle.std.proofs.lemmas.Bool.{false≢true}
+use Rattle.entry_codec.specs.Room.{IsWithin}
+use Rattle.gtpp_message.specs.Message.{Cancel, MessageValue, Release, TransferValue, EchoRequest, EchoResponse, VersionNotSupported, NodeAliveRequest, NodeAliveResponse, RedirectionRequest, RedirectionResponse, TransferRequest, TransferResponse}
+use Rattle.gtpp_message.specs.Writing.{written}
+use Rattle.gtpp_message.specs.declared.reading.Why.{Why}
+use Rattle.gtpp_message.specs.declared.reading.Why.TheVariants.{Device}
+use Rattle.gw_base.specs.Observed.{Observed, observed}
+use Rattle.gw_base.specs.declared.address.Addr.{Addr}
+use Rattle.gw_base.specs.declared.cause.TheConstants.{NO_RESOURCES, SYSTEM_FAILURE}
+use Rattle.gw_base.specs.declared.history.HistoryAct.{HistoryAct}
+use Rattle.gw_base.specs.declared.history.HistoryEntry.{HistoryEntry}
+use Rattle.gateway_book.specs.Answer.{Decided, Drops, Given, Replies, Says, Silent, answer_within, decided, may_record, node_of}
+use Rattle.gateway_book.specs.Answered.{answer_to, room_for}
+use Rattle.gateway_book.specs.Caller.{AnswersBy, HasStorage, IsAnswered, IsServed, TellsFault}
+use Rattle.gateway_book.specs.Calls.{outcome_at}
+use Rattle.gateway_book.specs.FaultLaws.{running_tells_none}
+use Rattle.gateway_book.specs.Preparing.{PreparedValue, Request, prepared_of}
+use Rattle.gateway_book.specs.Recording.{is_without_resources, tells_a_fault}
+use Rattle.gateway_book.specs.ResourceLaws.{room_is_enough}
+use Rattle.gateway_book.specs.Taking.{IsDoneBy}
+use Rattle.gateway_book.specs.Value.{BookValue}
+use Rattle.gateway_book.specs.declared.adding.Done.{Done}
+use Rattle.gateway_book.specs.declared.adding.Done.TheVariants as done
+use Rattle.gateway_book.specs.declared.outcome.Outcome.{Outcome}
+use Rattle.gateway_book.specs.declared.outcome.Outcome.TheVariants.{Answer, Drop, NoMemory}
+use Rattle.gateway_book.specs.declared.outcome.Receipt.{Receipt}
+
+-- ---- the cause that a reply's octets tell
+
+-- the octets of a message's type and of a response's cause
+abbrev type_in : List ℕ → ℕ
+type_in (flags ∷ kind ∷ rest) = kind
+type_in _ = 0
+
+abbrev cause_in : List ℕ → ℕ
+cause_in (flags ∷ kind ∷ length_high ∷ length_low ∷ number_high ∷ number_low ∷ element ∷ cause ∷ rest) = cause
+cause_in _ = 0
+
+-- the message is a response with this cause
+abbrev IsBy : ℕ → MessageValue → Type 0
+IsBy cause message = (responded : List ℕ) × (message ≡ TransferResponse cause responded)
+
+by_octets : (number n cause : ℕ) (message : MessageValue) → written n message ≡ written number (TransferResponse cause (number ∷ [])) → IsBy cause message
+by_octets number n cause EchoRequest same = let kind : 1 ≡ 241 = ap type_in same in absurd (omega (arith, kind))
+by_octets number n cause (EchoResponse counter) same = let kind : 2 ≡ 241 = ap type_in same in absurd (omega (arith, kind))
+by_octets number n cause VersionNotSupported same = let kind : 3 ≡ 241 = ap type_in same in absurd (omega (arith, kind))
+by_octets number n cause (NodeAliveRequest address) same = let kind : 4 ≡ 241 = ap type_in same in absurd (omega (arith, kind))
+by_octets number n cause NodeAliveResponse same = let kind : 5 ≡ 241 = ap type_in same in absurd (omega (arith, kind))
+by_octets number n cause (RedirectionRequest why to) same = let kind : 6 ≡ 241 = ap type_in same in absurd (omega (arith, kind))
+by_octets number n cause (RedirectionResponse why) same = let kind : 7 ≡ 241 = ap type_in same in absurd (omega (arith, kind))
+by_octets number n cause (TransferRequest body) same = let kind : 240 ≡ 241 = ap type_in same in absurd (omega (arith, kind))
+by_octets number n cause (TransferResponse other responded) same = (responded, ap (λ (c : ℕ). TransferResponse c responded) (ap cause_in same))
+
+tells_by : (n : ℕ) (message : MessageValue) (act : Option HistoryAct) → IsBy SYSTEM_FAILURE message → tells_a_fault (Replies n message act) ≡ true
+tells_by n message act is = ap (λ (m : MessageValue). tells_a_fault (Replies n m act)) is.1
+
+lacks_by : (n : ℕ) (message : MessageValue) (act : Option HistoryAct) → IsBy NO_RESOURCES message → is_without_resources (Replies n message act) ≡ true
+lacks_by n message act is = ap (λ (m : MessageValue). is_without_resources (Replies n m act)) is.1
+
+abbrev octets_of : Decided → List ℕ
+octets_of (Silent why) = []
+octets_of (Says octets act) = octets
+
+-- ---- a running book tells no fault
+
+module _ (from : Addr) (octets : List ℕ) where
+  never_dropped : (given : Given) → tells_a_fault given ≡ false → ¬ (decided given ≡ Silent Device)
+  never_dropped (Drops why) sound same = let is : why ≡ Device = cc same in false≢true (sym sound ∙ ap (λ (w : Why). tells_a_fault (Drops w)) is)
+  never_dropped (Replies n message act) sound same = cc same
+
+  never_failed : (given : Given) → tells_a_fault given ≡ false → (number : ℕ) (reply : List ℕ) (act : Option HistoryAct) → decided given ≡ Says reply act
+      → ¬ (reply ≡ written number (TransferResponse SYSTEM_FAILURE (number ∷ [])))
+  never_failed (Drops why) sound number reply act same is = cc same
+  never_failed (Replies n message other) sound number reply act same is =
+      false≢true (sym sound ∙ tells_by n message other (by_octets number n SYSTEM_FAILURE message (ap octets_of same ∙ is)))
+
+  -- what the definition decides tells no fault
+  pub running_is_sound : (result : Outcome) → IsAnswered from (prepared_of octets) result → ¬ (TellsFault result)
+  running_is_sound (Drop why) is = ⊎_elim
+      (λ e. let dropped : why ≡ Device = cc e in never_dropped (answer_within is.0 from (prepared_of octets) is.1) (running_tells_none is.0 from octets (may_record is.0 is.1)) (is.2 ∙ ap (λ (w : Why). Silent w) dropped))
+      (λ by. cc (by.1.1))
+  running_is_sound (Answer receipt) is = ⊎_elim (λ e. cc e)
+      (λ by.
+      let same : receipt ≡ by.1.0 = cc (by.1.1) in
+      never_failed (answer_within is.1.0 from (prepared_of octets) is.1.1) (running_tells_none is.1.0 from octets (may_record is.1.0 is.1.1)) by.0 receipt.reply is.0 is.1.2
+      (ap (λ (r : Receipt). r.reply) same ∙ by.1.2))
+  running_is_sound NoMemory is = ⊎_elim (λ e. cc e) (λ by. cc (by.1.1))
+
+-- what was done is what the definition decides by an index
+pub done_by : (from : Addr) (datagram : PreparedValue) (o : Observed) (room : HistoryAct → Bool) (finished : Done) → ((why : Why) → finished ≡ done.Silent why → decided (answer_within o from datagram room) ≡ Silent why)
+    → ((reply : List ℕ) → finished ≡ done.Said reply → (a : Option HistoryAct) × (decided (answer_within o from datagram room) ≡ Says reply a)) → IsDoneBy from datagram finished
+done_by from datagram o room (done.Silent why) silent said = (o, room, silent why refl)
+done_by from datagram o room (done.Said reply) silent said = ((said reply refl).0, (o, room, (said reply refl).1))
+done_by from datagram o room done.NoMemory silent said = tt
+
+-- ---- what is stored leaves room
+
+never_refused : (given : Given) → is_without_resources given ≡ false → (after : BookValue) (result : Outcome) → (result ≢ NoMemory → result ≡ outcome_at after (decided given)) → (number : ℕ) → ¬ (AnswersBy number NO_RESOURCES result)
+never_refused (Drops why) has after result is number by =
+    let dropped : Answer by.0 ≡ Drop why = sym by.1 ∙ is (λ (none : result ≡ NoMemory). let both : Answer by.0 ≡ NoMemory = sym by.1 ∙ none in cc both) in cc dropped
+never_refused (Replies n message act) has after result is number by =
+    let same : Answer by.0 ≡ outcome_at after (Says (written n message) act) = sym by.1 ∙ is (λ (none : result ≡ NoMemory). let both : Answer by.0 ≡ NoMemory = sym by.1 ∙ none in cc both) in
+    let reply : by.0.reply ≡ written n message = cc same in
+    false≢true (sym has ∙ lacks_by n message act (by_octets number n NO_RESOURCES message (sym reply ∙ by.2)))
+
+-- the laws of releases and cancels
+abbrev pub HasResources : (List ℕ → TransferValue) → Type 0
+HasResources asked = (h : List HistoryEntry) (size : ℕ) (from : Addr) (number : ℕ) (numbers : List ℕ) → IsWithin h size → is_without_resources (answer_to h from (Request number (asked numbers)) size) ≡ false
+
+module _ (release : HasResources Release) (cancel : HasResources Cancel) (h : List HistoryEntry) (size : ℕ) (from : Addr) (datagram : PreparedValue) (after : BookValue) (result : Outcome)
+    (within : IsWithin h size) (is : result ≢ NoMemory → result ≡ outcome_at after (decided (answer_to h from datagram size))) (runs : ¬ (TellsFault result)) where
+  served : (number : ℕ) → is_without_resources (answer_to h from datagram size) ≡ false → IsServed number result
+  served number has = (never_refused (answer_to h from datagram size) has after result is number, λ by. runs (inr (number, by)))
+
+  pub has_storage : HasStorage h from datagram size result
+  has_storage = record {
+    request = λ number body e limits room. served number
+        (ap (λ (d : PreparedValue). is_without_resources (answer_to h from d size)) e ∙ room_is_enough (observed h (node_of from)) from number body (room_for h size) limits room);
+    release = λ number numbers e. served number (ap (λ (d : PreparedValue). is_without_resources (answer_to h from d size)) e ∙ release h size from number numbers within);
+    cancel = λ number numbers e. served number (ap (λ (d : PreparedValue). is_without_resources (answer_to h from d size)) e ∙ cancel h size from number numbers within);
+  }
