@@ -1,12 +1,11 @@
 -- A draft's octets with one more record are the value of the packet with that record.
-use Rattle.std.proofs.Common.{◌≡◌, ℕ, zero, suc, ◌+◌, ◌/◌, ◌%◌, ◌==◌, ◌≤◌, ◌<◌, ◌≢◌, Bool, true, false, cond, if◌then◌else◌, nat_lt, List, [], ◌∷◌, ◌++◌, length, drop, Option, Some, None, unwrap_or, option_map, refl, ap, sym, ◌∙◌, arith, length-append, subst}
+use Rattle.std.proofs.Common.{◌≡◌, ℕ, ◌+◌, ◌/◌, ◌%◌, ◌==◌, ◌≤◌, ◌<◌, Bool, true, false, if◌then◌else◌, nat_lt, List, [], ◌∷◌, ◌++◌, length, Option, Some, None, unwrap_or, option_map, refl, ap, sym, ◌∙◌, arith, length-append, subst}
 use Rattle.std.specs.List.{All, flat_map}
 use Rattle.std.proofs.lemmas.Bool.{eqb-false, le-ltb, lt-ltb, ltb-false, ltb-true}
 use Rattle.std.proofs.lemmas.List.{append-nil}
 use Rattle.std.proofs.lemmas.List.Elements.{All-append, All-nil, All-cons}
-use Rattle.gtpp_message.specs.Packet.{PacketForm, packet_of, records_at, records_in}
+use Rattle.gtpp_message.specs.Packet.{PacketForm, packet_of, records_at}
 use Rattle.gtpp_message.specs.PacketWriting.{IsForm, record_octets, value_of, with_record, with_record_octets}
-use Rattle.node_core.specs.declared.fault.DraftFault.{DraftFault}
 use Rattle.node_core.specs.declared.fault.DraftFault.TheVariants.{Count, TooBig}
 use Rattle.node_core.specs.Drafts.{IsDraft, addition_fault, ber_refusal, form_in, grown, grown_length, kept_fault, records_among, request_length, stated_records, value_octets, value_octets_of}
 

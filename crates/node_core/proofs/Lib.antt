@@ -23,6 +23,7 @@ pub mod ReachedLemmas
 pub mod SingleLemmas
 pub mod RolesLemmas
 pub mod NearLemmas
+pub mod PatternLemmas
 pub mod ReleasedLemmas
 pub mod SoonLemmas
 pub mod LeastLemmas

@@ -1,13 +1,11 @@
 -- Packets that bear the numbers that follow one.
-use Rattle.std.proofs.Common.{◌≡◌, ℕ, zero, suc, ◌+◌, ◌-◌, ◌≤◌, ◌<◌, ◌==◌, Bool, true, false, cond, if◌then◌else◌, List, [], ◌∷◌, ◌++◌, length, map, take, drop, get_or, inl, inr, ◌⊎◌, Option, Some, None, refl, sym, ap, subst, ◌∙◌, arith}
+use Rattle.std.proofs.Common.{◌≡◌, ℕ, suc, ◌+◌, ◌-◌, ◌≤◌, ◌<◌, ◌==◌, Bool, true, false, List, [], ◌∷◌, ◌++◌, length, map, inl, inr, None, refl, ◌∙◌, arith}
 use Rattle.std.proofs.lemmas.Bool.Decides.{eqb_tells}
-use Rattle.std.specs.List.{find, flat_map}
+use Rattle.std.specs.List.{find}
 use Rattle.std.specs.Prelude.{slice_get}
-use Rattle.node_core.specs.declared.copy.PacketCopy.{PacketCopy}
 use Rattle.node_core.specs.declared.sending.Sending.{Sending}
-use Rattle.node_core.specs.declared.sending.Sending.TheVariants as send
-use Rattle.node_core.specs.Packets.{PacketState, is_done, is_of, packet_after, packet_after_all, packet_hearing, while_open}
-use Rattle.node_core.specs.Sound.{AllDone, AreNumbered}
+use Rattle.node_core.specs.Packets.{PacketState, is_done, is_of, packet_after, packet_after_all, while_open}
+use Rattle.node_core.specs.Sound.{AreNumbered}
 
 -- the packet with a number is found by its place
 pub none_numbered : (before number : ℕ) (packets : List PacketState) → AreNumbered before packets → number ≤ before →

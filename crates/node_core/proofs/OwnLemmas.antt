@@ -13,8 +13,8 @@ use Rattle.node_core.specs.declared.sending.Sending.{Sending}
 use Rattle.node_core.specs.Copies.{is_answered, is_held}
 use Rattle.node_core.specs.Packets.{PacketState, chosen, is_done, is_of, packet_after, packet_after_all, while_open}
 use Rattle.node_core.specs.Peers.{all_drawn}
-use Rattle.node_core.specs.Sendings.{asking, command_by, command_of, command_unless, copy_to, due_by_copies, due_by_verdict, due_for, due_for_all, probe_of, probes, probes_from, releasing, repeating, settling, settling_beside, settling_by}
-use Rattle.node_core.specs.Sound.{AllDone, AreNumbered, IsSettled, KeptPackets, planned}
+use Rattle.node_core.specs.Sendings.{asking, command_by, command_unless, copy_to, due_by_copies, due_by_verdict, due_for, due_for_all, probe_of, probes, probes_from, releasing, repeating, settling, settling_beside, settling_by}
+use Rattle.node_core.specs.Sound.{AreNumbered, IsSettled, KeptPackets, planned}
 use Rattle.node_core.specs.Ticks.{due_by}
 use Rattle.node_core.proofs.NumberedLemmas.{after-number}
 use Rattle.node_core.proofs.SettledLemmas.{changed_settled, due_settled}

@@ -1,5 +1,5 @@
 -- Which numbers a response names, one number after the other.
-use Rattle.std.proofs.Common.{◌≡◌, ℕ, zero, suc, ◌+◌, ◌<◌, ◌==◌, ◌||◌, Bool, false, List, [], ◌∷◌, length, map, drop, get_or, refl, add-one, arith}
+use Rattle.std.proofs.Common.{◌≡◌, ℕ, zero, suc, ◌+◌, ◌<◌, ◌==◌, ◌||◌, false, List, [], ◌∷◌, length, map, drop, get_or, refl, add-one, arith}
 use Rattle.node_core.specs.Copies.{names}
 
 at : (f : ℕ → ℕ) (numbers : List ℕ) (number k : ℕ) → k < length numbers →

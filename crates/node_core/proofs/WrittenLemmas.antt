@@ -1,5 +1,5 @@
 -- How long a message is.
-use Rattle.std.proofs.Common.{◌≡◌, ℕ, ◌+◌, ◌≤◌, None, length, lit≤, refl, arith}
+use Rattle.std.proofs.Common.{◌≡◌, ℕ, ◌+◌, ◌≤◌, None, length, lit≤, arith}
 use Rattle.gtpp_message.specs.Message.{MessageValue}
 use Rattle.gtpp_message.specs.PathMessages.{path_message, path_number}
 use Rattle.gtpp_message.specs.Writing.{body_octets, written}

@@ -11,7 +11,6 @@ use Rattle.gtpp_message.specs.declared.reading.Why.{Why}
 use Rattle.gtpp_message.specs.declared.reading.Why.TheVariants.{Stray}
 use Rattle.gtpp_message.specs.declared.role.Role.TheVariants.{Node}
 use Rattle.gw_base.specs.Nearest.{nearest}
-use Rattle.gw_base.specs.declared.address.NodeId.{NodeId}
 use Rattle.gw_base.specs.declared.address.Addr.{Addr}
 use Rattle.gw_base.specs.declared.cause.TheConstants.{ACCEPTED}
 use Rattle.gw_base.specs.declared.packet.PacketId.{PacketId}

@@ -15,6 +15,7 @@ pub mod Drafts
 -- Steps of proofs, and private clauses.
 pub mod NodeFields
 pub mod Sound
+pub mod Patterns
 -- What the laws say.
 pub mod Reached
 pub mod Resting

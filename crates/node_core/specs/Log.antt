@@ -1,6 +1,6 @@
 -- The log of a node: what befell it, the newest first, and what the node is by it. All but the counts, the restart
 -- counter and the number of packets begins anew at each start, and a halt forgets it.
-use Rattle.std.specs.Prelude.{ℕ, suc, ◌+◌, ◌%◌, ◌==◌, Bool, true, false, if◌then◌else◌, List, [], ◌∷◌, ◌++◌, length, map, count_by, Option}
+use Rattle.std.specs.Prelude.{ℕ, suc, ◌+◌, ◌%◌, ◌==◌, Bool, true, false, if◌then◌else◌, List, [], ◌∷◌, ◌++◌, map, count_by, Option}
 use Rattle.gtpp_message.specs.Packet.{PacketForm}
 use Rattle.gw_base.specs.declared.address.Addr.{Addr}
 use Rattle.path_mgmt.specs.NodePath.{PathsOfNode, node_after, node_anew}

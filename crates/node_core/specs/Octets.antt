@@ -1,10 +1,9 @@
 -- The datagrams that a node sends of its own accord (3GPP TS 32.295, clause 6.2).
-use Rattle.std.specs.Prelude.{ℕ, ◌%◌, ◌-◌, suc, ◌+◌, Bool, true, false, List, [], ◌∷◌, length, map, Option, Some, None, slice_get}
+use Rattle.std.specs.Prelude.{ℕ, ◌%◌, ◌-◌, suc, Bool, true, false, List, [], ◌∷◌, length, Option, Some, None, slice_get}
 use Rattle.std.specs.Option.{option_map_or}
 use Rattle.byteorder.specs.Endian.{big_bytes}
 use Rattle.gtpp_message.specs.Message.{MessageValue, NodeAliveRequest, TransferRequest, TransferValue, Send, Possible, Cancel, Release}
-use Rattle.gtpp_message.specs.Packet.{PacketForm, PacketValue, Empty, Full}
-use Rattle.gtpp_message.specs.PacketWriting.{value_of}
+use Rattle.gtpp_message.specs.Packet.{PacketValue, Empty}
 use Rattle.gtpp_message.specs.Writing.{written}
 use Rattle.node_core.specs.declared.copy.Order.{Order}
 use Rattle.node_core.specs.declared.copy.Order.TheVariants as order

@@ -1,6 +1,6 @@
 -- The gateways of a node, and the numbers that it draws for each: path numbers from 0, which return to 0 behind
 -- 65,535, and request numbers from 65,536 on, of which the wire carries the last 16 bits.
-use Rattle.std.specs.Prelude.{ℕ, suc, min, ◌+◌, ◌-◌, ◌%◌, ◌==◌, Bool, if◌then◌else◌, List, [], ◌∷◌, map, Option, Some, None, slice_get, slice_set}
+use Rattle.std.specs.Prelude.{ℕ, suc, min, ◌+◌, ◌-◌, ◌%◌, ◌==◌, Bool, if◌then◌else◌, List, [], ◌∷◌, Option, slice_get, slice_set}
 use Rattle.std.specs.List.{position}
 use Rattle.std.specs.Option.{option_map_or}
 use Rattle.gw_base.specs.declared.address.Addr.{Addr}

@@ -1,5 +1,5 @@
 -- What the request numbers of a gateway are used for: each that was drawn since the start is the number of one copy, or
--- of one release or cancel; and numbers rise.
+-- of one release or cancel; and what a tick draws.
 use Rattle.std.specs.Prelude.{◌≡◌, ◌≢◌, ℕ, ◌+◌, ◌<◌, ◌≤◌, ◌==◌, true, false, if◌then◌else◌, All, AllPairs, IfSome, List, [], ◌∷◌, length, Option, Some, None}
 use Rattle.node_core.specs.declared.copy.Command.{Command}
 use Rattle.node_core.specs.declared.copy.PacketCopy.{PacketCopy}

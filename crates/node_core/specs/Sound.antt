@@ -1,8 +1,7 @@
 -- What holds of every node (steps of the proof).
-use Rattle.std.specs.Prelude.{◌≡◌, ℕ, zero, suc, ◌≤◌, ◌<◌, ◌+◌, ◌-◌, ◌^◌, Bool, true, List, [], ◌∷◌, ◌++◌, length, take, drop}
+use Rattle.std.specs.Prelude.{◌≡◌, ℕ, suc, ◌≤◌, Bool, true, List, [], ◌∷◌, length, take}
 use Rattle.std.specs.List.{All}
 use Rattle.node_core.specs.declared.peer.Peer.{Peer}
-use Rattle.node_core.specs.declared.sending.Sending.{Sending}
 use Rattle.node_core.specs.Packets.{PacketState, is_done, packet_after_all}
 use Rattle.node_core.specs.Peers.{all_drawn, end_of_numbers}
 use Rattle.node_core.specs.Sendings.{due_for}

@@ -1,10 +1,9 @@
 -- Whether a node takes a packet: at most 64 are open, and the numbers of each gateway that open packets have stay in
 -- one window of 16,384.
-use Rattle.std.specs.Prelude.{ℕ, suc, min, ◌-◌, ◌==◌, nat_le, Bool, not, if◌then◌else◌, List, [], ◌∷◌, map, filter, length, Option, Some, None, count_by}
+use Rattle.std.specs.Prelude.{ℕ, suc, min, ◌-◌, ◌==◌, nat_le, not, if◌then◌else◌, List, [], ◌∷◌, map, filter, Option, Some, None, count_by}
 use Rattle.std.specs.List.{flat_map}
 use Rattle.std.specs.Option.{option_or}
 use Rattle.gtpp_message.specs.Packet.{PacketForm}
-use Rattle.gw_base.specs.declared.address.NodeId.{NodeId}
 use Rattle.gw_base.specs.declared.packet.PacketId.{PacketId}
 use Rattle.node_core.specs.declared.copy.PacketCopy.{PacketCopy}
 use Rattle.node_core.specs.declared.fault.SubmitFault.{SubmitFault}

@@ -1,11 +1,10 @@
 -- What a node is by its log, and what one more entry makes of it.
-use Rattle.std.specs.Prelude.{◌≡◌, ℕ, suc, min, ◌+◌, ◌%◌, ◌==◌, Bool, true, false, IsTrue, if◌then◌else◌, List, [], ◌∷◌, ◌++◌, length, map}
+use Rattle.std.specs.Prelude.{◌≡◌, ℕ, suc, min, ◌+◌, ◌%◌, ◌==◌, Bool, true, false, IsTrue, if◌then◌else◌, List, [], ◌∷◌, ◌++◌, map}
 use Rattle.gtpp_message.specs.Packet.{PacketForm}
-use Rattle.gw_base.specs.declared.address.Addr.{Addr}
 use Rattle.path_mgmt.specs.NodePath.{PathsOfNode, node_anew}
 use Rattle.node_core.specs.declared.counts.Tally.{Tally}
 use Rattle.node_core.specs.declared.peer.Peer.{Peer}
-use Rattle.node_core.specs.Log.{LogEntry, Began, Halted, Submitted, Appointed, Ticked, Heard, NodeSetup, counter_of, favourite, forms_of, has_entries, packets_hearing, packets_of, paths_hearing, paths_of, peers_of, quiet_ticks, runs, submitted, tally_before, with_those}
+use Rattle.node_core.specs.Log.{LogEntry, Began, Halted, Submitted, Appointed, Ticked, Heard, NodeSetup, favourite, forms_of, has_entries, packets_hearing, packets_of, paths_hearing, paths_of, peers_of, quiet_ticks, runs, submitted, tally_before, with_those}
 use Rattle.node_core.specs.Packets.{PacketState, packet_after_all, while_open}
 use Rattle.node_core.specs.Peers.{all_drawn, peer_anew}
 

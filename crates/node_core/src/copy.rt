@@ -1,4 +1,4 @@
-ghost use Rattle.std.specs.Prelude.{◌≡◌, option_map, IfSome};
+ghost use Rattle.std.specs.Prelude.{◌≡◌, option_map};
 ghost use Rattle.node_core.specs.Copies.{command_hearing, copy_hearing, copy_hearing_own, first_told, is_answered, is_chosen, is_filed, is_filing, is_fulfilled, is_held, is_release, is_released, is_sealed, is_settled, is_unknown, new_copy, told, told_if};
 
 use crate::port::Port;

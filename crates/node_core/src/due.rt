@@ -2,7 +2,7 @@
 
 ghost use Rattle.std.specs.Prelude.{◌≡◌, ◌++◌, [], if◌then◌else◌, OnOk};
 ghost use Rattle.std.specs.List.{flat_map};
-ghost use Rattle.node_core.specs.Sendings.{again, asking, command_by, command_of, copy_to, due_by_copies, due_by_verdict, due_for, releasing, repeating, settling, settling_beside, test_of};
+ghost use Rattle.node_core.specs.Sendings.{again, asking, command_by, command_of, copy_to, due_by_copies, due_by_verdict, due_for, repeating, settling, settling_beside, test_of};
 
 use crate::copies;
 use crate::copy::{Order, PacketCopy, Verdict};

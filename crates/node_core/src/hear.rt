@@ -18,7 +18,7 @@ use crate::peer::{last_number, place_of};
 use crate::port::Port;
 use crate::responded::Responded;
 use gtpp_elements::Numbers;
-use gtpp_message::{Message, Reading, Role, Why, read_as, reply};
+use gtpp_message::{Message, Reading, Role, Why, read_as, write_short};
 use gw_base::cause::ACCEPTED;
 use gw_base::{Addr, NodeId, PacketId, Short};
 use path_mgmt::PathEvent;
@@ -59,11 +59,11 @@ impl Node {
                 self.hear_other(
                     port,
                     gateway,
-                    Some(reply(number, &Message::VersionNotSupported)),
+                    Some(write_short(number, &Message::VersionNotSupported)),
                 )
             }
             Reading::Refused { cause, number, .. } => {
-                let answer = reply(number, &Message::RedirectionResponse { cause });
+                let answer = write_short(number, &Message::RedirectionResponse { cause });
                 self.hear_other(port, gateway, Some(answer))
             }
             Reading::Message { number, message } => {
@@ -139,7 +139,7 @@ impl Node {
         self.end_quiet(gateway);
         self.appoint(moved);
         let answer = Message::RedirectionResponse { cause: ACCEPTED };
-        replying(Some(reply(number, &answer)))
+        replying(Some(write_short(number, &answer)))
     }
 
     /// Hears a Data Record Transfer Response.
@@ -296,5 +296,5 @@ fn path_octets(event: PathEvent) -> Short
     ensures { result ≡ path_octets event }
 {
     let (number, message) = Message::of_path(event, None);
-    reply(number, &message)
+    write_short(number, &message)
 }

@@ -76,7 +76,7 @@ pub fn each_number_has_one_role()
 {}
 
 /// Numbers rise: each request number that a tick draws is at least the gateway's next one before it and
-/// below the next one after it, and no next number falls.
+/// below the next one after it, and no next number falls by it.
 pub fn numbers_rise()
     ensures drawn { (setup : NodeSetup) (calls : List NodeCall) → 1 ≤ length setup.gateways →
         (reached setup calls).is_running ≡ true →

@@ -18,6 +18,7 @@ mod node;
 mod node_packet;
 mod outgoing;
 mod packets;
+mod patterns;
 mod peer;
 mod plan;
 mod port;

@@ -1,6 +1,6 @@
 //! How the log of a node grows. Each law stands on a function that does nothing.
 
-ghost use Rattle.std.specs.Prelude.{◌≡◌, ℕ, List, ◌∷◌, []};
+ghost use Rattle.std.specs.Prelude.{◌≡◌, ℕ, List, ◌∷◌};
 ghost use Rattle.gw_base.specs.declared.address.Addr.{Addr};
 ghost use Rattle.node_core.specs.declared.port.Port.{Port};
 ghost use Rattle.node_core.specs.Hearing.{heard_entries};
@@ -23,8 +23,9 @@ pub fn ticks_and_messages_follow_every_log()
         CanFollowAll (heard_entries node port from octets) log }
 {}
 
-/// A node after one more call is what befalls it by that call. So a node that each of its calls moves
-/// so is one that its calls reach, and what holds of every such node holds of it.
+/// One more call makes of a node what befalls it by that call. So a node that is moved call by call is
+/// the one that the list of these calls reaches, and what the laws say of every list of calls holds of
+/// it.
 pub fn each_call_goes_on()
     ensures { (setup : NodeSetup) (call : NodeCall) (calls : List NodeCall) → reached setup (call ∷ calls)
         ≡ befallen (call_entries (reached setup calls) call) (reached setup calls) }

@@ -5,16 +5,16 @@ ghost use Rattle.gtpp_message.specs.Message.{TransferRequest};
 ghost use Rattle.gtpp_message.specs.Values.{message_value, packet_value};
 ghost use Rattle.gtpp_message.specs.Writing.{body_octets, written};
 ghost use Rattle.gtpp_message.specs.Packet.{packet_octets};
-ghost use Rattle.node_core.specs.Octets.{octets_of, order_of, outgoing, packet_numbered, wire};
+ghost use Rattle.node_core.specs.Octets.{octets_of, outgoing, packet_numbered, wire};
+ghost use Rattle.node_core.specs.Patterns.{the_patterns};
 
-use crate::copy::Order;
 use crate::draft::MOST_VALUE_OCTETS;
 use crate::message::Outgoing;
 use crate::node::Node;
+use crate::patterns::Patterns;
 use crate::peer::address_at;
 use crate::sending::Sending;
-use gtpp_elements::Numbers;
-use gtpp_message::{Message, Packet, Transfer, reply, write};
+use gtpp_message::{Message, Packet, Transfer, write, write_short};
 use gw_base::{Buffer, NoMemory, Octets};
 use std::alloc::Global;
 
@@ -31,29 +31,42 @@ impl Node {
     ) -> Result<Vec<Outgoing>, NoMemory>
         ensures { IfOk result (λ sent. sent.items ≡ map (outgoing self.now) sendings.now) }
     {
+        let patterns = Patterns::spelled();
         let mut sent = Vec::with_capacity(alloc, sendings.len())?;
         for sending in sendings {
-            sent.push(self.datagram(alloc, sending)?)?;
+            sent.push(self.datagram(alloc, &patterns, sending)?)?;
         }
         Ok(sent)
     }
 
     /// The datagram of a sending.
-    fn datagram(&self, alloc: Global, sending: &Sending) -> Result<Outgoing, NoMemory>
+    fn datagram(
+        &self,
+        alloc: Global,
+        patterns: &Patterns,
+        sending: &Sending,
+    ) -> Result<Outgoing, NoMemory>
+        requires { patterns.now ≡ the_patterns }
         ensures { IfOk result (λ datagram. datagram ≡ outgoing self.now sending.now) }
     {
         let (port, gateway, number, named) = sending.fields();
         Ok(Outgoing {
             port,
             to: address_at(&self.gateways, gateway),
-            octets: self.octets_of(alloc, sending)?,
+            octets: self.octets_of(alloc, patterns, sending)?,
             number,
             named,
         })
     }
 
     /// The octets of a sending.
-    fn octets_of(&self, alloc: Global, sending: &Sending) -> Result<Octets, NoMemory>
+    fn octets_of(
+        &self,
+        alloc: Global,
+        patterns: &Patterns,
+        sending: &Sending,
+    ) -> Result<Octets, NoMemory>
+        requires { patterns.now ≡ the_patterns }
         ensures { IfOk result (λ octets. octets ≡ octets_of self.now sending.now) }
     {
         match *sending {
@@ -62,7 +75,7 @@ impl Node {
                 let message = Message::NodeAliveRequest {
                     address: Some(&address),
                 };
-                short_octets(alloc, u64::from(number), &message)
+                Octets::of(alloc, write_short(number, &message).octets())
             }
             Sending::Data {
                 packet,
@@ -79,16 +92,13 @@ impl Node {
                 };
                 message_octets(alloc, room, number, &Message::TransferRequest { body })
             }
-            Sending::Test { number, .. } => {
-                let body = Transfer::Possible(Packet::Empty);
-                short_octets(alloc, number, &Message::TransferRequest { body })
-            }
+            Sending::Test { number, .. } => patterns.test(alloc, number),
             Sending::Command {
                 named,
                 number,
                 order,
                 ..
-            } => order_octets(alloc, number, order, named),
+            } => patterns.order(alloc, number, order, named),
         }
     }
 
@@ -105,21 +115,6 @@ impl Node {
     }
 }
 
-/// The octets of a release or a cancel that names a number.
-fn order_octets(alloc: Global, number: u64, order: Order, named: u64) -> Result<Octets, NoMemory>
-    ensures { IfOk result (λ octets. octets ≡ written (wire number) (TransferRequest (order_of order named))) }
-{
-    let octets = ((named % 65_536) as u16).to_be_bytes();
-    let Ok(numbers) = Numbers::of(&octets) else {
-        unreachable!()
-    };
-    let body = match order {
-        Order::Release => Transfer::Release(numbers),
-        Order::Cancel => Transfer::Cancel(numbers),
-    };
-    short_octets(alloc, number, &Message::TransferRequest { body })
-}
-
 /// How many octets the value of a packet has.
 fn value_length(packet: &Packet<'_>) -> usize
     ensures { result ≡ length (packet_octets (packet_value packet.now)) }
@@ -128,15 +123,6 @@ fn value_length(packet: &Packet<'_>) -> usize
         Packet::Full { value, .. } => value.len(),
         Packet::Empty => 0,
     }
-}
-
-/// The octets of a message that sends no packet, with the last 16 bits of this number.
-fn short_octets(alloc: Global, number: u64, message: &Message<'_>) -> Result<Octets, NoMemory>
-    requires { length (body_octets (message_value message.now)) + 6 ≤ 64 }
-    ensures { IfOk result (λ octets. octets ≡ written (wire number) (message_value message.now)) }
-{
-    let short = reply((number % 65_536) as u16, message);
-    Octets::of(alloc, short.octets())
 }
 
 /// The octets of a message with the last 16 bits of this number, where they have so much room.

@@ -142,6 +142,15 @@ fn oldest_at(gateway: u8, next: u64, packets: &[NodePacket]) -> u64
     oldest
 }
 
+/// The most sendings that are due for these open packets.
+fn most_due(packets: &[NodePacket]) -> usize {
+    let mut most = 0usize;
+    for packet in packets {
+        most = most.saturating_add(packet.copies().len().max(1));
+    }
+    most
+}
+
 /// The packets hear a response from a gateway, of which those before `from` are done; tells the
 /// first that it made resolved, and done.
 fn hear_all(
@@ -328,9 +337,16 @@ impl Packets {
         ensures numbers { AreNumbers peers.new }
         ensures settled { IsSettled self.now }
     {
-        let mut after = Vec::new(alloc);
-        plan_all(alloc, aim, peers, self.open(), &mut after, sendings)?;
+        let unsettled = self.open();
+        let mut after = Vec::with_capacity(alloc, unsettled.len())?;
+        plan_all(alloc, aim, peers, unsettled, &mut after, sendings)?;
         Ok(after)
+    }
+
+    /// The most sendings that are due for these packets: one for each copy of an open one, and one for an
+    /// open one that has none.
+    pub(crate) fn most_due(&self) -> usize {
+        most_due(self.open())
     }
 
     /// Puts planned packets in the place of those from the first open one on. It takes no memory.

@@ -34,21 +34,19 @@ pub(crate) fn plan_all(
         ≡ all_drawn (due_for_all aim.favourite aim.is_alive peers.old packets.now) peers.old) }
     ensures numbers { AreNumbers peers.new }
 {
-    let mut own = Vec::new(alloc);
     for packet in packets {
         let mut packet = packet.copied(alloc)?;
-        plan(aim, peers, &mut packet, &mut own, sendings)?;
+        plan(aim, peers, &mut packet, sendings)?;
         after.push(packet)?;
     }
     Ok(())
 }
 
-/// Plans what is due for a packet, and notes it. What `own` held is forgotten.
+/// Plans what is due for a packet, and notes it.
 fn plan(
     aim: Aim,
     peers: &mut [Peer],
     packet: &mut NodePacket,
-    own: &mut Vec<Sending>,
     sendings: &mut Vec<Sending>,
 ) -> Result<(), NoMemory>
     requires { AreNumbers peers.old }
@@ -60,11 +58,10 @@ fn plan(
         ≡ all_drawn (due_for aim.favourite aim.is_alive peers.old packet.old) peers.old) }
     ensures numbers { AreNumbers peers.new }
 {
-    own.clear();
-    due_for(aim, peers, packet, own)?;
-    send_all(own, peers, packet)?;
-    sendings.extend_from_slice(own)?;
-    Ok(())
+    let before = sendings.len();
+    due_for(aim, peers, packet, sendings)?;
+    let (_, own) = sendings.as_slice().split_at(before);
+    send_all(own, peers, packet)
 }
 
 /// Notes these sendings of a packet, and the numbers that they draw.

@@ -120,7 +120,8 @@ fn plan(
     ensures settled { OnOk result (IsSettled packets.now) }
 {
     let mut peers = gateways.to_vec(alloc)?;
-    let mut sendings = Vec::new(alloc);
+    let most_due = gateways.len().saturating_add(packets.most_due());
+    let mut sendings = Vec::with_capacity(alloc, most_due)?;
     let packets = plan_with(
         alloc,
         aim,

@@ -1,4 +1,4 @@
-use Rattle.std.proofs.Common.{◌≡◌, List, ◌∙◌, ap, sym, subst, take, map, get_or, arith}
+use Rattle.std.proofs.Common.{◌≡◌, List, ap, sym, subst, take, map, get_or, arith}
 use Rattle.std.proofs.lemmas.Grind.{common_steps}
 use Rattle.node_core.specs.Packets.{PacketState, is_done, is_resolved, packet_hearing, while_open}
 use Rattle.node_core.specs.Sound.{AllDone}

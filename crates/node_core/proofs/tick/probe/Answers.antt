@@ -1,6 +1,5 @@
-use Rattle.std.proofs.Common.{◌≡◌, ◌++◌, Bool, List, get_or, ap, ◌∙◌, arith}
+use Rattle.std.proofs.Common.{◌++◌, Bool, get_or, ap, ◌∙◌}
 use Rattle.node_core.specs.declared.peer.Peer.{Peer}
-use Rattle.node_core.specs.declared.sending.Sending.{Sending}
 use Rattle.node_core.specs.Peers.{all_drawn}
 use Rattle.node_core.specs.Sendings.{probe_of}
 use Rattle.node_core.proofs.TickLemmas.{probe_step}

@@ -1,4 +1,4 @@
-use Rattle.std.proofs.Common.{◌≡◌, ℕ, List, ap, ◌∙◌}
+use Rattle.std.proofs.Common.{ℕ, List, ap, ◌∙◌}
 use Rattle.gtpp_message.specs.Packet.{PacketForm}
 use Rattle.node_core.specs.Drafts.{addition_fault, kept_fault}
 use Rattle.node_core.proofs.DraftLemmas.{fault_kept}

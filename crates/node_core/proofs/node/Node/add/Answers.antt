@@ -1,5 +1,4 @@
-use Rattle.std.proofs.Common.{◌≡◌, ◌+◌, ◌≤◌, ◌++◌, ◌∷◌, [], length, length-append, refl, sym, ap, ◌∙◌, arith, rules}
-use Rattle.node_core.specs.Packets.{PacketState}
+use Rattle.std.proofs.Common.{◌≡◌, ◌+◌, ◌++◌, ◌∷◌, [], length, length-append, sym, ap, ◌∙◌, arith, rules}
 use Rattle.node_core.specs.Value.{NodeValue}
 use Rattle.node_core.proofs.NodeLemmas.{numbered_next}
 use Rattle.node_core.proofs.node.Node.add.Goals as goal

@@ -1,8 +1,7 @@
-use Rattle.std.proofs.Common.{◌≡◌, ◌+◌, ◌≤◌, List, length, refl, sym, ap, ◌∙◌, arith}
-use Rattle.std.proofs.lemmas.List.{length-map, with_items_is}
+use Rattle.std.proofs.Common.{◌≡◌, List, length, refl, ap, ◌∙◌, arith}
+use Rattle.std.proofs.lemmas.List.{with_items_is}
 use Rattle.std.specs.Vec.{with_items}
 use Rattle.node_core.specs.declared.peer.Peer.{Peer}
-use Rattle.node_core.specs.Peers.{peer_anew}
 use Rattle.node_core.specs.Value.{peers_anew}
 use Rattle.node_core.proofs.NodeLemmas.{length-anew, numbers_renewed}
 use Rattle.node_core.proofs.node.Node.forget.Goals as goal

@@ -1,6 +1,5 @@
-use Rattle.std.proofs.Common.{◌≡◌, ℕ, ◌-◌, ◌≤◌, ◌<◌, suc, length, List, Option, sym, ap, ◌∙◌, arith, rules}
+use Rattle.std.proofs.Common.{◌≡◌, ◌-◌, suc, length, sym, ap, ◌∙◌, arith, rules}
 use Rattle.std.specs.Prelude.{slice_get}
-use Rattle.node_core.specs.Packets.{PacketState}
 use Rattle.node_core.proofs.NumberedLemmas.{none_numbered, place_numbered}
 use Rattle.node_core.proofs.packets.Packets.numbered.Goals as goal
 

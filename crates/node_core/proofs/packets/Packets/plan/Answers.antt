@@ -1,17 +1,16 @@
-use Rattle.std.proofs.Common.{◌≡◌, List, ◌++◌, ap, ◌∙◌, arith, rules}
+use Rattle.std.proofs.Common.{◌≡◌, List, ◌++◌, ap, ◌∙◌}
 use Rattle.node_core.specs.declared.sending.Sending.{Sending}
-use Rattle.node_core.specs.Packets.{PacketState}
 use Rattle.node_core.specs.Peers.{all_drawn}
 use Rattle.node_core.specs.Sendings.{due_for_all}
 use Rattle.node_core.proofs.SettledLemmas.{due_settled}
 use Rattle.node_core.proofs.packets.Packets.plan.Goals as goal
 use Rattle.node_core.proofs.packets.Packets.plan.Goals.{In_ok-plan_all}
 
-due : (c : In_ok-plan_all) → due_for_all c.args.aim.favourite c.args.aim.is_alive c.args.peers.now c.open.result.now
+due : (c : In_ok-plan_all) → due_for_all c.args.aim.favourite c.args.aim.is_alive c.args.peers.now c.open-unsettled.result.now
     ≡ due_for_all c.args.aim.favourite c.args.aim.is_alive c.args.peers.now c.args.self.now.packets
 due c =
-    ap (due_for_all c.args.aim.favourite c.args.aim.is_alive c.args.peers.now) c.open.ensures.packets
-    ∙ due_settled c.args.aim.favourite c.args.aim.is_alive c.args.peers.now c.args.self.now c.open.ensures.settled
+    ap (due_for_all c.args.aim.favourite c.args.aim.is_alive c.args.peers.now) c.open-unsettled.ensures.packets
+    ∙ due_settled c.args.aim.favourite c.args.aim.is_alive c.args.peers.now c.args.self.now c.open-unsettled.ensures.settled
 
 pub returns-clause-sendings : goal.returns-clause-sendings
 returns-clause-sendings c =

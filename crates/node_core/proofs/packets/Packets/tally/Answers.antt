@@ -1,6 +1,5 @@
-use Rattle.std.proofs.Common.{◌≡◌, ◌+◌, ◌-◌, length, drop, ap, ◌∙◌, arith, rules, length-drop}
+use Rattle.std.proofs.Common.{◌≡◌, ◌+◌, ◌-◌, length, drop, arith, rules, length-drop}
 use Rattle.node_core.specs.Log.{done_among, resolved_among}
-use Rattle.node_core.specs.Packets.{PacketState}
 use Rattle.node_core.proofs.SettledLemmas.{done_settled, resolved_settled}
 use Rattle.node_core.proofs.packets.Packets.tally.Goals as goal
 
