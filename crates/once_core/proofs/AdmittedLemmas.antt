@@ -2,8 +2,7 @@
 use Rattle.std.proofs.Common.{◌≡◌, ℕ, ◌==◌, ◌&&◌, ◌||◌, Bool, true, false, if◌then◌else◌, List, [], ◌∷◌, ◌++◌, refl, sym, ap, subst, ◌∙◌}
 use Rattle.std.proofs.lemmas.Bool.{and_parts, eqb-true, false≢true}
 use Rattle.std.specs.List.{list_all, list_any}
-use Rattle.gateway_book.specs.Fit.{are_distinct, is_act_fit, is_fresh, is_in_window, is_list_fit, is_new, is_packet_fit}
-use Rattle.gateway_book.specs.Limits.{has_place, is_in_range, may_hold}
+use Rattle.gateway_book.specs.Fit.{are_distinct, is_act_lawful, is_first, is_fresh, is_in_window, is_list_fit, is_packet_fit}
 use Rattle.gw_base.specs.EntryLaws.{present_state_is, state_of-append}
 use Rattle.gw_base.specs.History.{epoch_entries, epoch_of, given_state, last_naming, present_state, state_by, state_of}
 use Rattle.gw_base.specs.Observed.{Observed, observed}
@@ -20,17 +19,8 @@ use Rattle.once_core.specs.Admitted.{AllAdmitted, IsAdmitted, moves_on}
 use Rattle.once_core.proofs.EachLemmas.{by_each_from}
 use Rattle.once_core.proofs.StateLemmas.{fresh_moves, held_is_cancelled, held_is_released, moves_further, stays}
 
-fresh_of_new : (o : Observed) (x : ℕ) → is_new o x ≡ true → is_fresh (o.state x) ≡ true
-fresh_of_new o x new = second (has_place o) (is_fresh (o.state x)) (is_in_range x) (is_in_window o.top x) new
-  where
-    second : (a b c d : Bool) → (a && b && c && d) ≡ true → b ≡ true
-    second true true c d e = refl
-    second true false c d e = e
-    second false b c d e = absurd (false≢true e)
-
-first_of_three : (a b c : Bool) → (a && b && c) ≡ true → a ≡ true
-first_of_three true b c e = refl
-first_of_three false b c e = e
+fresh_of_first : (o : Observed) (x : ℕ) → is_first o x ≡ true → is_fresh (o.state x) ≡ true
+fresh_of_first o x first = (and_parts (is_fresh (o.state x)) (is_in_window o.top x) first).0
 
 passes : (q : ℕ → Bool) (m : ℕ) (xs : List ℕ) → list_all q xs ≡ true → list_any (λ y. y == m) xs ≡ true → q m ≡ true
 passes q m [] all any = absurd (false≢true any)
@@ -60,10 +50,10 @@ module _ (key : PacketKey) where
             ∙ present_state_is key.node key.number h ∙ ap (λ (m : ℕ). present_state m key.number h) of,
       )
 
-  fresh_here : (h : List HistoryEntry) (n : NodeId) (x : ℕ) → is_new (observed h n) x ≡ true → named h n (x == key.number) ≡ true → is_fresh (state_of key h) ≡ true
+  fresh_here : (h : List HistoryEntry) (n : NodeId) (x : ℕ) → is_first (observed h n) x ≡ true → named h n (x == key.number) ≡ true → is_fresh (state_of key h) ≡ true
   fresh_here h n x new e =
       let at = state_here h n (x == key.number) e in
-      ap is_fresh at.1 ∙ ap (λ (m : ℕ). is_fresh (present_state n.0 m h)) (sym (eqb-true x key.number at.0)) ∙ fresh_of_new (observed h n) x new
+      ap is_fresh at.1 ∙ ap (λ (m : ℕ). is_fresh (present_state n.0 m h)) (sym (eqb-true x key.number at.0)) ∙ fresh_of_first (observed h n) x new
 
   held_here : (h : List HistoryEntry) (n : NodeId) (xs : List ℕ) → is_list_fit (observed h n) xs ≡ true
       → named h n (list_any (λ x. x == key.number) xs) ≡ true → is_held (state_of key h) ≡ true
@@ -80,17 +70,17 @@ module _ (key : PacketKey) where
   unnamed s t true = stays s
   unnamed s t false = stays s
 
-  act_moves : (h : List HistoryEntry) (a : HistoryAct) → is_act_fit (observed h) a ≡ true
+  act_moves : (h : List HistoryEntry) (a : HistoryAct) → is_act_lawful (observed h) a ≡ true
       → moves_on (state_of key h) (state_after key (epoch_of key.node.0 h) (state_of key h) a) ≡ true
   act_moves h act.Start fit = unnamed (state_of key h) (given_state act.Start) (epoch_of key.node.0 h == key.epoch)
   act_moves h (act.Path n port counter) fit = unnamed (state_of key h) (given_state (act.Path n port counter)) (epoch_of key.node.0 h == key.epoch)
   act_moves h (act.File n x packet) fit =
       by_name (state_of key h) Filed (named h n (x == key.number))
-      (λ e. fresh_moves (state_of key h) Filed (fresh_here h n x (and_parts (is_new (observed h n) x) (is_packet_fit packet) fit).0 e))
+      (λ e. fresh_moves (state_of key h) Filed (fresh_here h n x (and_parts (is_first (observed h n) x) (is_packet_fit packet) fit).0 e))
   act_moves h (act.Hold n x packet) fit =
       by_name (state_of key h) Held (named h n (x == key.number))
       (λ e. fresh_moves (state_of key h) Held
-      (fresh_here h n x (first_of_three (is_new (observed h n) x) (is_packet_fit packet) (may_hold (observed h n)) fit) e))
+      (fresh_here h n x (and_parts (is_first (observed h n) x) (is_packet_fit packet) fit).0 e))
   act_moves h (act.Seal n x) fit =
       by_name (state_of key h) Sealed (named h n (x == key.number)) (λ e. fresh_moves (state_of key h) Sealed (fresh_here h n x fit e))
   act_moves h (act.Release n xs) fit =

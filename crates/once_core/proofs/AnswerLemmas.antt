@@ -4,7 +4,6 @@ use Rattle.std.proofs.lemmas.Bool.{and_parts, and_from, or_left, eqb-true, eq-eq
 use Rattle.gw_base.specs.History.{names, present_state, top_of}
 use Rattle.gw_base.specs.Lists.{once}
 use Rattle.gw_base.specs.Nearest.{nearest}
-use Rattle.gw_base.specs.Observed.{observed}
 use Rattle.gw_base.specs.Starts.{start_of}
 use Rattle.gw_base.specs.declared.address.NodeId.{NodeId}
 use Rattle.gw_base.specs.declared.cause.TheConstants.{ACCEPTED, ALREADY_FULFILLED, DUPLICATE_ALREADY_FULFILLED, NO_RESOURCES, NOT_FULFILLED, NUMBERS_INCORRECT}
@@ -14,7 +13,7 @@ use Rattle.gw_base.specs.declared.history.HistoryAct.TheVariants as act
 use Rattle.gw_base.specs.declared.history.HistoryEntry.{HistoryEntry}
 use Rattle.gw_base.specs.declared.key_state.KeyState.{KeyState}
 use Rattle.gw_base.specs.declared.key_state.KeyState.TheVariants.{Fresh, Filed, Sealed, Held, Released, Cancelled}
-use Rattle.gateway_book.specs.Answer.{Given, changes, may_record, recorded_as, recording, responding, tabled}
+use Rattle.gateway_book.specs.Answer.{Given, changes, recorded_as, recording, responding, tabled}
 use Rattle.gateway_book.specs.Answered.{act_given, entry_by, with_act}
 use Rattle.gateway_book.specs.Fit.{is_fresh}
 use Rattle.node_core.specs.declared.copy.Order.TheVariants as order
@@ -48,12 +47,12 @@ module _ (letters : List Letter) (h : List HistoryEntry) (letter : Letter) (rise
       → IsSound letters h letter request (responding number cause None)
   silent request number cause known told = record { rests = λ a e. absurd (no_act a e); tells = λ now who. told; known = λ telling now who. known telling }
 
-  -- one that records an act, or has no room for it
-  recorded : (room : HistoryAct → Bool) (request : Request) (number : ℕ) (a : HistoryAct) → RestsBy letters letter.gateway h a
+  -- one that records an act, or may not
+  recorded : (may : HistoryAct → Bool) (request : Request) (number : ℕ) (a : HistoryAct) → RestsBy letters letter.gateway h a
       → names letter.node (about request letter.number) a ≡ true
       → ((now : ℕ) (who : Caller) → Tells (h ++ entry_by h now who a ∷ []) letter request ACCEPTED) → Tells h letter request NO_RESOURCES
-      → IsSound letters h letter request (recording (observed h node) room number ACCEPTED a)
-  recorded room request number a rests named told without = by_test (may_record (observed h node) room a)
+      → IsSound letters h letter request (recording may number ACCEPTED a)
+  recorded may request number a rests named told without = by_test (may a)
     where
       by_test : (b : Bool) → IsSound letters h letter request (if b then responding number ACCEPTED (Some a) else responding number NO_RESOURCES None)
       by_test true = record {
@@ -94,12 +93,12 @@ module _ (letters : List Letter) (h : List HistoryEntry) (letter : Letter) (rise
     kept = subst (Contains letters) (λ i. record letter { start = present i; says = says i }) kept;
   }
 
-  module _ (room : HistoryAct → Bool) (number : ℕ) (kept : Contains letters letter) where
+  module _ (may : HistoryAct → Bool) (number : ℕ) (kept : Contains letters letter) where
     send_table : (packet : List ℕ) (s : KeyState) → present_state letter.node letter.number h ≡ s → letter.says ≡ Asks (Sends true packet)
         → IsSound letters h letter (Sends true packet)
-        (tabled (observed h node) room number (answer_cause ask.Send s) (recorded_as ask.Send node letter.number packet (state_given ask.Send s)))
+        (tabled may number (answer_cause ask.Send s) (recorded_as ask.Send node letter.number packet (state_given ask.Send s)))
     send_table packet Fresh is says =
-        recorded room (Sends true packet) number (act.File node letter.number packet) (is, asked (Sends true packet) kept says) (names_it letter.number)
+        recorded may (Sends true packet) number (act.File node letter.number packet) (is, asked (Sends true packet) kept says) (names_it letter.number)
         (λ now who filing. let e = entry_by h now who (act.File node letter.number packet) in
         then_is e letter.number Filed (names_it letter.number) Filed refl (state_given_now h e letter.node letter.number rise (names_it letter.number)))
         (λ filing. absurd (false≢true filing))
@@ -111,9 +110,9 @@ module _ (letters : List Letter) (h : List HistoryEntry) (letter : Letter) (rise
 
     possible_table : (packet : List ℕ) (s : KeyState) → present_state letter.node letter.number h ≡ s → letter.says ≡ Asks (Sends false packet)
         → IsSound letters h letter (Sends false packet)
-        (tabled (observed h node) room number (answer_cause ask.Possible s) (recorded_as ask.Possible node letter.number packet (state_given ask.Possible s)))
+        (tabled may number (answer_cause ask.Possible s) (recorded_as ask.Possible node letter.number packet (state_given ask.Possible s)))
     possible_table packet Fresh is says =
-        recorded room (Sends false packet) number (act.Hold node letter.number packet) (is, asked (Sends false packet) kept says) (names_it letter.number) (λ now who. tt) tt
+        recorded may (Sends false packet) number (act.Hold node letter.number packet) (is, asked (Sends false packet) kept says) (names_it letter.number) (λ now who. tt) tt
     possible_table packet Filed is says = silent (Sends false packet) number ALREADY_FULFILLED (λ telling. known_is letter.number Filed is refl) tt
     possible_table packet Sealed is says = silent (Sends false packet) number NOT_FULFILLED (λ telling. absurd (false≢true telling)) tt
     possible_table packet Held is says = silent (Sends false packet) number DUPLICATE_ALREADY_FULFILLED (λ telling. known_is letter.number Held is refl) tt
@@ -127,9 +126,9 @@ module _ (letters : List Letter) (h : List HistoryEntry) (letter : Letter) (rise
     apart a b other e = false≢true (sym other ∙ eq-eqb a b e)
 
     test_table : (packet : List ℕ) (s : KeyState) → present_state letter.node letter.number h ≡ s → letter.says ≡ Asks Tests
-        → IsSound letters h letter Tests (tabled (observed h node) room number (answer_cause ask.Empty s) (recorded_as ask.Empty node letter.number packet (state_given ask.Empty s)))
+        → IsSound letters h letter Tests (tabled may number (answer_cause ask.Empty s) (recorded_as ask.Empty node letter.number packet (state_given ask.Empty s)))
     test_table packet Fresh is says =
-        recorded room Tests number (act.Seal node letter.number) (is, asked Tests kept says) (names_it letter.number)
+        recorded may Tests number (act.Seal node letter.number) (is, asked Tests kept says) (names_it letter.number)
         (λ now who. let e = entry_by h now who (act.Seal node letter.number) in (
           λ c. absurd (apart ACCEPTED ALREADY_FULFILLED refl c),
           λ c. then_is e letter.number Sealed (names_it letter.number) Sealed refl (state_given_now h e letter.node letter.number rise (names_it letter.number)),
@@ -154,9 +153,9 @@ module _ (letters : List Letter) (h : List HistoryEntry) (letter : Letter) (rise
 
     release_table : (named : ℕ) (s : KeyState) → present_state letter.node named h ≡ s → letter.says ≡ Asks (Orders order.Release named)
         → IsSound letters h letter (Orders order.Release named)
-        (tabled (observed h node) room number (verdict_cause (verdict_of true (s ∷ []))) (changes (verdict_of true (s ∷ [])) true node (one_held s named)))
+        (tabled may number (verdict_cause (verdict_of true (s ∷ []))) (changes (verdict_of true (s ∷ [])) true node (one_held s named)))
     release_table named Held is says =
-        recorded room (Orders order.Release named) number (act.Release node (named ∷ []))
+        recorded may (Orders order.Release named) number (act.Release node (named ∷ []))
         (record {
           names = record { number = named; alone = refl; held = is };
           own = letter.number;
@@ -174,9 +173,9 @@ module _ (letters : List Letter) (h : List HistoryEntry) (letter : Letter) (rise
 
     cancel_table : (named : ℕ) (s : KeyState) → present_state letter.node named h ≡ s
         → IsSound letters h letter (Orders order.Cancel named)
-        (tabled (observed h node) room number (verdict_cause (verdict_of false (s ∷ []))) (changes (verdict_of false (s ∷ [])) false node (one_held s named)))
+        (tabled may number (verdict_cause (verdict_of false (s ∷ []))) (changes (verdict_of false (s ∷ [])) false node (one_held s named)))
     cancel_table named Held is =
-        recorded room (Orders order.Cancel named) number (act.Cancel node (named ∷ [])) (record { number = named; alone = refl; held = is }) (names_one named) (λ now who. tt) tt
+        recorded may (Orders order.Cancel named) number (act.Cancel node (named ∷ [])) (record { number = named; alone = refl; held = is }) (names_one named) (λ now who. tt) tt
     cancel_table named Released is = silent (Orders order.Cancel named) number NUMBERS_INCORRECT (λ telling. absurd (false≢true telling)) tt
     cancel_table named Fresh is = silent (Orders order.Cancel named) number NUMBERS_INCORRECT (λ telling. absurd (false≢true telling)) tt
     cancel_table named Filed is = silent (Orders order.Cancel named) number NUMBERS_INCORRECT (λ telling. absurd (false≢true telling)) tt
@@ -184,9 +183,9 @@ module _ (letters : List Letter) (h : List HistoryEntry) (letter : Letter) (rise
     cancel_table named Cancelled is = silent (Orders order.Cancel named) number DUPLICATE_ALREADY_FULFILLED (λ telling. known_is named Cancelled is refl) tt
 
 -- the answer to a timely request
-pub answer_is_sound : (letters : List Letter) (h : List HistoryEntry) (letter : Letter) (request : Request) (room : HistoryAct → Bool) → StartsRise h
-    → Contains letters letter → letter.says ≡ Asks request → is_timely h letter request ≡ true → IsSound letters h letter request (given h room letter request)
-answer_is_sound letters h letter request room rise kept says timely =
+pub answer_is_sound : (letters : List Letter) (h : List HistoryEntry) (letter : Letter) (request : Request) (may : HistoryAct → Bool) → StartsRise h
+    → Contains letters letter → letter.says ≡ Asks request → is_timely h letter request ≡ true → IsSound letters h letter request (given h may letter request)
+answer_is_sound letters h letter request may rise kept says timely =
     let parts = and_parts (letter.start == start_of letter.node h) (nearest (top_of letter.node h) (about request letter.number % 65536) == about request letter.number) timely in
     by_request request says
     (eqb-true letter.start (start_of letter.node h) parts.0)
@@ -194,31 +193,31 @@ answer_is_sound letters h letter request room rise kept says timely =
   where
     by_request : (asks : Request) → letter.says ≡ Asks asks → letter.start ≡ start_of letter.node h
         → nearest (top_of letter.node h) (about asks letter.number % 65536) ≡ about asks letter.number
-        → IsSound letters h letter asks (given h room letter asks)
+        → IsSound letters h letter asks (given h may letter asks)
     by_request (Sends true packet) says present meant =
         subst
         (λ (m : ℕ). IsSound letters h letter (Sends true packet)
-        (tabled (observed h (node_at letter.node)) room (letter.number % 65536) (answer_cause ask.Send (present_state letter.node m h)) (recorded_as ask.Send (node_at letter.node) m packet (state_given ask.Send (present_state letter.node m h)))))
-        (sym meant) (send_table letters h letter rise present room (letter.number % 65536) kept packet (present_state letter.node letter.number h) refl says)
+        (tabled may (letter.number % 65536) (answer_cause ask.Send (present_state letter.node m h)) (recorded_as ask.Send (node_at letter.node) m packet (state_given ask.Send (present_state letter.node m h)))))
+        (sym meant) (send_table letters h letter rise present may (letter.number % 65536) kept packet (present_state letter.node letter.number h) refl says)
     by_request (Sends false packet) says present meant =
         subst
         (λ (m : ℕ). IsSound letters h letter (Sends false packet)
-        (tabled (observed h (node_at letter.node)) room (letter.number % 65536) (answer_cause ask.Possible (present_state letter.node m h)) (recorded_as ask.Possible (node_at letter.node) m packet (state_given ask.Possible (present_state letter.node m h)))))
-        (sym meant) (possible_table letters h letter rise present room (letter.number % 65536) kept packet (present_state letter.node letter.number h) refl says)
+        (tabled may (letter.number % 65536) (answer_cause ask.Possible (present_state letter.node m h)) (recorded_as ask.Possible (node_at letter.node) m packet (state_given ask.Possible (present_state letter.node m h)))))
+        (sym meant) (possible_table letters h letter rise present may (letter.number % 65536) kept packet (present_state letter.node letter.number h) refl says)
     by_request Tests says present meant =
         subst
         (λ (m : ℕ). IsSound letters h letter Tests
-        (tabled (observed h (node_at letter.node)) room (letter.number % 65536) (answer_cause ask.Empty (present_state letter.node m h)) (recorded_as ask.Empty (node_at letter.node) m [] (state_given ask.Empty (present_state letter.node m h)))))
-        (sym meant) (test_table letters h letter rise present room (letter.number % 65536) kept [] (present_state letter.node letter.number h) refl says)
+        (tabled may (letter.number % 65536) (answer_cause ask.Empty (present_state letter.node m h)) (recorded_as ask.Empty (node_at letter.node) m [] (state_given ask.Empty (present_state letter.node m h)))))
+        (sym meant) (test_table letters h letter rise present may (letter.number % 65536) kept [] (present_state letter.node letter.number h) refl says)
     by_request (Orders order.Release named) says present meant =
         subst
         (λ (m : ℕ). IsSound letters h letter (Orders order.Release named)
-        (tabled (observed h (node_at letter.node)) room (letter.number % 65536) (verdict_cause (verdict_of true (present_state letter.node m h ∷ [])))
+        (tabled may (letter.number % 65536) (verdict_cause (verdict_of true (present_state letter.node m h ∷ [])))
         (changes (verdict_of true (present_state letter.node m h ∷ [])) true (node_at letter.node) (once (λ x y. x == y) (cond (is_held (present_state letter.node m h)) (m ∷ []) [])))))
-        (sym meant) (release_table letters h letter rise present room (letter.number % 65536) kept named (present_state letter.node named h) refl says)
+        (sym meant) (release_table letters h letter rise present may (letter.number % 65536) kept named (present_state letter.node named h) refl says)
     by_request (Orders order.Cancel named) says present meant =
         subst
         (λ (m : ℕ). IsSound letters h letter (Orders order.Cancel named)
-        (tabled (observed h (node_at letter.node)) room (letter.number % 65536) (verdict_cause (verdict_of false (present_state letter.node m h ∷ [])))
+        (tabled may (letter.number % 65536) (verdict_cause (verdict_of false (present_state letter.node m h ∷ [])))
         (changes (verdict_of false (present_state letter.node m h ∷ [])) false (node_at letter.node) (once (λ x y. x == y) (cond (is_held (present_state letter.node m h)) (m ∷ []) [])))))
-        (sym meant) (cancel_table letters h letter rise present room (letter.number % 65536) kept named (present_state letter.node named h) refl)
+        (sym meant) (cancel_table letters h letter rise present may (letter.number % 65536) kept named (present_state letter.node named h) refl)

@@ -6,7 +6,7 @@ use Rattle.std.proofs.lemmas.List.Elements.{Contains-append_right}
 use Rattle.gw_base.specs.declared.history.HistoryEntry.{HistoryEntry}
 use Rattle.gateway_book.specs.Value.{BookValue, Fortune, Gone, Refused, Reopening, Whole, committed, faulted, reopened, tried}
 use Rattle.once_core.specs.Gateway.{Gateway, Rules, committing, cut, giving_up, is_reached, readying, settling, still, with_book}
-use Rattle.once_core.specs.Happenings.{Answers, Closes, Firms, Happening, Keeps, Letter, Meaning, Note, Notes, Post, Scene, Starts, Ticks, act_noted, history}
+use Rattle.once_core.specs.Happenings.{Firms, Keeps, Letter, Post, Scene}
 use Rattle.once_core.specs.Happenings as did
 use Rattle.once_core.specs.Meaning.{letter_of, meaning_of}
 use Rattle.once_core.specs.Messages.{failing, is_response}

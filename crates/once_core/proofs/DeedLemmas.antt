@@ -6,7 +6,7 @@ use Rattle.std.proofs.lemmas.List.Sums.{sum_by-cons}
 use Rattle.std.specs.List.{flat_map}
 use Rattle.node_core.specs.Copies.{names}
 use Rattle.node_core.specs.Log as log
-use Rattle.node_core.specs.Log.{LogEntry, NodeSetup, Responds, Saying, packets_of, runs}
+use Rattle.node_core.specs.Log.{LogEntry, Responds, packets_of}
 use Rattle.node_core.specs.Resting.{AllRestOn, IsFulfilled, RestsOn, since_start}
 use Rattle.node_core.specs.declared.copy.Command.{Command}
 use Rattle.node_core.specs.declared.copy.PacketCopy.{PacketCopy}
@@ -15,7 +15,7 @@ use Rattle.once_core.specs.Deeds.{asked_by, deeds_of, letter_of, told_by}
 use Rattle.once_core.specs.Expired.{begins, starts_in}
 use Rattle.once_core.specs.Following.{entries_of, heard_in}
 use Rattle.once_core.specs.Happenings as did
-use Rattle.once_core.specs.Happenings.{Answers, Deed, Letter}
+use Rattle.once_core.specs.Happenings.{Answers, Deed}
 use Rattle.once_core.proofs.ListLemmas.{in_cons, in_head, in_none}
 
 -- ---- what was heard is among the deeds

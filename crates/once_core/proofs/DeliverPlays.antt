@@ -19,10 +19,10 @@ use Rattle.gateway_book.specs.Preparing as of
 use Rattle.gateway_book.specs.Preparing.{PreparedValue, framed, sends_values}
 use Rattle.gateway_book.specs.PreparingLaws.{RolesRead}
 use Rattle.gateway_book.specs.Value.{BookValue, Fortune, committed, faulted, history_of, recorded, reopened, standing_for, tried}
-use Rattle.once_core.specs.Answers.{answered, delivered, delivered_broken, delivered_running, failed, failed_by, if_broken, making_close, making_tick, marked, recorded_where, unless_expired}
+use Rattle.once_core.specs.Answers.{answered, closing, delivered, delivered_broken, delivered_running, failed, failed_by, if_broken, making_close, making_tick, marked, recorded_where, unless_expired}
 use Rattle.once_core.specs.Expired.{is_expired}
 use Rattle.once_core.specs.Gateway.{Gateway, Moved, Rules, committing, followed, giving_up, opened, readying, settling, still, with_book}
-use Rattle.once_core.specs.Happenings.{Answers, Closes, Firms, Happening, Keeps, Letter, Note, Notes, Post, Scene, Starts, Ticks, act_noted}
+use Rattle.once_core.specs.Happenings.{Answers, Closes, Firms, Keeps, Letter, Note, Notes, Post, Scene, Starts, Ticks, act_noted}
 use Rattle.once_core.specs.Happenings as did
 use Rattle.once_core.specs.Meaning.{is_spoken, letter_of, meaning_of, speaks}
 use Rattle.once_core.specs.Messages.{answering}
@@ -98,10 +98,17 @@ module _ (back : ReadsBack) (gateway : ℕ) (scene : Scene) (g : Gateway) (stand
       (λ s a goes stands e. still_plays gateway s a stands)
       (λ s a goes stands e same. note_plays s a stands e Ticks now (is_tick_due rules.open_time now (history_of a.book) && rules.room (history_of a.book) act.Tick))
 
-  pub closed_plays : (rules : Rules) (f : Fortune) (now : ℕ) → Plays gateway scene (marked rules f (making_close now) g)
-  closed_plays rules f now = ready_plays rules f still (making_close now)
+  closing_plays : (rules : Rules) (now : ℕ) (s : Scene) (a : Gateway) → Stands gateway s a → a.book.is_broken ≡ false → Plays gateway s (closing rules now a)
+  closing_plays rules now s a stands sound = by (rules.may_close (history_of a.book))
+    where
+      by : (b : Bool) → Plays gateway s (if b then making_close now a else still a)
+      by true = note_plays s a stands sound Closes now (is_close_due (history_of a.book))
+      by false = still_plays gateway s a stands
+
+  pub closed_plays : (rules : Rules) (f : Fortune) (now : ℕ) → Plays gateway scene (marked rules f (closing rules now) g)
+  closed_plays rules f now = ready_plays rules f still (closing rules now)
       (λ s a goes stands e. still_plays gateway s a stands)
-      (λ s a goes stands e same. note_plays s a stands e Closes now (is_close_due (history_of a.book)))
+      (λ s a goes stands e same. closing_plays rules now s a stands e)
 
 -- what a journal holds becomes firm
 module _ (gateway : ℕ) (scene : Scene) (g : Gateway) (stands : Stands gateway scene g) where

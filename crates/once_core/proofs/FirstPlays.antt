@@ -7,7 +7,7 @@ use Rattle.gateway_book.specs.Answered.{no_caller}
 use Rattle.gateway_book.specs.Value.{committed, history_of, recorded, standing_for}
 use Rattle.node_core.specs.Log.{LogEntry, Began}
 use Rattle.once_core.specs.Addresses.{node_ip}
-use Rattle.once_core.specs.Beginning.{first_gateway, times_of, world_of}
+use Rattle.once_core.specs.Beginning.{beginning, first_gateway, first_world, gateways_by, times_of, world_of}
 use Rattle.once_core.specs.Deeds.{deeds_of}
 use Rattle.once_core.specs.Gateway.{Gateway, Rules, settling, still}
 use Rattle.once_core.specs.Happenings.{Happening, Notes, Post, Scene, Starts}
@@ -61,15 +61,15 @@ first_plays rules place scene post = by (rules.room (history_of (standing_for []
 
 -- ---- all of them
 
-record FirstScene (rules : Rules) (count : ℕ) : Type 0 where
+record FirstScene (rules : ℕ → Rules) (count : ℕ) : Type 0 where
   happenings : List Happening
   scene : Scene
   is : scene_after happenings ≡ scene
-  before : (q : ℕ) → q < count → scene.posts q ≡ post_of (first_gateway rules)
+  before : (q : ℕ) → q < count → scene.posts q ≡ post_of (first_gateway (rules q))
   behind : (q : ℕ) → count ≤ q → scene.posts q ≡ no_post
   deeds : (node : ℕ) → scene.deeds node ≡ []
 
-first_scene : (rules : Rules) (count : ℕ) → FirstScene rules count
+first_scene : (rules : ℕ → Rules) (count : ℕ) → FirstScene rules count
 first_scene rules zero = record {
   happenings = [];
   scene = nothing_yet;
@@ -80,14 +80,14 @@ first_scene rules zero = record {
 }
 first_scene rules (suc count) =
     let s = first_scene rules count in
-    let plays = first_plays rules count s.scene (s.behind count (omega arith)) in
+    let plays = first_plays (rules count) count s.scene (s.behind count (omega arith)) in
     record {
       happenings = s.happenings ++ plays.later;
       scene = plays.after;
       is = happened_more nothing_yet s.happenings plays.later ∙ ap (λ (t : Scene). happened_all t plays.later) s.is ∙ plays.is;
       before = λ q lt. ⊎_elim
           (λ less. plays.goes.others q (ne_eqb q count (λ same. absurd (omega (arith, same, less)))) ∙ s.before q less)
-          (λ more. let same : count ≡ q = omega (arith, lt, more) in subst (λ (k : ℕ). plays.after.posts k ≡ post_of (first_gateway rules)) same plays.post)
+          (λ more. let same : count ≡ q = omega (arith, lt, more) in subst (λ (k : ℕ). plays.after.posts k ≡ post_of (first_gateway (rules k))) same plays.post)
           (cases_lt q count);
       behind = λ q le. plays.goes.others q (ne_eqb q count (λ same. absurd (omega (arith, same, le)))) ∙ s.behind q (omega (arith, le));
       deeds = λ node. plays.goes.deeds node ∙ s.deeds node;
@@ -110,22 +110,46 @@ times_each zero x k y e = absurd (cc)
 times_each (suc n) x zero y e = cc
 times_each (suc n) x (suc k) y e = times_each n x k y e
 
-times_many : {A : Type 0} (n : ℕ) (x : A) → length (times_of n x) ≡ n
-times_many zero x = refl
-times_many (suc n) x = let rest = times_many n x in omega (arith, rest)
+gateways_within : (rules : ℕ → Rules) (n k : ℕ) → k < n → slice_get (gateways_by rules n) k ≡ Some (first_gateway (rules k))
+gateways_within rules zero k lt = absurd (omega (arith, lt))
+gateways_within rules (suc n) zero lt = refl
+gateways_within rules (suc n) (suc k) lt = gateways_within (λ place. rules (suc place)) n k (omega (arith, lt))
+
+gateways_behind : (rules : ℕ → Rules) (n k : ℕ) → n ≤ k → slice_get (gateways_by rules n) k ≡ None
+gateways_behind rules zero k le = refl
+gateways_behind rules (suc n) zero le = absurd (omega (arith, le))
+gateways_behind rules (suc n) (suc k) le = gateways_behind (λ place. rules (suc place)) n k (omega (arith, le))
+
+pub gateways_each : (rules : ℕ → Rules) (n k : ℕ) (g : Gateway) → slice_get (gateways_by rules n) k ≡ Some g → first_gateway (rules k) ≡ g
+gateways_each rules zero k g e = absurd (cc)
+gateways_each rules (suc n) zero g e = ap (λ (o : Option Gateway). option_map_or (λ a. a) o (first_gateway (rules zero))) e
+gateways_each rules (suc n) (suc k) g e = gateways_each (λ place. rules (suc place)) n k g e
+
+gateways_many : (rules : ℕ → Rules) (n : ℕ) → length (gateways_by rules n) ≡ n
+gateways_many rules zero = refl
+gateways_many rules (suc n) = let rest = gateways_many (λ place. rules (suc place)) n in omega (arith, rest)
+
+-- where all are opened by the same rules
+gateways_same : (rules : Rules) (n : ℕ) → gateways_by (λ place. rules) n ≡ times_of n (first_gateway rules)
+gateways_same rules zero = refl
+gateways_same rules (suc n) = ap (λ (gs : List Gateway). first_gateway rules ∷ gs) (gateways_same rules n)
+
+pub same_world : (rules : Rules) (gateways nodes : ℕ) → first_world (λ place. rules) gateways nodes ≡ world_of rules gateways nodes
+same_world rules gateways nodes =
+    ap (λ (gs : List Gateway). beginning gs nodes) (gateways_same rules gateways)
 
 first_node : (gateways place : ℕ) → NodeRightly gateways place (Began ∷ [])
 first_node gateways place = record { calls = []; is = refl; counts = counts_first; few = omega arith; forms = λ form is. absurd (in_none form is) }
 
-pub first_made : (values : ℕ → ℕ → List ℕ) (rules : Rules) (gateways nodes : ℕ) → 1 ≤ gateways → Made values (world_of rules gateways nodes)
+pub first_made : (values : ℕ → ℕ → List ℕ) (rules : ℕ → Rules) (gateways nodes : ℕ) → 1 ≤ gateways → Made values (first_world rules gateways nodes)
 first_made values rules gateways nodes some = record {
   happenings = first.happenings;
   scene = first.scene;
   is = first.is;
   shows = record {
     posts = λ q. ⊎_elim
-        (λ lt. first.before q lt ∙ ap (λ (o : Option Gateway). option_map_or post_of o no_post) (sym (times_within gateways (first_gateway rules) q lt)))
-        (λ le. first.behind q le ∙ ap (λ (o : Option Gateway). option_map_or post_of o no_post) (sym (times_behind gateways (first_gateway rules) q le)))
+        (λ lt. first.before q lt ∙ ap (λ (o : Option Gateway). option_map_or post_of o no_post) (sym (gateways_within rules gateways q lt)))
+        (λ le. first.behind q le ∙ ap (λ (o : Option Gateway). option_map_or post_of o no_post) (sym (gateways_behind rules gateways q le)))
         (cases_lt q gateways);
     deeds = λ p. ⊎_elim
         (λ lt. first.deeds (node_ip p) ∙ ap (λ (o : Option (List LogEntry)). deeds_of (node_ip p) (values p) (option_map_or (λ log. log) o [])) (sym (times_within nodes (Began ∷ []) p lt)))
@@ -135,10 +159,10 @@ first_made values rules gateways nodes some = record {
   };
   strangers = λ node less. first.deeds node;
   sound = record {
-    some = let many = times_many gateways (first_gateway rules) in omega (arith, some, many);
-    gateways = λ place g is. subst Rightly (times_each gateways (first_gateway rules) place g is) (none_waits (first_gateway rules) refl);
-    nodes = λ place log is. subst (NodeRightly (length (times_of gateways (first_gateway rules))) place) (times_each nodes (Began ∷ []) place log is)
-        (first_node (length (times_of gateways (first_gateway rules))) place);
+    some = let many = gateways_many rules gateways in omega (arith, some, many);
+    gateways = λ place g is. subst Rightly (gateways_each rules gateways place g is) (none_waits (first_gateway (rules place)) refl);
+    nodes = λ place log is. subst (NodeRightly (length (gateways_by rules gateways)) place) (times_each nodes (Began ∷ []) place log is)
+        (first_node (length (gateways_by rules gateways)) place);
     messages = λ m is. absurd (in_none m is);
   };
 }

@@ -17,12 +17,12 @@ use Rattle.gw_base.specs.TickDue.{is_tick_due}
 use Rattle.node_core.specs.Log.{LogEntry}
 use Rattle.node_core.specs.Reached.{Halt}
 use Rattle.node_core.specs.Reached as call
-use Rattle.once_core.specs.Answers.{acting, answer_at, answered, delivered, delivered_broken, delivered_running, failed, failed_by, if_broken, making_close, making_tick, marked, recorded_where, redirected, unless_expired}
+use Rattle.once_core.specs.Answers.{acting, answer_at, answered, closing, delivered, delivered_broken, delivered_running, failed, failed_by, if_broken, making_close, making_tick, marked, recorded_where, redirected, unless_expired}
 use Rattle.once_core.specs.Expired.{is_expired}
 use Rattle.once_core.specs.Gateway.{Gateway, Moved, Rules, book_committing, committing, cut, followed, giving_up, opened, readying, settling, still, with_book, with_start}
 use Rattle.once_core.specs.Growing.{GoesOn}
 use Rattle.once_core.specs.Once.{firm_in}
-use Rattle.once_core.specs.Turn.{Turn, at_gateway, at_node, delivering, gateway_moved, node_called, refusal_of, turn, turn_by, turns, unless_refused}
+use Rattle.once_core.specs.Turn.{RuledTurn, Turn, at_gateway, at_node, delivering, gateway_moved, node_called, refusal_of, ruled_turns, turn, turn_by, unless_refused}
 use Rattle.once_core.specs.World.{Called, World, called, delivered_to_node, submitting, ticking}
 use Rattle.once_core.specs.declared.event.Event.{Event}
 use Rattle.once_core.specs.declared.event.Event.TheVariants as event
@@ -142,6 +142,13 @@ recorded_grows : (is_due : Bool) (now : ℕ) (act : HistoryAct) → Grows (recor
 recorded_grows true now act g = on g.book.firm
 recorded_grows false now act g = on g.book.firm
 
+closing_grows : (rules : Rules) (now : ℕ) → Grows (closing rules now)
+closing_grows rules now g = by_test (rules.may_close (history_of g.book))
+  where
+    by_test : (b : Bool) → GoesOn g.book.firm (if b then making_close now g else still g).gateway.book.firm
+    by_test true = recorded_grows (is_close_due (history_of g.book)) now Close g
+    by_test false = still_grows g
+
 marked_grows : (rules : Rules) (f : Fortune) (mark : Gateway → Moved) → Grows mark → Grows (marked rules f mark)
 marked_grows rules f mark grows =
     followed_grows (readying rules f) (if_broken still mark) (readying_grows rules f) (broken_grows still mark still_grows grows)
@@ -225,8 +232,8 @@ event_grows rules w t (event.Mark gateway) q =
     (marked_grows rules t.fortune (making_tick rules w.now)
     (λ g. recorded_grows (is_tick_due rules.open_time w.now (history_of g.book) && rules.room (history_of g.book) Tick) w.now Tick g)) q
 event_grows rules w t (event.Close gateway) q =
-    gateway_grows w (gateway - 1) (marked rules t.fortune (making_close w.now))
-    (marked_grows rules t.fortune (making_close w.now) (λ g. recorded_grows (is_close_due (history_of g.book)) w.now Close g)) q
+    gateway_grows w (gateway - 1) (marked rules t.fortune (closing rules w.now))
+    (marked_grows rules t.fortune (closing rules w.now) (closing_grows rules w.now)) q
 
 turn_grows : (rules : Rules) (w : World) (t : Turn) (q : ℕ) → GoesOn (firm_in w q) (firm_in (turn rules w t) q)
 turn_grows rules w t q = by_refusal (refusal_of w t.event)
@@ -235,11 +242,11 @@ turn_grows rules w t q = by_refusal (refusal_of w t.event)
     by_refusal None = event_grows rules w t t.event q
     by_refusal (Some kind) = on (firm_in w q)
 
-pub turns_grow : (rules : Rules) (w : World) (later : List Turn) (q : ℕ) → GoesOn (firm_in w q) (firm_in (turns rules w later) q)
-turns_grow rules w [] q = on (firm_in w q)
-turns_grow rules w (t ∷ later) q =
-    on_on (firm_in w q) (firm_in (turn rules w t) q) (firm_in (turns rules (turn rules w t) later) q)
-    (turn_grows rules w t q) (turns_grow rules (turn rules w t) later q)
+pub turns_grow : (w : World) (later : List RuledTurn) (q : ℕ) → GoesOn (firm_in w q) (firm_in (ruled_turns w later) q)
+turns_grow w [] q = on (firm_in w q)
+turns_grow w (t ∷ later) q =
+    on_on (firm_in w q) (firm_in (turn t.rules w t.turn) q) (firm_in (ruled_turns (turn t.rules w t.turn) later) q)
+    (turn_grows t.rules w t.turn q) (turns_grow (turn t.rules w t.turn) later q)
 
 -- ---- what they file
 

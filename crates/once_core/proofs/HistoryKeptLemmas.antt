@@ -34,7 +34,7 @@ use Rattle.transfer_cmd.specs.declared.decision.Ask.{Ask}
 use Rattle.transfer_cmd.specs.declared.decision.Ask.TheVariants as ask
 use Rattle.transfer_cmd.specs.declared.verdict.Verdict.{Verdict}
 use Rattle.transfer_cmd.specs.declared.verdict.Verdict.TheVariants.{Wrong, Before, Change}
-use Rattle.gateway_book.specs.Answer.{Decided, Given, Drops, answer_by, asked_by, changes, decided, held_ones, listed, may_record, node_of, opening_epoch, path_given, recorded_as, recording, replying, responding, tabled}
+use Rattle.gateway_book.specs.Answer.{Decided, Given, Drops, answer_within, asked_by, changes, decided, held_ones, listed, may_record, node_of, opening_epoch, path_given, recorded_as, recording, replying, responding, tabled}
 use Rattle.gateway_book.specs.Limits.{has_place, is_in_range, may_hold, numbers_end, least_number, within_limits}
 use Rattle.gateway_book.specs.Plain.{IsBounded, answer_view}
 use Rattle.gateway_book.specs.Preparing.{PreparedValue, Drop, OtherVersion, Refused, Path, Request}
@@ -106,7 +106,7 @@ abbrev keeps : Given → Bool
 keeps given = is_kept_answer (decided given)
 
 module _ (o : Observed) (room : HistoryAct → Bool) (number : ℕ) where
-  recorded : (a : HistoryAct) (cause : ℕ) → (within_limits o a ≡ true → is_kept_act a ≡ true) → keeps (recording o room number cause a) ≡ true
+  recorded : (a : HistoryAct) (cause : ℕ) → (within_limits o a ≡ true → is_kept_act a ≡ true) → keeps (recording (may_record o room) number cause a) ≡ true
   recorded a cause kept = by_test (within_limits o a) (room a) refl
     where
       by_test : (within has : Bool) → within_limits o a ≡ within →
@@ -122,7 +122,7 @@ module _ (o : Observed) (room : HistoryAct → Bool) (number : ℕ) where
       ap (λ b. b && nat_lt x numbers_end) near ∙ below.1
 
   by_table : (node : NodeId) (meant : ℕ) (packet : List ℕ) (asked : Ask) (state : KeyState) → is_of_world node ≡ true
-      → keeps (tabled o room number (answer_cause asked state) (recorded_as asked node meant packet (state_given asked state))) ≡ true
+      → keeps (tabled (may_record o room) number (answer_cause asked state) (recorded_as asked node meant packet (state_given asked state))) ≡ true
   by_table node meant packet ask.Send Fresh near =
       recorded (act.File node meant packet) ACCEPTED (numbered node meant (has_place o && is_in_range meant) near refl)
   by_table node meant packet ask.Possible Fresh near =
@@ -134,24 +134,24 @@ module _ (o : Observed) (room : HistoryAct → Bool) (number : ℕ) where
   by_table node meant packet ask.Possible _ near = refl
   by_table node meant packet ask.Empty _ near = refl
 
-  by_verdict : (node : NodeId) (release : Bool) (held : List ℕ) (verdict : Verdict) → keeps (tabled o room number (verdict_cause verdict) (changes verdict release node held)) ≡ true
+  by_verdict : (node : NodeId) (release : Bool) (held : List ℕ) (verdict : Verdict) → keeps (tabled (may_record o room) number (verdict_cause verdict) (changes verdict release node held)) ≡ true
   by_verdict node release held Wrong = refl
   by_verdict node release held Before = refl
   by_verdict node true held Change = recorded (act.Release node held) ACCEPTED (λ e. refl)
   by_verdict node false held Change = recorded (act.Cancel node held) ACCEPTED (λ e. refl)
 
-  by_list : (node : NodeId) (release : Bool) (numbers : List ℕ) → keeps (listed o room node number release numbers) ≡ true
+  by_list : (node : NodeId) (release : Bool) (numbers : List ℕ) → keeps (listed o (may_record o room) node number release numbers) ≡ true
   by_list node release numbers =
       by_verdict node release (held_ones o (map (nearest o.top) numbers)) (verdict_of release (map o.state (map (nearest o.top) numbers)))
 
-  by_request : (node : NodeId) (body : TransferValue) → is_of_world node ≡ true → keeps (asked_by o room node number body) ≡ true
+  by_request : (node : NodeId) (body : TransferValue) → is_of_world node ≡ true → keeps (asked_by o (may_record o room) node number body) ≡ true
   by_request node (Send packet) near = by_table node (nearest o.top number) _ _ (o.state (nearest o.top number)) near
   by_request node (Possible packet) near = by_table node (nearest o.top number) _ _ (o.state (nearest o.top number)) near
   by_request node (Cancel numbers) near = by_list node false numbers
   by_request node (Release numbers) near = by_list node true numbers
 
 module _ (o : Observed) (room : HistoryAct → Bool) (from : Addr) (near : is_of_world (node_of from) ≡ true) where
-  by_opening : (number : ℕ) (changed : Option ℕ) → keeps (opening_epoch o room from (Some (AliveTold number)) changed) ≡ true
+  by_opening : (number : ℕ) (changed : Option ℕ) → keeps (opening_epoch (may_record o room) from (Some (AliveTold number)) changed) ≡ true
   by_opening number None = refl
   by_opening number (Some counter) = by_test (may_record o room (act.Path (node_of from) from.port counter))
     where
@@ -159,7 +159,7 @@ module _ (o : Observed) (room : HistoryAct → Bool) (from : Addr) (near : is_of
       by_test true = near
       by_test false = refl
 
-  by_path : (event : PathEvent) → keeps (path_given o room from event) ≡ true
+  by_path : (event : PathEvent) → keeps (path_given o (may_record o room) from event) ≡ true
   by_path (EchoAsked number) = refl
   by_path (EchoTold number counter) = by_opening number (opened_by (option_map (λ path. path.counter) o.opening) counter)
   by_path (AliveAsked number) = refl
@@ -167,7 +167,7 @@ module _ (o : Observed) (room : HistoryAct → Bool) (from : Addr) (near : is_of
 
 -- an answer to a node of the world records what is kept
 pub answers_keep : (o : Observed) (from : Addr) (datagram : PreparedValue) (room : HistoryAct → Bool) → is_of_world (node_of from) ≡ true
-    → is_kept_answer (decided (answer_by o from datagram room)) ≡ true
+    → is_kept_answer (decided (answer_within o from datagram room)) ≡ true
 answers_keep o from (Drop why) room near = refl
 answers_keep o from (OtherVersion number) room near = refl
 answers_keep o from (Refused cause number) room near = refl

@@ -185,7 +185,7 @@ module _ (scene : Scene) (holds : SceneHolds scene) (node start : ℕ) (values :
 
   -- ---- a plain copy that is known to be sealed, or filed, is so
 
-  by_test_answer : (packet : PacketState) (plain : PacketCopy) (cause : ℕ) (port : Port) → port ≡ Second → IsCopyOf packets packet plain → IsAnswered plain.gateway port plain.number cause
+  pub by_test_answer : (packet : PacketState) (plain : PacketCopy) (cause : ℕ) (port : Port) → port ≡ Second → IsCopyOf packets packet plain → IsAnswered plain.gateway port plain.number cause
       → (cause ≡ ALREADY_FULFILLED → IsState (firm plain.gateway) node start plain.number state.Filed) × (cause ≡ ACCEPTED → IsState (firm plain.gateway) node start plain.number state.Sealed)
   by_test_answer packet plain cause port second is answer = by answer.request answer.may answer.tells
     where

@@ -31,7 +31,7 @@ use Rattle.transfer_cmd.specs.declared.decision.Ask.{Ask}
 use Rattle.transfer_cmd.specs.declared.decision.Ask.TheVariants as ask
 use Rattle.transfer_cmd.specs.declared.verdict.Verdict.{Verdict}
 use Rattle.transfer_cmd.specs.declared.verdict.Verdict.TheVariants.{Wrong, Before, Change}
-use Rattle.gateway_book.specs.Answer.{Given, Drops, Replies, act_of, answer_by, asked_by, changes, changing, decided, failure_answer, held_ones, judged, may_record, opening_epoch, path_given, recorded_as, responding, sending, sending_again, tabled}
+use Rattle.gateway_book.specs.Answer.{Given, Drops, Replies, act_of, answer_by, asked_by, changes, changing, decided, failure_answer, held_ones, judged, opening_epoch, path_given, recorded_as, responding, sending, sending_again, tabled}
 use Rattle.gateway_book.specs.Answer as says
 use Rattle.gateway_book.specs.Answered.{entry_by, no_caller}
 use Rattle.gateway_book.specs.Preparing as of
@@ -40,7 +40,7 @@ use Rattle.gateway_book.specs.PreparingLaws.{RolesRead}
 use Rattle.gateway_book.specs.Told.{paths_of}
 use Rattle.gateway_book.specs.Value.{Fortune, history_of, recorded, standing_for}
 use Rattle.once_core.specs.Addresses.{node_address, node_id, node_ip, port_number}
-use Rattle.once_core.specs.Answers.{acting, answered, delivered, delivered_broken, delivered_running, failed, failed_by, if_broken, making_close, making_tick, marked, recorded_where, redirected, redirecting, replying, unless_expired}
+use Rattle.once_core.specs.Answers.{acting, answered, closing, delivered, delivered_broken, delivered_running, failed, failed_by, if_broken, making_close, making_tick, marked, recorded_where, redirected, redirecting, replying, unless_expired}
 use Rattle.once_core.specs.Expired.{is_expired}
 use Rattle.once_core.specs.Gateway.{Gateway, Moved, Rules, followed, opened, readying, still}
 use Rattle.once_core.specs.Messages.{answering, has_type}
@@ -122,8 +122,8 @@ module _ (bound : ℕ → ℕ) (rules : Rules) (now : ℕ) (m : world.Message) (
   abbrev seen : Observed
   seen = observed (history_of g.book) (node_id m.node)
 
-  abbrev room : HistoryAct → Bool
-  room = rules.room (history_of g.book)
+  abbrev may : HistoryAct → Bool
+  may = rules.may (history_of g.book) (node_id m.node)
 
   -- one that doesn't tell of life, with an act that begins no epoch or none
   plain_truly : (number : ℕ) (message : MessageValue) → has_type NODE_ALIVE_RESPONSE (written number message) ≡ false
@@ -140,27 +140,27 @@ module _ (bound : ℕ → ℕ) (rules : Rules) (now : ℕ) (m : world.Message) (
   responds_truly : (number cause : ℕ) (o : Option HistoryAct) → ((a : HistoryAct) → o ≡ Some a → IsNoPath a) → Acts (responding number cause o)
   responds_truly number cause o isnt_path = plain_truly number (TransferResponse cause (number ∷ [])) refl o isnt_path
 
-  tabled_truly : (number cause : ℕ) (o : Option HistoryAct) → ((a : HistoryAct) → o ≡ Some a → IsNoPath a) → Acts (tabled seen room number cause o)
+  tabled_truly : (number cause : ℕ) (o : Option HistoryAct) → ((a : HistoryAct) → o ≡ Some a → IsNoPath a) → Acts (tabled may number cause o)
   tabled_truly number cause None isnt_path = responds_truly number cause None isnt_path
-  tabled_truly number cause (Some a) isnt_path = by (may_record seen room a)
+  tabled_truly number cause (Some a) isnt_path = by (may a)
     where
       by : (b : Bool) → Acts (if b then responding number cause (Some a) else responding number NO_RESOURCES None)
       by true = responds_truly number cause (Some a) isnt_path
       by false = responds_truly number NO_RESOURCES None no_act
 
-  sent_truly : (number : ℕ) (asked : Ask) (packet : List ℕ) → Acts (says.sent seen room (node_id m.node) number asked packet)
+  sent_truly : (number : ℕ) (asked : Ask) (packet : List ℕ) → Acts (says.sent seen may (node_id m.node) number asked packet)
   sent_truly number asked packet =
       let meant = nearest seen.top number in
       tabled_truly number (answer_cause asked (seen.state meant)) (recorded_as asked (node_id m.node) meant packet (state_given asked (seen.state meant)))
       (λ a e. sent_no_path asked (node_id m.node) meant packet (state_given asked (seen.state meant)) a e)
 
-  judged_truly : (number : ℕ) (release : Bool) (numbers : List ℕ) → Acts (judged seen room (node_id m.node) number release numbers)
+  judged_truly : (number : ℕ) (release : Bool) (numbers : List ℕ) → Acts (judged seen may (node_id m.node) number release numbers)
   judged_truly number release numbers =
       let verdict = verdict_of release (map seen.state numbers) in
       tabled_truly number (verdict_cause verdict) (changes verdict release (node_id m.node) (held_ones seen numbers))
       (λ a e. changes_no_path verdict release (node_id m.node) (held_ones seen numbers) a e)
 
-  asked_truly : (number : ℕ) (body : TransferValue) → Acts (asked_by seen room (node_id m.node) number body)
+  asked_truly : (number : ℕ) (body : TransferValue) → Acts (asked_by seen may (node_id m.node) number body)
   asked_truly number (Send packet) = sent_truly number (sending packet) (packet_octets packet)
   asked_truly number (Possible packet) = sent_truly number (sending_again packet) (packet_octets packet)
   asked_truly number (Release numbers) = judged_truly number true (map (nearest seen.top) numbers)
@@ -194,9 +194,9 @@ module _ (bound : ℕ → ℕ) (rules : Rules) (now : ℕ) (m : world.Message) (
             ∙ path_starts (g.book.firm ++ g.book.rest) (moment_after (history_of g.book) now) no_caller (node_id m.node) (port_number m.port) counter
 
     opening_truly : (number counter : ℕ) → counter ≡ m.start → (o : Option ℕ) → opened_by (option_map (λ opening. opening.counter) (opening_of (node_ip m.node) (history_of g.book))) counter ≡ o
-        → Acts (opening_epoch seen room (node_address m.node m.port) (Some (AliveTold number)) o)
+        → Acts (opening_epoch may (node_address m.node m.port) (Some (AliveTold number)) o)
     opening_truly number counter same None e = known_truly number (known_start (opening_of (node_ip m.node) (history_of g.book)) counter e ∙ same)
-    opening_truly number counter same (Some path) e = by (may_record seen room (act.Path (node_id m.node) (port_number m.port) path))
+    opening_truly number counter same (Some path) e = by (may (act.Path (node_id m.node) (port_number m.port) path))
       where
         by : (b : Bool) → Acts (if b then says.replying (Some (AliveTold number)) (Some (act.Path (node_id m.node) (port_number m.port) path)) else Drops NoRoom)
         by true = opens_truly number path
@@ -204,14 +204,14 @@ module _ (bound : ℕ → ℕ) (rules : Rules) (now : ℕ) (m : world.Message) (
             (sym (opened_start (opening_of (node_ip m.node) (history_of g.book)) counter path e) ∙ same)
         by false = still_truly m.gateway bound g truly
 
-    event_truly : (event : PathEvent) → counter_in m.start (of.Path event) ≡ m.start → Acts (path_given seen room (node_address m.node m.port) event)
+    event_truly : (event : PathEvent) → counter_in m.start (of.Path event) ≡ m.start → Acts (path_given seen may (node_address m.node m.port) event)
     event_truly (EchoAsked number) is = plain_truly number (EchoResponse seen.own) refl None no_act
     event_truly (AliveAsked number) is = plain_truly number EchoRequest refl None no_act
     event_truly (AliveTold number) is = still_truly m.gateway bound g truly
     event_truly (EchoTold number counter) is =
         opening_truly number counter is (opened_by (option_map (λ opening. opening.counter) (opening_of (node_ip m.node) (history_of g.book))) counter) refl
 
-    answer_truly : (p : PreparedValue) → counter_in m.start p ≡ m.start → Acts (answer_by seen (node_address m.node m.port) p room)
+    answer_truly : (p : PreparedValue) → counter_in m.start p ≡ m.start → Acts (answer_by seen (node_address m.node m.port) p may)
     answer_truly (of.Drop why) is = still_truly m.gateway bound g truly
     answer_truly (of.OtherVersion number) is = plain_truly number VersionNotSupported refl None no_act
     answer_truly (of.Refused cause number) is = responds_truly number cause None no_act
@@ -244,9 +244,16 @@ module _ (place : ℕ) (bound : ℕ → ℕ) (g : Gateway) (truly : Truly place 
   ticked_truly now = ready_truly still (making_tick rules now) (λ a is e. still_truly place bound a is)
       (λ a is e same. mark_truly now (is_tick_due rules.open_time now (history_of a.book) && rules.room (history_of a.book) act.Tick) act.Tick tt a is e)
 
-  pub closed_truly : (now : ℕ) → TrulyMoved place bound g (marked rules f (making_close now) g)
-  closed_truly now = ready_truly still (making_close now) (λ a is e. still_truly place bound a is)
-      (λ a is e same. mark_truly now (is_close_due (history_of a.book)) act.Close tt a is e)
+  closing_truly : (now : ℕ) (b : Gateway) → Truly place bound b → b.book.is_broken ≡ false → TrulyMoved place bound b (closing rules now b)
+  closing_truly now b truly sound = by (rules.may_close (history_of b.book))
+    where
+      by : (c : Bool) → TrulyMoved place bound b (if c then making_close now b else still b)
+      by true = mark_truly now (is_close_due (history_of b.book)) act.Close tt b truly sound
+      by false = still_truly place bound b truly
+
+  pub closed_truly : (now : ℕ) → TrulyMoved place bound g (marked rules f (closing rules now) g)
+  closed_truly now = ready_truly still (closing rules now) (λ a is e. still_truly place bound a is)
+      (λ a is e same. closing_truly now a is e)
 
 -- ---- openings and redirections
 

@@ -14,13 +14,13 @@ use Rattle.node_core.specs.Log.{LogEntry, Began, counter_of}
 use Rattle.node_core.specs.Reached as call
 use Rattle.path_mgmt.specs.NodePath.{is_alive, node_anew}
 use Rattle.once_core.specs.Addresses.{first_node_ip, node_ip}
-use Rattle.once_core.specs.Answers.{delivered, making_close, making_tick, marked, redirected}
-use Rattle.once_core.specs.Beginning.{first_gateway, times_of, world_of}
+use Rattle.once_core.specs.Answers.{closing, delivered, making_tick, marked, redirected}
+use Rattle.once_core.specs.Beginning.{first_gateway, first_world, times_of}
 use Rattle.once_core.specs.Expired.{starts_in}
 use Rattle.once_core.specs.Gateway.{Gateway, Moved, Rules, committing, cut, opened, settling, still}
 use Rattle.once_core.specs.Once.{firm_in}
 use Rattle.once_core.specs.Shown.{forms_ever, values_of}
-use Rattle.once_core.specs.Turn.{Turn, at_gateway, at_node, delivering, gateway_moved, node_called, refusal_of, turn, turn_by, turns, unless_refused}
+use Rattle.once_core.specs.Turn.{RuledTurn, Turn, at_gateway, at_node, delivering, gateway_moved, node_called, refusal_of, ruled_turns, turn, turn_by, unless_refused}
 use Rattle.once_core.specs.World.{Called, World, called, delivered_to_node, log_at, submitting, ticking}
 use Rattle.once_core.specs.declared.event.Event.{Event}
 use Rattle.once_core.specs.declared.event.Event.TheVariants as event
@@ -28,7 +28,7 @@ use Rattle.once_core.specs.declared.event.WorldKind.{WorldKind}
 use Rattle.once_core.specs.declared.message.Message.{Message}
 use Rattle.once_core.proofs.AliveLemmas.{none_alive}
 use Rattle.once_core.proofs.CommitPlays.{whole_book}
-use Rattle.once_core.proofs.FirstPlays.{first_made, times_each}
+use Rattle.once_core.proofs.FirstPlays.{first_made, gateways_each, times_each}
 use Rattle.once_core.proofs.LifeAnswers.{closed_truly, delivered_truly, opened_truly, redirected_truly, ticked_truly}
 use Rattle.once_core.proofs.LifeMoves.{Truly, TrulyMoved, committing_truly, cut_truly, firm_truly, followed_truly, no_path_truly, none_truly, tells_alive}
 use Rattle.once_core.proofs.LifeNodes.{LifeCalled, LifeIn, halt_life, hear_life, start_life, submit_life, tick_life}
@@ -213,7 +213,7 @@ module _ (laws : Laws) (rules : Rules) (values : ℕ → ℕ → List ℕ) (w : 
   event_lives t (event.Moment now) = record { gateways = lives.gateways; told = lives.told; began = lives.began; alive = lives.alive }
   event_lives t (event.Mark gateway) = gateway_lives w lives (gateway - 1) (marked rules t.fortune (making_tick rules w.now))
       (λ g truly. ticked_truly (gateway - 1) (starts_at w) g truly rules t.fortune w.now)
-  event_lives t (event.Close gateway) = gateway_lives w lives (gateway - 1) (marked rules t.fortune (making_close w.now))
+  event_lives t (event.Close gateway) = gateway_lives w lives (gateway - 1) (marked rules t.fortune (closing rules w.now))
       (λ g truly. closed_truly (gateway - 1) (starts_at w) g truly rules t.fortune w.now)
 
   turn_lives : (t : Turn) → Lives (turn rules w t)
@@ -251,37 +251,37 @@ first_truly rules place bound = (by (rules.room (history_of (standing_for [])) a
         (firm_truly place bound (noted 0 act.Start new_gateway) note.truly 0)
     by false = firm_truly place bound new_gateway anew 0
 
-first_lives : (rules : Rules) (gateways nodes : ℕ) → Lives (world_of rules gateways nodes)
+first_lives : (rules : ℕ → Rules) (gateways nodes : ℕ) → Lives (first_world rules gateways nodes)
 first_lives rules gateways nodes = record {
-  gateways = λ place g is. subst (Truly place (starts_at (world_of rules gateways nodes))) (times_each gateways (first_gateway rules) place g is)
-      (first_truly rules place (starts_at (world_of rules gateways nodes)));
+  gateways = λ place g is. subst (Truly place (starts_at (first_world rules gateways nodes))) (gateways_each rules gateways place g is)
+      (first_truly (rules place) place (starts_at (first_world rules gateways nodes)));
   told = λ m is. absurd (in_none m is);
   began = λ m is. absurd (in_none m is);
   alive = λ place. by place (slice_get (times_of nodes (Began ∷ [])) place) refl;
 }
   where
-    none : (place counter gateway : ℕ) (log : List LogEntry) → is_alive (node_anew counter) gateway ≡ true → starts_in log ≤ known_at (world_of rules gateways nodes) place gateway
+    none : (place counter gateway : ℕ) (log : List LogEntry) → is_alive (node_anew counter) gateway ≡ true → starts_in log ≤ known_at (first_world rules gateways nodes) place gateway
     none place counter gateway log is = absurd (false≢true (sym (none_alive counter gateway) ∙ is))
 
     by : (place : ℕ) (o : Option (List LogEntry)) → slice_get (times_of nodes (Began ∷ [])) place ≡ o
-        → LifeIn (known_at (world_of rules gateways nodes) place) (option_map_or (λ log. log) o [])
+        → LifeIn (known_at (first_world rules gateways nodes) place) (option_map_or (λ log. log) o [])
     by place None e = λ gateway is. none place 1 gateway [] is
     by place (Some log) e =
-        subst (LifeIn (known_at (world_of rules gateways nodes) place)) (times_each nodes (Began ∷ []) place log e) (λ gateway is. none place (counter_of 1 (Began ∷ [])) gateway (Began ∷ []) is)
+        subst (LifeIn (known_at (first_world rules gateways nodes) place)) (times_each nodes (Began ∷ []) place log e) (λ gateway is. none place (counter_of 1 (Began ∷ [])) gateway (Began ∷ []) is)
 
 -- ---- turns
 
-turns_live : (laws : Laws) (rules : Rules) (values : ℕ → ℕ → List ℕ) (w : World) (later : List Turn) → Made values w → Lives w
-    → ((place : ℕ) → Values (values place) (forms_ever (log_at (turns rules w later) place))) → Lives (turns rules w later)
-turns_live laws rules values w [] made lives are = lives
-turns_live laws rules values w (t ∷ later) made lives are =
-    turns_live laws rules values (turn rules w t) later
-    (turn_made laws rules values w made
-    (λ place. values_before (values place) (forms_ever (log_at w place)) (forms_ever (log_at (turns rules (turn rules w t) later) place)) (turns_forms rules w (t ∷ later) place) (are place)) t)
-    (turn_lives laws rules values w made lives t) are
+turns_live : (laws : Laws) (values : ℕ → ℕ → List ℕ) (w : World) (later : List RuledTurn) → Made values w → Lives w
+    → ((place : ℕ) → Values (values place) (forms_ever (log_at (ruled_turns w later) place))) → Lives (ruled_turns w later)
+turns_live laws values w [] made lives are = lives
+turns_live laws values w (t ∷ later) made lives are =
+    turns_live laws values (turn t.rules w t.turn) later
+    (turn_made laws t.rules values w made
+    (λ place. values_before (values place) (forms_ever (log_at w place)) (forms_ever (log_at (ruled_turns (turn t.rules w t.turn) later) place)) (turns_forms w (t ∷ later) place) (are place)) t.turn)
+    (turn_lives laws t.rules values w made lives t.turn) are
 
-pub world_lives : Laws → (rules : Rules) (gateways nodes : ℕ) (all : List Turn) → 1 ≤ gateways → Lives (turns rules (world_of rules gateways nodes) all)
+pub world_lives : Laws → (rules : ℕ → Rules) (gateways nodes : ℕ) (all : List RuledTurn) → 1 ≤ gateways → Lives (ruled_turns (first_world rules gateways nodes) all)
 world_lives laws rules gateways nodes all some =
-    let values : ℕ → ℕ → List ℕ = λ place. values_of (log_at (turns rules (world_of rules gateways nodes) all) place) in
-    turns_live laws rules values (world_of rules gateways nodes) all (first_made values rules gateways nodes some) (first_lives rules gateways nodes)
-    (λ place. values_are (log_at (turns rules (world_of rules gateways nodes) all) place))
+    let values : ℕ → ℕ → List ℕ = λ place. values_of (log_at (ruled_turns (first_world rules gateways nodes) all) place) in
+    turns_live laws values (first_world rules gateways nodes) all (first_made values rules gateways nodes some) (first_lives rules gateways nodes)
+    (λ place. values_are (log_at (ruled_turns (first_world rules gateways nodes) all) place))

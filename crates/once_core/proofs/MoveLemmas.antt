@@ -209,13 +209,13 @@ waited scene l post holds is more firm answers told = by (nat_le (length (histor
         })
 
 -- a request comes
-came : (scene : Scene) (letter : Letter) (request : Request) (room : HistoryAct → Bool) (now : ℕ) (who : Caller) → SceneHolds scene → Contains scene.letters letter
+came : (scene : Scene) (letter : Letter) (request : Request) (may : HistoryAct → Bool) (now : ℕ) (who : Caller) → SceneHolds scene → Contains scene.letters letter
     → letter.says ≡ Asks request
     → SceneHolds (record scene {
-      posts = at letter.gateway (coming room now who letter request (scene.posts letter.gateway)).post scene.posts;
-      letters = scene.letters ++ (coming room now who letter request (scene.posts letter.gateway)).sends;
+      posts = at letter.gateway (coming may now who letter request (scene.posts letter.gateway)).post scene.posts;
+      letters = scene.letters ++ (coming may now who letter request (scene.posts letter.gateway)).sends;
     })
-came scene letter request room now who holds kept says = by (is_timely (history post) letter request) refl
+came scene letter request may now who holds kept says = by (is_timely (history post) letter request) refl
   where
     post : Post
     post = scene.posts letter.gateway
@@ -224,7 +224,7 @@ came scene letter request room now who holds kept says = by (is_timely (history 
     before = holds.posts letter.gateway
 
     settled : Bool → Settled
-    settled b = if b then answering now who letter (given (history post) room letter request) post else record { post = post; sends = [] }
+    settled b = if b then answering now who letter (given (history post) may letter request) post else record { post = post; sends = [] }
 
     lost : SceneHolds (record scene { posts = at letter.gateway post scene.posts; letters = scene.letters ++ [] })
     lost =
@@ -271,8 +271,8 @@ came scene letter request room now who holds kept says = by (is_timely (history 
         → SceneHolds (record scene { posts = at letter.gateway (settled b).post scene.posts; letters = scene.letters ++ (settled b).sends })
     by false e = lost
     by true e =
-        answered (given (history post) room letter request)
-        (answer_is_sound scene.letters (history post) letter request room (starts_rise scene.letters letter.gateway (history post) before.rests) kept says e)
+        answered (given (history post) may letter request)
+        (answer_is_sound scene.letters (history post) letter request may (starts_rise scene.letters letter.gateway (history post) before.rests) kept says e)
 
 -- ---- whatever happens
 
@@ -292,11 +292,11 @@ opened scene gateway node port counter now who true e holds =
     (ltb-true (start_of node.0 (history (scene.posts gateway))) counter e))
     [] (sym (append-nil (scene.posts gateway).firm))
 
-coming_on : (scene : Scene) (letter : Letter) (says : Meaning) (room : HistoryAct → Bool) (now : ℕ) (who : Caller) → letter.says ≡ says → Contains scene.letters letter
-    → SceneHolds scene → SceneHolds (after_coming room now who letter says scene)
-coming_on scene letter (Asks request) room now who says kept holds = came scene letter request room now who holds kept says
-coming_on scene letter (Answers cause) room now who says kept holds = holds
-coming_on scene letter Else room now who says kept holds = holds
+coming_on : (scene : Scene) (letter : Letter) (says : Meaning) (may : HistoryAct → Bool) (now : ℕ) (who : Caller) → letter.says ≡ says → Contains scene.letters letter
+    → SceneHolds scene → SceneHolds (after_coming may now who letter says scene)
+coming_on scene letter (Asks request) may now who says kept holds = came scene letter request may now who holds kept says
+coming_on scene letter (Answers cause) may now who says kept holds = holds
+coming_on scene letter Else may now who says kept holds = holds
 
 one_on : (scene : Scene) (there : Option Letter) (f : Letter → Scene → Scene) → ((letter : Letter) → there ≡ Some letter → SceneHolds (f letter scene)) → SceneHolds scene
     → SceneHolds (with_one there f scene)
@@ -307,9 +307,9 @@ pub holds_on : (scene : Scene) (next : Happening) → SceneHolds scene → Scene
 holds_on scene (happens.Sends letter) holds = sending scene letter (is_request letter.says) refl holds
 holds_on scene (Hears k) holds =
     one_on scene (slice_get scene.letters k) (λ letter. after_hearing (is_answer letter.says) letter) (λ letter there. hearing scene letter (is_answer letter.says) (get_contains scene.letters k letter there) holds) holds
-holds_on scene (Comes k room now who) holds =
-    one_on scene (slice_get scene.letters k) (λ letter. after_coming room now who letter letter.says)
-    (λ letter there. coming_on scene letter letter.says room now who refl (get_contains scene.letters k letter there) holds) holds
+holds_on scene (Comes k may now who) holds =
+    one_on scene (slice_get scene.letters k) (λ letter. after_coming may now who letter letter.says)
+    (λ letter there. coming_on scene letter letter.says may now who refl (get_contains scene.letters k letter there) holds) holds
 holds_on scene (Opens gateway node port counter now who) holds =
     opened scene gateway node port counter now who (nat_lt (start_of node.0 (history (scene.posts gateway))) counter) refl holds
 holds_on scene (Notes gateway note now who) holds =

@@ -19,7 +19,7 @@ use Rattle.gtpp_message.specs.declared.role.Role.TheVariants as role
 use Rattle.path_mgmt.specs.GatewayPath.{opened_by}
 use Rattle.path_mgmt.specs.declared.event.PathEvent.{PathEvent}
 use Rattle.path_mgmt.specs.declared.event.PathEvent.TheVariants.{EchoAsked, EchoTold, AliveAsked, AliveTold}
-use Rattle.gateway_book.specs.Answer.{Given, Drops, answer_by, decided, may_record, opening_epoch, replying}
+use Rattle.gateway_book.specs.Answer.{Given, Drops, answer_by, decided, opening_epoch, replying}
 use Rattle.gateway_book.specs.Answered.{no_caller}
 use Rattle.gateway_book.specs.Preparing.{Path, PreparedValue, framed}
 use Rattle.gateway_book.specs.PreparingLaws.{RolesRead}
@@ -150,17 +150,17 @@ module _ (back : ReadsBack) (roles : RolesRead) (rules : Rules) (now : ℕ) (m :
 
     opening_plays : (event : PathEvent) (counter : ℕ) (o : Option ℕ)
         → ((path : ℕ) → o ≡ Some path → nat_lt (start_of (node_ip m.node) (history_of g.book)) path ≡ true)
-        → acts (opening_epoch (observed (history_of g.book) (node_id m.node)) (rules.room (history_of g.book)) (node_address m.node m.port) (Some event) o)
+        → acts (opening_epoch (rules.may (history_of g.book) (node_id m.node)) (node_address m.node m.port) (Some event) o)
     opening_plays event counter None rise = plain_plays (Some event)
     opening_plays event counter (Some path) rise =
-        by (may_record (observed (history_of g.book) (node_id m.node)) (rules.room (history_of g.book)) (act.Path (node_id m.node) (port_number m.port) path))
+        by (rules.may (history_of g.book) (node_id m.node) (act.Path (node_id m.node) (port_number m.port) path))
       where
         by : (b : Bool) → acts (if b then replying (Some event) (Some (act.Path (node_id m.node) (port_number m.port) path)) else Drops NoRoom)
         by true = path_plays event path (rise path refl)
         by false = still_plays m.gateway scene g stands
 
     event_plays : (event : PathEvent) → ((number counter : ℕ) → event ≡ EchoTold number counter → counter ≡ m.start)
-        → acts (answer_by (observed (history_of g.book) (node_id m.node)) (node_address m.node m.port) (Path event) (rules.room (history_of g.book)))
+        → acts (answer_by (observed (history_of g.book) (node_id m.node)) (node_address m.node m.port) (Path event) (rules.may (history_of g.book) (node_id m.node)))
     event_plays (EchoAsked number) is = plain_plays (Some (EchoTold number (observed (history_of g.book) (node_id m.node)).own))
     event_plays (AliveAsked number) is = plain_plays (Some (EchoAsked number))
     event_plays (AliveTold number) is = plain_plays None
@@ -171,7 +171,7 @@ module _ (back : ReadsBack) (roles : RolesRead) (rules : Rules) (now : ℕ) (m :
         (omega (arith, fresh_start (history_of g.book) m fresh, same)) e)
 
     message_plays : (path : ℕ) (message : MessageValue) → FromNode m path message → Other message
-        → acts (answer_by (observed (history_of g.book) (node_id m.node)) (node_address m.node m.port) (framed (for_role role.Gateway (Message path message))) (rules.room (history_of g.book)))
+        → acts (answer_by (observed (history_of g.book) (node_id m.node)) (node_address m.node m.port) (framed (for_role role.Gateway (Message path message))) (rules.may (history_of g.book) (node_id m.node)))
     message_plays path EchoRequest fits other = event_plays (EchoAsked path) (λ number counter e. absurd (cc))
     message_plays path (EchoResponse counter) fits other = event_plays (EchoTold path counter)
         (λ number told e. ap (λ (v : PathEvent). elim v [ EchoAsked n ↦ 0 | EchoTold n c ↦ c | AliveAsked n ↦ 0 | AliveTold n ↦ 0 ]) (sym e) ∙ fits)
@@ -185,5 +185,5 @@ module _ (back : ReadsBack) (roles : RolesRead) (rules : Rules) (now : ℕ) (m :
 
     pub other_plays : (path : ℕ) (message : MessageValue) → IsWritten m.octets path message → FromNode m path message → Other message → Plays m.gateway scene (answered rules now m g)
     other_plays path message w fits other =
-        subst (λ (p : PreparedValue). acts (answer_by (observed (history_of g.book) (node_id m.node)) (node_address m.node m.port) p (rules.room (history_of g.book))))
+        subst (λ (p : PreparedValue). acts (answer_by (observed (history_of g.book) (node_id m.node)) (node_address m.node m.port) p (rules.may (history_of g.book) (node_id m.node))))
         (sym (ap framed (role_read_of back roles role.Gateway m.octets path message w))) (message_plays path message fits other)

@@ -20,7 +20,7 @@ use Rattle.node_core.specs.declared.sending.Sending.TheVariants as send
 use Rattle.path_mgmt.specs.NodePath.{PathsOfNode, is_alive}
 use Rattle.once_core.specs.Addresses.{addresses_from, first_node_ip, gateway_at, node_ip, setup_of}
 use Rattle.once_core.specs.Answers.{answered, delivered, delivered_broken, delivered_running, failed, if_broken, taken_in}
-use Rattle.once_core.specs.Beginning.{world_of}
+use Rattle.once_core.specs.Beginning.{first_world}
 use Rattle.once_core.specs.Epochs.{StartsRise}
 use Rattle.once_core.specs.Expired.{is_expired, present_start, starts_in, taken_for}
 use Rattle.once_core.specs.Gateway.{Gateway, Moved, Rules, committing, followed, readying, still, with_book}
@@ -28,7 +28,7 @@ use Rattle.once_core.specs.Growing.{IsBetween}
 use Rattle.once_core.specs.Messages.{about, is_request}
 use Rattle.once_core.specs.Once.{firm_in}
 use Rattle.once_core.specs.Shown.{post_of, values_of}
-use Rattle.once_core.specs.Turn.{Turn, at_gateway, at_node, delivering, gateway_moved, node_called, refusal_of, refusing, turn, turn_by, turns, unless_refused}
+use Rattle.once_core.specs.Turn.{RuledTurn, Turn, at_gateway, at_node, delivering, gateway_moved, node_called, refusal_of, refusing, ruled_turns, turn, turn_by, unless_refused}
 use Rattle.once_core.specs.World.{World, delivered_to_node, log_at, message_of, node_value, ticking}
 use Rattle.once_core.specs.declared.event.Event.{Event}
 use Rattle.once_core.specs.declared.event.Event.TheVariants as event
@@ -159,12 +159,12 @@ low_fresh h m none low =
     ap (λ (b : Bool). nat_lt m.start (present_start h m) || (b && (not (m.start == present_start h m) || not (taken_for h m == about m)))) none
     ∙ ap (λ (b : Bool). b || false) (le-ltb m.start (present_start h m) low)
 
-module _ (laws : Laws) (numbers : Numbers) (sent : RequestsSent) (rules : Rules) (gateways nodes : ℕ) (all : List Turn) (some : 1 ≤ gateways) (node : ℕ) where
+module _ (laws : Laws) (numbers : Numbers) (sent : RequestsSent) (rules : ℕ → Rules) (gateways nodes : ℕ) (all : List RuledTurn) (some : 1 ≤ gateways) (node : ℕ) where
   abbrev w : World
-  w = turns rules (world_of rules gateways nodes) all
+  w = ruled_turns (first_world rules gateways nodes) all
 
   abbrev values : ℕ → ℕ → List ℕ
-  values place = values_of (log_at (turns rules (world_of rules gateways nodes) all) place)
+  values place = values_of (log_at (ruled_turns (first_world rules gateways nodes) all) place)
 
   pub sent_fresh : (m : Message) (g : Gateway) (h : List HistoryEntry) → refusal_of w (event.Tick node) ≡ None → Contains (ticking (length w.gateways) (node - 1) (log_at w (node - 1))).sends m
       → slice_get w.gateways m.gateway ≡ Some g → IsBetween (post_of g) h → is_expired h m ≡ false
@@ -251,15 +251,15 @@ asked_between rules f g = by g.book.is_broken refl
     by false e = subst (IsBetween (post_of g)) (sym (ap (λ (b : Bool). if b then g.book.firm else g.book.firm ++ g.book.rest) e)) whole
     by true e = by_full g.book.is_broken e e
 
-module _ (laws : Laws) (numbers : Numbers) (sent : RequestsSent) (rules : Rules) (gateways nodes : ℕ) (all : List Turn) (some : 1 ≤ gateways) (node : ℕ) where
+module _ (laws : Laws) (numbers : Numbers) (sent : RequestsSent) (rules : ℕ → Rules) (gateways nodes : ℕ) (all : List RuledTurn) (some : 1 ≤ gateways) (node : ℕ) where
   abbrev before : World
-  before = turns rules (world_of rules gateways nodes) all
+  before = ruled_turns (first_world rules gateways nodes) all
 
   -- what stands behind the messages that were there before the tick is a message of the node to a gateway, and isn't expired
-  module _ (t : Turn) (k : ℕ) (m : Message) (within : length before.messages ≤ k) where
+  module _ (ticking_rules : Rules) (t : Turn) (k : ℕ) (m : Message) (within : length before.messages ≤ k) where
     record IsFresh (w : World) : Type 0 where
       to : m.to_gateway ≡ true
-      fresh : (f : Fortune) (g : Gateway) → slice_get w.gateways m.gateway ≡ Some g → is_expired (history_asked rules f g) m ≡ false
+      fresh : (r : Rules) (f : Fortune) (g : Gateway) → slice_get w.gateways m.gateway ≡ Some g → is_expired (history_asked r f g) m ≡ false
 
     ticked : (o : Option (List LogEntry)) → slice_get before.nodes (node - 1) ≡ o → refusal_of before (event.Tick node) ≡ None
         → slice_get (option_map_or (λ log. node_called before (node - 1) (ticking (length before.gateways) (node - 1) log)) o before).messages k ≡ Some m
@@ -270,44 +270,44 @@ module _ (laws : Laws) (numbers : Numbers) (sent : RequestsSent) (rules : Rules)
         let s = of_map (λ (s : Sending). message_of (node - 1) log (outgoing (node_value (length before.gateways) (node - 1) log) s)) (due (node_value (length before.gateways) (node - 1) log)) m there in
         record {
           to = ap (λ (n : Message). n.to_gateway) (sym s.2);
-          fresh = λ f g here. sent_fresh laws numbers sent rules gateways nodes all some node m g (history_asked rules f g) allowed
+          fresh = λ r f g here. sent_fresh laws numbers sent rules gateways nodes all some node m g (history_asked r f g) allowed
               (subst (λ (l : List LogEntry). Contains (ticking (length before.gateways) (node - 1) l).sends m) (sym (ap (λ (o : Option (List LogEntry)). option_map_or (λ l. l) o []) e)) there)
-              here (asked_between rules f g);
+              here (asked_between r f g);
         }
 
-    next_fresh : t.event ≡ event.Tick node → slice_get (turn rules before t).messages k ≡ Some m → IsFresh (turn rules before t)
+    next_fresh : t.event ≡ event.Tick node → slice_get (turn ticking_rules before t).messages k ≡ Some m → IsFresh (turn ticking_rules before t)
     next_fresh ticks is = by (refusal_of before t.event) refl is
       where
-        by : (o : Option WorldKind) → refusal_of before t.event ≡ o → slice_get (unless_refused o before (turn_by rules before t t.event)).messages k ≡ Some m
-            → IsFresh (unless_refused o before (turn_by rules before t t.event))
+        by : (o : Option WorldKind) → refusal_of before t.event ≡ o → slice_get (unless_refused o before (turn_by ticking_rules before t t.event)).messages k ≡ Some m
+            → IsFresh (unless_refused o before (turn_by ticking_rules before t t.event))
         by (Some kind) e is = absurd (none_behind before.messages k m within is)
         by None e is =
-            subst (λ (v : Event). IsFresh (turn_by rules before t v)) (sym ticks)
-            (ticked (slice_get before.nodes (node - 1)) refl (ap (refusal_of before) (sym ticks) ∙ e) (subst (λ (v : Event). slice_get (turn_by rules before t v).messages k ≡ Some m) ticks is))
+            subst (λ (v : Event). IsFresh (turn_by ticking_rules before t v)) (sym ticks)
+            (ticked (slice_get before.nodes (node - 1)) refl (ap (refusal_of before) (sym ticks) ∙ e) (subst (λ (v : Event). slice_get (turn_by ticking_rules before t v).messages k ≡ Some m) ticks is))
 
   -- so the next event has the gateway take it in
-  pub next_taken : (t next : Turn) (number : ℕ) (m : Message) → t.event ≡ event.Tick node → next.event ≡ event.Deliver number → length before.messages < number
-      → slice_get (turn rules before t).messages (number - 1) ≡ Some m
-      → turn rules (turn rules before t) next ≡ at_gateway (turn rules before t) m.gateway (taken_in rules (turn rules before t).now next.fortune m)
-  next_taken t next number m ticks delivers within is =
-      ap (λ (v : Event). unless_refused (refusal_of (turn rules before t) v) (turn rules before t) (turn_by rules (turn rules before t) next v)) delivers
-      ∙ ap (λ (b : Bool). unless_refused (refusing (not b) NoMessage) (turn rules before t) (turn_by rules (turn rules before t) next (event.Deliver number))) there
-      ∙ ap (λ (o : Option Message). option_map_or (delivering rules next.fortune (turn rules before t)) o (turn rules before t)) is
-      ∙ ap (λ (b : Bool). if b then at_gateway (turn rules before t) m.gateway (delivered rules (turn rules before t).now next.fortune m)
-      else at_node (turn rules before t) m.node (delivered_to_node (length (turn rules before t).gateways) m.node m)) fresh.to
-      ∙ by (slice_get (turn rules before t).gateways m.gateway) refl
+  pub next_taken : (ticking_rules next_rules : Rules) (t next : Turn) (number : ℕ) (m : Message) → t.event ≡ event.Tick node → next.event ≡ event.Deliver number → length before.messages < number
+      → slice_get (turn ticking_rules before t).messages (number - 1) ≡ Some m
+      → turn next_rules (turn ticking_rules before t) next ≡ at_gateway (turn ticking_rules before t) m.gateway (taken_in next_rules (turn ticking_rules before t).now next.fortune m)
+  next_taken ticking_rules next_rules t next number m ticks delivers within is =
+      ap (λ (v : Event). unless_refused (refusal_of (turn ticking_rules before t) v) (turn ticking_rules before t) (turn_by next_rules (turn ticking_rules before t) next v)) delivers
+      ∙ ap (λ (b : Bool). unless_refused (refusing (not b) NoMessage) (turn ticking_rules before t) (turn_by next_rules (turn ticking_rules before t) next (event.Deliver number))) there
+      ∙ ap (λ (o : Option Message). option_map_or (delivering next_rules next.fortune (turn ticking_rules before t)) o (turn ticking_rules before t)) is
+      ∙ ap (λ (b : Bool). if b then at_gateway (turn ticking_rules before t) m.gateway (delivered next_rules (turn ticking_rules before t).now next.fortune m)
+      else at_node (turn ticking_rules before t) m.node (delivered_to_node (length (turn ticking_rules before t).gateways) m.node m)) fresh.to
+      ∙ by (slice_get (turn ticking_rules before t).gateways m.gateway) refl
     where
-      fresh : IsFresh t (number - 1) m (omega (arith, within)) (turn rules before t)
-      fresh = next_fresh t (number - 1) m (omega (arith, within)) ticks is
+      fresh : IsFresh ticking_rules t (number - 1) m (omega (arith, within)) (turn ticking_rules before t)
+      fresh = next_fresh ticking_rules t (number - 1) m (omega (arith, within)) ticks is
 
-      there : (nat_lt 0 number && nat_le number (length (turn rules before t).messages)) ≡ true
+      there : (nat_lt 0 number && nat_le number (length (turn ticking_rules before t).messages)) ≡ true
       there =
-          let inside = slice_get_within (turn rules before t).messages (number - 1) m is in
-          and_from (nat_lt 0 number) (nat_le number (length (turn rules before t).messages)) (lt-ltb 0 number (omega (arith, within)))
-          (le-leb number (length (turn rules before t).messages) (omega (arith, inside, within)))
+          let inside = slice_get_within (turn ticking_rules before t).messages (number - 1) m is in
+          and_from (nat_lt 0 number) (nat_le number (length (turn ticking_rules before t).messages)) (lt-ltb 0 number (omega (arith, within)))
+          (le-leb number (length (turn ticking_rules before t).messages) (omega (arith, inside, within)))
 
-      by : (o : Option Gateway) → slice_get (turn rules before t).gateways m.gateway ≡ o
-          → option_map_or (λ g. gateway_moved (turn rules before t) m.gateway (delivered rules (turn rules before t).now next.fortune m g)) o (turn rules before t)
-          ≡ option_map_or (λ g. gateway_moved (turn rules before t) m.gateway (taken_in rules (turn rules before t).now next.fortune m g)) o (turn rules before t)
+      by : (o : Option Gateway) → slice_get (turn ticking_rules before t).gateways m.gateway ≡ o
+          → option_map_or (λ g. gateway_moved (turn ticking_rules before t) m.gateway (delivered next_rules (turn ticking_rules before t).now next.fortune m g)) o (turn ticking_rules before t)
+          ≡ option_map_or (λ g. gateway_moved (turn ticking_rules before t) m.gateway (taken_in next_rules (turn ticking_rules before t).now next.fortune m g)) o (turn ticking_rules before t)
       by None e = refl
-      by (Some g) e = ap (gateway_moved (turn rules before t) m.gateway) (fresh_taken rules (turn rules before t).now next.fortune m g (fresh.fresh next.fortune g e))
+      by (Some g) e = ap (gateway_moved (turn ticking_rules before t) m.gateway) (fresh_taken next_rules (turn ticking_rules before t).now next.fortune m g (fresh.fresh next_rules next.fortune g e))

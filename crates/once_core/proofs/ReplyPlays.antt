@@ -9,7 +9,7 @@ use Rattle.gateway_book.specs.Value.{BookValue, history_of, recorded}
 use Rattle.once_core.specs.Answers as world
 use Rattle.once_core.specs.Answers.{replying}
 use Rattle.once_core.specs.Gateway.{Gateway, is_reached, still}
-use Rattle.once_core.specs.Happenings.{Happening, Letter, Post, Scene, history}
+use Rattle.once_core.specs.Happenings.{Happening, Scene}
 use Rattle.once_core.specs.Happenings as did
 use Rattle.once_core.specs.Meaning.{letter_of, speaks}
 use Rattle.once_core.specs.Scenes.{Settled, happened, happened_all, noting, waiting_for, with_post, with_settled}

@@ -16,7 +16,7 @@ use Rattle.gtpp_message.specs.Packet.{Empty, Full}
 use Rattle.gtpp_message.specs.Writing.{written}
 use Rattle.gtpp_message.specs.declared.message_types.TheConstants.{TRANSFER_REQUEST}
 use Rattle.gtpp_message.specs.declared.role.Role.TheVariants as role
-use Rattle.gateway_book.specs.Answer.{Given, Says, answer_by, asked_by, decided, listed, may_record, responding, tabled}
+use Rattle.gateway_book.specs.Answer.{Given, Says, answer_by, asked_by, decided, listed, responding, tabled}
 use Rattle.gateway_book.specs.Answered.{entry_by, no_caller}
 use Rattle.gateway_book.specs.Preparing.{PreparedValue, Refused, Request, framed, prepared_of, sends_values}
 use Rattle.gateway_book.specs.PreparingLaws.{RolesRead}
@@ -25,11 +25,11 @@ use Rattle.once_core.specs.Addresses.{node_address, node_id, node_ip}
 use Rattle.once_core.specs.Answers.{acting, answer_at, answered, replying}
 use Rattle.once_core.specs.Expired.{is_expired, is_expired_request, present_start, taken_for}
 use Rattle.once_core.specs.Gateway.{Gateway, Rules}
-use Rattle.once_core.specs.Happenings.{Answers, Asks, Comes, Happening, Letter, Meaning, Orders, Post, Scene, Sends, Tests, answer_of, given, history, is_timely, node_at, reply}
+use Rattle.once_core.specs.Happenings.{Answers, Comes, Happening, Letter, Meaning, Post, Scene, answer_of, given, history, is_timely, node_at, reply}
 use Rattle.once_core.specs.Happenings as did
 use Rattle.once_core.specs.Meaning.{is_spoken, letter_of, meaning_of, request_in, speaks}
 use Rattle.once_core.specs.Messages.{about, answering, has_type, is_request}
-use Rattle.once_core.specs.Scenes.{Settled, after_coming, coming, happened, happened_all, noting_if, waiting_for, with_one, with_settled}
+use Rattle.once_core.specs.Scenes.{Settled, after_coming, coming, happened_all, noting_if, waiting_for, with_one, with_settled}
 use Rattle.once_core.specs.Scenes as scenes
 use Rattle.once_core.specs.Shown.{post_of, waiting_letters}
 use Rattle.once_core.specs.declared.message.Message as world
@@ -45,14 +45,14 @@ prepared_request back roles octets number body w values =
     ap framed (role_read_of back roles role.Gateway octets number (TransferRequest body) w)
     ∙ ap (λ (b : Bool). if b then Request number body else Refused CDR_DECODING_ERROR number) values
 
-same_answer : (m : world.Message) (o : Observed) (room : HistoryAct → Bool) (node : NodeId) (number : ℕ) (body : TransferValue) → IsAbout m body
-    → asked_by o room node number body ≡ answer_of o room node number (request_in (about m) body)
-same_answer m o room node number (Send Empty) is = refl
-same_answer m o room node number (Send (Full form value)) is = refl
-same_answer m o room node number (Possible Empty) is = refl
-same_answer m o room node number (Possible (Full form value)) is = refl
-same_answer m o room node number (Release numbers) is = ap (listed o room node number true) is
-same_answer m o room node number (Cancel numbers) is = ap (listed o room node number false) is
+same_answer : (m : world.Message) (o : Observed) (may : HistoryAct → Bool) (node : NodeId) (number : ℕ) (body : TransferValue) → IsAbout m body
+    → asked_by o may node number body ≡ answer_of o may node number (request_in (about m) body)
+same_answer m o may node number (Send Empty) is = refl
+same_answer m o may node number (Send (Full form value)) is = refl
+same_answer m o may node number (Possible Empty) is = refl
+same_answer m o may node number (Possible (Full form value)) is = refl
+same_answer m o may node number (Release numbers) is = ap (listed o may node number true) is
+same_answer m o may node number (Cancel numbers) is = ap (listed o may node number false) is
 
 about_is : (m : world.Message) (body : TransferValue) → IsAbout m body → did.about (request_in (about m) body) m.number ≡ about m
 about_is m (Send Empty) is = sym is
@@ -68,19 +68,19 @@ record IsResponse (number : ℕ) (answer : Given) : Type 0 where
   recorded : Option HistoryAct
   is : answer ≡ responding number cause recorded
 
-tabled_responds : (o : Observed) (room : HistoryAct → Bool) (number cause : ℕ) (a : Option HistoryAct) → IsResponse number (tabled o room number cause a)
-tabled_responds o room number cause None = record { cause = cause; recorded = None; is = refl }
-tabled_responds o room number cause (Some a) = by (may_record o room a)
+tabled_responds : (may : HistoryAct → Bool) (number cause : ℕ) (a : Option HistoryAct) → IsResponse number (tabled may number cause a)
+tabled_responds may number cause None = record { cause = cause; recorded = None; is = refl }
+tabled_responds may number cause (Some a) = by (may a)
   where
     by : (b : Bool) → IsResponse number (if b then responding number cause (Some a) else responding number NO_RESOURCES None)
     by true = record { cause = cause; recorded = Some a; is = refl }
     by false = record { cause = NO_RESOURCES; recorded = None; is = refl }
 
-asked_responds : (o : Observed) (room : HistoryAct → Bool) (node : NodeId) (number : ℕ) (body : TransferValue) → IsResponse number (asked_by o room node number body)
-asked_responds o room node number (Send packet) = tabled_responds o room number _ _
-asked_responds o room node number (Possible packet) = tabled_responds o room number _ _
-asked_responds o room node number (Release numbers) = tabled_responds o room number _ _
-asked_responds o room node number (Cancel numbers) = tabled_responds o room number _ _
+asked_responds : (o : Observed) (may : HistoryAct → Bool) (node : NodeId) (number : ℕ) (body : TransferValue) → IsResponse number (asked_by o may node number body)
+asked_responds o may node number (Send packet) = tabled_responds may number _ _
+asked_responds o may node number (Possible packet) = tabled_responds may number _ _
+asked_responds o may node number (Release numbers) = tabled_responds may number _ _
+asked_responds o may node number (Cancel numbers) = tabled_responds may number _ _
 
 -- ---- a request that isn't expired is timely
 
@@ -120,8 +120,8 @@ module _ (back : ReadsBack) (roles : RolesRead) (rules : Rules) (now : ℕ) (m :
   module _ (body : TransferValue) (w : IsWritten m.octets (m.number % 65536) (TransferRequest body)) (values : sends_values body ≡ true) (is : IsAbout m body)
       (fresh : is_expired (history_of g.book) m ≡ false) (there : Contains scene.letters (letter_of m)) where
     -- the response, by the table
-    responds_with : IsResponse (m.number % 65536) (asked_by (observed (history_of g.book) node) (rules.room (history_of g.book)) node (m.number % 65536) body)
-    responds_with = asked_responds (observed (history_of g.book) node) (rules.room (history_of g.book)) node (m.number % 65536) body
+    responds_with : IsResponse (m.number % 65536) (asked_by (observed (history_of g.book) node) (rules.may (history_of g.book) (node_id m.node)) node (m.number % 65536) body)
+    responds_with = asked_responds (observed (history_of g.book) node) (rules.may (history_of g.book) (node_id m.node)) node (m.number % 65536) body
 
     pub request_plays : Plays m.gateway scene (answered rules now m g)
     request_plays =
@@ -138,7 +138,7 @@ module _ (back : ReadsBack) (roles : RolesRead) (rules : Rules) (now : ℕ) (m :
 
         decided_is : answer_at rules (history_of g.book) m ≡ Says (written (m.number % 65536) (TransferResponse responds_with.cause (m.number % 65536 ∷ []))) responds_with.recorded
         decided_is =
-            ap (λ (p : PreparedValue). decided (answer_by (observed (history_of g.book) (node_id m.node)) (node_address m.node m.port) p (rules.room (history_of g.book))))
+            ap (λ (p : PreparedValue). decided (answer_by (observed (history_of g.book) (node_id m.node)) (node_address m.node m.port) p (rules.may (history_of g.book) (node_id m.node))))
             (prepared_request back roles m.octets (m.number % 65536) body w values)
             ∙ ap decided responds_with.is
 
@@ -150,18 +150,18 @@ module _ (back : ReadsBack) (roles : RolesRead) (rules : Rules) (now : ℕ) (m :
 
         -- the happening
         comes : Happening
-        comes = Comes (place_in scene.letters (letter_of m) there).0 (rules.room (history_of g.book)) now no_caller
+        comes = Comes (place_in scene.letters (letter_of m) there).0 (rules.may (history_of g.book) (node_id m.node)) now no_caller
 
-        given_is : (p : List HistoryEntry) → history_of g.book ≡ p → given p (rules.room (history_of g.book)) (letter_of m) (request_in (about m) body) ≡ responding (m.number % 65536) cause act
+        given_is : (p : List HistoryEntry) → history_of g.book ≡ p → given p (rules.may (history_of g.book) (node_id m.node)) (letter_of m) (request_in (about m) body) ≡ responding (m.number % 65536) cause act
         given_is p same =
-            ap (λ (q : List HistoryEntry). given q (rules.room (history_of g.book)) (letter_of m) (request_in (about m) body)) (sym same)
-            ∙ sym (same_answer m (observed (history_of g.book) node) (rules.room (history_of g.book)) node (m.number % 65536) body is)
+            ap (λ (q : List HistoryEntry). given q (rules.may (history_of g.book) (node_id m.node)) (letter_of m) (request_in (about m) body)) (sym same)
+            ∙ sym (same_answer m (observed (history_of g.book) node) (rules.may (history_of g.book) (node_id m.node)) node (m.number % 65536) body is)
             ∙ responds_with.is
 
-        coming_is : coming (rules.room (history_of g.book)) now no_caller (letter_of m) (request_in (about m) body) (post_of g)
+        coming_is : coming (rules.may (history_of g.book) (node_id m.node)) now no_caller (letter_of m) (request_in (about m) body) (post_of g)
             ≡ waiting_for (reply (letter_of m) (responding (m.number % 65536) cause act)) (noting_if now no_caller act (post_of g))
         coming_is =
-            ap (λ (b : Bool). if b then scenes.answering now no_caller (letter_of m) (given (history (post_of g)) (rules.room (history_of g.book)) (letter_of m) (request_in (about m) body)) (post_of g)
+            ap (λ (b : Bool). if b then scenes.answering now no_caller (letter_of m) (given (history (post_of g)) (rules.may (history_of g.book) (node_id m.node)) (letter_of m) (request_in (about m) body)) (post_of g)
             else record { post = post_of g; sends = [] })
             (subst (λ (q : List HistoryEntry). is_timely q (letter_of m) (request_in (about m) body) ≡ true) (whole_history g.book sound)
             (timely m (history_of g.book) (m.number % 65536) body w.is is fresh))
@@ -173,9 +173,9 @@ module _ (back : ReadsBack) (roles : RolesRead) (rules : Rules) (now : ℕ) (m :
         happens : (post : Post) → noting_if now no_caller act (post_of g) ≡ post
             → happened_all scene (comes ∷ []) ≡ with_settled m.gateway (waiting_for (letter_of (answering m octets)) post) scene
         happens post is_post =
-            ap (λ (l : Option Letter). with_one l (λ letter. after_coming (rules.room (history_of g.book)) now no_caller letter letter.says) scene) (place_in scene.letters (letter_of m) there).1
-            ∙ ap (λ (says : Meaning). after_coming (rules.room (history_of g.book)) now no_caller (letter_of m) says scene) (meaning_is back m (m.number % 65536) (TransferRequest body) w)
-            ∙ ap (λ (p : Post). with_settled m.gateway (coming (rules.room (history_of g.book)) now no_caller (letter_of m) (request_in (about m) body) p) scene) stands.post
+            ap (λ (l : Option Letter). with_one l (λ letter. after_coming (rules.may (history_of g.book) (node_id m.node)) now no_caller letter letter.says) scene) (place_in scene.letters (letter_of m) there).1
+            ∙ ap (λ (says : Meaning). after_coming (rules.may (history_of g.book) (node_id m.node)) now no_caller (letter_of m) says scene) (meaning_is back m (m.number % 65536) (TransferRequest body) w)
+            ∙ ap (λ (p : Post). with_settled m.gateway (coming (rules.may (history_of g.book) (node_id m.node)) now no_caller (letter_of m) (request_in (about m) body) p) scene) stands.post
             ∙ ap (λ (s : Settled). with_settled m.gateway s scene) coming_is
             ∙ ap (λ (l : Letter). with_settled m.gateway (waiting_for l (noting_if now no_caller act (post_of g))) scene) reply_is
             ∙ ap (λ (p : Post). with_settled m.gateway (waiting_for (letter_of (answering m octets)) p) scene) is_post

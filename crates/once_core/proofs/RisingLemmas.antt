@@ -1,11 +1,11 @@
 -- In each world the starts of each node rise in what is firm at a gateway.
 use Rattle.std.proofs.Common.{◌≡◌, ℕ, ◌≤◌, List, [], Option, Some, None, slice_get, refl}
 use Rattle.std.specs.Option.{option_map_or}
-use Rattle.once_core.specs.Beginning.{world_of}
+use Rattle.once_core.specs.Beginning.{first_world}
 use Rattle.once_core.specs.Epochs.{RisesBy, StartsRise}
 use Rattle.once_core.specs.Gateway.{Gateway, Rules}
 use Rattle.once_core.specs.Once.{firm_in}
-use Rattle.once_core.specs.Turn.{Turn, turns}
+use Rattle.once_core.specs.Turn.{RuledTurn, ruled_turns}
 use Rattle.once_core.specs.World.{World}
 use Rattle.once_core.proofs.EachLemmas.{each_front}
 use Rattle.once_core.proofs.LifeWorlds.{Lives, world_lives}
@@ -18,6 +18,6 @@ rising_in w lives place = by (slice_get w.gateways place) refl
     by None e = tt
     by (Some g) e = each_front (λ before e. RisesBy before e.act) [] g.book.firm g.book.rest (lives.gateways place g e).rises
 
-pub starts_rise : Laws → (rules : Rules) (gateways nodes : ℕ) (all : List Turn) (place : ℕ) → 1 ≤ gateways → StartsRise (firm_in (turns rules (world_of rules gateways nodes) all) place)
+pub starts_rise : Laws → (rules : ℕ → Rules) (gateways nodes : ℕ) (all : List RuledTurn) (place : ℕ) → 1 ≤ gateways → StartsRise (firm_in (ruled_turns (first_world rules gateways nodes) all) place)
 starts_rise laws rules gateways nodes all place some =
-    rising_in (turns rules (world_of rules gateways nodes) all) (world_lives laws rules gateways nodes all some) place
+    rising_in (ruled_turns (first_world rules gateways nodes) all) (world_lives laws rules gateways nodes all some) place

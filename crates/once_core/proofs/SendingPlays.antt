@@ -16,7 +16,7 @@ use Rattle.node_core.specs.Moving.{appointing, moved_at_tick}
 use Rattle.node_core.specs.Octets.{order_of, outgoing, packet_numbered, transfer_of, wire}
 use Rattle.node_core.specs.Packets.{PacketState}
 use Rattle.node_core.specs.Peers.{address_at}
-use Rattle.node_core.specs.Reached.{NodeCall, log_of}
+use Rattle.node_core.specs.Reached.{log_of}
 use Rattle.node_core.specs.Reached as call
 use Rattle.node_core.specs.Roles.{IsRising, IsSingle}
 use Rattle.node_core.specs.Ticks.{due, tick_entries}
@@ -33,7 +33,7 @@ use Rattle.once_core.specs.Deeds as did
 use Rattle.once_core.specs.Expired.{starts_in}
 use Rattle.once_core.specs.Followed.{packets_in}
 use Rattle.once_core.specs.Following.{Follows, HasCopyAt, MaySend}
-use Rattle.once_core.specs.Happenings.{Asks, Letter, Meaning, Orders, Request, Sends, Tests}
+use Rattle.once_core.specs.Happenings.{Asks, Letter, Meaning, Orders, Sends, Tests}
 use Rattle.once_core.specs.Happenings as happens
 use Rattle.once_core.specs.Meaning.{is_spoken, letter_of, meaning_in, meaning_of, speaks}
 use Rattle.once_core.specs.Shown.{forms_ever}

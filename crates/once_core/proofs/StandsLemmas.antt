@@ -2,6 +2,8 @@
 use Rattle.std.proofs.Common.{◌≡◌, ℕ, ◌<◌, ◌≤◌, ◌==◌, true, List, [], length, Option, Some, None, Contains, slice_get, sum_by, refl, sym, ap, ◌∙◌, arith}
 use Rattle.std.specs.Option.{option_map_or}
 use Rattle.std.proofs.lemmas.Bool.{and_from, and_parts, eq-eqb, eqb-true}
+use Rattle.std.proofs.lemmas.List.{nil_from_length}
+use Rattle.std.proofs.lemmas.List.Elements.{All-contains}
 use Rattle.file_writer.specs.Places.{FilePlace}
 use Rattle.file_writer.specs.Streams.{Settings}
 use Rattle.gateway_book.specs.Filed.{filed}
@@ -13,12 +15,12 @@ use Rattle.node_core.specs.Drafts.{value_octets}
 use Rattle.node_core.specs.Packets.{is_resolved}
 use Rattle.node_core.specs.declared.copy.PacketCopy.{PacketCopy}
 use Rattle.once_core.specs.Addresses.{node_ip}
-use Rattle.once_core.specs.Epochs.{epoch_with, key_in, times_with}
+use Rattle.once_core.specs.Epochs.{epoch_with, key_in, state_with, times_with}
 use Rattle.once_core.specs.FilePlaces.{IsRecordAt, file_places}
 use Rattle.once_core.specs.Followed.{Followed}
 use Rattle.once_core.specs.Once.{IsFiledFor, IsFollowed, Once, firm_in}
-use Rattle.once_core.specs.OncePlaced.{places_of, record_count}
-use Rattle.once_core.specs.StandsOnce.{IsPacketRecordAt, StandsOnce, copy_places, places_at, places_in}
+use Rattle.once_core.specs.OncePlaced.{is_rejected, places_of, record_count}
+use Rattle.once_core.specs.StandsOnce.{IsPacketRecordAt, StandsOnce, copy_places, places_at, place_count}
 use Rattle.once_core.specs.World.{World}
 use Rattle.once_core.proofs.ListLemmas.{in_none}
 
@@ -47,7 +49,7 @@ module _ (settings : ℕ → Settings) (counts : (q : ℕ) → Counts (settings 
     each : (copy : PacketCopy) → length (places_at settings w node packet index copy) ≡ times_with (node_ip node) packet.start copy.number index (firm_in w copy.gateway)
     each copy = many (settings copy.gateway) (counts copy.gateway) (node_ip node) packet.start copy.number index (firm_in w copy.gateway)
 
-    summed : places_in settings w node packet index ≡ places_of (firm_in w) (node_ip node) packet.start packet.state.copies index
+    summed : place_count settings w node packet index ≡ places_of (firm_in w) (node_ip node) packet.start packet.state.copies index
     summed = ap (λ (f : PacketCopy → ℕ). sum_by f packet.state.copies) (λ i copy. each copy i)
 
     within : index < length packet.form.records → index < record_count (value_octets packet.form)
@@ -56,11 +58,20 @@ module _ (settings : ℕ → Settings) (counts : (q : ℕ) → Counts (settings 
         let same = ap length (once.records node packet is) in
         omega (arith, less, count, same)
 
-    resolved : is_resolved packet.state.copies ≡ true → index < length packet.form.records → places_in settings w node packet index ≡ 1
+    resolved : is_resolved packet.state.copies ≡ true → index < length packet.form.records → place_count settings w node packet index ≡ 1
     resolved done less = summed ∙ (once.placed node packet is).resolved done index (within less)
 
-    at_most : places_in settings w node packet index ≤ 1
+    at_most : place_count settings w node packet index ≤ 1
     at_most = let one = (once.placed node packet is).at_most index in let same = summed in omega (arith, one, same)
+
+    rejected : (copy : PacketCopy) → Contains packet.state.copies copy
+        → is_rejected (state_with (node_ip node) packet.start copy.number (firm_in w copy.gateway)) ≡ true → places_at settings w node packet index copy ≡ []
+    rejected copy kept is_so =
+        let none = All-contains
+        (λ (c : PacketCopy). is_rejected (state_with (node_ip node) packet.start c.number (firm_in w c.gateway)) ≡ true → (i : ℕ)
+        → times_with (node_ip node) packet.start c.number i (firm_in w c.gateway) ≡ 0)
+        packet.state.copies copy (once.placed node packet is).rejected kept in
+        nil_from_length (places_at settings w node packet index copy) (each copy ∙ none is_so index)
 
     octets : (copy : PacketCopy) (place : FilePlace) → Contains packet.state.copies copy → Contains (places_at settings w node packet index copy) place
         → IsPacketRecordAt (settings copy.gateway) (firm_in w copy.gateway) packet index place
@@ -91,5 +102,6 @@ module _ (settings : ℕ → Settings) (counts : (q : ℕ) → Counts (settings 
   stands_once = record {
     resolved = λ node packet index is. resolved node packet index is;
     at_most = λ node packet index is. at_most node packet index is;
+    rejected = λ node packet index copy is. rejected node packet index is copy;
     octets = λ node packet index copy place is. octets node packet index is copy place;
   }

@@ -8,12 +8,12 @@ use Rattle.node_core.specs.Log.{LogEntry, runs}
 use Rattle.node_core.specs.Reached.{NodeCall, call_entries}
 use Rattle.node_core.specs.Reached as call
 use Rattle.once_core.specs.Addresses.{gateway_address}
-use Rattle.once_core.specs.Answers.{delivered, making_close, making_tick, marked, redirected}
+use Rattle.once_core.specs.Answers.{closing, delivered, making_tick, marked, redirected}
 use Rattle.once_core.specs.Expired.{is_expired_at_node}
 use Rattle.once_core.specs.Gateway.{Gateway, Moved, Rules, committing, cut, opened, still}
 use Rattle.once_core.specs.Growing.{GoesOn}
 use Rattle.once_core.specs.Shown.{forms_ever}
-use Rattle.once_core.specs.Turn.{Turn, at_gateway, at_node, delivering, gateway_moved, node_called, refusal_of, turn, turn_by, turns, unless_refused}
+use Rattle.once_core.specs.Turn.{RuledTurn, Turn, at_gateway, at_node, delivering, gateway_moved, node_called, refusal_of, ruled_turns, turn, turn_by, unless_refused}
 use Rattle.once_core.specs.World.{Called, World, called, delivered_to_node, draft_of, hearing, log_at, node_value, submitting, submitting_form, ticking}
 use Rattle.once_core.specs.declared.event.Event.{Event}
 use Rattle.once_core.specs.declared.event.Event.TheVariants as event
@@ -98,7 +98,7 @@ event_forms rules w t (event.Start node) q = node_forms w (node - 1) (called (le
 event_forms rules w t (event.Redirect gateway cause to) q = gateway_forms w (gateway - 1) (redirected (gateway - 1) cause (option_map (λ number. number - 1) to)) q
 event_forms rules w t (event.Moment now) q = on (forms_at w q)
 event_forms rules w t (event.Mark gateway) q = gateway_forms w (gateway - 1) (marked rules t.fortune (making_tick rules w.now)) q
-event_forms rules w t (event.Close gateway) q = gateway_forms w (gateway - 1) (marked rules t.fortune (making_close w.now)) q
+event_forms rules w t (event.Close gateway) q = gateway_forms w (gateway - 1) (marked rules t.fortune (closing rules w.now)) q
 
 turn_forms : (rules : Rules) (w : World) (t : Turn) (q : ℕ) → GoesOn (forms_at w q) (forms_at (turn rules w t) q)
 turn_forms rules w t q = by (refusal_of w t.event)
@@ -107,8 +107,8 @@ turn_forms rules w t q = by (refusal_of w t.event)
     by None = event_forms rules w t t.event q
     by (Some kind) = on (forms_at w q)
 
-pub turns_forms : (rules : Rules) (w : World) (later : List Turn) (q : ℕ) → GoesOn (forms_at w q) (forms_at (turns rules w later) q)
-turns_forms rules w [] q = on (forms_at w q)
-turns_forms rules w (t ∷ later) q =
-    on_on (forms_at w q) (forms_at (turn rules w t) q) (forms_at (turns rules (turn rules w t) later) q)
-    (turn_forms rules w t q) (turns_forms rules (turn rules w t) later q)
+pub turns_forms : (w : World) (later : List RuledTurn) (q : ℕ) → GoesOn (forms_at w q) (forms_at (ruled_turns w later) q)
+turns_forms w [] q = on (forms_at w q)
+turns_forms w (t ∷ later) q =
+    on_on (forms_at w q) (forms_at (turn t.rules w t.turn) q) (forms_at (ruled_turns (turn t.rules w t.turn) later) q)
+    (turn_forms t.rules w t.turn q) (turns_forms (turn t.rules w t.turn) later q)

@@ -33,9 +33,9 @@ use Rattle.once_core.specs.Happenings.{Post, Scene}
 use Rattle.once_core.specs.Messages.{about, is_request}
 use Rattle.once_core.specs.Scenes.{scene_after}
 use Rattle.once_core.specs.Shown.{post_of, values_of}
-use Rattle.once_core.specs.Turn.{Turn, calm, node_called, refusal_of, turn_by, turns, unless_refused}
+use Rattle.once_core.specs.Turn.{RuledTurn, calm, node_called, refusal_of, ruled_turns, turn_by, unless_refused}
 use Rattle.once_core.specs.World.{World, log_after, log_at, message_of, node_value, ticking}
-use Rattle.once_core.specs.Beginning.{world_of}
+use Rattle.once_core.specs.Beginning.{first_world}
 use Rattle.once_core.specs.declared.event.Event.TheVariants as event
 use Rattle.once_core.specs.declared.event.WorldKind.{WorldKind}
 use Rattle.once_core.specs.declared.message.Message.{Message}
@@ -186,12 +186,12 @@ module _ (sent : RequestsSent) (one_each : OneCopyEach) (setup : NodeSetup) (cal
 
 -- ---- in a world
 
-module _ (laws : Laws) (numbers : Numbers) (sent : RequestsSent) (rules : Rules) (gateways nodes : ℕ) (all : List Turn) (some : 1 ≤ gateways) (node : ℕ) where
+module _ (laws : Laws) (numbers : Numbers) (sent : RequestsSent) (rules : ℕ → Rules) (gateways nodes : ℕ) (all : List RuledTurn) (some : 1 ≤ gateways) (node : ℕ) where
   abbrev w : World
-  w = turns rules (world_of rules gateways nodes) all
+  w = ruled_turns (first_world rules gateways nodes) all
 
   abbrev values : ℕ → ℕ → List ℕ
-  values place = values_of (log_at (turns rules (world_of rules gateways nodes) all) place)
+  values place = values_of (log_at (ruled_turns (first_world rules gateways nodes) all) place)
 
   module _ (allowed : refusal_of w (event.Tick node) ≡ None) (log : List LogEntry) (there : slice_get w.nodes (node - 1) ≡ Some log) where
     abbrev before : Made values w
@@ -213,9 +213,9 @@ module _ (laws : Laws) (numbers : Numbers) (sent : RequestsSent) (rules : Rules)
     made_after : Made values (node_called w (node - 1) (ticking (length w.gateways) (node - 1) log))
     made_after =
         subst (Made values)
-        (ap (λ (o : Option WorldKind). unless_refused o w (turn_by rules w (calm (event.Tick node)) (event.Tick node))) allowed
+        (ap (λ (o : Option WorldKind). unless_refused o w (turn_by (rules 0) w (calm (event.Tick node)) (event.Tick node))) allowed
         ∙ ap (λ (o : Option (List LogEntry)). option_map_or (λ l. node_called w (node - 1) (ticking (length w.gateways) (node - 1) l)) o w) there)
-        (turn_made laws rules values w before (λ place. values_are (log_at w place)) (calm (event.Tick node)))
+        (turn_made laws (rules 0) values w before (λ place. values_are (log_at w place)) (calm (event.Tick node)))
 
     some_gateways : 1 ≤ length setup.gateways
     some_gateways = let least = before.sound.some in let many = as_many 0 (length w.gateways) in omega (arith, least, many)

@@ -5,6 +5,7 @@ use Rattle.std.proofs.lemmas.Bool.{and_from, cases_lt, eq-eqb, eqb-true}
 use Rattle.gateway_book.specs.Filed.{filed}
 use Rattle.gateway_book.specs.Once.{same_key}
 use Rattle.gateway_book.specs.declared.filing.FiledRecord.{FiledRecord}
+use Rattle.gw_base.specs.declared.cause.TheConstants.{ALREADY_FULFILLED}
 use Rattle.gw_base.specs.declared.history.HistoryEntry.{HistoryEntry}
 use Rattle.gw_base.specs.declared.history.PacketKey.{PacketKey}
 use Rattle.gw_base.specs.declared.key_state.KeyState.TheVariants as state
@@ -15,7 +16,7 @@ use Rattle.node_core.specs.declared.copy.Command.{Command}
 use Rattle.node_core.specs.declared.copy.Order.TheVariants as order
 use Rattle.node_core.specs.declared.copy.PacketCopy.{PacketCopy}
 use Rattle.once_core.specs.Addresses.{first_node_ip, node_ip}
-use Rattle.once_core.specs.Beginning.{world_of}
+use Rattle.once_core.specs.Beginning.{first_world}
 use Rattle.once_core.specs.Deeds.{deeds_of}
 use Rattle.once_core.specs.Epochs.{epoch_with, key_in}
 use Rattle.once_core.specs.Followed.{Followed, all_followed, packets_in}
@@ -27,12 +28,12 @@ use Rattle.once_core.specs.Once.{IsFiledFor, IsFollowed, firm_in}
 use Rattle.once_core.specs.Resting.{IsState, Rests, RestsBy, SceneHolds}
 use Rattle.once_core.specs.Scenes.{is_telling}
 use Rattle.once_core.specs.Told.{AnswersACopy, IsAnswerFor, IsOfCopy, MeanCopies, NameChoices, NamesChoice, TellStates, WasSubmitted, asking}
-use Rattle.once_core.specs.Turn.{Turn, turns}
+use Rattle.once_core.specs.Turn.{RuledTurn, ruled_turns}
 use Rattle.once_core.specs.World.{World, log_at}
 use Rattle.once_core.specs.declared.message.Message.{Message}
 use Rattle.once_core.proofs.ContentLemmas.{IsBrought, brought}
 use Rattle.once_core.proofs.EachLemmas.{each_front}
-use Rattle.once_core.proofs.KnownLemmas.{IsAnswered, by_release_answer, choice_of, filed_by_answer, fulfilled_tells, sealed_by_answer, told_by}
+use Rattle.once_core.proofs.KnownLemmas.{IsAnswered, by_release_answer, by_test_answer, choice_of, filed_by_answer, fulfilled_tells, sealed_by_answer, told_by}
 use Rattle.once_core.proofs.ListLemmas.{filtered, in_none}
 use Rattle.once_core.proofs.MoveLemmas.{holds_always}
 use Rattle.once_core.proofs.OnceLemmas.{first_sealed}
@@ -134,7 +135,10 @@ module _ (laws : Laws) (w : World) (made : Made (values_in w) w) where
     filed = λ m packet copy cause is plain tells. subst (λ (h : List HistoryEntry). IsState h (node_ip m.node) packet.start copy.number state.Filed) (firm_at laws w made copy.gateway)
         (filed_by_answer made.scene holds (node_ip m.node) packet.start (values_in w m.node) (packets_in packet.start (log_at w m.node)) (follows m packet copy copy.number cause is)
         packet.state copy m.port cause (copy_of m packet copy copy.number cause is) plain tells (answer_is m packet copy copy.number cause is));
-    sealed = λ m packet copy cause is plain tells. subst (λ (h : List HistoryEntry). IsState h (node_ip m.node) packet.start copy.number state.Sealed) (firm_at laws w made copy.gateway)
+    filed_by_test = λ m packet copy is second. subst (λ (h : List HistoryEntry). IsState h (node_ip m.node) packet.start copy.number state.Filed) (firm_at laws w made copy.gateway)
+        ((by_test_answer made.scene holds (node_ip m.node) packet.start (values_in w m.node) (packets_in packet.start (log_at w m.node)) (follows m packet copy copy.number ALREADY_FULFILLED is)
+        packet.state copy ALREADY_FULFILLED m.port second (copy_of m packet copy copy.number ALREADY_FULFILLED is) (answer_is m packet copy copy.number ALREADY_FULFILLED is refl)).0 refl);
+    sealed = λ m packet copy cause is tells. subst (λ (h : List HistoryEntry). IsState h (node_ip m.node) packet.start copy.number state.Sealed) (firm_at laws w made copy.gateway)
         (sealed_by_answer made.scene holds (node_ip m.node) packet.start (values_in w m.node) (packets_in packet.start (log_at w m.node)) (follows m packet copy copy.number cause is)
         packet.state copy m.port cause (copy_of m packet copy copy.number cause is) tells (answer_is m packet copy copy.number cause is));
     released = λ m packet copy command cause is sent release fulfilled.
@@ -230,16 +234,16 @@ module _ (laws : Laws) (w : World) (made : Made (values_in w) w) where
 
 -- ---- of all worlds
 
-module _ (laws : Laws) (rules : Rules) (gateways nodes : ℕ) (all : List Turn) (some : 1 ≤ gateways) where
-  pub world_means_copies : MeanCopies (turns rules (world_of rules gateways nodes) all)
-  world_means_copies = mean_copies laws (turns rules (world_of rules gateways nodes) all) (world_made laws rules gateways nodes all some)
+module _ (laws : Laws) (rules : ℕ → Rules) (gateways nodes : ℕ) (all : List RuledTurn) (some : 1 ≤ gateways) where
+  pub world_means_copies : MeanCopies (ruled_turns (first_world rules gateways nodes) all)
+  world_means_copies = mean_copies laws (ruled_turns (first_world rules gateways nodes) all) (world_made laws rules gateways nodes all some)
 
-  pub world_tells_states : TellStates (turns rules (world_of rules gateways nodes) all)
-  world_tells_states = tell_states laws (turns rules (world_of rules gateways nodes) all) (world_made laws rules gateways nodes all some)
+  pub world_tells_states : TellStates (ruled_turns (first_world rules gateways nodes) all)
+  world_tells_states = tell_states laws (ruled_turns (first_world rules gateways nodes) all) (world_made laws rules gateways nodes all some)
 
-  pub world_names_choices : NameChoices (turns rules (world_of rules gateways nodes) all)
-  world_names_choices = name_choices laws (turns rules (world_of rules gateways nodes) all) (world_made laws rules gateways nodes all some)
+  pub world_names_choices : NameChoices (ruled_turns (first_world rules gateways nodes) all)
+  world_names_choices = name_choices laws (ruled_turns (first_world rules gateways nodes) all) (world_made laws rules gateways nodes all some)
 
-  pub world_was_submitted : (place : ℕ) (filing : FiledRecord) → Contains (filed (firm_in (turns rules (world_of rules gateways nodes) all) place)) filing
-      → WasSubmitted (turns rules (world_of rules gateways nodes) all) place filing
-  world_was_submitted = was_submitted laws (turns rules (world_of rules gateways nodes) all) (world_made laws rules gateways nodes all some)
+  pub world_was_submitted : (place : ℕ) (filing : FiledRecord) → Contains (filed (firm_in (ruled_turns (first_world rules gateways nodes) all) place)) filing
+      → WasSubmitted (ruled_turns (first_world rules gateways nodes) all) place filing
+  world_was_submitted = was_submitted laws (ruled_turns (first_world rules gateways nodes) all) (world_made laws rules gateways nodes all some)

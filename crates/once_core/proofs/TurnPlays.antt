@@ -7,7 +7,7 @@ use Rattle.gateway_book.specs.PreparingLaws.{RolesRead}
 use Rattle.gateway_book.specs.Value.{Fortune}
 use Rattle.node_core.specs.Log.{LogEntry, runs}
 use Rattle.node_core.specs.Reached as call
-use Rattle.once_core.specs.Answers.{delivered, making_close, making_tick, marked, redirected}
+use Rattle.once_core.specs.Answers.{closing, delivered, making_tick, marked, redirected}
 use Rattle.once_core.specs.Expired.{starts_in}
 use Rattle.once_core.specs.Gateway.{Rules, committing, cut, opened, still}
 use Rattle.once_core.specs.Shown.{forms_ever}
@@ -126,7 +126,7 @@ module _ (laws : Laws) (rules : Rules) (values : ℕ → ℕ → List ℕ) (w : 
       gateway_made values w made (gateway - 1) (marked rules t.fortune (making_tick rules w.now))
       (λ g stands. ticked_plays laws.back (gateway - 1) made.scene g stands rules t.fortune w.now)
   event_made t (event.Close gateway) allowed =
-      gateway_made values w made (gateway - 1) (marked rules t.fortune (making_close w.now))
+      gateway_made values w made (gateway - 1) (marked rules t.fortune (closing rules w.now))
       (λ g stands. closed_plays laws.back (gateway - 1) made.scene g stands rules t.fortune w.now)
 
   pub turn_made : (t : Turn) → Made values (turn rules w t)

@@ -3,7 +3,6 @@ use Rattle.std.proofs.Common.{◌≡◌, ⊎_elim, ℕ, Bool, true, false, cond,
 use Rattle.std.proofs.lemmas.Bool.{false≢true}
 use Rattle.std.proofs.lemmas.List.Elements.{All-contains, filter-append, filter_passes}
 use Rattle.std.proofs.lemmas.List.Concat.{flat_map-append}
-use Rattle.once_core.specs.Happenings.{Letter}
 use Rattle.once_core.specs.Happenings as did
 use Rattle.once_core.specs.Meaning.{letter_of, speaks}
 use Rattle.once_core.specs.Shown.{waiting_if, waiting_letters}

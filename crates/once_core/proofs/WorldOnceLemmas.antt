@@ -1,5 +1,5 @@
 -- Each world is made by happenings, and so it files each record once.
-use Rattle.std.proofs.Common.{◌≡◌, ⊎_elim, ℕ, ◌-◌, ◌≤◌, ◌==◌, Bool, true, false, cond, List, [], ◌∷◌, length, filter, Option, Some, None, Contains, slice_get, refl, sym, ap, subst, ◌∙◌, arith}
+use Rattle.std.proofs.Common.{◌≡◌, ⊎_elim, ℕ, ◌-◌, ◌≤◌, ◌==◌, Bool, true, false, cond, List, [], ◌∷◌, length, filter, map, Option, Some, None, Contains, slice_get, refl, sym, ap, subst, ◌∙◌, arith}
 use Rattle.std.specs.Option.{option_map_or}
 use Rattle.std.proofs.lemmas.Bool.{and_parts, eq-eqb}
 use Rattle.std.proofs.lemmas.List.Elements.{All-contains}
@@ -13,7 +13,7 @@ use Rattle.node_core.specs.Packets.{PacketState}
 use Rattle.node_core.specs.Reached.{log_of}
 use Rattle.node_core.specs.declared.copy.PacketCopy.{PacketCopy}
 use Rattle.once_core.specs.Addresses.{node_ip, setup_of}
-use Rattle.once_core.specs.Beginning.{world_of}
+use Rattle.once_core.specs.Beginning.{first_world, world_of}
 use Rattle.once_core.specs.Deeds.{deeds_of}
 use Rattle.once_core.specs.Epochs.{key_in}
 use Rattle.once_core.specs.Followed.{Followed, all_followed, packets_in}
@@ -24,9 +24,9 @@ use Rattle.once_core.specs.Once.{IsFiledFor, IsFollowed, Once, firm_in}
 use Rattle.once_core.specs.OncePlaced.{IsFiledUnder, IsOnce, records_within}
 use Rattle.once_core.specs.Scenes.{scene_after}
 use Rattle.once_core.specs.Shown.{IsMade, Shows, forms_ever, post_of, values_of}
-use Rattle.once_core.specs.Turn.{Turn, turn, turns}
+use Rattle.once_core.specs.Turn.{RuledTurn, Turn, ruled, ruled_turns, turn, turns}
 use Rattle.once_core.specs.World.{World, log_at}
-use Rattle.once_core.proofs.FirstPlays.{first_made}
+use Rattle.once_core.proofs.FirstPlays.{first_made, same_world}
 use Rattle.once_core.proofs.FormLemmas.{GoodForm, value_octets_are}
 use Rattle.once_core.proofs.ListLemmas.{get_contains, in_cons, in_head, in_none, in_tail}
 use Rattle.once_core.proofs.LogLemmas.{as_many}
@@ -39,29 +39,29 @@ use Rattle.once_core.proofs.WorldPlays.{Made, log_is}
 
 -- ---- turns
 
-turns_made : Laws → (rules : Rules) (values : ℕ → ℕ → List ℕ) (w : World) (later : List Turn) → Made values w
-    → ((place : ℕ) → Values (values place) (forms_ever (log_at (turns rules w later) place))) → Made values (turns rules w later)
-turns_made laws rules values w [] made are = made
-turns_made laws rules values w (t ∷ later) made are =
-    turns_made laws rules values (turn rules w t) later
-    (turn_made laws rules values w made
-    (λ place. values_before (values place) (forms_ever (log_at w place)) (forms_ever (log_at (turns rules (turn rules w t) later) place)) (turns_forms rules w (t ∷ later) place) (are place)) t)
+turns_made : Laws → (values : ℕ → ℕ → List ℕ) (w : World) (later : List RuledTurn) → Made values w
+    → ((place : ℕ) → Values (values place) (forms_ever (log_at (ruled_turns w later) place))) → Made values (ruled_turns w later)
+turns_made laws values w [] made are = made
+turns_made laws values w (t ∷ later) made are =
+    turns_made laws values (turn t.rules w t.turn) later
+    (turn_made laws t.rules values w made
+    (λ place. values_before (values place) (forms_ever (log_at w place)) (forms_ever (log_at (ruled_turns (turn t.rules w t.turn) later) place)) (turns_forms w (t ∷ later) place) (are place)) t.turn)
     are
 
 -- the octets of the packets of a world
 abbrev pub values_in : World → ℕ → ℕ → List ℕ
 values_in w place = values_of (log_at w place)
 
-pub world_made : Laws → (rules : Rules) (gateways nodes : ℕ) (all : List Turn) → 1 ≤ gateways
-    → Made (values_in (turns rules (world_of rules gateways nodes) all)) (turns rules (world_of rules gateways nodes) all)
+pub world_made : Laws → (rules : ℕ → Rules) (gateways nodes : ℕ) (all : List RuledTurn) → 1 ≤ gateways
+    → Made (values_in (ruled_turns (first_world rules gateways nodes) all)) (ruled_turns (first_world rules gateways nodes) all)
 world_made laws rules gateways nodes all some =
-    turns_made laws rules (values_in (turns rules (world_of rules gateways nodes) all)) (world_of rules gateways nodes) all
-    (first_made (values_in (turns rules (world_of rules gateways nodes) all)) rules gateways nodes some)
-    (λ place. values_are (log_at (turns rules (world_of rules gateways nodes) all) place))
+    turns_made laws (values_in (ruled_turns (first_world rules gateways nodes) all)) (first_world rules gateways nodes) all
+    (first_made (values_in (ruled_turns (first_world rules gateways nodes) all)) rules gateways nodes some)
+    (λ place. values_are (log_at (ruled_turns (first_world rules gateways nodes) all) place))
 
-pub is_made : Laws → (rules : Rules) (gateways nodes : ℕ) (all : List Turn) → 1 ≤ gateways → IsMade (turns rules (world_of rules gateways nodes) all)
+pub is_made : Laws → (rules : ℕ → Rules) (gateways nodes : ℕ) (all : List RuledTurn) → 1 ≤ gateways → IsMade (ruled_turns (first_world rules gateways nodes) all)
 is_made laws rules gateways nodes all some =
-    let w = turns rules (world_of rules gateways nodes) all in
+    let w = ruled_turns (first_world rules gateways nodes) all in
     let made = world_made laws rules gateways nodes all some in
     record { happenings = made.happenings; shows = subst (Shows (values_in w) w) (sym made.is) made.shows }
 
@@ -156,5 +156,21 @@ module _ (laws : Laws) (w : World) (made : Made (values_in w) w) where
   pub once : Once w
   once = record { placed = placed; octets = λ node packet copy filing is filed_for. octets_placed node packet is copy filing filed_for; records = records_are }
 
-pub each_world_is_once : Laws → (rules : Rules) (gateways nodes : ℕ) (all : List Turn) → 1 ≤ gateways → Once (turns rules (world_of rules gateways nodes) all)
-each_world_is_once laws rules gateways nodes all some = once laws (turns rules (world_of rules gateways nodes) all) (world_made laws rules gateways nodes all some)
+pub each_world_is_once : Laws → (rules : ℕ → Rules) (gateways nodes : ℕ) (all : List RuledTurn) → 1 ≤ gateways → Once (ruled_turns (first_world rules gateways nodes) all)
+each_world_is_once laws rules gateways nodes all some = once laws (ruled_turns (first_world rules gateways nodes) all) (world_made laws rules gateways nodes all some)
+
+-- ---- where all go by the same rules
+
+pub same_turns : (rules : Rules) (w : World) (all : List Turn) → ruled_turns w (map (ruled rules) all) ≡ turns rules w all
+same_turns rules w [] = refl
+same_turns rules w (t ∷ all) = same_turns rules (turn rules w t) all
+
+same_worlds : (rules : Rules) (gateways nodes : ℕ) (all : List Turn)
+    → ruled_turns (first_world (λ place. rules) gateways nodes) (map (ruled rules) all) ≡ turns rules (world_of rules gateways nodes) all
+same_worlds rules gateways nodes all =
+    ap (λ (w : World). ruled_turns w (map (ruled rules) all)) (same_world rules gateways nodes)
+    ∙ same_turns rules (world_of rules gateways nodes) all
+
+pub each_plain_world_is_once : Laws → (rules : Rules) (gateways nodes : ℕ) (all : List Turn) → 1 ≤ gateways → Once (turns rules (world_of rules gateways nodes) all)
+each_plain_world_is_once laws rules gateways nodes all some =
+    subst Once (same_worlds rules gateways nodes all) (each_world_is_once laws (λ place. rules) gateways nodes (map (ruled rules) all) some)

@@ -28,7 +28,8 @@ use Rattle.once_core.specs.declared.message.Waiting.{Waiting}
 -- what the gateway's history answers
 abbrev pub answer_at : Rules → List HistoryEntry → Message → Decided
 answer_at rules h m =
-    decided (answer_by (observed h (node_id m.node)) (node_address m.node m.port) (prepared_of m.octets) (rules.room h))
+    decided (answer_by (observed h (node_id m.node)) (node_address m.node m.port) (prepared_of m.octets)
+    (rules.may h (node_id m.node)))
 
 -- the answer waits until the whole history is firm; where it is already, it is sent at once
 abbrev pub waiting_for : Gateway → Message → Waiting
@@ -94,6 +95,10 @@ making_tick rules now g =
 
 abbrev pub making_close : ℕ → Gateway → Moved
 making_close now g = recorded_where (is_close_due (history_of g.book)) now Close g
+
+-- a Close where it may be made
+abbrev pub closing : Rules → ℕ → Gateway → Moved
+closing rules now g = if rules.may_close (history_of g.book) then making_close now g else still g
 
 abbrev pub marked : Rules → Fortune → (Gateway → Moved) → Gateway → Moved
 marked rules f mark g = followed (readying rules f g) (if_broken still mark)

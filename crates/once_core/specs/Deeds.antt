@@ -8,7 +8,7 @@ use Rattle.node_core.specs.declared.sending.Sending.{Sending}
 use Rattle.node_core.specs.declared.sending.Sending.TheVariants as send
 use Rattle.once_core.specs.Expired.{starts_in}
 use Rattle.once_core.specs.Happenings as did
-use Rattle.once_core.specs.Happenings.{Answers, Asks, Deed, Letter, Meaning, Orders, Request, Sends, Tests}
+use Rattle.once_core.specs.Happenings.{Answers, Asks, Deed, Letter, Meaning, Orders, Sends, Tests}
 
 -- a message of a node, which made so many starts
 abbrev pub letter_of : ℕ → ℕ → ℕ → Port → ℕ → Meaning → Letter

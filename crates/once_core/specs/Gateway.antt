@@ -1,5 +1,6 @@
 -- A gateway of a world, and how it moves: by commits and openings again, by stopping and opening.
 use Rattle.std.specs.Prelude.{ℕ, Bool, true, false, not, nat_le, ◌||◌, ◌-◌, if◌then◌else◌, List, [], ◌++◌, length, map, take, filter}
+use Rattle.gw_base.specs.declared.address.NodeId.{NodeId}
 use Rattle.gw_base.specs.declared.history.HistoryAct.{HistoryAct}
 use Rattle.gw_base.specs.declared.history.HistoryAct.TheVariants.{Start}
 use Rattle.gw_base.specs.declared.history.HistoryEntry.{HistoryEntry}
@@ -9,10 +10,13 @@ use Rattle.once_core.specs.Messages.{failing, is_response}
 use Rattle.once_core.specs.declared.message.Message.{Message}
 use Rattle.once_core.specs.declared.message.Waiting.{Waiting}
 
--- What the settings decide: which acts there is room for behind a history, whether a batch is so full that it is
--- committed first, and for how long files stay open.
+-- What decides in a gateway, each an arbitrary yes or no: which acts an answer to a node may record behind a history,
+-- by limits and by room; whether there is room for a Start or a Tick; whether a Close that is due may be made; and
+-- whether a batch is so full that it is committed first. And for how long files stay open.
 pub record Rules : Type 0 where
+  pub may : List HistoryEntry → NodeId → HistoryAct → Bool
   pub room : List HistoryEntry → HistoryAct → Bool
+  pub may_close : List HistoryEntry → Bool
   pub is_full : BookValue → Bool
   pub open_time : ℕ
 

@@ -73,14 +73,14 @@ act_noted Starts = act.Start
 act_noted Ticks = act.Tick
 act_noted Closes = act.Close
 
--- What may happen. A node sends a request; a node hears the k-th message; the k-th message comes to its gateway, which has
--- room for some acts and not for others; a node's new start becomes known to a gateway; a gateway makes a note; all that
+-- What may happen. A node sends a request; a node hears the k-th message; the k-th message comes to its gateway, which
+-- may record some acts and not others; a node's new start becomes known to a gateway; a gateway makes a note; all that
 -- a gateway's history holds becomes firm; so many entries behind the firm part are left, and no answer waits any more;
 -- and any message is sent that neither asks anything nor tells a node anything of a copy.
 pub data Happening : Type 0 where
   Sends : (letter : Letter) → Happening
   Hears : (k : ℕ) → Happening
-  Comes : (k : ℕ) (room : HistoryAct → Bool) (now : ℕ) (who : Caller) → Happening
+  Comes : (k : ℕ) (may : HistoryAct → Bool) (now : ℕ) (who : Caller) → Happening
   Opens : (gateway : ℕ) (node : NodeId) (port counter now : ℕ) (who : Caller) → Happening
   Notes : (gateway : ℕ) (note : Note) (now : ℕ) (who : Caller) → Happening
   Firms : (gateway : ℕ) → Happening
@@ -106,18 +106,18 @@ is_timely h letter request =
 
 -- what a gateway answers to a request, as it is read off the wire
 abbrev pub answer_of : Observed → (HistoryAct → Bool) → NodeId → ℕ → Request → Given
-answer_of o room node number (Sends true packet) = sent o room node number ask.Send packet
-answer_of o room node number (Sends false packet) = sent o room node number ask.Possible packet
-answer_of o room node number Tests = sent o room node number ask.Empty []
-answer_of o room node number (Orders Release named) = listed o room node number true (named % 65536 ∷ [])
-answer_of o room node number (Orders Cancel named) = listed o room node number false (named % 65536 ∷ [])
+answer_of o may node number (Sends true packet) = sent o may node number ask.Send packet
+answer_of o may node number (Sends false packet) = sent o may node number ask.Possible packet
+answer_of o may node number Tests = sent o may node number ask.Empty []
+answer_of o may node number (Orders Release named) = listed o may node number true (named % 65536 ∷ [])
+answer_of o may node number (Orders Cancel named) = listed o may node number false (named % 65536 ∷ [])
 
 abbrev pub node_at : ℕ → NodeId
 node_at node = record { 0 = node }
 
 abbrev pub given : List HistoryEntry → (HistoryAct → Bool) → Letter → Request → Given
-given h room letter request =
-    answer_of (observed h (node_at letter.node)) room (node_at letter.node) (letter.number % 65536) request
+given h may letter request =
+    answer_of (observed h (node_at letter.node)) may (node_at letter.node) (letter.number % 65536) request
 
 abbrev pub cause_in : MessageValue → ℕ
 cause_in (TransferResponse cause responded) = cause

@@ -67,8 +67,8 @@ answering now who letter answer post = waiting_for (reply letter answer) (noting
 
 -- a request that isn't timely is as lost
 abbrev pub coming : (HistoryAct → Bool) → ℕ → Caller → Letter → Request → Post → Settled
-coming room now who letter request post =
-    if is_timely (history post) letter request then answering now who letter (given (history post) room letter request) post
+coming may now who letter request post =
+    if is_timely (history post) letter request then answering now who letter (given (history post) may letter request) post
     else record { post = post; sends = [] }
 
 -- all becomes firm, and the answers are sent whose front is reached
@@ -114,10 +114,10 @@ after_hearing false letter scene = scene
 after_hearing true letter scene = with_deed letter.node (Heard letter) scene
 
 abbrev pub after_coming : (HistoryAct → Bool) → ℕ → Caller → Letter → Meaning → Scene → Scene
-after_coming room now who letter (Asks request) scene =
-    with_settled letter.gateway (coming room now who letter request (scene.posts letter.gateway)) scene
-after_coming room now who letter (Answers cause) scene = scene
-after_coming room now who letter Else scene = scene
+after_coming may now who letter (Asks request) scene =
+    with_settled letter.gateway (coming may now who letter request (scene.posts letter.gateway)) scene
+after_coming may now who letter (Answers cause) scene = scene
+after_coming may now who letter Else scene = scene
 
 -- what happens to the message that was sent as the k-th, from 0, where there is one
 abbrev pub with_one : Option Letter → (Letter → Scene → Scene) → Scene → Scene
@@ -127,8 +127,8 @@ with_one (Some letter) f scene = f letter scene
 abbrev pub happened : Scene → Happening → Scene
 happened scene (Sends letter) = after_sending (is_request letter.says) letter scene
 happened scene (Hears k) = with_one (slice_get scene.letters k) (λ letter. after_hearing (is_answer letter.says) letter) scene
-happened scene (Comes k room now who) =
-    with_one (slice_get scene.letters k) (λ letter. after_coming room now who letter letter.says) scene
+happened scene (Comes k may now who) =
+    with_one (slice_get scene.letters k) (λ letter. after_coming may now who letter letter.says) scene
 happened scene (Opens gateway node port counter now who) =
     with_post gateway
     (opening now who (act.Path node port counter)

@@ -8,10 +8,11 @@ use Rattle.gw_base.specs.declared.history.HistoryEntry.{HistoryEntry}
 use Rattle.node_core.specs.Packets.{is_resolved}
 use Rattle.node_core.specs.declared.copy.PacketCopy.{PacketCopy}
 use Rattle.once_core.specs.Addresses.{node_ip}
-use Rattle.once_core.specs.Epochs.{epoch_with, key_in}
+use Rattle.once_core.specs.Epochs.{epoch_with, key_in, state_with}
 use Rattle.once_core.specs.FilePlaces.{StandsAt, file_places}
 use Rattle.once_core.specs.Followed.{Followed}
 use Rattle.once_core.specs.Once.{IsFollowed, firm_in}
+use Rattle.once_core.specs.OncePlaced.{is_rejected}
 use Rattle.once_core.specs.World.{World}
 
 -- the places at which the record with this index of a copy's packet stands in the files of a history, where the node
@@ -27,8 +28,8 @@ places_at settings w node packet index copy =
     copy_places (settings copy.gateway) (node_ip node) packet.start copy.number index (firm_in w copy.gateway)
 
 -- at how many places of the files of all gateways it stands
-abbrev pub places_in : (ℕ → Settings) → World → ℕ → Followed → ℕ → ℕ
-places_in settings w node packet index =
+abbrev pub place_count : (ℕ → Settings) → World → ℕ → Followed → ℕ → ℕ
+place_count settings w node packet index =
     sum_by (λ (copy : PacketCopy). length (places_at settings w node packet index copy)) packet.state.copies
 
 -- what stands at a place is the packet's record with this index
@@ -39,13 +40,18 @@ pub record IsPacketRecordAt (settings : Settings) (h : List HistoryEntry) (packe
   pub octets : slice_get packet.form.records index ≡ Some filing.octets
 
 -- Each record of each packet that was ever resolved stands at exactly one place, and each record of any other packet at
--- one at most. What stands at a place is the packet's record, octet for octet.
+-- one at most. A copy that is held, a stranded one too, or that was cancelled has none. What stands at a place is the
+-- packet's record, octet for octet.
 pub record StandsOnce (settings : ℕ → Settings) (w : World) : Type 0 where
   pub resolved : (node : ℕ) (packet : Followed) (index : ℕ) → IsFollowed w node packet →
       is_resolved packet.state.copies ≡ true → index < length packet.form.records →
-      places_in settings w node packet index ≡ 1
+      place_count settings w node packet index ≡ 1
   pub at_most : (node : ℕ) (packet : Followed) (index : ℕ) → IsFollowed w node packet →
-      places_in settings w node packet index ≤ 1
+      place_count settings w node packet index ≤ 1
+  pub rejected : (node : ℕ) (packet : Followed) (index : ℕ) (copy : PacketCopy) → IsFollowed w node packet →
+      Contains packet.state.copies copy →
+      is_rejected (state_with (node_ip node) packet.start copy.number (firm_in w copy.gateway)) ≡ true →
+      places_at settings w node packet index copy ≡ []
   pub octets : (node : ℕ) (packet : Followed) (index : ℕ) (copy : PacketCopy) (place : FilePlace) →
       IsFollowed w node packet → Contains packet.state.copies copy →
       Contains (places_at settings w node packet index copy) place →

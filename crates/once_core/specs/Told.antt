@@ -2,6 +2,7 @@
 -- are that its gateways filed.
 use Rattle.std.specs.Prelude.{◌≡◌, ℕ, true, Contains, Some, slice_get}
 use Rattle.gateway_book.specs.declared.filing.FiledRecord.{FiledRecord}
+use Rattle.gw_base.specs.declared.cause.TheConstants.{ALREADY_FULFILLED}
 use Rattle.gw_base.specs.declared.key_state.KeyState.TheVariants as state
 use Rattle.node_core.specs.Choosing.{IsChoice}
 use Rattle.node_core.specs.Copies.{is_fulfilled, told}
@@ -9,6 +10,7 @@ use Rattle.node_core.specs.declared.copy.Command.{Command}
 use Rattle.node_core.specs.declared.copy.Order.TheVariants.{Release}
 use Rattle.node_core.specs.declared.copy.PacketCopy.{PacketCopy}
 use Rattle.node_core.specs.declared.copy.Verdict.TheVariants as verdict
+use Rattle.node_core.specs.declared.port.Port.TheVariants.{Second}
 use Rattle.once_core.specs.Addresses.{node_ip}
 use Rattle.once_core.specs.Followed.{Followed, packets_in}
 use Rattle.once_core.specs.Following.{MaySend}
@@ -36,8 +38,8 @@ pub record AnswersACopy (w : World) (m : Message) : Type 0 where
   pub request : Request
   pub of : IsOfCopy w m request
 
--- No message means a copy that its node didn't send: each request is of a copy, and so is what an answer answers that
--- tells a node something.
+-- No message means a copy that its node didn't send: each request is of a copy, and so is the request that an answer
+-- answers, where the answer tells a node something.
 pub record MeanCopies (w : World) : Type 0 where
   pub asked : (m : Message) (request : Request) → Contains w.messages m → meaning_of m ≡ Asks request →
       IsOfCopy w m request
@@ -56,14 +58,19 @@ pub record IsAnswerFor (w : World) (m : Message) (packet : Followed) (copy : Pac
   pub gateway : m.gateway ≡ copy.gateway
   pub number_is : m.number ≡ number
 
--- What an answer tells of a copy is so in the firm part of its gateway's history: of a plain copy that it is filed, or
--- sealed, by the port and the cause; of one that a release was sent for that it is released.
+-- What an answer tells of a copy is so in the firm part of its gateway's history: of a plain copy that it is filed, and
+-- of any copy, plain or not, that it is sealed, by the port and the cause; and of a copy for which a release was sent,
+-- that it is released. A test goes from the second port. Where it is answered by 253 its copy is filed, be it plain or
+-- a duplicate.
 pub record TellStates (w : World) : Type 0 where
   pub filed : (m : Message) (packet : Followed) (copy : PacketCopy) (cause : ℕ) →
       IsAnswerFor w m packet copy copy.number cause → copy.is_plain ≡ true → told m.port true cause ≡ verdict.Filed →
       IsState (firm_in w copy.gateway) (node_ip m.node) packet.start copy.number state.Filed
+  pub filed_by_test : (m : Message) (packet : Followed) (copy : PacketCopy) →
+      IsAnswerFor w m packet copy copy.number ALREADY_FULFILLED → m.port ≡ Second →
+      IsState (firm_in w copy.gateway) (node_ip m.node) packet.start copy.number state.Filed
   pub sealed : (m : Message) (packet : Followed) (copy : PacketCopy) (cause : ℕ) →
-      IsAnswerFor w m packet copy copy.number cause → copy.is_plain ≡ true → told m.port true cause ≡ verdict.Sealed →
+      IsAnswerFor w m packet copy copy.number cause → told m.port true cause ≡ verdict.Sealed →
       IsState (firm_in w copy.gateway) (node_ip m.node) packet.start copy.number state.Sealed
   pub released : (m : Message) (packet : Followed) (copy : PacketCopy) (command : Command) (cause : ℕ) →
       IsAnswerFor w m packet copy command.number cause → copy.command ≡ Some command → command.order ≡ Release →
@@ -79,7 +86,7 @@ pub record NamesChoice (w : World) (m : Message) (named : ℕ) : Type 0 where
   pub choice : IsChoice packet.state.copies m.gateway named
   pub sealed : IsState (firm_in w choice.plain.gateway) (node_ip m.node) m.start choice.plain.number state.Sealed
 
--- each release among the messages is
+-- each release among the messages names the chosen copy of a packet
 abbrev pub NameChoices : World → Type 0
 NameChoices w = (m : Message) (named : ℕ) → Contains w.messages m → meaning_of m ≡ Asks (Orders Release named) →
     NamesChoice w m named

@@ -4,7 +4,7 @@ use Rattle.std.specs.Option.{option_map_or, option_or}
 use Rattle.gateway_book.specs.Value.{Fortune, Whole}
 use Rattle.node_core.specs.Log.{LogEntry, runs}
 use Rattle.node_core.specs.Reached.{Halt, Start}
-use Rattle.once_core.specs.Answers.{delivered, making_close, making_tick, marked, redirected}
+use Rattle.once_core.specs.Answers.{closing, delivered, making_tick, marked, redirected}
 use Rattle.once_core.specs.Expired.{starts_in}
 use Rattle.once_core.specs.Gateway.{Gateway, Moved, Rules, committing, cut, opened, still}
 use Rattle.once_core.specs.World.{Called, World, called, delivered_to_node, log_at, submitting, ticking}
@@ -114,7 +114,7 @@ turn_by rules w t (event.Redirect gateway cause to) =
     at_gateway w (gateway - 1) (redirected (gateway - 1) cause (option_map (λ number. number - 1) to))
 turn_by rules w t (event.Moment now) = record w { now = now }
 turn_by rules w t (event.Mark gateway) = at_gateway w (gateway - 1) (marked rules t.fortune (making_tick rules w.now))
-turn_by rules w t (event.Close gateway) = at_gateway w (gateway - 1) (marked rules t.fortune (making_close w.now))
+turn_by rules w t (event.Close gateway) = at_gateway w (gateway - 1) (marked rules t.fortune (closing rules w.now))
 
 -- the world after a turn: as it was, where it doesn't allow the event
 abbrev pub unless_refused : Option WorldKind → World → World → World
@@ -124,7 +124,20 @@ unless_refused (Some kind) before after = before
 abbrev pub turn : Rules → World → Turn → World
 turn rules w t = unless_refused (refusal_of w t.event) w (turn_by rules w t t.event)
 
--- the world after some turns, one after the other
+-- A turn by rules of its own, so that whatever a gateway asks its rules there is an arbitrary yes or no.
+pub record RuledTurn : Type 0 where
+  pub rules : Rules
+  pub turn : Turn
+
+abbrev pub ruled : Rules → Turn → RuledTurn
+ruled rules t = record { rules = rules; turn = t }
+
+-- the world after some turns, one after the other, each by its own rules
+abbrev pub ruled_turns : World → List RuledTurn → World
+ruled_turns w [] = w
+ruled_turns w (t ∷ later) = ruled_turns (turn t.rules w t.turn) later
+
+-- the same where all go by the same rules
 abbrev pub turns : Rules → World → List Turn → World
 turns rules w [] = w
 turns rules w (t ∷ later) = turns rules (turn rules w t) later

@@ -1,9 +1,8 @@
 // Which messages are expired.
 ghost use Rattle.std.specs.Prelude.{◌≡◌, ◌%◌, ◌==◌};
 ghost use Rattle.gw_base.specs.Nearest.{nearest};
-ghost use Rattle.once_core.specs.Addresses.{node_ip};
-ghost use Rattle.once_core.specs.Expired.{is_expired, is_expired_at_node, is_expired_request};
-ghost use Rattle.once_core.specs.Messages.{about, has_type, is_request, is_response};
+ghost use Rattle.once_core.specs.Expired.{is_expired, is_expired_at_node};
+ghost use Rattle.once_core.specs.Messages.{about, has_type};
 ghost use Rattle.once_core.specs.Standing.{is_expired_kept};
 
 use crate::addresses::FIRST_NODE;

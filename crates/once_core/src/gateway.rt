@@ -5,8 +5,9 @@ ghost use Rattle.once_core.specs.HistoryKept.{is_kept_act};
 ghost use Rattle.once_core.specs.Moves.{HaveParted};
 
 use crate::message::{Message, Waiting};
-use crate::room::{first_moment, has_room, is_rest_full};
-use gw_base::{Caller, HistoryAct, HistoryEntry, Moment, NoMemory, scan};
+use crate::room::{SIZE, first_moment, is_rest_full};
+use gateway_book::has_room;
+use gw_base::{Act, Caller, HistoryAct, HistoryEntry, Moment, NoMemory, scan};
 use std::alloc::Global;
 use std::marker::Model;
 
@@ -52,7 +53,7 @@ impl KeptGateway {
             is_down: false,
             redirects: 0,
         };
-        gateway.start()?;
+        gateway.start(alloc)?;
         gateway.firm = gateway.history.len();
         Ok(gateway)
     }
@@ -72,10 +73,10 @@ impl KeptGateway {
     }
 
     /// A Start, where there is room for it.
-    fn start(&mut self) -> Result<(), NoMemory>
+    fn start(&mut self, alloc: Global) -> Result<(), NoMemory>
         ensures { OnOk result (self.new ≡ once_started self.old) }
     {
-        if has_room(&mut self.history, HistoryAct::Start)? {
+        if has_room(alloc, &self.history, &Act::Start, SIZE)? {
             self.record(first_moment(), HistoryAct::Start)?;
         }
         Ok(())
@@ -145,7 +146,7 @@ impl KeptGateway {
         self.waiting = Vec::new(alloc);
         self.is_down = false;
         self.redirects = 0;
-        self.start()
+        self.start(alloc)
     }
 }
 

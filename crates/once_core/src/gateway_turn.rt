@@ -11,10 +11,10 @@ use crate::addresses::{gateway_address, node_address, node_at, port_at};
 use crate::expired::is_expired;
 use crate::gateway::KeptGateway;
 use crate::message::{Message, Waiting};
-use crate::room::{SIZE, has_room};
-use gateway_book::{OwnedAnswer, answer, prepare};
+use crate::room::SIZE;
+use gateway_book::{OwnedAnswer, answer, has_room, prepare};
 use gtpp_message::Message as Body;
-use gw_base::{Addr, HistoryAct, Moment, NoMemory, NodeId, Octets, Short, scan};
+use gw_base::{Act, Addr, HistoryAct, Moment, NoMemory, NodeId, Octets, Short, scan};
 use std::alloc::Global;
 
 /// The seconds for which a file may be open.
@@ -103,16 +103,16 @@ impl KeptGateway {
             self.new sends.old.items sends.new.items) }
     {
         self.ready(alloc, sends)?;
-        self.make_tick(now)
+        self.make_tick(alloc, now)
     }
 
-    fn make_tick(&mut self, now: Moment) -> Result<(), NoMemory>
+    fn make_tick(&mut self, alloc: Global, now: Moment) -> Result<(), NoMemory>
         ensures { OnOk result (HasMoved (making_tick default_rules now self.old) self.new [] []) }
     {
         if !scan::is_tick_due(&self.history, OPEN_TIME, now) {
             return Ok(());
         }
-        if !has_room(&mut self.history, HistoryAct::Tick)? {
+        if !has_room(alloc, &self.history, &Act::Tick, SIZE)? {
             return Ok(());
         }
         self.record(now, HistoryAct::Tick)
@@ -201,12 +201,12 @@ fn redirection(number: u16, cause: u8, to: Option<u8>) -> Short
     ensures low { number < 65536 }
 {
     match to {
-        None => gtpp_message::reply(number, &Body::RedirectionRequest { cause, to: None }),
+        None => gtpp_message::write_short(number, &Body::RedirectionRequest { cause, to: None }),
         Some(to) => {
             let octets = gateway_address(to).ip.to_be_bytes();
             let to: &[u8] = &octets;
             let to = Some(to);
-            gtpp_message::reply(number, &Body::RedirectionRequest { cause, to })
+            gtpp_message::write_short(number, &Body::RedirectionRequest { cause, to })
         }
     }
 }

@@ -13,6 +13,7 @@ pub(crate) enum Do {
     /// The gateway is about to go down.
     GoesDown(u8),
     Commit(u8),
+    Close(u8),
     Deliver(u64),
 }
 
@@ -29,14 +30,16 @@ pub(crate) enum Kind {
     Sealed(u64),
     Released(u64),
     Cancelled(u64),
+    Closed,
     /// It isn't of the node or its packet, or there is none of it in these stories.
     Other,
 }
 
-use Kind::{Cancelled, Filed, Held, Learnt, Opened, Released, Sealed};
+use Kind::{Cancelled, Closed, Filed, Held, Learnt, Opened, Released, Sealed};
 
 /// A story: how the node becomes alive, what happens then, the messages that are sent then, the
-/// entries of each gateway at the end, all of them firm, and whether each packet is done.
+/// entries of each gateway at the end, once its files are closed, all of them firm, and whether each
+/// packet is done.
 pub(crate) struct Story {
     pub(crate) gateways: u8,
     pub(crate) begins: &'static [Do],
@@ -162,7 +165,7 @@ pub(crate) const ANSWER_LOST: Story = Story {
         ONE_ACCEPTED,
     ],
     entries: &[
-        &[Opened, Learnt(1), Filed(65_536)],
+        &[Opened, Learnt(1), Filed(65_536), Closed],
         &[Opened, Learnt(1), Held(65_536), Cancelled(65_536)],
     ],
     is_done: &[true],
@@ -206,7 +209,7 @@ pub(crate) const COPY_LATE: Story = Story {
     ],
     entries: &[
         &[Opened, Learnt(1), Sealed(65_536)],
-        &[Opened, Learnt(1), Held(65_536), Released(65_536)],
+        &[Opened, Learnt(1), Held(65_536), Released(65_536), Closed],
     ],
     is_done: &[true],
 };
@@ -268,7 +271,7 @@ pub(crate) const TWO_DUPLICATES: Story = Story {
     entries: &[
         &[Opened, Learnt(1), Sealed(65_536)],
         &[Opened, Learnt(1), Held(65_536), Cancelled(65_536)],
-        &[Opened, Learnt(1), Held(65_536), Released(65_536)],
+        &[Opened, Learnt(1), Held(65_536), Released(65_536), Closed],
     ],
     is_done: &[true],
 };
@@ -323,7 +326,7 @@ pub(crate) const STARTED_AGAIN: Story = Story {
         ACCEPTED,
     ],
     entries: &[
-        &[Opened, Learnt(1), Learnt(2), Filed(65_536)],
+        &[Opened, Learnt(1), Learnt(2), Filed(65_536), Closed],
         &[Opened, Learnt(1), Held(65_536), Learnt(2)],
     ],
     is_done: &[false, true],

@@ -10,7 +10,7 @@ use crate::message::Message;
 use crate::node_turn::KeptNode;
 use crate::refusing::place_of;
 use crate::room::first_moment;
-use crate::world_laws::each_record_is_filed_once;
+use crate::world_laws::{each_record_is_filed_once, each_record_stands_once};
 use gw_base::{Moment, NoMemory, Octets};
 use std::alloc::Global;
 use std::marker::Model;
@@ -72,6 +72,7 @@ impl World {
     {
         node_core::a_node_stands_for_its_log();
         each_record_is_filed_once();
+        each_record_stands_once();
         if self.is_spent {
             return Stepped::NoMemory;
         }

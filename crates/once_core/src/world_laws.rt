@@ -1,4 +1,5 @@
-//! Laws of worlds. Each holds for all settings, and stands on a function that does nothing.
+//! Laws of worlds. Each holds for all settings, and whatever a gateway is told, each time it asks, of which acts may be
+//! recorded and whether its batch is full. Each stands on a function that does nothing.
 
 ghost use Rattle.std.specs.Prelude.{◌≡◌, ◌-◌, ◌<◌, ◌≤◌, ℕ, Bool, true, false, Contains, List, None, Some, length, slice_get};
 ghost use Rattle.file_writer.specs.Places.{FilePlace, place_in};
@@ -11,9 +12,9 @@ ghost use Rattle.gateway_book.specs.declared.filing.FiledRecord.{FiledRecord};
 ghost use Rattle.gw_base.specs.History.{state_of};
 ghost use Rattle.gw_base.specs.declared.history.HistoryEntry.{HistoryEntry};
 ghost use Rattle.gw_base.specs.declared.history.PacketKey.{PacketKey};
-ghost use Rattle.once_core.specs.Admitted.{AllAdmitted, AllMarksDue, moves_on};
+ghost use Rattle.once_core.specs.Admitted.{AllAdmitted, AllKeepLimits, AllLimited, AllMarksDue, KeepLimits, moves_on};
 ghost use Rattle.once_core.specs.Answers.{taken_in};
-ghost use Rattle.once_core.specs.Beginning.{world_of};
+ghost use Rattle.once_core.specs.Beginning.{default_rules, first_world, world_of};
 ghost use Rattle.once_core.specs.FilePlaces.{IsRecordAt, file_places, sources_of};
 ghost use Rattle.once_core.specs.Epochs.{StartsRise};
 ghost use Rattle.once_core.specs.Gateway.{Gateway, Rules, cut};
@@ -22,7 +23,7 @@ ghost use Rattle.once_core.specs.Growing.{GoesOn, HoldSame, IsBetween};
 ghost use Rattle.once_core.specs.Once.{Once, firm_in};
 ghost use Rattle.once_core.specs.Shown.{post_of};
 ghost use Rattle.once_core.specs.StandsOnce.{StandsOnce};
-ghost use Rattle.once_core.specs.Turn.{Turn, at_gateway, log_in, refusal_of, turn, turns};
+ghost use Rattle.once_core.specs.Turn.{RuledTurn, Turn, at_gateway, log_in, refusal_of, ruled_turns, turn, turns};
 ghost use Rattle.once_core.specs.World.{World, ticking};
 ghost use Rattle.once_core.specs.declared.event.Event.TheVariants.{Deliver, Tick};
 ghost use Rattle.once_core.specs.declared.message.Message.{Message};
@@ -32,9 +33,11 @@ use crate::once_laws::{a_node_follows_the_procedure, a_node_knows_what_it_was_to
 /// Whatever happens in a world of at least one gateway, each record of each packet that its node
 /// ever resolved is filed once by all gateways together, and each record of any other packet at most
 /// once. None is filed of a copy that is held, a stranded one too, or was cancelled, and what is filed
-/// for a copy is its packet's record.
+/// for a copy is its packet's record. So it is, as a case of this, where all go by the same rules.
 pub fn each_record_is_filed_once()
-    ensures { (rules : Rules) (gateways nodes : ℕ) (all : List Turn) → 1 ≤ gateways →
+    ensures each { (first : ℕ → Rules) (gateways nodes : ℕ) (all : List RuledTurn) → 1 ≤ gateways →
+        Once (ruled_turns (first_world first gateways nodes) all) }
+    ensures alike { (rules : Rules) (gateways nodes : ℕ) (all : List Turn) → 1 ≤ gateways →
         Once (turns rules (world_of rules gateways nodes) all) }
 {
     gtpp_message::laws::written_is_read_back();
@@ -50,16 +53,20 @@ pub fn each_record_is_filed_once()
 /// firm alone and with any entries that follow. So where the next event delivers it, the gateway does
 /// what it does to a message whose age nobody asks for.
 pub fn what_a_tick_sends_is_not_expired()
-    ensures sent { (rules : Rules) (gateways nodes : ℕ) (all : List Turn) (node : ℕ) (m : Message) (g : Gateway)
-        (h : List HistoryEntry) → 1 ≤ gateways → let w = turns rules (world_of rules gateways nodes) all in
+    ensures sent { (first : ℕ → Rules) (gateways nodes : ℕ) (all : List RuledTurn) (node : ℕ) (m : Message)
+        (g : Gateway) (h : List HistoryEntry) → 1 ≤ gateways →
+        let w = ruled_turns (first_world first gateways nodes) all in
         refusal_of w (Tick node) ≡ None →
         Contains (ticking (length w.gateways) (node - 1) (log_in w node)).sends m →
         slice_get w.gateways m.gateway ≡ Some g → IsBetween (post_of g) h → is_expired h m ≡ false }
-    ensures delivered { (rules : Rules) (gateways nodes : ℕ) (all : List Turn) (tick next : Turn) (node number : ℕ)
-        (m : Message) → 1 ≤ gateways → let before = turns rules (world_of rules gateways nodes) all in
-        let after = turn rules before tick in tick.event ≡ Tick node → next.event ≡ Deliver number →
+    ensures delivered { (first : ℕ → Rules) (gateways nodes : ℕ) (all : List RuledTurn) (tick next : RuledTurn)
+        (node number : ℕ) (m : Message) → 1 ≤ gateways →
+        let before = ruled_turns (first_world first gateways nodes) all in
+        let after = turn tick.rules before tick.turn in
+        tick.turn.event ≡ Tick node → next.turn.event ≡ Deliver number →
         length before.messages < number → slice_get after.messages (number - 1) ≡ Some m →
-        turn rules after next ≡ at_gateway after m.gateway (taken_in rules after.now next.fortune m) }
+        turn next.rules after next.turn
+        ≡ at_gateway after m.gateway (taken_in next.rules after.now next.turn.fortune m) }
 {
     gw_base::nearest_is_the_one();
     gtpp_message::laws::written_is_read_back();
@@ -77,17 +84,17 @@ pub fn what_a_tick_sends_is_not_expired()
 /// What is firm stays so in any turns, whatever devices do: the firm part of each gateway's history
 /// only grows, and so do the records that it files.
 pub fn firm_parts_only_grow()
-    ensures entries { (rules : Rules) (w : World) (later : List Turn) (place : ℕ) →
-        GoesOn (firm_in w place) (firm_in (turns rules w later) place) }
-    ensures filed { (rules : Rules) (w : World) (later : List Turn) (place : ℕ) →
-        GoesOn (filed (firm_in w place)) (filed (firm_in (turns rules w later) place)) }
+    ensures entries { (w : World) (later : List RuledTurn) (place : ℕ) →
+        GoesOn (firm_in w place) (firm_in (ruled_turns w later) place) }
+    ensures filed { (w : World) (later : List RuledTurn) (place : ℕ) →
+        GoesOn (filed (firm_in w place)) (filed (firm_in (ruled_turns w later) place)) }
 {}
 
 /// The place of a record in the files of a firm part stays.
 pub fn places_stay()
-    ensures { (rules : Rules) (w : World) (later : List Turn) (place k : ℕ) (settings : Settings) (at : FilePlace) →
+    ensures { (w : World) (later : List RuledTurn) (place k : ℕ) (settings : Settings) (at : FilePlace) →
         place_in settings (items_of (firm_in w place)) k ≡ Some at →
-        place_in settings (items_of (firm_in (turns rules w later) place)) k ≡ Some at }
+        place_in settings (items_of (firm_in (ruled_turns w later) place)) k ≡ Some at }
 {
     file_writer::places::a_place_stays();
 }
@@ -114,11 +121,14 @@ pub fn what_stands_at_a_place_was_filed()
 
 /// Whatever happens in a world of at least one gateway, each record of each packet that its node ever
 /// resolved stands at one place of the files of all gateways, each record of any other packet at one
-/// at most, and what stands there is the record as it was submitted. Each gateway has settings of its
-/// files of its own.
+/// at most, and what stands there is the record as it was submitted. A copy that is held or was
+/// cancelled has no place. Each gateway has settings of its files of its own. So it is, as a case of
+/// this, where all go by the same rules.
 pub fn each_record_stands_once()
-    ensures { (rules : Rules) (settings : ℕ → Settings) (gateways nodes : ℕ) (all : List Turn) → 1 ≤ gateways →
-        StandsOnce settings (turns rules (world_of rules gateways nodes) all) }
+    ensures each { (first : ℕ → Rules) (settings : ℕ → Settings) (gateways nodes : ℕ) (all : List RuledTurn) →
+        1 ≤ gateways → StandsOnce settings (ruled_turns (first_world first gateways nodes) all) }
+    ensures alike { (rules : Rules) (settings : ℕ → Settings) (gateways nodes : ℕ) (all : List Turn) →
+        1 ≤ gateways → StandsOnce settings (turns rules (world_of rules gateways nodes) all) }
 {
     each_record_is_filed_once();
     each_filed_record_has_one_place();
@@ -126,16 +136,20 @@ pub fn each_record_stands_once()
 }
 
 /// Each entry of a firm part keeps to the table of answers: what it files, holds or seals was fresh,
-/// and what it releases or cancels was held. So the states of keys only move forward. And a mark stands
-/// only where a record was filed after the last Close.
+/// and what it releases or cancels was held. So the states of keys only move forward. Each entry is
+/// within the limits, too, where no turn's rules allow an act beyond them, as those by default don't. And
+/// a mark stands only where a record was filed after the last Close.
 pub fn histories_keep_to_the_table()
-    ensures entries { (rules : Rules) (gateways nodes : ℕ) (all : List Turn) (place : ℕ) →
-        AllAdmitted (firm_in (turns rules (world_of rules gateways nodes) all) place) }
-    ensures marks { (rules : Rules) (gateways nodes : ℕ) (all : List Turn) (place : ℕ) →
-        AllMarksDue (firm_in (turns rules (world_of rules gateways nodes) all) place) }
-    ensures states { (rules : Rules) (gateways nodes : ℕ) (first later : List Turn) (place : ℕ) (key : PacketKey) →
-        moves_on (state_of key (firm_in (turns rules (world_of rules gateways nodes) first) place))
-        (state_of key (firm_in (turns rules (turns rules (world_of rules gateways nodes) first) later) place)) ≡ true }
+    ensures entries { (first : ℕ → Rules) (gateways nodes : ℕ) (all : List RuledTurn) (place : ℕ) →
+        AllAdmitted (firm_in (ruled_turns (first_world first gateways nodes) all) place) }
+    ensures limits { (first : ℕ → Rules) (gateways nodes : ℕ) (all : List RuledTurn) (place : ℕ) → AllKeepLimits all →
+        AllLimited (firm_in (ruled_turns (first_world first gateways nodes) all) place) }
+    ensures by_default { KeepLimits default_rules }
+    ensures marks { (first : ℕ → Rules) (gateways nodes : ℕ) (all : List RuledTurn) (place : ℕ) →
+        AllMarksDue (firm_in (ruled_turns (first_world first gateways nodes) all) place) }
+    ensures states { (first : ℕ → Rules) (gateways nodes : ℕ) (all later : List RuledTurn) (place : ℕ)
+        (key : PacketKey) → let w = ruled_turns (first_world first gateways nodes) all in
+        moves_on (state_of key (firm_in w place)) (state_of key (firm_in (ruled_turns w later) place)) ≡ true }
 {
     gateway_book::laws::what_is_prepared_is_whole();
 }
@@ -143,8 +157,8 @@ pub fn histories_keep_to_the_table()
 /// The starts of each node rise in what is firm at a gateway. So no two epochs of a node there begin
 /// with the same start, and the present one begins with the greatest.
 pub fn starts_only_rise()
-    ensures { (rules : Rules) (gateways nodes : ℕ) (all : List Turn) (place : ℕ) → 1 ≤ gateways →
-        StartsRise (firm_in (turns rules (world_of rules gateways nodes) all) place) }
+    ensures { (first : ℕ → Rules) (gateways nodes : ℕ) (all : List RuledTurn) (place : ℕ) → 1 ≤ gateways →
+        StartsRise (firm_in (ruled_turns (first_world first gateways nodes) all) place) }
 {
     gtpp_message::laws::written_is_read_back();
     gtpp_message::laws::a_role_reads_what_is_read();

@@ -5,11 +5,19 @@ use crate::stories::{
     ANSWER_LOST, COPY_LATE, Do, Kind, PACKET, STARTED_AGAIN, Story, TWO_DUPLICATES,
 };
 use crate::{Event, Stepped, World, WorldKind};
-use gw_base::{HistoryAct, HistoryEntry, Moment, Octets};
+use gw_base::{Caller, HistoryAct, HistoryEntry, Moment, NodeId, Octets};
 use node_core::Phase;
 use std::alloc::Global;
 use std::process::Abort;
 use std::test::Fail;
+
+/// The node of these worlds, and the first of its ports.
+const NODE: NodeId = NodeId(0x0A00_0101);
+
+const PORT: u16 = 40_001;
+
+/// The moment of the stories.
+const NOW: u64 = 1_709_164_800;
 
 /// A world of so many gateways and a node.
 fn anew<R: Abort>(rt: &R, alloc: Global, gateways: u8) -> World
@@ -48,6 +56,7 @@ fn event<R: Abort>(rt: &R, alloc: Global, play: Do) -> Event {
             to: None,
         },
         Do::Commit(gateway) => Event::Commit { gateway },
+        Do::Close(gateway) => Event::Close { gateway },
         Do::Deliver(message) => Event::Deliver { message },
     }
 }
@@ -71,47 +80,69 @@ fn first_world<R: Abort>(rt: &R, alloc: Global, gateways: u8) -> World {
     }
 }
 
+/// All that waits is committed, the files of each gateway are closed, and that is committed.
+fn ends<R: Abort>(rt: &R, alloc: Global, world: &mut World, gateways: u8) {
+    for place in 0..gateways {
+        let gateway = place.saturating_add(1);
+        let all = [Do::Commit(gateway), Do::Close(gateway), Do::Commit(gateway)];
+        play(rt, alloc, world, &all);
+    }
+}
+
 /// The world after a story, and how many messages it had once the node was alive.
 fn after<R: Abort>(rt: &R, alloc: Global, story: &Story) -> (World, usize) {
     let mut world = first_world(rt, alloc, story.gateways);
-    let now = moment(rt, 1_709_164_800);
+    let now = moment(rt, NOW);
     assert!(rt; is_done(world.step(alloc, &Event::Moment { now })));
     play(rt, alloc, &mut world, story.begins);
     let before = world.messages.len();
     play(rt, alloc, &mut world, story.events);
+    ends(rt, alloc, &mut world, story.gateways);
     (world, before)
+}
+
+fn is_packet(node: NodeId, packet: &Octets) -> bool {
+    node == NODE && packet.octets() == PACKET.as_slice()
+}
+
+/// The one number that a list of the node's names.
+fn named(node: NodeId, numbers: &[u64]) -> Option<u64> {
+    match numbers {
+        [number] if node == NODE => Some(*number),
+        _ => None,
+    }
 }
 
 /// What an entry records, where it is of the stories' node and packet.
 fn kind_of(entry: &HistoryEntry) -> Kind {
     match &entry.act {
         HistoryAct::Start => Kind::Opened,
-        HistoryAct::Path { counter, .. } => Kind::Learnt(*counter),
-        HistoryAct::File { number, packet, .. } => {
-            if packet.octets() == PACKET.as_slice() {
-                Kind::Filed(*number)
-            } else {
-                Kind::Other
-            }
-        }
-        HistoryAct::Hold { number, packet, .. } => {
-            if packet.octets() == PACKET.as_slice() {
-                Kind::Held(*number)
-            } else {
-                Kind::Other
-            }
-        }
-        HistoryAct::Seal { number, .. } => Kind::Sealed(*number),
-        HistoryAct::Release { numbers, .. } => match numbers.numbers() {
-            [number] => Kind::Released(*number),
-            _ => Kind::Other,
+        HistoryAct::Path {
+            node,
+            port,
+            counter,
+        } if *node == NODE && *port == PORT => Kind::Learnt(*counter),
+        HistoryAct::File {
+            node,
+            number,
+            packet,
+        } if is_packet(*node, packet) => Kind::Filed(*number),
+        HistoryAct::Hold {
+            node,
+            number,
+            packet,
+        } if is_packet(*node, packet) => Kind::Held(*number),
+        HistoryAct::Seal { node, number } if *node == NODE => Kind::Sealed(*number),
+        HistoryAct::Release { node, numbers } => match named(*node, numbers.numbers()) {
+            Some(number) => Kind::Released(number),
+            None => Kind::Other,
         },
-        HistoryAct::Cancel { numbers, .. } => match numbers.numbers() {
-            [number] => Kind::Cancelled(*number),
-            _ => Kind::Other,
+        HistoryAct::Cancel { node, numbers } => match named(*node, numbers.numbers()) {
+            Some(number) => Kind::Cancelled(number),
+            None => Kind::Other,
         },
-        HistoryAct::Tick => Kind::Other,
-        HistoryAct::Close => Kind::Other,
+        HistoryAct::Close => Kind::Closed,
+        _ => Kind::Other,
     }
 }
 
@@ -123,17 +154,31 @@ fn kinds_of(alloc: Global, history: &[HistoryEntry]) -> Result<Vec<Kind>, Fail> 
     Ok(kinds)
 }
 
-/// Each gateway has these entries, and all are firm.
+/// No session made an entry; a Start bears the first moment, and any other this one.
+fn check_moments<R: Abort>(rt: &R, history: &[HistoryEntry], seconds: u64) {
+    for entry in history {
+        let since = match &entry.act {
+            HistoryAct::Start => 0,
+            _ => seconds,
+        };
+        assert_eq!(rt; entry.moment, moment(rt, since));
+        assert_eq!(rt; entry.caller, Caller::NONE);
+    }
+}
+
+/// Each gateway has these entries, made at this moment, and all are firm.
 fn check_entries<R: Abort>(
     rt: &R,
     alloc: Global,
     world: &World,
     entries: &[&[Kind]],
+    seconds: u64,
 ) -> Result<(), Fail> {
     assert_eq!(rt; world.gateways.len(), entries.len());
     for (gateway, wanted) in world.gateways.iter().zip(entries) {
         let kinds = kinds_of(alloc, &gateway.history)?;
         assert_eq!(rt; kinds.as_slice(), *wanted);
+        check_moments(rt, &gateway.history, seconds);
         assert_eq!(rt; gateway.firm, wanted.len());
     }
     Ok(())
@@ -164,7 +209,7 @@ fn check_packets<R: Abort>(rt: &R, world: &World, packets: &[bool]) {
 
 fn check<R: Abort>(rt: &R, alloc: Global, story: &Story) -> Result<(), Fail> {
     let (world, before) = after(rt, alloc, story);
-    check_entries(rt, alloc, &world, story.entries)?;
+    check_entries(rt, alloc, &world, story.entries, NOW)?;
     check_sent(rt, &world, before, story.sent);
     check_packets(rt, &world, story.is_done);
     Ok(())
@@ -278,7 +323,7 @@ fn check_counters<R: Abort>(rt: &R, alloc: Global, world: &World) -> Result<(), 
         wanted.push(Kind::Learnt(before.saturating_add(1)))?;
     }
     wanted.push(Kind::Filed(65_536))?;
-    check_entries(rt, alloc, world, &[wanted.as_slice()])
+    check_entries(rt, alloc, world, &[wanted.as_slice()], 0)
 }
 
 /// A node has 255 starts, and each is told to a gateway. A copy that was sent in the first of them

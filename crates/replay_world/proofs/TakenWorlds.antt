@@ -23,7 +23,7 @@ use Rattle.node_core.specs.Value.{NodeValue, logged}
 use Rattle.node_core.specs.declared.fault.SubmitFault.{SubmitFault}
 use Rattle.node_core.specs.declared.port.Port.{Port}
 use Rattle.once_core.specs.Addresses.{gateway_address}
-use Rattle.once_core.specs.Answers.{acting, answer_at, answered, delivered, delivered_broken, delivered_running, failed, failed_by, if_broken, making_close, making_tick, marked, recorded_where, unless_expired}
+use Rattle.once_core.specs.Answers.{acting, answer_at, answered, closing, delivered, delivered_broken, delivered_running, failed, failed_by, if_broken, making_close, making_tick, marked, recorded_where, unless_expired}
 use Rattle.once_core.specs.Expired.{is_expired, is_expired_at_node}
 use Rattle.once_core.specs.Gateway.{Gateway, Moved, Rules, book_committing, committing, followed, giving_up, readying, settling, still}
 use Rattle.once_core.specs.Turn.{Turn, at_gateway, at_node, delivering, gateway_moved, is_down_in, log_in, node_called, refusal_of, turn, turn_by, unless_refused}
@@ -107,6 +107,13 @@ delivered_stays rules now f m g = by g.is_down refl
 recorded_stays : (is_due : Bool) (now : ℕ) (act : HistoryAct) → Stays (recorded_where is_due now act)
 recorded_stays true now act g = refl
 recorded_stays false now act g = refl
+
+closing_stays : (rules : Rules) (now : ℕ) → Stays (closing rules now)
+closing_stays rules now g = by (rules.may_close (history_of g.book))
+  where
+    by : (b : Bool) → (if b then making_close now g else still g).gateway.is_down ≡ g.is_down
+    by true = recorded_stays (is_close_due (history_of g.book)) now Close g
+    by false = refl
 
 marked_stays : (rules : Rules) (f : Fortune) (mark : Gateway → Moved) → Stays mark → Stays (marked rules f mark)
 marked_stays rules f mark stays =
@@ -288,9 +295,8 @@ event_same rules w t (event.Mark gateway) q =
     (marked_stays rules t.fortune (making_tick rules w.now)
     (λ g. recorded_stays (is_tick_due rules.open_time w.now (history_of g.book) && rules.room (history_of g.book) Tick) w.now Tick g))
 event_same rules w t (event.Close gateway) q =
-    gateway_same w (gateway - 1) (marked rules t.fortune (making_close w.now))
-    (marked_stays rules t.fortune (making_close w.now)
-    (λ g. recorded_stays (is_close_due (history_of g.book)) w.now Close g))
+    gateway_same w (gateway - 1) (marked rules t.fortune (closing rules w.now))
+    (marked_stays rules t.fortune (closing rules w.now) (closing_stays rules w.now))
 event_same rules w t (event.Cut gateway keep) q = absurd (cc)
 event_same rules w t (event.Open gateway) q = absurd (cc)
 event_same rules w t (event.Halt node) q = absurd (cc)

@@ -1,11 +1,13 @@
 -- What the settings of a script say of a replay. A setting that is given again replaces the one before it, and rules
 -- are added.
-use Rattle.std.specs.Prelude.{ℕ, ℤ, pos, List, [], ◌∷◌, ◌++◌}
+use Rattle.std.specs.Prelude.{ℕ, ℤ, pos, true, List, [], ◌∷◌, ◌++◌}
 use Rattle.std.specs.Option.{option_map_or}
 use Rattle.file_rotate.specs.declared.limits.Limits.{Limits}
 use Rattle.file_writer.specs.Streams.{Settings}
+use Rattle.gateway_book.specs.Answer.{may_record}
 use Rattle.gateway_book.specs.Answered.{room_for}
 use Rattle.gateway_book.specs.Value.{is_batch_full}
+use Rattle.gw_base.specs.Observed.{observed}
 use Rattle.once_core.specs.Addresses.{gateway_address}
 use Rattle.once_core.specs.Gateway.{Rules}
 use Rattle.route_filter.specs.Rules.{rule_of}
@@ -56,7 +58,9 @@ setup_of lines = after_settings default_setup lines
 -- what they decide in the world
 abbrev pub rules_in : Setup → Rules
 rules_in s = record {
+  may = λ h node act. may_record (observed h node) (room_for h s.size) act;
   room = λ h act. room_for h s.size act;
+  may_close = λ h. true;
   is_full = is_batch_full;
   open_time = s.limits.open_time;
 }

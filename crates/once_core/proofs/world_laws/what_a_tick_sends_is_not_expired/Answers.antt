@@ -37,4 +37,4 @@ returns-clause-delivered c = λ rules gateways nodes all tick next node number m
       knows = c.a_node_knows_what_it_was_told.ensures;
       follow = c.a_node_follows_the_procedure.ensures;
     })
-    c.requests_are_of_copies.ensures rules gateways nodes all some node tick next number m ticks delivers within is
+    c.requests_are_of_copies.ensures rules gateways nodes all some node tick.rules next.rules tick.turn next.turn number m ticks delivers within is

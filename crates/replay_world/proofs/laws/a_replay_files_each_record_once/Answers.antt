@@ -9,4 +9,4 @@ use Rattle.replay_world.proofs.laws.a_replay_files_each_record_once.Goals as goa
 pub returns : goal.returns
 returns c = λ setup lines some.
     subst Once (sym (lines_world (begun setup) lines))
-    (c.each_record_is_filed_once.ensures (rules_in setup) setup.gateways setup.nodes (turns_from (begun setup) lines) some)
+    (c.each_record_is_filed_once.ensures.alike (rules_in setup) setup.gateways setup.nodes (turns_from (begun setup) lines) some)

@@ -48,5 +48,6 @@ returns-in-Ok-clause-once c = λ gateways nodes all some stands.
     record {
       stands = made_then gateways nodes all c.args.event.now c.play.new.self
           (returns-in-Ok-clause-gives c (made gateways nodes all) stands).turned;
-      once = c.each_record_is_filed_once.ensures default_rules gateways nodes (all ++ calm c.args.event.now ∷ []) some;
+      once = c.each_record_is_filed_once.ensures.alike default_rules gateways nodes (all ++ calm c.args.event.now ∷ []) some;
+      places = λ settings. c.each_record_stands_once.ensures.alike default_rules settings gateways nodes (all ++ calm c.args.event.now ∷ []) some;
     }
