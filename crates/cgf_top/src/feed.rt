@@ -5,7 +5,7 @@ ghost use Rattle.file_writer.specs.AllStreams.{IsFit};
 ghost use Rattle.file_writer.specs.Files.{files_of};
 ghost use Rattle.cgf_top.specs.FeedReport.{after_line, begun, end_lines, fed_of, file_line, is_earlier, printed_for, reply_line};
 ghost use Rattle.cgf_top.specs.Gateway.{after_close, after_datagram, answered};
-ghost use Rattle.cgf_top.specs.Lines.{AreInRange, IsInRange};
+ghost use Rattle.cgf_top.specs.Lines.{AreInRange};
 ghost use Rattle.cgf_top.specs.SettingSteps.{AreSound, settings_seen};
 ghost use Rattle.cgf_top.specs.Steps.{IsFed, is_part, refusal_at, state_of};
 

@@ -1,7 +1,5 @@
 //! What a feed script sets.
-ghost use Rattle.std.specs.Prelude.{◌≡◌, ◌≤◌, ◌<◌, ◌+◌, ◌++◌, ℕ, [], ◌∷◌, IfOk, OnOk, IsSome, IsUtf8, length, pos};
-ghost use Rattle.std.specs.List.{flat_map};
-ghost use Rattle.file_rotate.specs.Items.{AreLimits};
+ghost use Rattle.std.specs.Prelude.{◌≡◌, ◌≤◌, ◌<◌, ◌+◌, ◌++◌, IfOk, OnOk, IsSome, IsUtf8, length};
 ghost use Rattle.jiff_core.specs.Calendar.{IsWithin};
 ghost use Rattle.route_filter.specs.Rules.{most_rules, rule_of};
 ghost use Rattle.cgf_top.specs.FeedSettings.{first_settings, rules_in, settings_of};

@@ -1,8 +1,7 @@
 //! What `show` prints for the octets of a CDR file.
 
-ghost use Rattle.std.specs.Prelude.{◌≡◌, ◌<◌, [], IfOk, OnOk, Err, length};
+ghost use Rattle.std.specs.Prelude.{◌≡◌, ◌<◌, IfOk, OnOk, Err, length};
 ghost use Rattle.cgf_top.specs.Command.{most_read};
-ghost use Rattle.cgf_top.specs.Run.{end_of, report_of};
 ghost use Rattle.cgf_top.specs.Steps.{IsReport, IsRefusal};
 ghost use Rattle.cgf_top.specs.declared.command.Command.{Command};
 ghost use Rattle.cgf_top.specs.declared.report.Refusal.{Refusal};
