@@ -4,9 +4,10 @@
 #   ./do check CRATE    proves a crate, with its tests; what was proved before is kept
 #   ./do gate           the gate: everything from nothing, and how long it took
 #   ./do where NAME     where a name is defined and where its body stands, and the clauses, tests, edits and pages that
-#                       speak of it; also a lemma, test, edit or file of that name; NAME may have a crate and
-#                       a type in front: gw_base::Moment::of
+#                       speak of it; also a lemma, test, edit or file of that name; NAME may have a crate, and a
+#                       type or a file, in front, which say where it stands: gw_base::Moment::of
 #   ./do proved [CRATE] the public calls with their clauses, made from the sources
+#   ./do stories        makes the module of tests of the stories in examples/, where they have changed
 #   ./do docs           what the documents say that the sources don't; silent where there is nothing
 top=$(dirname "$(readlink -f "$0")")
 cd "$top" || exit 1
@@ -39,6 +40,7 @@ definitions() {
 
 . tools/where.sh
 . tools/proved.sh
+. tools/stories.sh
 . tools/docs.sh
 
 case ${1:-} in
@@ -65,6 +67,7 @@ proved)
         echo
     done
     ;;
+stories) stories >"$stories_file" ;;
 docs)
     found=$(docs)
     [ -z "$found" ] || { printf '%s\n' "$found"; exit 1; }

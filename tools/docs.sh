@@ -13,6 +13,7 @@ docs() {
     trap 'rm -rf "$work"' EXIT
     check_map "$work"
     check_uses "$work"
+    stories | cmp -s - "$stories_file" || echo "$stories_file: not as examples/ has the stories; ./do stories makes it"
     # what the sources name, without comments
     {
         sources | xargs sed 's,//.*,,'

@@ -56,7 +56,9 @@ state == "head" {
     next
 }
 state == "body" {
-    if ($0 == indent "}" || $0 == indent "};") { last = FNR; flush_item(); state = "out" }
+    if ($0 == indent "}" || $0 == indent "};" || $0 == indent "];" || $0 == indent ");") {
+        last = FNR; flush_item(); state = "out"
+    }
     next
 }
 state == "fields" {

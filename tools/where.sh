@@ -1,16 +1,14 @@
 # What ./do where tells of a name.
 
-# The edits: FILE SOURCE-FILE LINE, of the line that each changes, with tabs between.
+# The edits of some crates: FILE SOURCE-FILE LINE, of the line that each changes, with tabs between.
 edits() {
-    for edit in crates/*/must-fail/*.edit; do
-        echo "$edit"
-    done | xargs awk '
+    find "${@/#/crates/}" -path '*/out' -prune -o -path '*/must-fail/*.edit' -print | xargs -r awk '
         FNR == 1 { told = 0 }
         /^file: / { source = FILENAME; sub(/must-fail\/.*/, substr($0, 7), source) }
         /^old: / && !told {
             told = 1
             old = substr($0, 6); n = 0; at = ""
-            while ((getline line <source) > 0) { n++; if (at == "" && index(line, old)) at = n }
+            while (at == "" && (getline line <source) > 0) { n++; if (index(line, old)) at = n }
             close(source)
             print FILENAME "\t" source "\t" at
         }'
@@ -18,6 +16,7 @@ edits() {
 
 where() {
     local wanted=$1 crate= type= word rest found=0
+    local -x LC_ALL=C
     word=${wanted##*::}
     rest=${wanted%"$word"}
     rest=${rest%::}
@@ -32,62 +31,75 @@ where() {
         echo "crate: crates/$word, see docs/ARCHITECTURE.md"
         found=1
     fi
-    # how a text names it: a method by its type or behind a dot, all else by its word
-    local text="[^A-Za-z0-9_]${word}[^A-Za-z0-9_]" all bodies defined files
-    [[ -n $type && $word =~ ^[a-z] ]] && text="[^A-Za-z0-9_](${type}::|[.])${word}[^A-Za-z0-9_]"
-    files=$({ specs "$crate"; sources "$crate"; } | grep -E "/$word(/mod)?\.(antt|rt)$")
-    if [ -n "$files" ]; then
-        found=1
-        show file "$files"
-    fi
-    all=$(sources "$crate" | items)
-    bodies=$(awk -F'\t' -v word="$word" -v type="$type" '
-        $1 == "item" && $5 != "test" {
+    # A crate or a type in front says where the name stands, and nothing of where it is used.
+    local all files bodies parts defined crates importers text methods hits citations
+    files=$(sources; specs)
+    all=$(grep '\.rt$' <<<"$files" | items)
+    bodies=$(awk -F'\t' -v word="$word" -v type="$type" -v crate="$crate" '
+        $1 == "item" && $5 != "test" && (crate == "" || index($2, "crates/" crate "/") == 1) {
             n = split($7, parts, "::")
             if (parts[n] == word && (type == "" || n > 1 && parts[n - 1] == type || index($2, "/" type ".rt"))) print
         }' <<<"$all")
-    defined=
-    [ -n "$type" ] || defined=$(specs "$crate" | definitions | awk -F'\t' -v word="$word" '
-        $3 == word { print $1 ":" $2 ": " substr($4, 1, 100) }')
+    parts=$(awk -F'\t' '$5 == "field" || $5 == "variant"' <<<"$bodies")
+    defined=$(specs "$crate" | { [ -z "$type" ] && cat || grep "/$type\.antt$"; } | definitions |
+        awk -F'\t' -v word="$word" '$3 == word')
+    crates=$(reaching "$bodies" "$defined")
+    importers=$(importing "$word" "$bodies" "$defined" "$crates" "$files")
+    text=$(pattern "$word" "$type" "$bodies")
     if [ -n "$defined" ]; then
         found=1
-        show definition "$defined"
-        show "definitions that use it" "$(using "$word")"
-        show "clauses that cite it" "$(citing "$word" | cut -f 1)"
+        show definition "$(awk -F'\t' '{ print $1 ":" $2 ": " substr($4, 1, 100) }' <<<"$defined")"
     fi
+    if [ -n "$defined" ] || grep -qE $'\t(struct|enum|type|trait)\t' <<<"$bodies"; then
+        citations=$(citing "$word" "$importers" "$all")
+        show "definitions that use it" "$(using "$word" "$importers")"
+        show "clauses that cite it" "$(cut -f 1 <<<"$citations")"
+    fi
+    if [ -n "$bodies" ]; then
+        found=1
+        show body "$(grep -vxFf <(printf '%s\n' "$parts") <<<"$bodies" | awk -F'\t' '{ print $2 ":" $3 ": " $8 }')"
+        [ -z "$parts" ] || show "field or variant" "$(awk -F'\t' '{ print $2 ":" $3 ": " $7 }' <<<"$parts")"
+        cited "$all" "$bodies"
+        # the other types that have a method of this name
+        [[ ! $type =~ ^[A-Z] ]] || methods=$(awk -F'\t' -v word="$word" -v type="$type" '$1 == "item" {
+            n = split($7, parts, "::")
+            if (n > 1 && parts[n] == word && parts[n - 1] != type) print parts[n - 1] }' <<<"$all" | sort -u)
+    fi
+    [ -z "$bodies$defined" ] || hits=$(enclosing "$text" "$crates" "$type" "$methods" "$bodies" <<<"$all")
+    [ -z "$bodies" ] || show "used in" "$(awk -F'\t' '
+        $1 != "" && $1 != "test" && $2 !~ /tests\.rt$/ { print $2 ":" $3 ": " $5 }' <<<"$hits")"
     # what nothing above is told of: steps of proofs, tests, edits, and what lies beside the crates
     if [ -z "$type" ]; then
         local aside
         aside=$({
             proofs "$crate" | definitions | awk -F'\t' -v word="$word" '
                 $3 == word { print $1 ":" $2 ": " substr($4, 1, 100) }'
-            awk -F'\t' -v word="$word" '$1 == "item" && $5 == "test" {
-                n = split($7, parts, "::")
-                if (parts[n] == word) print $2 ":" $3 ": " $8 }' <<<"$all"
-            find crates examples bench tools -path '*/out' -prune -o \
+            awk -F'\t' -v word="$word" -v crate="$crate" '
+                $1 == "item" && $5 == "test" && (crate == "" || index($2, "crates/" crate "/") == 1) {
+                    n = split($7, parts, "::")
+                    if (parts[n] == word) print $2 ":" $3 ": " $8
+                }' <<<"$all"
+            { specs "$crate"; sources "$crate"; } | grep -E "/$word(/mod)?\.(antt|rt)$"
+            find "crates/$crate" examples bench tools -path '*/out' -prune -o \
                 \( -name "$word" -o -name "$word.*" \) -type f -print |
                 grep -vE '^crates/.*\.(antt|rt)$' | sort
         })
         if [ -n "$aside" ]; then
             found=1
-            show "lemma, test, edit or file" "$aside"
+            show "lemma, test, edit or file of that name" "$aside"
         fi
-    fi
-    if [ -n "$bodies" ]; then
-        found=1
-        show body "$(awk -F'\t' '{ print $2 ":" $3 ": " $8 }' <<<"$bodies")"
-        cited "$all" "$bodies" "$word"
-        show "used in" "$(used "$all" "$word" "$text")"
     fi
     # a definition without a body of its name is tried by what tries the calls whose clauses cite it
     [ -n "$bodies" ] || [ -z "$defined" ] ||
-        bodies=$(citing "$word" | cut -f 2 | awk -F'\t' 'NR == FNR { wanted[$0] = 1; next }
+        bodies=$(cut -f 2 <<<"$citations" | awk -F'\t' 'NR == FNR { wanted[$0] = 1; next }
             $1 == "item" && (($2 ":" $3) in wanted)' - <(printf '%s\n' "$all"))
-    [ $found = 0 ] || tried "$all" "$bodies" "$word" "$text"
+    [ -z "$bodies$defined" ] || tried "$all" "$bodies" "$word" "$text" "$crates" "$type" "$hits"
     local pages
-    pages=$(grep -nFw -- "${type:+$type::}$word" README.md CONTRIBUTING.md docs/*.md docs/*/*.md | cut -c 1-110)
+    pages=$(in_backquotes "${type:+$type::}$word" README.md CONTRIBUTING.md docs/*.md docs/*/*.md)
+    [ -n "$pages" ] || [ $found = 1 ] ||
+        pages=$(grep -nFw -- "$wanted" README.md CONTRIBUTING.md docs/*.md docs/*/*.md)
     if [ -n "$pages" ]; then
-        show documents "$pages"
+        show documents "$(cut -c 1-110 <<<"$pages")"
         found=1
     fi
     if [ $found = 0 ]; then
@@ -105,9 +117,87 @@ show() {
     [ $more -le 0 ] || echo "    .. and $more more"
 }
 
-# The calls whose clauses have this word, public ones first, and FILE:LINE of each behind a tab.
+# The crates that may use one of these bodies or definitions, with spaces around each: its own, and for what is public
+# those that stand on it.
+reaching() {
+    {
+        awk -F'\t' '$2 != "" {
+            split($2, path, "/")
+            print path[2] "\t" ($6 == "pub" || $5 == "impl" || $5 == "variant" ? "pub" : "own")
+        }' <<<"$1"
+        awk -F'\t' '$1 != "" { split($1, path, "/"); print path[2] "\tpub" }' <<<"$2"
+    } | awk -F'\t' 'NR == FNR { of[$1] = of[$1] == "pub" ? "pub" : $2; next }
+        /:/ {
+            line = $0; sub(/#.*/, "", line)
+            name = line; sub(/( staticlib)?:.*/, "", name); sub(/^[^:]*:/, "", line)
+            n = split(line, beneath, " ")
+            hit = name in of
+            for (i = 1; i <= n; i++) if (of[beneath[i]] == "pub") hit = 1
+            if (hit) printf " %s ", name
+        }' - crates.txt
+}
+
+# Whether a path is of one of some crates.
+within() {
+    awk -v crates="$1" '{ split($0, path, "/") } index(crates, " " path[2] " ")'
+}
+
+# The files of sources and definitions that can mean a name of the logic: those where it is defined, and those that
+# import it; of a field or a constructor all of the crates that may use it.
+importing() {
+    local word=$1 bodies=$2 defined=$3 crates=$4 files=$5 modules aliases
+    modules=$({
+        awk -F'\t' '$4 !~ /^  / || $4 ~ /^ *(abbrev|unfoldable) / { print $1 }' <<<"$defined" |
+            sed -nE 's,^crates/([a-z_0-9]+)/specs/(.*)\.antt$,\1\\.specs\\.\2,p' | tr / . | sort -u
+        awk -F'\t' '$5 ~ /^(struct|enum|type|trait)$/ {
+            split($2, path, "/")
+            print path[2] "\\.specs\\.declared\\.[A-Za-z_0-9.]*"
+        }' <<<"$bodies" | sort -u
+    } | paste -sd '|')
+    if [ -z "$modules" ]; then
+        [ -z "$defined" ] || within "$crates" <<<"$files"
+        return
+    fi
+    files=$(xargs grep -lwF -- "$word" <<<"$files")
+    # modules that pass it on
+    aliases=$(grep '\.antt$' <<<"$files" | xargs -r grep -lE "^ *pub use Rattle\.($modules)\.\{(.*[ ,])?$word[,} ]" |
+        sed -nE 's,^crates/([a-z_0-9]+)/specs/(.*)\.antt$,\1\\.specs\\.\2,p' | paste -sd '|')
+    {
+        cut -f 1 <<<"$defined"
+        xargs -r grep -lE <<<"$files" "use Rattle\.($modules${aliases:+|$aliases})(\.\{(.*[ {,])?$word[,} ]| as )"
+    } | sort -u
+}
+
+# How a text names it: what is called by its bracket, a method with its type in front by that or behind a dot, all else
+# by its word.
+pattern() {
+    local word=$1 type=$2 end='[^A-Za-z0-9_]' free methods others
+    free=$(awk -F'\t' '$5 ~ /^(fn|impl)$/ && $7 !~ /::/' <<<"$3")
+    methods=$(awk -F'\t' '$5 ~ /^(fn|impl)$/ && $7 ~ /::/' <<<"$3")
+    others=$(awk -F'\t' '$5 != "" && $5 !~ /^(fn|impl|field)$/' <<<"$3")
+    if [ -z "$free$methods" ] || [ -n "$others" ]; then
+        if [[ $type =~ ^[A-Z] && $word =~ ^[A-Z] ]]; then
+            echo "[^A-Za-z0-9_]($type|Self)::$word$end"
+        elif [[ $type =~ ^[A-Z] ]]; then
+            echo "([^A-Za-z0-9_]($type|Self)::|[.])$word$end"
+        else
+            echo "[^A-Za-z0-9_]$word$end"
+        fi
+    elif [ -n "$methods" ] && [[ $type =~ ^[A-Z] ]]; then
+        echo "([^A-Za-z0-9_]($type|Self)::$word$end|[.]$word(::<[^(]*>)?[(])"
+    elif [ -z "$free" ]; then
+        echo "(::|[.])$word(::<[^(]*>)?[(]"
+    elif [ -z "$methods" ]; then
+        echo "[^A-Za-z0-9_.]$word(::<[^(]*>)?[(]"
+    else
+        echo "[^A-Za-z0-9_]$word(::<[^(]*>)?[(]"
+    fi
+}
+
+# Of these files, the calls whose clauses have this word, public ones first, and FILE:LINE of each behind a tab.
 citing() {
-    sources | items | awk -F'\t' -v word="$1" '
+    awk -F'\t' -v word="$1" -v files="$2" '
+        BEGIN { n = split(files, list, "\n"); for (i = 1; i <= n; i++) named[list[i]] = 1 }
         function has(text,  at, before, after) {
             while (at = index(text, word)) {
                 before = substr(text, at - 1, 1); after = substr(text, at + length(word), 1)
@@ -116,21 +206,27 @@ citing() {
             }
             return 0
         }
+        !($2 in named) { told = 1; next }
         $1 == "item" { file = $2; line = $3; seen = $6; call = $7; told = 0; next }
         !told && has($6) {
             told = 1
             clause = $5 == "-" ? "" : ", clause " $5
             print (seen == "pub" ? 0 : 1) "\t" file ":" line ": " call clause "\t" file ":" line
         }
-    ' | sort -s -k 1,1 | cut -f 2,3
+    ' <<<"$3" | sort -s -k 1,1 | cut -f 2,3
 }
 
-# The definitions in whose text a word stands, but for its own.
+# Of these files, the definitions in whose text a word stands, but for its own.
 using() {
-    specs | WORD=$1 xargs awk '
+    grep '\.antt$' <<<"$2" | WORD=$1 xargs -r awk '
         function bare(line) { sub(/--.*/, "", line); return line }
-        /^(use|pub mod|infix|open)/ { next }
-        /^[^ -]/ || /^ +(abbrev |unfoldable |pub )/ {
+        FNR == 1 { within = 0; fields = 0 }
+        /^(use|pub use|pub mod|infix|open)/ { next }
+        /^module / { within = 1; next }
+        /^[^ -]/ { within = 0 }
+        /^(pub )?(record|data) / { fields = 1 }
+        /^[^ -]/ && !/^(pub )?(record|data) / { fields = 0 }
+        /^[^ -]/ || !fields && /^ +(abbrev |unfoldable |pub )/ || within && /^  [^ -]/ {
             name = $0
             sub(/^ *(abbrev |unfoldable )?(pub )?(record |data )?/, "", name); sub(/[ :].*/, "", name)
         }
@@ -163,55 +259,113 @@ cited() {
     show "definitions that they cite" "$words"
 }
 
-# The functions in whose text a pattern stands, by the items on standard input: KIND FILE FIRST LAST NAME, with tabs.
+# The functions of these crates in whose text a pattern stands, but for these bodies, by the items on standard input:
+# KIND FILE FIRST LAST NAME VISIBILITY, with tabs. Where a method has its type in front, a call behind a dot is told in
+# the files that name the type, and not where `self` or the value's name is that of another type with such a method.
 enclosing() {
-    PATTERN=$1 awk -F'\t' '
+    PATTERN=$1 CRATES=$2 TYPE=$3 OTHERS=$4 BODIES=$(cut -f 2,3 <<<"$5") awk -F'\t' '
+        function snake(name,  s, i, c) {
+            for (i = 1; i <= length(name); i++) {
+                c = substr(name, i, 1)
+                s = s (c ~ /[A-Z]/ && i > 1 ? "_" : "") tolower(c)
+            }
+            return s
+        }
+        # whether the value in front of a dot may be of the type
+        function fits(before, owner,  value) {
+            if (!typed || before !~ /\.$/) return 1
+            value = before; sub(/\.$/, "", value); sub(/^.*[^A-Za-z0-9_]/, "", value)
+            if (value == "self") return owner == ENVIRON["TYPE"]
+            return !(value in other)
+        }
+        BEGIN {
+            typed = ENVIRON["TYPE"] ~ /^[A-Z]/
+            n = split(ENVIRON["OTHERS"], list, "\n"); for (i = 1; i <= n; i++) other[snake(list[i])] = 1
+            delete other[snake(ENVIRON["TYPE"])]
+            n = split(ENVIRON["BODIES"], list, "\n"); for (i = 1; i <= n; i++) own[list[i]] = 1
+        }
         FNR == NR {
             if ($1 == "item" && ($5 == "fn" || $5 == "impl" || $5 == "test")) {
-                if (!($2 in count)) ARGV[ARGC++] = $2
+                split($2, path, "/")
+                if (!index(ENVIRON["CRATES"], " " path[2] " ")) next
+                if (!($2 in count)) { ARGV[ARGC++] = $2; order[++files] = $2 }
                 n = ++count[$2]
-                from[$2, n] = $3; to[$2, n] = $4; told[$2, n] = $5 "\t" $2 "\t" $3 "\t" $4 "\t" $7
+                from[$2, n] = $3; to[$2, n] = $4; told[$2, n] = $5 "\t" $2 "\t" $3 "\t" $4 "\t" $7 "\t" $6
+                name[$2, n] = $7; mine[$2, n] = ($2 "\t" $3) in own
             }
             next
         }
-        !/^ *(ensures|requires|\/\/)/ && match(" " $0 " ", ENVIRON["PATTERN"]) {
+        typed && match(" " $0 " ", "[^A-Za-z0-9_]" ENVIRON["TYPE"] "[^A-Za-z0-9_]") { names[FILENAME] = 1 }
+        /^ *(ensures|requires|ghost use|\/\/)/ { next }
+        {
+            line = " " $0 " "; sub(/fn [a-z_0-9]+/, "fn", line)
+            if (!match(line, ENVIRON["PATTERN"])) next
+            before = substr(line, 1, RSTART)
+            if (substr(line, RSTART, 1) != ".") before = ""
             for (i = 1; i <= count[FILENAME]; i++)
-                if (FNR >= from[FILENAME, i] && FNR <= to[FILENAME, i] && !((FILENAME, i) in hit)) {
-                    hit[FILENAME, i] = 1
-                    print told[FILENAME, i]
+                if (FNR >= from[FILENAME, i] && FNR <= to[FILENAME, i] && !mine[FILENAME, i]) {
+                    owner = name[FILENAME, i]; if (!sub(/::[^:]*$/, "", owner)) owner = ""
+                    if (fits(before, owner)) hit[FILENAME, i] = 1
                 }
+        }
+        END {
+            for (f = 1; f <= files; f++) for (i = 1; i <= count[order[f]]; i++)
+                if ((order[f], i) in hit && (!typed || order[f] in names)) print told[order[f], i]
         }' -
 }
 
-# The functions outside of tests that name the word.
-used() {
-    enclosing "$3" <<<"$1" | awk -F'\t' -v word="$2" '
-        $1 != "test" && $2 !~ /tests\.rt$/ {
-            short = $5; sub(/^.*::/, "", short)
-            if (short != word) print $2 ":" $3 ": " $5
-        }'
-}
-
-# The tests that name a word, and the edits that change a line of one of these bodies.
+# The tests that name a word, or else call a helper that does, and the edits that change a line of one of these bodies.
 tried() {
-    local all=$1 bodies=$2 word=$3 text=$4 tests
+    local all=$1 bodies=$2 word=$3 text=$4 crates=$5 type=$6 hits=$7 tests helpers hop
     tests=$({
-        enclosing "$text" <<<"$all" | awk -F'\t' '$1 == "test" { print $2 ":" $3 ": " $5 }'
-        [ ${#word} -lt 5 ] ||
-            awk -F'\t' -v word="$word" '$5 == "test" && index($7, word) { print $2 ":" $3 ": " $7 }' <<<"$all"
+        awk -F'\t' '$1 == "test" { print $2 ":" $3 ": " $5 }' <<<"$hits"
+        [[ $word != *_* ]] || awk -F'\t' -v word="$word" -v crates="$crates" '$5 == "test" {
+            split($2, path, "/"); name = $7; sub(/^.*::/, "", name)
+            if (index(crates, " " path[2] " ") && index("_" name "_", "_" word "_")) print $2 ":" $3 ": " $7
+        }' <<<"$all"
     } | sort -u)
+    for hop in 1 2 3; do
+        [ -z "$tests" ] || break
+        helpers=$(awk -F'\t' '$1 != "test" && $2 ~ /^crates\/(ground_)?trials\/|tests\.rt$/ && $5 !~ /::/' <<<"$hits")
+        [ -n "$helpers" ] || break
+        hits=$(enclosing "[^A-Za-z0-9_.]($(cut -f 5 <<<"$helpers" | sort -u | paste -sd '|'))[(]" \
+            " $(cut -d / -f 2 <<<"$helpers" | sort -u | paste -sd ' ') " "" "" "$helpers" <<<"$all" |
+            awk -F'\t' '{ split($2, path, "/") }
+                NR == FNR { file[$2] = 1; if ($6 != "private") wide[path[2]] = 1; next }
+                $2 in file || path[2] in wide' <(printf '%s\n' "$helpers") -)
+        tests=$(awk -F'\t' '$1 == "test" { print $2 ":" $3 ": " $5 }' <<<"$hits" | sort -u)
+    done
     if [ -n "$tests" ]; then
-        show "tests that name it" "$tests"
+        show "tests that name it, or call a helper that does" "$tests"
     elif [ -n "$bodies" ]; then
-        show "tests of its crate" "$(cut -f 2 <<<"$bodies" | cut -d / -f 2 | sort -u | while read -r owner; do
+        tests=$(cut -f 2 <<<"$bodies" | cut -d / -f 2 | sort -u | while read -r owner; do
             sources "$owner" | xargs grep -lE '#\[test\]'
-        done)"
+        done)
+        show "tests that name it" "none${tests:+; of its crate are}"
+        [ -z "$tests" ] || head -n 12 <<<"$tests" | sed 's/^/    /'
     fi
     show "edits that must fail" "$({
-        grep -lE -- "$text" crates/*/must-fail/*.edit
-        [ ${#word} -lt 5 ] || ls crates/*/must-fail/*"$word"*.edit 2>/dev/null
-        edits | awk -F'\t' 'NR == FNR { if ($2 != "") { n++; file[n] = $2; first[n] = $3; last[n] = $4 } next }
-            $3 != "" { for (i = 1; i <= n; i++) if (file[i] == $2 && $3 >= first[i] && $3 <= last[i]) print $1 }' \
-            <(printf '%s\n' "$bodies") -
+        ls crates/*/must-fail/*.edit | within "$crates" | xargs grep -lE -- "$text" | while read -r edit; do
+            [[ ! $type =~ ^[A-Z] ]] ||
+                grep -qw "$type" "${edit%%/must-fail/*}/$(sed -n 's/^file: //p' "$edit")" || continue
+            echo "$edit"
+        done
+        [[ $word != *_* ]] || ls crates/*/must-fail/*"$word"*.edit 2>/dev/null | within "$crates" |
+            grep -E "[/_]${word}[_.]"
+        [ -z "$bodies" ] || edits $(cut -f 2 <<<"$bodies" | cut -d / -f 2 | sort -u) |
+            awk -F'\t' 'NR == FNR { if ($2 != "") { n++; file[n] = $2; first[n] = $3; last[n] = $4 } next }
+                $3 != "" { for (i = 1; i <= n; i++) if (file[i] == $2 && $3 >= first[i] && $3 <= last[i]) print $1 }' \
+                <(printf '%s\n' "$bodies") -
     } | sort -u)"
+}
+
+# The lines of pages that have a name between backquotes.
+in_backquotes() {
+    NAME=$1 awk -F'`' '{
+        for (i = 2; i <= NF; i += 2)
+            if (match(" " $i " ", "[^A-Za-z0-9_]" ENVIRON["NAME"] "[^A-Za-z0-9_]")) {
+                print FILENAME ":" FNR ":" $0
+                break
+            }
+    }' "${@:2}"
 }

@@ -1,5 +1,8 @@
+use crate::book::FROM;
+use crate::job_datagrams::{ANSWERED, largest, with_255_records};
 use gateway_book::{OwnedAnswer, answer, filed, prepare};
-use gw_base::{Addr, Caller, HistoryAct, HistoryEntry, Moment};
+use gw_base::{Addr, Caller, HistoryAct, HistoryEntry, Moment, NoMemory};
+use std::alloc::Global;
 use std::process::Abort;
 use std::test::Fail;
 
@@ -47,4 +50,48 @@ fn entry(rt: &impl Abort, act: HistoryAct) -> HistoryEntry {
         caller: Caller::NONE,
         act,
     }
+}
+
+// What a gateway without an entry answers to a datagram. It is what one that began to run answers, but for the number
+// that an Echo Request is told.
+fn plainly(alloc: Global, datagram: &[u8]) -> Result<OwnedAnswer, NoMemory> {
+    answer(alloc, &[], FROM, &prepare(datagram), 16_777_216)
+}
+
+// The octets that go back, or why none do.
+fn shown(alloc: Global, found: &OwnedAnswer) -> Result<String, Fail> {
+    match found {
+        OwnedAnswer::Drop(why) => Ok(format!(in alloc; "- {}", why.name())?),
+        OwnedAnswer::Reply { reply, act: _ } => Ok(hex::encode_upper(alloc, reply.octets())?),
+    }
+}
+
+#[test]
+fn what_a_feed_prints_is_the_plain_answer(rt: HostRuntime) -> Result<(), Fail> {
+    let alloc = rt.alloc();
+    for (datagram, answer) in ANSWERED {
+        let octets = hex::decode(alloc, datagram)?;
+        let found = shown(alloc, &plainly(alloc, &octets)?)?;
+        // The gateway of a feed began to run once, and this one never did.
+        if answer == "4E02000200050E01" {
+            assert_eq!(rt;
+                found.as_bytes(),
+                b"4E02000200050E00".as_slice(),
+                "{datagram}"
+            );
+        } else {
+            assert_eq!(rt; found.as_bytes(), answer.as_bytes(), "{datagram}");
+        }
+    }
+    Ok(())
+}
+
+#[test]
+fn the_largest_packets_are_accepted(rt: HostRuntime) -> Result<(), Fail> {
+    let alloc = rt.alloc();
+    for datagram in [largest(&rt)?, with_255_records(&rt)?] {
+        let found = shown(alloc, &plainly(alloc, &datagram)?)?;
+        assert_eq!(rt; found.as_bytes(), b"4EF1000700000180FD00020000".as_slice());
+    }
+    Ok(())
 }

@@ -2,7 +2,6 @@
 ghost use Rattle.std.specs.Prelude.{◌≡◌, [], ◌∷◌, length};
 ghost use Rattle.gtpp_message.specs.Message.{Cancel, Possible, Release, Send};
 ghost use Rattle.gtpp_message.specs.Packet.{Empty};
-ghost use Rattle.gw_base.specs.History.{epoch_of};
 ghost use Rattle.path_mgmt.specs.declared.event.PathEvent.TheVariants.{EchoTold};
 ghost use Rattle.gateway_book.specs.Filed.{filed};
 ghost use Rattle.gateway_book.specs.Preparing.{Path, Request};

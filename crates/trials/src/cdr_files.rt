@@ -1,3 +1,4 @@
+//! Tests of `cdr_file`: the octets of a file and of its headers, and timestamps.
 ghost use Rattle.std.specs.Prelude.{◌≡◌, ◌<◌, ◌∷◌, [], length, pos, negsuc, IfOk};
 ghost use Rattle.cdr_file.specs.CdrFile.{file_octets};
 ghost use Rattle.cdr_file.specs.Timestamp.{stamp_of};

@@ -42,7 +42,7 @@ pub(crate) fn job(
 }
 
 /// The same of a feed with no fault.
-fn feed(rt: &HostRuntime, script: &str) -> Result<(Status, Vec<u8>), Fail> {
+pub(crate) fn feed(rt: &HostRuntime, script: &str) -> Result<(Status, Vec<u8>), Fail> {
     job(rt, &["feed", "-"], script.as_bytes(), 4096, &[], &[])
 }
 
@@ -152,9 +152,8 @@ fn a_line_that_cannot_be_run_ends_the_feed(rt: HostRuntime) -> Result<(), Fail> 
     Ok(())
 }
 
-/// Scripts, and what is printed for them, in which `file` stands for the line of the file with the
-/// one record `A003800105`.
-const REPORTS: [(&str, &str); 17] = [
+/// Scripts, and what is printed for them.
+const REPORTS: [(&str, &str); 19] = [
     // Of 234 octets a Start, a Hold, its promise and a Seal leave none; a release and a Close have room.
     (
         "reserve 234\n\
@@ -217,6 +216,23 @@ file 1 02-0000000001.cdr 0000003D0000003460601080080010800800000000010000000104\
 file 1 03-0000000001.cdr 0000003D0000003460601080080010800800000000010000000104\
 00000000000000000000FFFF0A00000100000000000000000000056020A103800106\n\
 gateway 1 entries 3 records 2 held 0 stranded 0\n",
+    ),
+    // A rule of the record's tag; one of the primitive tag of the same number doesn't match.
+    (
+        "rule A0 1 5\nrule * * 2\nat 1709164800\n\
+in 10.0.1.1:40001 4EF0001000007E01FC000B010106000005A003800105\nend\n",
+        "4EF1000700000180FD00020000\n\
+file 1 05-0000000001.cdr 0000003D0000003460602E8008002E8008000000000100000001040000000000\
+0000000000FFFF0A00000100000000000000000000056020A003800105\n\
+gateway 1 entries 3 records 1 held 0 stranded 0\n",
+    ),
+    (
+        "rule 80 1 5\nrule * * 2\nat 1709164800\n\
+in 10.0.1.1:40001 4EF0001000007E01FC000B010106000005A003800105\nend\n",
+        "4EF1000700000180FD00020000\n\
+file 1 02-0000000001.cdr 0000003D0000003460602E8008002E8008000000000100000001040000000000\
+0000000000FFFF0A00000100000000000000000000056020A003800105\n\
+gateway 1 entries 3 records 1 held 0 stranded 0\n",
     ),
     // Paths: a counter opens an epoch once, and in a new one numbers are fresh again.
     (

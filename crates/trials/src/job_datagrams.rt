@@ -46,7 +46,7 @@ fn datagram_line(rt: &HostRuntime, datagram: &[u8]) -> Result<String, Fail> {
 }
 
 /// Datagrams, and the line that is printed for each.
-const ANSWERED: [(&str, &str); 14] = [
+pub(crate) const ANSWERED: [(&str, &str); 16] = [
     // Another version is answered, but for the answer to another version.
     ("0FF000000005", "4E0300000005"),
     ("0F0300000005", "- Stray"),
@@ -58,6 +58,9 @@ const ANSWERED: [(&str, &str); 14] = [
     ("4E0500000000", "- Stray"),
     // No message answers an Echo Response without its restart counter.
     ("4E0200000001", "- Malformed"),
+    // Octets behind a message's end are no part of it. An Echo Request is told how often the gateway began to run.
+    ("4E0100000005", "4E02000200050E01"),
+    ("4E0100000005FFFF", "4E02000200050E01"),
     // The second of two records ends before its end of contents.
     (
         "4EF0001700007E01FC0012020106000005A00380010500053080040105",
@@ -290,14 +293,20 @@ fn filed(rt: &HostRuntime, file: &str, records: u32) -> Result<String, Fail> {
     )?)
 }
 
-#[test]
-fn the_largest_datagram_is_filed(rt: HostRuntime) -> Result<(), Fail> {
+/// The largest datagram that sends a record.
+pub(crate) fn largest(rt: &HostRuntime) -> Result<Vec<u8>, Fail> {
     let mut datagram = Vec::new(rt.alloc());
     datagram.extend_from_slice(&[0x4E, 0xF0, 0xFF, 0xDD, 0, 0, 0x7E, 1, 0xFC, 0xFF, 0xD8])?;
     datagram.extend_from_slice(&[1, 1, 6, 0, 0xFF, 0xD2, 4, 0x82, 0xFF, 0xCE])?;
     for _ in 0..65_486 {
         datagram.push(0)?;
     }
+    Ok(datagram)
+}
+
+#[test]
+fn the_largest_datagram_is_filed(rt: HostRuntime) -> Result<(), Fail> {
+    let datagram = largest(&rt)?;
     assert_eq!(rt; datagram.len(), 65_507);
     let (_, record) = datagram.split_at(17);
     let record = hex::encode_upper(rt.alloc(), record)?;
@@ -309,14 +318,22 @@ fn the_largest_datagram_is_filed(rt: HostRuntime) -> Result<(), Fail> {
     Ok(())
 }
 
-#[test]
-fn a_packet_of_255_records_is_filed(rt: HostRuntime) -> Result<(), Fail> {
+/// A datagram that sends 255 records.
+pub(crate) fn with_255_records(rt: &HostRuntime) -> Result<Vec<u8>, Fail> {
     let mut datagram = Vec::new(rt.alloc());
     datagram.extend_from_slice(&[0x4E, 0xF0, 7, 2, 0, 0, 0x7E, 1, 0xFC, 6, 0xFD])?;
     datagram.extend_from_slice(&[255, 1, 6, 0])?;
-    let mut file = format!(in rt.alloc(); "0000092B{FILE_FORM}000000FF{FILE_REST}")?;
     for _ in 0..255 {
         datagram.extend_from_slice(&[0, 5, 0xA0, 3, 0x80, 1, 5])?;
+    }
+    Ok(datagram)
+}
+
+#[test]
+fn a_packet_of_255_records_is_filed(rt: HostRuntime) -> Result<(), Fail> {
+    let datagram = with_255_records(&rt)?;
+    let mut file = format!(in rt.alloc(); "0000092B{FILE_FORM}000000FF{FILE_REST}")?;
+    for _ in 0..255 {
         file.push_str("00056020A003800105")?;
     }
     let (status, printed) = feed(&rt, MANY_OCTETS, &datagram_line(&rt, &datagram)?)?;

@@ -1,10 +1,9 @@
-//! Tests of the larger crates by their public calls: the book of a gateway, its journal, the writer of CDR files, and
-//! the driver of a serving node. A crate with tests is proved twice in the gate, so those of the crates that take
-//! longest stand here, above them, and are proved over their contracts alone.
+//! Tests of the upper crates by their public calls: the book of a gateway, CDR files and their writer, the driver of a
+//! serving node, and the job of `feed` and `show`. A crate with tests is proved twice in the gate, so those of the
+//! crates that take longest stand here, above them, and are proved over their contracts alone; those of the lower
+//! crates stand in `ground_trials`.
 #![tactic(auto)]
 
-#[cfg(test)]
-mod batches;
 #[cfg(test)]
 mod book;
 #[cfg(test)]
@@ -24,24 +23,18 @@ mod cdr_files;
 #[cfg(test)]
 mod cdr_reading;
 #[cfg(test)]
-mod entries;
-#[cfg(test)]
 mod job;
 #[cfg(test)]
 mod job_datagrams;
 #[cfg(test)]
 mod job_show;
 #[cfg(test)]
-mod journal;
-#[cfg(test)]
-mod message_ends;
-#[cfg(test)]
-mod messages;
-#[cfg(test)]
 mod node_drafts;
 #[cfg(test)]
 mod node_driving;
 #[cfg(test)]
-mod scripts;
+mod stories;
+#[cfg(test)]
+mod story_texts;
 #[cfg(test)]
 mod writer;

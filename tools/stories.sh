@@ -1,0 +1,52 @@
+# The stories of examples/ as a module of tests.
+
+stories_file=crates/trials/src/story_texts.rt
+
+# A file as a string of Rust, a line of it in each line, and long lines in pieces.
+as_string() {
+    awk -v most=120 '
+        BEGIN { print "\"\\" }
+        {
+            line = $0; gsub(/[\\"]/, "\\\\&", line)
+            while (length(line) > most) {
+                end = most - 1; while (substr(line, end + 1, 1) == " " || substr(line, end, 1) == "\\") end--
+                print substr(line, 1, end) "\\"; line = substr(line, end + 1)
+            }
+            print line
+        }
+        END { printf "\"" }' "$1"
+}
+
+# The module: each feed with what is printed for it and what is said of its end.
+stories() {
+    local LC_ALL=C feed name part
+    local all=(examples/*.feed)
+    cat <<TEXT
+//! The feeds of \`examples/\`, with what stands beside each. \`./do stories\` makes this file of them.
+
+/// A script, what is printed for it, and what is said on the standard error where it can't be run to its end.
+#[derive(Clone, Copy)]
+pub(crate) struct Story {
+    pub(crate) name: &'static str,
+    pub(crate) script: &'static str,
+    pub(crate) printed: &'static str,
+    pub(crate) told: &'static str,
+}
+
+pub(crate) const STORIES: [Story; ${#all[@]}] = [
+TEXT
+    for feed in "${all[@]}"; do
+        name=${feed%.feed}
+        echo "    Story {"
+        echo "        name: \"${name#examples/}\","
+        for part in script:feed printed:out told:err; do
+            if [ -s "$name.${part#*:}" ]; then
+                printf '        %s: %s,\n' "${part%:*}" "$(as_string "$name.${part#*:}")"
+            else
+                echo "        ${part%:*}: \"\","
+            fi
+        done
+        echo "    },"
+    done
+    echo "];"
+}
