@@ -10,7 +10,9 @@
 #             run; feed takes so many times that
 #   cat       seconds for taking in the octets of the file
 #   half      how many times as long as a script of half the octets and half the keys
-#   memory    the most that the program had, and four times the script with the reserved length for comparison
+#   memory    the most that the program had, and its bound: four times the script and the reserved length together
+#
+# It ends with status 1 where a feed isn't done or has more memory than its bound.
 cd "$(dirname "$0")/.." || exit 1
 MOST=16777216
 RESERVED=16777216
@@ -30,7 +32,7 @@ times() {
 }
 
 measure() {
-    local kind=$1 script=$work/script fed fed_by_clock memory octets datagrams reserved ended
+    local kind=$1 script=$work/script fed fed_by_clock memory bound octets datagrams reserved ended
     python3 -B bench/feed/scripts.py "$kind" $MOST >"$script" || exit 1
     octets=$(stat -c %s "$script")
     datagrams=$(grep -c '^in' "$script")
@@ -52,8 +54,12 @@ measure() {
     python3 -B bench/feed/scripts.py "$kind" $((MOST / 2)) >"$script" || exit 1
     timed "$program" feed "$script"
     printf '  half     %7.3f s, and the whole takes %s times that\n' "$used" "$(times "$fed" "$used")"
-    printf '  memory   %7.1f MiB, and for comparison %.1f MiB\n' "$(times "$memory" 1048576)" \
-        "$(times $((4 * octets + ${reserved:-$RESERVED})) 1048576)"
+    bound=$((4 * (octets + ${reserved:-$RESERVED})))
+    printf '  memory   %7.1f MiB, and may have %.1f MiB\n' "$(times "$memory" 1048576)" "$(times "$bound" 1048576)"
+    if [ "$memory" -ge "$bound" ]; then
+        echo "  too much memory"
+        failed=1
+    fi
 }
 
 echo end | ./cgf feed - >/dev/null || exit 1
