@@ -17,7 +17,7 @@ pub struct Entry<'a> {
 }
 
 /// What an entry records. A packet is the value of a Data Record Packet (3GPP TS 32.295, clause
-/// 6.2.4.5.3).
+/// 6.2.4.5).
 #[derive(Clone, Copy, Debug, PartialEq, Eq)]
 pub enum Act<'a> {
     /// The gateway began to run.

@@ -7,8 +7,12 @@ use std::fmt;
 pub struct Failed;
 
 impl fmt::Display for Failed {
+    ghost use Rattle.std.specs.Prelude.{Some, codes};
+
+    ghost output = { λ _. Some (codes "the device failed") };
+
     fn fmt<W: fmt::Write>(&self, f: &mut fmt::Formatter<W>) -> fmt::Result {
-        f.write_str("the device failed")
+        write!(f, "the device failed")
     }
 }
 
@@ -22,6 +26,11 @@ pub struct Full {
 }
 
 impl fmt::Display for Full {
+    ghost use Rattle.std.specs.Prelude.{◌++◌, Some, codes};
+    ghost use Rattle.std.specs.Fmt.{decimal};
+
+    ghost output = { λ fault. Some (codes "room for " ++ decimal fault.free ++ codes " octets alone") };
+
     fn fmt<W: fmt::Write>(&self, f: &mut fmt::Formatter<W>) -> fmt::Result {
         write!(f, "room for {} octets alone", self.free)
     }
@@ -34,8 +43,12 @@ impl Error for Full {}
 pub struct NoMemory;
 
 impl fmt::Display for NoMemory {
+    ghost use Rattle.std.specs.Prelude.{Some, codes};
+
+    ghost output = { λ _. Some (codes "out of memory") };
+
     fn fmt<W: fmt::Write>(&self, f: &mut fmt::Formatter<W>) -> fmt::Result {
-        f.write_str("out of memory")
+        write!(f, "out of memory")
     }
 }
 

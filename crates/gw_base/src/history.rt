@@ -29,7 +29,7 @@ pub struct HistoryEntry {
 }
 
 /// What an entry records. A packet is the value of a Data Record Packet (3GPP TS 32.295, clause
-/// 6.2.4.5.3).
+/// 6.2.4.5).
 #[derive(Debug, Drop)]
 pub enum HistoryAct {
     /// The gateway began to run.

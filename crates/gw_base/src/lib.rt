@@ -38,6 +38,7 @@ mod sink;
 mod source;
 mod starts;
 mod tag;
+pub mod text;
 mod tick;
 mod view;
 

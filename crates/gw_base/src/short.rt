@@ -1,4 +1,4 @@
-ghost use Rattle.std.specs.Prelude.{◌≡◌, ◌≤◌, ◌↔◌, length, IsSome, IfSome};
+ghost use Rattle.std.specs.Prelude.{◌≡◌, ◌≤◌, ◌+◌, ◌++◌, ◌↔◌, [], length, IsSome, IfSome};
 
 use std::marker::Model;
 
@@ -23,6 +23,16 @@ impl Short {
     /// The most octets that a `Short` has.
     pub const CAPACITY: usize = 64;
 
+    /// No octets.
+    pub fn new() -> Short
+        ensures { result ≡ [] }
+    {
+        Short {
+            octets: [0; 64],
+            used: 0,
+        }
+    }
+
     /// A copy of these octets, if there are at most 64.
     pub fn of(from: &[u8]) -> Option<Short>
         ensures within { IsSome result ↔ (length from.now ≤ 64) }
@@ -31,12 +41,19 @@ impl Short {
         if from.len() > Short::CAPACITY {
             return None;
         }
-        let mut octets = [0; 64];
-        octets[..from.len()].copy_from_slice(from);
-        Some(Short {
-            octets,
-            used: from.len(),
-        })
+        let mut short = Short::new();
+        short.append(from);
+        Some(short)
+    }
+
+    /// Appends octets for which there is room.
+    pub fn append(&mut self, from: &[u8])
+        requires { length self.old + length from.now ≤ 64 }
+        ensures { self.new ≡ self.old ++ from.now }
+    {
+        let end = self.used + from.len();
+        self.octets[self.used..end].copy_from_slice(from);
+        self.used = end;
     }
 
     /// The octets, in order.
