@@ -1,4 +1,4 @@
--- A list of sequence numbers, each in two octets (3GPP TS 32.295, clauses 6.2.4.5.4 and 6.2.4.6).
+-- A list of sequence numbers, each in two octets (3GPP TS 32.295, clauses 6.2.4.5 and 6.2.4.6).
 use Rattle.std.specs.Prelude.{ℕ, ◌/◌, ◌%◌, List, [], ◌∷◌}
 use Rattle.gtpp_header.specs.Header.{two_octets}
 

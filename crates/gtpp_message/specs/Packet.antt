@@ -1,4 +1,4 @@
--- The value of a Data Record Packet (3GPP TS 32.295, clause 6.2.4.5.3).
+-- The value of a Data Record Packet (3GPP TS 32.295, clause 6.2.4.5).
 use Rattle.std.specs.Prelude.{◌≡◌, ℕ, zero, suc, ◌≤◌, ◌==◌, Bool, true, false, nat_lt, if◌then◌else◌, List, [], ◌∷◌, ◌++◌, length, take, drop, Option, Some, None, option_map, option_and_then, unwrap_or}
 use Rattle.std.specs.Borrow.{Bor}
 use Rattle.gtpp_header.specs.Header.{two_octets}

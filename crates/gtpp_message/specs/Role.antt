@@ -1,5 +1,5 @@
 -- How each end of a path reads a datagram (3GPP TS 32.295, clause 6.2). The order in which the conditions stand is this
--- project's own (profile), and docs/FORMATS.md tells it as a table.
+-- project's own (profile), and docs/formats/wire.md tells it as a list.
 use Rattle.std.specs.Prelude.{ℕ, Bool, not, nat_lt, ◌==◌, ◌||◌, if◌then◌else◌, List, ◌∷◌, length, take, drop, Result, Ok, Err}
 use Rattle.gtpp_header.specs.Header.{protocol_type_of, two_octets, version_of}
 use Rattle.gtpp_header.specs.declared.Header.{Header}

@@ -11,7 +11,6 @@
 #![tactic(auto)]
 
 pub mod command;
-mod draft;
 mod flaw;
 pub mod laws;
 mod message;

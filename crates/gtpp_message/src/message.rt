@@ -43,7 +43,7 @@ pub enum Message<'a> {
 }
 
 /// What a Data Record Transfer Request asks, by its Packet Transfer Command (3GPP TS 32.295,
-/// clause 6.2.4.5.2).
+/// clause 6.2.4.5).
 #[derive(Debug, Drop)]
 pub enum Transfer<'a> {
     /// Send Data Record Packet.

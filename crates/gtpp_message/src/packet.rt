@@ -5,7 +5,7 @@ ghost use Rattle.gtpp_message.specs.Values.{packet_value, stated_count};
 use crate::records::{Records, are_records, nth_record};
 use byteorder::{BigEndian, ByteOrder};
 
-/// The value of a Data Record Packet (3GPP TS 32.295, clause 6.2.4.5.3).
+/// The value of a Data Record Packet (3GPP TS 32.295, clause 6.2.4.5).
 #[derive(Clone, Copy, Debug, PartialEq, Eq)]
 pub enum Packet<'a> {
     /// The empty packet, which tests a number.

@@ -1,5 +1,5 @@
 //! The records of a packet, one after the other, each behind its length in two octets
-//! (3GPP TS 32.295, clause 6.2.4.5.3).
+//! (3GPP TS 32.295, clause 6.2.4.5).
 
 ghost use Rattle.std.specs.Prelude.{◌≡◌, ◌<◌, [], ◌∷◌, IfSome, MatchOption, is_some, length, option_map, true};
 ghost use Rattle.gtpp_message.specs.Packet.{lent_parts, nth_record, record_at, records_at, records_in};

@@ -4,9 +4,9 @@ ghost use Rattle.gtpp_message.specs.Parts.{head_octets, octet_octets, tail_octet
 ghost use Rattle.gtpp_message.specs.Values.{message_value};
 ghost use Rattle.gtpp_message.specs.Writing.{body_octets, written};
 
-use crate::draft::Draft;
 use crate::message::Message;
-use crate::parts::{Parts, sent_parts};
+use crate::parts::{LentElement, OctetElement, Parts, sent_parts};
+use byteorder::{BigEndian, ByteOrder};
 use gtpp_header::{HEADER_OCTETS, Header};
 use gw_base::{Buffer, Full, Short};
 
@@ -54,17 +54,41 @@ pub fn write_short(number: u16, message: &Message<'_>) -> Short
     };
     let mut octets = front(header, &parts);
     octets.append(parts.tail());
-    octets.finish()
+    octets
 }
 
 /// What stands before the octets that a message lends.
-fn front(header: Header, parts: &Parts<'_>) -> Draft
+fn front(header: Header, parts: &Parts<'_>) -> Short
     requires { length (tail_octets parts.now.value) ≤ 65535 }
     ensures { result ≡ spelled header ++ (octet_octets parts.now.octet ++ head_octets parts.now.value) }
 {
-    let mut front = Draft::new();
+    let mut front = Short::new();
     front.append(&gtpp_header::write(header));
-    front.append_octet(parts.octet);
-    front.append_head(parts.value);
+    append_octet(&mut front, parts.octet);
+    append_head(&mut front, parts.value);
     front
+}
+
+/// Appends an element of one octet, where there is one.
+fn append_octet(front: &mut Short, element: Option<OctetElement>)
+    requires { length front.old + 2 ≤ Short.CAPACITY }
+    ensures { front.new ≡ front.old ++ octet_octets element }
+{
+    if let Some(OctetElement { kind, octet }) = element {
+        front.append(&[kind, octet]);
+    }
+}
+
+/// Appends what stands before the value of an element, where there is one: its type and the
+/// length of its value.
+fn append_head(front: &mut Short, element: Option<LentElement<'_>>)
+    requires room { length front.old + 3 ≤ Short.CAPACITY }
+    requires short { length (tail_octets element) ≤ 65535 }
+    ensures { front.new ≡ front.old ++ head_octets element.entry }
+{
+    if let Some(LentElement { kind, value }) = element {
+        let mut head = [kind, 0, 0];
+        BigEndian::write_u16(&mut head[1..], value.len() as u16);
+        front.append(&head);
+    }
 }

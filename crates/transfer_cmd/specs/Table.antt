@@ -1,4 +1,4 @@
--- The table of answers to the commands that send a packet (3GPP TS 32.295, clause 6.2.4.5.2), by the state of the
+-- The table of answers to the commands that send a packet (3GPP TS 32.295, clause 6.2.4.5), by the state of the
 -- request's number. Which cause is answered in which state is this project's profile.
 use Rattle.std.specs.Prelude.{ℕ, Option, Some, None}
 use Rattle.gw_base.specs.declared.cause.TheConstants.{ACCEPTED, ALREADY_FULFILLED, DUPLICATE_ALREADY_FULFILLED, NOT_FULFILLED}
