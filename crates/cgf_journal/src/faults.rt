@@ -10,6 +10,11 @@ pub struct BatchFull {
 }
 
 impl fmt::Display for BatchFull {
+    ghost use Rattle.std.specs.Prelude.{◌++◌, Some, codes};
+    ghost use Rattle.std.specs.Fmt.{decimal};
+
+    ghost output = { λ fault. Some (codes "the batch has " ++ decimal fault.free ++ codes " octets free") };
+
     fn fmt<W: fmt::Write>(&self, f: &mut fmt::Formatter<W>) -> fmt::Result {
         write!(f, "the batch has {} octets free", self.free)
     }

@@ -1,6 +1,7 @@
 -- what public clauses cite
 pub mod Appending
 pub mod Before
+pub mod FaultText
 pub mod Format
 pub mod Founding
 pub mod Journal

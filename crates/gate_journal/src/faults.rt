@@ -1,5 +1,6 @@
 // Why a call of a journal failed.
 ghost use Rattle.std.specs.Prelude.{Some, codes};
+ghost use Rattle.gate_journal.specs.FaultText.{append_fault_text, open_fault_text};
 
 use std::error::Error;
 use std::fmt;
@@ -32,6 +33,8 @@ pub enum OpenFault {
 }
 
 impl fmt::Display for OpenFault {
+    ghost output = { λ fault. Some (open_fault_text fault) };
+
     fn fmt<W: fmt::Write>(&self, f: &mut fmt::Formatter<W>) -> fmt::Result {
         match *self {
             OpenFault::Device => write!(f, "the device failed"),
@@ -54,6 +57,8 @@ pub enum AppendFault {
 }
 
 impl fmt::Display for AppendFault {
+    ghost output = { λ fault. Some (append_fault_text fault) };
+
     fn fmt<W: fmt::Write>(&self, f: &mut fmt::Formatter<W>) -> fmt::Result {
         match *self {
             AppendFault::Device => write!(f, "the device failed"),
