@@ -9,6 +9,7 @@ use crate::file::{Cdr, CdrFile};
 use crate::file_header::FileHeader;
 use crate::stamp_fields::StampFields;
 use gw_base::NoMemory;
+use gw_base::text::{append_number, append_word};
 use std::alloc::Global;
 
 /// The listing of a file: the lines of its head, and a line for each CDR.
@@ -149,23 +150,6 @@ fn append_release(
 {
     let word = format!(in alloc; "{release}.{version}")?;
     append_word(text, word.as_bytes())
-}
-
-/// Appends a number, as a word.
-fn append_number(alloc: Global, text: &mut Vec<u8>, number: u64) -> Result<(), NoMemory>
-    ensures { OnOk result (text.new.items ≡ text.old.items ++ 32 ∷ decimal number) }
-{
-    let word = format!(in alloc; "{number}")?;
-    append_word(text, word.as_bytes())
-}
-
-/// Appends a word after a space.
-fn append_word(text: &mut Vec<u8>, word: &[u8]) -> Result<(), NoMemory>
-    ensures { OnOk result (text.new.items ≡ text.old.items ++ 32 ∷ word.now) }
-{
-    text.push(b' ')?;
-    text.extend_from_slice(word)?;
-    Ok(())
 }
 
 /// A timestamp as month, day, hour and minute, and the offset of its clock from UTC.

@@ -10,6 +10,7 @@ use crate::kind::ScriptKind;
 use crate::line::Line;
 use crate::mode::Mode;
 use crate::script::Script;
+use gw_base::text::{append_number, append_word};
 use gw_base::{Addr, NoMemory, Octets};
 use std::alloc::Global;
 
@@ -292,23 +293,6 @@ fn append_octets(alloc: Global, text: &mut Vec<u8>, octets: &[u8]) -> Result<(),
 {
     let digits = hex::encode_upper(alloc, octets)?;
     append_word(text, digits.as_bytes())
-}
-
-/// A number, as a word.
-fn append_number(alloc: Global, text: &mut Vec<u8>, number: u64) -> Result<(), NoMemory>
-    ensures { OnOk result (text.new.items ≡ text.old.items ++ 32 ∷ decimal number) }
-{
-    let word = format!(in alloc; "{number}")?;
-    append_word(text, word.as_bytes())
-}
-
-/// A word after a space.
-fn append_word(text: &mut Vec<u8>, word: &[u8]) -> Result<(), NoMemory>
-    ensures { OnOk result (text.new.items ≡ text.old.items ++ 32 ∷ word.now) }
-{
-    text.push(b' ')?;
-    text.extend_from_slice(word)?;
-    Ok(())
 }
 
 fn append(text: &mut Vec<u8>, octets: &[u8]) -> Result<(), NoMemory>
