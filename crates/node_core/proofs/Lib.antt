@@ -1,4 +1,5 @@
 pub mod CopiesLemmas
+pub mod PlainLemmas
 pub mod LogLemmas
 pub mod NodeLemmas
 pub mod NumberedLemmas

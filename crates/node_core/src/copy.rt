@@ -45,7 +45,7 @@ impl Verdict {
     }
 
     /// The verdict with what is told later, which counts where nothing was told before.
-    fn first_told(self, later: Verdict) -> Verdict
+    pub(crate) fn first_told(self, later: Verdict) -> Verdict
         ensures { result ≡ first_told self later }
     {
         match self {
@@ -197,7 +197,7 @@ fn command_hearing(command: Option<Command>, cause: u8, numbers: &Responded<'_>)
 
 /// Whether the cause is that of a release or a cancel that is fulfilled, now or before, and of a
 /// possible duplicate that is held.
-fn is_fulfilled(cause: u8) -> bool
+pub(crate) fn is_fulfilled(cause: u8) -> bool
     ensures { result ≡ is_fulfilled cause }
 {
     cause == ACCEPTED || cause == DUPLICATE_ALREADY_FULFILLED
@@ -211,7 +211,7 @@ fn is_filing(cause: u8) -> bool
 }
 
 /// What a response with this cause tells of a copy, where it names it.
-fn told_if(is_named: bool, port: Port, is_plain: bool, cause: u8) -> Verdict
+pub(crate) fn told_if(is_named: bool, port: Port, is_plain: bool, cause: u8) -> Verdict
     ensures { result ≡ told_if is_named port is_plain cause }
 {
     if is_named {
@@ -222,7 +222,7 @@ fn told_if(is_named: bool, port: Port, is_plain: bool, cause: u8) -> Verdict
 }
 
 /// What a response with this cause tells of a copy, plain or not, at this port.
-fn told(port: Port, is_plain: bool, cause: u8) -> Verdict
+pub(crate) fn told(port: Port, is_plain: bool, cause: u8) -> Verdict
     ensures { result ≡ told port is_plain cause }
 {
     match (port, is_plain) {

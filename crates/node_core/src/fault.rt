@@ -28,26 +28,36 @@ pub enum SubmitFault {
 }
 
 impl fmt::Display for DraftFault {
+    ghost use Rattle.std.specs.Prelude.{Some};
+    ghost use Rattle.node_core.specs.FaultText.{draft_fault_text};
+
+    ghost output = { λ fault. Some (draft_fault_text fault) };
+
     fn fmt<W: fmt::Write>(&self, f: &mut fmt::Formatter<W>) -> fmt::Result {
-        f.write_str(match self {
-            DraftFault::Count => "the packet has 255 records",
-            DraftFault::TooBig => "the request would be too long for a datagram",
-            DraftFault::Ber(_) => "the record isn't one BER value",
-            DraftFault::NoMemory => "out of memory",
-        })
+        match self {
+            DraftFault::Count => write!(f, "the packet has 255 records"),
+            DraftFault::TooBig => write!(f, "the request would be too long for a datagram"),
+            DraftFault::Ber(_) => write!(f, "the record isn't one BER value"),
+            DraftFault::NoMemory => write!(f, "out of memory"),
+        }
     }
 }
 
 impl Error for DraftFault {}
 
 impl fmt::Display for SubmitFault {
+    ghost use Rattle.std.specs.Prelude.{Some};
+    ghost use Rattle.node_core.specs.FaultText.{submit_fault_text};
+
+    ghost output = { λ fault. Some (submit_fault_text fault) };
+
     fn fmt<W: fmt::Write>(&self, f: &mut fmt::Formatter<W>) -> fmt::Result {
-        f.write_str(match self {
-            SubmitFault::Empty => "the packet has no record",
-            SubmitFault::InFlight => "64 packets are open",
-            SubmitFault::NumbersOut { .. } => "the numbers of a gateway are used up",
-            SubmitFault::NoMemory => "out of memory",
-        })
+        match self {
+            SubmitFault::Empty => write!(f, "the packet has no record"),
+            SubmitFault::InFlight => write!(f, "64 packets are open"),
+            SubmitFault::NumbersOut { .. } => write!(f, "the numbers of a gateway are used up"),
+            SubmitFault::NoMemory => write!(f, "out of memory"),
+        }
     }
 }
 

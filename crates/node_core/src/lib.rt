@@ -1,6 +1,14 @@
 //! The driver of a serving node (3GPP TS 32.295, clause 5): it sends each packet to its first
 //! gateway, redirects it after silence or refusal, tests the first gateway before it releases a
 //! duplicate, and never asks for both.
+//!
+//! The model is `NodeValue`, what the log of all that befell a node tells of it. The contract is that
+//! each call is one step of it: a tick sends what is due (`specs/Sendings.antt`), octet for octet, and
+//! what is heard counts as the definition heeds it.
+//!
+//!     let mut node = Node::new(alloc, address, &gateways, 1)?;
+//!     let sent = node.tick(alloc)?;
+//!     let heeded = node.hear(Port::First, from, octets);
 #![tactic(auto)]
 
 mod copies;
@@ -20,6 +28,13 @@ mod outgoing;
 mod packets;
 mod patterns;
 mod peer;
+pub mod plain;
+mod plain_counts;
+mod plain_due;
+mod plain_hearing;
+mod plain_knowing;
+mod plain_roles;
+mod plain_steps;
 mod plan;
 mod port;
 mod responded;

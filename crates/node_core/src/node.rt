@@ -181,7 +181,7 @@ impl Node {
 }
 
 /// The gateways as at a start.
-fn peers_of(alloc: Global, gateways: &[Addr]) -> Result<Vec<Peer>, NoMemory>
+pub(crate) fn peers_of(alloc: Global, gateways: &[Addr]) -> Result<Vec<Peer>, NoMemory>
     ensures { IfOk result (λ peers. peers.items ≡ map peer_anew gateways.now) }
 {
     let mut peers = Vec::with_capacity(alloc, gateways.len())?;

@@ -7,6 +7,7 @@ ghost use Rattle.node_core.specs.Submitting.{least, unsettled_at};
 use crate::copies;
 use crate::copy::PacketCopy;
 use crate::counts::{NodeCopy, Phase};
+use crate::plain_steps::hear_copies;
 use crate::port::Port;
 use crate::responded::Responded;
 use crate::sending::Sending;
@@ -127,6 +128,15 @@ impl NodePacket {
     {
         if !self.is_done() {
             copies::hear(&mut self.copies, port, gateway, cause, numbers);
+        }
+    }
+
+    /// Hears a response to these whole numbers from a gateway, unless it is done.
+    pub fn hear_numbers(&mut self, port: Port, gateway: u8, cause: u8, numbers: &[u64])
+        ensures { self.new ≡ while_open (packet_hearing port gateway cause numbers.now) self.old }
+    {
+        if !self.is_done() {
+            hear_copies(&mut self.copies, port, gateway, cause, numbers);
         }
     }
 

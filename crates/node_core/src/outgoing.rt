@@ -1,13 +1,14 @@
 //! The datagrams of a tick.
 
-ghost use Rattle.std.specs.Prelude.{◌≡◌, ◌≤◌, ◌+◌, IfOk, length, map};
-ghost use Rattle.gtpp_message.specs.Message.{TransferRequest};
+ghost use Rattle.std.specs.Prelude.{◌≡◌, ◌≤◌, ◌+◌, IfOk, IfSome, length, map};
+ghost use Rattle.gtpp_message.specs.Message.{Possible, TransferRequest};
 ghost use Rattle.gtpp_message.specs.Values.{message_value, packet_value};
 ghost use Rattle.gtpp_message.specs.Writing.{body_octets, written};
-ghost use Rattle.gtpp_message.specs.Packet.{packet_octets};
-ghost use Rattle.node_core.specs.Octets.{octets_of, outgoing, packet_numbered, wire};
+ghost use Rattle.gtpp_message.specs.Packet.{Empty, packet_octets};
+ghost use Rattle.node_core.specs.Octets.{octets_of, order_of, outgoing, packet_numbered, wire};
 ghost use Rattle.node_core.specs.Patterns.{the_patterns};
 
+use crate::copy::Order;
 use crate::draft::MOST_VALUE_OCTETS;
 use crate::message::Outgoing;
 use crate::node::Node;
@@ -31,7 +32,7 @@ impl Node {
     ) -> Result<Vec<Outgoing>, NoMemory>
         ensures { IfOk result (λ sent. sent.items ≡ map (outgoing self.now) sendings.now) }
     {
-        let patterns = Patterns::spelled();
+        let patterns = patterns_for(sendings);
         let mut sent = Vec::with_capacity(alloc, sendings.len())?;
         for sending in sendings {
             sent.push(self.datagram(alloc, &patterns, sending)?)?;
@@ -43,10 +44,10 @@ impl Node {
     fn datagram(
         &self,
         alloc: Global,
-        patterns: &Patterns,
+        patterns: &Option<Patterns>,
         sending: &Sending,
     ) -> Result<Outgoing, NoMemory>
-        requires { patterns.now ≡ the_patterns }
+        requires { IfSome patterns.now (λ patterns. patterns ≡ the_patterns) }
         ensures { IfOk result (λ datagram. datagram ≡ outgoing self.now sending.now) }
     {
         let (port, gateway, number, named) = sending.fields();
@@ -63,10 +64,10 @@ impl Node {
     fn octets_of(
         &self,
         alloc: Global,
-        patterns: &Patterns,
+        patterns: &Option<Patterns>,
         sending: &Sending,
     ) -> Result<Octets, NoMemory>
-        requires { patterns.now ≡ the_patterns }
+        requires { IfSome patterns.now (λ patterns. patterns ≡ the_patterns) }
         ensures { IfOk result (λ octets. octets ≡ octets_of self.now sending.now) }
     {
         match *sending {
@@ -92,13 +93,13 @@ impl Node {
                 };
                 message_octets(alloc, room, number, &Message::TransferRequest { body })
             }
-            Sending::Test { number, .. } => patterns.test(alloc, number),
+            Sending::Test { number, .. } => test_octets(alloc, patterns, number),
             Sending::Command {
                 named,
                 number,
                 order,
                 ..
-            } => patterns.order(alloc, number, order, named),
+            } => order_octets(alloc, patterns, number, order, named),
         }
     }
 
@@ -111,6 +112,51 @@ impl Node {
         match self.forms.get(packet.saturating_sub(before + 1) as usize) {
             Some(draft) => draft.packet(),
             None => Packet::Empty,
+        }
+    }
+}
+
+/// The patterns, where one of these sendings is made by them.
+fn patterns_for(sendings: &[Sending]) -> Option<Patterns>
+    ensures { IfSome result (λ patterns. patterns ≡ the_patterns) }
+{
+    if sendings.iter().any(|sending| sending.has_pattern()) {
+        Some(Patterns::spelled())
+    } else {
+        None
+    }
+}
+
+/// The octets of a test.
+fn test_octets(alloc: Global, patterns: &Option<Patterns>, number: u64) -> Result<Octets, NoMemory>
+    requires { IfSome patterns.now (λ patterns. patterns ≡ the_patterns) }
+    ensures { IfOk result (λ octets. octets ≡ written (wire number) (TransferRequest (Possible Empty))) }
+{
+    match patterns {
+        Some(patterns) => patterns.test(alloc, number),
+        None => {
+            let patterns = Patterns::spelled();
+            patterns.test(alloc, number)
+        }
+    }
+}
+
+/// The octets of a release or a cancel.
+fn order_octets(
+    alloc: Global,
+    patterns: &Option<Patterns>,
+    number: u64,
+    order: Order,
+    named: u64,
+) -> Result<Octets, NoMemory>
+    requires { IfSome patterns.now (λ patterns. patterns ≡ the_patterns) }
+    ensures { IfOk result (λ octets. octets ≡ written (wire number) (TransferRequest (order_of order named))) }
+{
+    match patterns {
+        Some(patterns) => patterns.order(alloc, number, order, named),
+        None => {
+            let patterns = Patterns::spelled();
+            patterns.order(alloc, number, order, named)
         }
     }
 }

@@ -108,7 +108,7 @@ fn count_open(packets: &[NodePacket]) -> usize
 }
 
 /// How many of them are resolved.
-fn count_resolved(packets: &[NodePacket]) -> usize
+pub(crate) fn count_resolved(packets: &[NodePacket]) -> usize
     ensures count { result ≡ resolved_among packets.now }
     ensures most { result ≤ length packets.now }
 {
@@ -116,7 +116,7 @@ fn count_resolved(packets: &[NodePacket]) -> usize
 }
 
 /// How many of them are done.
-fn count_done(packets: &[NodePacket]) -> usize
+pub(crate) fn count_done(packets: &[NodePacket]) -> usize
     ensures count { result ≡ done_among packets.now }
     ensures most { result ≤ length packets.now }
 {
@@ -124,7 +124,7 @@ fn count_done(packets: &[NodePacket]) -> usize
 }
 
 /// Whether an open one has a copy at this gateway of which nothing is known.
-fn wait_at(gateway: u8, packets: &[NodePacket]) -> bool
+pub(crate) fn wait_at(gateway: u8, packets: &[NodePacket]) -> bool
     ensures { result ≡ list_any (waits_at gateway) packets.now }
 {
     packets.iter().any(|packet| packet.waits_at(gateway))

@@ -54,6 +54,11 @@ impl Sending {
         }
     }
 
+    /// Whether its octets are those of every message of its kind but for the numbers.
+    pub(crate) fn has_pattern(&self) -> bool {
+        matches!(self, Sending::Test { .. } | Sending::Command { .. })
+    }
+
     /// The port that it goes from, the gateway that it goes to, its number, and the number that it
     /// names as a release or a cancel.
     pub(crate) fn fields(&self) -> (Port, u8, u64, Option<u64>)

@@ -80,7 +80,7 @@ impl Node {
 }
 
 /// The favourite, once one is appointed or not.
-fn favourite_by(appointed: Option<u8>, gateway: u8) -> u8
+pub(crate) fn favourite_by(appointed: Option<u8>, gateway: u8) -> u8
     ensures { result ≡ favourite_by appointed gateway }
 {
     match appointed {

@@ -1,0 +1,34 @@
+-- What a log of lines says, for the plain functions of it.
+use Rattle.std.specs.Prelude.{List, map}
+use Rattle.node_core.specs.declared.plain.LogLine.{LogLine}
+use Rattle.node_core.specs.declared.plain.LogLine.TheVariants as line
+use Rattle.node_core.specs.declared.plain.Said.{Said}
+use Rattle.node_core.specs.declared.plain.Said.TheVariants as said
+use Rattle.node_core.specs.declared.plain_hearing.Understood.{Understood}
+use Rattle.node_core.specs.declared.plain_hearing.Understood.TheVariants as understood
+use Rattle.node_core.specs.Hearing.{Taken, Dropped, Says}
+use Rattle.node_core.specs.Log.{LogEntry, Began, Halted, Submitted, Appointed, Ticked, Heard, Saying, Path, Redirects, Responds, Other}
+
+-- what a message says
+abbrev pub said_view : Said → Saying
+said_view (said.Path event) = Path event
+said_view (said.Redirects to) = Redirects to
+said_view (said.Responds cause numbers) = Responds cause numbers
+said_view said.Other = Other
+
+-- what a line says, and a log of lines, the newest first
+abbrev pub line_view : LogLine → LogEntry
+line_view line.Began = Began
+line_view line.Halted = Halted
+line_view (line.Submitted form) = Submitted form
+line_view (line.Appointed gateway) = Appointed gateway
+line_view (line.Ticked sendings) = Ticked sendings.items
+line_view (line.Heard port gateway said) = Heard port gateway (said_view said)
+
+abbrev pub log_view : List LogLine → List LogEntry
+log_view lines = map line_view lines
+
+-- what is understood of a datagram
+abbrev pub understood_view : Understood → Taken
+understood_view (understood.Dropped why) = Dropped why
+understood_view (understood.Says said reply) = Says (said_view said) reply

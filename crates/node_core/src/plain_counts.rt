@@ -1,0 +1,71 @@
+//! How many packets a log tells of.
+
+ghost use Rattle.std.specs.Prelude.{◌≡◌, ◌≤◌, ◌<◌, ◌+◌, ◌^◌, IfOk, length};
+ghost use Rattle.node_core.specs.Log.{done_among, packets_of, resolved_among, submitted, tally_before, with_those};
+ghost use Rattle.node_core.specs.Plain.{log_view};
+
+use crate::counts::{NodeCounts, Tally};
+use crate::node_packet::NodePacket;
+use crate::packets::{count_done, count_resolved};
+use crate::plain::{LogLine, packets, submitted};
+use gw_base::NoMemory;
+use std::alloc::Global;
+
+/// How many packets were submitted, became resolved and became done, over all starts.
+pub fn counts(alloc: Global, log: &[LogLine]) -> Result<NodeCounts, NoMemory>
+    ensures { IfOk result (λ counts. counts ≡ record {
+      packets = submitted (log_view log.now);
+      resolved = (tally_before (log_view log.now)).resolved + resolved_among (packets_of (log_view log.now));
+      done = (tally_before (log_view log.now)).done + done_among (packets_of (log_view log.now));
+    }) }
+{
+    let packets = packets(alloc, log)?;
+    let before = tally_before(alloc, log)?;
+    let tally = with_those(&packets, before);
+    Ok(NodeCounts {
+        packets: submitted(log),
+        resolved: tally.resolved,
+        done: tally.done,
+    })
+}
+
+/// How many became resolved and done in the starts before this one.
+#[tactic(auto, using(crate::proofs::PlainLemmas::heard_count, std::proofs::lemmas::Grind::common_steps))]
+fn tally_before(alloc: Global, log: &[LogLine]) -> Result<Tally, NoMemory>
+    ensures tally { IfOk result (λ tally. tally ≡ tally_before (log_view log.now)) }
+    ensures resolved { IfOk result (λ tally.
+        tally.resolved + length (packets_of (log_view log.now)) ≤ length log.now) }
+    ensures done { IfOk result (λ tally. tally.done + length (packets_of (log_view log.now)) ≤ length log.now) }
+{
+    match log {
+        [] => Ok(Tally {
+            resolved: 0,
+            done: 0,
+        }),
+        [line, older @ ..] => match line {
+            LogLine::Began | LogLine::Halted => {
+                let packets = packets(alloc, older)?;
+                let before = tally_before(alloc, older)?;
+                Ok(with_those(&packets, before))
+            }
+            LogLine::Submitted(_)
+            | LogLine::Appointed(_)
+            | LogLine::Ticked(_)
+            | LogLine::Heard { .. } => tally_before(alloc, older),
+        },
+    }
+}
+
+/// Those of earlier starts, and these.
+fn with_those(packets: &[NodePacket], before: Tally) -> Tally
+    requires resolved { before.resolved + length packets.now < 2 ^ 64 }
+    requires done { before.done + length packets.now < 2 ^ 64 }
+    ensures tally { result ≡ with_those packets.now before }
+    ensures resolved { result.resolved ≤ before.resolved + length packets.now }
+    ensures done { result.done ≤ before.done + length packets.now }
+{
+    Tally {
+        resolved: before.resolved + count_resolved(packets) as u64,
+        done: before.done + count_done(packets) as u64,
+    }
+}
