@@ -1,16 +1,18 @@
 -- What public clauses cite.
 pub mod Advancing
-pub mod AllStreams
 pub mod Asking
 pub mod Calls
 pub mod Files
-pub mod Following
 pub mod Holding
-pub mod Laws
 pub mod Making
 pub mod Places
-pub mod Props
-pub mod Sound
 pub mod Streams
 pub mod Writer
+-- Laws of these.
+pub mod Laws
+-- Steps of proofs.
+pub mod AllStreams
+pub mod Following
+pub mod Props
+pub mod Sound
 pub mod Writing
