@@ -1,6 +1,6 @@
 -- A book that is opened: what its index follows, and the Start that it adds.
-use Rattle.std.proofs.Common.{◌≡◌, ◌⊎◌, inl, inr, ℕ, ◌*◌, ◌≤◌, true, false, if◌then◌else◌, max, List, [], ◌∷◌, ◌++◌, Result, Ok, Err, length, refl, sym, ap, subst, ◌∙◌, append_assoc, arith}
-use Rattle.std.specs.Prelude.{IfErr, IfOk, OnErr, OnOk}
+use Rattle.std.proofs.Common.{◌≡◌, ◌⊎◌, inl, inr, ℕ, ◌*◌, ◌≤◌, true, false, if◌then◌else◌, max, List, [], ◌∷◌, ◌++◌, Result, Ok, Err, length, refl, sym, ap, subst, ◌∙◌, arith}
+use Rattle.std.specs.Prelude.{IfErr, IfOk}
 use Rattle.area_disk.specs.declared.area.Area.{Ghosts}
 use Rattle.gate_journal.specs.Format.{most_octets}
 use Rattle.gate_journal.specs.Moments.{Told}
@@ -12,11 +12,11 @@ use Rattle.gw_base.specs.Observed.{observed}
 use Rattle.gw_base.specs.declared.history.HistoryAct.{HistoryAct}
 use Rattle.gw_base.specs.declared.history.HistoryAct.TheVariants.{Start}
 use Rattle.gw_base.specs.declared.history.HistoryEntry.{HistoryEntry}
-use Rattle.cgf_journal.specs.Trail.{area_of, firm_entries, waiting}
+use Rattle.cgf_journal.specs.Trail.{area_of, firm_entries}
 use Rattle.cgf_journal.specs.declared.trail.Trail.{Trail}
 use Rattle.cgf_journal.specs.Fit.{StandsFit}
 use Rattle.cgf_journal.specs.Results as trails
-use Rattle.gateway_book.specs.Begun.{HasNoMore, HasOneMore, IsBegun}
+use Rattle.gateway_book.specs.Begun.{IsBegun}
 use Rattle.gateway_book.specs.Book.{area_of as book_area, value_of}
 use Rattle.gateway_book.specs.Faults.{book_fault}
 use Rattle.gateway_book.specs.Opened.{IsOpened, IsRefused, OnArea, StandsOrStarts}
@@ -26,11 +26,9 @@ use Rattle.gateway_book.specs.declared.outcome.BookFault.TheVariants.{Device, No
 use Rattle.gateway_book.specs.Answered.{entry_by, no_caller, room_for}
 use Rattle.gateway_book.specs.Fit.{IsFit, is_act_fit}
 use Rattle.gateway_book.specs.FitHistory.{AllFit}
-use Rattle.gateway_book.specs.FitHistoryLaws.{fit_is_within, fit_more, last_is_in_range}
-use Rattle.gateway_book.specs.Followed.{IsFollowed, all_entries}
-use Rattle.gateway_book.specs.Index.{Follows, MayGrow}
+use Rattle.gateway_book.specs.FitHistoryLaws.{fit_is_within, last_is_in_range}
+use Rattle.gateway_book.specs.Index.{MayGrow}
 use Rattle.gateway_book.specs.Value.{BookValue, history_of, opened, recorded, started}
-use Rattle.gateway_book.specs.declared.index.Index.{Index}
 
 costs_at_least : (h : List HistoryEntry) → 30 * length h ≤ costs_of h
 costs_at_least [] = omega arith
@@ -50,38 +48,6 @@ start_is_fit size h e fit moment act room = record {
   act = ap (λ (a : HistoryAct). is_act_fit (observed h) a) act;
   room = room;
 }
-
-module _ {A : Type 0} {tells : Ghosts A} (old new : Trail A tells) (before after : Index) (e : HistoryEntry) (followed : IsFollowed old before) (added : HasOneMore old new before after e) where
-  pub all_more : all_entries new ≡ all_entries old ++ e ∷ []
-  all_more = (λ i. added.stays.listed i ++ added.pushed.waits i) ∙ sym (append_assoc (firm_entries old) (waiting old) (e ∷ []))
-
-  -- with one more entry that is fit the index follows the trail
-  pub added_followed : (Told tells → IsFit (tells.size (area_of old)) (all_entries old) e) → IsFollowed new after
-  added_followed fits =
-      let size : tells.size (area_of new) ≡ tells.size (area_of old) = ap (λ (a : A). tells.size a) added.stays.area in
-      record {
-        short = subst (λ (n : ℕ). n ≤ most_octets) (sym size) followed.short;
-        firm = λ told. subst (λ (h : List HistoryEntry). Follows true after h) (sym added.stays.listed) (added.firm (firm_entries old) (followed.firm told));
-        live = λ told.
-            subst (λ (h : List HistoryEntry). Follows false after h) (sym all_more)
-            (added.live (all_entries old) (fit_may_grow (tells.size (area_of old)) (all_entries old) followed.short (followed.fit told)) (followed.live told));
-        fit = λ told.
-            subst (λ (n : ℕ). AllFit n (all_entries new)) (sym size)
-            (subst (λ (h : List HistoryEntry). AllFit (tells.size (area_of old)) h) (sym all_more) (fit_more (tells.size (area_of old)) [] (all_entries old) e (followed.fit told) (fits told)));
-      }
-
--- whether it was added or not
-pub both_followed : {A : Type 0} {tells : Ghosts A} {F : Type 0} (old new : Trail A tells) (before after : Index) (e : HistoryEntry) (r : Result (Unit {0}) F) → IsFollowed old before → OnOk r (HasOneMore old new before after e)
-    → OnErr r (HasNoMore old new before after) → (Told tells → IsFit (tells.size (area_of old)) (all_entries old) e) → IsFollowed new after
-both_followed old new before after e (Ok x) followed added kept fits = added_followed old new before after e followed added fits
-both_followed {tells = tells} old new before after e (Err fault) followed added kept fits =
-    let same : all_entries new ≡ all_entries old = λ i. kept.stays.listed i ++ kept.kept.waiting i in
-    record {
-      short = subst (λ (n : ℕ). n ≤ most_octets) (sym kept.kept.size) followed.short;
-      firm = λ told. subst (λ (h : List HistoryEntry). Follows true after h) (sym kept.stays.listed) (kept.follows true (firm_entries old) (followed.firm told));
-      live = λ told. subst (λ (h : List HistoryEntry). Follows false after h) (sym same) (kept.follows false (all_entries old) (followed.live told));
-      fit = λ told. subst (λ (n : ℕ). AllFit n (all_entries new)) (sym kept.kept.size) (subst (λ (h : List HistoryEntry). AllFit (tells.size (area_of old)) h) (sym same) (followed.fit told));
-    }
 
 -- ---- the Start
 

@@ -10,7 +10,6 @@ use Rattle.cgf_journal.specs.declared.trail.Trail.{Trail}
 use Rattle.gw_base.specs.declared.history.HistoryEntry.{HistoryEntry}
 use Rattle.gw_base.specs.declared.item.Item.{Item}
 use Rattle.gateway_book.specs.Adding.{AreKept, IsAdded}
-use Rattle.gateway_book.specs.Begun.{HasNoMore, HasOneMore}
 use Rattle.gateway_book.specs.Cursor.{IsAt, IsBegun, IsWithin, StandsIn, gathered_at_last, items_from}
 use Rattle.gateway_book.specs.FiledLaws.{along-append}
 use Rattle.gateway_book.specs.FitHistory.{AllFit}
@@ -87,10 +86,6 @@ module _ {A : Type 0} {tells : Ghosts A} (old new : Trail A tells) (cursor : Cur
   pub stands_put : {F : Type 0} (before after : Index) (e : HistoryEntry) (r : Result (Unit {0}) F) → OnOk r (IsAdded old new before after e) → OnErr r (AreKept old new before after) → HasCursor new cursor
   stands_put before after e (Ok x) ok err = stands_firm ok.stays
   stands_put before after e (Err f) ok err = stands_firm err.stays
-
-  pub stands_started : {F : Type 0} (before after : Index) (e : HistoryEntry) (r : Result (Unit {0}) F) → OnOk r (HasOneMore old new before after e) → OnErr r (HasNoMore old new before after) → HasCursor new cursor
-  stands_started before after e (Ok x) ok err = stands_firm ok.stays
-  stands_started before after e (Err f) ok err = stands_firm err.stays
 
   -- a commit
   pub stands_all : (n : ℕ) → is_closed old ≡ false → firm_length old ≤ length_of old → AllFirm old new n → HasCursor new cursor

@@ -1,16 +1,12 @@
 -- A book over a trail that was opened.
-use Rattle.std.specs.Prelude.{◌≡◌, Bool, ℕ, true, false, List, [], ◌∷◌, ◌++◌}
+use Rattle.std.specs.Prelude.{◌≡◌, ℕ, false}
 use Rattle.area_disk.specs.declared.area.Area.{Ghosts}
 use Rattle.gate_journal.specs.Moments.{Told}
-use Rattle.cgf_journal.specs.Outcomes.{FirmStays, IsKept, IsPushed}
 use Rattle.cgf_journal.specs.Trail as trail
 use Rattle.cgf_journal.specs.declared.trail.Trail.{Trail}
-use Rattle.gw_base.specs.declared.history.HistoryEntry.{HistoryEntry}
 use Rattle.gateway_book.specs.Book.{area_of, header_of, open_time_of, value_of}
-use Rattle.gateway_book.specs.Index.{Follows, MayGrow}
 use Rattle.gateway_book.specs.Value.{opened, started}
 use Rattle.gateway_book.specs.declared.book.Book.{Book}
-use Rattle.gateway_book.specs.declared.index.Index.{Index}
 
 -- The book has the trail's entries, and a Start where there was room for one.
 pub record IsBegun {A : Type 0} {tells : Ghosts A} (old : Trail A tells) (open_time : ℕ) (book : Book A tells) : Type 0 where
@@ -29,17 +25,3 @@ pub record IsStarted {A : Type 0} {tells : Ghosts A} (old new : Book A tells) : 
   pub area : area_of new ≡ area_of old
   pub named : header_of new ≡ header_of old
   pub set : open_time_of new ≡ open_time_of old
-
-module _ {A : Type 0} {tells : Ghosts A} (old new : Trail A tells) (before after : Index) where
-  -- The trail and its index have one more entry.
-  pub record HasOneMore (e : HistoryEntry) : Type 0 where
-    pub pushed : IsPushed old new e
-    pub stays : FirmStays old new
-    pub live : (h : List HistoryEntry) → MayGrow h → Follows false before h → Follows false after (h ++ e ∷ [])
-    pub firm : (h : List HistoryEntry) → Follows true before h → Follows true after h
-
-  -- What they hold is as before.
-  pub record HasNoMore : Type 0 where
-    pub kept : IsKept old new
-    pub stays : FirmStays old new
-    pub follows : (firm : Bool) (h : List HistoryEntry) → Follows firm before h → Follows firm after h

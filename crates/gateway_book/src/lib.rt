@@ -1,5 +1,14 @@
 //! A whole charging gateway: what it answers to a datagram, and the history that it keeps on a
 //! journal (3GPP TS 32.295, clauses 5.1.3 and 6.2).
+//!
+//! The model is `BookValue` of `specs/Value.antt`: the entries that are firm, those that wait, and
+//! whether the journal is broken. The contract is that of `Book`: it opens with the history that its
+//! area stands for, answers each datagram by the definition (`specs/Answer.antt`), records only what
+//! is fit, and its commit makes that firm.
+//!
+//!     let mut book = Book::open(alloc, area, setup)?;
+//!     let outcome = book.take(from, &prepare(octets), now, Caller::NONE);
+//!     let committed = book.commit();
 #![tactic(auto)]
 
 mod adding;
@@ -8,6 +17,7 @@ mod armed;
 mod book;
 mod case;
 mod commit;
+mod costs;
 mod cursor;
 mod decision;
 mod drill;
@@ -42,6 +52,7 @@ mod totals;
 mod wire_marks;
 
 pub use book::Book;
+pub use costs::costs_of;
 pub use filing::{FiledRecord, filed};
 pub use outcome::{BookFault, Broken, ItemsFault, Marked, Outcome, Receipt, Settled, Setup};
 pub use plain::{OwnedAnswer, answer, has_room};

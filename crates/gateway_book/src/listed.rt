@@ -1,22 +1,17 @@
 // A list of entries as answers observe it: each question is a scan of the list.
-ghost use Rattle.std.specs.Prelude.{◌≡◌, ◌≤◌, ◌+◌, ◌-◌, ◌*◌, ◌^◌, IfOk, List, filter, length, nat_le};
-ghost use Rattle.entry_codec.specs.Room.{capacity_of, costs_of};
+ghost use Rattle.std.specs.Prelude.{◌≡◌, ◌≤◌, ◌+◌, ◌-◌, ◌*◌, ◌^◌, IfOk, filter, length, nat_le};
+ghost use Rattle.entry_codec.specs.Room.{capacity_of};
 ghost use Rattle.gw_base.specs.Entry.{act_view};
 ghost use Rattle.gw_base.specs.HeldKeys.{held_keys};
 ghost use Rattle.gw_base.specs.Known.{is_known, known_nodes};
-ghost use Rattle.entry_codec.specs.Spelling.{cost_of};
-ghost use Rattle.gw_base.specs.declared.history.HistoryEntry.{HistoryEntry};
-ghost use Rattle.gateway_book.specs.Answered.{entry_by, no_caller};
 ghost use Rattle.gateway_book.specs.Plain.{IsBounded};
 ghost use Rattle.gateway_book.specs.Steps.{holds_one, promised_by};
 ghost use Rattle.gw_base.specs.View.{stays_held};
 
+use crate::costs::{cost_of, costs_of};
 use crate::observe::Observe;
 use entry_codec::{capacity, promised};
-use gw_base::{
-    Absolute, Act, Caller, Entry, HistoryEntry, KeyState, Moment, NoMemory, NodeId, Opening,
-    PacketKey, scan,
-};
+use gw_base::{Absolute, Act, HistoryEntry, KeyState, NoMemory, NodeId, Opening, PacketKey, scan};
 use scan::HeldKey;
 use std::alloc::Global;
 
@@ -109,36 +104,6 @@ fn is_known(known: &[NodeId], node: NodeId) -> bool
     ensures { result ≡ is_known known.now node }
 {
     known.iter().any(|k| k.0 == node.0)
-}
-
-/// What the entries cost of the journal.
-fn costs_of(history: &[HistoryEntry]) -> u128
-    ensures { result ≡ costs_of history.now }
-{
-    let mut costs: u128 = 0;
-    for entry in history {
-        costs += u128::from(cost_of(entry.act.lent()));
-    }
-    costs
-}
-
-/// What an act costs.
-fn cost_of(act: Act<'_>) -> u64
-    ensures value { (h : List HistoryEntry) → result ≡ cost_of (entry_by h 0 no_caller (act_view act.entry)) }
-    ensures bound { result ≤ 2 ^ 64 - 1 }
-{
-    entry_codec::cost(&Entry {
-        moment: first_moment(),
-        caller: Caller::NONE,
-        act,
-    })
-}
-
-fn first_moment() -> Moment {
-    match Moment::of(0) {
-        Some(moment) => moment,
-        None => unreachable!(),
-    }
 }
 
 /// What is promised behind an act, by the keys that are held and by whether a Close is due.

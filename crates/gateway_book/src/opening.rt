@@ -1,21 +1,19 @@
 //! How a book is opened.
-ghost use Rattle.std.specs.Prelude.{◌≡◌, ◌≤◌, ℕ, IsTrue, true, false, [], List, IfErr, IfOk, OnOk, OnErr};
+ghost use Rattle.std.specs.Prelude.{◌≡◌, ◌≤◌, ℕ, IsTrue, false, [], List, IfErr, IfOk, OnOk, OnErr};
 ghost use Rattle.gate_journal.specs.Format.{Starts, fewest_octets, header, most_octets};
 ghost use Rattle.gate_journal.specs.Moments.{Told};
-ghost use Rattle.cgf_journal.specs.Trail.{area_of as trail_area, firm_entries, has_room_of, is_closed, waiting, waiting_octets};
+ghost use Rattle.cgf_journal.specs.Trail.{area_of as trail_area, firm_entries, is_closed, waiting, waiting_octets};
 ghost use Rattle.gw_base.specs.declared.history.HistoryEntry.{HistoryEntry};
-ghost use Rattle.gw_base.specs.Entry.{act_view, entry_view};
-ghost use Rattle.gw_base.specs.declared.history.HistoryAct.TheVariants.{Start};
-ghost use Rattle.gateway_book.specs.Begun.{HasNoMore, HasOneMore, IsBegun, IsStarted};
+ghost use Rattle.gateway_book.specs.Begun.{IsBegun, IsStarted};
 ghost use Rattle.gateway_book.specs.Faults.{book_fault};
 ghost use Rattle.gateway_book.specs.FitHistory.{AllFit};
 ghost use Rattle.gateway_book.specs.Judging.{IsJudging};
 ghost use Rattle.gateway_book.specs.OpenPlan.{OpensAsPlanned, is_memory};
 ghost use Rattle.gateway_book.specs.Opened.{FindsHistory, IsMadeAnew, IsNotOurs, IsOpened, IsRefused, OnArea, RefusesForeign, StandsFitFor};
 
+use crate::adding::record;
 use crate::book::Book;
 use crate::cursor::Cursor;
-use crate::index::Index;
 use crate::judge::FitJudge;
 use crate::listing::Scratch;
 use crate::observed::an_index_tells_its_history;
@@ -122,7 +120,7 @@ impl<A: Area> Book<A> {
             act: Act::Start,
         };
         if self.trail.room(&entry) {
-            add_start(&mut self.trail, &mut self.index, &entry)?;
+            record(&mut self.trail, &mut self.index, &entry)?;
         }
         Ok(())
     }
@@ -136,28 +134,5 @@ fn fault_of(fault: OpenFault) -> BookFault
         OpenFault::Device => BookFault::Device,
         OpenFault::NotOurs { at } => BookFault::NotOurs { at },
         OpenFault::NoMemory => BookFault::NoMemory,
-    }
-}
-
-// Adds a Start after the others. Without memory nothing is added.
-fn add_start<A: Area>(
-    trail: &mut Trail<A>,
-    index: &mut Index,
-    entry: &Entry<'_>,
-) -> Result<(), NoMemory>
-    requires ready { is_closed trail.old ≡ false }
-    requires room { has_room_of trail.old (entry_view entry.now) ≡ true }
-    requires start { act_view entry.now.act ≡ Start }
-    requires emptied { waiting_octets trail.old ≡ 0 }
-    ensures ok { OnOk result (HasOneMore trail.old trail.new index.old index.new (entry_view entry.now)) }
-    ensures err { OnErr result (HasNoMore trail.old trail.new index.old index.new) }
-{
-    index.reserve(&entry.act)?;
-    match trail.push(entry) {
-        Ok(()) => {
-            index.note(entry);
-            Ok(())
-        }
-        Err(_) => unreachable!(),
     }
 }

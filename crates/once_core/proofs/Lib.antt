@@ -56,7 +56,6 @@ pub mod SettlingLemmas
 pub mod HistoryKeptLemmas
 pub mod NodeTurnLemmas
 pub mod KeptMoveLemmas
-pub mod RoomLemmas
 pub mod NodeCallLemmas
 pub mod NodeTickLemmas
 pub mod KeptTurnLemmas

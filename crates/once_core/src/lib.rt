@@ -7,6 +7,9 @@
 //! happens: `world_laws` of worlds with the octets of their messages, first of all that each record is
 //! filed once; `once_laws` of what messages mean; and `shown_laws` of how a world is what happens where
 //! messages are what they mean. `World` plays events, each as a turn of the definition.
+//!
+//!     let mut world = World::new(alloc, 2, 1)?;
+//!     let stepped = world.step(alloc, &Event::Tick { node: 1 });
 #![tactic(auto)]
 
 mod addresses;

@@ -1,14 +1,10 @@
 // The size of a gateway's journal, and when a batch is full.
-ghost use Rattle.std.specs.Prelude.{◌≡◌, ◌≤◌, ◌-◌, ◌^◌, List};
-ghost use Rattle.entry_codec.specs.Room.{costs_of};
-ghost use Rattle.entry_codec.specs.Spelling.{cost_of};
-ghost use Rattle.gateway_book.specs.Answered.{entry_by, no_caller};
-ghost use Rattle.gw_base.specs.Entry.{act_view};
-ghost use Rattle.gw_base.specs.declared.history.HistoryEntry.{HistoryEntry};
+ghost use Rattle.std.specs.Prelude.{◌≡◌};
 ghost use Rattle.once_core.specs.Standing.{is_rest_full};
 
 use gate_journal::LONGEST_BATCH;
-use gw_base::{Act, Caller, Entry, HistoryEntry, Moment};
+use gateway_book::costs_of;
+use gw_base::{HistoryEntry, Moment};
 
 /// The octets of a gateway's journal.
 pub(crate) const SIZE: u64 = 16_777_216;
@@ -18,29 +14,6 @@ const MOST_FOR_ONE: u128 = 270_000;
 
 /// The octets of a batch before its content, which the cost of an entry has too.
 const BATCH_HEAD: u128 = 5;
-
-/// What entries cost of a journal.
-fn costs_of(history: &[HistoryEntry]) -> u128
-    ensures { result ≡ costs_of history.now }
-{
-    let mut costs: u128 = 0;
-    for entry in history {
-        costs += u128::from(cost_of(entry.act.lent()));
-    }
-    costs
-}
-
-/// What an act costs.
-fn cost_of(act: Act<'_>) -> u64
-    ensures value { (h : List HistoryEntry) → result ≡ cost_of (entry_by h 0 no_caller (act_view act.entry)) }
-    ensures bound { result ≤ 2 ^ 64 - 1 }
-{
-    entry_codec::cost(&Entry {
-        moment: first_moment(),
-        caller: Caller::NONE,
-        act,
-    })
-}
 
 /// The first moment.
 pub(crate) fn first_moment() -> Moment

@@ -2,8 +2,8 @@ use Rattle.std.proofs.Common.{◌≡◌, [], ap, ◌∙◌, arith}
 use Rattle.entry_codec.specs.Spelling.{cost_of}
 use Rattle.gw_base.specs.declared.history.HistoryAct.{HistoryAct}
 use Rattle.gateway_book.specs.Answered.{entry_by, no_caller}
-use Rattle.once_core.proofs.RoomLemmas.{rest_costs}
-use Rattle.once_core.proofs.room.costs_of.Goals as goal
+use Rattle.gateway_book.proofs.PlainLemmas.{rest_costs}
+use Rattle.gateway_book.proofs.costs.costs_of.Goals as goal
 
 pub loop-entry-preserved : goal.loop-entry-preserved
 loop-entry-preserved c =

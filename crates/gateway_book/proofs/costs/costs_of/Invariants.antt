@@ -1,6 +1,6 @@
 use Rattle.std.proofs.Common.{◌≡◌, ◌+◌, ◌*◌, ◌≤◌, drop}
 use Rattle.entry_codec.specs.Room.{costs_of}
-use Rattle.gateway_book.proofs.listed.costs_of.Given as goal
+use Rattle.gateway_book.proofs.costs.costs_of.Given as goal
 
 -- the costs so far and those of the entries that are left are all costs, each below 2 ^ 64
 abbrev pub invariant-loop-entry : goal.invariant-loop-entry
