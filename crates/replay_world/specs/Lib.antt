@@ -9,4 +9,22 @@ pub mod Telling
 pub mod Lines
 pub mod Report
 pub mod Taken
+pub mod Written
+pub mod Stands
+pub mod Does
+pub mod Settled
+pub mod Played
+pub mod Summary
 pub mod Worked
+-- What the calls of a gateway and steps of proofs cite.
+pub mod Ends
+pub mod Moves
+pub mod Called
+pub mod Taking
+pub mod Redirecting
+pub mod Opening
+pub mod Settings
+pub mod Sending
+pub mod Receiving
+pub mod Settling
+pub mod Tally

@@ -15,15 +15,16 @@ use Rattle.gw_base.specs.declared.item.Item.TheVariants as item
 use Rattle.hex.specs.Hex.{encode_upper}
 use Rattle.node_core.specs.Counting.{counts_of}
 use Rattle.node_core.specs.Log.{LogEntry}
+use Rattle.node_core.specs.declared.counts.NodeCounts.{NodeCounts}
 use Rattle.once_core.specs.Gateway.{Gateway}
 use Rattle.once_core.specs.Turn.{Turn}
 use Rattle.once_core.specs.World.{node_value}
 use Rattle.once_core.specs.declared.event.WorldKind.{WorldKind}
 use Rattle.replay_world.specs.Lines.{line_after, line_notices, refusal_of_line, turns_of}
 use Rattle.replay_world.specs.Notices.{notice_lines}
-use Rattle.replay_world.specs.Setup.{files_in}
+use Rattle.replay_world.specs.Setup.{Setup, files_in}
 use Rattle.replay_world.specs.Steps.{site_in, Site}
-use Rattle.replay_world.specs.Value.{ReplayValue, replay_of}
+use Rattle.replay_world.specs.Value.{Machine, ReplayValue, replay_of}
 use Rattle.world_script.specs.Script.{is_end_line}
 use Rattle.world_script.specs.declared.line.Line.{Line}
 
@@ -44,12 +45,11 @@ file_line place file =
     ++ 10 ∷ []
 
 -- the files that the first items of a gateway's firm entries close, so many of which were written
-abbrev pub sealed_files : ReplayValue → Site → List SealedFile
-sealed_files v site =
-    files_of (files_in v.setup site.place) (take site.machine.written (items_of site.gateway.book.firm))
+abbrev pub sealed_files : Setup → ℕ → Gateway → Machine → List SealedFile
+sealed_files setup place g m = files_of (files_in setup place) (take m.written (items_of g.book.firm))
 
-abbrev pub file_lines : ReplayValue → Site → List ℕ
-file_lines v site = flat_map (file_line site.place) (sealed_files v site)
+abbrev pub file_lines : Setup → ℕ → Gateway → Machine → List ℕ
+file_lines setup place g m = flat_map (file_line place) (sealed_files setup place g m)
 
 -- A gateway's counts.
 
@@ -66,27 +66,35 @@ is_part (item.Close moment) = false
 abbrev pub records_in : List HistoryEntry → ℕ
 records_in h = count_by is_part (items_of h)
 
+abbrev pub counts_text : ℕ → ℕ → ℕ → ℕ → ℕ → List ℕ
+counts_text place entries records held stranded =
+    codes "gateway " ++ decimal (suc place) ++ codes " entries " ++ decimal entries ++ codes " records "
+    ++ decimal records ++ codes " held " ++ decimal held ++ codes " stranded " ++ decimal stranded ++ 10 ∷ []
+
 abbrev pub counts_line : ℕ → BookValue → List ℕ
 counts_line place book =
     let h = history_of book in
-    codes "gateway " ++ decimal (suc place) ++ codes " entries " ++ decimal (length h)
-    ++ codes " records " ++ decimal (records_in book.firm) ++ codes " held " ++ decimal (copies_of h).held
-    ++ codes " stranded " ++ decimal (copies_of h).stranded ++ 10 ∷ []
+    counts_text place (length h) (records_in book.firm) (copies_of h).held (copies_of h).stranded
+
+abbrev pub gateway_text : Setup → ℕ → Gateway → Machine → List ℕ
+gateway_text setup place g m = file_lines setup place g m ++ counts_line place (book_of g)
 
 abbrev pub site_lines : ReplayValue → Option Site → List ℕ
 site_lines v None = []
-site_lines v (Some site) = file_lines v site ++ counts_line site.place (book_of site.gateway)
+site_lines v (Some site) = gateway_text v.setup site.place site.gateway site.machine
 
 abbrev pub gateway_lines : ReplayValue → ℕ → List ℕ
 gateway_lines v place = site_lines v (site_in v place)
 
 -- A node's counts.
 
-abbrev pub node_line : ℕ → ℕ → List LogEntry → List ℕ
-node_line gateways place log =
-    let counts = counts_of (node_value gateways place log) in
+abbrev pub node_text : ℕ → NodeCounts → List ℕ
+node_text place counts =
     codes "node " ++ decimal (suc place) ++ codes " packets " ++ decimal counts.packets
     ++ codes " resolved " ++ decimal counts.resolved ++ codes " done " ++ decimal counts.done ++ 10 ∷ []
+
+abbrev pub node_line : ℕ → ℕ → List LogEntry → List ℕ
+node_line gateways place log = node_text place (counts_of (node_value gateways place log))
 
 -- all gateways, and then all nodes
 abbrev pub report_of : ReplayValue → List ℕ

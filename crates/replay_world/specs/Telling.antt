@@ -61,10 +61,14 @@ notices_by rules g at_last number m (GoesOn armed) =
 notices_by rules g at_last number m (Breaks last) = failure_notices g number m
 notices_by rules g at_last number m (Stops stands) = []
 
+-- the gateway is down, or its area was asked, of which this came
+abbrev pub gateway_notices : Rules → Gateway → Bool → ℕ → Message → Sequel → List Notice
+gateway_notices rules g at_last number m sequel =
+    if g.is_down then Down number ∷ [] else notices_by rules g at_last number m sequel
+
 abbrev pub delivery_notices : ReplayValue → ℕ → Message → Site → List Notice
 delivery_notices v number m site =
-    if site.gateway.is_down then Down number ∷ []
-    else notices_by (rules_in v.setup) site.gateway site.machine.at_last number m
+    gateway_notices (rules_in v.setup) site.gateway site.machine.at_last number m
     (sequel_at v (event.Deliver number) site)
 
 -- At a node: that it is halted, that the message is expired, that it is dropped, or which packets became resolved and

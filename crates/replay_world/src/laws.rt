@@ -3,10 +3,12 @@
 ghost use Rattle.std.specs.Prelude.{◌≡◌, ◌≤◌, ℕ, List, None, false, true};
 ghost use Rattle.std.specs.List.{list_any};
 ghost use Rattle.once_core.specs.Once.{Once};
+ghost use Rattle.once_core.specs.StandsOnce.{StandsOnce};
 ghost use Rattle.once_core.specs.Turn.{turns};
-ghost use Rattle.replay_world.specs.Lines.{line_after, refusal_of_line, turns_of};
+ghost use Rattle.replay_world.specs.Lines.{line_after, refusal_of_line, settled, turns_of};
 ghost use Rattle.replay_world.specs.Report.{lines_after, refused_from, refusal_of_lines, turns_from, turns_of_lines};
-ghost use Rattle.replay_world.specs.Setup.{Setup, rules_in, setup_of};
+ghost use Rattle.replay_world.specs.Settled.{AreWritten, HaveMachines};
+ghost use Rattle.replay_world.specs.Setup.{Setup, files_in, rules_in, setup_of};
 ghost use Rattle.replay_world.specs.Taken.{Allows, IsAsSaid};
 ghost use Rattle.replay_world.specs.Value.{ReplayValue, begun, replay_of};
 ghost use Rattle.world_script.specs.Sample.{sample_of};
@@ -14,6 +16,8 @@ ghost use Rattle.world_script.specs.Script.{is_setting_line};
 ghost use Rattle.world_script.specs.World.{Scene, after_line, are_settings_first, first_scene, takes, takes_all};
 ghost use Rattle.world_script.specs.declared.extent.Extent.{Extent};
 ghost use Rattle.world_script.specs.declared.line.Line.{Line};
+
+use gw_base::Octets;
 
 /// A line moves the world as its turns do, and lines as theirs, one after the other. Settings stay.
 #[tactic(auto, using(crate::proofs::LineLemmas::line_world, crate::proofs::LineLemmas::line_setup, crate::proofs::LineLemmas::lines_world))]
@@ -27,13 +31,26 @@ pub fn a_line_is_its_turns()
 
 /// Whatever the lines of a replay are and whatever they arm, each record of each packet that its node
 /// ever resolved is filed once by all gateways together, and each record of any other packet at most
-/// once.
+/// once. So it is of the places at which they stand in the files of all gateways.
 pub fn a_replay_files_each_record_once()
-    ensures { (setup : Setup) (lines : List Line) → 1 ≤ setup.gateways →
+    ensures filed { (setup : Setup) (lines : List Line) → 1 ≤ setup.gateways →
         Once (lines_after (begun setup) lines).world }
+    ensures stands { (setup : Setup) (lines : List Line) → 1 ≤ setup.gateways →
+        StandsOnce (files_in setup) (lines_after (begun setup) lines).world }
 {
     once_core::world_laws::each_record_is_filed_once();
+    once_core::world_laws::each_record_stands_once();
     a_line_is_its_turns();
+}
+
+/// After a settling each gateway runs, its whole history is firm and written, and no file is open: the files that are
+/// sealed have all records that it filed. Each gateway of a replay has a machine.
+pub fn a_settling_writes_all_files()
+    ensures written { (v : ReplayValue) → HaveMachines v → AreWritten (settled v) }
+    ensures machines { (setup : Setup) (lines : List Line) → HaveMachines (lines_after (begun setup) lines) }
+{
+    gateway_book::laws::filed_records_stay();
+    file_rotate::division_goes_on::<Octets>();
 }
 
 /// What a world surely takes, as the lines before it say, isn't refused: neither the line nor any of

@@ -1,12 +1,21 @@
 use Rattle.std.proofs.Common.{sym, subst}
 use Rattle.once_core.specs.Once.{Once}
+use Rattle.once_core.specs.StandsOnce.{StandsOnce}
+use Rattle.once_core.specs.World.{World}
 use Rattle.replay_world.specs.Report.{turns_from}
-use Rattle.replay_world.specs.Setup.{rules_in}
+use Rattle.replay_world.specs.Setup.{files_in, rules_in}
 use Rattle.replay_world.specs.Value.{begun}
 use Rattle.replay_world.proofs.LineLemmas.{lines_world}
 use Rattle.replay_world.proofs.laws.a_replay_files_each_record_once.Goals as goal
 
-pub returns : goal.returns
-returns c = λ setup lines some.
+pub returns-clause-filed : goal.returns-clause-filed
+returns-clause-filed c = λ setup lines some.
     subst Once (sym (lines_world (begun setup) lines))
-    (c.each_record_is_filed_once.ensures.alike (rules_in setup) setup.gateways setup.nodes (turns_from (begun setup) lines) some)
+    (c.each_record_is_filed_once.ensures.alike (rules_in setup) setup.gateways setup.nodes (turns_from (begun setup) lines)
+    some)
+
+pub returns-clause-stands : goal.returns-clause-stands
+returns-clause-stands c = λ setup lines some.
+    subst (λ (w : World). StandsOnce (files_in setup) w) (sym (lines_world (begun setup) lines))
+    (c.each_record_stands_once.ensures.alike (rules_in setup) (files_in setup) setup.gateways setup.nodes
+    (turns_from (begun setup) lines) some)

@@ -1,0 +1,179 @@
+-- Steps at gateways for whose areas nothing is armed.
+use Rattle.std.proofs.Common.{◌≡◌, ◌∙◌, refl, sym, ap, subst, ℕ, zero, suc, ◌-◌, ◌≤◌, ◌<◌, ◌&&◌, ◌||◌, nat_le, nat_lt, Bool, true, false, not, if◌then◌else◌, List, [], ◌∷◌, All, length, set, Option, Some, None, slice_get, arith, length-set, lt-ltb, le-leb}
+use Rattle.std.specs.Option.{option_map_or, option_or}
+use Rattle.std.proofs.lemmas.List.Elements.{All-set}
+use Rattle.std.proofs.lemmas.Option.{get_or_from_slice_get, slice_get_within}
+use Rattle.area_disk.specs.Armed.{Armed}
+use Rattle.area_disk.specs.Armed.Armed.{Nothing}
+use Rattle.gateway_book.specs.Answered.{no_caller}
+use Rattle.gateway_book.specs.Comes.{Asked, AsksCommit, AsksNothing, AsksReopening}
+use Rattle.gateway_book.specs.Up.{Sequel, GoesOn, fortune_by, sequel_of}
+use Rattle.gateway_book.specs.Value.{BookValue, Fortune, history_of, recorded}
+use Rattle.gw_base.specs.History.{is_close_due}
+use Rattle.gw_base.specs.declared.history.HistoryAct.TheVariants.{Close}
+use Rattle.once_core.specs.Answers.{making_close, marked}
+use Rattle.once_core.specs.Gateway.{Gateway, Moved, Rules, book_committing, committing, giving_up, readying, settling, still}
+use Rattle.once_core.specs.Turn.{is_down_in, is_none_of, no_running_gateway, refusing}
+use Rattle.once_core.specs.World.{World}
+use Rattle.once_core.specs.declared.event.Event.{Event}
+use Rattle.once_core.specs.declared.event.WorldKind.TheVariants.{NoGateway, Stopped}
+use Rattle.replay_world.specs.Device.{asked_of, is_stop, machine_after, machine_with, sequel_on}
+use Rattle.replay_world.specs.Moves.{moved_by}
+use Rattle.replay_world.specs.Settling.{AreUnarmed, Stays}
+use Rattle.replay_world.specs.Steps.{Site, Step, Plays, after_step, ends_line, machines_at, machines_in, sequel_at, site_of}
+use Rattle.replay_world.specs.Value.{Machine, ReplayValue}
+use Rattle.once_core.specs.declared.message.Message.{Message}
+use Rattle.replay_world.proofs.MovedLemmas.{machines_are, moved}
+use Rattle.replay_world.proofs.SetLemmas.{Sets}
+use Rattle.replay_world.proofs.StepLemmas.{IsAt, site_is, world_moved}
+
+-- Lists of which one element is set.
+
+pub get_other : {A : Type 0} (xs : List A) (k j : ℕ) (x : A) → (j ≡ k → ⊥) → slice_get (set xs k x) j ≡ slice_get xs j
+get_other [] k j x other = refl
+get_other (y ∷ xs) zero zero x other = absurd (other refl)
+get_other (y ∷ xs) zero (suc j) x other = refl
+get_other (y ∷ xs) (suc k) zero x other = refl
+get_other (y ∷ xs) (suc k) (suc j) x other = get_other xs k j x (λ same. other (ap (λ n. suc n) same))
+
+pub get_same : {A : Type 0} (xs : List A) (k : ℕ) (x y : A) → slice_get xs k ≡ Some y → slice_get (set xs k x) k ≡ Some x
+get_same [] k x y is = absurd (cc)
+get_same (z ∷ xs) zero x y is = refl
+get_same (z ∷ xs) (suc k) x y is = get_same xs k x y is
+
+pub found : {A : Type 0} (xs : List A) (k : ℕ) → k < length xs → (x : A) × (slice_get xs k ≡ Some x)
+found [] k less = absurd (omega (arith, less))
+found (x ∷ xs) zero less = (x, refl)
+found (x ∷ xs) (suc k) less = found xs k (omega (arith, less))
+
+-- of each machine nothing is armed
+pub unarmed_there : (v : ReplayValue) (k : ℕ) (m : Machine) → slice_get v.machines k ≡ Some m → AreUnarmed v →
+    m.armed ≡ Nothing
+unarmed_there v k m is unarmed =
+    subst (λ (n : Machine). n.armed ≡ Nothing) (get_or_from_slice_get v.machines k m m is)
+    (unarmed k m (slice_get_within v.machines k m is))
+
+-- A step that sets one gateway.
+module _ (v : ReplayValue) (step : Step) (k : ℕ) (g : Gateway) (m : Machine) (sends : List Message)
+    (sets : Sets v step k g m sends) where
+  pub stays_set : m.armed ≡ Nothing → AreUnarmed v → Stays v (after_step v step) k
+  stays_set is unarmed = record {
+    unarmed = subst (λ (ms : List Machine). All (λ (n : Machine). n.armed ≡ Nothing) ms) (sym sets.machines)
+        (All-set (λ (n : Machine). n.armed ≡ Nothing) v.machines k m is unarmed);
+    count = ap (λ (w : World). length w.gateways) sets.world ∙ length-set v.world.gateways k g;
+    others = λ j other. ap (λ (w : World). slice_get w.gateways j) sets.world ∙ get_other v.world.gateways k j g other;
+  }
+
+  pub there_then : (h : Gateway) → slice_get v.world.gateways k ≡ Some h →
+      slice_get (after_step v step).world.gateways k ≡ Some g
+  there_then h has = ap (λ (w : World). slice_get w.gateways k) sets.world ∙ get_same v.world.gateways k g h has
+
+pub stays_none : (v : ReplayValue) (k : ℕ) → AreUnarmed v → Stays v v k
+stays_none v k unarmed = record { unarmed = unarmed; count = refl; others = λ j other. refl }
+
+pub stays_then : (v u w : ReplayValue) (k : ℕ) → Stays v u k → Stays u w k → Stays v w k
+stays_then v u w k first later = record {
+  unarmed = later.unarmed;
+  count = later.count ∙ first.count;
+  others = λ j other. later.others j other ∙ first.others j other;
+}
+
+-- a gateway that is there and isn't down runs
+pub both : (a b : Bool) → a ≡ true → b ≡ true → not (a && b) ≡ false
+both true b h k = ap not k
+both false b h k = absurd (cc)
+
+pub running_there : (w : World) (number : ℕ) (g : Gateway) → 1 ≤ number → number ≤ length w.gateways →
+    slice_get w.gateways (number - 1) ≡ Some g → g.is_down ≡ false → no_running_gateway w number ≡ None
+running_there w number g some few has runs =
+    let there : is_none_of (length w.gateways) number ≡ false =
+    both (nat_lt 0 number) (nat_le number (length w.gateways)) (lt-ltb 0 number some)
+    (le-leb number (length w.gateways) few) in
+    let up : is_down_in w number ≡ false =
+    ap (λ (o : Option Gateway). option_map_or (λ (h : Gateway). h.is_down) o true) has ∙ runs in
+    ap (λ (b : Bool). option_or (refusing b NoGateway) (refusing (is_down_in w number) Stopped)) there
+    ∙ ap (λ (b : Bool). refusing b Stopped) up
+
+-- What comes of a call where nothing is armed.
+
+nothing_on : (asked : Asked) (at_last : Bool) → sequel_of asked Nothing at_last ≡ GoesOn Nothing
+nothing_on AsksNothing at_last = refl
+nothing_on AsksCommit at_last = refl
+nothing_on AsksReopening at_last = refl
+
+goes_on_then : (m : Machine) (asked : Asked) → m.armed ≡ Nothing → sequel_on m asked ≡ GoesOn Nothing
+goes_on_then m asked is = ap (λ (a : Armed). sequel_of asked a m.at_last) is ∙ nothing_on asked m.at_last
+
+pub unarmed_after : (asked : Asked) (m : Machine) → m.armed ≡ Nothing → (machine_after asked m).armed ≡ Nothing
+unarmed_after AsksNothing m is = is
+unarmed_after AsksCommit m is = ap (λ (s : Sequel). (machine_with m s).armed) (goes_on_then m AsksCommit is)
+unarmed_after AsksReopening m is = ap (λ (s : Sequel). (machine_with m s).armed) (goes_on_then m AsksReopening is)
+
+-- a commit, or a Close, leaves the gateway up
+with_by : (b : Bool) (w : BookValue) (g : Gateway) →
+    (if b then giving_up (record g { book = w }) else settling (record g { book = w })).gateway.is_down ≡ g.is_down
+with_by true w g = refl
+with_by false w g = refl
+
+pub commit_stays_up : (f : Fortune) (g : Gateway) → (committing f g).gateway.is_down ≡ g.is_down
+commit_stays_up f g = with_by (book_committing f g.book).is_broken (book_committing f g.book) g
+
+ready_by : (b : Bool) (f : Fortune) (g : Gateway) → (if b then committing f g else still g).gateway.is_down ≡ g.is_down
+ready_by true f g = commit_stays_up f g
+ready_by false f g = refl
+
+close_made : (b : Bool) (now : ℕ) (h : Gateway) →
+    (if b then still (record h { book = recorded h.book now no_caller Close }) else still h).gateway.is_down ≡ h.is_down
+close_made true now h = refl
+close_made false now h = refl
+
+close_by : (b : Bool) (now : ℕ) (h : Gateway) → (if b then still h else making_close now h).gateway.is_down ≡ h.is_down
+close_by true now h = refl
+close_by false now h = close_made (is_close_due (history_of h.book)) now h
+
+pub close_stays_up : (rules : Rules) (f : Fortune) (now : ℕ) (g : Gateway) →
+    (marked rules f (making_close now) g).gateway.is_down ≡ g.is_down
+close_stays_up rules f now g =
+    let h : Gateway = (readying rules f g).gateway in
+    close_by h.book.is_broken now h ∙ ready_by (g.book.is_broken || rules.is_full g.book) f g
+
+-- An event at a gateway for whose area nothing is armed.
+module _ (v : ReplayValue) (e : Event) (number : ℕ) (g : Gateway) (m : Machine) (move : Fortune → Gateway → Moved)
+    (at : IsAt v e number g m move) (same : machines_in v e ≡ option_map_or (machines_at v e) (site_of v e) v.machines)
+    (unarmed : m.armed ≡ Nothing) where
+  abbrev asked : Asked
+  asked = asked_of v.world g e
+
+  abbrev done : Moved
+  done = moved v e number g m move at
+
+  pub sets_at : Sets v (Plays e) (number - 1) done.gateway (machine_after asked m) done.sends
+  sets_at = record {
+    world = world_moved v e number g m move at;
+    machines = machines_are v e number g m move at same;
+  }
+
+  pub line_goes_on : ends_line v (Plays e) ≡ false
+  line_goes_on =
+      ap (λ (o : Option Site). option_map_or (λ site. is_stop (sequel_at v e site)) o false) (site_is v e number g m move at)
+      ∙ ap is_stop (goes_on_then m asked unarmed)
+
+  pub stays_at : AreUnarmed v → Stays v (after_step v (Plays e)) (number - 1)
+  stays_at all =
+      stays_set v (Plays e) (number - 1) done.gateway (machine_after asked m) done.sends sets_at
+      (unarmed_after asked m unarmed) all
+
+  -- it is up as before
+  pub up_at : ((f : Fortune) → (move f g).gateway.is_down ≡ g.is_down) → done.gateway.is_down ≡ g.is_down
+  up_at stays =
+      ap (λ (s : Sequel). (moved_by s move m g).gateway.is_down) (goes_on_then m asked unarmed)
+      ∙ stays (fortune_by m.at_last (GoesOn Nothing))
+
+  pub runs_after : 1 ≤ number → number ≤ length v.world.gateways → g.is_down ≡ false → AreUnarmed v →
+      ((f : Fortune) → (move f g).gateway.is_down ≡ g.is_down) →
+      no_running_gateway (after_step v (Plays e)).world number ≡ None
+  runs_after some few runs all stays =
+      let after = stays_at all in
+      running_there (after_step v (Plays e)).world number done.gateway some (omega (arith, few, after.count))
+      (there_then v (Plays e) (number - 1) done.gateway (machine_after asked m) done.sends sets_at g at.has_gateway)
+      (up_at stays ∙ runs)

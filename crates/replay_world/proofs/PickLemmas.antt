@@ -1,0 +1,28 @@
+-- What a filter picks of a list that grows.
+use Rattle.std.proofs.Common.{◌≡◌, ◌∙◌, refl, sym, ap, Bool, true, false, cond, List, [], ◌∷◌, ◌++◌, map, filter}
+
+picked_one : {A B : Type 0} (f : A → B) (x : A) (b : Bool) → map f (cond b (x ∷ []) []) ≡ cond b (f x ∷ []) []
+picked_one f x true = refl
+picked_one f x false = refl
+
+picked_by : {A B : Type 0} (f : A → B) (y : A) (more xs : List A) (last : List B) (b : Bool) →
+    map f more ≡ map f xs ++ last → map f (cond b (y ∷ more) more) ≡ map f (cond b (y ∷ xs) xs) ++ last
+picked_by f y more xs last true is = ap (λ (zs : _). f y ∷ zs) is
+picked_by f y more xs last false is = is
+
+-- one element more, seen by a function
+pub picked : {A B : Type 0} (p : A → Bool) (f : A → B) (xs : List A) (x : A) →
+    map f (filter p (xs ++ x ∷ [])) ≡ map f (filter p xs) ++ cond (p x) (f x ∷ []) []
+picked p f [] x = picked_one f x (p x)
+picked p f (y ∷ xs) x =
+    picked_by f y (filter p (xs ++ x ∷ [])) (filter p xs) (cond (p x) (f x ∷ []) []) (p y) (picked p f xs x)
+
+pub same_map : {A : Type 0} (xs : List A) → map (λ x. x) xs ≡ xs
+same_map [] = refl
+same_map {A = A} (x ∷ xs) = ap (λ (ys : List A). x ∷ ys) (same_map xs)
+
+pub kept_in : {A : Type 0} (p : A → Bool) (xs : List A) (x : A) →
+    filter p (xs ++ x ∷ []) ≡ filter p xs ++ cond (p x) (x ∷ []) []
+kept_in {A = A} p xs x =
+    sym (same_map (filter p (xs ++ x ∷ []))) ∙ picked p (λ y. y) xs x
+    ∙ ap (λ (ys : List A). ys ++ cond (p x) (x ∷ []) []) (same_map (filter p xs))

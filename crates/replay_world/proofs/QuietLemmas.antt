@@ -1,0 +1,168 @@
+-- What is done at a gateway that asks no device: it is stopped between two calls, opened again, redirects, or its files are
+-- written, or something is armed for its area.
+use Rattle.std.proofs.Common.{◌≡◌, ◌∙◌, refl, sym, ap, subst, ℕ, ◌-◌, ◌≤◌, Bool, true, false, not, List, [], ◌++◌, length, set, Option, Some, None, option_map, slice_get, arith, append-nil}
+use Rattle.std.specs.Option.{option_map_or, option_or}
+use Rattle.area_disk.specs.Armed.{Armed}
+use Rattle.gateway_book.specs.Items.{items_of}
+use Rattle.once_core.specs.Answers.{redirected}
+use Rattle.once_core.specs.Gateway.{Gateway, Moved}
+use Rattle.once_core.specs.Turn.{at_gateway, calm, gateway_moved, is_down_in, is_none_of, no_gateway, no_running_gateway, refusal_of, refusing, turn, turn_by}
+use Rattle.once_core.specs.World.{World}
+use Rattle.once_core.specs.declared.event.Event.{Event}
+use Rattle.once_core.specs.declared.event.Event.TheVariants as event
+use Rattle.once_core.specs.declared.event.WorldKind.{WorldKind}
+use Rattle.once_core.specs.declared.event.WorldKind.TheVariants.{NoGateway, Running}
+use Rattle.once_core.specs.declared.message.Message.{Message}
+use Rattle.replay_world.specs.Does.{Does}
+use Rattle.replay_world.specs.Moves.{HasMoved}
+use Rattle.replay_world.specs.Notices.{Notice}
+use Rattle.replay_world.specs.Sending.{HasSent}
+use Rattle.replay_world.specs.Setup.{rules_in}
+use Rattle.replay_world.specs.Stands.{MachineStands, Stands}
+use Rattle.replay_world.specs.Steps.{Site, Step, Arms, Plays, Writes, items_firm, machines_in, sent_by, sequel_at, site_of, turn_at, waiting_left, with_machine, world_after}
+use Rattle.replay_world.specs.Telling.{device_notices, notices_last, sent_notices, step_notices}
+use Rattle.replay_world.specs.Value.{Machine, ReplayValue}
+use Rattle.replay_world.specs.declared.machine.Machine as real
+use Rattle.replay_world.specs.declared.replay.Replay.{Replay}
+use Rattle.replay_world.proofs.GatewayEventLemmas.{machines_count, none_of}
+use Rattle.replay_world.proofs.NodeHearLemmas.{set_same}
+use Rattle.replay_world.proofs.SentLemmas.{sent_none}
+use Rattle.replay_world.proofs.SetLemmas.{Sets, does_set, sends_are}
+use Rattle.replay_world.proofs.StepLemmas.{allowed_turn, moved_there}
+
+module _ (v : ReplayValue) (k : ℕ) (g : Gateway) (m : Machine) (has_gateway : slice_get v.world.gateways k ≡ Some g)
+    (has_machine : slice_get v.machines k ≡ Some m) where
+  -- the world as it is
+  same_world : v.world ≡ record v.world { gateways = set v.world.gateways k g; messages = v.world.messages ++ [] }
+  same_world =
+      let gateways : set v.world.gateways k g ≡ v.world.gateways = set_same v.world.gateways k g has_gateway in
+      let messages : v.world.messages ++ [] ≡ v.world.messages = append-nil v.world.messages in
+      λ i. record {
+        gateways = sym gateways i;
+        nodes = v.world.nodes;
+        now = v.world.now;
+        messages = sym messages i;
+      }
+
+  -- the machine that a step changes
+  pub changed : (change : Machine → Machine) → with_machine v k change ≡ set v.machines k (change m)
+  changed change =
+      ap (λ (o : Option Machine). option_map_or (λ machine. set v.machines k (change machine)) o v.machines) has_machine
+
+  -- Something is armed, or files are written.
+
+  pub arms : (armed : Armed) → Sets v (Arms k armed) k g (record m { armed = armed }) []
+  arms armed = record { world = same_world; machines = changed (λ n. record n { armed = armed }) }
+
+  written_is : items_firm v k ≡ length (items_of g.book.firm)
+  written_is = ap (λ (o : Option Gateway). option_map_or (λ (h : Gateway). length (items_of h.book.firm)) o 0) has_gateway
+
+  pub writes : Sets v (Writes k) k g (record m { written = length (items_of g.book.firm) }) []
+  writes = record {
+    world = same_world;
+    machines = changed (λ n. record n { written = items_firm v k })
+        ∙ ap (λ (n : ℕ). set v.machines k (record m { written = n })) written_is;
+  }
+
+  -- An event moves the gateway.
+  module _ (e : Event) (move : Gateway → Moved) (no_site : site_of v e ≡ None) (allowed : refusal_of v.world e ≡ None)
+      (moves : turn_by (rules_in v.setup) v.world (calm e) e ≡ at_gateway v.world k move) where
+    world_moved : world_after v (Plays e) ≡ gateway_moved v.world k (move g)
+    world_moved =
+        ap (λ (o : Option Site). turn (rules_in v.setup) v.world (option_map_or (turn_at v e) o (calm e))) no_site
+        ∙ allowed_turn v (calm e) allowed ∙ moves ∙ moved_there v.world k g move has_gateway
+
+    pub plays : (n : Machine) → machines_in v e ≡ set v.machines k n →
+        Sets v (Plays e) k (move g).gateway n (move g).sends
+    plays n machines = record { world = world_moved; machines = machines }
+
+    pub told_sent : notices_last v e ≡ [] → step_notices v (Plays e) ≡ sent_notices (sent_by v (Plays e))
+    told_sent none =
+        ap (λ (o : Option Site). option_map_or (λ (site : Site). device_notices site.place (sequel_at v e site)) o []
+        ++ (sent_notices (sent_by v (Plays e)) ++ notices_last v e)) no_site
+        ∙ ap (λ (ns : List Notice). sent_notices (sent_by v (Plays e)) ++ ns) none
+        ∙ append-nil (sent_notices (sent_by v (Plays e)))
+
+  pub machines_stay : v.machines ≡ set v.machines k m
+  machines_stay = sym (set_same v.machines k m has_machine)
+
+-- What is told of a step that sends nothing.
+pub told_nothing : (v : ReplayValue) (step : Step) (k : ℕ) (g : Gateway) (m : Machine) → Sets v step k g m [] →
+    step_notices v step ≡ [] → step_notices v step ≡ sent_notices (sent_by v step)
+told_nothing v step k g m sets none =
+    none ∙ sym (ap sent_notices (sends_are v step k g m [] sets))
+
+-- A machine was set, and nothing is sent or told.
+pub does_quietly : (v : ReplayValue) (step : Step) (k : ℕ) (g : Gateway) (m : Machine) (r : real.Machine)
+    (old new : Replay) → Sets v step k g m [] → step_notices v step ≡ sent_notices (sent_by v step) →
+    Stands (record v { waiting = waiting_left v.waiting step }) old → MachineStands v.setup k g m r →
+    new ≡ record old { gateways = new.gateways } → new.gateways.items ≡ set old.gateways.items k r →
+    Does v step [] [] new
+does_quietly v step k g m r old new sets told stands stood rest gateways =
+    does_set v step k g m [] sets [] [] r old new new stands (record {
+      stands = stood;
+      rest = rest;
+      gateways = gateways;
+      sends = sent_none [] new;
+    }) told
+
+-- A gateway that is opened again is there, and down.
+
+opening_by : (b c : Bool) → option_or (refusing b NoGateway) (refusing (not c) Running) ≡ None → (b ≡ false) × (c ≡ true)
+opening_by true c is = absurd (cc)
+opening_by false true is = (refl, refl)
+opening_by false false is = absurd (cc)
+
+pub is_there_down : (w : World) (number : ℕ) → refusal_of w (event.Open number) ≡ None →
+    (1 ≤ number) × (number ≤ length w.gateways) × (is_down_in w number ≡ true)
+is_there_down w number none =
+    let is = opening_by (is_none_of (length w.gateways) number) (is_down_in w number) none in
+    let there = none_of (length w.gateways) number is.0 in
+    (there.0, there.1, is.1)
+
+pub down_there : (w : World) (number : ℕ) (g : Gateway) → slice_get w.gateways (number - 1) ≡ Some g →
+    is_down_in w number ≡ true → g.is_down ≡ true
+down_there w number g has down =
+    sym (ap (λ (o : Option Gateway). option_map_or (λ (h : Gateway). h.is_down) o true) has) ∙ down
+
+pub no_machine_down : {A : Type 0} (v : ReplayValue) (number place : ℕ) (old : Replay) → Stands v old → number - 1 ≡ place →
+    refusal_of v.world (event.Open number) ≡ None → length old.gateways.items ≤ place → A
+no_machine_down v number place old stands is none beyond =
+    let there = is_there_down v.world number none in
+    absurd (omega (arith, there.0, there.1, is, beyond, machines_count v old stands))
+
+-- A gateway that redirects is there, and runs.
+
+redirecting_by : (a b c : Option WorldKind) → option_or a (option_or b c) ≡ None → c ≡ None
+redirecting_by None None c is = is
+redirecting_by None (Some kind) c is = absurd (cc)
+redirecting_by (Some kind) b c is = absurd (cc)
+
+pub runs_to_redirect : (w : World) (number cause : ℕ) (to : Option ℕ) →
+    refusal_of w (event.Redirect number cause to) ≡ None → no_running_gateway w number ≡ None
+runs_to_redirect w number cause None none = none
+runs_to_redirect w number cause (Some to) none =
+    redirecting_by (no_gateway w number) (no_gateway w to) (no_running_gateway w number) none
+
+-- It moved, and its requests were sent.
+pub does_redirect : (v : ReplayValue) (number cause : ℕ) (other : Option ℕ) (g : Gateway) (m : Machine)
+    (messages : List Message) (before after : List ℕ) (r : real.Machine) (old mid new : Replay) →
+    slice_get v.world.gateways (number - 1) ≡ Some g → slice_get v.machines (number - 1) ≡ Some m →
+    refusal_of v.world (event.Redirect number cause other) ≡ None → Stands v old →
+    HasMoved v.setup (number - 1) (redirected (number - 1) cause (option_map (λ n. n - 1) other) g) m messages r →
+    mid ≡ record old { gateways = mid.gateways } → mid.gateways.items ≡ set old.gateways.items (number - 1) r →
+    HasSent messages before after mid new →
+    Does v (Plays (event.Redirect number cause other)) before after new
+does_redirect v number cause other g m messages before after r old mid new has_gateway has_machine none stands moved rest
+    gateways sends =
+    let k : ℕ = number - 1 in
+    let e : Event = event.Redirect number cause other in
+    let move : Gateway → Moved = redirected k cause (option_map (λ n. n - 1) other) in
+    let sets = plays v k g m has_gateway has_machine e move refl none refl m
+    (machines_stay v k g m has_gateway has_machine) in
+    does_set v (Plays e) k (move g).gateway m (move g).sends sets before after r old mid new stands (record {
+      stands = moved.stands;
+      rest = rest;
+      gateways = gateways;
+      sends = subst (λ (ms : List Message). HasSent ms before after mid new) moved.sends sends;
+    }) (told_sent v k g m has_gateway has_machine e move refl none refl refl)

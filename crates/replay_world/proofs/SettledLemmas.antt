@@ -1,0 +1,513 @@
+-- What a settling leaves of each gateway.
+use Rattle.std.proofs.Common.{◌≡◌, ◌∙◌, refl, sym, ap, subst, ℕ, zero, suc, ◌+◌, ◌-◌, ◌==◌, ◌≤◌, ◌<◌, ◌||◌, nat_le, nat_lt, Bool, true, false, true≢false, if◌then◌else◌, List, [], ◌∷◌, ◌++◌, length, set, Option, Some, None, slice_get, arith, append_assoc, length-set, lt-ltb, le-leb, eq-eqb, eqb-true}
+use Rattle.std.specs.List.{flat_map, range_with_len}
+use Rattle.std.specs.Option.{option_map_or}
+use Rattle.std.proofs.lemmas.Option.{slice_get_within}
+use Rattle.area_disk.specs.Armed.{Armed}
+use Rattle.area_disk.specs.Armed.Armed.{Nothing}
+use Rattle.gateway_book.specs.Answered.{entry_by, no_caller}
+use Rattle.gateway_book.specs.Comes.{Asked, AsksCommit, AsksNothing, AsksReopening}
+use Rattle.gateway_book.specs.Items.{items_of}
+use Rattle.gateway_book.specs.Up.{Sequel, GoesOn, fortune_by, sequel_of}
+use Rattle.gateway_book.specs.Value.{BookValue, Fortune, Gone, Whole, committed, history_of, recorded, reopened}
+use Rattle.gw_base.specs.EntryLaws.{is_close_due-append}
+use Rattle.gw_base.specs.History.{is_close_due}
+use Rattle.gw_base.specs.declared.history.HistoryAct.TheVariants.{Close}
+use Rattle.gw_base.specs.declared.history.HistoryEntry.{HistoryEntry}
+use Rattle.once_core.specs.Answers.{making_close, marked}
+use Rattle.once_core.specs.Gateway.{Gateway, Moved, Rules, book_committing, committing, giving_up, opened, readying, settling, still}
+use Rattle.once_core.specs.Turn.{is_down_in, no_gateway, no_running_gateway, refusing}
+use Rattle.once_core.specs.World.{World}
+use Rattle.once_core.specs.declared.event.Event.{Event}
+use Rattle.once_core.specs.declared.event.Event.TheVariants as event
+use Rattle.once_core.specs.declared.event.WorldKind.TheVariants.{NoGateway}
+use Rattle.once_core.specs.declared.message.Message.{Message}
+use Rattle.replay_world.specs.Device.{asked_of, machine_after, machine_with, sequel_on}
+use Rattle.replay_world.specs.Does.{goes_on}
+use Rattle.replay_world.specs.Lines.{after_steps, settle_steps, settled, settling_steps}
+use Rattle.replay_world.specs.Moves.{moved_by}
+use Rattle.replay_world.specs.Settled.{AreShut, AreWritten, HaveMachines, IsSettled}
+use Rattle.replay_world.specs.Settling.{AreUnarmed}
+use Rattle.replay_world.specs.Setup.{rules_in}
+use Rattle.replay_world.specs.Steps.{Step, Arms, Plays, Writes, after_step, ends_line, machines_at, machines_in, site_of}
+use Rattle.replay_world.specs.Value.{Machine, ReplayValue}
+use Rattle.replay_world.proofs.CalmLemmas.{both, commit_stays_up, close_stays_up, found, get_other, get_same, line_goes_on, running_there, sets_at, stays_set, there_then, unarmed_there}
+use Rattle.replay_world.proofs.QuietLemmas.{machines_stay, plays, writes}
+use Rattle.replay_world.proofs.SetLemmas.{Sets}
+use Rattle.replay_world.proofs.SettleLemmas.{arms, disarmed_world, lesser, may_open, unarmed_from}
+use Rattle.replay_world.proofs.StepLemmas.{IsAt}
+use Rattle.replay_world.proofs.StepsLemmas.{after_append, goes_append}
+
+-- Steps that are all made, and what they come to.
+record Runs (v : ReplayValue) (steps : List Step) (u : ReplayValue) : Type 0 where
+  pub goes : goes_on v steps ≡ true
+  pub after : after_steps v steps ≡ u
+
+runs_none : (v : ReplayValue) → Runs v [] v
+runs_none v = record { goes = refl; after = refl }
+
+runs_step : (v : ReplayValue) (step : Step) (later : List Step) (u : ReplayValue) → ends_line v step ≡ false →
+    Runs (after_step v step) later u → Runs v (step ∷ later) u
+runs_step v step later u ends runs =
+    let w : ReplayValue = after_step v step in
+    record {
+      goes = ap (λ (b : Bool). if b then false else goes_on w later) ends ∙ runs.goes;
+      after = ap (λ (b : Bool). if b then w else after_steps w later) ends ∙ runs.after;
+    }
+
+runs_append : (v : ReplayValue) (first later : List Step) (u w : ReplayValue) → Runs v first u → Runs u later w →
+    Runs v (first ++ later) w
+runs_append v first later u w did does = record {
+  goes = goes_append v first later did.goes ∙ ap (λ (x : ReplayValue). goes_on x later) did.after ∙ does.goes;
+  after = after_append v first later did.goes ∙ ap (λ (x : ReplayValue). after_steps x later) did.after ∙ does.after;
+}
+
+-- Nothing but the gateway in a place, and what it runs on, has changed; nothing is armed.
+record Alone (v u : ReplayValue) (k : ℕ) : Type 0 where
+  pub gateways : length u.world.gateways ≡ length v.world.gateways
+  pub machines : length u.machines ≡ length v.machines
+  pub unarmed : AreUnarmed u
+  pub other_gateways : (j : ℕ) → (j ≡ k → ⊥) → slice_get u.world.gateways j ≡ slice_get v.world.gateways j
+  pub other_machines : (j : ℕ) → (j ≡ k → ⊥) → slice_get u.machines j ≡ slice_get v.machines j
+
+alone_none : (v : ReplayValue) (k : ℕ) → AreUnarmed v → Alone v v k
+alone_none v k unarmed = record {
+  gateways = refl;
+  machines = refl;
+  unarmed = unarmed;
+  other_gateways = λ j other. refl;
+  other_machines = λ j other. refl;
+}
+
+alone_then : (v u w : ReplayValue) (k : ℕ) → Alone v u k → Alone u w k → Alone v w k
+alone_then v u w k first later = record {
+  gateways = later.gateways ∙ first.gateways;
+  machines = later.machines ∙ first.machines;
+  unarmed = later.unarmed;
+  other_gateways = λ j other. later.other_gateways j other ∙ first.other_gateways j other;
+  other_machines = λ j other. later.other_machines j other ∙ first.other_machines j other;
+}
+
+alone_set : (v : ReplayValue) (step : Step) (k : ℕ) (g : Gateway) (m : Machine) (sends : List Message) →
+    Sets v step k g m sends → m.armed ≡ Nothing → AreUnarmed v → Alone v (after_step v step) k
+alone_set v step k g m sends sets idle unarmed =
+    let stays = stays_set v step k g m sends sets idle unarmed in
+    record {
+      gateways = stays.count;
+      machines = ap (λ (ms : List Machine). length ms) sets.machines ∙ length-set v.machines k m;
+      unarmed = stays.unarmed;
+      other_gateways = stays.others;
+      other_machines = λ j other.
+          ap (λ (ms : List Machine). slice_get ms j) sets.machines ∙ get_other v.machines k j m other;
+    }
+
+-- The gateway with a number is this, and runs on this, and nothing is armed for any.
+record At (v : ReplayValue) (number : ℕ) (g : Gateway) (m : Machine) : Type 0 where
+  pub from_one : 1 ≤ number
+  pub few : number ≤ length v.world.gateways
+  pub gateway : slice_get v.world.gateways (number - 1) ≡ Some g
+  pub machine : slice_get v.machines (number - 1) ≡ Some m
+  pub unarmed : AreUnarmed v
+
+idle_at : (v : ReplayValue) (number : ℕ) (g : Gateway) (m : Machine) → At v number g m → m.armed ≡ Nothing
+idle_at v number g m at = unarmed_there v (number - 1) m at.machine at.unarmed
+
+runs_at : (v : ReplayValue) (number : ℕ) (g : Gateway) (m : Machine) → At v number g m → g.is_down ≡ false →
+    no_running_gateway v.world number ≡ None
+runs_at v number g m at runs = running_there v.world number g at.from_one at.few at.gateway runs
+
+gateway_is_there : (v : ReplayValue) (number : ℕ) → 1 ≤ number → number ≤ length v.world.gateways →
+    no_gateway v.world number ≡ None
+gateway_is_there v number some few =
+    ap (λ (b : Bool). refusing b NoGateway)
+    (both (nat_lt 0 number) (nat_le number (length v.world.gateways)) (lt-ltb 0 number some)
+    (le-leb number (length v.world.gateways) few))
+
+-- A step that sets it.
+at_set : (v : ReplayValue) (step : Step) (number : ℕ) (h g : Gateway) (n m : Machine) (sends : List Message) →
+    At v number h n → Sets v step (number - 1) g m sends → m.armed ≡ Nothing → At (after_step v step) number g m
+at_set v step number h g n m sends at sets idle =
+    let k : ℕ = number - 1 in
+    let alone = alone_set v step k g m sends sets idle at.unarmed in
+    record {
+      from_one = at.from_one;
+      few = omega (arith, at.few, alone.gateways);
+      gateway = there_then v step k g m sends sets h at.gateway;
+      machine = ap (λ (ms : List Machine). slice_get ms k) sets.machines ∙ get_same v.machines k m n at.machine;
+      unarmed = alone.unarmed;
+    }
+
+-- What comes of a call where nothing is armed.
+
+abbrev calm_fortune : Machine → Fortune
+calm_fortune m = fortune_by m.at_last (GoesOn Nothing)
+
+calm_asked : (asked : Asked) (at_last : Bool) → sequel_of asked Nothing at_last ≡ GoesOn Nothing
+calm_asked AsksNothing at_last = refl
+calm_asked AsksCommit at_last = refl
+calm_asked AsksReopening at_last = refl
+
+calm_on : (m : Machine) (asked : Asked) → m.armed ≡ Nothing → sequel_on m asked ≡ GoesOn Nothing
+calm_on m asked is = ap (λ (a : Armed). sequel_of asked a m.at_last) is ∙ calm_asked asked m.at_last
+
+calm_armed : (asked : Asked) (m : Machine) → m.armed ≡ Nothing → (machine_after asked m).armed ≡ Nothing
+calm_armed AsksNothing m is = is
+calm_armed AsksCommit m is =
+    ap (λ (s : Sequel). (machine_with m s).armed) (calm_on m AsksCommit is)
+calm_armed AsksReopening m is =
+    ap (λ (s : Sequel). (machine_with m s).armed) (calm_on m AsksReopening is)
+
+-- An event moved it.
+record MovedTo (v : ReplayValue) (e : Event) (number : ℕ) (g : Gateway) : Type 0 where
+  pub machine : Machine
+  pub at : At (after_step v (Plays e)) number g machine
+  pub alone : Alone v (after_step v (Plays e)) (number - 1)
+  pub goes : ends_line v (Plays e) ≡ false
+
+moves_to : (v : ReplayValue) (e : Event) (number : ℕ) (g : Gateway) (m : Machine) (move : Fortune → Gateway → Moved)
+    (is : IsAt v e number g m move) → machines_in v e ≡ option_map_or (machines_at v e) (site_of v e) v.machines →
+    At v number g m → MovedTo v e number (move (calm_fortune m) g).gateway
+moves_to v e number g m move is same at =
+    let idle = idle_at v number g m at in
+    let asked : Asked = asked_of v.world g e in
+    let n : Machine = machine_after asked m in
+    let moved : moved_by (sequel_on m asked) move m g ≡ move (calm_fortune m) g =
+    ap (λ (s : Sequel). moved_by s move m g) (calm_on m asked idle) in
+    let done : Moved = moved_by (sequel_on m asked) move m g in
+    let sets : Sets v (Plays e) (number - 1) done.gateway n done.sends = sets_at v e number g m move is same idle in
+    let calm = calm_armed asked m idle in
+    record {
+      machine = n;
+      at = subst (λ (x : Moved). At (after_step v (Plays e)) number x.gateway n) moved
+          (at_set v (Plays e) number g done.gateway m n done.sends at sets calm);
+      alone = alone_set v (Plays e) (number - 1) done.gateway n done.sends sets calm at.unarmed;
+      goes = line_goes_on v e number g m move is same idle;
+    }
+
+-- Books after a commit that doesn't fail.
+
+book_by : (broken at_last : Bool) (b : BookValue) → b.is_broken ≡ broken →
+    ((if broken then reopened b (if at_last then Whole else Gone) else committed b).is_broken ≡ false)
+    × ((if broken then reopened b (if at_last then Whole else Gone) else committed b).rest ≡ [])
+book_by true true b is = (refl, refl)
+book_by true false b is = (refl, refl)
+book_by false at_last b is = (is, refl)
+
+firm_by : (broken at_last : Bool) (b : BookValue) → broken ≡ false →
+    (if broken then reopened b (if at_last then Whole else Gone) else committed b).firm
+    ≡ (if broken then b.firm else b.firm ++ b.rest)
+firm_by true at_last b is = absurd (true≢false is)
+firm_by false at_last b is = refl
+
+book_with : (b : Bool) (w : BookValue) (g : Gateway) →
+    (if b then giving_up (record g { book = w }) else settling (record g { book = w })).gateway.book ≡ w
+book_with true w g = refl
+book_with false w g = refl
+
+module _ (m : Machine) (g : Gateway) where
+  abbrev after_commit : Gateway
+  after_commit = (committing (calm_fortune m) g).gateway
+
+  commit_book : after_commit.book ≡ book_committing (calm_fortune m) g.book
+  commit_book =
+      book_with (book_committing (calm_fortune m) g.book).is_broken (book_committing (calm_fortune m) g.book) g
+
+  commit_whole : after_commit.book.is_broken ≡ false
+  commit_whole = ap (λ (b : BookValue). b.is_broken) commit_book ∙ (book_by g.book.is_broken m.at_last g.book refl).0
+
+  commit_firm : after_commit.book.rest ≡ []
+  commit_firm = ap (λ (b : BookValue). b.rest) commit_book ∙ (book_by g.book.is_broken m.at_last g.book refl).1
+
+  commit_all : g.book.is_broken ≡ false → after_commit.book.firm ≡ history_of g.book
+  commit_all whole =
+      ap (λ (b : BookValue). b.firm) commit_book ∙ firm_by g.book.is_broken m.at_last g.book whole
+
+-- A gateway that made a Close, where one was due.
+
+ready_whole : (b : Bool) (m : Machine) (g : Gateway) → g.book.is_broken ≡ false →
+    (if b then committing (calm_fortune m) g else still g).gateway.book.is_broken ≡ false
+ready_whole true m g whole = commit_whole m g
+ready_whole false m g whole = whole
+
+record IsClosed (g : Gateway) : Type 0 where
+  pub whole : g.book.is_broken ≡ false
+  pub none_due : is_close_due (history_of g.book) ≡ false
+
+closed_where : (due : Bool) (now : ℕ) (g : Gateway) → g.book.is_broken ≡ false →
+    is_close_due (history_of g.book) ≡ due →
+    IsClosed (if due then still (record g { book = recorded g.book now no_caller Close }) else still g).gateway
+closed_where false now g whole is = record { whole = whole; none_due = is }
+closed_where true now g whole is =
+    let e : HistoryEntry = entry_by (history_of g.book) now no_caller Close in
+    let joined : history_of (recorded g.book now no_caller Close) ≡ (g.book.firm ++ g.book.rest) ++ e ∷ [] =
+    ap (λ (b : Bool). if b then g.book.firm else g.book.firm ++ (g.book.rest ++ e ∷ [])) whole
+    ∙ sym (append_assoc g.book.firm g.book.rest (e ∷ [])) in
+    record {
+      whole = whole;
+      none_due = ap is_close_due joined ∙ is_close_due-append (g.book.firm ++ g.book.rest) e;
+    }
+
+closed_unless : (b : Bool) (now : ℕ) (g : Gateway) → b ≡ false → g.book.is_broken ≡ false →
+    IsClosed (if b then still g else making_close now g).gateway
+closed_unless true now g is whole = absurd (true≢false is)
+closed_unless false now g is whole = closed_where (is_close_due (history_of g.book)) now g whole refl
+
+close_closed : (rules : Rules) (now : ℕ) (m : Machine) (g : Gateway) → g.book.is_broken ≡ false →
+    IsClosed (marked rules (calm_fortune m) (making_close now) g).gateway
+close_closed rules now m g whole =
+    let h : Gateway = (readying rules (calm_fortune m) g).gateway in
+    let ready : h.book.is_broken ≡ false = ready_whole (g.book.is_broken || rules.is_full g.book) m g whole in
+    closed_unless h.book.is_broken now h ready ready
+
+-- One gateway settles.
+
+commits : (v : ReplayValue) (number : ℕ) (g : Gateway) (m : Machine) → At v number g m → g.is_down ≡ false →
+    MovedTo v (event.Commit number) number (committing (calm_fortune m) g).gateway
+commits v number g m at runs =
+    let none = runs_at v number g m at runs in
+    moves_to v (event.Commit number) number g m committing (record {
+      asks = refl;
+      from_one = at.from_one;
+      has_gateway = at.gateway;
+      has_machine = at.machine;
+      allowed = none;
+      runs = λ stops. none;
+      moves = λ f. refl;
+    }) refl at
+
+closes : (v : ReplayValue) (number : ℕ) (g : Gateway) (m : Machine) → At v number g m → g.is_down ≡ false →
+    MovedTo v (event.Close number) number
+    (marked (rules_in v.setup) (calm_fortune m) (making_close v.world.now) g).gateway
+closes v number g m at runs =
+    let none = runs_at v number g m at runs in
+    let move : Fortune → Gateway → Moved = λ f. marked (rules_in v.setup) f (making_close v.world.now) in
+    moves_to v (event.Close number) number g m move (record {
+      asks = refl;
+      from_one = at.from_one;
+      has_gateway = at.gateway;
+      has_machine = at.machine;
+      allowed = none;
+      runs = λ stops. none;
+      moves = λ f. refl;
+    }) refl at
+
+-- It is settled now, and the others are as they were.
+record SettledAt (v : ReplayValue) (steps : List Step) (number : ℕ) : Type 0 where
+  pub u : ReplayValue
+  pub runs : Runs v steps u
+  pub alone : Alone v u (number - 1)
+  pub g : Gateway
+  pub m : Machine
+  pub at : At u number g m
+  pub is : IsSettled g m
+
+module _ (shut : (h : List HistoryEntry) → is_close_due h ≡ false → AreShut (items_of h)) where
+  -- one that runs
+  settles_up : (v : ReplayValue) (number : ℕ) (g : Gateway) (m : Machine) → At v number g m → g.is_down ≡ false →
+      SettledAt v (Plays (event.Commit number) ∷ Plays (event.Close number) ∷ Plays (event.Commit number)
+      ∷ Writes (number - 1) ∷ []) number
+  settles_up v number g m at runs =
+      let k : ℕ = number - 1 in
+      let first = commits v number g m at runs in
+      let v1 : ReplayValue = after_step v (Plays (event.Commit number)) in
+      let g1 : Gateway = (committing (calm_fortune m) g).gateway in
+      let runs1 : g1.is_down ≡ false = commit_stays_up (calm_fortune m) g ∙ runs in
+      let second = closes v1 number g1 first.machine first.at runs1 in
+      let v2 : ReplayValue = after_step v1 (Plays (event.Close number)) in
+      let g2 : Gateway =
+      (marked (rules_in v1.setup) (calm_fortune first.machine) (making_close v1.world.now) g1).gateway in
+      let runs2 : g2.is_down ≡ false =
+      close_stays_up (rules_in v1.setup) (calm_fortune first.machine) v1.world.now g1 ∙ runs1 in
+      let closed = close_closed (rules_in v1.setup) v1.world.now first.machine g1 (commit_whole m g) in
+      let third = commits v2 number g2 second.machine second.at runs2 in
+      let v3 : ReplayValue = after_step v2 (Plays (event.Commit number)) in
+      let g3 : Gateway = (committing (calm_fortune second.machine) g2).gateway in
+      let runs3 : g3.is_down ≡ false = commit_stays_up (calm_fortune second.machine) g2 ∙ runs2 in
+      let idle = idle_at v3 number g3 third.machine third.at in
+      let n : Machine = record third.machine { written = length (items_of g3.book.firm) } in
+      let sets = writes v3 k g3 third.machine third.at.gateway third.at.machine in
+      let v4 : ReplayValue = after_step v3 (Writes k) in
+      let last = alone_set v3 (Writes k) k g3 n [] sets idle third.at.unarmed in
+      let none_due : is_close_due g3.book.firm ≡ false =
+      ap is_close_due (commit_all second.machine g2 closed.whole) ∙ closed.none_due in
+      record {
+        u = v4;
+        runs = runs_step v (Plays (event.Commit number)) _ v4 first.goes
+            (runs_step v1 (Plays (event.Close number)) _ v4 second.goes
+            (runs_step v2 (Plays (event.Commit number)) _ v4 third.goes
+            (runs_step v3 (Writes k) [] v4 refl (runs_none v4))));
+        alone = alone_then v v1 v4 k first.alone
+            (alone_then v1 v2 v4 k second.alone (alone_then v2 v3 v4 k third.alone last));
+        g = g3;
+        m = n;
+        at = at_set v3 (Writes k) number g3 g3 third.machine n [] third.at sets idle;
+        is = record {
+          runs = runs3;
+          whole = commit_whole second.machine g2;
+          firm = commit_firm second.machine g2;
+          written = refl;
+          shut = shut g3.book.firm none_due;
+        };
+      }
+
+  -- one that may be stopped
+  settles_any : (b : Bool) (v : ReplayValue) (number : ℕ) (g : Gateway) (m : Machine) → At v number g m →
+      no_gateway v.world number ≡ None → is_down_in v.world number ≡ b → g.is_down ≡ b →
+      SettledAt v ((if b then Plays (event.Open number) ∷ [] else [])
+      ++ Plays (event.Commit number) ∷ Plays (event.Close number) ∷ Plays (event.Commit number)
+      ∷ Writes (number - 1) ∷ []) number
+  settles_any false v number g m at there down is = settles_up v number g m at is
+  settles_any true v number g m at there down is =
+      let k : ℕ = number - 1 in
+      let e : Event = event.Open number in
+      let again : Gateway = opened (rules_in v.setup) g in
+      let sets = plays v k g m at.gateway at.machine e (λ h. still (opened (rules_in v.setup) h)) refl
+      (may_open v number there down) refl m (machines_stay v k g m at.gateway at.machine) in
+      let idle = idle_at v number g m at in
+      let u : ReplayValue = after_step v (Plays e) in
+      let later = settles_up u number again m (at_set v (Plays e) number g again m m [] at sets idle) refl in
+      record {
+        u = later.u;
+        runs = runs_step v (Plays e) _ later.u refl later.runs;
+        alone = alone_then v u later.u k (alone_set v (Plays e) k again m [] sets idle at.unarmed) later.alone;
+        g = later.g;
+        m = later.m;
+        at = later.at;
+        is = later.is;
+      }
+
+  down_is : (v : ReplayValue) (number : ℕ) (g : Gateway) (m : Machine) → At v number g m →
+      is_down_in v.world number ≡ g.is_down
+  down_is v number g m at =
+      ap (λ (o : Option Gateway). option_map_or (λ (h : Gateway). h.is_down) o true) at.gateway
+
+  -- All gateways settle, one after the other.
+
+  abbrev SettledTo : ReplayValue → ℕ → Type 0
+  SettledTo u k = (j : ℕ) (g : Gateway) (m : Machine) → j < k →
+      slice_get u.world.gateways j ≡ Some g → slice_get u.machines j ≡ Some m → IsSettled g m
+
+  settled_more : (u : ReplayValue) (k : ℕ) (steps : List Step) → SettledTo u k → (did : SettledAt u steps (k + 1)) →
+      SettledTo did.u (k + 1)
+  settled_more u k steps before did j g m less has_gateway has_machine = by (j == k) refl
+    where
+      back : k + 1 - 1 ≡ k
+      back = omega arith
+
+      by : (b : Bool) → (j == k) ≡ b → IsSettled g m
+      by true e =
+          let here : j ≡ k + 1 - 1 = eqb-true j k e ∙ sym back in
+          let gateway : slice_get did.u.world.gateways j ≡ Some did.g =
+          ap (λ (i : ℕ). slice_get did.u.world.gateways i) here ∙ did.at.gateway in
+          let machine : slice_get did.u.machines j ≡ Some did.m =
+          ap (λ (i : ℕ). slice_get did.u.machines i) here ∙ did.at.machine in
+          let same_gateway : did.g ≡ g = cc in
+          let same_machine : did.m ≡ m = cc in
+          subst (λ (x : Gateway). IsSettled x m) same_gateway
+          (subst (λ (x : Machine). IsSettled did.g x) same_machine did.is)
+      by false e =
+          let apart : j ≡ k → ⊥ = λ same. absurd (true≢false (sym (eq-eqb j k same) ∙ e)) in
+          let other : j ≡ k + 1 - 1 → ⊥ = λ same. apart (same ∙ back) in
+          before j g m (lesser j k less apart) (sym (did.alone.other_gateways j other) ∙ has_gateway)
+          (sym (did.alone.other_machines j other) ∙ has_machine)
+
+  record SettledFrom (v u : ReplayValue) (k n : ℕ) : Type 0 where
+    pub w : ReplayValue
+    pub runs : Runs u (flat_map (settling_steps v) (range_with_len (k + 1) n)) w
+    pub count : length w.world.gateways ≡ length u.world.gateways
+    pub all : SettledTo w (k + n)
+
+  -- the others are as before
+  counted_after : (u : ReplayValue) (steps : List Step) (n k : ℕ) (did : SettledAt u steps (k + 1)) →
+      k + suc n ≡ length u.world.gateways → k + 1 + n ≡ length did.u.world.gateways
+  counted_after u steps n k did whole = omega (arith, whole, did.alone.gateways)
+
+  paired_after : (u : ReplayValue) (steps : List Step) (number : ℕ) (did : SettledAt u steps number) →
+      length u.machines ≡ length u.world.gateways → length did.u.machines ≡ length did.u.world.gateways
+  paired_after u steps number did pairs = did.alone.machines ∙ pairs ∙ sym did.alone.gateways
+
+  same_after : (v u : ReplayValue) (steps : List Step) (k : ℕ) (did : SettledAt u steps (k + 1)) →
+      ((j : ℕ) → k ≤ j → slice_get u.world.gateways j ≡ slice_get v.world.gateways j) →
+      (j : ℕ) → k + 1 ≤ j → slice_get did.u.world.gateways j ≡ slice_get v.world.gateways j
+  same_after v u steps k did same j le =
+      did.alone.other_gateways j (λ is. absurd (omega (arith, is, le))) ∙ same j (omega (arith, le))
+
+  -- one settles, and then the others
+  settled_with : (n k : ℕ) (v u : ReplayValue) (did : SettledAt u (settling_steps v (k + 1)) (k + 1)) →
+      SettledFrom v did.u (k + 1) n → SettledFrom v u k (suc n)
+  settled_with n k v u did rest =
+      let sum : k + 1 + n ≡ k + suc n = omega arith in
+      record {
+        w = rest.w;
+        runs = runs_append u (settling_steps v (k + 1))
+            (flat_map (settling_steps v) (range_with_len (k + 1 + 1) n)) did.u rest.w did.runs rest.runs;
+        count = rest.count ∙ did.alone.gateways;
+        all = subst (λ (i : ℕ). SettledTo rest.w i) sum rest.all;
+      }
+
+  settle_from : (n k : ℕ) (v u : ReplayValue) → k + n ≡ length u.world.gateways →
+      length u.machines ≡ length u.world.gateways → AreUnarmed u →
+      ((j : ℕ) → k ≤ j → slice_get u.world.gateways j ≡ slice_get v.world.gateways j) → SettledTo u k →
+      SettledFrom v u k n
+  settle_from zero k v u whole pairs unarmed same before =
+      let none : k ≡ k + 0 = omega arith in
+      record {
+        w = u;
+        runs = runs_none u;
+        count = refl;
+        all = subst (λ (i : ℕ). SettledTo u i) none before;
+      }
+  settle_from (suc n) k v u whole pairs unarmed same before =
+      let few : k + 1 ≤ length u.world.gateways = omega (arith, whole) in
+      let g = found u.world.gateways (k + 1 - 1) (omega (arith, whole)) in
+      let m = found u.machines (k + 1 - 1) (omega (arith, whole, pairs)) in
+      let at : At u (k + 1) g.0 m.0 = record {
+        from_one = omega arith;
+        few = few;
+        gateway = g.1;
+        machine = m.1;
+        unarmed = unarmed;
+      } in
+      let down = down_is u (k + 1) g.0 m.0 at in
+      let down_same : is_down_in u.world (k + 1) ≡ is_down_in v.world (k + 1) =
+      ap (λ (o : Option Gateway). option_map_or (λ (h : Gateway). h.is_down) o true) (same (k + 1 - 1) (omega arith)) in
+      let there : no_gateway u.world (k + 1) ≡ None = gateway_is_there u (k + 1) (omega arith) few in
+      let did : SettledAt u (settling_steps v (k + 1)) (k + 1) =
+      settles_any (is_down_in v.world (k + 1)) u (k + 1) g.0 m.0 at there down_same (sym down ∙ down_same) in
+      settled_with n k v u did (settle_from n (k + 1) v did.u (counted_after u (settling_steps v (k + 1)) n k did whole)
+      (paired_after u (settling_steps v (k + 1)) (k + 1) did pairs) did.alone.unarmed
+      (same_after v u (settling_steps v (k + 1)) k did same) (settled_more u k (settling_steps v (k + 1)) before did))
+
+  -- What was armed is armed no more, and then all settle.
+
+  arms_go : (v : ReplayValue) (gateways : List ℕ) → goes_on v (arms gateways) ≡ true
+  arms_go v [] = refl
+  arms_go v (n ∷ gateways) = arms_go (after_step v (Arms (n - 1) Nothing)) gateways
+
+  count_by : (o : Option Machine) (ms : List Machine) (k : ℕ) →
+      length (option_map_or (λ (machine : Machine). set ms k (record machine { armed = Nothing })) o ms) ≡ length ms
+  count_by None ms k = refl
+  count_by (Some m) ms k = length-set ms k (record m { armed = Nothing })
+
+  arms_count : (v : ReplayValue) (gateways : List ℕ) → length (after_steps v (arms gateways)).machines ≡ length v.machines
+  arms_count v [] = refl
+  arms_count v (n ∷ gateways) =
+      arms_count (after_step v (Arms (n - 1) Nothing)) gateways
+      ∙ count_by (slice_get v.machines (n - 1)) v.machines (n - 1)
+
+  pub all_settled : (v : ReplayValue) → HaveMachines v → AreWritten (settled v)
+  all_settled v pairs =
+      let gateways : List ℕ = range_with_len 1 (length v.world.gateways) in
+      let u : ReplayValue = after_steps v (arms gateways) in
+      let world : u.world ≡ v.world = disarmed_world v gateways in
+      let unarmed : AreUnarmed u =
+      unarmed_from (length v.world.gateways) 0 v (omega (arith, pairs)) (λ j m less is. absurd (omega (arith, less))) in
+      let counted : length u.world.gateways ≡ length v.world.gateways = ap (λ (w : World). length w.gateways) world in
+      let from = settle_from (length v.world.gateways) 0 v u (omega (arith, counted)) (arms_count v gateways ∙ pairs ∙ sym counted) unarmed
+      (λ j le. ap (λ (w : World). slice_get w.gateways j) world) (λ j g m less is has. absurd (omega (arith, less))) in
+      let runs : Runs v (settle_steps v) from.w =
+      runs_append v (arms gateways) (flat_map (settling_steps v) gateways) u from.w
+      (record { goes = arms_go v gateways; after = refl }) from.runs in
+      subst AreWritten (sym runs.after) (λ place g m has_gateway has_machine.
+      let within : place < length from.w.world.gateways = slice_get_within from.w.world.gateways place g has_gateway in
+      from.all place g m (omega (arith, within, from.count, counted)) has_gateway has_machine)

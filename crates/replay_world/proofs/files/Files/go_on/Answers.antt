@@ -1,0 +1,36 @@
+use Rattle.std.proofs.Common.{◌≡◌, ap, subst, ℕ, ◌<◌, ◌^◌, length, take, List, Option, IfSome, arith, length-drop, false}
+use Rattle.file_writer.specs.Writer.{is_broken, taken_of}
+use Rattle.gw_base.specs.declared.item.Item.{Item}
+use Rattle.replay_world.proofs.WriterLemmas.{same_count, went_on}
+use Rattle.replay_world.proofs.files.Files.go_on.Goals as goal
+
+pub advance-requires-clause-ready : goal.advance-requires-clause-ready
+advance-requires-clause-ready c = λ κs.
+    subst (λ (o : Option ℕ). IfSome o (λ n. is_broken c.args.self.now.writer ≡ false)) c.in-Some.is c.args.self.now.ready
+
+pub advance-requires-clause-few : goal.advance-requires-clause-few
+advance-requires-clause-few c =
+    let has = subst (λ (o : Option ℕ). IfSome o (λ n. (taken_of c.args.self.now.writer ≡ n) × (n < 2 ^ 31))) c.in-Some.is
+    c.args.self.now.counted in
+    omega (arith, has.0, c.in-Some-count_after.ensures)
+
+pub returns : goal.returns
+returns c = λ settings written all stands are.
+    let goes = stands.goes_on c.in-Some.taken c.in-Some.is in
+    let went = went_on c.files_only_grow.ensures settings written all c.args.self.now.writer c.advance.new.self
+    stands.writes goes.1 c.in-Ok.ensures.settings c.args.items.now are _
+    (c.in-Ok.ensures.moves (λ s. 0) (take written all) goes.1.at) in
+    record {
+      writes = went.0;
+      goes_on = λ n is. (
+        same_count c.in-Some-count_after.count n (length all) is (omega (
+          arith,
+          goes.0,
+          c.in-Some-count_after.ensures,
+          ap (λ (xs : List Item). length xs) are,
+          length-drop written all,
+          stands.writes.most,
+        )),
+        went.1,
+      );
+    }

@@ -1,0 +1,50 @@
+use Rattle.std.proofs.Common.{◌≡◌, ◌∙◌, ◌+◌, refl, sym, ap, subst, arith}
+use Rattle.area_disk.specs.Armed.{IsArmed}
+use Rattle.area_disk.specs.Armed.Armed.{Nothing}
+use Rattle.area_disk.specs.Plan.{Schedule, schedule_of}
+use Rattle.cdr_shelf.specs.declared.memory.MemoryShelf.{MemoryShelf}
+use Rattle.file_writer.specs.Writer.{settings_in}
+use Rattle.file_writer.specs.declared.writer.Writer.{Writer}
+use Rattle.gateway_book.specs.Items.{items_of}
+use Rattle.gateway_book.specs.declared.outcome.Setup.{Setup as BookSetup}
+use Rattle.once_core.specs.Addresses.{gateway_address}
+use Rattle.once_core.specs.Beginning.{first_gateway}
+use Rattle.replay_world.specs.Setup.{files_in, rules_in}
+use Rattle.replay_world.specs.Written.{WriterStands, shelf_tells}
+use Rattle.replay_world.proofs.WriterLemmas.{made_stands}
+use Rattle.replay_world.proofs.machine.Machine.new.Goals as goal
+
+pub returns : goal.returns
+returns c = λ setup is rules.
+    let here : BookSetup =
+    record { address = 167772161 + c.from.result; open_time = c.args.settings.now.limits.open_time } in
+    let there : BookSetup =
+    record { address = (gateway_address c.args.place).ip; open_time = setup.limits.open_time } in
+    let named : here ≡ there =
+    λ i. record { address = 167772161 + c.from.ensures i; open_time = (sym is.limits i).open_time } in
+    let set : settings_in c.new-writer.result ≡ files_in setup c.args.place =
+    c.new-writer.ensures.settings ∙ (λ i. record {
+      rules = sym rules i;
+      limits = sym is.limits i;
+      file = record { offset = sym is.offset i; address = 167772161 + c.from.ensures i };
+    }) in
+    let armed : IsArmed Nothing (shelf_tells.plan c.in-Ok.shelf) =
+    subst (λ (q : Schedule). IsArmed Nothing q) (sym c.in-Ok.ensures.plan)
+    (c.arms_nothing.ensures c.calm-plan.result (schedule_of c.calm-plan.result) refl c.calm-plan.ensures.read_fail
+    c.calm-plan.ensures.fail c.calm-plan.ensures.stop) in
+    record {
+      site = c.in_ok-book.ensures setup c.args.place named (sym is.size);
+      waiting = c.new-2.ensures.items;
+      unreached = λ k d h. absurd (omega (arith, h));
+      redirects = refl;
+      named = named;
+      writes = record {
+        writes = subst (λ (w : Writer MemoryShelf shelf_tells). WriterStands shelf_tells (files_in setup c.args.place) 0
+            (items_of (first_gateway (rules_in setup)).book.firm) w) (sym c.new-files.ensures.is)
+            (made_stands (files_in setup c.args.place) c.new-writer.result set
+            (subst (λ (s : MemoryShelf). IsArmed Nothing (shelf_tells.plan s)) (sym c.new-writer.ensures.shelf) armed)
+            (ap (λ (s : MemoryShelf). shelf_tells.files s) c.new-writer.ensures.shelf ∙ c.in-Ok.ensures.files)
+            (items_of (first_gateway (rules_in setup)).book.firm));
+        goes_on = λ n is_some. absurd (cc (sym c.new-files.ensures.begins ∙ is_some));
+      };
+    }

@@ -1,0 +1,34 @@
+use Rattle.std.proofs.Common.{◌∙◌, sym, ap, ◌≤◌, take, append-nil, arith}
+use Rattle.cdr_shelf.specs.Files.{in_stream}
+use Rattle.cdr_shelf.specs.declared.memory.MemoryShelf.{MemoryShelf}
+use Rattle.file_writer.specs.Streams.{stream_division}
+use Rattle.gateway_book.specs.Items.{items_of}
+use Rattle.replay_world.specs.Setup.{files_in}
+use Rattle.replay_world.specs.Written.{shelf_tells}
+use Rattle.replay_world.proofs.FileLemmas.{line_more, lines_all}
+use Rattle.replay_world.proofs.machine.Machine.report_stream.Goals as goal
+
+pub loop-sequence-init : goal.loop-sequence-init
+loop-sequence-init c = λ setup g m small stands. sym (append-nil c.args.out.now)
+
+pub loop-sequence-preserved : goal.loop-sequence-preserved
+loop-sequence-preserved c = λ setup g m small stands.
+    let some : 1 ≤ c.loop-sequence.sequence = omega arith in
+    let settings = files_in setup c.args.place in
+    let closed = (stream_division settings c.args.stream (take m.written (items_of g.book.firm))).closed in
+    line_more settings.file c.args.stream c.args.place closed (shelf_tells.files c.shelf.result.now)
+    (ap (λ (s : MemoryShelf). in_stream c.args.stream (shelf_tells.files s)) c.shelf.ensures
+    ∙ stands.writes.writes.files c.args.stream small)
+    c.loop-sequence.sequence c.in-Some.octets.now c.args.out.now c.loop-sequence.out c.print_file.new.out some
+    c.in-Some.ensures.octets (c.loop-sequence.invariant setup g m small stands) c.in_ok-print_file.ensures
+
+pub returns-in_default : goal.returns-in_default
+returns-in_default c = λ setup g m small stands.
+    let some : 1 ≤ c.loop-sequence.sequence = omega arith in
+    let settings = files_in setup c.args.place in
+    let closed = (stream_division settings c.args.stream (take m.written (items_of g.book.firm))).closed in
+    lines_all settings.file c.args.stream c.args.place closed (shelf_tells.files c.shelf.result.now)
+    (ap (λ (s : MemoryShelf). in_stream c.args.stream (shelf_tells.files s)) c.shelf.ensures
+    ∙ stands.writes.writes.files c.args.stream small)
+    c.loop-sequence.sequence c.args.out.now c.loop-sequence.out some c.in_default.ensures.octets
+    (c.loop-sequence.invariant setup g m small stands)

@@ -1,0 +1,28 @@
+use Rattle.std.proofs.Common.{◌≡◌, refl, subst, ℕ, ◌+◌, length, Some, slice_get, length-set, arith}
+use Rattle.std.proofs.lemmas.Option.{slice_get_read}
+use Rattle.area_disk.specs.Armed.Armed.{Nothing}
+use Rattle.replay_world.specs.Stands.{MachineStands}
+use Rattle.replay_world.specs.Steps.{Arms}
+use Rattle.replay_world.proofs.QuietLemmas.{arms, does_quietly, told_nothing}
+use Rattle.replay_world.proofs.RefusalLemmas.{gateway_at}
+use Rattle.replay_world.proofs.replay.Replay.disarm.Goals as goal
+
+pub returns-clause-count : goal.returns-clause-count
+returns-clause-count c = length-set c.args.self.now.gateways.items c.args.index c.disarm.new.self
+
+pub returns-clause-does : goal.returns-clause-does
+returns-clause-does c = λ v stands.
+    let k : ℕ = c.args.index in
+    let has : slice_get c.args.self.now.gateways.items k ≡ Some c.index_mut.result.now =
+    slice_get_read c.args.self.now.gateways.items (length c.args.self.now.gateways.items) k c.index_mut.result.now refl
+    c.requires c.index_mut.ensures.value in
+    let here = gateway_at v c.args.self.now stands k c.index_mut.result.now has in
+    let same : 0 + k ≡ k = omega arith in
+    let there = subst (λ (p : ℕ). MachineStands v.setup p here.gateway here.machine c.index_mut.result.now) same
+    here.stands in
+    let stood = c.disarm.ensures v.setup k here.gateway here.machine there in
+    let sets = arms v k here.gateway here.machine here.has_gateway here.has_machine Nothing in
+    does_quietly v (Arms k Nothing) k here.gateway (record here.machine { armed = Nothing }) c.disarm.new.self
+    c.args.self.now _ sets
+    (told_nothing v (Arms k Nothing) k here.gateway (record here.machine { armed = Nothing }) sets refl) stands stood refl
+    refl

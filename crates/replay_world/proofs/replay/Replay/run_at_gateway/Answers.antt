@@ -1,0 +1,40 @@
+use Rattle.std.proofs.Common.{◌∙◌, refl, sym}
+use Rattle.once_core.specs.declared.event.Event.TheVariants as event
+use Rattle.replay_world.specs.Does.{is_at_gateway}
+use Rattle.replay_world.specs.Steps.{Plays}
+use Rattle.world_script.specs.declared.line.Line.TheVariants as line
+use Rattle.replay_world.proofs.QuietLemmas.{runs_to_redirect}
+use Rattle.replay_world.proofs.RunLemmas.{gateway_place, line_does, other_placed, such_line}
+use Rattle.replay_world.proofs.replay.Replay.run_at_gateway.Goals as goal
+
+pub returns-in_ok-mark-in-Mark : goal.returns-in_ok-mark-in-Mark
+returns-in_ok-mark-in-Mark c = λ v stands none.
+    let number = c.in-Mark.gateway in
+    such_line v is_at_gateway c.args.line.now (line.Mark number) c.args.out.now c.mark.new.out c.args.self.now
+    c.mark.new.self c.in-Mark.is refl none (λ allowed.
+    let is = gateway_place v c.args.self.now number stands allowed ∙ sym c.place.ensures in
+    line_does v (line.Mark number) (Plays (event.Mark number)) c.args.out.now c.mark.new.out c.mark.new.self allowed refl refl
+    (c.in_ok-mark-in-Mark.ensures v number stands is allowed).does)
+
+pub returns-in_ok-close-in-Close : goal.returns-in_ok-close-in-Close
+returns-in_ok-close-in-Close c = λ v stands none.
+    let number = c.in-Close.gateway in
+    such_line v is_at_gateway c.args.line.now (line.Close number) c.args.out.now c.close.new.out c.args.self.now
+    c.close.new.self c.in-Close.is refl none (λ allowed.
+    let is = gateway_place v c.args.self.now number stands allowed ∙ sym c.place-in-Close.ensures in
+    line_does v (line.Close number) (Plays (event.Close number)) c.args.out.now c.close.new.out c.close.new.self allowed refl refl
+    (c.in_ok-close-in-Close.ensures v number stands is allowed).does)
+
+pub returns-in_ok-redirect-in-Redirect : goal.returns-in_ok-redirect-in-Redirect
+returns-in_ok-redirect-in-Redirect c = λ v stands none.
+    let number = c.in-Redirect.gateway in
+    let cause = c.in-Redirect.cause in
+    let to = c.in-Redirect.to in
+    such_line v is_at_gateway c.args.line.now (line.Redirect number cause to) c.args.out.now c.redirect.new.out
+    c.args.self.now c.redirect.new.self c.in-Redirect.is refl none (λ allowed.
+    let is = gateway_place v c.args.self.now number stands (runs_to_redirect v.world number cause to allowed)
+    ∙ sym c.place-in-Redirect.ensures in
+    line_does v (line.Redirect number cause to) (Plays (event.Redirect number cause to)) c.args.out.now
+    c.redirect.new.out c.redirect.new.self allowed refl refl
+    (c.in_ok-redirect-in-Redirect.ensures v number to stands is
+    (other_placed v c.args.self.now number cause to stands allowed ∙ sym c.other_place.ensures) allowed))

@@ -1,0 +1,9 @@
+use Rattle.std.proofs.Common.{◌∙◌, sym}
+use Rattle.replay_world.proofs.EndLemmas.{not_refused, ran_so}
+use Rattle.replay_world.proofs.replay.Replay.settle.Goals as goal
+
+pub returns-clause-ran : goal.returns-clause-ran
+returns-clause-ran c = λ v stands ran. ran_so c.settle_all.result (sym c.ended.ensures ∙ ran) (c.settle_all.ensures v stands)
+
+pub returns-clause-ends : goal.returns-clause-ends
+returns-clause-ends c = λ kind is. not_refused c.settle_all.result kind (sym c.ended.ensures ∙ is)

@@ -1,0 +1,13 @@
+use Rattle.std.proofs.Common.{◌≡◌, length, take}
+use Rattle.replay_world.specs.Stands.{Stands}
+use Rattle.replay_world.specs.Summary.{gateway_sums}
+use Rattle.replay_world.specs.Value.{ReplayValue}
+use Rattle.replay_world.proofs.replay.Replay.sum_gateways.Given as goal
+
+-- the gateways so far were counted
+abbrev pub invariant-loop-index : goal.invariant-loop-index
+invariant-loop-index l = record {
+  count : length l.self.gateways.items ≡ length l.fn.self.gateways.items;
+  done : (v : ReplayValue) → Stands v l.fn.self →
+      Stands v l.self × (l.sums ≡ gateway_sums (take l.index v.world.gateways));
+}

@@ -1,0 +1,28 @@
+use Rattle.std.proofs.Common.{◌≡◌, refl, sym, subst, ℕ, ◌+◌, length, Option, Some, slice_get, length-set, arith}
+use Rattle.std.proofs.lemmas.Option.{slice_get_read}
+use Rattle.once_core.specs.Gateway.{Gateway}
+use Rattle.replay_world.specs.Stands.{MachineStands}
+use Rattle.replay_world.specs.Summary.{TalliesIf}
+use Rattle.replay_world.proofs.AllLemmas.{stands_same}
+use Rattle.replay_world.proofs.GoesLemmas.{if_ok}
+use Rattle.replay_world.proofs.RefusalLemmas.{gateway_at}
+use Rattle.replay_world.proofs.replay.Replay.tally_gateway.Goals as goal
+
+pub returns-clause-count : goal.returns-clause-count
+returns-clause-count c = length-set c.args.self.now.gateways.items c.args.index c.tally.new.self
+
+pub returns-clause-tallies : goal.returns-clause-tallies
+returns-clause-tallies c = λ v stands.
+    let k : ℕ = c.args.index in
+    let has : slice_get c.args.self.now.gateways.items k ≡ Some c.index_mut.result.now =
+    slice_get_read c.args.self.now.gateways.items (length c.args.self.now.gateways.items) k c.index_mut.result.now refl
+    c.requires c.index_mut.ensures.value in
+    let here = gateway_at v c.args.self.now stands k c.index_mut.result.now has in
+    let same : 0 + k ≡ k = omega arith in
+    let there = subst (λ (p : ℕ). MachineStands v.setup p here.gateway here.machine c.index_mut.result.now) same
+    here.stands in
+    if_ok c.tally.result (λ tally done. (
+      stands_same v k here.gateway here.machine c.args.self.now _ c.tally.new.self stands done.1 here.has_gateway
+          here.has_machine refl refl,
+      subst (λ (o : Option Gateway). TalliesIf o tally) (sym here.has_gateway) done.0,
+    )) (c.tally.ensures v.setup k here.gateway here.machine there)

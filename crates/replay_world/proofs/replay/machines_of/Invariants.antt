@@ -1,0 +1,12 @@
+use Rattle.once_core.specs.Beginning.{first_gateway, times_of}
+use Rattle.replay_world.specs.Settings.{AreSet}
+use Rattle.replay_world.specs.Setup.{rules_in, setup_of}
+use Rattle.replay_world.specs.Stands.{EachStands}
+use Rattle.replay_world.specs.Value.{first_machine}
+use Rattle.replay_world.proofs.replay.machines_of.Given as goal
+
+-- the gateways so far were opened
+abbrev pub invariant-loop-place : goal.invariant-loop-place
+invariant-loop-place l = AreSet (setup_of l.script.lines) l.settings →
+    EachStands (setup_of l.script.lines) 0 (times_of l.place (first_gateway (rules_in (setup_of l.script.lines))))
+    (times_of l.place first_machine) l.gateways.items

@@ -1,0 +1,55 @@
+-- What a replay hands out: the areas, the shelves and the nodes that it ran.
+use Rattle.std.specs.Prelude.{◌≡◌, ◌⊎◌, ℕ, suc, ◌<◌, Bool, true, false, List, [], ◌∷◌, ◌++◌, ◌≤◌, length, take}
+use Rattle.area_disk.specs.declared.memory.MemoryArea.{MemoryArea}
+use Rattle.cdr_shelf.specs.Files.{in_stream}
+use Rattle.cdr_shelf.specs.declared.memory.MemoryShelf.{MemoryShelf}
+use Rattle.file_writer.specs.Files.{stream_files}
+use Rattle.file_writer.specs.Streams.{stream_count}
+use Rattle.gateway_book.specs.Items.{items_of}
+use Rattle.gateway_book.specs.Up.{IsDown}
+use Rattle.gateway_book.specs.Value.{history_of}
+use Rattle.gw_base.specs.declared.history.HistoryEntry.{HistoryEntry}
+use Rattle.once_core.specs.Gateway.{Gateway}
+use Rattle.replay_world.specs.Setup.{Setup, files_in}
+use Rattle.replay_world.specs.Stands.{area_tells, header_at, nodes_from}
+use Rattle.replay_world.specs.Written.{shelf_tells}
+use Rattle.replay_world.specs.Value.{Machine, ReplayValue}
+use Rattle.replay_world.specs.declared.replay.Played.{Played}
+
+-- the history that the area of a gateway keeps that is down, or isn't
+abbrev pub IsKept : Bool → Gateway → List HistoryEntry → Type 0
+IsKept true g h = h ≡ history_of g.book
+IsKept false g h = (h ≡ g.book.firm) ⊎ (h ≡ g.book.firm ++ g.book.rest)
+
+-- The area of a gateway stands for its history, or, of one that isn't down, for the firm entries and maybe those behind
+-- them.
+pub record IsAreaOf (setup : Setup) (place : ℕ) (g : Gateway) (a : MemoryArea) : Type 0 where
+  pub history : List HistoryEntry
+  pub down : IsDown area_tells (header_at setup place) history a
+  pub kept : IsKept g.is_down g history
+
+-- So does the area that is handed out, and the shelf has the files that were written.
+pub record IsHandedOut (setup : Setup) (place : ℕ) (g : Gateway) (m : Machine) (a : MemoryArea) (s : MemoryShelf)
+    : Type 0 where
+  pub area : IsAreaOf setup place g a
+  pub files : (stream : ℕ) → stream < stream_count → in_stream stream (shelf_tells.files s)
+      ≡ stream_files (files_in setup place) stream (take m.written (items_of g.book.firm))
+
+abbrev pub EachHandedOut : Setup → ℕ → List Gateway → List Machine → List MemoryArea → List MemoryShelf → Type 0
+EachHandedOut setup place [] [] [] [] = Unit {0}
+EachHandedOut setup place (g ∷ gs) (m ∷ ms) (a ∷ later) (s ∷ ss) =
+    IsHandedOut setup place g m a s × EachHandedOut setup (suc place) gs ms later ss
+EachHandedOut setup place _ _ _ _ = ⊥
+
+-- There is room for so many areas and shelves, and none is there yet.
+pub record HaveRoom (count : ℕ) (areas : List MemoryArea) (most_areas : ℕ) (shelves : List MemoryShelf)
+    (most_shelves : ℕ) : Type 0 where
+  pub no_areas : areas ≡ []
+  pub no_shelves : shelves ≡ []
+  pub many_areas : count ≤ most_areas
+  pub many_shelves : count ≤ most_shelves
+
+-- All gateways' areas and shelves, and all nodes, in order.
+pub record HasPlayed (v : ReplayValue) (played : Played) : Type 0 where
+  pub gateways : EachHandedOut v.setup 0 v.world.gateways v.machines played.areas.items played.shelves.items
+  pub nodes : played.nodes.items ≡ nodes_from (length v.world.gateways) 0 v.world.nodes

@@ -1,0 +1,29 @@
+-- What a gateway asks nodes to do that it has a path to.
+use Rattle.std.specs.Prelude.{ℕ, false, Option, None, option_map, slice_get}
+use Rattle.byteorder.specs.Endian.{big_bytes}
+use Rattle.gateway_book.specs.Told.{paths_of}
+use Rattle.gateway_book.specs.Value.{BookValue, history_of}
+use Rattle.gtpp_message.specs.Message.{RedirectionRequest}
+use Rattle.gtpp_message.specs.Writing.{written}
+use Rattle.gw_base.specs.Starts.{start_of}
+use Rattle.gw_base.specs.declared.address.Addr.{Addr}
+use Rattle.once_core.specs.Addresses.{gateway_address, node_at, port_at}
+use Rattle.once_core.specs.declared.message.Message.{Message}
+
+-- the k-th path that it knows, with the start of its node
+abbrev pub path_in : BookValue → ℕ → Option (Addr × ℕ)
+path_in v k =
+    option_map (λ (path : Addr). (path, start_of path.ip (history_of v))) (slice_get (paths_of (history_of v)) k)
+
+-- the request to send elsewhere that goes to a node with this path and this start
+abbrev pub asking : ℕ → ℕ → ℕ → Option ℕ → Addr × ℕ → Message
+asking place cause number to path = record {
+  to_gateway = false;
+  gateway = place;
+  node = node_at path.0;
+  port = port_at path.0;
+  start = path.1;
+  number = number;
+  named = None;
+  octets = written number (RedirectionRequest cause (option_map (λ other. big_bytes 4 (gateway_address other).ip) to));
+}

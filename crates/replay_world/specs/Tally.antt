@@ -1,0 +1,25 @@
+-- What a report counts of a gateway.
+use Rattle.std.specs.Prelude.{◌≡◌, ℕ, length}
+use Rattle.gateway_book.specs.Calls.{counts_of}
+use Rattle.gateway_book.specs.Value.{BookValue, history_of}
+use Rattle.gw_base.specs.History.{copies_of}
+use Rattle.once_core.specs.Gateway.{Gateway}
+use Rattle.replay_world.specs.Report.{book_of, records_in}
+use Rattle.replay_world.specs.declared.report.Tally.{Tally}
+
+-- so many entries and records a book has, and so many copies are held and stranded
+pub record Counts (book : BookValue) (tally : Tally) : Type 0 where
+  pub entries : tally.entries ≡ length (history_of book)
+  pub records : tally.records ≡ records_in book.firm
+  pub held : tally.counts.held ≡ (copies_of (history_of book)).held
+  pub stranded : tally.counts.stranded ≡ (copies_of (history_of book)).stranded
+
+-- a book on so many octets tells this
+pub record Tells (book : BookValue) (size : ℕ) (tally : Tally) : Type 0 where
+  pub entries : tally.entries ≡ length (history_of book)
+  pub records : tally.records ≡ records_in book.firm
+  pub counts : tally.counts ≡ counts_of book size
+
+-- of a gateway that is down its book is meant as it would be opened, but for its Start
+abbrev pub IsTallied : Gateway → Tally → Type 0
+IsTallied g tally = Counts (book_of g) tally

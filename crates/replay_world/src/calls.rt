@@ -1,0 +1,317 @@
+// What a gateway does: it commits, makes marks and redirects, and sends the answers that waited.
+ghost use Rattle.std.specs.Prelude.{◌≡◌, ℕ, IfOk, List, OnOk, [], ◌∷◌, ◌++◌, false, filter, if◌then◌else◌, map, nat_le, not};
+ghost use Rattle.gateway_book.specs.Answered.{no_caller};
+ghost use Rattle.gateway_book.specs.Calls.{closed};
+ghost use Rattle.gateway_book.specs.Comes.{asked_to_commit, asked_to_ready};
+ghost use Rattle.gateway_book.specs.Up as up;
+ghost use Rattle.gateway_book.specs.Up.{Sequel, fortune_by};
+ghost use Rattle.gateway_book.specs.Value.{BookValue, after_commit};
+ghost use Rattle.gw_base.specs.declared.history.HistoryEntry.{HistoryEntry};
+ghost use Rattle.once_core.specs.Answers.{making_close, making_tick, marked};
+ghost use Rattle.once_core.specs.Gateway.{Gateway, committing};
+ghost use Rattle.once_core.specs.Messages.{failing, is_response};
+ghost use Rattle.replay_world.specs.Called.{AfterCall, BookStands, IsCalled, SiteIsCalled, SiteIsCut, SiteIsDown, firm_in, tick_left};
+ghost use Rattle.replay_world.specs.Device.{sequel_on};
+ghost use Rattle.replay_world.specs.Moves.{GoesAsArmed, came_of};
+ghost use Rattle.replay_world.specs.Setup.{Setup, rules_in};
+ghost use Rattle.replay_world.specs.Stands.{MachineStands, StandsUp};
+ghost use Rattle.replay_world.specs.Value.{Machine as MachineValue};
+
+use crate::machine::{Came, Machine, Sent, Site};
+use crate::messages::{failure, is_response, kept};
+use area_disk::MemoryArea;
+use gateway_book::laws::{a_gateway_goes_as_armed, filed_records_stay, what_a_gateway_leaves};
+use gateway_book::{Book, Marked};
+use gw_base::{Caller, Moment, NoMemory};
+use once_core::{Message, Waiting};
+use std::alloc::Global;
+use std::mem;
+
+impl Machine {
+    /// Makes the history firm, or opens the journal of a broken gateway again.
+    pub fn commit(&mut self, alloc: Global) -> Result<Sent, NoMemory>
+        ensures { (setup : Setup) (place : ℕ) (g : Gateway) (m : MachineValue) →
+            MachineStands setup place g m self.old → g.is_down ≡ false →
+            IfOk result (λ sent. GoesAsArmed setup place
+            (asked_to_commit g.book) committing g m sent self.new) }
+    {
+        self.committed();
+        self.after_call(alloc)
+    }
+
+    // The book is asked to commit.
+    fn committed(&mut self)
+        ensures { (setup : Setup) (place : ℕ) (g : Gateway) (m : MachineValue) →
+            MachineStands setup place g m self.old →
+            g.is_down ≡ false → let sequel = sequel_on m (asked_to_commit g.book) in
+            IsCalled setup place g m (after_commit (fortune_by m.at_last sequel) g.book) sequel self.new }
+    {
+        filed_records_stay();
+        let Some(Site::Up(book)) = self.site.take() else {
+            return;
+        };
+        let mut book = book;
+        commit(&mut book);
+        self.site = Some(Site::Up(book));
+    }
+
+    /// Makes a Tick where one is due.
+    pub fn tick(&mut self, alloc: Global, now: Moment) -> Result<Sent, NoMemory>
+        ensures { (setup : Setup) (place : ℕ) (g : Gateway) (m : MachineValue) →
+            MachineStands setup place g m self.old → g.is_down ≡ false →
+            IfOk result (λ sent. GoesAsArmed setup place
+            (asked_to_ready g.book) (λ f. marked (rules_in setup) f (making_tick (rules_in setup) now)) g m sent
+            self.new) }
+    {
+        self.ticked(now)?;
+        self.after_call(alloc)
+    }
+
+    // The book is asked for a Tick.
+    fn ticked(&mut self, now: Moment) -> Result<(), NoMemory>
+        ensures { (setup : Setup) (place : ℕ) (g : Gateway) (m : MachineValue) →
+            MachineStands setup place g m self.old →
+            g.is_down ≡ false → let sequel = sequel_on m (asked_to_ready g.book) in
+            let left = tick_left setup now (fortune_by m.at_last sequel) g.book in
+            OnOk result (IsCalled setup place g m left.value sequel self.new) }
+    {
+        filed_records_stay();
+        let Some(Site::Up(book)) = self.site.take() else {
+            return Ok(());
+        };
+        let mut book = book;
+        let ticked = tick(&mut book, now);
+        self.site = Some(Site::Up(book));
+        ticked
+    }
+
+    /// Makes a Close where one is due.
+    pub fn close(&mut self, alloc: Global, now: Moment) -> Result<Sent, NoMemory>
+        ensures { (setup : Setup) (place : ℕ) (g : Gateway) (m : MachineValue) →
+            MachineStands setup place g m self.old → g.is_down ≡ false →
+            IfOk result (λ sent. GoesAsArmed setup place
+            (asked_to_ready g.book) (λ f. marked (rules_in setup) f (making_close now)) g m sent self.new) }
+    {
+        self.closed(now)?;
+        self.after_call(alloc)
+    }
+
+    // The book is asked for a Close.
+    fn closed(&mut self, now: Moment) -> Result<(), NoMemory>
+        ensures { (setup : Setup) (place : ℕ) (g : Gateway) (m : MachineValue) →
+            MachineStands setup place g m self.old →
+            g.is_down ≡ false → let sequel = sequel_on m (asked_to_ready g.book) in
+            let left = closed (fortune_by m.at_last sequel) now no_caller g.book in
+            OnOk result (IsCalled setup place g m left.value sequel self.new) }
+    {
+        filed_records_stay();
+        let Some(Site::Up(book)) = self.site.take() else {
+            return Ok(());
+        };
+        let mut book = book;
+        let closed = close(&mut book, now);
+        self.site = Some(Site::Up(book));
+        closed
+    }
+
+    /// What a call of the area leads to: answers that are firm now are sent; those of a gateway that broke are failures
+    /// or given up; and one that was stopped is down.
+    pub(crate) fn after_call(&mut self, alloc: Global) -> Result<Sent, NoMemory>
+        ensures { (setup : Setup) (place : ℕ) (g : Gateway) (m : MachineValue) (book : BookValue) (sequel : Sequel) →
+            IsCalled setup place g m book sequel self.old →
+            IfOk result (λ sent. AfterCall setup place g m book sequel
+            sent self.new) }
+    {
+        match self.came() {
+            Came::Went => {
+                let messages = self.release(alloc)?;
+                Ok(Sent {
+                    came: Came::Went,
+                    messages,
+                })
+            }
+            Came::Failed => {
+                let waiting = mem::replace(&mut self.waiting, Vec::new(alloc));
+                let messages = failures(alloc, waiting)?;
+                Ok(Sent {
+                    came: Came::Failed,
+                    messages,
+                })
+            }
+            Came::Halted => {
+                self.cut(alloc);
+                Ok(Sent {
+                    came: Came::Halted,
+                    messages: Vec::new(alloc),
+                })
+            }
+        }
+    }
+
+    // What the area made of the last call.
+    fn came(&self) -> Came
+        ensures { (setup : Setup) (place : ℕ) (value : BookValue) (sequel : Sequel) →
+            SiteIsCalled setup place value sequel self.now.site → result ≡ came_of sequel }
+    {
+        let Some(Site::Up(book)) = &self.site else {
+            return Came::Went;
+        };
+        came_of(book)
+    }
+
+    // The area has stopped it.
+    fn cut(&mut self, alloc: Global)
+        ensures down { (setup : Setup) (place : ℕ) (h : List HistoryEntry) → SiteIsCut setup place h self.old.site →
+            SiteIsDown setup place h self.new.site × (self.new.waiting.items ≡ []) }
+        ensures rest { self.new ≡ record self.old { site = self.new.site; waiting = self.new.waiting } }
+    {
+        what_a_gateway_leaves::<MemoryArea>();
+        let Some(Site::Up(book)) = self.site.take() else {
+            return;
+        };
+        self.leave(alloc, book.into_area());
+    }
+
+    // The waiting answers whose entries are firm, which wait no more.
+    pub(crate) fn release(&mut self, alloc: Global) -> Result<Vec<Message>, NoMemory>
+        ensures due { IfOk result (λ due. due.items ≡
+            map (λ w. w.message) (filter (λ w. nat_le w.front (firm_in self.old.site)) self.old.waiting.items)) }
+        ensures later { OnOk result (self.new.waiting.items ≡
+            filter (λ w. not (nat_le w.front (firm_in self.old.site))) self.old.waiting.items) }
+        ensures rest { self.new ≡ record self.old { waiting = self.new.waiting } }
+    {
+        let firm = self.firm_count();
+        let waiting = mem::replace(&mut self.waiting, Vec::new(alloc));
+        let parts = parted(alloc, firm, waiting)?;
+        let (due, later) = parts;
+        self.waiting = later;
+        Ok(due)
+    }
+
+    // How many entries are firm, of one that is up.
+    fn firm_count(&self) -> u64
+        ensures { result ≡ firm_in self.now.site }
+    {
+        let Some(Site::Up(book)) = &self.site else {
+            return 0;
+        };
+        book.counts().firm
+    }
+}
+
+/// A book is asked to commit.
+pub(crate) fn commit(book: &mut Book<MemoryArea>)
+    ensures { (setup : Setup) (place : ℕ) (g : Gateway) (m : MachineValue) → StandsUp setup place g m book.old →
+        let sequel = sequel_on m (asked_to_commit g.book) in
+        BookStands setup place (after_commit (fortune_by m.at_last sequel) g.book) sequel book.new }
+{
+    a_gateway_goes_as_armed::<MemoryArea>();
+    let _answer = book.commit();
+}
+
+// A book is asked for a Tick.
+fn tick(book: &mut Book<MemoryArea>, now: Moment) -> Result<(), NoMemory>
+    ensures { (setup : Setup) (place : ℕ) (g : Gateway) (m : MachineValue) → StandsUp setup place g m book.old →
+        let sequel = sequel_on m (asked_to_ready g.book) in
+        OnOk result (BookStands setup place (tick_left setup now (fortune_by m.at_last sequel) g.book).value sequel
+        book.new) }
+{
+    a_gateway_goes_as_armed::<MemoryArea>();
+    match book.tick(now, Caller::NONE) {
+        Marked::NoMemory => Err(NoMemory),
+        _ => Ok(()),
+    }
+}
+
+// A book is asked for a Close.
+fn close(book: &mut Book<MemoryArea>, now: Moment) -> Result<(), NoMemory>
+    ensures { (setup : Setup) (place : ℕ) (g : Gateway) (m : MachineValue) → StandsUp setup place g m book.old →
+        let sequel = sequel_on m (asked_to_ready g.book) in
+        OnOk result (BookStands setup place (closed (fortune_by m.at_last sequel) now no_caller g.book).value sequel
+        book.new) }
+{
+    a_gateway_goes_as_armed::<MemoryArea>();
+    match book.close(now, Caller::NONE) {
+        Marked::NoMemory => Err(NoMemory),
+        _ => Ok(()),
+    }
+}
+
+/// What the area of a book made of the last call.
+fn came_of(book: &Book<MemoryArea>) -> Came
+    ensures { (header : List ℕ) (value : BookValue) (sequel : Sequel) → up.Stands header sequel value book.now →
+        result ≡ came_of sequel }
+{
+    if book.stopped() {
+        return Came::Halted;
+    }
+    if book.is_broken() {
+        Came::Failed
+    } else {
+        Came::Went
+    }
+}
+
+/// The messages of these answers whose front is firm, and the other answers.
+fn parted(
+    alloc: Global,
+    firm: u64,
+    waiting: Vec<Waiting>,
+) -> Result<(Vec<Message>, Vec<Waiting>), NoMemory>
+    ensures due { IfOk result (λ parts. parts.0.items ≡
+        map (λ w. w.message) (filter (λ w. nat_le w.front firm) waiting.items)) }
+    ensures later { IfOk result (λ parts. parts.1.items ≡ filter (λ w. not (nat_le w.front firm)) waiting.items) }
+{
+    let mut due = Vec::new(alloc);
+    let mut later = Vec::new(alloc);
+    for w in waiting {
+        part(firm, w, &mut due, &mut later)?;
+    }
+    Ok((due, later))
+}
+
+/// An answer is due, or waits on.
+fn part(
+    firm: u64,
+    w: Waiting,
+    due: &mut Vec<Message>,
+    later: &mut Vec<Waiting>,
+) -> Result<(), NoMemory>
+    ensures due { OnOk result (due.new.items ≡
+        due.old.items ++ (if nat_le w.front firm then w.message ∷ [] else [])) }
+    ensures later { OnOk result (later.new.items ≡
+        later.old.items ++ (if not (nat_le w.front firm) then w ∷ [] else [])) }
+{
+    if w.front <= firm {
+        due.push(w.message)?;
+        return Ok(());
+    }
+    later.push(w)?;
+    Ok(())
+}
+
+/// The messages by which a gateway that broke tells of the failure to those whose requests wait for these answers.
+fn failures(alloc: Global, waiting: Vec<Waiting>) -> Result<Vec<Message>, NoMemory>
+    ensures { IfOk result (λ messages. messages.items ≡
+        map (λ w. failing w.message) (filter (λ w. is_response w.message) waiting.items)) }
+{
+    let mut messages = Vec::new(alloc);
+    for w in waiting {
+        fail(alloc, w, &mut messages)?;
+    }
+    Ok(messages)
+}
+
+/// The request that waits for an answer is told of the failure.
+fn fail(alloc: Global, w: Waiting, messages: &mut Vec<Message>) -> Result<(), NoMemory>
+    ensures { OnOk result (messages.new.items ≡
+        messages.old.items ++ (if is_response w.message then failing w.message ∷ [] else [])) }
+{
+    let mut message = w.message;
+    if !is_response(&message) {
+        return Ok(());
+    }
+    message.octets = kept(alloc, &failure(message.number))?;
+    messages.push(message)?;
+    Ok(())
+}

@@ -1,0 +1,336 @@
+// A gateway as it runs: its book on an area, the writer of its files on a shelf, and the answers that wait.
+ghost use Rattle.std.specs.Prelude.{◌≡◌, ◌≤◌, ℕ, [], ◌∷◌, IfOk, List, MatchOption, None, OnOk, Some, false, true};
+ghost use Rattle.area_disk.specs.Armed.{Armed};
+ghost use Rattle.area_disk.specs.Armed.Armed.{Nothing};
+ghost use Rattle.gateway_book.specs.Up.{IsDown};
+ghost use Rattle.gw_base.specs.declared.history.HistoryEntry.{HistoryEntry};
+ghost use Rattle.once_core.specs.Addresses.{gateway_address};
+ghost use Rattle.once_core.specs.Beginning.{first_gateway};
+ghost use Rattle.once_core.specs.Gateway.{Gateway, cut, opened};
+ghost use Rattle.replay_world.specs.Called.{SiteIsDown};
+ghost use Rattle.replay_world.specs.Device.{disarmed};
+ghost use Rattle.replay_world.specs.Opening.{ArmsAs, IsOpenedForCounts, begun_gateway};
+ghost use Rattle.replay_world.specs.Played.{IsAreaOf, IsHandedOut};
+ghost use Rattle.replay_world.specs.Settings.{AreSet, AreSound};
+ghost use Rattle.replay_world.specs.Setup.{Setup as SetupValue, rules_in};
+ghost use Rattle.replay_world.specs.Stands.{MachineStands, SiteStands, StandsUp, area_tells, header_at};
+ghost use Rattle.replay_world.specs.Value.{Machine as MachineValue, first_machine};
+
+use crate::calls::commit;
+use crate::fallen::Fallen;
+use crate::files::Files;
+use crate::settings::Settings;
+use area_disk::laws::{arms_fail, arms_nothing, arms_stop};
+use area_disk::{Drill, MemoryArea, Outcome3, Plan, Stop};
+use cdr_shelf::MemoryShelf;
+use file_writer::Writer;
+use gateway_book::laws::{filed_records_stay, what_a_gateway_leaves, what_stands_is_ours};
+use gateway_book::{Book, Setup};
+use gw_base::NoMemory;
+use once_core::{Message, Waiting};
+use route_filter::Rules;
+use std::alloc::Global;
+
+/// The IPv4 address of the first gateway, 10.0.0.1.
+pub(crate) const FIRST_GATEWAY: u32 = 0x0A00_0001;
+
+/// A gateway that is up has its book open; one that is down has an area alone.
+#[derive(Drop)]
+pub(crate) enum Site {
+    Up(Book<MemoryArea>),
+    Down(Fallen),
+}
+
+/// What the area made of a call.
+#[derive(Clone, Copy, PartialEq, Eq)]
+pub(crate) enum Came {
+    /// It went on.
+    Went,
+    /// The area failed, and the book is broken.
+    Failed,
+    /// The area stopped, and the gateway is down.
+    Halted,
+}
+
+/// What a call made of a gateway: what the area made of it, and the messages that it sent.
+#[derive(Drop)]
+pub(crate) struct Sent {
+    pub came: Came,
+    pub messages: Vec<Message>,
+}
+
+/// A gateway.
+#[derive(Drop)]
+pub(crate) struct Machine {
+    pub setup: Setup,
+    /// Where it is; it is always somewhere.
+    pub site: Option<Site>,
+    pub files: Files,
+    /// The answers that wait for entries to be firm.
+    pub waiting: Vec<Waiting>,
+    /// How often it has redirected since it was opened, modulo 65,536.
+    pub redirects: u16,
+}
+
+/// A plan by which nothing fails.
+pub(crate) fn calm(alloc: Global) -> Plan
+    ensures fail { result.fail.items ≡ [] }
+    ensures read_fail { result.read_fail.items ≡ [] }
+    ensures stop { result.stop ≡ None }
+{
+    Plan {
+        fail: Vec::new(alloc),
+        read_fail: Vec::new(alloc),
+        stop: None,
+    }
+}
+
+/// A plan by which the call with this number fails.
+pub(crate) fn failing(alloc: Global, call: u64) -> Result<Plan, NoMemory>
+    ensures fail { IfOk result (λ plan. plan.fail.items ≡ call ∷ []) }
+    ensures read_fail { IfOk result (λ plan. plan.read_fail.items ≡ []) }
+    ensures stop { IfOk result (λ plan. plan.stop ≡ None) }
+{
+    let mut plan = calm(alloc);
+    plan.fail.push(call)?;
+    Ok(plan)
+}
+
+/// A plan by which the call with this number stops the area.
+pub(crate) fn stopping(alloc: Global, call: u64, outcome: Outcome3) -> Plan
+    ensures fail { result.fail.items ≡ [] }
+    ensures read_fail { result.read_fail.items ≡ [] }
+    ensures stop { result.stop ≡ Some (record { call = call; outcome = outcome }) }
+{
+    let mut plan = calm(alloc);
+    plan.stop = Some(Stop { call, outcome });
+    plan
+}
+
+impl Machine {
+    /// A gateway that is opened on an empty area, whose Start is firm.
+    pub fn new(
+        alloc: Global,
+        place: u8,
+        settings: &Settings,
+        rules: Rules,
+    ) -> Result<Machine, NoMemory>
+        requires { AreSound settings.now }
+        ensures { (setup : SetupValue) → AreSet setup settings.now → setup.rules ≡ rules →
+            IfOk result (MachineStands setup place
+            (first_gateway (rules_in setup)) first_machine) }
+    {
+        let setup = Setup {
+            address: FIRST_GATEWAY + u32::from(place),
+            open_time: settings.limits.open_time,
+        };
+        let address = setup.address;
+        let book = opened(alloc, setup, settings.size)?;
+        arms_nothing();
+        let plan = calm(alloc);
+        let Ok(shelf) = MemoryShelf::new(alloc, plan) else {
+            return Err(NoMemory);
+        };
+        let writer = Writer::new(shelf, rules, settings.limits, settings.offset, address);
+        let files = Files::new(writer);
+        Ok(Machine {
+            setup,
+            site: Some(Site::Up(book)),
+            files,
+            waiting: Vec::new(alloc),
+            redirects: 0,
+        })
+    }
+
+    /// Whether it is down.
+    pub fn is_down(&self) -> bool
+        ensures { (setup : SetupValue) (place : ℕ) (g : Gateway) (m : MachineValue) →
+            MachineStands setup place g m self.now → result ≡ g.is_down }
+    {
+        match &self.site {
+            Some(Site::Up(_)) => false,
+            _ => true,
+        }
+    }
+
+    /// Arms this for the calls of its area, where it is up.
+    pub fn arm(&mut self, plan: Plan)
+        ensures { (setup : SetupValue) (place : ℕ) (g : Gateway) (m : MachineValue) (armed : Armed) →
+            ArmsAs armed plan →
+            g.is_down ≡ false →
+            MachineStands setup place g m self.old →
+            MachineStands setup place g (record m { armed = armed })
+            self.new }
+    {
+        arms_nothing();
+        arms_fail();
+        arms_stop();
+        let Some(Site::Up(book)) = self.site.take() else {
+            return;
+        };
+        let mut book = book;
+        book.arm(plan);
+        self.site = Some(Site::Up(book));
+    }
+
+    /// Nothing is armed for the calls of its area any more; of one that is down nothing is.
+    pub fn disarm(&mut self, alloc: Global)
+        ensures { (setup : SetupValue) (place : ℕ) (g : Gateway) (m : MachineValue) →
+            MachineStands setup place g m self.old →
+            MachineStands setup place g (record m { armed = Nothing }) self.new }
+    {
+        if self.is_down() {
+            return;
+        }
+        self.arm(calm(alloc));
+    }
+
+    /// Stops it between two calls.
+    pub fn stop(&mut self, alloc: Global)
+        ensures { (setup : SetupValue) (place : ℕ) (g : Gateway) (m : MachineValue) →
+            MachineStands setup place g m self.old →
+            g.is_down ≡ false → MachineStands setup place
+            (cut 0 false g) (disarmed m) self.new }
+    {
+        what_a_gateway_leaves::<MemoryArea>();
+        let Some(Site::Up(book)) = self.site.take() else {
+            return;
+        };
+        let mut area = book.into_area();
+        area.stop(Outcome3::Old);
+        self.leave(alloc, area);
+    }
+
+    // It is down, with this area; nothing is armed, and no answer waits.
+    pub(crate) fn leave(&mut self, alloc: Global, area: MemoryArea)
+        requires long { 100 ≤ area_tells.size area }
+        requires short { area_tells.size area ≤ 268435456 }
+        ensures down { (setup : SetupValue) (place : ℕ) (h : List HistoryEntry) →
+            IsDown area_tells (header_at setup place) h area → area_tells.size area ≡ setup.size →
+            SiteIsDown setup place h self.new.site }
+        ensures none { self.new.waiting.items ≡ [] }
+        ensures rest { self.new ≡ record self.old { site = self.new.site; waiting = self.new.waiting } }
+    {
+        arms_nothing();
+        let mut area = area;
+        area.revive();
+        area.arm(calm(alloc));
+        self.site = Some(Site::Down(Fallen { area }));
+        self.waiting.clear();
+    }
+
+    /// Opens it again.
+    pub fn open(&mut self, alloc: Global) -> Result<(), NoMemory>
+        ensures { (setup : SetupValue) (place : ℕ) (g : Gateway) (m : MachineValue) →
+            MachineStands setup place g m self.old →
+            g.is_down ≡ true → OnOk result (MachineStands setup place
+            (opened (rules_in setup) g) m self.new) }
+    {
+        filed_records_stay();
+        self.open_book(alloc)?;
+        self.redirects = 0;
+        Ok(())
+    }
+
+    /// Opens the book of one that is down.
+    pub fn open_book(&mut self, alloc: Global) -> Result<(), NoMemory>
+        ensures { (setup : SetupValue) (place : ℕ) (g : Gateway) (m : MachineValue) →
+            MachineStands setup place g m self.old →
+            g.is_down ≡ true → OnOk result (IsOpenedForCounts setup place g self.old self.new) }
+    {
+        what_stands_is_ours();
+        what_a_gateway_leaves::<MemoryArea>();
+        let Some(Site::Down(fallen)) = self.site.take() else {
+            return Ok(());
+        };
+        match Book::open(alloc, fallen.area, self.setup) {
+            Ok(book) => {
+                self.site = Some(Site::Up(book));
+                Ok(())
+            }
+            Err((_, area)) => {
+                self.site = Some(Site::Down(Fallen { area }));
+                Err(NoMemory)
+            }
+        }
+    }
+
+    /// Closes the book again, with nothing but what is firm.
+    pub fn close_book(&mut self)
+        ensures { (setup : SetupValue) (place : ℕ) (g : Gateway) (m : MachineValue) (before : Machine) →
+            MachineStands setup place g m before → g.is_down ≡ true →
+            IsOpenedForCounts setup place g before self.old →
+            MachineStands setup place g m self.new }
+    {
+        let Some(Site::Up(book)) = self.site.take() else {
+            return;
+        };
+        let area = book.into_area();
+        self.site = Some(Site::Down(Fallen { area }));
+    }
+
+    /// Its area and its shelf, as they are.
+    pub fn into_parts(self) -> (Option<MemoryArea>, MemoryShelf)
+        ensures { (setup : SetupValue) (place : ℕ) (g : Gateway) (m : MachineValue) →
+            MachineStands setup place g m self →
+            MatchOption result.0 ⊥ (λ area. IsHandedOut setup place g m area result.1) }
+    {
+        let Machine {
+            setup: _,
+            site,
+            files,
+            waiting: _,
+            redirects: _,
+        } = self;
+        (area_of(site), files.writer.into_shelf())
+    }
+}
+
+/// A book that is opened on an empty area of so many octets, from 100 to 268,435,456, whose Start is firm.
+fn opened(alloc: Global, setup: Setup, size: u64) -> Result<Book<MemoryArea>, NoMemory>
+    requires long { 100 ≤ size }
+    requires short { size ≤ 268435456 }
+    ensures { (s : SetupValue) (place : ℕ) → setup ≡ record {
+      address = (gateway_address place).ip;
+      open_time = s.limits.open_time;
+    } → size ≡ s.size → IfOk result
+        (StandsUp s place (first_gateway (rules_in s)) first_machine) }
+{
+    let mut book = begun(alloc, setup, size)?;
+    commit(&mut book);
+    Ok(book)
+}
+
+/// The same, whose Start isn't firm yet.
+fn begun(alloc: Global, setup: Setup, size: u64) -> Result<Book<MemoryArea>, NoMemory>
+    requires long { 100 ≤ size }
+    requires short { size ≤ 268435456 }
+    ensures { (s : SetupValue) (place : ℕ) → setup ≡ record {
+      address = (gateway_address place).ip;
+      open_time = s.limits.open_time;
+    } → size ≡ s.size → IfOk result
+        (StandsUp s place (begun_gateway s) first_machine) }
+{
+    arms_nothing();
+    what_a_gateway_leaves::<MemoryArea>();
+    let plan = calm(alloc);
+    let Ok(area) = MemoryArea::new(alloc, size, plan) else {
+        return Err(NoMemory);
+    };
+    let Ok(book) = Book::open(alloc, area, setup) else {
+        return Err(NoMemory);
+    };
+    Ok(book)
+}
+
+/// The area of a gateway that is somewhere.
+fn area_of(site: Option<Site>) -> Option<MemoryArea>
+    ensures { (setup : SetupValue) (place : ℕ) (g : Gateway) (m : MachineValue) → SiteStands setup place g m site →
+        MatchOption result ⊥ (IsAreaOf setup place g) }
+{
+    match site {
+        Some(Site::Up(book)) => Some(book.into_area()),
+        Some(Site::Down(fallen)) => Some(fallen.area),
+        None => None,
+    }
+}

@@ -1,0 +1,129 @@
+// A gateway asks nodes to send elsewhere.
+ghost use Rattle.std.specs.Prelude.{◌≡◌, IfOk, false, option_and_then, option_map};
+ghost use Rattle.gw_base.specs.declared.address.Addr.{Addr as AddrValue};
+ghost use Rattle.once_core.specs.Addresses.{gateway_address, port_at};
+ghost use Rattle.once_core.specs.Answers.{redirected};
+ghost use Rattle.once_core.specs.Gateway.{Gateway};
+ghost use Rattle.replay_world.specs.Called.{book_in};
+ghost use Rattle.replay_world.specs.Redirecting.{asking, path_in};
+ghost use Rattle.replay_world.specs.Moves.{HasMoved};
+ghost use Rattle.replay_world.specs.Setup.{Setup};
+ghost use Rattle.replay_world.specs.Stands.{MachineStands};
+ghost use Rattle.replay_world.specs.Value.{Machine as MachineValue};
+
+use crate::machine::{FIRST_GATEWAY, Machine, Site};
+use crate::messages::{kept, redirection};
+use crate::replay::FIRST_NODE;
+use gw_base::{Addr, NoMemory, NodeId};
+use node_core::Port;
+use once_core::Message;
+use std::alloc::Global;
+
+/// The second port of a node.
+const SECOND_PORT: u16 = 40_002;
+
+impl Machine {
+    /// Asks all nodes that it has a path to to send elsewhere.
+    pub fn redirect(
+        &mut self,
+        alloc: Global,
+        place: u8,
+        cause: u8,
+        to: Option<u8>,
+    ) -> Result<Vec<Message>, NoMemory>
+        ensures { (setup : Setup) (g : Gateway) (m : MachineValue) →
+            MachineStands setup place g m self.old → g.is_down ≡ false →
+            IfOk result (λ messages. HasMoved setup place
+            (redirected place cause to g) m messages.items self.new) }
+    {
+        let messages = self.redirections(alloc, place, cause, to)?;
+        self.redirects = self.redirects.wrapping_add(1);
+        Ok(messages)
+    }
+
+    // The requests to all nodes that it has a path to.
+    fn redirections(
+        &self,
+        alloc: Global,
+        place: u8,
+        cause: u8,
+        to: Option<u8>,
+    ) -> Result<Vec<Message>, NoMemory>
+        ensures { (setup : Setup) (g : Gateway) (m : MachineValue) →
+            MachineStands setup place g m self.now → g.is_down ≡ false →
+            IfOk result (λ messages. messages.items ≡ (redirected place cause to g).sends) }
+    {
+        let number = self.redirects;
+        let mut messages = Vec::new(alloc);
+        for k in 0..usize::MAX {
+            let Some((path, start)) = self.path(k) else {
+                return Ok(messages);
+            };
+            let message = redirection_to(alloc, place, number, cause, to, path, start)?;
+            messages.push(message)?;
+        }
+        // No list is so long.
+        Err(NoMemory)
+    }
+
+    // The k-th of the paths that it knows, with the start of its node.
+    fn path(&self, k: usize) -> Option<(Addr, u8)>
+        ensures { result ≡ option_and_then (λ v. path_in v k) (book_in self.now.site) }
+    {
+        let Some(Site::Up(book)) = &self.site else {
+            return None;
+        };
+        let path = book.path(k)?;
+        Some((path, book.key(NodeId(path.ip), 0).start))
+    }
+}
+
+/// The request to send elsewhere that goes to the node with this path and this start.
+#[tactic(auto, using(crate::proofs::RedirectLemmas::recommended))]
+fn redirection_to(
+    alloc: Global,
+    place: u8,
+    number: u16,
+    cause: u8,
+    to: Option<u8>,
+    path: Addr,
+    start: u8,
+) -> Result<Message, NoMemory>
+    ensures { IfOk result (λ message. message ≡ asking place cause number to (path, start)) }
+{
+    // Each path is a node's.
+    let Ok(node) = u8::try_from(path.ip.saturating_sub(FIRST_NODE)) else {
+        return Err(NoMemory);
+    };
+    let octets = kept(alloc, &redirection(number, cause, ip_of(to)))?;
+    Ok(Message {
+        to_gateway: false,
+        gateway: place,
+        node,
+        port: port_of(path.port),
+        start,
+        number: u64::from(number),
+        named: None,
+        octets,
+    })
+}
+
+/// The address of the gateway in a place.
+fn ip_of(place: Option<u8>) -> Option<u32>
+    ensures { result ≡ option_map (λ other. (gateway_address other).ip) place }
+{
+    match place {
+        None => None,
+        Some(place) => Some(FIRST_GATEWAY + u32::from(place)),
+    }
+}
+
+fn port_of(port: u16) -> Port
+    ensures { (path : AddrValue) → path.port ≡ port → result ≡ port_at path }
+{
+    if port == SECOND_PORT {
+        Port::Second
+    } else {
+        Port::First
+    }
+}

@@ -1,0 +1,132 @@
+// The settings of a script.
+ghost use Rattle.std.specs.Prelude.{◌≡◌, ◌≤◌, ◌<◌, ◌+◌, ◌++◌, ℕ, IfOk, OnOk, IsSome, IsUtf8, length};
+ghost use Rattle.jiff_core.specs.Calendar.{IsWithin};
+ghost use Rattle.route_filter.specs.Rules.{most_rules, rule_of};
+ghost use Rattle.replay_world.specs.Settings.{AreInRange, AreSet, AreSound, IsInRange, rules_in_line};
+ghost use Rattle.replay_world.specs.Setup.{Setup, after_setting, default_setup, rules_said, setup_of};
+
+use cdr_file::Offset16;
+use file_rotate::Limits;
+use gw_base::{NoMemory, Octets};
+use route_filter::{RuleFault, Rules};
+use std::alloc::Global;
+use std::str;
+use world_script::{Line, Script};
+
+/// How many gateways and nodes there are, how long each journal is, and what decides the files.
+#[derive(Clone, Copy)]
+pub(crate) struct Settings {
+    pub gateways: u8,
+    pub nodes: u8,
+    pub size: u64,
+    pub limits: Limits,
+    pub offset: Offset16,
+}
+
+impl Settings {
+    /// The settings among the lines of a script. A later one replaces an earlier one.
+    pub fn of(script: &Script) -> Settings
+        requires { AreInRange script.now.lines }
+        ensures set { AreSet (setup_of script.now.lines) result }
+        ensures sound { AreSound result }
+    {
+        let mut settings = Settings::first();
+        let mut k = 0;
+        while let Some(line) = script.line(k) {
+            settings.set(line);
+            k += 1;
+        }
+        settings
+    }
+
+    /// What holds where nothing is set.
+    fn first() -> Settings
+        ensures set { AreSet default_setup result }
+        ensures sound { AreSound result }
+    {
+        Settings {
+            gateways: 1,
+            nodes: 1,
+            size: 16_777_216,
+            limits: Limits {
+                size: 1_048_576,
+                count: 1_000,
+                open_time: 3_600,
+            },
+            offset: offset(0),
+        }
+    }
+
+    /// Sets what a line sets.
+    fn set(&mut self, line: &Line)
+        requires range { IsInRange line.now }
+        requires sound { AreSound self.old }
+        ensures set { (setup : Setup) → AreSet setup self.old → AreSet (after_setting setup line.now) self.new }
+        ensures sound { AreSound self.new }
+    {
+        match line {
+            Line::Reserve { length } => self.size = *length,
+            Line::LimitRecords { count } => self.limits.count = *count,
+            Line::LimitSize { size } => self.limits.size = *size,
+            Line::LimitOpen { seconds } => self.limits.open_time = *seconds,
+            Line::Offset { minutes } => self.offset = offset(*minutes),
+            Line::Gateways { count } => self.gateways = *count,
+            Line::Nodes { count } => self.nodes = *count,
+            _ => {}
+        }
+    }
+}
+
+/// An offset of so many minutes.
+fn offset(minutes: i16) -> Offset16
+    requires { IsWithin 959 minutes }
+    ensures { result ≡ minutes }
+{
+    let Some(offset) = Offset16::of(minutes) else {
+        unreachable!();
+    };
+    offset
+}
+
+/// The rules among the lines of a script.
+pub(crate) fn rules_of(alloc: Global, script: &Script) -> Result<Rules, NoMemory>
+    requires { AreInRange script.now.lines }
+    ensures { IfOk result (λ rules. rules ≡ (setup_of script.now.lines).rules) }
+{
+    let mut rules = Rules::none(alloc);
+    let mut k = 0;
+    while let Some(line) = script.line(k) {
+        add(&mut rules, line)?;
+        k += 1;
+    }
+    Ok(rules)
+}
+
+/// Adds the rule that a line says, where it says one.
+fn add(rules: &mut Rules, line: &Line) -> Result<(), NoMemory>
+    requires range { IsInRange line.now }
+    requires room { length rules.old + length (rules_in_line line.now) ≤ most_rules }
+    ensures { OnOk result (rules.new ≡ rules.old ++ rules_in_line line.now) }
+{
+    match line {
+        Line::Rule { text } => add_rule(rules, text),
+        _ => Ok(()),
+    }
+}
+
+/// Adds the rule that a text says.
+fn add_rule(rules: &mut Rules, text: &Octets) -> Result<(), NoMemory>
+    requires rule { IsSome (rule_of text.now) }
+    requires text { IsUtf8 text.now }
+    requires room { length rules.old < most_rules }
+    ensures { OnOk result (rules.new ≡ rules.old ++ rules_said text.now) }
+{
+    let Ok(line) = str::from_utf8(text.octets()) else {
+        unreachable!();
+    };
+    match rules.add(line) {
+        Ok(()) => Ok(()),
+        Err(RuleFault::NoMemory) => Err(NoMemory),
+        Err(_) => unreachable!(),
+    }
+}

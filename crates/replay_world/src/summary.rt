@@ -1,0 +1,146 @@
+// What all gateways and all nodes of a replay count together.
+ghost use Rattle.std.specs.Prelude.{◌≡◌, ◌<◌, ◌++◌, ◌+◌, IfOk, OnOk, length};
+ghost use Rattle.std.specs.List.{enumerate_from};
+ghost use Rattle.replay_world.specs.Stands.{Stands};
+ghost use Rattle.replay_world.specs.Summary.{TalliesAt, gateway_sums, node_sums, sum_line, summary_of, summary_text};
+ghost use Rattle.replay_world.specs.Value.{ReplayValue};
+
+use crate::replay::Replay;
+use crate::report::Tally;
+use gw_base::{NoMemory, Octets};
+use node_core::NodeCounts;
+use std::alloc::Global;
+
+/// What all nodes count together: packets that were submitted, that became resolved, and that became done.
+#[derive(Clone, Copy, Debug, PartialEq, Eq)]
+pub struct NodeSums {
+    pub packets: u64,
+    pub resolved: u64,
+    pub done: u64,
+}
+
+/// What all gateways count together: records that they filed, copies that they hold, and stranded ones.
+#[derive(Clone, Copy, Debug, PartialEq, Eq)]
+pub struct GatewaySums {
+    pub records: u64,
+    pub held: u64,
+    pub stranded: u64,
+}
+
+/// What a whole network counts.
+#[derive(Clone, Copy, Debug, PartialEq, Eq)]
+pub struct Summary {
+    pub nodes: NodeSums,
+    pub gateways: GatewaySums,
+}
+
+impl Replay {
+    /// What all gateways and all nodes count together. A gateway that is down is opened for this alone. It fails where
+    /// there is no memory for that, or a sum is 2^64 or more.
+    pub fn summary(&mut self, alloc: Global) -> Result<Summary, NoMemory>
+        ensures { (v : ReplayValue) → Stands v self.old →
+            IfOk result (λ summary. Stands v self.new × (summary ≡ summary_of v)) }
+    {
+        let gateways = self.sum_gateways(alloc)?;
+        let nodes = self.sum_nodes()?;
+        Ok(Summary { nodes, gateways })
+    }
+
+    // The sums of all gateways.
+    fn sum_gateways(&mut self, alloc: Global) -> Result<GatewaySums, NoMemory>
+        ensures { (v : ReplayValue) → Stands v self.old →
+            IfOk result (λ sums. Stands v self.new × (sums ≡ gateway_sums v.world.gateways)) }
+    {
+        let mut sums = GatewaySums {
+            records: 0,
+            held: 0,
+            stranded: 0,
+        };
+        for index in 0..self.gateways.len() {
+            let tally = self.tally_gateway(alloc, index)?;
+            sums = with_tally(sums, &tally)?;
+        }
+        Ok(sums)
+    }
+
+    // What the gateway in this place counts.
+    fn tally_gateway(&mut self, alloc: Global, index: usize) -> Result<Tally, NoMemory>
+        requires { index < length self.old.gateways.items }
+        ensures count { length self.new.gateways.items ≡ length self.old.gateways.items }
+        ensures tallies { (v : ReplayValue) → Stands v self.old →
+            IfOk result (λ tally. Stands v self.new × TalliesAt v index tally) }
+    {
+        self.gateways[index].tally(alloc)
+    }
+
+    // The sums of all nodes.
+    fn sum_nodes(&self) -> Result<NodeSums, NoMemory>
+        ensures { (v : ReplayValue) → Stands v self.now →
+            IfOk result (λ sums. sums ≡ node_sums (length v.world.gateways) (enumerate_from 0 v.world.nodes)) }
+    {
+        let mut sums = NodeSums {
+            packets: 0,
+            resolved: 0,
+            done: 0,
+        };
+        for index in 0..self.nodes.len() {
+            sums = with_counts(sums, self.nodes[index].counts())?;
+        }
+        Ok(sums)
+    }
+}
+
+/// The sum of two numbers, where it is below 2^64.
+fn plus(a: u64, b: u64) -> Result<u64, NoMemory>
+    ensures { IfOk result (λ sum. sum ≡ a + b) }
+{
+    a.checked_add(b).ok_or(NoMemory)
+}
+
+fn with_tally(sums: GatewaySums, tally: &Tally) -> Result<GatewaySums, NoMemory>
+    ensures { IfOk result (λ more. more ≡ record {
+      records = sums.records + tally.now.records;
+      held = sums.held + tally.now.counts.held;
+      stranded = sums.stranded + tally.now.counts.stranded;
+    }) }
+{
+    Ok(GatewaySums {
+        records: plus(sums.records, tally.records as u64)?,
+        held: plus(sums.held, tally.counts.held)?,
+        stranded: plus(sums.stranded, tally.counts.stranded)?,
+    })
+}
+
+fn with_counts(sums: NodeSums, counts: NodeCounts) -> Result<NodeSums, NoMemory>
+    ensures { IfOk result (λ more. more ≡ record {
+      packets = sums.packets + counts.packets;
+      resolved = sums.resolved + counts.resolved;
+      done = sums.done + counts.done;
+    }) }
+{
+    Ok(NodeSums {
+        packets: plus(sums.packets, counts.packets)?,
+        resolved: plus(sums.resolved, counts.resolved)?,
+        done: plus(sums.done, counts.done)?,
+    })
+}
+
+/// Appends a summary, one line for each sum.
+pub fn print_summary(alloc: Global, out: &mut Octets, summary: &Summary) -> Result<(), NoMemory>
+    ensures { OnOk result (out.new ≡ out.old ++ summary_text summary.now) }
+{
+    print_sum(alloc, out, "packets", summary.nodes.packets)?;
+    print_sum(alloc, out, "resolved", summary.nodes.resolved)?;
+    print_sum(alloc, out, "done", summary.nodes.done)?;
+    print_sum(alloc, out, "records", summary.gateways.records)?;
+    print_sum(alloc, out, "held", summary.gateways.held)?;
+    print_sum(alloc, out, "stranded", summary.gateways.stranded)
+}
+
+/// A sum's line.
+fn print_sum(alloc: Global, out: &mut Octets, name: &str, sum: u64) -> Result<(), NoMemory>
+    ensures { OnOk result (out.new ≡ out.old ++ sum_line name.now sum) }
+{
+    let line = format!(in alloc; "{name} {sum}\n")?;
+    out.append(line.as_bytes())
+}
