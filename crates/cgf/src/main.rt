@@ -9,17 +9,19 @@ ghost use Rattle.std.specs.Prelude.{◌≡◌, ◌≢◌};
 ghost use Rattle.std.specs.Process.{exit_status};
 ghost use Rattle.cgf_top.specs.Run.{status_number};
 
+mod progress;
 mod sink;
 mod source;
 #[cfg(test)]
 mod tests;
 
+use crate::progress::Progress;
 use crate::sink::WriterSink;
 use crate::source::{FileSource, ReaderSource};
 use cgf_top::{Status, run_cgf};
 use gw_base::Source;
 use std::env;
-use std::io::ErrorKind;
+use std::io::{ErrorKind, IsTerminal, Stderr};
 use std::process::ExitCode;
 
 /// The word that names the standard input.
@@ -76,5 +78,18 @@ fn run(rt: &HostRuntime, words: &[String]) -> Status {
 
 fn run_over<S: Source + Drop>(rt: &HostRuntime, words: &[String], mut source: S) -> Status {
     let mut sink = WriterSink::new(rt.stdout());
-    run_cgf(rt.alloc(), words, &mut source, &mut sink)
+    let mut progress = Progress::new(terminal(rt));
+    let (status, _played) = run_cgf(rt.alloc(), words, &mut source, &mut sink, &mut progress);
+    progress.clear();
+    status
+}
+
+/// The standard error, where it is a terminal.
+fn terminal(rt: &HostRuntime) -> Option<Stderr> {
+    let stderr = rt.stderr();
+    if stderr.is_terminal() {
+        Some(stderr)
+    } else {
+        None
+    }
 }

@@ -1,6 +1,7 @@
+use crate::progress::Progress;
 use crate::sink::WriterSink;
 use crate::source::{FileSource, ReaderSource};
-use cgf_top::{InputKind, Status, run_cgf};
+use cgf_top::{InputKind, Nobody, Status, Watch, WorldKind, run_cgf};
 use gw_base::{Failed, MemorySource, Octets, Sink, Source};
 use std::fs::OpenOptions;
 use std::io::{Read, Write};
@@ -82,7 +83,7 @@ fn a_sink_that_fails_in_the_middle_ends_the_job(rt: HostRuntime) -> Result<(), F
             "at 5\nin 10.0.1.1:40001 4EF0000500007E02FC0000\nat 4\nend\n",
             Status::Input {
                 place: 3,
-                kind: InputKind::Earlier,
+                kind: InputKind::World(WorldKind::Earlier),
             },
         ),
     ];
@@ -94,7 +95,8 @@ fn a_sink_that_fails_in_the_middle_ends_the_job(rt: HostRuntime) -> Result<(), F
         let script = Octets::of(alloc, script.as_bytes())?;
         let mut source = MemorySource::new(script, 7, Vec::new(alloc));
         let mut sink = WriterSink::new(FullWriter { calls: 0 });
-        assert_eq!(rt; run_cgf(alloc, &words, &mut source, &mut sink), status);
+        let (ended, _played) = run_cgf(alloc, &words, &mut source, &mut sink, &mut Nobody);
+        assert_eq!(rt; ended, status);
     }
     Ok(())
 }
@@ -145,5 +147,38 @@ fn a_sink_says_how_much_was_written_and_what_was_not(rt: HostRuntime) -> Result<
     for _ in 0..2 {
         assert_eq!(rt; sink.put(b"abc"), Err(Failed));
     }
+    Ok(())
+}
+
+/// A long job is shown in hundredths on one line, which is written anew where they change and is empty at the end; a short
+/// one isn't, and neither is any where there is no terminal.
+#[test]
+fn a_long_job_is_shown_on_a_terminal_alone(rt: HostRuntime) -> Result<(), Fail> {
+    let terminal = OpenOptions::new()
+        .write(true)
+        .create(true)
+        .truncate(true)
+        .open(&rt, "shown")?;
+    let mut progress = Progress::new(Some(terminal));
+    for (lines, all) in [
+        (50_000, 99_999),
+        (0, 200_000),
+        (1_999, 200_000),
+        (2_000, 200_000),
+        (199_999, 200_000),
+    ] {
+        progress.ran(lines, all);
+    }
+    progress.clear();
+    progress.clear();
+    drop(progress);
+    let shown = fs::read(&rt, "shown")?;
+    assert_eq!(rt;
+        shown.as_slice(),
+        b"\rcgf:   0 %\rcgf:   1 %\rcgf:  99 %\r          \r".as_slice()
+    );
+    let mut nowhere: Progress<SlowWriter> = Progress::new(None);
+    nowhere.ran(1, 200_000);
+    nowhere.clear();
     Ok(())
 }

@@ -1,5 +1,5 @@
 -- The feed of a script, line by line, and its report.
-use Rattle.std.proofs.Common.{◌≡◌, ℕ, ◌+◌, true, false, List, [], ◌∷◌, ◌++◌, count_by, drop, Option, Some, None, slice_get, Result, Ok, Err, refl, ap, sym, ◌∙◌, append_assoc}
+use Rattle.std.proofs.Common.{◌≡◌, ℕ, ◌+◌, true, false, List, [], ◌∷◌, ◌++◌, count_by, drop, Option, Some, None, slice_get, Result, Ok, Err, refl, ap, subst, sym, ◌∙◌, append_assoc}
 use Rattle.std.specs.List.{flat_map}
 use Rattle.std.specs.Prelude.{IfOk}
 use Rattle.gw_base.specs.declared.fault.NoMemory.{NoMemory}
@@ -11,15 +11,16 @@ use Rattle.gateway_book.specs.declared.told.Counts.{Counts}
 use Rattle.gw_base.specs.declared.history.HistoryEntry.{HistoryEntry}
 use Rattle.gw_base.specs.declared.item.Item.{Item}
 use Rattle.world_script.specs.Script.{Refusal as LineRefusal, script_of}
-use Rattle.world_script.specs.declared.fault.InputKind.{InputKind as LineKind}
-use Rattle.world_script.specs.declared.fault.InputKind.TheVariants as of_line
 use Rattle.world_script.specs.declared.line.Line.{Line}
-use Rattle.cgf_top.specs.FeedReport.{Fed, FeedState, after_line, begun, end_lines, fed_from, fed_of, file_line, gateway_line, is_earlier, line_kind, printed_for, with_print}
+use Rattle.cgf_top.specs.FeedReport.{Fed, FeedState, after_line, begun, end_lines, fed_from, fed_of, file_line, gateway_line, is_earlier, printed_for, with_print}
 use Rattle.cgf_top.specs.FeedSettings.{FeedSettings, settings_of}
 use Rattle.cgf_top.specs.Gateway.{after_close}
-use Rattle.cgf_top.specs.Run.{is_of_run, may_have_written, run_end, script_end, script_report}
+use Rattle.cgf_top.specs.NetworkReport.{HandsBackAt}
+use Rattle.cgf_top.specs.Run.{may_have_written, run_end, script_end, script_report}
+use Rattle.replay_world.specs.declared.replay.Played.{Played}
 use Rattle.cgf_top.specs.Steps.{IsFed, IsRefusal, IsReport, counts_line, ended_by, is_part, refusal_at}
 use Rattle.cgf_top.specs.declared.command.Command.TheVariants.{Feed}
+use Rattle.cgf_top.specs.declared.input_kind.InputKind.TheVariants.{Script}
 use Rattle.cgf_top.specs.declared.report.Refusal.{Refusal}
 use Rattle.cgf_top.specs.declared.report.Report.{Report}
 use Rattle.cgf_top.proofs.ReportLemmas.{counts_printed, line_refused, line_run}
@@ -57,10 +58,12 @@ module _ (script : List Line) (at : ℕ) (s : FeedState) (printed : List ℕ) wh
       ∙ here l found whole
 
   pub feed_stops : (l : Line) (report : Report) → slice_get script at ≡ Some l → is_earlier s.now l ≡ true
-      → report.printed.items ≡ printed → report.refused ≡ refusal_at (Some (at + 1)) → IsFedTo script at s printed → IsFed (fed_of script) report
-  feed_stops l report found earlier is refused whole = record {
+      → report.printed.items ≡ printed → report.refused ≡ refusal_at (Some (at + 1)) → report.played ≡ None
+      → IsFedTo script at s printed → IsFed (fed_of script) report
+  feed_stops l report found earlier is refused played whole = record {
     printed = is ∙ ap (λ (fed : Fed). fed.printed) fed;
     refused = refused ∙ ap (λ (fed : Fed). refusal_at fed.refused) fed;
+    played = played;
   }
     where
       fed : fed_with printed (Some (at + 1)) ≡ fed_of script
@@ -68,10 +71,11 @@ module _ (script : List Line) (at : ℕ) (s : FeedState) (printed : List ℕ) wh
 
   pub feed_ends : (settings : FeedSettings) (report : Report) → slice_get script at ≡ None → settings ≡ settings_of script
       → report.printed.items ≡ printed ++ end_lines settings (after_close s.gateway s.now).history → report.refused ≡ None
-      → IsFedTo script at s printed → IsFed (fed_of script) report
-  feed_ends settings report none set is refused whole = record {
+      → report.played ≡ None → IsFedTo script at s printed → IsFed (fed_of script) report
+  feed_ends settings report none set is refused played whole = record {
     printed = is ∙ ap (λ (x : FeedSettings). printed ++ end_lines x (after_close s.gateway s.now).history) set ∙ ap (λ (fed : Fed). fed.printed) fed;
     refused = refused ∙ ap (λ (fed : Fed). refusal_at fed.refused) fed;
+    played = played;
   }
     where
       fed : fed_with (printed ++ end_lines (settings_of script) (after_close s.gateway s.now).history) None ≡ fed_of script
@@ -79,9 +83,10 @@ module _ (script : List Line) (at : ℕ) (s : FeedState) (printed : List ℕ) wh
 
   pub feed_ends_if : (settings : FeedSettings) (result : Result Report NoMemory) → slice_get script at ≡ None → settings ≡ settings_of script
       → IfOk result (λ report. report.printed.items ≡ printed ++ end_lines settings (after_close s.gateway s.now).history)
-      → IfOk result (λ report. report.refused ≡ None) → IsFedTo script at s printed → IfOk result (λ report. IsFed (fed_of script) report)
-  feed_ends_if settings (Ok report) none set is refused whole = feed_ends settings report none set is refused whole
-  feed_ends_if settings (Err e) none set is refused whole = tt
+      → IfOk result (λ report. report.refused ≡ None) → IfOk result (λ report. report.played ≡ None)
+      → IsFedTo script at s printed → IfOk result (λ report. IsFed (fed_of script) report)
+  feed_ends_if settings (Ok report) none set is refused played whole = feed_ends settings report none set is refused played whole
+  feed_ends_if settings (Err e) none set is refused played whole = tt
 
 -- ---- the end
 
@@ -111,6 +116,11 @@ written_run : (place : Option ℕ) → may_have_written (run_end place) ≡ true
 written_run None = refl
 written_run (Some place) = refl
 
+hands_none : (place : Option ℕ) (played : Option Played) → played ≡ None → HandsBackAt (run_end place) None played
+hands_none None None is = tt
+hands_none None (Some played) is = absurd (cc)
+hands_none (Some place) played is = is
+
 -- the report of a script that the grammar takes
 pub fed_is_report : (text : List ℕ) (lines : List Line) (report : Report) → script_of text ≡ Ok lines → IsFed (fed_of lines) report → IsReport Feed text report
 fed_is_report text lines report read fed = record {
@@ -118,25 +128,14 @@ fed_is_report text lines report read fed = record {
   ended = ap (λ (r : Option Refusal). ended_by r) fed.refused ∙ ended_run (fed_of lines).refused
       ∙ ap (λ (r : Result (List Line) LineRefusal). script_end r) (sym read);
   taken = ap (λ (r : Result (List Line) LineRefusal). may_have_written (script_end r)) read ∙ written_run (fed_of lines).refused;
+  played = subst (λ (r : Result (List Line) LineRefusal). HandsBackAt (script_end r) None report.played) (sym read)
+      (hands_none (fed_of lines).refused report.played fed.played);
 }
 
--- no refusal by the grammar is of the run
-of_grammar : (kind : LineKind) → is_of_run (line_kind kind) ≡ false
-of_grammar of_line.TooLong = refl
-of_grammar of_line.Word = refl
-of_grammar of_line.NotBuilt = refl
-of_grammar of_line.After = refl
-of_grammar of_line.Late = refl
-of_grammar of_line.Arity = refl
-of_grammar of_line.Number = refl
-of_grammar of_line.Hex = refl
-of_grammar of_line.Rule = refl
-of_grammar of_line.NoEnd = refl
-
 -- the refusal of one that it doesn't take
-pub refused_is : (text : List ℕ) (refusal : LineRefusal) → script_of text ≡ Err refusal → IsRefusal Feed text (record { place = refusal.place; kind = line_kind refusal.kind })
+pub refused_is : (text : List ℕ) (refusal : LineRefusal) → script_of text ≡ Err refusal → IsRefusal Feed text (record { place = refusal.place; kind = Script refusal.kind })
 refused_is text refusal read = record {
   ended = ap (λ (r : Result (List Line) LineRefusal). script_end r) (sym read);
   none = ap (λ (r : Result (List Line) LineRefusal). script_report r) read;
-  untaken = ap (λ (r : Result (List Line) LineRefusal). may_have_written (script_end r)) read ∙ of_grammar refusal.kind;
+  untaken = ap (λ (r : Result (List Line) LineRefusal). may_have_written (script_end r)) read;
 }

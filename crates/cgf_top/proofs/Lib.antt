@@ -1,7 +1,11 @@
 pub mod BookLemmas
+pub mod Clauses
+pub mod CommandLemmas
+pub mod EndingLemmas
 pub mod Ends
 pub mod FeedLemmas
 pub mod FileLemmas
+pub mod NetworkLemmas
 pub mod PrintLemmas
 pub mod ReportLemmas
 pub mod Script

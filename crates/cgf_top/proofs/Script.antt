@@ -20,7 +20,7 @@ use Rattle.route_filter.specs.declared.rule.Rule.{Rule}
 use Rattle.route_filter.specs.Words.{at_most, is_decimal, number_up_to, octets_of, words_of, ◌>>=◌}
 use Rattle.world_script.specs.Forms.{is_setting, keyword_of}
 use Rattle.world_script.specs.Saying.{arm_on, arm_said, at_said, call_of, fail_said, in_said, last_moment, limit_on, limit_said, offset_said, one_between, one_gateway, one_number, read_or, read_then, redirect_said, rule_said, ruled, said_as, said_by, submit_said, word_said}
-use Rattle.world_script.specs.Script.{Refusal, contented, is_rule_line, keyed, most_text, onward, progress_of, reading_of, script_after, script_of, worded}
+use Rattle.world_script.specs.Script.{Refusal, contented, is_rule_line, keyed, most_text, onward, progress_of, reading_of, script_after, script_in, script_of, worded}
 use Rattle.world_script.specs.Text.{RawLine, is_blank, is_printable, line_content, line_size, onto_line, raw_lines, size_of}
 use Rattle.world_script.specs.Values.{address_of, mode_of, number_between, number_of, offset_of, records_of, signed, two_digits, version_of}
 use Rattle.world_script.specs.declared.fault.InputKind.{InputKind}
@@ -438,16 +438,16 @@ record AreAllFine (size : ℕ) (before : List Line) (raws : List RawLine) (lines
   count : length lines ≡ length before + length raws
   short : size + size_of raws ≤ most_text
 
-after_fine : (size : ℕ) (before : List Line) (raws : List RawLine) (lines : List Line) → AreFine before → size ≤ most_text
-    → script_after Feed size before raws ≡ Ok lines → AreAllFine size before raws lines
-after_fine size before [] lines held within h =
-    let ended = taken (progress_of Feed size before).has_end (record { place = (progress_of Feed size before).place; kind = kind.NoEnd }) (Ok before) lines h in
+after_fine : (of : ScriptKind) (size : ℕ) (before : List Line) (raws : List RawLine) (lines : List Line) → AreFine before →
+    size ≤ most_text → script_after of size before raws ≡ Ok lines → AreAllFine size before raws lines
+after_fine of size before [] lines held within h =
+    let ended = taken (progress_of of size before).has_end (record { place = (progress_of of size before).place; kind = kind.NoEnd }) (Ok before) lines h in
     subst (AreAllFine size before []) (same_lines before lines ended.1) (record { fine = held; count = omega arith; short = omega (arith, within) })
-after_fine size before (raw ∷ raws) lines held within h =
-    let first = line_first (length before + 1) (reading_of (progress_of Feed size before) raw)
-    (λ said. script_after Feed (size + line_size raw) (before ++ said ∷ []) raws) lines h in
-    let read = reading_fine (progress_of Feed size before) raw first.0 first.1 in
-    let later = after_fine (size + line_size raw) (before ++ first.0 ∷ []) raws lines (one_more before first.0 held read.0) read.1 first.2 in
+after_fine of size before (raw ∷ raws) lines held within h =
+    let first = line_first (length before + 1) (reading_of (progress_of of size before) raw)
+    (λ said. script_after of (size + line_size raw) (before ++ said ∷ []) raws) lines h in
+    let read = reading_fine (progress_of of size before) raw first.0 first.1 in
+    let later = after_fine of (size + line_size raw) (before ++ first.0 ∷ []) raws lines (one_more before first.0 held read.0) read.1 first.2 in
     record {
       fine = later.fine;
       count = omega (arith, later.count, length-append before (first.0 ∷ []));
@@ -481,13 +481,23 @@ length-raw_lines (x ∷ xs) = by (x == 10) refl (length-raw_lines xs)
     by false e rest = rw e (omega (arith, rest, length-onto_line x (raw_lines xs)))
 
 -- the text of a script has no more octets than it may have
+pub script_in_within : (of : ScriptKind) (text : List ℕ) (lines : List Line) → script_in of text ≡ Ok lines →
+    length text ≤ most_text
+script_in_within of text lines h =
+    omega (arith, (after_fine of 0 [] (raw_lines text) lines no_lines (omega arith) h).short, size_of-raw_lines text)
+
+pub script_in_few : (of : ScriptKind) (text : List ℕ) (lines : List Line) → script_in of text ≡ Ok lines →
+    length lines ≤ most_text
+script_in_few of text lines h =
+    let all = after_fine of 0 [] (raw_lines text) lines no_lines (omega arith) h in
+    omega (arith, all.count, length-raw_lines text, script_in_within of text lines h)
+
 pub script_within : (text : List ℕ) (lines : List Line) → script_of text ≡ Ok lines → length text ≤ most_text
-script_within text lines h =
-    omega (arith, (after_fine 0 [] (raw_lines text) lines no_lines (omega arith) h).short, size_of-raw_lines text)
+script_within text lines h = script_in_within Feed text lines h
 
 pub lines_in_range : (text : List ℕ) (lines : List Line) → script_of text ≡ Ok lines → AreInRange lines
 lines_in_range text lines h =
-    let all = after_fine 0 [] (raw_lines text) lines no_lines (omega arith) h in
+    let all = after_fine Feed 0 [] (raw_lines text) lines no_lines (omega arith) h in
     record {
       each = all.fine.each;
       few = omega (arith, all.count, length-raw_lines text, script_within text lines h);

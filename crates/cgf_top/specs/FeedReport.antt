@@ -13,13 +13,9 @@ use Rattle.gtpp_message.specs.Names.{name_of}
 use Rattle.gtpp_message.specs.declared.reading.Why.{Why}
 use Rattle.gw_base.specs.History.{copies_of}
 use Rattle.gw_base.specs.declared.history.HistoryEntry.{HistoryEntry}
-use Rattle.world_script.specs.declared.fault.InputKind.{InputKind as LineKind}
-use Rattle.world_script.specs.declared.fault.InputKind.TheVariants as of_line
 use Rattle.world_script.specs.declared.line.Line.{Line}
 use Rattle.world_script.specs.declared.line.Line.TheVariants as line
 use Rattle.cgf_top.specs.FeedSettings.{FeedSettings, settings_of}
-use Rattle.cgf_top.specs.declared.input_kind.InputKind.{InputKind}
-use Rattle.cgf_top.specs.declared.input_kind.InputKind.TheVariants as input
 use Rattle.cgf_top.specs.Gateway.{GatewayValue, after_close, after_datagram, after_tick, answered, new_gateway}
 
 -- The lines of a script, one after the other.
@@ -88,19 +84,6 @@ abbrev pub end_lines : FeedSettings → List HistoryEntry → List ℕ
 end_lines settings h = flat_map file_line (files_of settings.files (items_of h)) ++ gateway_line h
 
 -- The whole script.
-
--- why the grammar of scripts refuses a line, as it is said of an input
-abbrev pub line_kind : LineKind → InputKind
-line_kind of_line.TooLong = input.TooLong
-line_kind of_line.Word = input.Word
-line_kind of_line.NotBuilt = input.NotBuilt
-line_kind of_line.After = input.After
-line_kind of_line.Late = input.Late
-line_kind of_line.Arity = input.Arity
-line_kind of_line.Number = input.Number
-line_kind of_line.Hex = input.Hex
-line_kind of_line.Rule = input.Rule
-line_kind of_line.NoEnd = input.NoEnd
 
 -- whether a line sets a moment before the present one
 abbrev pub is_earlier : ℕ → Line → Bool

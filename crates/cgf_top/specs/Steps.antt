@@ -7,11 +7,13 @@ use Rattle.gateway_book.specs.declared.outcome.Outcome.TheVariants as outcome
 use Rattle.gateway_book.specs.declared.told.Counts.{Counts}
 use Rattle.gw_base.specs.declared.item.Item.{Item}
 use Rattle.gw_base.specs.declared.item.Item.TheVariants as item
+use Rattle.once_core.specs.declared.event.WorldKind.TheVariants.{Earlier}
 use Rattle.cgf_top.specs.FeedReport.{Fed, FeedState, drop_line, octets_line}
+use Rattle.cgf_top.specs.NetworkReport.{HandsBackAt, network_lines}
 use Rattle.cgf_top.specs.Run.{end_of, may_have_written, report_of}
 use Rattle.cgf_top.specs.declared.command.Command.{Command}
 use Rattle.cgf_top.specs.declared.feed.Feed.{Feed}
-use Rattle.cgf_top.specs.declared.input_kind.InputKind.TheVariants.{Earlier}
+use Rattle.cgf_top.specs.declared.input_kind.InputKind.TheVariants.{World}
 use Rattle.cgf_top.specs.declared.report.Refusal.{Refusal}
 use Rattle.cgf_top.specs.declared.report.Report.{Report}
 use Rattle.cgf_top.specs.declared.status.Status.{Status}
@@ -53,12 +55,13 @@ counts_line counts records =
 -- the line with this number that can't be run
 abbrev pub refusal_at : Option ℕ → Option Refusal
 refusal_at None = None
-refusal_at (Some place) = Some (record { place = place; kind = Earlier })
+refusal_at (Some place) = Some (record { place = place; kind = World Earlier })
 
 -- a report is what is printed for lines
 pub record IsFed (fed : Fed) (report : Report) : Type 0 where
   pub printed : report.printed.items ≡ fed.printed
   pub refused : report.refused ≡ refusal_at fed.refused
+  pub played : report.played ≡ None
 
 -- Ends.
 
@@ -72,6 +75,7 @@ pub record IsReport (command : Command) (octets : List ℕ) (report : Report) : 
   pub printed : report.printed.items ≡ report_of command octets
   pub ended : ended_by report.refused ≡ end_of command octets
   pub taken : may_have_written (end_of command octets) ≡ true
+  pub played : HandsBackAt (end_of command octets) (network_lines command octets) report.played
 
 -- the grammar refuses an input, and nothing is to be written
 pub record IsRefusal (command : Command) (octets : List ℕ) (refusal : Refusal) : Type 0 where

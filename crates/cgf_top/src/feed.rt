@@ -16,6 +16,7 @@ use crate::printing::{print_counts, print_outcome, print_stream};
 use crate::report::{Refusal, Report};
 use crate::settings::Settings;
 use gw_base::{Addr, Item, Moment, NoMemory};
+use once_core::WorldKind;
 use std::alloc::Global;
 use world_script::{Line, Script};
 
@@ -114,13 +115,15 @@ impl Feed {
         requires { at + 1 < 2 ^ 64 }
         ensures printed { result.printed.items ≡ self.printed.items }
         ensures refused { result.refused ≡ refusal_at (Some (at + 1)) }
+        ensures played { result.played ≡ None }
     {
         Report {
             printed: self.printed,
             refused: Some(Refusal {
                 place: at as u64 + 1,
-                kind: InputKind::Earlier,
+                kind: InputKind::World(WorldKind::Earlier),
             }),
+            played: None,
         }
     }
 
@@ -130,6 +133,7 @@ impl Feed {
         ensures printed { IfOk result (λ report. report.printed.items ≡ self.printed.items
             ++ end_lines (settings_seen settings) (after_close self.gateway self.moment).history) }
         ensures refused { IfOk result (λ report. report.refused ≡ None) }
+        ensures played { IfOk result (λ report. report.played ≡ None) }
     {
         let Feed {
             mut gateway,
@@ -146,6 +150,7 @@ impl Feed {
         Ok(Report {
             printed,
             refused: None,
+            played: None,
         })
     }
 }

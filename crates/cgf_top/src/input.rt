@@ -27,8 +27,12 @@ pub fn read_input<S: Source>(alloc: Global, source: &mut S, most: usize) -> Resu
     ensures taken { TakesUpTo most (S.left source.old) (S.left source.new) }
     ensures failed { result ≡ Err ReadEnd.Failed → Rose (S.faults source.old) (S.faults source.new) }
     ensures unfailed { result ≢ Err ReadEnd.Failed → S.faults source.new ≡ S.faults source.old }
+    ensures unread { most ≡ 0 → source.new ≡ source.old }
 {
     let mut octets = Vec::new(alloc);
+    if most == 0 {
+        return Ok(octets);
+    }
     let mut piece = [0; PIECE];
     while octets.len() < most {
         if read_piece(source, &mut piece, most - octets.len(), &mut octets)? == 0 {

@@ -4,13 +4,14 @@
 //! `report_of` of `specs/Run.antt`. The contract is that of `run_cgf`: what is written is the
 //! report of what was read.
 //!
-//!     let status = run_cgf(alloc, &words, &mut source, &mut sink);
+//!     let (status, played) = run_cgf(alloc, &words, &mut source, &mut sink, &mut Nobody);
 #![tactic(auto)]
 
-ghost use Rattle.std.specs.Prelude.{◌≡◌, ◌≢◌, ◌<◌, ◌↔◌, false, None, Ok, Err, IfOk, OnOk, length, map, string_bytes};
+ghost use Rattle.std.specs.Prelude.{◌≡◌, ◌≢◌, ◌<◌, false, true, None, Ok, Err, IfOk, OnOk, length, map, string_bytes};
 ghost use Rattle.gw_base.specs.Faults.{Rose};
-ghost use Rattle.cgf_top.specs.Command.{command_of, most_read};
-ghost use Rattle.cgf_top.specs.Run.{HasCause, IsBounded, IsComplete, WritesFront, WritesReport, may_have_written};
+ghost use Rattle.cgf_top.specs.Command.{IsWithin, command_of, has_input, most_read};
+ghost use Rattle.cgf_top.specs.Ending.{HasCause, IsBounded, IsComplete, WordsDecide};
+ghost use Rattle.cgf_top.specs.Run.{IsPlayed, WritesFront, WritesReport, is_reported, may_have_written};
 ghost use Rattle.cgf_top.specs.Steps.{IsRefusal, IsReport, ended_by};
 ghost use Rattle.cgf_top.specs.declared.report.Refusal.{Refusal};
 
@@ -20,57 +21,69 @@ mod files;
 mod gateway;
 mod input;
 mod input_kind;
+mod network;
 mod output;
 mod printing;
 mod report;
 mod settings;
 mod show;
 mod status;
+mod watch;
 
 use crate::command::Command;
 use crate::input::{ReadEnd, read_input};
 use crate::output::write_all;
 use crate::report::{NoReport, Refusal, Report};
+pub use cdr_file::FileKind;
 use gw_base::{Sink, Source};
 pub use input_kind::InputKind;
+pub use once_core::WorldKind;
+pub use replay_world::Played;
 pub use status::Status;
 use std::alloc::Global;
+pub use watch::{Nobody, Watch};
+pub use world_script::InputKind as LineKind;
 use world_script::{InputFault, Script};
 
-/// Does what the words ask, with the source as their file: `feed FILE` reads a script, feeds a gateway with its
-/// datagrams, and writes the reply to each or why it is dropped, the CDR files and the gateway's counts to the sink;
-/// `show FILE` reads a CDR file and writes its listing.
+/// Does what the words ask, with the source as their file, and tells `watch` how far the lines of a network are: `feed
+/// FILE` reads a script, feeds a gateway with its datagrams, and writes the reply to each or why it is dropped, the CDR
+/// files and the gateway's counts to the sink; `show FILE` reads a CDR file and writes its listing; `replay FILE` reads
+/// a script, runs gateways and nodes by its lines, and writes each message, what becomes of it, and at the end all
+/// files and counts. `sample SEED NODES GATEWAYS PACKETS` reads nothing, and writes the script that the seed gives;
+/// `drill SEED NODES GATEWAYS PACKETS` runs that script, and writes what all gateways and nodes count together then.
+///
+/// A network that ran to its end is handed back: its areas, its shelves and its nodes.
 ///
 /// An input that the grammar refuses writes nothing. A line of a script that can't be run, since it sets a moment before
-/// the present one, ends the feed: what was printed for the lines before it is written.
-#[tactic(auto, using(crate::proofs::Ends::complete, crate::proofs::Ends::complete_by, crate::proofs::Ends::bounded_by, crate::proofs::Streams::takes_none, crate::proofs::Whole::writes_refusal))]
-pub fn run_cgf<S: Source, K: Sink>(
+/// the present one, or the world refuses it, ends the job: what was printed for the lines before it is written.
+#[tactic(auto, using(crate::proofs::Ends::complete, crate::proofs::Ends::complete_by, crate::proofs::Ends::bounded_by, crate::proofs::Streams::takes_none, crate::proofs::Whole::plays_done, crate::proofs::Whole::writes_done, crate::proofs::Whole::writes_refusal))]
+pub fn run_cgf<S: Source, K: Sink, W: Watch>(
     alloc: Global,
     words: &[String],
     source: &mut S,
     sink: &mut K,
-) -> Status
-    // The words are none of the forms, and then nothing is read; what is written is the report or its front.
-    ensures words { (result ≡ Status.Words) ↔ (command_of (map string_bytes words.now) ≡ None) }
-    ensures untouched { (result ≡ Status.Words → source.new ≡ source.old)
-        × (may_have_written result ≡ false → sink.new ≡ sink.old) }
+    watch: &mut W,
+) -> (Status, Option<Played>)
+    // The words are none of the forms, and then nothing is read, as where the command has no input; what is written is
+    // the report or its front.
+    ensures words { WordsDecide (command_of (map string_bytes words.now)) result.0 source.old source.new }
+    ensures untouched { may_have_written result.0 ≡ false → sink.new ≡ sink.old }
 
-    // The input was read to its end, and all of the report on it and nothing else was written.
-    ensures done { result ≡ Status.Done →
+    // At `Done` the input was read to its end, and all of the report on it and nothing else was written; of `replay` and
+    // `drill` the network that it is the report of is handed back. At `Input` the place is the first that is refused of
+    // the input that was read: by the grammar, and then nothing is written; or as a line that can't be run, and then the
+    // input was read to its end, and the report of the lines before is written.
+    ensures report { is_reported result.0 ≡ true →
         WritesReport (map string_bytes words.now) (S.left source.old) (S.left source.new)
-        (K.written sink.old) (K.written sink.new) result }
-    // The place is the first that is refused of the input that was read: by the grammar, and then nothing is written; or
-    // as a line that can't be run, and then the input was read to its end, and the report of the lines before is written.
-    ensures input { (refusal : Refusal) → result ≡ Status.Input refusal.place refusal.kind →
-        WritesReport (map string_bytes words.now) (S.left source.old) (S.left source.new)
-        (K.written sink.old) (K.written sink.new) result }
+        (K.written sink.old) (K.written sink.new) result.0 result.1 }
     // A front of what is to be written was.
-    ensures front { result ≡ Status.Write →
+    ensures front { result.0 ≡ Status.Write →
         WritesFront (map string_bytes words.now) (S.left source.old) (S.left source.new)
         (K.written sink.old) (K.written sink.new) }
 
     // Each fault was the source's or the sink's own, and where another end is told there was none.
-    ensures cause { HasCause result (S.faults source.old) (S.faults source.new) (K.faults sink.old) (K.faults sink.new) }
+    ensures cause { HasCause result.0 (S.faults source.old) (S.faults source.new) (K.faults sink.old)
+        (K.faults sink.new) }
 
     // Of a script no octet past the first 16,777,217 is taken, of a file none past the first 4,294,967,296.
     ensures bound { IsBounded (map string_bytes words.now) (S.left source.old) (S.left source.new) }
@@ -78,23 +91,36 @@ pub fn run_cgf<S: Source, K: Sink>(
     // With no fault, what was read decides, unless memory runs out.
     ensures complete { command_of (map string_bytes words.now) ≢ None →
         ¬ (Rose (S.faults source.old) (S.faults source.new)) → ¬ (Rose (K.faults sink.old) (K.faults sink.new)) →
-        IsComplete (map string_bytes words.now) (S.left source.old) (S.left source.new) result }
+        IsComplete (map string_bytes words.now) (S.left source.old) (S.left source.new) result.0 }
+
+    // What is handed back, at `Done` alone, stands for the world that some lines make; that they are those that were read,
+    // or those of the seed, is `report`. Each record of each packet that its node ever resolved stands at exactly one place
+    // in the files of all gateways, and each record of any other packet at one at most; no copy that is held or was
+    // cancelled puts one there. No file is open. The report of these lines, which `replay` prints, ends with these files;
+    // `drill` prints sums instead.
+    ensures once { IsPlayed result.1 result.0 }
 {
     let Some(command) = Command::of(words) else {
-        return Status::Words;
+        return (Status::Words, None);
     };
     let octets = match read_input(alloc, source, command.most_read()) {
         Ok(octets) => octets,
-        Err(ReadEnd::Failed) => return Status::Read,
-        Err(ReadEnd::NoMemory) => return Status::Memory,
+        Err(ReadEnd::Failed) => return (Status::Read, None),
+        Err(ReadEnd::NoMemory) => return (Status::Memory, None),
     };
-    match report_of(alloc, command, octets) {
-        Ok(report) => match write_all(sink, &report.printed) {
-            Ok(()) => ended_by(report.refused),
-            Err(_) => Status::Write,
+    match report_of(alloc, command, octets, watch) {
+        Ok(
+            Report {
+                printed,
+                refused,
+                played,
+            },
+        ) => match write_all(sink, &printed) {
+            Ok(()) => (ended_by(refused), played),
+            Err(_) => (Status::Write, None),
         },
-        Err(NoReport::Refused(Refusal { place, kind })) => Status::Input { place, kind },
-        Err(NoReport::NoMemory) => Status::Memory,
+        Err(NoReport::Refused(Refusal { place, kind })) => (Status::Input { place, kind }, None),
+        Err(NoReport::NoMemory) => (Status::Memory, None),
     }
 }
 
@@ -110,8 +136,14 @@ fn ended_by(refused: Option<Refusal>) -> Status
 
 /// What a command prints for the octets of its input, or their first place that the grammar refuses. The octets are let
 /// go once they are read.
-fn report_of(alloc: Global, command: Command, octets: Vec<u8>) -> Result<Report, NoReport>
-    ensures within { OnOk result (length octets.items < most_read command) }
+fn report_of<W: Watch>(
+    alloc: Global,
+    command: Command,
+    octets: Vec<u8>,
+    watch: &mut W,
+) -> Result<Report, NoReport>
+    requires { IsWithin command }
+    ensures within { OnOk result (has_input command ≡ true → length octets.items < most_read command) }
     ensures report { IfOk result (λ report. IsReport command octets.items report) }
     ensures refused { (refusal : Refusal) →
         result ≡ Err (NoReport.Refused refusal) → IsRefusal command octets.items refusal }
@@ -119,6 +151,9 @@ fn report_of(alloc: Global, command: Command, octets: Vec<u8>) -> Result<Report,
     match command {
         Command::Feed => feed_report_of(alloc, octets),
         Command::Show => show::report(alloc, octets),
+        Command::Replay => network::replay_report_of(alloc, octets, watch),
+        Command::Sample(of) => Ok(network::sample_report_of(alloc, of)?),
+        Command::Drill(of) => Ok(network::drill_report_of(alloc, of, watch)?),
     }
 }
 
@@ -135,7 +170,7 @@ fn feed_report_of(alloc: Global, text: Vec<u8>) -> Result<Report, NoReport>
     match read {
         Ok(script) => Ok(feed::report(alloc, script)?),
         Err(InputFault::Bad { place, kind }) => {
-            let kind = kind.into();
+            let kind = InputKind::Script(kind);
             Err(NoReport::Refused(Refusal { place, kind }))
         }
         Err(InputFault::NoMemory) => Err(NoReport::NoMemory),

@@ -1,5 +1,6 @@
 use crate::input_kind::InputKind;
 use gw_base::NoMemory;
+use replay_world::Played;
 
 /// The first place of an input that is refused.
 #[derive(Clone, Copy, Debug, PartialEq, Eq)]
@@ -9,11 +10,13 @@ pub struct Refusal {
     pub kind: InputKind,
 }
 
-/// What is printed for an input, and its first place that can't be run, where there is one.
-#[derive(Debug, Drop)]
+/// What is printed for an input; its first place that can't be run, where there is one; and the network that was run to
+/// its end, where one was.
+#[derive(Drop)]
 pub struct Report {
     pub printed: Vec<u8>,
     pub refused: Option<Refusal>,
+    pub played: Option<Played>,
 }
 
 /// Why there is nothing to print.

@@ -6,6 +6,7 @@ ghost use Rattle.cgf_top.specs.Steps.{IsReport, IsRefusal};
 ghost use Rattle.cgf_top.specs.declared.command.Command.{Command};
 ghost use Rattle.cgf_top.specs.declared.report.Refusal.{Refusal};
 
+use crate::input_kind::InputKind;
 use crate::report::{NoReport, Refusal, Report};
 use cdr_file::{FileFault, list, read};
 use std::alloc::Global;
@@ -26,10 +27,11 @@ pub fn report(alloc: Global, octets: Vec<u8>) -> Result<Report, NoReport>
             Ok(Report {
                 printed,
                 refused: None,
+                played: None,
             })
         }
         Err(FileFault::Bad { place, kind }) => {
-            let kind = kind.into();
+            let kind = InputKind::File(kind);
             Err(NoReport::Refused(Refusal { place, kind }))
         }
         Err(FileFault::NoMemory) => Err(NoReport::NoMemory),

@@ -36,9 +36,11 @@ loop-line-preserved c = record {
 pub returns-then-is_earlier : goal.returns-then-is_earlier
 returns-then-is_earlier c =
     feed_stops c.args.script.lines c.loop-line.at (state_of c.loop-line.feed) c.loop-line.feed.printed.items c.in-Some.line.now c.refused.result
-    (sym c.in-Some.ensures) (sym c.is_earlier.ensures ∙ c.if-is_earlier.true) c.refused.ensures.printed c.refused.ensures.refused c.loop-line.invariant.fed
+    (sym c.in-Some.ensures) (sym c.is_earlier.ensures ∙ c.if-is_earlier.true) c.refused.ensures.printed c.refused.ensures.refused c.refused.ensures.played
+    c.loop-line.invariant.fed
 
 pub returns : goal.returns
 returns c =
     feed_ends_if c.args.script.lines c.loop-line.at (state_of c.loop-line.feed) c.loop-line.feed.printed.items (settings_seen c.in_ok-settings.settings)
-    c.end.result (sym c.in_default.ensures) c.loop-line.invariant.settings c.end.ensures.printed c.end.ensures.refused c.loop-line.invariant.fed
+    c.end.result (sym c.in_default.ensures) c.loop-line.invariant.settings c.end.ensures.printed c.end.ensures.refused c.end.ensures.played
+    c.loop-line.invariant.fed

@@ -1,0 +1,100 @@
+-- What `replay`, `sample` and `drill` print, and what a network that was run hands back.
+use Rattle.std.specs.Prelude.{ℕ, ◌≡◌, ◌++◌, List, [], Option, Some, None, Result, Ok, Err}
+use Rattle.once_core.specs.Once.{Once}
+use Rattle.once_core.specs.StandsOnce.{StandsOnce}
+use Rattle.replay_world.specs.Played.{HasPlayed}
+use Rattle.replay_world.specs.Report.{lines_after, refusal_of_lines, report_of, report_of_lines}
+use Rattle.replay_world.specs.Report.{Refusal as WorldRefusal}
+use Rattle.replay_world.specs.Settled.{AreWritten}
+use Rattle.replay_world.specs.Setup.{files_in, setup_of}
+use Rattle.replay_world.specs.Summary.{summary_of, summary_text}
+use Rattle.replay_world.specs.Value.{ReplayValue, replay_of}
+use Rattle.replay_world.specs.declared.replay.Played.{Played}
+use Rattle.world_script.specs.Printing.{printed}
+use Rattle.world_script.specs.Sample.{sample_of}
+use Rattle.world_script.specs.Script.{Refusal as LineRefusal, script_in}
+use Rattle.world_script.specs.declared.kind.ScriptKind.TheVariants as kind
+use Rattle.world_script.specs.declared.line.Line.{Line}
+use Rattle.cgf_top.specs.Command.{extent_of}
+use Rattle.cgf_top.specs.declared.command.Command.{Command}
+use Rattle.cgf_top.specs.declared.command.Command.TheVariants.{Feed, Show, Replay, Sample, Drill}
+use Rattle.cgf_top.specs.declared.command.Seeded.{Seeded}
+use Rattle.cgf_top.specs.declared.input_kind.InputKind.TheVariants as input
+use Rattle.cgf_top.specs.declared.status.Status.{Status}
+use Rattle.cgf_top.specs.declared.status.Status.TheVariants as status
+
+-- A network that is run by the lines of a script.
+
+abbrev pub network_end : Option WorldRefusal → Status
+network_end None = status.Done
+network_end (Some refusal) = status.Input refusal.place (input.World refusal.kind)
+
+-- the lines of a script are run, all of them or up to the first that the world refuses; or the first that the grammar
+-- refuses is named
+abbrev pub replay_end : Result (List Line) LineRefusal → Status
+replay_end (Ok lines) = network_end (refusal_of_lines lines)
+replay_end (Err refusal) = status.Input refusal.place (input.Script refusal.kind)
+
+abbrev pub replay_report : Result (List Line) LineRefusal → List ℕ
+replay_report (Ok lines) = report_of_lines lines
+replay_report (Err refusal) = []
+
+-- the replay after all lines of a script
+abbrev pub replayed : List Line → ReplayValue
+replayed lines = lines_after (replay_of lines) lines
+
+-- A seed's script: its text, and the sums of what all gateways and nodes count after it.
+
+abbrev pub seeded_lines : Seeded → List Line
+seeded_lines of = sample_of of.seed (extent_of of)
+
+abbrev pub sample_report : Seeded → List ℕ
+sample_report of = printed kind.Replay (seeded_lines of)
+
+abbrev pub drill_report : Seeded → List ℕ
+drill_report of = summary_text (summary_of (replayed (seeded_lines of)))
+
+-- What is handed back.
+
+-- what the lines print ends with the report of what they make: all sealed files, and all counts
+abbrev pub EndsByReport : List Line → Type 0
+EndsByReport lines = (front : List ℕ) × (report_of_lines lines ≡ front ++ report_of (replayed lines))
+
+-- The areas, shelves and nodes are those of the world that the lines make, and the shelves have all files that the firm
+-- entries of its gateways close, which are all their entries; no file is open, and the report of the lines, which `drill`
+-- doesn't print, ends with these files.
+-- In the files of all its gateways each record of each packet that was ever resolved stands at exactly one place, and each
+-- record of any other packet at one at most; no copy that is held or was cancelled puts one there.
+pub record RanNetwork (lines : List Line) (played : Played) : Type 0 where
+  pub stands : HasPlayed (replayed lines) played
+  pub written : AreWritten (replayed lines)
+  pub told : EndsByReport lines
+  pub filed : Once (replayed lines).world
+  pub places : StandsOnce (files_in (setup_of lines)) (replayed lines).world
+
+-- the lines of the network that a command runs
+abbrev pub lines_ok : Result (List Line) LineRefusal → Option (List Line)
+lines_ok (Ok lines) = Some lines
+lines_ok (Err refusal) = None
+
+abbrev pub network_lines : Command → List ℕ → Option (List Line)
+network_lines Feed text = None
+network_lines Show text = None
+network_lines Replay text = lines_ok (script_in kind.Replay text)
+network_lines (Sample of) text = None
+network_lines (Drill of) text = Some (seeded_lines of)
+
+-- a network that ran to its end is handed back, and nothing else is
+abbrev pub HandsBack : Option (List Line) → Option Played → Type 0
+HandsBack None None = Unit {0}
+HandsBack None (Some played) = ⊥
+HandsBack (Some lines) None = ⊥
+HandsBack (Some lines) (Some played) = RanNetwork lines played
+
+abbrev pub HandsBackAt : Status → Option (List Line) → Option Played → Type 0
+HandsBackAt status.Done lines played = HandsBack lines played
+HandsBackAt status.Words lines played = played ≡ None
+HandsBackAt (status.Input place kind) lines played = played ≡ None
+HandsBackAt status.Read lines played = played ≡ None
+HandsBackAt status.Write lines played = played ≡ None
+HandsBackAt status.Memory lines played = played ≡ None
