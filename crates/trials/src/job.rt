@@ -2,7 +2,7 @@
 
 ghost use Rattle.std.specs.Prelude.{◌≤◌};
 
-use cgf_top::{InputKind, Status, run_cgf};
+use cgf_top::{InputKind, LineKind, Nobody, Status, WorldKind, run_cgf};
 use gw_base::{MemorySink, MemorySource, Octets};
 use std::test::Fail;
 
@@ -37,7 +37,7 @@ pub(crate) fn job(
     let input = Octets::of(alloc, input)?;
     let mut source = MemorySource::new(input, piece, fail_source.to_vec(alloc)?);
     let mut sink = MemorySink::new(alloc, SINK_OCTETS, fail_sink.to_vec(alloc)?)?;
-    let status = run_cgf(alloc, &given, &mut source, &mut sink);
+    let (status, _played) = run_cgf(alloc, &given, &mut source, &mut sink, &mut Nobody);
     Ok((status, sink.octets().to_vec(alloc)?))
 }
 
@@ -96,31 +96,47 @@ fn a_fault_of_the_input_or_the_output_is_told(rt: HostRuntime) -> Result<(), Fai
 
 /// Scripts that the grammar refuses, and the line that it refuses and why.
 const REFUSED: [(&str, u64, InputKind); 16] = [
-    ("", 1, InputKind::NoEnd),
-    ("\n# comment\nmark\n", 4, InputKind::NoEnd),
-    ("frob 1\nend\n", 1, InputKind::Word),
-    ("gateways 1\nend\n", 1, InputKind::Word),
-    (" end\t\n", 1, InputKind::Word),
-    ("end\r", 1, InputKind::Word),
-    ("end\nend\n", 2, InputKind::After),
-    ("at 1\nreserve 100\nend\n", 2, InputKind::Late),
-    ("mark 1\nend\n", 1, InputKind::Arity),
-    ("at 4102444800\nend\n", 1, InputKind::Number),
-    ("reserve 99\nend\n", 1, InputKind::Number),
-    ("limit files 1\nend\n", 1, InputKind::Number),
+    ("", 1, InputKind::Script(LineKind::NoEnd)),
+    ("\n# comment\nmark\n", 4, InputKind::Script(LineKind::NoEnd)),
+    ("frob 1\nend\n", 1, InputKind::Script(LineKind::Word)),
+    ("gateways 1\nend\n", 1, InputKind::Script(LineKind::Word)),
+    (" end\t\n", 1, InputKind::Script(LineKind::Word)),
+    ("end\r", 1, InputKind::Script(LineKind::Word)),
+    ("end\nend\n", 2, InputKind::Script(LineKind::After)),
+    (
+        "at 1\nreserve 100\nend\n",
+        2,
+        InputKind::Script(LineKind::Late),
+    ),
+    ("mark 1\nend\n", 1, InputKind::Script(LineKind::Arity)),
+    (
+        "at 4102444800\nend\n",
+        1,
+        InputKind::Script(LineKind::Number),
+    ),
+    ("reserve 99\nend\n", 1, InputKind::Script(LineKind::Number)),
+    (
+        "limit files 1\nend\n",
+        1,
+        InputKind::Script(LineKind::Number),
+    ),
     (
         "in 10.0.1.256:1 4EF0000500007E02FC0000\nend\n",
         1,
-        InputKind::Number,
+        InputKind::Script(LineKind::Number),
     ),
     (
         "in 10.0.1.1:1 4EF0000500007E02FC000\nend\n",
         1,
-        InputKind::Hex,
+        InputKind::Script(LineKind::Hex),
     ),
-    ("rule A0 1 16\nend\n", 1, InputKind::Rule),
+    ("rule A0 1 16\nend\n", 1, InputKind::Script(LineKind::Rule)),
     // The grammar is tested over the whole text before a line runs.
-    ("at 2\nat 1\nfrob\nend\n", 3, InputKind::Word),
+    (
+        "at 2\nat 1\nfrob\nend\n",
+        3,
+        InputKind::Script(LineKind::Word),
+    ),
 ];
 
 #[test]
@@ -140,7 +156,7 @@ in 10.0.1.1:40001 4EF0000500017E02FC0000\nend\n";
 #[test]
 fn a_line_that_cannot_be_run_ends_the_feed(rt: HostRuntime) -> Result<(), Fail> {
     let (status, printed) = feed(&rt, BACK_IN_TIME)?;
-    let (place, kind) = (4, InputKind::Earlier);
+    let (place, kind) = (4, InputKind::World(WorldKind::Earlier));
     assert_eq!(rt; status, Status::Input { place, kind });
     assert_eq!(rt;
         printed.as_slice(),
@@ -366,11 +382,11 @@ fn reports_are_as_the_formats_say(rt: HostRuntime) -> Result<(), Fail> {
 fn each_status_has_its_number_and_its_line(rt: HostRuntime) -> Result<(), Fail> {
     let earlier = Status::Input {
         place: 1,
-        kind: InputKind::Earlier,
+        kind: InputKind::World(WorldKind::Earlier),
     };
     let too_long = Status::Input {
         place: 16_777_217,
-        kind: InputKind::TooLong,
+        kind: InputKind::Script(LineKind::TooLong),
     };
     let lines = [
         (Status::Words, 1, "cgf: words"),

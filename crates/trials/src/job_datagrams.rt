@@ -3,7 +3,7 @@
 
 ghost use Rattle.std.specs.Prelude.{◌<◌};
 
-use cgf_top::{Status, run_cgf};
+use cgf_top::{Nobody, Status, run_cgf};
 use gw_base::{MemorySink, MemorySource, Octets};
 use std::test::Fail;
 
@@ -35,7 +35,7 @@ fn feed(rt: &HostRuntime, octets: usize, lines: &str) -> Result<(Status, Vec<u8>
     let script = Octets::of(alloc, text.as_bytes())?;
     let mut source = MemorySource::new(script, 4096, Vec::new(alloc));
     let mut sink = MemorySink::new(alloc, octets, Vec::new(alloc))?;
-    let status = run_cgf(alloc, &words, &mut source, &mut sink);
+    let (status, _played) = run_cgf(alloc, &words, &mut source, &mut sink, &mut Nobody);
     Ok((status, sink.octets().to_vec(alloc)?))
 }
 

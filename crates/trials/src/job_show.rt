@@ -2,7 +2,7 @@
 
 use crate::cdr_files::ONE_CDR;
 use crate::job::job;
-use cgf_top::{InputKind, Status};
+use cgf_top::{FileKind, InputKind, Status};
 use std::test::Fail;
 
 const LISTING: &str = "file 61 52 3.0 3.0 02-29/00:00/+00:00 02-29/00:00/+00:00 1 1 4 \
@@ -17,15 +17,15 @@ fn a_file_is_listed_or_its_first_fault_is_told(rt: HostRuntime) -> Result<(), Fa
     }
 
     let cases: [(usize, usize, u8, u64, InputKind); 9] = [
-        (0, 0, 0, 0, InputKind::Short),
-        (51, 0, 0, 51, InputKind::Short),
-        (60, 0, 0, 60, InputKind::FileLength),
-        (61, 7, 51, 4, InputKind::HeaderLength),
-        (61, 49, 9, 48, InputKind::Filter),
-        (61, 51, 1, 50, InputKind::Extension),
-        (55, 3, 55, 52, InputKind::CdrHeader),
-        (60, 3, 60, 52, InputKind::CdrCut),
-        (61, 21, 2, 18, InputKind::Count),
+        (0, 0, 0, 0, InputKind::File(FileKind::Short)),
+        (51, 0, 0, 51, InputKind::File(FileKind::Short)),
+        (60, 0, 0, 60, InputKind::File(FileKind::FileLength)),
+        (61, 7, 51, 4, InputKind::File(FileKind::HeaderLength)),
+        (61, 49, 9, 48, InputKind::File(FileKind::Filter)),
+        (61, 51, 1, 50, InputKind::File(FileKind::Extension)),
+        (55, 3, 55, 52, InputKind::File(FileKind::CdrHeader)),
+        (60, 3, 60, 52, InputKind::File(FileKind::CdrCut)),
+        (61, 21, 2, 18, InputKind::File(FileKind::Count)),
     ];
     for (length, at, octet, place, kind) in cases {
         let mut file = ONE_CDR;

@@ -29,9 +29,15 @@ mod job_datagrams;
 #[cfg(test)]
 mod job_show;
 #[cfg(test)]
+mod node_causes;
+#[cfg(test)]
 mod node_drafts;
 #[cfg(test)]
 mod node_driving;
+#[cfg(test)]
+mod node_logged;
+#[cfg(test)]
+mod node_plain;
 #[cfg(test)]
 mod stories;
 #[cfg(test)]

@@ -20,23 +20,23 @@ enum Step<'a> {
 }
 
 /// The packet with one record, plain and under number 0.
-const PLAIN: [u8; 22] = [
+pub(crate) const PLAIN: [u8; 22] = [
     0x4E, 0xF0, 0, 0x10, 0, 0, 0x7E, 1, 0xFC, 0, 0x0B, 1, 1, 6, 0, 0, 5, 0xA0, 3, 0x80, 1, 5,
 ];
 
 /// The same as a possible duplicate.
-const DUPLICATE: [u8; 22] = [
+pub(crate) const DUPLICATE: [u8; 22] = [
     0x4E, 0xF0, 0, 0x10, 0, 0, 0x7E, 2, 0xFC, 0, 0x0B, 1, 1, 6, 0, 0, 5, 0xA0, 3, 0x80, 1, 5,
 ];
 
 /// The test of number 0.
-const TEST: [u8; 11] = [0x4E, 0xF0, 0, 5, 0, 0, 0x7E, 2, 0xFC, 0, 0];
+pub(crate) const TEST: [u8; 11] = [0x4E, 0xF0, 0, 5, 0, 0, 0x7E, 2, 0xFC, 0, 0];
 
 /// The cancel with number 1 that names number 0.
-const CANCEL: [u8; 13] = [0x4E, 0xF0, 0, 7, 0, 1, 0x7E, 3, 0xFA, 0, 2, 0, 0];
+pub(crate) const CANCEL: [u8; 13] = [0x4E, 0xF0, 0, 7, 0, 1, 0x7E, 3, 0xFA, 0, 2, 0, 0];
 
 /// The release with number 1 that names number 0.
-const RELEASE: [u8; 13] = [0x4E, 0xF0, 0, 7, 0, 1, 0x7E, 4, 0xF9, 0, 2, 0, 0];
+pub(crate) const RELEASE: [u8; 13] = [0x4E, 0xF0, 0, 7, 0, 1, 0x7E, 4, 0xF9, 0, 2, 0, 0];
 
 /// A Node Alive Request with number 0, and the response to it.
 const ALIVE_REQUEST: [u8; 13] = [0x4E, 4, 0, 7, 0, 0, 0xFB, 0, 4, 10, 0, 1, 1];
@@ -47,9 +47,9 @@ const ALIVE_RESPONSE: [u8; 6] = [0x4E, 5, 0, 0, 0, 0];
 const ECHO_REQUEST: [u8; 6] = [0x4E, 1, 0, 0, 0, 7];
 
 /// The Redirection Request of a gateway that is about to go down, and the response to it.
-const REDIRECTION: [u8; 8] = [0x4E, 6, 0, 2, 0, 0, 1, 63];
+pub(crate) const REDIRECTION: [u8; 8] = [0x4E, 6, 0, 2, 0, 0, 1, 63];
 
-const REDIRECTED: [u8; 8] = [0x4E, 7, 0, 2, 0, 0, 1, 128];
+pub(crate) const REDIRECTED: [u8; 8] = [0x4E, 7, 0, 2, 0, 0, 1, 128];
 
 /// The node's first packet.
 const PACKET: PacketId = PacketId {
@@ -57,7 +57,8 @@ const PACKET: PacketId = PacketId {
     number: 1,
 };
 
-const GATEWAYS: [Addr; 3] = [
+/// The gateways of the nodes.
+pub(crate) const GATEWAYS: [Addr; 3] = [
     Addr {
         ip: 0x0A00_0001,
         port: 3386,
@@ -73,7 +74,7 @@ const GATEWAYS: [Addr; 3] = [
 ];
 
 /// The address of the gateway with this number, from 1 on.
-fn address(gateway: u8) -> Addr {
+pub(crate) fn address(gateway: u8) -> Addr {
     Addr {
         ip: 0x0A00_0000 + u32::from(gateway),
         port: 3386,
@@ -81,7 +82,7 @@ fn address(gateway: u8) -> Addr {
 }
 
 /// One tick.
-fn tick<R: Abort>(rt: &R, alloc: Global, node: &mut Node) -> Vec<Outgoing> {
+pub(crate) fn tick<R: Abort>(rt: &R, alloc: Global, node: &mut Node) -> Vec<Outgoing> {
     if !node.runs() {
         panic!(rt; "the node is halted");
     }
@@ -92,7 +93,7 @@ fn tick<R: Abort>(rt: &R, alloc: Global, node: &mut Node) -> Vec<Outgoing> {
 }
 
 /// One tick that sends just this.
-fn sends<R: Abort>(rt: &R, alloc: Global, node: &mut Node, wanted: &[Sent<'_>]) {
+pub(crate) fn sends<R: Abort>(rt: &R, alloc: Global, node: &mut Node, wanted: &[Sent<'_>]) {
     let sent = tick(rt, alloc, node);
     assert_eq!(rt; sent.len(), wanted.len());
     for (datagram, wanted) in sent.iter().zip(wanted) {
@@ -112,7 +113,13 @@ fn hears<R: Abort>(rt: &R, node: &mut Node, port: Port, gateway: u8, octets: &[u
 }
 
 /// Hears a datagram from a gateway, and answers it so.
-fn replies<R: Abort>(rt: &R, node: &mut Node, gateway: u8, octets: &[u8], wanted: &[u8]) {
+pub(crate) fn replies<R: Abort>(
+    rt: &R,
+    node: &mut Node,
+    gateway: u8,
+    octets: &[u8],
+    wanted: &[u8],
+) {
     let heeded = hears(rt, node, Port::First, gateway, octets);
     let Some(reply) = heeded.reply else {
         panic!(rt; "no answer to {octets:?}");
@@ -121,7 +128,7 @@ fn replies<R: Abort>(rt: &R, node: &mut Node, gateway: u8, octets: &[u8], wanted
 }
 
 /// Hears a gateway's answer to a number, which isn't answered; whether this makes the first packet resolved, and done.
-fn answers<R: Abort>(
+pub(crate) fn answers<R: Abort>(
     rt: &R,
     node: &mut Node,
     port: Port,
@@ -177,7 +184,7 @@ fn submit<R: Abort>(rt: &R, alloc: Global, node: &mut Node) -> Result<u64, Submi
 }
 
 /// A node with so many gateways, counter 1, to which they are alive, with one packet.
-fn ready<R: Abort>(rt: &R, alloc: Global, gateways: &[Addr]) -> Node {
+pub(crate) fn ready<R: Abort>(rt: &R, alloc: Global, gateways: &[Addr]) -> Node {
     if gateways.is_empty() || gateways.len() > 3 {
         panic!(rt; "no node has {} gateways here", gateways.len());
     }
@@ -270,78 +277,6 @@ fn after_three_ticks_of_silence_the_next_gateway_gets_a_duplicate(rt: HostRuntim
         Step::Sends(&[(Port::First, 1, &PLAIN)]),
     ];
     play(&rt, rt.alloc(), &mut node, &steps);
-}
-
-/// What a cause tells at a port: whether it ends a packet that has the plain copy alone, and how many datagrams the
-/// next tick sends; and, where the plain copy isn't answered and this is said of a duplicate at the second gateway,
-/// from which port and to which gateway the next tick sends.
-type Telling = (Port, u8, bool, usize, Port, u8);
-
-const TELLINGS: [Telling; 22] = [
-    (Port::First, 128, true, 0, Port::Second, 1),
-    (Port::First, 177, false, 1, Port::First, 2),
-    (Port::First, 193, false, 1, Port::First, 2),
-    (Port::First, 199, false, 1, Port::First, 1),
-    (Port::First, 201, false, 1, Port::First, 2),
-    (Port::First, 202, false, 1, Port::First, 2),
-    (Port::First, 204, false, 1, Port::First, 1),
-    (Port::First, 252, false, 1, Port::Second, 1),
-    (Port::First, 253, true, 0, Port::First, 2),
-    (Port::First, 254, false, 1, Port::First, 2),
-    (Port::First, 255, false, 1, Port::First, 2),
-    (Port::Second, 128, false, 0, Port::First, 2),
-    (Port::Second, 177, false, 1, Port::First, 2),
-    (Port::Second, 193, false, 1, Port::First, 2),
-    (Port::Second, 199, false, 1, Port::First, 2),
-    (Port::Second, 201, false, 1, Port::First, 2),
-    (Port::Second, 202, false, 1, Port::First, 2),
-    (Port::Second, 204, false, 1, Port::First, 2),
-    (Port::Second, 252, false, 1, Port::Second, 1),
-    (Port::Second, 253, true, 0, Port::First, 2),
-    (Port::Second, 254, false, 1, Port::First, 2),
-    (Port::Second, 255, false, 1, Port::First, 2),
-];
-
-/// What is told of the plain copy, where there is no other.
-fn tells_of_the_plain_copy<R: Abort>(rt: &R, alloc: Global, telling: Telling) {
-    let (port, cause, is_done, count, _, _) = telling;
-    let mut node = ready(rt, alloc, &GATEWAYS[..1]);
-    sends(rt, alloc, &mut node, &[(Port::First, 1, &PLAIN)]);
-    let made = answers(rt, &mut node, port, 1, 0, cause);
-    assert_eq!(rt; made, (is_done, is_done), "{port:?} {cause}");
-    assert_eq!(rt; tick(rt, alloc, &mut node).len(), count, "{port:?} {cause}");
-}
-
-/// A node that sent a duplicate, as the first gateway is about to go down.
-fn with_a_duplicate<R: Abort>(rt: &R, alloc: Global) -> Node {
-    let mut node = ready(rt, alloc, &GATEWAYS[..2]);
-    sends(rt, alloc, &mut node, &[(Port::First, 1, &PLAIN)]);
-    replies(rt, &mut node, 1, &REDIRECTION, &REDIRECTED);
-    sends(rt, alloc, &mut node, &[(Port::First, 2, &DUPLICATE)]);
-    node
-}
-
-/// What is told of a duplicate.
-fn tells_of_a_duplicate<R: Abort>(rt: &R, alloc: Global, telling: Telling) {
-    let (port, cause, _, _, from, to) = telling;
-    let mut node = with_a_duplicate(rt, alloc);
-    let made = answers(rt, &mut node, port, 2, 0, cause);
-    assert_eq!(rt; made, (false, false), "{port:?} {cause}");
-    for sent in &tick(rt, alloc, &mut node) {
-        assert_eq!(rt;
-            (sent.port, sent.to),
-            (from, address(to)),
-            "{port:?} {cause}"
-        );
-    }
-}
-
-#[test]
-fn each_cause_tells_what_it_does_at_its_port(rt: HostRuntime) {
-    for telling in &TELLINGS {
-        tells_of_the_plain_copy(&rt, rt.alloc(), *telling);
-        tells_of_a_duplicate(&rt, rt.alloc(), *telling);
-    }
 }
 
 /// Submits the packet with one record, which is answered so.

@@ -1,6 +1,6 @@
 //! The stories of `examples/`: what the job prints for each, and how it ends.
 
-use crate::job::feed;
+use crate::job::job;
 use crate::story_texts::STORIES;
 use cgf_top::Status;
 use std::test::Fail;
@@ -17,7 +17,8 @@ fn told(rt: &HostRuntime, status: Status) -> Result<String, Fail> {
 #[test]
 fn each_story_is_told_as_it_stands_beside_it(rt: HostRuntime) -> Result<(), Fail> {
     for story in STORIES {
-        let (status, printed) = feed(&rt, story.script)?;
+        let words = [story.command, "-"];
+        let (status, printed) = job(&rt, &words, story.script.as_bytes(), 4096, &[], &[])?;
         let told = told(&rt, status)?;
         assert_eq!(rt;
             printed.as_slice(),

@@ -1,16 +1,19 @@
-//! The feeds of `examples/`, with what stands beside each. `./do stories` makes this file of them.
+//! The stories of `examples/`, with what stands beside each. `./do stories` makes this file of them.
 
 /// A script, what is printed for it, and what is said on the standard error where it can't be run to its end.
 #[derive(Clone, Copy)]
 pub(crate) struct Story {
+    /// The command that runs it.
+    pub(crate) command: &'static str,
     pub(crate) name: &'static str,
     pub(crate) script: &'static str,
     pub(crate) printed: &'static str,
     pub(crate) told: &'static str,
 }
 
-pub(crate) const STORIES: [Story; 18] = [
+pub(crate) const STORIES: [Story; 23] = [
     Story {
+        command: "feed",
         name: "captured",
         script: "\
 # What a capture had, fed to a gateway: this script was made by `tools/capture-to-feed CAPTURE 10.0.0.1`, but for these
@@ -55,6 +58,7 @@ gateway 1 entries 6 records 8 held 0 stranded 0
         told: "",
     },
     Story {
+        command: "feed",
         name: "clock-goes-back",
         script: "\
 # A script that can't run to its end. Each line has its right form, so the script is read. But the clock goes back, and
@@ -75,6 +79,7 @@ cgf: input 7: Earlier
 ",
     },
     Story {
+        command: "feed",
         name: "duplicate-cancelled",
         script: "\
 # A possible duplicate that is cancelled: it turns out that the first gateway filed the packet and that only its answer
@@ -124,6 +129,7 @@ gateway 1 entries 6 records 0 held 0 stranded 0
         told: "",
     },
     Story {
+        command: "feed",
         name: "duplicate-released",
         script: "\
 # A possible duplicate: held, tested, released. TS 32.295 has a rule for the packet whose answer was lost: the node
@@ -175,6 +181,7 @@ gateway 1 entries 4 records 1 held 0 stranded 0
         told: "",
     },
     Story {
+        command: "feed",
         name: "faulty-messages",
         script: "\
 # Messages that aren't right. Each datagram goes through the tests of docs/formats/wire.md in order, and the first that
@@ -240,6 +247,7 @@ gateway 1 entries 4 records 2 held 0 stranded 0
         told: "",
     },
     Story {
+        command: "feed",
         name: "files-by-count",
         script: "\
 # CDR files that are closed by the number of their records. The closure reason is 3, maximum number of CDRs.
@@ -271,6 +279,7 @@ gateway 1 entries 5 records 5 held 0 stranded 0
         told: "",
     },
     Story {
+        command: "feed",
         name: "files-by-kind",
         script: "\
 # A file has records of one release, version and format alone, since its header states them once. A record of another
@@ -302,6 +311,7 @@ gateway 1 entries 6 records 4 held 0 stranded 0
         told: "",
     },
     Story {
+        command: "feed",
         name: "files-by-size",
         script: "\
 # CDR files that are closed by size (3GPP TS 32.297). A file ends once it has reached the size: the record that reaches
@@ -330,6 +340,7 @@ gateway 1 entries 4 records 4 held 0 stranded 0
         told: "",
     },
     Story {
+        command: "feed",
         name: "files-by-time",
         script: "\
 # CDR files that are closed by time, and by hand. The closure reasons are 2, file open-time limit, and 4, manual
@@ -377,6 +388,7 @@ gateway 1 entries 7 records 3 held 0 stranded 0
         told: "",
     },
     Story {
+        command: "feed",
         name: "first-gateway",
         script: "\
 # The other half of duplicate-released.feed and duplicate-cancelled.feed: the first gateway, which a node asks whether
@@ -423,6 +435,7 @@ gateway 1 entries 5 records 2 held 0 stranded 0
         told: "",
     },
     Story {
+        command: "feed",
         name: "first",
         script: "\
 at 1709164800
@@ -438,6 +451,7 @@ gateway 1 entries 3 records 1 held 0 stranded 0
         told: "",
     },
     Story {
+        command: "feed",
         name: "full-journal",
         script: "\
 # A full journal. What a gateway has answered for must never be lost, so it stands in the journal first. Where the
@@ -489,6 +503,7 @@ gateway 1 entries 6 records 2 held 0 stranded 0
         told: "",
     },
     Story {
+        command: "feed",
         name: "other-versions",
         script: "\
 # Nodes of GTP' versions 0 and 1. The gateway speaks version 2 alone. To every other version it answers Version Not
@@ -520,6 +535,7 @@ gateway 1 entries 3 records 1 held 0 stranded 0
         told: "",
     },
     Story {
+        command: "feed",
         name: "refused",
         script: "\
 # A script that is refused. A script is read whole before anything is done, and the first faulty line decides. So
@@ -537,6 +553,7 @@ cgf: input 7: Hex
 ",
     },
     Story {
+        command: "feed",
         name: "restart",
         script: "\
 # A node that restarts and says so. After a restart a node's sequence numbers begin anew, so the gateway must know
@@ -595,6 +612,7 @@ gateway 1 entries 7 records 2 held 0 stranded 1
         told: "",
     },
     Story {
+        command: "feed",
         name: "send",
         script: "\
 # A send. A P-GW sends charging data records (CDRs) to the Charging Gateway Function (CGF), which files them and says
@@ -653,6 +671,7 @@ gateway 1 entries 6 records 5 held 0 stranded 0
         told: "",
     },
     Story {
+        command: "feed",
         name: "streams",
         script: "\
 # Rules and streams. Billing wants P-GW records apart from S-GW records, and what it can't read apart from both. A rule
@@ -700,6 +719,7 @@ gateway 1 entries 7 records 6 held 0 stranded 0
         told: "",
     },
     Story {
+        command: "feed",
         name: "unannounced-restart",
         script: "\
 # A node that restarts and doesn't say so. It is the operator's error to let a node do that; this is what comes of it.
@@ -735,6 +755,391 @@ end
 file 1 00-0000000001.cdr 0000005B00000034A0A02E8008002E84080000000003000000010400000000000000000000FFFF0A00000100000000\
 00000000000009A020BF4F068001559401010009A020BF4F068001559401020009A020BF4F06800155940104
 gateway 1 entries 6 records 3 held 0 stranded 0
+",
+        told: "",
+    },
+    Story {
+        command: "replay",
+        name: "failing-disk",
+        script: "\
+# A disk that fails for a moment. The gateway lives on: it answers 204, system failure, what it couldn't make firm, and
+# opens its journal again at the next call. The node goes to another gateway.
+gateways 2
+nodes 1
+at 1709164800
+
+# The paths.
+tick 1
+flow
+flow
+flow
+commit 1
+commit 2
+flow
+
+# A packet comes to gateway 1 (9). The second call of its commit fails, the sync of what it wrote: the packet isn't
+# firm, and the node is told 204 (10).
+submit 1 1 0800 BF4F06800155940101
+tick 1
+deliver 9
+fail 1 2
+commit 1
+deliver 10
+
+# At 204 the node moves to gateway 2 and gives it the packet as possibly duplicated (11): held (12).
+tick 1
+deliver 11
+commit 2
+deliver 12
+# It tests the number at gateway 1 (13), which has opened its journal again: the packet isn't there, 128 (14). The
+# number is sealed.
+tick 1
+deliver 13
+commit 1
+deliver 14
+# The copy at gateway 2 is released (15) and filed (16).
+tick 1
+deliver 15
+commit 2
+deliver 16
+
+# The report: one record, in the file of gateway 2.
+end
+",
+        printed: "\
+m 1 n1:1 g1 4E0400070000FB00040A000101
+m 2 n1:1 g2 4E0400070000FB00040A000101
+m 3 g1 n1:1 4E0100000000
+m 4 g2 n1:1 4E0100000000
+m 5 n1:1 g1 4E02000200000E01
+m 6 n1:1 g2 4E02000200000E01
+m 7 g1 n1:1 4E0500000000
+m 8 g2 n1:1 4E0500000000
+packet 1.1
+m 9 n1:1 g1 4EF0001400007E01FC000F010108000009BF4F06800155940101
+fault 1
+m 10 g1 n1:1 4EF10007000001CCFD00020000
+m 11 n1:1 g2 4EF0001400007E02FC000F010108000009BF4F06800155940101
+m 12 g2 n1:1 4EF1000700000180FD00020000
+m 13 n1:2 g1 4EF0000500007E02FC0000
+m 14 g1 n1:2 4EF1000700000180FD00020000
+m 15 n1:2 g2 4EF0000700017E04F900020000
+m 16 g2 n1:2 4EF1000700010180FD00020001
+resolved 1.1
+done 1.1
+gateway 1 entries 3 records 0 held 0 stranded 0
+file 2 00-0000000001.cdr 0000004100000034A0A02E8008002E80080000000001000000010400000000000000000000FFFF0A00000200000000\
+00000000000009A020BF4F06800155940101
+gateway 2 entries 5 records 1 held 0 stranded 0
+node 1 packets 1 resolved 1 done 1
+",
+        told: "",
+    },
+    Story {
+        command: "replay",
+        name: "late-packet",
+        script: "\
+# The mirror image of lost-answer.replay: not the answer is lost, but the packet is late. It comes to gateway 1 when all
+# is over, and must not be filed then.
+gateways 2
+nodes 1
+at 1709164800
+
+# The paths, as in lost-answer.replay.
+tick 1
+flow
+flow
+flow
+commit 1
+commit 2
+flow
+
+# The packet sets out to gateway 1 (message 9), and stays on its way.
+submit 1 1 0800 BF4F06800155940101
+tick 1
+# Gateway 1 asks its nodes to go elsewhere (10). The node gives the packet to gateway 2, as possibly duplicated (12).
+redirect 1 63
+deliver 10
+tick 1
+deliver 12
+commit 2
+deliver 13
+
+# The test at gateway 1 (14): the packet never came, 128 (15), and its number is sealed there.
+tick 1
+deliver 14
+commit 1
+deliver 15
+# So the copy at gateway 2 is released (16) and filed there (17). The packet is resolved and done.
+tick 1
+deliver 16
+commit 2
+deliver 17
+
+# Now the packet comes to gateway 1. Its number is sealed: 255 (18), and nothing is filed.
+deliver 9
+
+# The report: the record is in the file of gateway 2, once.
+end
+",
+        printed: "\
+m 1 n1:1 g1 4E0400070000FB00040A000101
+m 2 n1:1 g2 4E0400070000FB00040A000101
+m 3 g1 n1:1 4E0100000000
+m 4 g2 n1:1 4E0100000000
+m 5 n1:1 g1 4E02000200000E01
+m 6 n1:1 g2 4E02000200000E01
+m 7 g1 n1:1 4E0500000000
+m 8 g2 n1:1 4E0500000000
+packet 1.1
+m 9 n1:1 g1 4EF0001400007E01FC000F010108000009BF4F06800155940101
+m 10 g1 n1:1 4E0600020000013F
+m 11 n1:1 g1 4E07000200000180
+m 12 n1:1 g2 4EF0001400007E02FC000F010108000009BF4F06800155940101
+m 13 g2 n1:1 4EF1000700000180FD00020000
+m 14 n1:2 g1 4EF0000500007E02FC0000
+m 15 g1 n1:2 4EF1000700000180FD00020000
+m 16 n1:2 g2 4EF0000700017E04F900020000
+m 17 g2 n1:2 4EF1000700010180FD00020001
+resolved 1.1
+done 1.1
+m 18 g1 n1:1 4EF10007000001FFFD00020000
+gateway 1 entries 3 records 0 held 0 stranded 0
+file 2 00-0000000001.cdr 0000004100000034A0A02E8008002E80080000000001000000010400000000000000000000FFFF0A00000200000000\
+00000000000009A020BF4F06800155940101
+gateway 2 entries 5 records 1 held 0 stranded 0
+node 1 packets 1 resolved 1 done 1
+",
+        told: "",
+    },
+    Story {
+        command: "replay",
+        name: "lost-answer",
+        script: "\
+# A lost answer and a redirection, over two gateways. A replay says what befalls nodes, gateways and the messages
+# between them, one event a line. Messages are numbered from 1 as they are sent; each is printed with its number, its
+# ends and its octets: g1 is gateway 1, n1:1 and n1:2 are the first and the second port of node 1.
+gateways 2
+nodes 1
+at 1709164800
+
+# The paths. The node sends a Node Alive Request to each gateway (1, 2), is asked for its restart counter (3, 4), tells
+# it (5, 6), and hears that both are alive (7, 8) once they have its new epoch in their journals: `commit` does that.
+tick 1
+flow
+flow
+flow
+commit 1
+commit 2
+flow
+
+# The node has a packet with one record: format 1, version 0800. It sends it to its favourite, gateway 1 (message 9).
+submit 1 1 0800 BF4F06800155940101
+tick 1
+deliver 9
+# Gateway 1 has filed it and made it firm. Its answer, 128, is message 10. It is lost: no line delivers it.
+commit 1
+
+# Gateway 1 is about to go down (cause 63) and asks its nodes to go elsewhere. The node agrees (12).
+redirect 1 63
+deliver 11
+# So the node gives its packet, for which it has no answer, to gateway 2, as possibly duplicated (13): held there (14).
+tick 1
+deliver 13
+commit 2
+deliver 14
+
+# It asks gateway 1 by the empty packet whether the packet came (15). It did: 253 (16). So the packet is resolved.
+tick 1
+deliver 15
+deliver 16
+# The copy at gateway 2 is cancelled (17, 18), and the packet is done.
+tick 1
+deliver 17
+commit 2
+deliver 18
+
+# The report: gateway 1 has the record in its file, gateway 2 has none. It was filed once.
+end
+",
+        printed: "\
+m 1 n1:1 g1 4E0400070000FB00040A000101
+m 2 n1:1 g2 4E0400070000FB00040A000101
+m 3 g1 n1:1 4E0100000000
+m 4 g2 n1:1 4E0100000000
+m 5 n1:1 g1 4E02000200000E01
+m 6 n1:1 g2 4E02000200000E01
+m 7 g1 n1:1 4E0500000000
+m 8 g2 n1:1 4E0500000000
+packet 1.1
+m 9 n1:1 g1 4EF0001400007E01FC000F010108000009BF4F06800155940101
+m 10 g1 n1:1 4EF1000700000180FD00020000
+m 11 g1 n1:1 4E0600020000013F
+m 12 n1:1 g1 4E07000200000180
+m 13 n1:1 g2 4EF0001400007E02FC000F010108000009BF4F06800155940101
+m 14 g2 n1:1 4EF1000700000180FD00020000
+m 15 n1:2 g1 4EF0000500007E02FC0000
+m 16 g1 n1:2 4EF10007000001FDFD00020000
+resolved 1.1
+m 17 n1:2 g2 4EF0000700017E03FA00020000
+m 18 g2 n1:2 4EF1000700010180FD00020001
+done 1.1
+file 1 00-0000000001.cdr 0000004100000034A0A02E8008002E80080000000001000000010400000000000000000000FFFF0A00000100000000\
+00000000000009A020BF4F06800155940101
+gateway 1 entries 4 records 1 held 0 stranded 0
+gateway 2 entries 4 records 0 held 0 stranded 0
+node 1 packets 1 resolved 1 done 1
+",
+        told: "",
+    },
+    Story {
+        command: "replay",
+        name: "node-restart",
+        script: "\
+# A node that restarts while one of its packets is on its way. What was sent before the restart means nothing after it.
+gateways 1
+nodes 1
+at 1709164800
+
+# The path. The node's restart counter is 1.
+tick 1
+flow
+flow
+flow
+commit 1
+flow
+
+# A packet sets out (5), and stays on its way. The node halts and forgets it.
+submit 1 1 0800 BF4F06800155940101
+tick 1
+halt 1
+
+# It starts again: its restart counter is 2, and its numbers begin at 0. It makes itself known anew (6 to 9).
+start 1
+tick 1
+deliver 6
+deliver 7
+deliver 8
+commit 1
+deliver 9
+
+# A new packet under the number 0 (10): filed, 128 (11).
+submit 1 1 0800 BF4F06800155940102
+tick 1
+deliver 10
+commit 1
+deliver 11
+
+# Now the packet of before comes. The gateway would take it for a repeat of the one that it has just filed. The replay
+# calls such a message expired and doesn't deliver it: that records are filed once rests on networks that keep no
+# datagram past the restart of its node.
+deliver 5
+
+# The report: of two packets one is resolved and filed. The other was lost with the node's memory.
+end
+",
+        printed: "\
+m 1 n1:1 g1 4E0400070000FB00040A000101
+m 2 g1 n1:1 4E0100000000
+m 3 n1:1 g1 4E02000200000E01
+m 4 g1 n1:1 4E0500000000
+packet 1.1
+m 5 n1:1 g1 4EF0001400007E01FC000F010108000009BF4F06800155940101
+m 6 n1:1 g1 4E0400070000FB00040A000101
+m 7 g1 n1:1 4E0100000000
+m 8 n1:1 g1 4E02000200000E02
+m 9 g1 n1:1 4E0500000000
+packet 1.2
+m 10 n1:1 g1 4EF0001400007E01FC000F010108000009BF4F06800155940102
+m 11 g1 n1:1 4EF1000700000180FD00020000
+resolved 1.2
+done 1.2
+expired 5
+file 1 00-0000000001.cdr 0000004100000034A0A02E8008002E80080000000001000000010400000000000000000000FFFF0A00000100000000\
+00000000000009A020BF4F06800155940102
+gateway 1 entries 5 records 1 held 0 stranded 0
+node 1 packets 2 resolved 1 done 1
+",
+        told: "",
+    },
+    Story {
+        command: "replay",
+        name: "stopped-write",
+        script: "\
+# A gateway that stops in the middle of a write. It makes its entries firm in four calls of its disk: it writes the
+# batch, syncs, opens the batch's gate by writing one octet, and syncs. `arm 1 K MODE` stops it in the K-th call; MODE
+# says whether what wasn't synced is lost (old) or got to the disk all the same (new). In neither case was the node
+# answered, so it sends again.
+gateways 1
+nodes 1
+at 1709164800
+
+# The path.
+tick 1
+flow
+flow
+flow
+commit 1
+flow
+
+# The first packet comes (5), and the gateway stops in the first sync, before the gate is open. The packet is lost.
+submit 1 1 0800 BF4F06800155940101
+tick 1
+deliver 5
+arm 1 2 old
+commit 1
+# The node sends it again (6). Nobody is there.
+tick 1
+deliver 6
+# The gateway is opened again and reads its journal. The packet comes again (7): it is new, 128 (8).
+open 1
+tick 1
+deliver 7
+commit 1
+deliver 8
+
+# With the second packet (9) the gateway stops when it has written the gate, and the octet got to the disk. So the
+# packet is filed, and the node doesn't know.
+submit 1 1 0800 BF4F06800155940102
+tick 1
+deliver 9
+arm 1 3 new
+commit 1
+# It is opened again; the packet comes again (10): 253, already fulfilled (11).
+open 1
+tick 1
+deliver 10
+commit 1
+deliver 11
+
+# The report: both records, each once. Every opening made a Start, so the gateway had three.
+end
+",
+        printed: "\
+m 1 n1:1 g1 4E0400070000FB00040A000101
+m 2 g1 n1:1 4E0100000000
+m 3 n1:1 g1 4E02000200000E01
+m 4 g1 n1:1 4E0500000000
+packet 1.1
+m 5 n1:1 g1 4EF0001400007E01FC000F010108000009BF4F06800155940101
+stopped 1
+m 6 n1:1 g1 4EF0001400007E01FC000F010108000009BF4F06800155940101
+down 6
+m 7 n1:1 g1 4EF0001400007E01FC000F010108000009BF4F06800155940101
+m 8 g1 n1:1 4EF1000700000180FD00020000
+resolved 1.1
+done 1.1
+packet 1.2
+m 9 n1:1 g1 4EF0001400017E01FC000F010108000009BF4F06800155940102
+stopped 1
+m 10 n1:1 g1 4EF0001400017E01FC000F010108000009BF4F06800155940102
+m 11 g1 n1:1 4EF10007000101FDFD00020001
+resolved 1.2
+done 1.2
+file 1 00-0000000001.cdr 0000004E00000034A0A02E8008002E80080000000002000000010400000000000000000000FFFF0A00000100000000\
+00000000000009A020BF4F068001559401010009A020BF4F06800155940102
+gateway 1 entries 7 records 2 held 0 stranded 0
+node 1 packets 2 resolved 2 done 2
 ",
         told: "",
     },
