@@ -62,7 +62,7 @@ where)
     ;;
 proved)
     for crate in ${2:-$(ls crates)}; do
-        [ -d "crates/$crate" ] || usage
+        [ -d "crates/$crate" ] || { echo "no crate has the name $crate" >&2; exit 1; }
         proved "$crate"
         echo
     done

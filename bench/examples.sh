@@ -3,9 +3,10 @@
 # NAME.out on standard output, and status 0; where there is a NAME.err, that on standard error, and status 2. Run it at
 # the top of the repository. The outputs were made by the models of tools/model.
 #
-#   bench/examples.sh           the program on the feeds
+#   bench/examples.sh           the program on all of them
+#   bench/examples.sh feed      the program on the feeds
 #   bench/examples.sh replay    the program on the replays
-#   bench/examples.sh model     the models on both
+#   bench/examples.sh model     the models on all of them
 #
 # It ends with status 1 where one differs.
 cd "$(dirname "$0")/.." || exit 1
@@ -41,7 +42,8 @@ compare() {
     failed=1
 }
 
-case ${1:-feed} in
+case ${1:-all} in
+all) of=program stories=(examples/*.feed examples/*.replay) ;;
 feed) of=program stories=(examples/*.feed) ;;
 replay) of=program stories=(examples/*.replay) ;;
 model) of=model stories=(examples/*.feed examples/*.replay) ;;

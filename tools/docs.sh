@@ -13,6 +13,7 @@ docs() {
     trap 'rm -rf "$work"' EXIT
     check_map "$work"
     check_uses "$work"
+    check_picture "$work"
     stories | cmp -s - "$stories_file" || echo "$stories_file: not as examples/ has the stories; ./do stories makes it"
     # what the sources name, without comments
     {
@@ -24,7 +25,7 @@ docs() {
         ls -R bench examples docs
     } | grep -oE '[A-Za-z_][A-Za-z0-9_]*' | sort -u >"$work/words"
     clauses_of_all | sort -u >"$work/clauses"
-    for page in README.md CONTRIBUTING.md CHANGELOG.md docs/*.md docs/*/*.md; do
+    for page in README.md CONTRIBUTING.md CHANGELOG.md docs/*.md docs/*/*.md bench/README.md examples/README.md; do
         [ -e "$page" ] || continue
         check_paths "$page"
         check_labels "$page"
@@ -34,14 +35,16 @@ docs() {
     done
 }
 
-# The map has each crate and each definition file, and no other.
+# The map has each crate, and each definition file once, and no other.
 check_map() {
     local work=$1 page crate
     specs | grep -v '/Lib\.antt$' | sed 's,^crates/,,; s,/specs/,\t,' | sort >"$work/there"
     awk '/^#+ / { crate = ""; if (match($0, /`[a-z_0-9]+`/)) crate = substr($0, RSTART + 1, RLENGTH - 2) }
         crate != "" { line = $0; while (match(line, /`[A-Za-z0-9]+\.antt`/)) {
             print crate "\t" substr(line, RSTART + 1, RLENGTH - 2); line = substr(line, RSTART + RLENGTH) } }' \
-        docs/ARCHITECTURE.md | sort -u >"$work/mapped"
+        docs/ARCHITECTURE.md | sort >"$work/listed"
+    sort -u "$work/listed" >"$work/mapped"
+    uniq -d "$work/listed" | sed 's,\t,/specs/,; s,^,docs/ARCHITECTURE.md: the map has twice ,'
     comm -23 "$work/there" "$work/mapped" | sed 's,\t,/specs/,; s,^,docs/ARCHITECTURE.md: the map lacks ,'
     comm -13 "$work/there" "$work/mapped" | sed 's,\t,/specs/,; s,^,docs/ARCHITECTURE.md: no such file ,'
     for page in docs/ARCHITECTURE.md docs/PROVED.md; do
@@ -64,6 +67,52 @@ check_uses() {
         sed -E 's/^([a-z_0-9]+) .*Stands on (.*)/\1 \2/; s/,//g; s/ nothing$//' | sorted_words >"$work/told"
     comm -3 "$work/uses" "$work/told" | tr -d '\t' | cut -d ' ' -f 1 | sort -u |
         sed 's,.*,docs/ARCHITECTURE.md: crates.txt says otherwise of what & stands on,'
+}
+
+# The picture of the layers has each crate, and each pair of it is in crates.txt. A name stands on those behind its
+# lines, and on those that hang from it.
+check_picture() {
+    local work=$1
+    sed 's/#.*//; s/ staticlib:/:/; /:/!d' crates.txt >"$work/pairs"
+    sed -n '/^## Layers/,/^## How/s/^    //p' docs/ARCHITECTURE.md |
+        sed 's/├/+/g; s/└/+/g; s/─/-/g; s/│/|/g' | awk '
+        function pair(a, b) { if (!((a, b) in there)) wrong(a " doesn\047t stand on " b) }
+        function wrong(text) { print "docs/ARCHITECTURE.md: by crates.txt " text ", as the picture has it" }
+        NR == FNR {
+            split($0, half, ":"); crates[half[1]] = 1
+            n = split(half[2], list, " "); for (i = 1; i <= n; i++) there[half[1], list[i]] = 1
+            next
+        }
+        /^beneath:/ { below = 1 }
+        # beneath: NAME under NAME, NAME and NAME; or under all but these
+        below { words = words " " $0; next }
+        !match($0, /[a-z]/) || /:$/ { next }
+        {
+            column = RSTART; text = substr($0, column); sub(/  .*/, "", text)
+            count = split(text, chain, / -+ /)
+            for (i = 1; i <= count; i++) {
+                n = split(chain[i], names, ", ")
+                for (k = 1; k <= n; k++) {
+                    shown[names[k]] = 1
+                    if (i > 1) pair(first, names[k])
+                    else for (c = column - 1; c > 0; c--) if (c in at) { pair(at[c], names[k]); break }
+                }
+                first = names[1]
+                if (i == 1) { for (c in at) if (c + 0 >= column) delete at[c]; at[column] = first }
+            }
+        }
+        END {
+            sub(/^ beneath: /, "", words); count = split(words, parts, "; ")
+            for (i = 1; i <= count; i++) if (match(parts[i], / under /)) {
+                name = substr(parts[i], 1, RSTART - 1); rest = substr(parts[i], RSTART + 7)
+                shown[name] = 1; but = sub(/^all but /, "", rest); sub(/ too$/, "", rest); gsub(/,| and /, " ", rest)
+                n = split(rest, list, " "); split("", named); for (k = 1; k <= n; k++) named[list[k]] = 1
+                if (!but) for (crate in named) pair(crate, name)
+                if (but) for (crate in crates) if (crate != name && (((crate, name) in there) == (crate in named)))
+                    wrong(crate (crate in named ? " stands on " : " doesn\047t stand on ") name)
+            }
+            for (crate in crates) if (!(crate in shown)) print "docs/ARCHITECTURE.md: the picture lacks " crate
+        }' "$work/pairs" - | sort
 }
 
 # Lines of a crate and what it stands on, each in one order.

@@ -17,16 +17,18 @@ as_string() {
         END { printf "\"" }' "$1"
 }
 
-# The module: each feed with what is printed for it and what is said of its end.
+# The module: each feed and each replay with what is printed for it and what is said of its end.
 stories() {
-    local LC_ALL=C feed name part
-    local all=(examples/*.feed)
+    local LC_ALL=C story name part
+    local all=(examples/*.feed examples/*.replay)
     cat <<TEXT
-//! The feeds of \`examples/\`, with what stands beside each. \`./do stories\` makes this file of them.
+//! The stories of \`examples/\`, with what stands beside each. \`./do stories\` makes this file of them.
 
 /// A script, what is printed for it, and what is said on the standard error where it can't be run to its end.
 #[derive(Clone, Copy)]
 pub(crate) struct Story {
+    /// The command that runs it.
+    pub(crate) command: &'static str,
     pub(crate) name: &'static str,
     pub(crate) script: &'static str,
     pub(crate) printed: &'static str,
@@ -35,11 +37,12 @@ pub(crate) struct Story {
 
 pub(crate) const STORIES: [Story; ${#all[@]}] = [
 TEXT
-    for feed in "${all[@]}"; do
-        name=${feed%.feed}
+    for story in "${all[@]}"; do
+        name=${story%.*}
         echo "    Story {"
+        echo "        command: \"${story##*.}\","
         echo "        name: \"${name#examples/}\","
-        for part in script:feed printed:out told:err; do
+        for part in "script:${story##*.}" printed:out told:err; do
             if [ -s "$name.${part#*:}" ]; then
                 printf '        %s: %s,\n' "${part%:*}" "$(as_string "$name.${part#*:}")"
             else

@@ -31,6 +31,12 @@ where() {
         echo "crate: crates/$word, see docs/ARCHITECTURE.md"
         found=1
     fi
+    # a long line is cut at a space
+    local short='function short(text) {
+        if (length(text) > 100) { text = substr(text, 1, 100); sub(/ [^ ]*$/, " ..", text) }
+        return text
+    }
+    '
     # A crate or a type in front says where the name stands, and nothing of where it is used.
     local all files bodies parts defined crates importers text methods hits citations
     files=$(sources; specs)
@@ -48,7 +54,9 @@ where() {
     text=$(pattern "$word" "$type" "$bodies")
     if [ -n "$defined" ]; then
         found=1
-        show definition "$(awk -F'\t' '{ print $1 ":" $2 ": " substr($4, 1, 100) }' <<<"$defined")"
+        show definition "$(awk -F'\t' "$short"'{ print $1 ":" $2 ": " short($4) }' <<<"$defined")"
+        [ -n "$crate" ] || [ "$(cut -d / -f 2 <<<"$defined" | sort -u | wc -l)" -lt 2 ] ||
+            echo "    (of several crates: CRATE::$word is of one)"
     fi
     if [ -n "$defined" ] || grep -qE $'\t(struct|enum|type|trait)\t' <<<"$bodies"; then
         citations=$(citing "$word" "$importers" "$all")
@@ -72,8 +80,8 @@ where() {
     if [ -z "$type" ]; then
         local aside
         aside=$({
-            proofs "$crate" | definitions | awk -F'\t' -v word="$word" '
-                $3 == word { print $1 ":" $2 ": " substr($4, 1, 100) }'
+            proofs "$crate" | definitions | awk -F'\t' -v word="$word" "$short"'
+                $3 == word { print $1 ":" $2 ": " short($4) }'
             awk -F'\t' -v word="$word" -v crate="$crate" '
                 $1 == "item" && $5 == "test" && (crate == "" || index($2, "crates/" crate "/") == 1) {
                     n = split($7, parts, "::")
@@ -94,6 +102,20 @@ where() {
         bodies=$(cut -f 2 <<<"$citations" | awk -F'\t' 'NR == FNR { wanted[$0] = 1; next }
             $1 == "item" && (($2 ":" $3) in wanted)' - <(printf '%s\n' "$all"))
     [ -z "$bodies$defined" ] || tried "$all" "$bodies" "$word" "$text" "$crates" "$type" "$hits"
+    # a definition and a constant whose names differ in capitals alone
+    local other=
+    [[ ! $word =~ ^[a-z_0-9]+$ ]] || other=${word^^}
+    [[ ! $word =~ ^[A-Z_0-9]+$ ]] || other=${word,,}
+    if [ -n "$other" ] && [ -z "$type" ] && [ -n "$bodies$defined" ]; then
+        show "the same in other capitals" "$({
+            specs "$crate" | definitions | awk -F'\t' -v word="$other" "$short"'
+                $3 == word { print $1 ":" $2 ": " short($4) }'
+            awk -F'\t' -v word="$other" -v crate="$crate" '
+                $1 == "item" && $5 == "const" && $7 == word && (crate == "" || index($2, "crates/" crate "/") == 1) {
+                    print $2 ":" $3 ": " $8
+                }' <<<"$all"
+        })"
+    fi
     local pages
     pages=$(in_backquotes "${type:+$type::}$word" README.md CONTRIBUTING.md docs/*.md docs/*/*.md)
     [ -n "$pages" ] || [ $found = 1 ] ||
@@ -223,6 +245,7 @@ using() {
         FNR == 1 { within = 0; fields = 0 }
         /^(use|pub use|pub mod|infix|open)/ { next }
         /^module / { within = 1; next }
+        /^}/ { next }
         /^[^ -]/ { within = 0 }
         /^(pub )?(record|data) / { fields = 1 }
         /^[^ -]/ && !/^(pub )?(record|data) / { fields = 0 }
@@ -260,10 +283,13 @@ cited() {
 }
 
 # The functions of these crates in whose text a pattern stands, but for these bodies, by the items on standard input:
-# KIND FILE FIRST LAST NAME VISIBILITY, with tabs. Where a method has its type in front, a call behind a dot is told in
-# the files that name the type, and not where `self` or the value's name is that of another type with such a method.
+# KIND FILE FIRST LAST NAME VISIBILITY, with tabs. Where a method has its type in front, and other types have one of its
+# name, a call behind a dot is told in the files that name the type, and not where `self` or the value's name is that of
+# another such type; a value with the name of the type counts in each file. A method with arguments isn't called by an
+# empty bracket.
 enclosing() {
-    PATTERN=$1 CRATES=$2 TYPE=$3 OTHERS=$4 BODIES=$(cut -f 2,3 <<<"$5") awk -F'\t' '
+    PATTERN=$1 CRATES=$2 TYPE=$3 OTHERS=$4 BODIES=$(cut -f 2,3 <<<"$5") TEXTS=$(cut -f 8 <<<"$5") \
+        awk -F'\t' '
         function snake(name,  s, i, c) {
             for (i = 1; i <= length(name); i++) {
                 c = substr(name, i, 1)
@@ -276,11 +302,14 @@ enclosing() {
             if (!typed || before !~ /\.$/) return 1
             value = before; sub(/\.$/, "", value); sub(/^.*[^A-Za-z0-9_]/, "", value)
             if (value == "self") return owner == ENVIRON["TYPE"]
+            if (value == snake(ENVIRON["TYPE"])) names[FILENAME] = 1
             return !(value in other)
         }
         BEGIN {
             typed = ENVIRON["TYPE"] ~ /^[A-Z]/
             n = split(ENVIRON["OTHERS"], list, "\n"); for (i = 1; i <= n; i++) other[snake(list[i])] = 1
+            alone = n == 0
+            full = typed && ENVIRON["TEXTS"] ~ /fn / && ENVIRON["TEXTS"] !~ /\((&?(mut )?)?self\)/
             delete other[snake(ENVIRON["TYPE"])]
             n = split(ENVIRON["BODIES"], list, "\n"); for (i = 1; i <= n; i++) own[list[i]] = 1
         }
@@ -300,6 +329,7 @@ enclosing() {
         {
             line = " " $0 " "; sub(/fn [a-z_0-9]+/, "fn", line)
             if (!match(line, ENVIRON["PATTERN"])) next
+            if (full && substr(line, RSTART + RLENGTH - 1, 2) == "()") next
             before = substr(line, 1, RSTART)
             if (substr(line, RSTART, 1) != ".") before = ""
             for (i = 1; i <= count[FILENAME]; i++)
@@ -310,7 +340,7 @@ enclosing() {
         }
         END {
             for (f = 1; f <= files; f++) for (i = 1; i <= count[order[f]]; i++)
-                if ((order[f], i) in hit && (!typed || order[f] in names)) print told[order[f], i]
+                if ((order[f], i) in hit && (!typed || alone || order[f] in names)) print told[order[f], i]
         }' -
 }
 
@@ -326,7 +356,8 @@ tried() {
     } | sort -u)
     for hop in 1 2 3; do
         [ -z "$tests" ] || break
-        helpers=$(awk -F'\t' '$1 != "test" && $2 ~ /^crates\/(ground_)?trials\/|tests\.rt$/ && $5 !~ /::/' <<<"$hits")
+        helpers=$(awk -F'\t' '
+            $1 != "test" && $2 ~ /^crates\/(ground_|replay_)?trials\/|tests\.rt$/ && $5 !~ /::/' <<<"$hits")
         [ -n "$helpers" ] || break
         hits=$(enclosing "[^A-Za-z0-9_.]($(cut -f 5 <<<"$helpers" | sort -u | paste -sd '|'))[(]" \
             " $(cut -d / -f 2 <<<"$helpers" | sort -u | paste -sd ' ') " "" "" "$helpers" <<<"$all" |

@@ -1,9 +1,10 @@
 """Compares what the program writes with what the models write: standard output, standard error and the exit status.
 
-    python3 against.py feed|replay|sample FIRST COUNT PROGRAM
+    python3 against.py feed|replay|sample|drill FIRST COUNT PROGRAM
 
-The scripts, or the words of a sample, are drawn from the numbers FIRST, FIRST + 1 and so on. Each case that differs is
-told by its number, and its script is kept in a folder that is named at the end. The exit status is 1 where one differs.
+The scripts, or the words of a sample or a drill, are drawn from the numbers FIRST, FIRST + 1 and so on. Each case that
+differs is told by its number, and its script is kept in a folder that is named at the end. The exit status is 1 where
+one differs.
 """
 
 import random
@@ -14,8 +15,10 @@ from pathlib import Path
 
 import feed
 import feed_scripts
+import replay_scripts
 import sample
 import script
+import world
 
 
 def case(command, number):
@@ -24,15 +27,15 @@ def case(command, number):
         text = feed_scripts.Feed(number).script()
         return ["feed", "-"], text, feed.feed(text)
     if command == "replay":
-        import replay_scripts
-        import world
-
-        text = script.print_(replay_scripts.Replay(number).play())
+        text = replay_scripts.Replay(number).script()
         return ["replay", "-"], text, world.replay(text)
     draw = random.Random(number)
     seed = draw.choice((number, draw.randrange(2**64)))
-    words = [seed, draw.randint(1, 16), draw.randint(1, 8), draw.randint(1, 300)]
-    return ["sample", *map(str, words)], b"", (script.print_(sample.sample(*words)[0]), 0, b"")
+    nodes, gateways = draw.randint(1, 16), draw.randint(1, 8)
+    words = [seed, nodes, gateways, draw.randint(1, 300 if command == "sample" else 60)]
+    lines = sample.sample(*words)[0]
+    output = script.print_(lines) if command == "sample" else world.summary(lines)
+    return [command, *map(str, words)], b"", (output, 0, b"")
 
 
 def main(command, first, count, program):

@@ -234,7 +234,7 @@ def read(text, kind):
     return script.lines
 
 
-def _printed(line):
+def printed(line):
     """A line without its line feed."""
     form, *values = line
     if form == "blank":
@@ -257,5 +257,5 @@ def _printed(line):
 
 def print_(lines):
     """The text of a script: each line and a line feed, but the last one's where the text would be too long."""
-    text = b"".join(_printed(line) + b"\n" for line in lines)
+    text = b"".join(printed(line) + b"\n" for line in lines)
     return text if len(text) <= MOST_OCTETS or lines[-1] == ("blank",) else text[:-1]

@@ -368,6 +368,17 @@ def replay(text):
     return feed.outcome(text, "replay", run)
 
 
+def summary(lines):
+    """What `drill` prints of the lines of a sample: the sums of the counts in its report."""
+    counts = dict.fromkeys(("packets", "resolved", "done", "records", "held", "stranded"), 0)
+    for line in play(lines)[0].written:
+        form, _, *words = line.split()
+        for name, count in zip(words[::2], words[1::2]) if form in ("gateway", "node") else ():
+            if name in counts:
+                counts[name] += int(count)
+    return "".join(f"{name} {count}\n" for name, count in counts.items()).encode()
+
+
 if __name__ == "__main__":
     with open(sys.argv[1], "rb") if sys.argv[1] != "-" else sys.stdin.buffer as source:
         out, status, error = replay(source.read())
