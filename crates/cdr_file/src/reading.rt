@@ -131,7 +131,8 @@ fn extras_of(alloc: Global, octets: &[u8]) -> Result<(Octets, Octets), NoMemory>
 fn cdrs_of(alloc: Global, octets: &[u8], start: usize) -> Result<Vec<Cdr>, FileFault>
     requires { start ≤ length octets.now }
     ensures cdrs { IfOk result (λ cdrs. cdrs_from start (drop start octets.now) ≡ Ok cdrs.items) }
-    ensures fault { IfErr result (λ fault. (fault ≡ no_memory) ⊎ (cdrs_from start (drop start octets.now) ≡ Err fault)) }
+    ensures fault { IfErr result (λ fault. (fault ≡ no_memory)
+        ⊎ (cdrs_from start (drop start octets.now) ≡ Err fault)) }
 {
     let mut cdrs = Vec::new(alloc);
     let (_, mut rest) = octets.split_at(start);
@@ -175,7 +176,8 @@ fn cdr_fault(place: usize, octets: &[u8]) -> Option<FileFault>
 fn first_cdr(alloc: Global, octets: &[u8]) -> Result<(Cdr, &[u8]), NoMemory>
     requires header { 4 ≤ length octets.now }
     requires whole { cdr_end octets.now ≤ length octets.now }
-    ensures { IfOk result (λ found. (found.0 ≡ cdr_in octets.now) × (found.1.now ≡ drop (cdr_end octets.now) octets.now)) }
+    ensures { IfOk result (λ found. (found.0 ≡ cdr_in octets.now)
+        × (found.1.now ≡ drop (cdr_end octets.now) octets.now)) }
 {
     let length = length_at(octets, 0);
     let (_, after) = octets.split_at(CDR_HEADER + length as usize);

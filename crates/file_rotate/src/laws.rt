@@ -41,5 +41,6 @@ pub fn division_closes_where_files_end<P>()
     ensures only { (limits : Limits) (items : List (Item P)) (division : Division P)
         → IsDivision limits items division → division ≡ division_of limits items }
     ensures records { (limits : Limits) (items : List (Item P)) (division : Division P)
-        → IsDivision limits items division → flat_map (λ closed. closed.run) division.closed ++ division.left_open ≡ records_of items }
+        → IsDivision limits items division
+        → flat_map (λ closed. closed.run) division.closed ++ division.left_open ≡ records_of items }
 {}

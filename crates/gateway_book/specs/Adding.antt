@@ -7,10 +7,13 @@ use Rattle.entry_codec.specs.Room.{has_room}
 use Rattle.entry_codec.specs.Spelling.{entry_length}
 use Rattle.gate_journal.specs.Format.{longest_batch}
 use Rattle.cgf_journal.specs.declared.trail.Trail.{Trail}
+use Rattle.gw_base.specs.declared.address.Addr.{Addr}
 use Rattle.gw_base.specs.declared.history.Caller.{Caller}
 use Rattle.gw_base.specs.declared.history.HistoryAct.{HistoryAct}
 use Rattle.gw_base.specs.declared.history.HistoryEntry.{HistoryEntry}
-use Rattle.gateway_book.specs.Index.{Follows, MayCome, MayGrow}
+use Rattle.gateway_book.specs.Answer.{Given, answer_within, node_of}
+use Rattle.gateway_book.specs.Index.{Follows, MayCome, MayGrow, observed_by}
+use Rattle.gateway_book.specs.Preparing.{PreparedValue}
 use Rattle.gateway_book.specs.declared.index.Index.{Index}
 
 -- the entry of an act at a moment, by a caller
@@ -40,6 +43,10 @@ module _ {A : Type 0} {tells : Ghosts A} (old new : Trail A tells) (before after
   abbrev pub AddsIf : ℕ → Caller → Option HistoryAct → Type 0
   AddsIf moment who None = IsSame
   AddsIf moment who (Some act) = IsAdded (entry_of moment who act)
+
+-- the answer to a datagram by the live side of an index, where `room` tells which acts there is room for
+abbrev pub given_by : Index → Addr → PreparedValue → (HistoryAct → Bool) → Given
+given_by index from datagram room = answer_within (observed_by false index (node_of from)) from datagram room
 
 -- which acts there is room for, as a trail counts
 abbrev pub room_in : {A : Type 0} {tells : Ghosts A} → Trail A tells → ℕ → Caller → HistoryAct → Bool

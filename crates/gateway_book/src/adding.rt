@@ -8,12 +8,12 @@ ghost use Rattle.cgf_journal.specs.Trail.{area_of, entries, has_room_of, is_clos
 ghost use Rattle.gw_base.specs.Entry.{act_view, entry_view};
 ghost use Rattle.gw_base.specs.declared.history.HistoryAct.{HistoryAct};
 ghost use Rattle.gtpp_message.specs.declared.reading.Why.{Why};
-ghost use Rattle.gateway_book.specs.Adding.{AddsIf, AreKept, IsAdded, IsSame, MayAdd, room_in, room_told};
-ghost use Rattle.gateway_book.specs.Answer.{Says, Silent, answer_within, decided, node_of};
+ghost use Rattle.gateway_book.specs.Adding.{AddsIf, AreKept, IsAdded, IsSame, MayAdd, given_by, room_in, room_told};
+ghost use Rattle.gateway_book.specs.Answer.{Says, Silent, decided};
 ghost use Rattle.gateway_book.specs.Answered.{act_decided, act_given};
 ghost use Rattle.gateway_book.specs.Cases.{case_value};
 ghost use Rattle.gateway_book.specs.Decisions.{decision_view};
-ghost use Rattle.gateway_book.specs.Index.{MayCome, observed_by};
+ghost use Rattle.gateway_book.specs.Index.{MayCome};
 ghost use Rattle.gateway_book.specs.Preparing.{IsShort, IsWhole};
 ghost use Rattle.gateway_book.specs.Value.{most_for_one};
 
@@ -65,9 +65,9 @@ pub(crate) enum Done {
 /// Answers a datagram by an index, as if there were room for no act.
 fn answer_without_room(index: &Index, scratch: &mut Scratch, from: Addr, case: &Case<'_>) -> Done
     ensures silent { (why : Why) → result ≡ Done.Silent why →
-        decided (answer_within (observed_by false index.now (node_of from)) from (case_value case.now) (λ act. false)) ≡ Silent why }
+        decided (given_by index.now from (case_value case.now) (λ act. false)) ≡ Silent why }
     ensures said { (reply : List ℕ) → result ≡ Done.Said reply → (act : Option HistoryAct)
-        × (decided (answer_within (observed_by false index.now (node_of from)) from (case_value case.now) (λ act. false)) ≡ Says reply act) }
+        × (decided (given_by index.now from (case_value case.now) (λ act. false)) ≡ Says reply act) }
 {
     let seen = Seen {
         index,
@@ -117,7 +117,7 @@ fn propose<'a, 'p: 'a>(
     case: &Case<'p>,
 ) -> Result<Decision<'a>, NoMemory>
     ensures { IfOk result (λ decision. decision_view decision
-        ≡ decided (answer_within (observed_by false index.now (node_of from)) from (case_value case.now) (λ act. true))) }
+        ≡ decided (given_by index.now from (case_value case.now) (λ act. true))) }
 {
     let seen = Seen {
         index,
@@ -180,18 +180,18 @@ fn answer_with_room<A: Area>(
     requires free { waiting_octets trail.old + most_for_one ≤ longest_batch }
     requires prepared { IsWhole (case_value case.now) × IsShort (case_value case.now) }
     ensures silent { (why : Why) → result ≡ Some (Done.Silent why) →
-        (decided (answer_within (observed_by false index.old (node_of from)) from (case_value case.now) (λ act. true)) ≡ Silent why)
+        (decided (given_by index.old from (case_value case.now) (λ act. true)) ≡ Silent why)
         × IsSame trail.old trail.new index.old index.new }
     ensures said { (reply : List ℕ) → result ≡ Some (Done.Said reply) → (act : Option HistoryAct)
-        × (decided (answer_within (observed_by false index.old (node_of from)) from (case_value case.now) (λ act. true)) ≡ Says reply act)
+        × (decided (given_by index.old from (case_value case.now) (λ act. true)) ≡ Says reply act)
         × IfSome act (λ a. room_in trail.old moment who a ≡ true)
         × AddsIf trail.old trail.new index.old index.new moment who act }
     ensures no_room { result ≡ None → (reply : List ℕ) × (act : HistoryAct)
-        × (decided (answer_within (observed_by false index.old (node_of from)) from (case_value case.now) (λ act. true)) ≡ Says reply (Some act))
+        × (decided (given_by index.old from (case_value case.now) (λ act. true)) ≡ Says reply (Some act))
         × (room_in trail.old moment who act ≡ false) × IsSame trail.old trail.new index.old index.new }
     ensures no_memory { result ≡ Some Done.NoMemory → AreKept trail.old trail.new index.old index.new }
     ensures told { result ≢ Some Done.NoMemory → (a : HistoryAct) →
-        act_given (answer_within (observed_by false index.old (node_of from)) from (case_value case.now) (λ act. true)) ≡ Some a →
+        act_given (given_by index.old from (case_value case.now) (λ act. true)) ≡ Some a →
         Told A.Area → room_in trail.old moment who a ≡ room_told trail.old moment who a }
 {
     match propose(index, scratch, from, case) {
@@ -214,15 +214,15 @@ pub(crate) fn answer<A: Area>(
     requires free { waiting_octets trail.old + most_for_one ≤ longest_batch }
     requires prepared { IsWhole (case_value case.now) × IsShort (case_value case.now) }
     ensures silent { (why : Why) → result ≡ Done.Silent why →
-        (decided (answer_within (observed_by false index.old (node_of from)) from (case_value case.now) (room_in trail.old moment who)) ≡ Silent why)
+        (decided (given_by index.old from (case_value case.now) (room_in trail.old moment who)) ≡ Silent why)
         × IsSame trail.old trail.new index.old index.new }
     ensures said { (reply : List ℕ) → result ≡ Done.Said reply → (act : Option HistoryAct)
-        × (decided (answer_within (observed_by false index.old (node_of from)) from (case_value case.now) (room_in trail.old moment who)) ≡ Says reply act)
+        × (decided (given_by index.old from (case_value case.now) (room_in trail.old moment who)) ≡ Says reply act)
         × AddsIf trail.old trail.new index.old index.new moment who act }
     ensures no_memory { result ≡ Done.NoMemory → AreKept trail.old trail.new index.old index.new }
     ensures told { Told A.Area → result ≢ Done.NoMemory →
-        decided (answer_within (observed_by false index.old (node_of from)) from (case_value case.now) (room_in trail.old moment who))
-        ≡ decided (answer_within (observed_by false index.old (node_of from)) from (case_value case.now) (room_told trail.old moment who)) }
+        decided (given_by index.old from (case_value case.now) (room_in trail.old moment who))
+        ≡ decided (given_by index.old from (case_value case.now) (room_told trail.old moment who)) }
 {
     match answer_with_room(trail, index, scratch, from, case, moment, who) {
         Some(done) => done,

@@ -63,5 +63,6 @@ pub fn held_keys_are_as_many_as_held_copies()
 /// A number is among the held keys exactly where its key of the node's present epoch is held.
 pub fn held_keys_are_those_in_that_state()
     ensures { (node : NodeId) (number : ℕ) (h : List HistoryEntry) →
-        holds node.0 number (held_keys h) ≡ is_held (state_of (record { node = node; epoch = epoch_of node.0 h; number = number }) h) }
+        holds node.0 number (held_keys h)
+        ≡ is_held (state_of (record { node = node; epoch = epoch_of node.0 h; number = number }) h) }
 {}

@@ -25,7 +25,9 @@ impl Model for MemorySink {
 
     ghost Value = { MemoryOutput };
 
-    ghost view = { λ s. record { written = take s.written s.buffer.items; room = length s.buffer.items; calls = s.calls; fail = s.fail.items; faults = s.faults } };
+    ghost view = { λ s. record {
+        written = take s.written s.buffer.items; room = length s.buffer.items;
+        calls = s.calls; fail = s.fail.items; faults = s.faults } };
 
     ghost invariant = { λ s. s.written ≤ length s.buffer.items };
 }
@@ -34,7 +36,8 @@ impl MemorySink {
     /// An empty sink with room for `room` octets, that fails at the calls whose numbers, counted
     /// from 1, are in `fail`.
     pub fn new(alloc: Global, room: usize, fail: Vec<u64>) -> Result<MemorySink, NoMemory>
-        ensures { IfOk result (λ sink. sink ≡ record { written = []; room = room; calls = 0; fail = fail.items; faults = 0 }) }
+        ensures { IfOk result (λ sink.
+            sink ≡ record { written = []; room = room; calls = 0; fail = fail.items; faults = 0 }) }
     {
         Ok(MemorySink {
             buffer: vec![in alloc; 0; room]?,
@@ -62,7 +65,8 @@ impl Sink for MemorySink {
 
     fn put(&mut self, from: &[u8]) -> Result<usize, Failed>
         ensures within { IfOk result (λ n. n ≤ length from.now) }
-        ensures appended { IfOk result (λ n. Appends (Some self.old.written) (Some self.new.written) (take n from.now)) }
+        ensures appended { IfOk result (λ n.
+            Appends (Some self.old.written) (Some self.new.written) (take n from.now)) }
         ensures front { OnErr result (AppendsFront (Some self.old.written) (Some self.new.written) from.now) }
         ensures stalled { result ≡ Ok 0 → 0 < length from.now → Rose self.old.faults self.new.faults }
         ensures counted { self.old.faults ≤ self.new.faults }
@@ -70,7 +74,8 @@ impl Sink for MemorySink {
         ensures failed { OnErr result (Rose self.old.faults self.new.faults) }
 
         ensures whole { IfOk result (λ n. n ≡ length from.now) }
-        ensures fails { IsErr result ↔ (Contains self.old.fail (next_count self.old.calls) ⊎ (self.old.room < length self.old.written + length from.now)) }
+        ensures fails { IsErr result ↔ (Contains self.old.fail (next_count self.old.calls)
+            ⊎ (self.old.room < length self.old.written + length from.now)) }
         ensures nothing { OnErr result (self.new.written ≡ self.old.written) }
         ensures calls { self.new.calls ≡ next_count self.old.calls }
         ensures faults { self.new.faults ≡ (if is_ok result then self.old.faults else next_count self.old.faults) }

@@ -66,5 +66,6 @@ pub fn start(history: &[HistoryEntry], node: NodeId) -> u8
 
 /// The last of a node's epochs with its start is the present one.
 pub fn start_is_that_of_the_present_epoch()
-    ensures { (node : ℕ) (h : List HistoryEntry) → last_or None (starts_of node h) ≡ Some (epoch_of node h, start_of node h) }
+    ensures { (node : ℕ) (h : List HistoryEntry) →
+        last_or None (starts_of node h) ≡ Some (epoch_of node h, start_of node h) }
 {}

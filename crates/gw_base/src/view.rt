@@ -31,7 +31,8 @@ pub fn present_state_goes_on()
 /// A number's present state is that of its key in the node's present epoch.
 pub fn present_state_is_that_of_the_epoch()
     ensures { (node : NodeId) (number : ℕ) (h : List HistoryEntry) →
-        state_of (record { node = node; epoch = epoch_of node.0 h; number = number }) h ≡ present_state node.0 number h }
+        state_of (record { node = node; epoch = epoch_of node.0 h; number = number }) h
+        ≡ present_state node.0 number h }
 {}
 
 /// There are no more epochs than entries.

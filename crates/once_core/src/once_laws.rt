@@ -46,7 +46,8 @@ pub fn what_holds_goes_on()
 pub fn what_holds_places_each_record_once()
     ensures { (scene : Scene) (node start : ℕ) (values : ℕ → List ℕ) (packets : List PacketState) → SceneHolds scene →
         Follows (scene.deeds node) start values packets →
-        All (λ packet. IsOnce (λ gateway. (scene.posts gateway).firm) node start (values packet.number) packet) packets }
+        All (λ packet. IsOnce (λ gateway. (scene.posts gateway).firm) node start (values packet.number) packet)
+            packets }
 {}
 
 /// An epoch of a node is told by its start: the epoch with a start stays when entries follow, no two
@@ -65,7 +66,8 @@ pub fn epochs_are_told_by_their_starts()
 /// the law asks: each request number has one role, the first copy of a packet alone is plain, a
 /// released copy is the chosen one, and all knowledge rests on answers that it heard in this start.
 pub fn a_node_knows_what_it_was_told()
-    ensures { (setup : NodeSetup) (calls : List NodeCall) (node : ℕ) (values : ℕ → List ℕ) → 1 ≤ length setup.gateways →
+    ensures { (setup : NodeSetup) (calls : List NodeCall) (node : ℕ) (values : ℕ → List ℕ) →
+        1 ≤ length setup.gateways →
         Knows (deeds_of node values (log_of setup calls)) (starts_in (log_of setup calls)) (reached setup calls).packets }
 {
     node_core::laws::knowledge_rests_on_responses();

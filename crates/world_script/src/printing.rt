@@ -234,7 +234,8 @@ fn append_packet(
     records: &[Octets],
 ) -> Result<(), NoMemory>
     ensures { OnOk result (text.new.items ≡ text.old.items
-        ++ two_numbers (codes "submit") node format ++ words_text (version_text version ∷ map encode_upper records.now)) }
+        ++ two_numbers (codes "submit") node format
+        ++ words_text (version_text version ∷ map encode_upper records.now)) }
 {
     append_two(alloc, text, b"submit", node, u64::from(format))?;
     append_octets(alloc, text, &[(version / 256) as u8, (version % 256) as u8])?;

@@ -310,7 +310,8 @@ fn push_commits(lines: &mut Vec<Line>, gateways: u8, stopped: Option<u64>) -> Re
 
 /// A commit of a gateway, where it runs.
 fn push_commit(lines: &mut Vec<Line>, gateway: u64, stopped: Option<u64>) -> Result<(), NoMemory>
-    ensures { OnOk result (lines.new.items ≡ lines.old.items ++ (if runs stopped gateway then Line.Commit gateway ∷ [] else [])) }
+    ensures { OnOk result (lines.new.items ≡ lines.old.items
+        ++ (if runs stopped gateway then Line.Commit gateway ∷ [] else [])) }
 {
     if runs(stopped, gateway) {
         lines.push(Line::Commit { gateway })?;

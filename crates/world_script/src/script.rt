@@ -35,7 +35,8 @@ impl Model for Script {
 impl Script {
     /// Reads the text of a feed script, as [`read`] does.
     pub fn read(alloc: Global, text: &[u8]) -> Result<Script, InputFault>
-        ensures read { IfOk result (λ script. (script.kind ≡ ScriptKind.Feed) × (script_of text.now ≡ Ok script.lines)) }
+        ensures read { IfOk result (λ script.
+            (script.kind ≡ ScriptKind.Feed) × (script_of text.now ≡ Ok script.lines)) }
         ensures refused { (place : ℕ) (kind : InputKind) → result ≡ Err (InputFault.Bad place kind) →
             script_of text.now ≡ Err (record { place = place; kind = kind }) }
     {

@@ -43,7 +43,8 @@ impl<'a> TextLine<'a> {
 pub fn first_line(text: &[u8]) -> Option<(TextLine<'_>, &[u8])>
     ensures { MatchOption result (raw_lines text.now ≡ []) (λ parts.
         (raw_lines text.now ≡ lent_line parts.0 ∷ raw_lines parts.1.now)
-        × (line_size (lent_line parts.0) + length parts.1.now ≡ length text.now) × (length parts.1.now < length text.now)) }
+        × (line_size (lent_line parts.0) + length parts.1.now ≡ length text.now)
+        × (length parts.1.now < length text.now)) }
 {
     if text.is_empty() {
         return None;
