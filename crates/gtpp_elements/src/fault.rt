@@ -23,6 +23,11 @@ pub enum ElementFault {
 pub struct OddLength;
 
 impl fmt::Display for ElementFault {
+    ghost use Rattle.std.specs.Prelude.{Some};
+    ghost use Rattle.gtpp_elements.specs.FaultText.{element_fault_text};
+
+    ghost output = { λ fault. Some (element_fault_text fault) };
+
     fn fmt<W: fmt::Write>(&self, f: &mut fmt::Formatter<W>) -> fmt::Result {
         match self {
             ElementFault::Overrun { at } => write!(f, "the element at {at} runs past the body"),
@@ -39,6 +44,10 @@ impl fmt::Display for ElementFault {
 impl Error for ElementFault {}
 
 impl fmt::Display for OddLength {
+    ghost use Rattle.std.specs.Prelude.{Some, codes};
+
+    ghost output = { λ _. Some (codes "an odd number of octets") };
+
     fn fmt<W: fmt::Write>(&self, f: &mut fmt::Formatter<W>) -> fmt::Result {
         write!(f, "an odd number of octets")
     }

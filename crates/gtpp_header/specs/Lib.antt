@@ -1,3 +1,4 @@
--- Public clauses cite both.
+-- Public clauses cite these.
+pub mod FaultText
 pub mod Header
 pub mod Reading

@@ -25,6 +25,11 @@ pub enum HeadFault {
 }
 
 impl fmt::Display for HeadFault {
+    ghost use Rattle.std.specs.Prelude.{Some};
+    ghost use Rattle.gtpp_header.specs.FaultText.{head_fault_text};
+
+    ghost output = { λ fault. Some (head_fault_text fault) };
+
     fn fmt<W: fmt::Write>(&self, f: &mut fmt::Formatter<W>) -> fmt::Result {
         match self {
             HeadFault::Short => write!(f, "fewer octets than a header has"),
