@@ -1,3 +1,5 @@
--- What public clauses cite: `Copies`, and `copies_of` of `Stored`, whose other names are the type's invariant.
+-- What public clauses cite: `Copies`, `FaultText`, and `copies_of` of `Stored`, whose other names are the type's
+-- invariant.
 pub mod Copies
+pub mod FaultText
 pub mod Stored

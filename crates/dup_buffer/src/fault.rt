@@ -11,6 +11,11 @@ pub enum HoldFault {
 }
 
 impl fmt::Display for HoldFault {
+    ghost use Rattle.std.specs.Prelude.{Some};
+    ghost use Rattle.dup_buffer.specs.FaultText.{hold_fault_text};
+
+    ghost output = { λ fault. Some (hold_fault_text fault) };
+
     fn fmt<W: fmt::Write>(&self, f: &mut fmt::Formatter<W>) -> fmt::Result {
         f.write_str(match self {
             HoldFault::Full => "65,536 copies are held",

@@ -10,6 +10,11 @@ pub struct EntryFault {
 }
 
 impl fmt::Display for EntryFault {
+    ghost use Rattle.std.specs.Prelude.{◌++◌, Some, codes};
+    ghost use Rattle.std.specs.Fmt.{decimal};
+
+    ghost output = { λ fault. Some (codes "no entry has the octet at " ++ decimal fault.at) };
+
     fn fmt<W: fmt::Write>(&self, f: &mut fmt::Formatter<W>) -> fmt::Result {
         write!(f, "no entry has the octet at {}", self.at)
     }
