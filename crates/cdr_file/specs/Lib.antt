@@ -2,6 +2,7 @@
 pub mod CdrFile
 pub mod CdrHeader
 pub mod ClosureReason
+pub mod FaultText
 pub mod FileHeader
 pub mod Listing
 pub mod Names

@@ -60,12 +60,22 @@ impl FileKind {
 }
 
 impl fmt::Display for FileKind {
+    ghost use Rattle.std.specs.Prelude.{Some};
+    ghost use Rattle.cdr_file.specs.Names.{name_of};
+
+    ghost output = { λ kind. Some (name_of kind) };
+
     fn fmt<W: fmt::Write>(&self, f: &mut fmt::Formatter<W>) -> fmt::Result {
         f.write_str(self.name())
     }
 }
 
 impl fmt::Display for FileFault {
+    ghost use Rattle.std.specs.Prelude.{Some};
+    ghost use Rattle.cdr_file.specs.FaultText.{file_fault_text};
+
+    ghost output = { λ fault. Some (file_fault_text fault) };
+
     fn fmt<W: fmt::Write>(&self, f: &mut fmt::Formatter<W>) -> fmt::Result {
         match self {
             FileFault::Bad { place, kind } => write!(f, "{place}: {kind}"),

@@ -21,6 +21,11 @@ pub enum ShelfStop {
 }
 
 impl fmt::Display for ShelfStop {
+    ghost use Rattle.std.specs.Prelude.{Some};
+    ghost use Rattle.cdr_shelf.specs.FaultText.{shelf_stop_text};
+
+    ghost output = { λ stop. Some (shelf_stop_text stop) };
+
     fn fmt<W: fmt::Write>(&self, f: &mut fmt::Formatter<W>) -> fmt::Result {
         f.write_str(match self {
             ShelfStop::Failed => "the shelf failed",
