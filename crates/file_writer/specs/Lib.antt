@@ -2,6 +2,7 @@
 pub mod Advancing
 pub mod Asking
 pub mod Calls
+pub mod FaultText
 pub mod Files
 pub mod Holding
 pub mod Making

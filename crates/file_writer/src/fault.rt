@@ -12,6 +12,11 @@ pub enum ShelfFault {
 }
 
 impl fmt::Display for ShelfFault {
+    ghost use Rattle.std.specs.Prelude.{Some};
+    ghost use Rattle.file_writer.specs.FaultText.{shelf_fault_text};
+
+    ghost output = { λ fault. Some (shelf_fault_text fault) };
+
     fn fmt<W: fmt::Write>(&self, f: &mut fmt::Formatter<W>) -> fmt::Result {
         f.write_str(match self {
             ShelfFault::Device => "the shelf failed",
