@@ -11,3 +11,4 @@ pub mod WriterLemmas
 pub mod PlacesLemmas
 pub mod RecordsLemmas
 pub mod FirstFilesLemmas
+pub mod OfStreamsLemmas

@@ -1,10 +1,10 @@
 -- The CDR files that items are divided into, each with its name and its octets (3GPP TS 32.297, clause 6.1).
-use Rattle.std.specs.Prelude.{ℕ, zero, suc, ◌+◌, List, [], ◌∷◌, ◌++◌, map}
+use Rattle.std.specs.Prelude.{◌≡◌, ℕ, zero, suc, ◌+◌, ◌<◌, All, List, [], ◌∷◌, ◌++◌, map}
 use Rattle.cdr_file.specs.CdrFile.{FileSettings, FiledRecord, file_octets}
 use Rattle.file_rotate.specs.Division.{ClosedRun, Division, divided_from}
 use Rattle.file_rotate.specs.Items.{Filed}
 use Rattle.gw_base.specs.declared.item.Item.{Item}
-use Rattle.cdr_shelf.specs.Files.{SealedFile}
+use Rattle.cdr_shelf.specs.Files.{SealedFile, in_stream}
 use Rattle.file_writer.specs.Streams.{Settings, stream_count, closed_of, stream_division, stream_items}
 
 abbrev pub record_of : Filed (List ℕ) → FiledRecord
@@ -38,6 +38,15 @@ files_below (suc s) settings items = files_below s settings items ++ stream_file
 -- all files, stream after stream
 abbrev pub files_of : Settings → List Item → List SealedFile
 files_of settings items = files_below stream_count settings items
+
+-- each of these files is of one of the streams that there are
+abbrev pub AreOfStreams : List SealedFile → Type 0
+AreOfStreams files = All (λ (file : SealedFile). file.name.stream < stream_count) files
+
+-- these files are, of each stream in their order, the files that items are divided into, and there are no others
+pub record AreFilesOf (settings : Settings) (items : List Item) (files : List SealedFile) : Type 0 where
+  pub each : (s : ℕ) → s < stream_count → in_stream s files ≡ stream_files settings s items
+  pub only : AreOfStreams files
 
 -- how the run that items leave open is divided with more of them
 abbrev pub later_division : Settings → ℕ → List Item → List Item → Division (List ℕ)

@@ -6,7 +6,7 @@ ghost use Rattle.file_rotate.specs.Items.{Filed};
 ghost use Rattle.file_rotate.specs.Items as stream;
 ghost use Rattle.cdr_shelf.specs.Files.{SealedFile, greatest_in, in_stream};
 ghost use Rattle.file_writer.specs.Calls.{calls_from, calls_of, seals};
-ghost use Rattle.file_writer.specs.Files.{files_from, later_division, later_files, stream_files};
+ghost use Rattle.file_writer.specs.Files.{AreOfStreams, files_from, later_division, later_files, stream_files};
 ghost use Rattle.file_writer.specs.Streams.{Settings, closed_of, stream_count};
 
 use file_rotate::division_goes_on;
@@ -40,6 +40,12 @@ pub fn calls_seal_what_items_close()
 {
     division_goes_on::<Octets>();
 }
+
+/// However many of the calls for items are made, each file that they seal is of one of the streams that there are.
+pub fn calls_seal_files_of_streams()
+    ensures { (settings : Settings) (closed sealed : ℕ → ℕ) (before items : List Item) (k : ℕ)
+        → AreOfStreams (seals (take k (calls_of settings closed sealed before items))) }
+{}
 
 /// A shelf that isn't empty: where the first files of a stream are its sealed ones, as any crash leaves them, the
 /// greatest number of the stream there is how many they are.
