@@ -163,16 +163,16 @@ resolved_among packets = count_by (λ packet. is_resolved packet.copies) packets
 abbrev pub done_among : List PacketState → ℕ
 done_among packets = count_by (λ packet. is_done packet.copies) packets
 
--- those of earlier starts, and these
-abbrev pub with_those : List PacketState → Tally → Tally
-with_those packets tally =
+-- those that were counted, and these
+abbrev pub tally_with : List PacketState → Tally → Tally
+tally_with packets tally =
     record { resolved = tally.resolved + resolved_among packets; done = tally.done + done_among packets }
 
 -- in the starts before this one
 abbrev pub tally_before : List LogEntry → Tally
 tally_before [] = record { resolved = 0; done = 0 }
-tally_before (Began ∷ log) = with_those (packets_of log) (tally_before log)
-tally_before (Halted ∷ log) = with_those (packets_of log) (tally_before log)
+tally_before (Began ∷ log) = tally_with (packets_of log) (tally_before log)
+tally_before (Halted ∷ log) = tally_with (packets_of log) (tally_before log)
 tally_before (Submitted form ∷ log) = tally_before log
 tally_before (Appointed gateway ∷ log) = tally_before log
 tally_before (Ticked sendings ∷ log) = tally_before log

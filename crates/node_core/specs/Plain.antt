@@ -1,13 +1,17 @@
 -- What a log of lines says, for the plain functions of it.
-use Rattle.std.specs.Prelude.{List, map}
+use Rattle.std.specs.Prelude.{Bool, List, map}
+use Rattle.node_core.specs.declared.copy.PacketCopy.{PacketCopy}
 use Rattle.node_core.specs.declared.plain.LogLine.{LogLine}
 use Rattle.node_core.specs.declared.plain.LogLine.TheVariants as line
 use Rattle.node_core.specs.declared.plain.Said.{Said}
 use Rattle.node_core.specs.declared.plain.Said.TheVariants as said
+use Rattle.node_core.specs.declared.plain_hearing.Stage.{Stage}
+use Rattle.node_core.specs.declared.plain_hearing.Stage.TheVariants as stage
 use Rattle.node_core.specs.declared.plain_hearing.Understood.{Understood}
 use Rattle.node_core.specs.declared.plain_hearing.Understood.TheVariants as understood
 use Rattle.node_core.specs.Hearing.{Taken, Dropped, Says}
 use Rattle.node_core.specs.Log.{LogEntry, Began, Halted, Submitted, Appointed, Ticked, Heard, Saying, Path, Redirects, Responds, Other}
+use Rattle.node_core.specs.Packets.{is_done, is_resolved}
 
 -- what a message says
 abbrev pub said_view : Said → Saying
@@ -27,6 +31,11 @@ line_view (line.Heard port gateway said) = Heard port gateway (said_view said)
 
 abbrev pub log_view : List LogLine → List LogEntry
 log_view lines = map line_view lines
+
+-- a packet with these copies has come so far
+abbrev pub has_reached : Stage → List PacketCopy → Bool
+has_reached stage.Resolved = is_resolved
+has_reached stage.Done = is_done
 
 -- what is understood of a datagram
 abbrev pub understood_view : Understood → Taken

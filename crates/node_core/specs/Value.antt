@@ -4,7 +4,7 @@ use Rattle.gtpp_message.specs.Packet.{PacketForm}
 use Rattle.path_mgmt.specs.NodePath.{PathsOfNode, node_anew}
 use Rattle.node_core.specs.declared.counts.Tally.{Tally}
 use Rattle.node_core.specs.declared.peer.Peer.{Peer}
-use Rattle.node_core.specs.Log.{LogEntry, Began, Halted, Submitted, Appointed, Ticked, Heard, NodeSetup, favourite, forms_of, has_entries, packets_hearing, packets_of, paths_hearing, paths_of, peers_of, quiet_ticks, runs, submitted, tally_before, with_those}
+use Rattle.node_core.specs.Log.{LogEntry, Began, Halted, Submitted, Appointed, Ticked, Heard, NodeSetup, favourite, forms_of, has_entries, packets_hearing, packets_of, paths_hearing, paths_of, peers_of, quiet_ticks, runs, submitted, tally_before, tally_with}
 use Rattle.node_core.specs.Packets.{PacketState, packet_after_all, while_open}
 use Rattle.node_core.specs.Peers.{all_drawn, peer_anew}
 
@@ -63,7 +63,7 @@ forgotten counter is_running node = record {
   favourite_place = 0;
   quiet = 0;
   submissions = node.submissions;
-  before = with_those node.packets node.before;
+  before = tally_with node.packets node.before;
   packets = [];
   forms = [];
 }

@@ -1,10 +1,11 @@
-ghost use Rattle.std.specs.Prelude.{◌≡◌, ◌≤◌, ◌==◌, ◌+◌, ◌-◌, ◌++◌, ◌∷◌, [], length, map, take, drop, IfOk, OnOk, OnErr, option_map, slice_get, if◌then◌else◌};
-ghost use Rattle.std.specs.List.{find, list_any};
+ghost use Rattle.std.specs.Prelude.{◌≡◌, ◌≤◌, ◌+◌, ◌-◌, ◌++◌, ◌∷◌, [], length, map, take, drop, IfOk, OnOk, OnErr, option_map, slice_get, if◌then◌else◌};
+ghost use Rattle.std.specs.List.{list_any};
 ghost use Rattle.std.specs.Option.{option_or};
+ghost use Rattle.node_core.specs.Counting.{packet_numbered};
 ghost use Rattle.node_core.specs.Hearing.{first_made};
 ghost use Rattle.node_core.specs.Log.{done_among, resolved_among};
 ghost use Rattle.node_core.specs.Moving.{waits_at};
-ghost use Rattle.node_core.specs.Packets.{PacketState, is_done, is_resolved, packet_hearing, while_open};
+ghost use Rattle.node_core.specs.Packets.{is_done, is_resolved, packet_hearing, while_open};
 ghost use Rattle.node_core.specs.Peers.{all_drawn};
 ghost use Rattle.node_core.specs.Sendings.{due_for_all};
 ghost use Rattle.node_core.specs.Sound.{AllDone, AreNumbered, AreNumbers, IsSettled, planned};
@@ -225,8 +226,7 @@ impl Packets {
     pub fn numbered(&self, last: u64, number: u64) -> Option<&NodePacket>
         requires within { length self.now.packets ≤ last }
         requires numbered { AreNumbered (last - length self.now.packets) self.now.packets }
-        ensures { option_map (λ packet. packet.now) result
-            ≡ find (λ (packet : PacketState). packet.number == number) self.now.packets }
+        ensures { option_map (λ packet. packet.now) result ≡ packet_numbered self.now.packets number }
     {
         let before = last - self.packets.len() as u64;
         if number <= before {

@@ -1,14 +1,11 @@
 //! What a node is by its log, asked anew each time: each function reads the log, the newest line
 //! first, and keeps nothing.
 
-ghost use Rattle.std.specs.Prelude.{◌≡◌, ◌==◌, ◌≤◌, [], IfOk, length, option_map};
-ghost use Rattle.std.specs.List.{find};
-ghost use Rattle.std.specs.Option.{option_map_or};
+ghost use Rattle.std.specs.Prelude.{◌≡◌, ◌≤◌, IfOk, length, option_map};
 ghost use Rattle.path_mgmt.specs.NodePath.{is_alive};
-ghost use Rattle.node_core.specs.declared.counts.Phase.TheVariants as phase;
-ghost use Rattle.node_core.specs.Counting.{phase_of_copies};
+ghost use Rattle.node_core.specs.Counting.{copies_among, packet_numbered, phase_among};
 ghost use Rattle.node_core.specs.Log.{counter_of, favourite, packets_of, paths_of, peers_of, quiet_ticks, runs, submitted};
-ghost use Rattle.node_core.specs.Packets.{PacketState, chosen};
+ghost use Rattle.node_core.specs.Packets.{chosen};
 ghost use Rattle.node_core.specs.Peers.{next_number};
 ghost use Rattle.node_core.specs.Plain.{log_view};
 ghost use Rattle.node_core.specs.Sound.{AreNumbers};
@@ -108,12 +105,25 @@ pub enum Said {
 /// What befalls a node. Gateways are places in its list, counted from 0.
 #[derive(Debug, Drop)]
 pub enum LogLine {
+    /// It starts.
     Began,
+    /// It is halted.
     Halted,
+    /// A packet is submitted.
     Submitted(Draft),
+    /// A gateway becomes its favourite.
     Appointed(u8),
+    /// A tick sends these messages.
     Ticked(Vec<Sending>),
-    Heard { port: Port, gateway: u8, said: Said },
+    /// It hears a message that isn't dropped.
+    Heard {
+        /// The node's port at which it is heard.
+        port: Port,
+        /// The gateway that it comes from.
+        gateway: u8,
+        /// What it says.
+        said: Said,
+    },
 }
 
 /// Whether the node runs.
@@ -265,7 +275,7 @@ pub fn next_number(
 }
 
 /// The gateways with the numbers that are next.
-#[tactic(auto, using(crate::proofs::NodeLemmas::numbers_anew))]
+#[tactic(auto, using(crate::proofs::NodeLemmas::numbers_anew, crate::proofs::PlainLemmas::peers_count))]
 pub(crate) fn peers(
     alloc: Global,
     gateways: &[Addr],
@@ -273,6 +283,7 @@ pub(crate) fn peers(
 ) -> Result<Vec<Peer>, NoMemory>
     ensures peers { IfOk result (λ peers. peers.items ≡ peers_of gateways.now (log_view log.now)) }
     ensures numbers { IfOk result (λ peers. AreNumbers peers.items) }
+    ensures count { IfOk result (λ peers. length peers.items ≡ length gateways.now) }
 {
     match log {
         [] => peers_of(alloc, gateways),
@@ -292,9 +303,7 @@ pub(crate) fn peers(
 
 /// How far the node has come with a packet.
 pub fn phase(alloc: Global, log: &[LogLine], packet: u64) -> Result<Phase, NoMemory>
-    ensures { IfOk result (λ found. found
-        ≡ option_map_or (λ (packet : PacketState). phase_of_copies packet.copies)
-        (find (λ (state : PacketState). state.number == packet) (packets_of (log_view log.now))) phase.Unknown) }
+    ensures { IfOk result (λ found. found ≡ phase_among (packets_of (log_view log.now)) packet) }
 {
     let packets = packets(alloc, log)?;
     Ok(match numbered(&packets, packet) {
@@ -305,9 +314,7 @@ pub fn phase(alloc: Global, log: &[LogLine], packet: u64) -> Result<Phase, NoMem
 
 /// The copies of a packet that was submitted since the start, in order of sending.
 pub fn copies(alloc: Global, log: &[LogLine], packet: u64) -> Result<Vec<PacketCopy>, NoMemory>
-    ensures { IfOk result (λ copies. copies.items
-        ≡ option_map_or (λ (packet : PacketState). packet.copies)
-        (find (λ (state : PacketState). state.number == packet) (packets_of (log_view log.now))) []) }
+    ensures { IfOk result (λ copies. copies.items ≡ copies_among (packets_of (log_view log.now)) packet) }
 {
     let packets = packets(alloc, log)?;
     match numbered(&packets, packet) {
@@ -325,8 +332,7 @@ pub fn chosen(duplicates: &[PacketCopy]) -> Option<PacketCopy>
 
 /// The packet with this number.
 fn numbered(packets: &[NodePacket], number: u64) -> Option<&NodePacket>
-    ensures { option_map (λ packet. packet.now) result
-        ≡ find (λ (state : PacketState). state.number == number) packets.now }
+    ensures { option_map (λ packet. packet.now) result ≡ packet_numbered packets.now number }
 {
     match packets {
         [] => None,

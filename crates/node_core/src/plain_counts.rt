@@ -1,7 +1,8 @@
 //! How many packets a log tells of.
 
 ghost use Rattle.std.specs.Prelude.{◌≡◌, ◌≤◌, ◌<◌, ◌+◌, ◌^◌, IfOk, length};
-ghost use Rattle.node_core.specs.Log.{done_among, packets_of, resolved_among, submitted, tally_before, with_those};
+ghost use Rattle.node_core.specs.Counting.{counted};
+ghost use Rattle.node_core.specs.Log.{packets_of, submitted, tally_before, tally_with};
 ghost use Rattle.node_core.specs.Plain.{log_view};
 
 use crate::counts::{NodeCounts, Tally};
@@ -13,15 +14,12 @@ use std::alloc::Global;
 
 /// How many packets were submitted, became resolved and became done, over all starts.
 pub fn counts(alloc: Global, log: &[LogLine]) -> Result<NodeCounts, NoMemory>
-    ensures { IfOk result (λ counts. counts ≡ record {
-      packets = submitted (log_view log.now);
-      resolved = (tally_before (log_view log.now)).resolved + resolved_among (packets_of (log_view log.now));
-      done = (tally_before (log_view log.now)).done + done_among (packets_of (log_view log.now));
-    }) }
+    ensures { IfOk result (λ counts. counts
+        ≡ counted (submitted (log_view log.now)) (tally_before (log_view log.now)) (packets_of (log_view log.now))) }
 {
     let packets = packets(alloc, log)?;
     let before = tally_before(alloc, log)?;
-    let tally = with_those(&packets, before);
+    let tally = tally_with(&packets, before);
     Ok(NodeCounts {
         packets: submitted(log),
         resolved: tally.resolved,
@@ -46,7 +44,7 @@ fn tally_before(alloc: Global, log: &[LogLine]) -> Result<Tally, NoMemory>
             LogLine::Began | LogLine::Halted => {
                 let packets = packets(alloc, older)?;
                 let before = tally_before(alloc, older)?;
-                Ok(with_those(&packets, before))
+                Ok(tally_with(&packets, before))
             }
             LogLine::Submitted(_)
             | LogLine::Appointed(_)
@@ -57,10 +55,10 @@ fn tally_before(alloc: Global, log: &[LogLine]) -> Result<Tally, NoMemory>
 }
 
 /// Those of earlier starts, and these.
-fn with_those(packets: &[NodePacket], before: Tally) -> Tally
+fn tally_with(packets: &[NodePacket], before: Tally) -> Tally
     requires resolved { before.resolved + length packets.now < 2 ^ 64 }
     requires done { before.done + length packets.now < 2 ^ 64 }
-    ensures tally { result ≡ with_those packets.now before }
+    ensures tally { result ≡ tally_with packets.now before }
     ensures resolved { result.resolved ≤ before.resolved + length packets.now }
     ensures done { result.done ≤ before.done + length packets.now }
 {

@@ -30,8 +30,7 @@ pub fn due(alloc: Global, setup: &Setup, log: &[LogLine]) -> Result<Vec<Sending>
 {
     let moved = moved_at_tick(alloc, setup, log)?;
     let favourite = favourite_by(moved, favourite(log));
-    let sendings = due_at(alloc, setup, log, favourite)?;
-    Ok(sendings)
+    due_at(alloc, setup, log, favourite)
 }
 
 /// Where the favourite moves at the start of the tick.
@@ -84,25 +83,13 @@ fn due_at(
         (packets_of (log_view log.now))) }
 {
     let paths = paths(setup.counter(), log);
-    let mut gateways = gateways(alloc, setup, log)?;
+    let mut peers = peers(alloc, setup.gateways(), log)?;
     let packets = packets(alloc, log)?;
     let aim = Aim {
         favourite,
         is_alive: paths.is_alive(favourite),
     };
-    let sendings = due_by(alloc, aim, &paths, &mut gateways, &packets)?;
-    Ok(sendings)
-}
-
-/// The gateways with the numbers that are next.
-#[tactic(auto, using(crate::proofs::PlainLemmas::peers_count))]
-pub(crate) fn gateways(alloc: Global, setup: &Setup, log: &[LogLine]) -> Result<Vec<Peer>, NoMemory>
-    ensures peers { IfOk result (λ peers. peers.items ≡ peers_of setup.now.gateways (log_view log.now)) }
-    ensures numbers { IfOk result (λ peers. AreNumbers peers.items) }
-    ensures most { IfOk result (λ peers. length peers.items ≤ 255) }
-{
-    let peers = peers(alloc, setup.gateways(), log)?;
-    Ok(peers)
+    due_by(alloc, aim, &paths, &mut peers, &packets)
 }
 
 /// A Node Alive Request to each of these gateways that isn't alive, and then what is due for the
@@ -111,17 +98,17 @@ fn due_by(
     alloc: Global,
     aim: Aim,
     paths: &NodePath,
-    gateways: &mut [Peer],
+    peers: &mut [Peer],
     packets: &[NodePacket],
 ) -> Result<Vec<Sending>, NoMemory>
-    requires numbers { AreNumbers gateways.old }
-    requires most { length gateways.old ≤ 255 }
+    requires numbers { AreNumbers peers.old }
+    requires most { length peers.old ≤ 255 }
     ensures { IfOk result (λ sendings. sendings.items
-        ≡ due_by aim.favourite aim.is_alive paths.now gateways.old packets.now) }
+        ≡ due_by aim.favourite aim.is_alive paths.now peers.old packets.now) }
 {
-    let mut sendings = probes_from(alloc, 0, paths, gateways)?;
-    draw_all(gateways, &sendings);
-    let later = due_for_all(alloc, aim, gateways, packets)?;
+    let mut sendings = probes_from(alloc, 0, paths, peers)?;
+    draw_all(peers, &sendings);
+    let later = due_for_all(alloc, aim, peers, packets)?;
     sendings.extend_from_slice(&later)?;
     Ok(sendings)
 }

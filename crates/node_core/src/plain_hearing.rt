@@ -1,13 +1,13 @@
 //! What a node makes of a datagram, by its log.
 
-ghost use Rattle.std.specs.Prelude.{◌≡◌, ◌<◌, ◌^◌, ◌&&◌, not, IfOk, Some, map};
+ghost use Rattle.std.specs.Prelude.{◌≡◌, ◌<◌, ◌^◌, IfOk, Some, map};
 ghost use Rattle.gtpp_message.specs.Values.{lent, message_value, reading_value};
 ghost use Rattle.gw_base.specs.Nearest.{nearest};
 ghost use Rattle.node_core.specs.Hearing.{Says, first_made, heeding, heeds, taken, taken_of, taken_of_message, taken_of_path};
 ghost use Rattle.node_core.specs.Log.{Other};
-ghost use Rattle.node_core.specs.Packets.{is_done, is_resolved, packet_hearing, while_open};
+ghost use Rattle.node_core.specs.Packets.{packet_hearing, while_open};
 ghost use Rattle.node_core.specs.Peers.{last_number};
-ghost use Rattle.node_core.specs.Plain.{log_view, said_view, understood_view};
+ghost use Rattle.node_core.specs.Plain.{has_reached, log_view, said_view, understood_view};
 ghost use Rattle.node_core.specs.Sound.{AreNumbers};
 ghost use Rattle.node_core.specs.Value.{node_of};
 
@@ -15,8 +15,7 @@ use crate::hear::{dropping, id_of, path_reply, replying};
 use crate::message::Heeded;
 use crate::node_packet::NodePacket;
 use crate::peer::{Peer, last_number, place_of};
-use crate::plain::{LogLine, Said, Setup, counter, packets};
-use crate::plain_due::gateways;
+use crate::plain::{LogLine, Said, Setup, counter, packets, peers};
 use crate::port::Port;
 use gtpp_elements::Numbers;
 use gtpp_message::{Message, Reading, Role, Why, read_as, write_short};
@@ -33,6 +32,25 @@ pub(crate) enum Understood {
     Says { said: Said, reply: Option<Short> },
 }
 
+/// How far a packet may have come.
+#[derive(Clone, Copy)]
+pub(crate) enum Stage {
+    Resolved,
+    Done,
+}
+
+impl Stage {
+    /// Whether the packet has come so far.
+    fn is_reached_by(self, packet: &NodePacket) -> bool
+        ensures { result ≡ has_reached self packet.now.copies }
+    {
+        match self {
+            Stage::Resolved => packet.is_resolved(),
+            Stage::Done => packet.is_done(),
+        }
+    }
+}
+
 /// What the node makes of a datagram from this sender at a port: the reply, why it is dropped, and
 /// the first packets that become resolved and done.
 pub fn heeds(
@@ -45,13 +63,12 @@ pub fn heeds(
 ) -> Result<Heeded, NoMemory>
     ensures { IfOk result (λ heeded. heeded ≡ heeds (node_of setup.now (log_view log.now)) port from octets.now) }
 {
-    let peers = gateways(alloc, setup, log)?;
+    let peers = peers(alloc, setup.gateways(), log)?;
     match place_of(&peers, from.ip) {
         None => Ok(dropping(Why::Stray)),
         Some(gateway) => {
             let understood = understand(alloc, setup, log, gateway, octets)?;
-            let heeded = heeding(alloc, setup, log, port, gateway, understood)?;
-            Ok(heeded)
+            heeding(alloc, setup, log, port, gateway, understood)
         }
     }
 }
@@ -69,10 +86,9 @@ fn understand(
         ≡ taken (node_of setup.now (log_view log.now)) gateway octets.now) }
 {
     let counter = counter(setup, log);
-    let peers = gateways(alloc, setup, log)?;
+    let peers = peers(alloc, setup.gateways(), log)?;
     let last = last_of(&peers, gateway);
-    let understood = understand_reading(alloc, counter, last, read_as(Role::Node, octets))?;
-    Ok(understood)
+    understand_reading(alloc, counter, last, read_as(Role::Node, octets))
 }
 
 /// The last request number that was drawn for a gateway.
@@ -241,8 +257,16 @@ fn heeding_said(
             let address = setup.address();
             let packets = packets(alloc, log)?;
             let named = numbers.numbers();
-            let resolved = first_resolved(alloc, &packets, port, gateway, *cause, named)?;
-            let done = first_done(alloc, &packets, port, gateway, *cause, named)?;
+            let resolved = first_made(
+                Stage::Resolved,
+                alloc,
+                &packets,
+                port,
+                gateway,
+                *cause,
+                named,
+            )?;
+            let done = first_made(Stage::Done, alloc, &packets, port, gateway, *cause, named)?;
             Ok(Heeded {
                 reply,
                 drop: None,
@@ -253,8 +277,9 @@ fn heeding_said(
     }
 }
 
-/// The first of these packets that a response makes resolved.
-fn first_resolved(
+/// The first of these packets that comes to a stage only by a response.
+fn first_made(
+    stage: Stage,
     alloc: Global,
     packets: &[NodePacket],
     port: Port,
@@ -263,51 +288,17 @@ fn first_resolved(
     numbers: &[u64],
 ) -> Result<Option<u64>, NoMemory>
     ensures { IfOk result (λ first. first
-        ≡ first_made is_resolved (while_open (packet_hearing port gateway cause numbers.now)) packets.now) }
+        ≡ first_made (has_reached stage) (while_open (packet_hearing port gateway cause numbers.now)) packets.now) }
 {
     match packets {
         [] => Ok(None),
         [packet, later @ ..] => {
             let mut after = packet.copied(alloc)?;
             after.hear_numbers(port, gateway, cause, numbers);
-            if is_made(packet.is_resolved(), after.is_resolved()) {
+            if !stage.is_reached_by(packet) && stage.is_reached_by(&after) {
                 return Ok(Some(packet.number()));
             }
-            let first = first_resolved(alloc, later, port, gateway, cause, numbers)?;
-            Ok(first)
+            first_made(stage, alloc, later, port, gateway, cause, numbers)
         }
     }
-}
-
-/// The first of these packets that a response makes done.
-fn first_done(
-    alloc: Global,
-    packets: &[NodePacket],
-    port: Port,
-    gateway: u8,
-    cause: u8,
-    numbers: &[u64],
-) -> Result<Option<u64>, NoMemory>
-    ensures { IfOk result (λ first. first
-        ≡ first_made is_done (while_open (packet_hearing port gateway cause numbers.now)) packets.now) }
-{
-    match packets {
-        [] => Ok(None),
-        [packet, later @ ..] => {
-            let mut after = packet.copied(alloc)?;
-            after.hear_numbers(port, gateway, cause, numbers);
-            if is_made(packet.is_done(), after.is_done()) {
-                return Ok(Some(packet.number()));
-            }
-            let first = first_done(alloc, later, port, gateway, cause, numbers)?;
-            Ok(first)
-        }
-    }
-}
-
-/// Whether what holds after didn't hold before.
-fn is_made(before: bool, after: bool) -> bool
-    ensures { result ≡ (not before && after) }
-{
-    !before && after
 }
