@@ -1,8 +1,9 @@
 -- What a call makes of a gateway that is up, by what is armed for the calls of its device.
 use Rattle.std.proofs.Common.{◌≡◌, ℕ, ◌≤◌, Bool, true, false, ◌&&◌, if◌then◌else◌, List, [], ◌∷◌, ◌++◌, Option, Some, None, Result, refl, sym, ap, subst, ◌∙◌}
-use Rattle.std.specs.Prelude.{IsTrue, nat_le}
+use Rattle.std.specs.Prelude.{◌==◌, IsTrue, nat_le}
 use Rattle.std.proofs.lemmas.Bool.{true≢false}
 use Rattle.area_disk.specs.Armed.{Armed, Came, IsArmed, ReadsRun, calls_under}
+use Rattle.area_disk.specs.Armed.Armed.{Nothing}
 use Rattle.area_disk.specs.Armed.Came.{Ran, FailedAt, StoppedAt}
 use Rattle.area_disk.specs.ArmedLaws.{armed_reads}
 use Rattle.area_disk.specs.Course.{IsTied, course_of}
@@ -27,7 +28,7 @@ use Rattle.gateway_book.specs.Marks.{Mark, Makes, NoRoom, NotDue}
 use Rattle.gateway_book.specs.Opened.{IsOpened, StandsFitFor}
 use Rattle.gateway_book.specs.Preparing.{PreparedValue}
 use Rattle.gateway_book.specs.Read.{IsUnchanged}
-use Rattle.gateway_book.specs.Up.{HasLeft, IsCut, IsDown, IsUp, Stands, commit_sequel, fortune_by, reopening_sequel, sequel_of}
+use Rattle.gateway_book.specs.Up.{Breaks, HasLeft, IsCut, IsDown, IsUp, Stands, Stops, commit_sequel, fortune_by, reopening_sequel, sequel_of}
 use Rattle.gateway_book.specs.Value.{BookValue, Fortune, Gone, Refused, Reopening, Whole, after_commit, is_batch_full, readied, recorded_if, reopened, tried, tried_with}
 use Rattle.gateway_book.specs.declared.book.Book.{Book}
 use Rattle.gateway_book.specs.declared.outcome.Broken.{Broken}
@@ -66,6 +67,20 @@ module _ (v : BookValue) where
 
     after_whole : v.is_broken ≡ false → (h : List HistoryEntry) → v.rest ≡ h → after_commit f v ≡ tried_with f v h
     after_whole whole h is = ap (λ b. if b then reopened v f.reopening else tried_with f v v.rest) whole ∙ ap (λ (g : List HistoryEntry). tried_with f v g) is
+
+-- a gateway that isn't broken, by what its device goes on with
+goes_on : {A : Type 0} {tells : Ghosts A} (header : List ℕ) (book : Book A tells) (w : BookValue) (armed : Armed) → value_of book ≡ w → header_of book ≡ header → w.is_broken ≡ false
+    → IsTied armed (plan_of book) → (w.is_broken ≡ false) × IsUp header w armed false book
+goes_on header book w armed value named still tied = (
+  still,
+  record {
+    value = value;
+    named = named;
+    is_armed = tied.is_armed;
+    has_spare = λ whole. tied.has_spare;
+    torn = λ broken. absurd (true≢false (sym broken ∙ still));
+  },
+)
 
 module _ {A : Type 0} {tells : Ghosts A} (told : Told tells) (fate : IsTrue tells.tells_fate) (header : List ℕ) (v : BookValue) (armed : Armed) (at_last : Bool) (old new : Book A tells) (up : IsUp header v armed at_last old) where
   commit_fails : (came : Came) → CommitComes new.trail (is_closed new.trail) came → is_closed new.trail ≡ (fortune_by at_last (commit_sequel came)).fails
@@ -111,74 +126,39 @@ module _ {A : Type 0} {tells : Ghosts A} (told : Told tells) (fate : IsTrue tell
         ∙ ap (λ (u : BookValue). if stands then u.firm ++ u.rest else u.firm) value
 
     none_stands : v.is_broken ≡ false → w.is_broken ≡ false → area_of new ≡ area_of old → Stands header (sequel_of AsksNothing armed at_last) w new
-    none_stands whole still area = (
-      still,
-      record {
-        value = value;
-        named = name;
-        is_armed = subst (λ (x : A). IsArmed armed (course_of (tells.fate x)).schedule) (sym area) up.is_armed;
-        has_spare = λ goes. subst (λ (x : A). 1 ≤ (course_of (tells.fate x)).spare) (sym area) (up.has_spare whole);
-        torn = λ broken. absurd (true≢false (sym broken ∙ still));
-      },
-    )
+    none_stands whole still area =
+        goes_on header new w armed value name still
+        (subst (λ (x : A). IsTied armed (course_of (tells.fate x))) (sym area) (record { is_armed = up.is_armed; has_spare = up.has_spare whole }))
+
+    failed_stands : (last : Bool) → is_closed new.trail ≡ true → IsArmed Nothing (plan_of new).schedule → ((outcome : Outcome3) → stop_stands outcome new.trail ≡ (last && is_new outcome))
+        → Stands header (Breaks last) w new
+    failed_stands last fails none torn =
+        let breaks = w_broken true fails in (
+          breaks,
+          record {
+            value = value;
+            named = name;
+            is_armed = none;
+            has_spare = λ whole. absurd (true≢false (sym breaks ∙ whole));
+            torn = λ broken. torn;
+          },
+        )
+
+    stopped_stands : (stands : Bool) → is_closed new.trail ≡ true → (plan_of new).schedule.stopped ≡ true → ((outcome : Outcome3) → stop_stands outcome new.trail ≡ stands)
+        → Stands header (Stops stands) w new
+    stopped_stands stands fails stopped left = record { named = name; stopped = stopped; leaves = λ o. left_is o stands fails (left o) }
 
     commit_stands : (came : Came) → CommitComes new.trail (is_closed new.trail) came → Stands header (commit_sequel came) w new
-    commit_stands (Ran b) goes =
-        let still = w_broken false goes.runs in (
-          still,
-          record {
-            value = value;
-            named = name;
-            is_armed = goes.tied.is_armed;
-            has_spare = λ whole. goes.tied.has_spare;
-            torn = λ broken. absurd (true≢false (sym broken ∙ still));
-          },
-        )
-    commit_stands (FailedAt call) failed =
-        let breaks = w_broken true failed.fails in (
-          breaks,
-          record {
-            value = value;
-            named = name;
-            is_armed = failed.armed;
-            has_spare = λ whole. absurd (true≢false (sym breaks ∙ whole));
-            torn = λ broken outcome. failed.left outcome;
-          },
-        )
-    commit_stands (StoppedAt call outcome) stopped = record {
-      named = name;
-      stopped = stopped.stopped;
-      leaves = λ o. left_is o (nat_le 3 call && is_new outcome) stopped.fails (stopped.left o);
-    }
+    commit_stands (Ran b) goes = goes_on header new w b value name (w_broken false goes.runs) goes.tied
+    commit_stands (FailedAt call) failed = failed_stands (call == 4) failed.fails failed.armed failed.left
+    commit_stands (StoppedAt call outcome) stopped = stopped_stands (nat_le 3 call && is_new outcome) stopped.fails stopped.stopped stopped.left
 
     opening_stands : v.is_broken ≡ true → (came : Came) → ReopenComes old.trail new.trail (is_closed new.trail) came → Stands header (reopening_sequel at_last came) w new
-    opening_stands broken (Ran b) goes =
-        let still = w_broken false goes.runs in (
-          still,
-          record {
-            value = value;
-            named = name;
-            is_armed = goes.tied.is_armed;
-            has_spare = λ whole. goes.tied.has_spare;
-            torn = λ breaks. absurd (true≢false (sym breaks ∙ still));
-          },
-        )
+    opening_stands broken (Ran b) goes = goes_on header new w b value name (w_broken false goes.runs) goes.tied
     opening_stands broken (FailedAt call) failed =
-        let breaks = w_broken true failed.fails in (
-          breaks,
-          record {
-            value = value;
-            named = name;
-            is_armed = failed.armed;
-            has_spare = λ whole. absurd (true≢false (sym breaks ∙ whole));
-            torn = λ still outcome. failed.left outcome ∙ up.torn broken outcome;
-          },
-        )
-    opening_stands broken (StoppedAt call outcome) stopped = record {
-      named = name;
-      stopped = stopped.stopped;
-      leaves = λ o. left_is o (at_last && is_new outcome) stopped.fails (stopped.left o ∙ up.torn broken outcome);
-    }
+        failed_stands at_last failed.fails failed.armed (λ outcome. failed.left outcome ∙ up.torn broken outcome)
+    opening_stands broken (StoppedAt call outcome) stopped =
+        stopped_stands (at_last && is_new outcome) stopped.fails stopped.stopped (λ o. stopped.left o ∙ up.torn broken outcome)
 
   -- what came before an answer or a mark
   readied_as : (b : Bool) → v.is_broken ≡ b → (c : Bool) → is_batch_full v ≡ c → AsPlanned old new (asked_to_ready v)
@@ -324,16 +304,7 @@ module _ {A : Type 0} {tells : Ghosts A} (told : Told tells) (fate : IsTrue tell
 pub opened_is_up : {A : Type 0} {tells : Ghosts A} (header : List ℕ) (area : A) (open_time : ℕ) (book : Book A tells) (w : BookValue) (armed : Armed) → IsOpened header area open_time book → value_of book ≡ w
     → IsTied armed (plan_of book) → (w.is_broken ≡ false) × IsUp header w armed false book
 opened_is_up header area open_time book w armed opened value tied =
-    let still : w.is_broken ≡ false = sym (ap (λ (u : BookValue). u.is_broken) value) ∙ opened.whole in (
-      still,
-      record {
-        value = value;
-        named = opened.named;
-        is_armed = tied.is_armed;
-        has_spare = λ whole. tied.has_spare;
-        torn = λ broken. absurd (true≢false (sym broken ∙ still));
-      },
-    )
+    goes_on header book w armed value opened.named (sym (ap (λ (u : BookValue). u.is_broken) value) ∙ opened.whole) tied
 
 -- a gateway whose items were read
 module _ {A : Type 0} {tells : Ghosts A} (fate : IsTrue tells.tells_fate) (header : List ℕ) (v : BookValue) (armed : Armed) (at_last : Bool) where
