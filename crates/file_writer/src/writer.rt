@@ -41,8 +41,7 @@ pub struct Writer<F: Shelf> {
     /// How many items were taken since.
     taken: u64,
     is_broken: bool,
-    ghost sound: { IsSound F.Shelf shelf limits streams taken is_broken }
-        by { Prim.hlevel (Pairs-prop, ReadyWhere-prop, props) },
+    ghost sound: { IsSound F.Shelf shelf limits streams taken is_broken } by { Prim.hlevel (Pairs-prop, ReadyWhere-prop, props) },
 }
 
 impl<F: Shelf> Writer<F> {

@@ -24,8 +24,11 @@ impl Model for MemoryClock {
     ghost Value = { MemoryTime };
 
     ghost view = { λ c. record {
-        left = drop c.given c.moments.items;
-        calls = c.calls; fail = c.fail.items; faults = c.faults } };
+      left = drop c.given c.moments.items;
+      calls = c.calls;
+      fail = c.fail.items;
+      faults = c.faults;
+    } };
 
     ghost invariant = { λ c. c.given < length c.moments.items };
 }

@@ -26,8 +26,12 @@ impl Model for MemorySink {
     ghost Value = { MemoryOutput };
 
     ghost view = { λ s. record {
-        written = take s.written s.buffer.items; room = length s.buffer.items;
-        calls = s.calls; fail = s.fail.items; faults = s.faults } };
+      written = take s.written s.buffer.items;
+      room = length s.buffer.items;
+      calls = s.calls;
+      fail = s.fail.items;
+      faults = s.faults;
+    } };
 
     ghost invariant = { λ s. s.written ≤ length s.buffer.items };
 }

@@ -25,8 +25,12 @@ impl Model for MemorySource {
     ghost Value = { MemoryInput };
 
     ghost view = { λ s. record {
-        left = drop s.taken s.octets.items; piece = s.piece;
-        calls = s.calls; fail = s.fail.items; faults = s.faults } };
+      left = drop s.taken s.octets.items;
+      piece = s.piece;
+      calls = s.calls;
+      fail = s.fail.items;
+      faults = s.faults;
+    } };
 
     ghost invariant = { λ s. (s.taken ≤ length s.octets.items) × (1 ≤ s.piece) };
 }

@@ -47,7 +47,7 @@ pub fn what_holds_places_each_record_once()
     ensures { (scene : Scene) (node start : ℕ) (values : ℕ → List ℕ) (packets : List PacketState) → SceneHolds scene →
         Follows (scene.deeds node) start values packets →
         All (λ packet. IsOnce (λ gateway. (scene.posts gateway).firm) node start (values packet.number) packet)
-            packets }
+        packets }
 {}
 
 /// An epoch of a node is told by its start: the epoch with a start stays when entries follow, no two
