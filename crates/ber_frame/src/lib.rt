@@ -17,6 +17,3 @@ mod walk;
 pub use fault::{BerFault, BerKind};
 pub use frame::{check, identifier};
 pub use gw_base::Tag;
-
-#[cfg(test)]
-mod tests;

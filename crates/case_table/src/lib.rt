@@ -15,8 +15,6 @@ use std::marker::Model;
 pub mod laws;
 mod macros;
 mod rows;
-#[cfg(test)]
-mod tests;
 
 /// One case: what a table has under a key.
 #[derive(Clone, Copy, Debug, PartialEq, Eq)]

@@ -28,6 +28,3 @@ pub use file_name::FileName;
 pub use memory::MemoryShelf;
 pub use quiet::QuietShelf;
 pub use shelf::{Shelf, ShelfStop};
-
-#[cfg(test)]
-mod tests;

@@ -9,8 +9,6 @@
 
 mod fault;
 mod held;
-#[cfg(test)]
-mod tests;
 
 pub use fault::HoldFault;
 pub use held::Held;

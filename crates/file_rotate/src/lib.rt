@@ -14,8 +14,6 @@ mod cutter;
 mod laws;
 mod limits;
 mod open_file;
-#[cfg(test)]
-mod tests;
 
 pub use cut::Cut;
 pub use cutter::Cutter;

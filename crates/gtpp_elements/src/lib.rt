@@ -16,8 +16,6 @@ mod fault;
 pub mod laws;
 mod numbers;
 mod table;
-#[cfg(test)]
-mod tests;
 mod write;
 
 pub use elements::{Elements, read};

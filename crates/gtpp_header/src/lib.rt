@@ -19,8 +19,6 @@ pub use fault::HeadFault;
 
 mod fault;
 pub mod laws;
-#[cfg(test)]
-mod tests;
 
 /// The number of octets in a header.
 pub const HEADER_OCTETS: usize = 6;

@@ -13,8 +13,6 @@ mod event;
 mod gateway;
 pub mod laws;
 mod node;
-#[cfg(test)]
-mod tests;
 
 pub use event::{PathAnswer, PathEvent};
 pub use gateway::GatewayPath;

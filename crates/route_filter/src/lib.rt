@@ -16,6 +16,3 @@ mod text;
 pub use rule::Rule;
 pub use rules::{RuleFault, Rules};
 pub use text::{cut, decoded, number, octets, words};
-
-#[cfg(test)]
-mod tests;

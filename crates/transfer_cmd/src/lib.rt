@@ -10,8 +10,6 @@
 
 mod decision;
 pub mod laws;
-#[cfg(test)]
-mod tests;
 mod verdict;
 
 pub use decision::{Ask, decide};

@@ -1,5 +1,6 @@
-use super::*;
-use crate::cases;
+//! Tests of `case_table`: rows under their keys, and keys that stand twice.
+
+use case_table::{Cases, Row, Twice, cases, laws};
 
 const fn row(key: u32, value: u32, mark: u32) -> Row {
     Row { key, value, mark }

@@ -1,4 +1,6 @@
-use crate::{Held, HoldFault};
+//! Tests of `dup_buffer`: copies that are held, found, taken and dropped.
+
+use dup_buffer::{Held, HoldFault};
 use gw_base::{Absolute, NodeId, Place};
 use std::test::Fail;
 

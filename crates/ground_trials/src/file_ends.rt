@@ -1,4 +1,6 @@
-use crate::{Cut, Cutter, Limits};
+//! Tests of `file_rotate`: where the file of a stream is closed, and by which reason.
+
+use file_rotate::{Cut, Cutter, Limits};
 use gw_base::{CdrKind, Moment};
 use std::test::Fail;
 

@@ -1,6 +1,7 @@
-use super::*;
-use KeyState::{Cancelled, Filed, Fresh, Held, Released, Sealed};
-use gw_base::KeyState;
+//! Tests of `transfer_cmd`: the table of answers, and the rule for releases and cancels.
+
+use gw_base::KeyState::{self, Cancelled, Filed, Fresh, Held, Released, Sealed};
+use transfer_cmd::{Ask, Verdict, decide, judge};
 
 #[test]
 fn answers_by_the_state_of_the_number(rt: HostRuntime) {

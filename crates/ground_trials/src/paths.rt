@@ -1,5 +1,7 @@
-use super::*;
+//! Tests of `path_mgmt`: what each end of a path makes of a message.
+
 use PathEvent::{AliveAsked, AliveTold, EchoAsked, EchoTold};
+use path_mgmt::{GatewayPath, NodePath, PathAnswer, PathEvent};
 
 #[test]
 fn a_gateway_learns_the_counter_before_it_tells_that_it_is_alive(rt: HostRuntime) {

@@ -1,4 +1,6 @@
-use super::*;
+//! Tests of `ber_frame`: values of X.690, corner cases, and the first fault with its place.
+
+use ber_frame::{BerFault, BerKind, Tag, check, identifier};
 
 fn tag(class: u8, constructed: bool, number: u32) -> Tag {
     Tag {

@@ -1,5 +1,7 @@
-use crate::{RuleFault, Rules};
+//! Tests of `route_filter`: which stream a record belongs to, and lines that are no rules.
+
 use gw_base::Tag;
+use route_filter::{RuleFault, Rules};
 use std::alloc::Global;
 use std::process::Abort;
 use std::test::Fail;

@@ -1,4 +1,6 @@
-use super::*;
+//! Tests of `gtpp_header`: six octets as a header, and the first condition that refuses them.
+
+use gtpp_header::{HeadFault, Header, read, write};
 use std::test::Fail;
 
 #[test]

@@ -1,4 +1,6 @@
-use super::*;
+//! Tests of `gtpp_elements`: elements of a body, the first faulty one, numbers, and elements that are written.
+
+use gtpp_elements::{ElementFault, Numbers, OddLength, put, read};
 use gw_base::{Buffer, Full};
 use std::test::Fail;
 

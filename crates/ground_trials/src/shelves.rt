@@ -1,9 +1,10 @@
-// Files written to shelves in memory, with values worked out by hand.
+//! Tests of `cdr_shelf`: files written to shelves in memory, with values worked out by hand.
+
 ghost use Rattle.std.specs.Prelude.{IsTrue};
 ghost use Rattle.cdr_shelf.specs.Files.{IsFresh};
 
-use super::*;
 use area_disk::{Drill, Failed, Outcome3, Plan, Stop};
+use cdr_shelf::{FileName, MemoryShelf, QuietShelf, Shelf, ShelfStop};
 use std::alloc::Global;
 use std::test::Fail;
 
