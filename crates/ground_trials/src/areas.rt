@@ -1,6 +1,6 @@
 //! Tests of `area_disk`: what the calls do to the octets, outcome by outcome, with values worked out by hand.
 
-use area_disk::{Area, Drill, Failed, MemoryArea, Outcome3, Plan, QuietArea, Stop};
+use area_disk::{Area, Drill, Failed, MemoryArea, Outcome3, Plan, Stop};
 use std::alloc::Global;
 use std::process::Abort;
 use std::test::Fail;
@@ -82,15 +82,6 @@ fn stopped_between(rt: &impl Abort, alloc: Global, outcome: Outcome3) -> Result<
     let mut area = half_synced(rt, alloc, plan_without(alloc))?;
     crash(&mut area, outcome);
     Ok(read_eight(rt, &mut area)?)
-}
-
-#[test]
-fn a_quiet_area_gives_what_was_written(rt: HostRuntime) -> Result<(), Fail> {
-    let mut area = QuietArea::new(rt.alloc(), 8)?;
-    write(&rt, &mut area, 2, &[3, 4])?;
-    sync(&mut area)?;
-    assert_eq!(&rt; read_eight(&rt, &mut area)?, [0, 0, 3, 4, 0, 0, 0, 0]);
-    Ok(())
 }
 
 #[test]

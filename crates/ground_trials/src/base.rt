@@ -1,11 +1,11 @@
-//! Tests of `gw_base`: kinds, numbers, moments, lists of octets, and the outside in memory.
+//! Tests of `gw_base`: kinds, numbers, and the outside in memory.
 ghost use Rattle.std.specs.Prelude.{◌≡◌, Some, None};
 ghost use Rattle.gw_base.specs.CdrKind.{kind_of};
 ghost use Rattle.gw_base.specs.Nearest.{nearest};
 
 use gw_base::{
-    Buffer, CdrKind, Clock, Failed, MemoryClock, MemorySink, MemorySource, Moment, Octets, Short,
-    Sink, Source, cdr_kind, nearest_number,
+    CdrKind, Clock, Failed, MemoryClock, MemorySink, MemorySource, Moment, Octets, Sink, Source,
+    cdr_kind, nearest_number,
 };
 use std::test::Fail;
 
@@ -70,44 +70,6 @@ fn nearest_numbers_up_to_the_edges_of_the_window(rt: HostRuntime) {
     ] {
         assert_eq!(rt; nearest_number(top, wire), number, "at {top:?} {wire:x}");
     }
-}
-
-#[test]
-fn moments_end_with_the_year_2099(rt: HostRuntime) {
-    for (seconds, is_moment) in [
-        (0, true),
-        (4_102_444_799, true),
-        (4_102_444_800, false),
-        (u64::MAX, false),
-    ] {
-        let seen = Moment::of(seconds).map(Moment::seconds);
-        let want = if is_moment { Some(seconds) } else { None };
-        assert_eq!(rt; seen, want, "at {seconds}");
-    }
-}
-
-#[test]
-fn lists_of_octets_keep_what_they_are_given(rt: HostRuntime) -> Result<(), Fail> {
-    let long = [7; 65];
-    assert!(rt; Short::of(&long).is_none());
-    let short = Short::of(&long[..64]).ok_or("64 octets are few enough")?;
-    assert_eq!(rt; short.octets(), &long[..64]);
-    let octets = Octets::of(rt.alloc(), &[1, 2, 3])?;
-    assert_eq!(rt; octets.octets(), [1, 2, 3].as_slice());
-    Ok(())
-}
-
-#[test]
-fn a_buffer_is_filled_and_cleared(rt: HostRuntime) -> Result<(), Fail> {
-    let mut buffer = Buffer::with(rt.alloc(), 4)?;
-    assert_eq!(rt; buffer.free(), 4);
-    buffer.append(&[1, 2, 3]);
-    assert_eq!(rt; buffer.octets(), [1, 2, 3].as_slice());
-    assert_eq!(rt; buffer.free(), 1);
-    buffer.clear();
-    assert_eq!(rt; buffer.octets().len(), 0);
-    assert_eq!(rt; buffer.free(), 4);
-    Ok(())
 }
 
 /// Takes once from a source, and says what came.

@@ -1,7 +1,5 @@
 // A book is opened, commits, and is opened again.
-use crate::book::{
-    SETUP, area, area_of, commits, entries, failing, firm, open_as, opened, settles, sound,
-};
+use crate::book::{SETUP, area, area_of, commits, entries, firm, open_as, opened, settles, sound};
 use area_disk::{Area, MemoryArea};
 use gateway_book::{Book, BookFault, Settled, Setup};
 use gw_base::{KeyState, NodeId};
@@ -52,21 +50,4 @@ fn open_twice(rt: &impl Abort, alloc: Global) {
 #[test]
 fn an_opening_records_a_start(rt: HostRuntime) {
     open_twice(&rt, rt.alloc());
-}
-
-// A commit fails at its last call, and the next one finds its batch.
-fn commit_twice(rt: &impl Abort, alloc: Global) {
-    // five calls of the device make an area anew, and the ninth is a commit's last
-    let plan = failing(rt, alloc, &[9]);
-    let mut book = opened(rt, alloc, area(rt, alloc, 300, plan));
-    assert!(rt; !commits(&mut book));
-    assert_eq!(rt; entries(&book), 0);
-    settles(rt, &book, (1, 0), Settled::Lost { faults: 1 });
-    assert!(rt; commits(&mut book));
-    assert_eq!(rt; firm(&book), 1);
-}
-
-#[test]
-fn a_commit_that_fails_at_its_last_call_stands(rt: HostRuntime) {
-    commit_twice(&rt, rt.alloc());
 }
