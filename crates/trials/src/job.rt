@@ -30,6 +30,21 @@ pub(crate) fn job(
 ) -> Result<(Status, Vec<u8>), Fail>
     requires { 1 ≤ piece }
 {
+    run(rt, words, input, piece, SINK_OCTETS, fail_source, fail_sink)
+}
+
+/// The same, with a sink of so many octets. Each test of a job comes here.
+pub(crate) fn run(
+    rt: &HostRuntime,
+    words: &[&str],
+    input: &[u8],
+    piece: usize,
+    octets: usize,
+    fail_source: &[u64],
+    fail_sink: &[u64],
+) -> Result<(Status, Vec<u8>), Fail>
+    requires { 1 ≤ piece }
+{
     let alloc = rt.alloc();
     let mut given = Vec::new(alloc);
     for word in words {
@@ -37,7 +52,7 @@ pub(crate) fn job(
     }
     let input = Octets::of(alloc, input)?;
     let mut source = MemorySource::new(input, piece, fail_source.to_vec(alloc)?);
-    let mut sink = MemorySink::new(alloc, SINK_OCTETS, fail_sink.to_vec(alloc)?)?;
+    let mut sink = MemorySink::new(alloc, octets, fail_sink.to_vec(alloc)?)?;
     let (status, _played) = run_cgf(alloc, &given, &mut source, &mut sink, &mut Nobody);
     Ok((status, sink.octets().to_vec(alloc)?))
 }

@@ -3,8 +3,8 @@
 
 ghost use Rattle.std.specs.Prelude.{◌<◌};
 
-use cgf_top::{Nobody, Status, run_cgf};
-use gw_base::{MemorySink, MemorySource, Octets};
+use crate::job::run;
+use cgf_top::Status;
 use std::test::Fail;
 
 /// How many octets the area and the sink have where one small datagram is fed.
@@ -26,17 +26,8 @@ const FILE_REST: &str = "000000010400000000000000000000FFFF0A0000010000000000000
 
 /// How a feed of these lines ends, and what it writes, where area and sink have so many octets.
 fn feed(rt: &HostRuntime, octets: usize, lines: &str) -> Result<(Status, Vec<u8>), Fail> {
-    let alloc = rt.alloc();
-    let mut words = Vec::new(alloc);
-    for word in ["feed", "-"] {
-        words.push(String::from_str(alloc, word)?)?;
-    }
-    let text = format!(in alloc; "reserve {octets}\n{lines}end\n")?;
-    let script = Octets::of(alloc, text.as_bytes())?;
-    let mut source = MemorySource::new(script, 4096, Vec::new(alloc));
-    let mut sink = MemorySink::new(alloc, octets, Vec::new(alloc))?;
-    let (status, _played) = run_cgf(alloc, &words, &mut source, &mut sink, &mut Nobody);
-    Ok((status, sink.octets().to_vec(alloc)?))
+    let text = format!(in rt.alloc(); "reserve {octets}\n{lines}end\n")?;
+    run(rt, &["feed", "-"], text.as_bytes(), 4096, octets, &[], &[])
 }
 
 /// A line with a datagram.
