@@ -357,7 +357,7 @@ tried() {
     for hop in 1 2 3; do
         [ -z "$tests" ] || break
         helpers=$(awk -F'\t' '
-            $1 != "test" && $2 ~ /^crates\/(ground_|replay_)?trials\/|tests\.rt$/ && $5 !~ /::/' <<<"$hits")
+            $1 != "test" && $2 ~ /^crates\/(ground_|replay_|world_)?trials\/|tests\.rt$/ && $5 !~ /::/' <<<"$hits")
         [ -n "$helpers" ] || break
         hits=$(enclosing "[^A-Za-z0-9_.]($(cut -f 5 <<<"$helpers" | sort -u | paste -sd '|'))[(]" \
             " $(cut -d / -f 2 <<<"$helpers" | sort -u | paste -sd ' ') " "" "" "$helpers" <<<"$all" |

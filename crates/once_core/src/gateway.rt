@@ -13,7 +13,7 @@ use std::marker::Model;
 
 /// A gateway of a world. Its journal never fails.
 #[derive(Debug, Drop)]
-pub(crate) struct KeptGateway {
+pub struct KeptGateway {
     pub(crate) history: Vec<HistoryEntry>,
     /// How many of its entries are firm.
     pub(crate) firm: usize,
@@ -41,6 +41,22 @@ impl KeptGateway {
     ghost use Rattle.once_core.specs.Gateway.{committing, cut, opened, readying, settling};
     ghost use Rattle.once_core.specs.Moves.{HasMoved, once_started, with_entry};
     ghost use Rattle.once_core.specs.Standing.{quiet};
+
+    /// The entries that every crash leaves.
+    pub fn firm(&self) -> &[HistoryEntry]
+        ensures { result.now ≡ self.now.book.firm }
+    {
+        let (firm, _) = self.history.split_at(self.firm);
+        firm
+    }
+
+    /// The entries that wait for a commit.
+    pub fn rest(&self) -> &[HistoryEntry]
+        ensures { result.now ≡ self.now.book.rest }
+    {
+        let (_, rest) = self.history.split_at(self.firm);
+        rest
+    }
 
     /// A gateway that was opened on an empty journal, and its Start committed.
     pub(crate) fn new(alloc: Global) -> Result<KeptGateway, NoMemory>
@@ -116,8 +132,7 @@ impl KeptGateway {
     fn is_full(&self) -> bool
         ensures { result ≡ (self.now.book.is_broken || is_batch_full self.now.book) }
     {
-        let (_, rest) = self.history.split_at(self.firm);
-        is_rest_full(rest)
+        is_rest_full(self.rest())
     }
 
     /// Whether it is stopped.

@@ -20,21 +20,15 @@ mod gateway_turn;
 mod message;
 mod node_turn;
 pub mod once_laws;
-#[cfg(test)]
-mod random_tests;
 mod refusing;
 mod room;
 pub mod shown_laws;
-#[cfg(test)]
-mod stories;
 pub mod told_laws;
-#[cfg(test)]
-mod worked_tests;
 mod world;
 pub mod world_laws;
-#[cfg(test)]
-mod world_tests;
 
 pub use event::{Event, Stepped, WorldKind};
+pub use gateway::KeptGateway;
 pub use message::{Message, Waiting};
+pub use node_turn::KeptNode;
 pub use world::World;

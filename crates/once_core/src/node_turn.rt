@@ -24,7 +24,7 @@ const MOST_SUBMISSIONS: u64 = 4_611_686_018_427_355_136;
 
 /// A node of a world.
 #[derive(Debug, Drop)]
-pub(crate) struct KeptNode {
+pub struct KeptNode {
     pub(crate) node: Node,
     /// How many starts it has made.
     pub(crate) starts: u8,
@@ -42,6 +42,13 @@ impl Model for KeptNode {
 }
 
 impl KeptNode {
+    /// What drives it.
+    pub fn node(&self) -> &Node
+        ensures { result.now ≡ self.now.node }
+    {
+        &self.node
+    }
+
     /// The node in this place, which runs, where there are so many gateways.
     pub(crate) fn new(alloc: Global, gateways: u8, place: u8) -> Result<KeptNode, NoMemory>
         requires { 1 ≤ gateways }

@@ -62,6 +62,27 @@ impl World {
         })
     }
 
+    /// Its gateways, in the order of their numbers.
+    pub fn gateways(&self) -> &[KeptGateway]
+        ensures { result.now ≡ self.now.gateways }
+    {
+        &self.gateways
+    }
+
+    /// Its nodes, in the order of their numbers.
+    pub fn nodes(&self) -> &[KeptNode]
+        ensures { result.now ≡ self.now.nodes }
+    {
+        &self.nodes
+    }
+
+    /// All messages that were ever sent, in order: that with number 1 is the first.
+    pub fn messages(&self) -> &[Message]
+        ensures { result.now ≡ self.now.messages }
+    {
+        &self.messages
+    }
+
     /// Plays an event, where the world allows it. A refusal takes no memory. Where memory was wanted
     /// once, each later step answers so, too.
     pub fn step(&mut self, alloc: Global, event: &Event) -> Stepped

@@ -1,7 +1,7 @@
-//! Tests of the upper crates by their public calls: the book of a gateway, CDR files and their writer, the driver of a
-//! serving node, and the job of `feed` and `show`. A crate with tests is proved twice in the gate, so those of the
-//! crates that take longest stand here, above them, and are proved over their contracts alone; those of the lower
-//! crates stand in `ground_trials`.
+//! Tests of the upper crates by their public calls: the book of a gateway, CDR files and their writer, and the job of
+//! `feed` and `show`. A crate with tests is proved twice in the gate, so tests stand here, above the crates, and are
+//! proved over their contracts alone; those of the lower crates stand in `ground_trials`, those of nodes and worlds in
+//! `world_trials`.
 #![tactic(auto)]
 
 #[cfg(test)]
@@ -28,16 +28,6 @@ mod job;
 mod job_datagrams;
 #[cfg(test)]
 mod job_show;
-#[cfg(test)]
-mod node_causes;
-#[cfg(test)]
-mod node_drafts;
-#[cfg(test)]
-mod node_driving;
-#[cfg(test)]
-mod node_logged;
-#[cfg(test)]
-mod node_plain;
 #[cfg(test)]
 mod stories;
 #[cfg(test)]

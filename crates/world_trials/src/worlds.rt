@@ -1,12 +1,12 @@
 //! Worlds that run: the worked stories, a node with all its starts, and refusals in their order.
 ghost use Rattle.std.specs.Prelude.{◌≤◌};
 
-use crate::stories::{
+use crate::world_stories::{
     ANSWER_LOST, COPY_LATE, Do, Kind, PACKET, STARTED_AGAIN, Story, TWO_DUPLICATES,
 };
-use crate::{Event, Stepped, World, WorldKind};
 use gw_base::{Caller, HistoryAct, HistoryEntry, Moment, NodeId, Octets};
 use node_core::Phase;
+use once_core::{Event, Stepped, World, WorldKind};
 use std::alloc::Global;
 use std::process::Abort;
 use std::test::Fail;
@@ -95,7 +95,7 @@ fn after<R: Abort>(rt: &R, alloc: Global, story: &Story) -> (World, usize) {
     let now = moment(rt, NOW);
     assert!(rt; is_done(world.step(alloc, &Event::Moment { now })));
     play(rt, alloc, &mut world, story.begins);
-    let before = world.messages.len();
+    let before = world.messages().len();
     play(rt, alloc, &mut world, story.events);
     ends(rt, alloc, &mut world, story.gateways);
     (world, before)
@@ -174,21 +174,21 @@ fn check_entries<R: Abort>(
     entries: &[&[Kind]],
     seconds: u64,
 ) -> Result<(), Fail> {
-    assert_eq!(rt; world.gateways.len(), entries.len());
-    for (gateway, wanted) in world.gateways.iter().zip(entries) {
-        let kinds = kinds_of(alloc, &gateway.history)?;
+    assert_eq!(rt; world.gateways().len(), entries.len());
+    for (gateway, wanted) in world.gateways().iter().zip(entries) {
+        let kinds = kinds_of(alloc, gateway.firm())?;
         assert_eq!(rt; kinds.as_slice(), *wanted);
-        check_moments(rt, &gateway.history, seconds);
-        assert_eq!(rt; gateway.firm, wanted.len());
+        check_moments(rt, gateway.firm(), seconds);
+        assert!(rt; gateway.rest().is_empty());
     }
     Ok(())
 }
 
 /// The messages behind the first ones have these octets.
 fn check_sent<R: Abort>(rt: &R, world: &World, before: usize, sent: &[&[u8]]) {
-    assert_eq!(rt; world.messages.len(), before.saturating_add(sent.len()));
+    assert_eq!(rt; world.messages().len(), before.saturating_add(sent.len()));
     for (index, wanted) in sent.iter().enumerate() {
-        let Some(message) = world.messages.get(before.saturating_add(index)) else {
+        let Some(message) = world.messages().get(before.saturating_add(index)) else {
             panic!(rt; "no message");
         };
         assert_eq!(rt; message.octets.octets(), *wanted);
@@ -197,13 +197,13 @@ fn check_sent<R: Abort>(rt: &R, world: &World, before: usize, sent: &[&[u8]]) {
 
 /// Each packet of the node is done, or isn't.
 fn check_packets<R: Abort>(rt: &R, world: &World, packets: &[bool]) {
-    let [kept] = world.nodes.as_slice() else {
+    let [kept] = world.nodes() else {
         panic!(rt; "no node");
     };
-    assert_eq!(rt; kept.node.counts().packets, packets.len() as u64);
+    assert_eq!(rt; kept.node().counts().packets, packets.len() as u64);
     for (index, is_done) in packets.iter().enumerate() {
         let number = (index as u64).saturating_add(1);
-        assert_eq!(rt; kept.node.phase(number) == Phase::Done, *is_done);
+        assert_eq!(rt; kept.node().phase(number) == Phase::Done, *is_done);
     }
 }
 
@@ -232,7 +232,7 @@ fn a_tick_asks_who_is_alive(rt: HostRuntime) {
     let done = Stepped::Done { first: 1, count: 2 };
     assert_eq!(rt; world.step(alloc, &Event::Tick { node: 1 }), done);
     let asked = [0x4E, 4, 0, 7, 0, 0, 0xFB, 0, 4, 10, 0, 1, 1];
-    for message in &world.messages {
+    for message in world.messages() {
         assert_eq!(rt; message.octets.octets(), asked.as_slice());
     }
     let none = Stepped::Done { first: 3, count: 0 };
@@ -271,7 +271,7 @@ fn the_first_reason_to_refuse_counts(rt: HostRuntime) {
 
 /// How many messages there are: the number of the last.
 fn sent(world: &World) -> u64 {
-    world.messages.len() as u64
+    world.messages().len() as u64
 }
 
 /// The node, which has no packet yet, becomes alive at the one gateway, which learns its counter.

@@ -2,10 +2,10 @@
 //! has octets of its own: after each event these are looked for in the firm parts of all histories.
 ghost use Rattle.std.specs.Prelude.{◌<◌};
 
-use crate::{Event, Stepped, World};
 use gateway_book::{FiledRecord, filed};
 use gw_base::{HistoryAct, KeyState, Moment, Octets, scan};
 use node_core::Phase;
+use once_core::{Event, Stepped, World};
 use std::alloc::Global;
 use std::process::Abort;
 use std::test::Fail;
@@ -104,8 +104,8 @@ fn submission(alloc: Global, world: &World, node: u8) -> Result<Event, Fail> {
 
 /// How many packets the node in this place took.
 fn packets_at(world: &World, node: u8) -> u64 {
-    match world.nodes.get(usize::from(node)) {
-        Some(kept) => kept.node.counts().packets,
+    match world.nodes().get(usize::from(node)) {
+        Some(kept) => kept.node().counts().packets,
         None => 0,
     }
 }
@@ -116,7 +116,7 @@ fn draw(alloc: Global, lots: &mut Lots, world: &World) -> Result<Event, Fail> {
     if lot == 0 {
         submission(alloc, world, lots.node())
     } else {
-        Ok(drawn(lots, world.messages.len() as u64, lot))
+        Ok(drawn(lots, world.messages().len() as u64, lot))
     }
 }
 
@@ -171,7 +171,7 @@ fn does<R: Abort>(rt: &R, alloc: Global, world: &mut World, event: &Event) {
 /// The messages behind these first ones are delivered, up to the last so far: how many are now no
 /// longer under way.
 fn flow<R: Abort>(rt: &R, alloc: Global, world: &mut World, before: u64) -> u64 {
-    let sent = world.messages.len() as u64;
+    let sent = world.messages().len() as u64;
     for place in before..sent {
         let message = place.saturating_add(1);
         does(rt, alloc, world, &Event::Deliver { message });
@@ -206,13 +206,13 @@ fn become_alive<R: Abort>(rt: &R, alloc: Global, world: &mut World) {
 
 /// Notes which packets of the present start of this node are resolved.
 fn note(resolved: &mut Vec<Taken>, node: u8, world: &World) -> Result<(), Fail> {
-    let Some(kept) = world.nodes.get(usize::from(node)) else {
+    let Some(kept) = world.nodes().get(usize::from(node)) else {
         return Err(Fail::new("no node"));
     };
-    for before in 0..kept.node.counts().packets {
+    for before in 0..kept.node().counts().packets {
         let number = before.saturating_add(1);
         let taken = Taken { node, number };
-        let phase = kept.node.phase(number);
+        let phase = kept.node().phase(number);
         let is_resolved = phase == Phase::Resolved || phase == Phase::Done;
         if is_resolved && !resolved.contains(&taken) {
             resolved.push(taken)?;
@@ -275,8 +275,8 @@ fn records_of<R: Abort>(
     world: &World,
 ) -> Result<Vec<Vec<FiledRecord>>, Fail> {
     let mut records = Vec::new(alloc);
-    for gateway in &world.gateways {
-        let (firm, _) = gateway.history.split_at(gateway.firm);
+    for gateway in world.gateways() {
+        let firm = gateway.firm();
         let all = filed(alloc, firm)?;
         for record in &all {
             let state = scan::state(firm, record.key);
@@ -343,12 +343,11 @@ fn with_entry(mut seen: Seen, act: &HistoryAct) -> Seen {
 
 /// With a world more.
 fn with_world(mut seen: Seen, world: &World) -> Seen {
-    for kept in &world.nodes {
-        seen.resolved = seen.resolved.saturating_add(kept.node.counts().resolved);
+    for kept in world.nodes() {
+        seen.resolved = seen.resolved.saturating_add(kept.node().counts().resolved);
     }
-    for gateway in &world.gateways {
-        let (firm, _) = gateway.history.split_at(gateway.firm);
-        for entry in firm {
+    for gateway in world.gateways() {
+        for entry in gateway.firm() {
             seen = with_entry(seen, &entry.act);
         }
     }
