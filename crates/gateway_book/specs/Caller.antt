@@ -1,5 +1,5 @@
 -- What a book's calls tell their caller, over every area, also one that tells nothing.
-use Rattle.std.specs.Prelude.{◌≡◌, ◌⊎◌, ℕ, Bool, true, false, List, [], ◌∷◌, Option, Result, Ok, Err, ⊤}
+use Rattle.std.specs.Prelude.{◌≡◌, ◌⊎◌, ◌↔◌, ℕ, Bool, true, false, List, [], ◌∷◌, Option, Result, Ok, Err, ⊤}
 use Rattle.area_disk.specs.declared.area.Area.{Ghosts}
 use Rattle.cgf_journal.specs.Trail.{firm_length, is_closed, length_of}
 use Rattle.gtpp_message.specs.Message.{Cancel, Release, TransferResponse, TransferValue}
@@ -10,7 +10,7 @@ use Rattle.gw_base.specs.declared.address.Addr.{Addr}
 use Rattle.gw_base.specs.declared.cause.TheConstants.{NO_RESOURCES, SYSTEM_FAILURE}
 use Rattle.gw_base.specs.declared.history.HistoryAct.{HistoryAct}
 use Rattle.gw_base.specs.declared.history.HistoryEntry.{HistoryEntry}
-use Rattle.gateway_book.specs.Answer.{Decided, Says, Silent, answer_within, decided, node_of}
+use Rattle.gateway_book.specs.Answer.{Decided, Says, Silent, answer_within, decided, failure_answer, node_of}
 use Rattle.gateway_book.specs.Answered.{room_for}
 use Rattle.gateway_book.specs.Preparing.{PreparedValue, Request}
 use Rattle.gateway_book.specs.Recording.{HasRoomFor, IsWithinLimits}
@@ -42,6 +42,13 @@ IsAnswered from datagram (Drop why) = IsDecided from datagram (Silent why)
 IsAnswered from datagram (Answer receipt) = (act : Option HistoryAct) × IsDecided from datagram (Says receipt.reply act)
 IsAnswered from datagram NoMemory = ⊤
 
+-- what the caller is told is the answer where the device fails: a request is failed, all else is dropped
+abbrev pub IsFailure : PreparedValue → Outcome → Type 0
+IsFailure datagram (Drop why) = decided (failure_answer datagram) ≡ Silent why
+IsFailure datagram (Answer receipt) =
+    (act : Option HistoryAct) × (decided (failure_answer datagram) ≡ Says receipt.reply act)
+IsFailure datagram NoMemory = ⊥
+
 module _ {A : Type 0} {tells : Ghosts A} (new : Book A tells) where
   -- an answer with these octets, made now
   abbrev pub receipt_of : List ℕ → Outcome
@@ -53,10 +60,11 @@ module _ {A : Type 0} {tells : Ghosts A} (new : Book A tells) where
   IsCounted (Answer receipt) = (receipt.front ≡ length_of new.trail) × (receipt.faults ≡ new.cuts)
   IsCounted NoMemory = ⊤
 
-  -- What the sender of a datagram is told: what the definition decides where the book goes on, that the device failed
-  -- only where it is broken then, and want of memory only where it goes on.
+  -- What the sender of a datagram is told: what the definition decides where the book goes on, and where it is broken
+  -- then the answer of a failed device, which is told nowhere else; and want of memory only where the book goes on.
   pub record IsTold (from : Addr) (datagram : PreparedValue) (result : Outcome) : Type 0 where
     pub answered : is_closed new.trail ≡ false → IsAnswered from datagram result
+    pub failed : is_closed new.trail ≡ true → IsFailure datagram result
     pub fault : TellsFault result → is_closed new.trail ≡ true
     pub memory : result ≡ NoMemory → is_closed new.trail ≡ false
     pub counts : IsCounted result
@@ -69,10 +77,10 @@ module _ {A : Type 0} {tells : Ghosts A} (new : Book A tells) where
   IsMarkCounted marked.Device = ⊤
   IsMarkCounted marked.NoMemory = ⊤
 
-  -- What is told of a mark: that the device failed only where the book is broken then, and want of memory only where it
-  -- goes on.
+  -- What is told of a mark: that the device failed exactly where the book is broken then, and want of memory only where
+  -- it goes on.
   pub record IsMarkTold (result : Marked) : Type 0 where
-    pub device : result ≡ marked.Device → is_closed new.trail ≡ true
+    pub device : (result ≡ marked.Device) ↔ (is_closed new.trail ≡ true)
     pub memory : result ≡ marked.NoMemory → is_closed new.trail ≡ false
     pub counts : IsMarkCounted result
 

@@ -8,7 +8,7 @@ ghost use Rattle.gw_base.specs.History.{moment_after};
 ghost use Rattle.gw_base.specs.declared.history.HistoryAct.{HistoryAct};
 ghost use Rattle.gateway_book.specs.Answer.{Says, decided, failure_answer};
 ghost use Rattle.gateway_book.specs.Answered.{answer_to};
-ghost use Rattle.gateway_book.specs.Caller.{HasStorage, IsAnswered, IsCounted, IsTold, receipt_of};
+ghost use Rattle.gateway_book.specs.Caller.{HasStorage, IsAnswered, IsCounted, IsFailure, IsTold, receipt_of};
 ghost use Rattle.gateway_book.specs.Calls.{left_by, outcome_at, taken};
 ghost use Rattle.gateway_book.specs.Cases.{case_value};
 ghost use Rattle.gateway_book.specs.Comes.{asked_to_ready};
@@ -86,6 +86,7 @@ impl<A: Area> Book<A> {
         ensures answered { Told A.Area →
             result ≡ outcome_at (value_of self.now) (decided (failure_answer (case_value case.now))) }
         ensures counted { IsCounted self.now result }
+        ensures failed { IsFailure (case_value case.now) result }
         ensures never_memory { result ≢ NoMemory }
     {
         match failure_answer(case) {

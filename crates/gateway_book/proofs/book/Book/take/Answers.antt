@@ -7,7 +7,7 @@ use Rattle.gw_base.specs.declared.history.HistoryEntry.{HistoryEntry}
 use Rattle.gateway_book.specs.Answer.{decided}
 use Rattle.gateway_book.specs.Answered.{act_decided, answer_to}
 use Rattle.gateway_book.specs.Book.{reopening_of, size_of, value_of}
-use Rattle.gateway_book.specs.Caller.{HasStorage, IsAnswered}
+use Rattle.gateway_book.specs.Caller.{HasStorage, IsAnswered, IsFailure}
 use Rattle.gateway_book.specs.Cases.{case_value}
 use Rattle.gateway_book.specs.FitHistoryLaws.{fit_is_within}
 use Rattle.gateway_book.specs.Followed.{all_entries}
@@ -20,9 +20,11 @@ use Rattle.gateway_book.proofs.book.Book.take.Goals as goal
 pub returns-in-Ok-clause-told : goal.returns-in-Ok-clause-told
 returns-in-Ok-clause-told g c =
     let answered = subst (λ (d : PreparedValue). IsAnswered c.args.from d c.respond.result) c.case-case.ensures.value c.respond.ensures.told.0 in
-    let goes = c.respond.ensures.quiet.0.opened ∙ c.ready.ensures.closed ∙ ap is_err c.in-Ok.is in
+    let goes : is_closed c.respond.new.self.trail ≡ false =
+    c.respond.ensures.quiet.0.opened ∙ c.ready.ensures.closed ∙ ap is_err c.in-Ok.is in
     record {
       answered = λ runs. answered;
+      failed = λ broken. absurd (false≢true (sym goes ∙ broken));
       fault = λ tells. absurd (running_is_sound c.args.from c.args.request.now c.respond.result answered tells);
       memory = λ none. goes;
       counts = c.respond.ensures.told.1;
@@ -33,6 +35,7 @@ returns-in-Err-clause-told g c =
     let broken = c.ready.ensures.closed ∙ ap is_err c.in-Err.is in
     record {
       answered = λ runs. absurd (false≢true (sym runs ∙ broken));
+      failed = λ closed. subst (λ (d : PreparedValue). IsFailure d c.fail.result) c.case-case.ensures.value c.fail.ensures.failed;
       fault = λ tells. broken;
       memory = λ none. absurd (c.fail.ensures.never_memory none);
       counts = c.fail.ensures.counted;
