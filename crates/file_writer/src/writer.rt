@@ -47,8 +47,11 @@ pub struct Writer<F: Shelf> {
 impl<F: Shelf> Writer<F> {
     ghost use Rattle.file_writer.specs.Writer.{IsAt, first_of, is_broken, settings_in, shelf_of, taken_of};
 
-    /// A writer on a shelf, which is broken until it recovers. The offset is that of the gateway's clock from UTC, in
-    /// minutes, and the address is its IPv4 address: the headers of files say them.
+    /// A writer on a shelf, which is broken until it recovers. It makes no call of the shelf.
+    ///
+    /// Of the limits, the size of a file is from 1 to 2^32 - 2^17 octets, the count of its records is at least 1, and
+    /// the open time is in seconds. The offset is that of the gateway's clock from UTC, in minutes, and the address is
+    /// its IPv4 address: the headers of files say them.
     pub fn new(shelf: F, rules: Rules, limits: Limits, offset: Offset16, address: u32) -> Writer<F>
         requires { AreLimits limits }
         ensures broken { is_broken result ≡ true }
@@ -169,7 +172,8 @@ impl<F: Shelf> Writer<F> {
         Ok(self.first.saturating_add(self.taken))
     }
 
-    /// How many files of each stream are closed, those before the first item included. It takes no memory.
+    /// How many files of each stream, from stream 0 on, are closed, those before the first item included. It takes no
+    /// memory. Ask a writer that isn't broken: what a broken one answers isn't to be relied on.
     pub fn closed(&self) -> [u32; 16]
         ensures { (closed : ℕ → ℕ) (items : List Item) → IsAt self.now closed items →
             (s : ℕ) → s < stream_count → slice_index result s ≡ closed s + closed_of (settings_in self.now) s items }
