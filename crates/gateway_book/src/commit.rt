@@ -64,7 +64,11 @@ impl<A: Area> Book<A> {
         self.make_firm()
     }
 
-    /// What has become of an answer with this front, given when so many commits and openings again had failed.
+    /// What has become of an answer with this front, given when so many commits and openings again had failed: both
+    /// numbers are those of its `Receipt`, or of the mark that was made.
+    ///
+    /// The count of those that failed stands still at 2^64 - 1: an answer that was given at that count is never told to
+    /// be lost.
     pub fn settled(&self, front: u64, faults: u64) -> Settled
         ensures told { Told A.Area → result ≡ settled_of (value_of self.now) front faults }
         ensures counted { result ≡ settled_by self.now.cuts (firm_length self.now.trail) front faults }

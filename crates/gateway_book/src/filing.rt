@@ -30,7 +30,8 @@ pub struct FiledRecord {
 }
 
 /// The records that a history files, in order: those of each File entry, and at a Release those of
-/// the packets that it releases. It scans the history anew for each entry.
+/// the packets that it releases. It scans the history anew for each entry. `NoMemory`: there was no
+/// memory for the records.
 #[tactic(auto, using(crate::proofs::FilingLemmas::step_filed))]
 pub fn filed(alloc: Global, history: &[HistoryEntry]) -> Result<Vec<FiledRecord>, NoMemory>
     ensures { IfOk result (λ found. found.items ≡ filed history.now) }

@@ -21,7 +21,7 @@ pub enum BookFault {
         /// whole or holds an entry that isn't fit.
         at: u64,
     },
-    /// There was no memory.
+    /// There was no memory. An area that is to be made anew may have been made so by then.
     NoMemory,
 }
 

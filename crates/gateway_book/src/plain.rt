@@ -31,6 +31,9 @@ pub enum OwnedAnswer {
 
 /// What a gateway with these entries, whose journal lies on an area of `size` octets, answers to a
 /// datagram of this sender. It scans all entries for each question, and keeps nothing.
+///
+/// The greatest number that a node has in its present epoch is below 2^63, as it is in each history of
+/// fit entries. `NoMemory`: there was no memory for what it notes of the entries, or for the answer.
 pub fn answer(
     alloc: Global,
     history: &[HistoryEntry],
@@ -49,6 +52,9 @@ pub fn answer(
 
 /// Whether a gateway with these entries, whose journal lies on an area of `size` octets, has room for
 /// an act.
+///
+/// The greatest number that a node has in its present epoch is below 2^63, as it is in each history of
+/// fit entries. `NoMemory`: there was no memory for what it notes of the entries.
 pub fn has_room(
     alloc: Global,
     history: &[HistoryEntry],
