@@ -15,7 +15,7 @@ pub record PacketState : Type 0 where
   pub number : ℕ
   pub copies : List PacketCopy
 
--- its records are filed once: the plain copy is filed, or a possible duplicate is released
+-- by what its node was told, its records are filed once: the plain copy is filed, or a possible duplicate is released
 abbrev pub is_resolved : List PacketCopy → Bool
 is_resolved [] = false
 is_resolved (plain ∷ duplicates) = is_filed plain.verdict || list_any is_released duplicates

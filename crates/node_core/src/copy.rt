@@ -99,10 +99,13 @@ impl Command {
 pub struct PacketCopy {
     /// The gateway's place in the node's list, counted from 0.
     pub gateway: u8,
+    /// Its whole request number there, of which the wire carries the last 16 bits.
     pub number: u64,
     /// Whether it is the first copy, which isn't sent as a possible duplicate.
     pub is_plain: bool,
+    /// What the responses of that gateway told of it.
     pub verdict: Verdict,
+    /// The release or the cancel that was sent for it, if one was.
     pub command: Option<Command>,
 }
 

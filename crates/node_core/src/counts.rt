@@ -3,9 +3,9 @@
 pub struct NodeCounts {
     /// Packets that were submitted.
     pub packets: u64,
-    /// Packets that became resolved: their records are filed once.
+    /// Packets that became resolved: by what the node was told, their records are filed once.
     pub resolved: u64,
-    /// Packets that became done: every other copy is out of the way, too.
+    /// Packets that became done: by what it was told, every other copy is out of the way, too.
     pub done: u64,
 }
 
@@ -19,12 +19,13 @@ pub struct Tally {
 /// How far a node has come with a packet.
 #[derive(Clone, Copy, Debug, PartialEq, Eq)]
 pub enum Phase {
-    /// The packet wasn't submitted since the start.
+    /// No packet with this number was submitted since the start: one of an earlier start is forgotten.
     Unknown,
     /// It isn't resolved.
     Open,
     /// It is resolved, and a copy of it isn't out of the way yet.
     Resolved,
+    /// It is resolved, and each duplicate of it is out of the way: sealed, released or cancelled.
     Done,
 }
 

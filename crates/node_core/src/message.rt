@@ -7,7 +7,9 @@ use gw_base::{Absolute, Addr, Octets, PacketId, Short};
 pub struct Outgoing {
     /// The node's port from which it goes.
     pub port: Port,
+    /// The address of the gateway to which it goes.
     pub to: Addr,
+    /// The whole message.
     pub octets: Octets,
     /// The path number or the whole request number that is meant.
     pub number: Absolute,
@@ -22,8 +24,9 @@ pub struct Heeded {
     pub reply: Option<Short>,
     /// Why the datagram is dropped, where it is. The node is then as before.
     pub drop: Option<Why>,
-    /// The first packet, in order of submission, that became resolved.
+    /// The first packet, in order of submission, that became resolved. A response that names several
+    /// numbers may have made others resolved, too: `Node::counts` counts them all.
     pub resolved: Option<PacketId>,
-    /// The first packet, in order of submission, that became done.
+    /// The first packet, in order of submission, that became done. Others may have become so, too.
     pub done: Option<PacketId>,
 }

@@ -48,7 +48,9 @@ impl Model for Node {
 impl Node {
     /// A node with this IPv4 address, which runs, has no packets and knows none of its 1 to 255
     /// gateways to be alive. Where two of them have one IPv4 address, what comes from there comes
-    /// from the first.
+    /// from the first. The counter is the restart counter of this first start.
+    ///
+    /// `NoMemory`: there was no memory for the list of its gateways.
     pub fn new(
         alloc: Global,
         address: u32,
@@ -151,7 +153,9 @@ impl Node {
         }
     }
 
-    /// How far the node has come with a packet.
+    /// How far the node has come with a packet, by its number: packets are counted from 1 over all
+    /// starts. It is `Unknown` where no packet with this number was submitted since the start, also
+    /// where one was in an earlier start.
     pub fn phase(&self, packet: u64) -> Phase
         ensures { result ≡ phase_of self.now packet }
     {
@@ -173,6 +177,8 @@ impl Node {
     }
 
     /// The last request number that was drawn for a gateway since the start, 65,535 where none was.
+    /// The gateway is a place in the list that the node was made with, counted from 0; where there is
+    /// none in that place, it is 65,535, too.
     pub fn last_number(&self, gateway: u8) -> u64
         ensures { result ≡ last_number self.now.gateways gateway }
     {

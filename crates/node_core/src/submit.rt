@@ -18,8 +18,12 @@ pub const MOST_OPEN: usize = 64;
 pub const NUMBER_WINDOW: u64 = 16_384;
 
 impl Node {
-    /// Takes a packet, which the next ticks send. The faults are tested in the order in which
-    /// [`SubmitFault`] lists them; after each the node and the draft are as before.
+    /// Takes a packet, which the next ticks send. The node runs, and over all its starts fewer than
+    /// 2^62 packets were submitted to it.
+    ///
+    /// The faults are tested in the order in which [`SubmitFault`] lists them; the last of them is
+    /// `NoMemory`, where there is no memory for one more packet. After each the node is as before, and
+    /// the draft is given back as it was.
     pub fn submit(&mut self, alloc: Global, draft: Draft) -> Result<PacketId, (SubmitFault, Draft)>
         requires running { IsTrue self.old.is_running }
         requires few { self.old.submissions < 2 ^ 62 }
