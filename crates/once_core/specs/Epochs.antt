@@ -26,7 +26,8 @@ RisesBy before _ = Unit {0}
 abbrev pub StartsRise : List HistoryEntry → Type 0
 StartsRise h = EachBehind (λ before e. RisesBy before e.act) [] h
 
--- the epoch of a node that began with this start, where one did
+-- the epoch of a node that began with this start, where one did: the first such, and by the law `starts_only_rise` the
+-- only one in what is firm at a gateway of a world
 abbrev pub epoch_with : ℕ → ℕ → List HistoryEntry → Option ℕ
 epoch_with node start h = option_map (λ placed. placed.0) (find (λ placed. placed.1 == start) (starts_of node h))
 

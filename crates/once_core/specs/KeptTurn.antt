@@ -1,3 +1,4 @@
+-- The same as `Turn.antt`, as the code goes: no promise is read from here.
 -- What an event makes of a world that is kept, and why it may not be allowed: the same as of the world that it stands for.
 use Rattle.std.specs.Prelude.{ℕ, ◌+◌, ◌-◌, ◌≤◌, ⊤, not, nat_le, nat_lt, Bool, true, false, if◌then◌else◌, List, [], ◌∷◌, ◌++◌, length, Option, Some, None, option_map, slice_get, slice_set}
 use Rattle.std.specs.Option.{option_map_or, option_or}

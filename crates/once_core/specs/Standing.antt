@@ -1,3 +1,4 @@
+-- The same as `World.antt`, as the code goes: promises read `Stands` from here, and what it is made of, and no more.
 -- What is kept of a world that runs: of a node what its log makes it, with how many starts it has made; of a gateway's
 -- count of redirects the last 16 bits, which are all that a Redirection Request bears.
 use Rattle.std.specs.Prelude.{◌≡◌, ℕ, suc, ◌-◌, ◌%◌, ◌==◌, ◌&&◌, ◌||◌, not, nat_lt, Bool, false, List, [], ◌∷◌, length, map}

@@ -6,6 +6,11 @@ use std::alloc::Global;
 
 /// A message that was sent, with what its sender meant by it. Gateways and nodes are places in the
 /// world's lists, counted from 0.
+///
+/// What is meant by `start`, `number` and `named` isn't on the wire, but for the last 16 bits of the
+/// numbers. A gateway or a node that hears a message goes by its octets. The three fields decide
+/// whether the message is expired, and laws say by them what it means; an answer takes over the first
+/// two.
 #[derive(Debug, Drop)]
 pub struct Message {
     /// Whether it goes from the node to the gateway, or the other way.
@@ -21,6 +26,7 @@ pub struct Message {
     pub number: Absolute,
     /// The whole number of the copy that a release or a cancel names.
     pub named: Option<Absolute>,
+    /// The octets of the datagram.
     pub octets: Octets,
 }
 
@@ -45,6 +51,8 @@ impl Message {
 /// An answer that is sent once so many entries of the gateway's history are firm.
 #[derive(Debug, Drop)]
 pub struct Waiting {
+    /// How many entries have to be firm, counted from the first of the history.
     pub front: u64,
+    /// The answer.
     pub message: Message,
 }

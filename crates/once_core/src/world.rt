@@ -47,7 +47,8 @@ impl World {
     ghost use Rattle.once_core.specs.Stepping.{FilesOnce, StepGives};
     ghost use Rattle.once_core.specs.World as of;
 
-    /// A world of 1 to 8 gateways and 1 to 16 nodes, all of which run.
+    /// A world of 1 to 8 gateways and 1 to 16 nodes, all of which run. `NoMemory`: there was no memory
+    /// for them.
     pub fn new(alloc: Global, gateways: u8, nodes: u8) -> Result<World, NoMemory>
         requires gateways { 1 ≤ gateways × gateways ≤ 8 }
         requires nodes { 1 ≤ nodes × nodes ≤ 16 }
