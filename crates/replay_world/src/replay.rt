@@ -44,11 +44,15 @@ pub struct Replay {
     pub(crate) shelves: Vec<MemoryShelf>,
 }
 
-/// What a replay ran.
+/// What a replay ran: the areas and the shelves of its gateways, and its nodes, each in order of their numbers.
 #[derive(Drop)]
 pub struct Played {
+    /// The area of each gateway, which keeps its whole history: of one that is up the firm entries, and maybe those
+    /// that aren't firm yet.
     pub areas: Vec<MemoryArea>,
+    /// The shelf of each gateway, which has all files that are closed by the items that were written.
     pub shelves: Vec<MemoryShelf>,
+    /// Each node as it ended.
     pub nodes: Vec<Node>,
 }
 
@@ -70,7 +74,8 @@ pub(crate) fn node_id(place: u8) -> NodeId
 }
 
 impl Replay {
-    /// All gateways of a script, opened on empty areas, and all its nodes, which run.
+    /// All gateways of a script, opened on empty areas, and all its nodes, which run. `NoMemory`: there was no memory
+    /// for them.
     pub fn new(alloc: Global, script: &Script) -> Result<Replay, NoMemory>
         ensures stands { IfOk result (Stands (replay_of script.now.lines)) }
         ensures gateways { OnOk result (1 ≤ (setup_of script.now.lines).gateways) }

@@ -22,8 +22,11 @@ pub struct NodeSums {
 /// What all gateways count together: records that they filed, copies that they hold, and stranded ones.
 #[derive(Clone, Copy, Debug, PartialEq, Eq)]
 pub struct GatewaySums {
+    /// Records that firm entries filed.
     pub records: u64,
+    /// Copies that are held in the present epochs of their nodes, by all entries, firm or not.
     pub held: u64,
+    /// Copies of earlier epochs that were neither released nor cancelled, by all entries, firm or not.
     pub stranded: u64,
 }
 
@@ -125,7 +128,8 @@ fn with_counts(sums: NodeSums, counts: NodeCounts) -> Result<NodeSums, NoMemory>
     })
 }
 
-/// Appends a summary, one line for each sum.
+/// Appends a summary, one line for each sum. `NoMemory`: there was no memory for all of it; a part of it may have been
+/// appended.
 pub fn print_summary(alloc: Global, out: &mut Octets, summary: &Summary) -> Result<(), NoMemory>
     ensures { OnOk result (out.new ≡ out.old ++ summary_text summary.now) }
 {
