@@ -61,8 +61,8 @@ abbrev pub EndsByReport : List Line → Type 0
 EndsByReport lines = (front : List ℕ) × (report_of_lines lines ≡ front ++ report_of (replayed lines))
 
 -- The areas, shelves and nodes are those of the world that the lines make, and the shelves have all files that the firm
--- entries of its gateways close, which are all their entries; no file is open, and the report of the lines, which `drill`
--- doesn't print, ends with these files.
+-- entries of its gateways close, which are all their entries: by the division into files no record of theirs is in one
+-- that is open. The report of the lines, which `drill` doesn't print, ends with these files.
 -- In the files of all its gateways each record of each packet that was ever resolved stands at exactly one place, and each
 -- record of any other packet at one at most; no copy that is held or was cancelled puts one there.
 pub record RanNetwork (lines : List Line) (played : Played) : Type 0 where

@@ -64,8 +64,8 @@ pub fn run_cgf<S: Source, K: Sink, W: Watch>(
     sink: &mut K,
     watch: &mut W,
 ) -> (Status, Option<Played>)
-    // The words are none of the forms, and then nothing is read, as where the command has no input; what is written is
-    // the report or its front.
+    // `Words` comes exactly where the words are none of the forms. Nothing is read then, nor where the command has no
+    // input. Nothing is written but at `Done`, at `Write`, and at a line that can't be run.
     ensures words { WordsDecide (command_of (map string_bytes words.now)) result.0 source.old source.new }
     ensures untouched { may_have_written result.0 ≡ false → sink.new ≡ sink.old }
 
@@ -96,8 +96,8 @@ pub fn run_cgf<S: Source, K: Sink, W: Watch>(
     // What is handed back, at `Done` alone, stands for the world that some lines make; that they are those that were read,
     // or those of the seed, is `report`. Each record of each packet that its node ever resolved stands at exactly one place
     // in the files of all gateways, and each record of any other packet at one at most; no copy that is held or was
-    // cancelled puts one there. No file is open. The report of these lines, which `replay` prints, ends with these files;
-    // `drill` prints sums instead.
+    // cancelled puts one there. By the division into files no record is in one that is open. The report of these lines,
+    // which `replay` prints, ends with these files; `drill` prints sums instead.
     ensures once { IsPlayed result.1 result.0 }
 {
     let Some(command) = Command::of(words) else {
