@@ -12,7 +12,7 @@ use gw_base::NoMemory;
 use gw_base::text::{append_number, append_word};
 use std::alloc::Global;
 
-/// The listing of a file: the lines of its head, and a line for each CDR.
+/// The listing of a file: the lines of its head, and a line for each CDR. `NoMemory` where there was none for the text.
 #[tactic(auto, using(crate::proofs::ListingLemmas::step_cdrs))]
 pub fn list(alloc: Global, file: &CdrFile) -> Result<Vec<u8>, NoMemory>
     ensures { IfOk result (λ text. text.items ≡ listing file.now) }
@@ -25,7 +25,7 @@ pub fn list(alloc: Global, file: &CdrFile) -> Result<Vec<u8>, NoMemory>
 }
 
 /// The line of a file's header, that of its routeing filter and that of its private extension, where
-/// these aren't empty.
+/// these aren't empty. `NoMemory` where there was none for the text.
 pub fn head_lines(alloc: Global, file: &CdrFile) -> Result<Vec<u8>, NoMemory>
     ensures { IfOk result (λ text. text.items ≡ head_lines file.now) }
 {
@@ -36,7 +36,7 @@ pub fn head_lines(alloc: Global, file: &CdrFile) -> Result<Vec<u8>, NoMemory>
     Ok(text)
 }
 
-/// The line of a CDR by its number among those of its file, from 1.
+/// The line of a CDR by its number among those of its file, from 1. `NoMemory` where there was none for the text.
 pub fn cdr_line(alloc: Global, number: u64, cdr: &Cdr) -> Result<Vec<u8>, NoMemory>
     ensures { IfOk result (λ text. text.items ≡ cdr_line number cdr.now) }
 {

@@ -191,7 +191,7 @@ fn put_head(into: &mut Buffer, whole: u32, code: u8, seconds: u64, caller: Calle
     put_u64(into, caller.serial);
 }
 
-/// Appends the octets of an entry.
+/// Appends the octets of an entry. At `Full` the buffer is as before, and has only `free` octets free.
 pub fn write(entry: &Entry<'_>, into: &mut Buffer) -> Result<(), Full>
     requires { entry_length (entry_view entry.now) < 2 ^ 32 }
     ensures written { OnOk result (into.new ≡

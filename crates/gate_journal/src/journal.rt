@@ -94,9 +94,11 @@ impl<A: Area> Journal<A> {
         }
     }
 
-    /// Adds a batch. At `Ok` it stands: from then on every crash leaves it.
+    /// Adds a batch of at most 1,048,576 octets. At `Ok` it stands: from then on every crash leaves it. At `Full`
+    /// the journal is as before, and `free` octets are free, of which a batch takes five more than it has. After
+    /// `Device` the journal is closed, and the batch is torn.
     ///
-    /// It makes four calls of the device, and takes no memory.
+    /// It makes four calls of the device, none at `Full`, and takes no memory.
     pub fn append(&mut self, batch: &[u8]) -> Result<(), AppendFault>
         requires short { length batch.now ≤ longest_batch }
         requires ready { is_closed self.old ≡ false }
