@@ -21,6 +21,7 @@ use Rattle.gw_base.specs.declared.item.Item.TheVariants as item
 use Rattle.gw_base.specs.declared.kind.CdrKind.{CdrKind}
 use Rattle.gw_base.specs.declared.tag.Tag.{Tag}
 use Rattle.once_core.specs.FilePlaces.{IsRecordAt, StandsAt, file_places, is_source, place_where, sources_by, sources_by_act, sources_of}
+use Rattle.once_core.proofs.ApartLemmas.{key_of}
 use Rattle.once_core.proofs.ListLemmas.{get_contains, in_cons, in_none}
 use Rattle.once_core.proofs.WaitingLemmas.{of_map}
 
@@ -271,3 +272,20 @@ module _ (key : PacketKey) (index : ℕ) (settings : Settings) (h : List History
         is = from.is;
         there = subst (λ (p : FilePlace). StandsAt settings h p r) same place_has.there;
       }
+
+-- no place is that of two records: the item that has it is one
+pub one_record : (settings : Settings) (h : List HistoryEntry)
+    → ((items : List Item) (k l : ℕ) (place : FilePlace) → place_in settings items k ≡ Some place → place_in settings items l ≡ Some place → k ≡ l)
+    → (key other : PacketKey) (index j : ℕ) (place : FilePlace) → Contains (file_places settings key index h) place → Contains (file_places settings other j h) place
+    → (key ≡ other) × (index ≡ j)
+one_record settings h only key other index j place is are =
+    let one = is_from key index settings h 0 (sources_of h) place is in
+    let two = is_from other j settings h 0 (sources_of h) place are in
+    let same : one.k ≡ two.k = omega (arith, only (items_of h) (0 + one.k) (0 + two.k) place one.place_is two.place_is) in
+    let both : Some (Some one.filing) ≡ Some (Some two.filing) = sym one.source ∙ ap (slice_get (sources_of h)) same ∙ two.source in
+    let filing : one.filing ≡ two.filing = cc in
+    let mine = key_of key index one.filing one.is in
+    let theirs = key_of other j two.filing two.is in (
+      sym mine.0 ∙ ap (λ (r : FiledRecord). r.key) filing ∙ theirs.0,
+      sym mine.1 ∙ ap (λ (r : FiledRecord). r.index) filing ∙ theirs.1,
+    )

@@ -10,6 +10,7 @@ pub mod StopLemmas
 pub mod StateLemmas
 pub mod AdmittedLemmas
 pub mod TableLemmas
+pub mod ApartLemmas
 pub mod FilePlaceLemmas
 pub mod ForwardLemmas
 pub mod AnswerLemmas

@@ -1,5 +1,5 @@
 -- Each record of each packet stands once in the files of all gateways, as it was filed once.
-use Rattle.std.proofs.Common.{◌≡◌, ℕ, ◌<◌, ◌≤◌, ◌==◌, true, List, [], length, Option, Some, None, Contains, slice_get, sum_by, refl, sym, ap, ◌∙◌, arith}
+use Rattle.std.proofs.Common.{◌≡◌, ℕ, ◌<◌, ◌≤◌, ◌==◌, true, List, [], length, Option, Some, None, Contains, slice_get, sum_by, refl, sym, ap, subst, ◌∙◌, arith}
 use Rattle.std.specs.Option.{option_map_or}
 use Rattle.std.proofs.lemmas.Bool.{and_from, and_parts, eq-eqb, eqb-true}
 use Rattle.std.proofs.lemmas.List.{nil_from_length}
@@ -7,7 +7,8 @@ use Rattle.std.proofs.lemmas.List.Elements.{All-contains}
 use Rattle.file_writer.specs.Places.{FilePlace}
 use Rattle.file_writer.specs.Streams.{Settings}
 use Rattle.gateway_book.specs.Filed.{filed}
-use Rattle.gateway_book.specs.Once.{same_key, times_filed}
+use Rattle.gateway_book.specs.Once.{is_record_of, same_key, times_filed}
+use Rattle.gateway_book.specs.declared.filing.FiledRecord.{FiledRecord}
 use Rattle.gtpp_message.specs.Packet.{PacketForm, packet_of}
 use Rattle.gw_base.specs.declared.history.HistoryEntry.{HistoryEntry}
 use Rattle.gw_base.specs.declared.history.PacketKey.{PacketKey}
@@ -18,15 +19,21 @@ use Rattle.once_core.specs.Addresses.{node_ip}
 use Rattle.once_core.specs.Epochs.{epoch_with, key_in, state_with, times_with}
 use Rattle.once_core.specs.FilePlaces.{IsRecordAt, file_places}
 use Rattle.once_core.specs.Followed.{Followed}
-use Rattle.once_core.specs.Once.{IsFiledFor, IsFollowed, Once, firm_in}
+use Rattle.once_core.specs.Once.{GivenRecord, IsFiledAs, IsFiledFor, IsFollowed, Once, firm_in}
 use Rattle.once_core.specs.OncePlaced.{is_rejected, places_of, record_count}
-use Rattle.once_core.specs.StandsOnce.{IsPacketRecordAt, StandsOnce, copy_places, places_at, place_count}
+use Rattle.once_core.specs.StandsOnce.{CountsFor, IsPacketRecordAt, StandsOnce, copy_places, places_at, place_count}
 use Rattle.once_core.specs.World.{World}
+use Rattle.once_core.proofs.ApartLemmas.{key_of, own_index}
 use Rattle.once_core.proofs.ListLemmas.{in_none}
 
 -- as many places as it was filed times
 abbrev pub Counts : Settings → Type 0
 Counts settings = (key : PacketKey) (index : ℕ) (h : List HistoryEntry) → length (file_places settings key index h) ≡ times_filed key index (filed h)
+
+-- no place is that of two records
+abbrev pub Apart : Settings → Type 0
+Apart settings = (key other : PacketKey) (index j : ℕ) (h : List HistoryEntry) (place : FilePlace) → Contains (file_places settings key index h) place
+    → Contains (file_places settings other j h) place → (key ≡ other) × (index ≡ j)
 
 -- and the record at each
 abbrev pub Stands : Settings → Type 0
@@ -36,7 +43,7 @@ count_is : (o : Option PacketForm) → option_map_or (λ form. length form.recor
 count_is None = refl
 count_is (Some form) = refl
 
-module _ (settings : ℕ → Settings) (counts : (q : ℕ) → Counts (settings q)) (there : (q : ℕ) → Stands (settings q)) (w : World) (once : Once w) where
+module _ (settings : ℕ → Settings) (counts : (q : ℕ) → Counts (settings q)) (single : (q : ℕ) → Apart (settings q)) (there : (q : ℕ) → Stands (settings q)) (w : World) (once : Once w) where
   many : (s : Settings) → Counts s → (node start number index : ℕ) (h : List HistoryEntry) → length (copy_places s node start number index h) ≡ times_with node start number index h
   many s count node start number index h = by (epoch_with node start h)
     where
@@ -98,10 +105,61 @@ module _ (settings : ℕ → Settings) (counts : (q : ℕ) → Counts (settings 
               octets = ap (slice_get packet.form.records) (sym (eqb-true stands.filing.index index parts.1)) ∙ once.octets node packet copy stands.filing is filed_for;
             }
 
+  -- the place is one of the record under its key
+  record HasPlace (gateway : ℕ) (place : FilePlace) (given : GivenRecord) (packet : Followed) (copy : PacketCopy) : Type 0 where
+    epoch : ℕ
+    begun : epoch_with (node_ip given.node) packet.start (firm_in w gateway) ≡ Some epoch
+    at : Contains (file_places (settings gateway) (key_in (node_ip given.node) copy.number epoch) given.index (firm_in w gateway)) place
+
+  place_of : (gateway : ℕ) (place : FilePlace) (given : GivenRecord) (is : CountsFor settings w gateway place given) → HasPlace gateway place given is.packet is.copy
+  place_of gateway place given is =
+      by (epoch_with (node_ip given.node) is.packet.start (firm_in w gateway)) refl
+      (subst (λ (g : ℕ). Contains (copy_places (settings g) (node_ip given.node) is.packet.start is.copy.number given.index (firm_in w g)) place) is.gateway_is is.there)
+    where
+      by : (o : Option ℕ) → epoch_with (node_ip given.node) is.packet.start (firm_in w gateway) ≡ o
+          → Contains (option_map_or (λ epoch. file_places (settings gateway) (key_in (node_ip given.node) is.copy.number epoch) given.index (firm_in w gateway)) o []) place
+          → HasPlace gateway place given is.packet is.copy
+      by None e at = absurd (in_none place at)
+      by (Some epoch) e at = record { epoch = epoch; begun = e; at = at }
+
+  -- a record that is filed under its key is filed for it
+  filed_as : (gateway : ℕ) (place : FilePlace) (given : GivenRecord) (is : CountsFor settings w gateway place given) (has : HasPlace gateway place given is.packet is.copy) (filing : FiledRecord)
+      → Contains (filed (firm_in w gateway)) filing → is_record_of (key_in (node_ip given.node) is.copy.number has.epoch) given.index filing ≡ true → IsFiledAs w gateway filing given
+  filed_as gateway place given is has filing kept record_is = record {
+    packet = is.packet;
+    packet_is = is.packet_is;
+    copy = is.copy;
+    gateway_is = is.gateway_is;
+    is = record {
+      copy_is = is.copy_is;
+      epoch = has.epoch;
+      begun = has.begun;
+      kept = kept;
+      key_is = own_index (key_in (node_ip given.node) is.copy.number has.epoch) given.index filing record_is;
+    };
+    index_is = (key_of (key_in (node_ip given.node) is.copy.number has.epoch) given.index filing record_is).1;
+  }
+
+  apart : (gateway : ℕ) (place : FilePlace) (one other : GivenRecord) → CountsFor settings w gateway place one → CountsFor settings w gateway place other → one ≡ other
+  apart gateway place one other a b =
+      let at_a = place_of gateway place one a in
+      let at_b = place_of gateway place other b in
+      let key_a = key_in (node_ip one.node) a.copy.number at_a.epoch in
+      let key_b = key_in (node_ip other.node) b.copy.number at_b.epoch in
+      let same = single gateway key_a key_b one.index other.index (firm_in w gateway) place at_a.at at_b.at in
+      let stands = there gateway key_a one.index (firm_in w gateway) place at_a.at in
+      let is_b : is_record_of key_b other.index stands.filing ≡ true =
+      subst (λ (k : PacketKey). is_record_of k other.index stands.filing ≡ true) same.0
+      (subst (λ (n : ℕ). is_record_of key_a n stands.filing ≡ true) same.1 stands.is) in
+      once.apart gateway stands.filing one other
+      (filed_as gateway place one a at_a stands.filing stands.kept stands.is)
+      (filed_as gateway place other b at_b stands.filing stands.kept is_b)
+
   pub stands_once : StandsOnce settings w
   stands_once = record {
     resolved = λ node packet index is. resolved node packet index is;
     at_most = λ node packet index is. at_most node packet index is;
     rejected = λ node packet index copy is. rejected node packet index is copy;
     octets = λ node packet index copy place is. octets node packet index is copy place;
+    apart = apart;
   }

@@ -5,33 +5,38 @@ use Rattle.std.proofs.lemmas.Bool.{and_parts, eq-eqb}
 use Rattle.std.proofs.lemmas.List.Elements.{All-contains}
 use Rattle.gtpp_message.specs.Packet.{PacketForm}
 use Rattle.gw_base.specs.declared.history.HistoryEntry.{HistoryEntry}
+use Rattle.gw_base.specs.declared.history.PacketKey.{PacketKey}
 use Rattle.gateway_book.specs.Once.{same_key}
 use Rattle.gateway_book.specs.declared.filing.FiledRecord.{FiledRecord}
 use Rattle.node_core.specs.Drafts.{value_octets}
 use Rattle.node_core.specs.Log.{LogEntry}
 use Rattle.node_core.specs.Packets.{PacketState}
 use Rattle.node_core.specs.Reached.{log_of}
+use Rattle.node_core.specs.Roles.{uses, uses_by_copies}
 use Rattle.node_core.specs.declared.copy.PacketCopy.{PacketCopy}
 use Rattle.once_core.specs.Addresses.{node_ip, setup_of}
 use Rattle.once_core.specs.Beginning.{first_world, world_of}
 use Rattle.once_core.specs.Deeds.{deeds_of}
-use Rattle.once_core.specs.Epochs.{key_in}
+use Rattle.once_core.specs.Epochs.{epoch_with, key_in}
 use Rattle.once_core.specs.Followed.{Followed, all_followed, packets_in}
 use Rattle.once_core.specs.Following.{Follows}
 use Rattle.once_core.specs.Gateway.{Gateway, Rules}
 use Rattle.once_core.specs.Happenings.{Deed, Post, Scene}
-use Rattle.once_core.specs.Once.{IsFiledFor, IsFollowed, Once, firm_in}
+use Rattle.once_core.specs.Once.{GivenRecord, IsFiledAs, IsFiledFor, IsFollowed, Once, firm_in}
 use Rattle.once_core.specs.OncePlaced.{IsFiledUnder, IsOnce, records_within}
 use Rattle.once_core.specs.Scenes.{scene_after}
 use Rattle.once_core.specs.Shown.{IsMade, Shows, forms_ever, post_of, values_of}
 use Rattle.once_core.specs.Turn.{RuledTurn, Turn, ruled, ruled_turns, turn, turns}
 use Rattle.once_core.specs.World.{World, log_at}
+use Rattle.once_core.proofs.ApartLemmas.{key_of, one_place}
+use Rattle.once_core.proofs.EpochLemmas.{start_is_one}
 use Rattle.once_core.proofs.FirstPlays.{first_made, same_world}
 use Rattle.once_core.proofs.FormLemmas.{GoodForm, value_octets_are}
 use Rattle.once_core.proofs.ListLemmas.{get_contains, in_cons, in_head, in_none, in_tail}
 use Rattle.once_core.proofs.LogLemmas.{as_many}
 use Rattle.once_core.proofs.NumberLemmas.{Values, all_followed_at, values_are, values_before}
 use Rattle.once_core.proofs.OnceLemmas.{each_is_placed_once}
+use Rattle.once_core.proofs.RoleLemmas.{among_copies, own_use}
 use Rattle.once_core.proofs.SubmittedLemmas.{turns_forms}
 use Rattle.once_core.proofs.TurnPlays.{Laws, turn_made}
 use Rattle.once_core.proofs.WaitingLemmas.{in_map}
@@ -153,8 +158,48 @@ module _ (laws : Laws) (w : World) (made : Made (values_in w) w) where
         → slice_get (records_within (value_octets packet.form)) f.index ≡ Some f.octets) packet.state.copies copy placed.content filed_for.copy_is in
         ap (λ (rs : List (List ℕ)). slice_get rs filing.index) (sym records_are) ∙ content filing under
 
+  -- a number has one role in its start
+  one_role : (node : ℕ) (packet : Followed) → IsFollowed w node packet → (gateway number : ℕ) → uses gateway number (packets_in packet.start (log_at w node)) ≤ 1
+  one_role node packet is gateway number =
+      let there = some_log node packet is (slice_get w.nodes node) refl in
+      (it_follows node there.0 there.1 packet.start).roles gateway number
+
+  copy_used : (gateway number : ℕ) (packet : Followed) (copy : PacketCopy) → Contains packet.state.copies copy → copy.gateway ≡ gateway → copy.number ≡ number
+      → 1 ≤ uses_by_copies gateway number packet.state.copies
+  copy_used gateway number packet copy is at_gateway number_is =
+      omega (arith, own_use gateway number copy at_gateway number_is, among_copies gateway number packet.state.copies copy is)
+
+  -- what is filed counts for one record
+  apart : (gateway : ℕ) (filing : FiledRecord) (one other : GivenRecord) → IsFiledAs w gateway filing one → IsFiledAs w gateway filing other → one ≡ other
+  apart gateway filing one other a b =
+      let key_a = key_of (key_in (node_ip one.node) a.copy.number a.is.epoch) filing.index filing a.is.key_is in
+      let key_b = key_of (key_in (node_ip other.node) b.copy.number b.is.epoch) filing.index filing b.is.key_is in
+      let key : key_in (node_ip one.node) a.copy.number a.is.epoch ≡ key_in (node_ip other.node) b.copy.number b.is.epoch = sym key_a.0 ∙ key_b.0 in
+      let ip : node_ip one.node ≡ node_ip other.node = ap (λ (k : PacketKey). k.node.0) key in
+      let node : one.node ≡ other.node = omega (arith, ip) in
+      let number : a.copy.number ≡ b.copy.number = ap (λ (k : PacketKey). k.number) key in
+      let epoch : a.is.epoch ≡ b.is.epoch = ap (λ (k : PacketKey). k.epoch) key in
+      let begun : epoch_with (node_ip one.node) b.packet.start (firm_in w gateway) ≡ Some a.is.epoch =
+      ap (λ (n : ℕ). epoch_with n b.packet.start (firm_in w gateway)) ip ∙ b.is.begun ∙ ap (λ (n : ℕ). Some n) (sym epoch) in
+      let start : b.packet.start ≡ a.packet.start = start_is_one (node_ip one.node) b.packet.start a.packet.start a.is.epoch (firm_in w gateway) begun a.is.begun in
+      let there : slice_get (all_followed (log_at w one.node)) other.packet ≡ Some b.packet =
+      ap (λ (n : ℕ). slice_get (all_followed (log_at w n)) other.packet) node ∙ b.packet_is in
+      let packet : one.packet ≡ other.packet =
+      one_place gateway a.copy.number a.packet.start (all_followed (log_at w one.node))
+      (one_role one.node a.packet (get_contains (all_followed (log_at w one.node)) one.packet a.packet a.packet_is) gateway a.copy.number)
+      one.packet other.packet a.packet b.packet a.packet_is there refl start
+      (copy_used gateway a.copy.number a.packet a.copy a.is.copy_is a.gateway_is refl)
+      (copy_used gateway a.copy.number b.packet b.copy b.is.copy_is b.gateway_is (sym number)) in
+      let index : one.index ≡ other.index = sym a.index_is ∙ b.index_is in
+      λ i. record { node = node i; packet = packet i; index = index i }
+
   pub once : Once w
-  once = record { placed = placed; octets = λ node packet copy filing is filed_for. octets_placed node packet is copy filing filed_for; records = records_are }
+  once = record {
+    placed = placed;
+    octets = λ node packet copy filing is filed_for. octets_placed node packet is copy filing filed_for;
+    records = records_are;
+    apart = apart;
+  }
 
 pub each_world_is_once : Laws → (rules : ℕ → Rules) (gateways nodes : ℕ) (all : List RuledTurn) → 1 ≤ gateways → Once (ruled_turns (first_world rules gateways nodes) all)
 each_world_is_once laws rules gateways nodes all some = once laws (ruled_turns (first_world rules gateways nodes) all) (world_made laws rules gateways nodes all some)

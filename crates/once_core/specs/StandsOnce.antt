@@ -11,7 +11,7 @@ use Rattle.once_core.specs.Addresses.{node_ip}
 use Rattle.once_core.specs.Epochs.{epoch_with, key_in, state_with}
 use Rattle.once_core.specs.FilePlaces.{StandsAt, file_places}
 use Rattle.once_core.specs.Followed.{Followed}
-use Rattle.once_core.specs.Once.{IsFollowed, firm_in}
+use Rattle.once_core.specs.Once.{GivenRecord, IsFollowed, firm_in, packet_with}
 use Rattle.once_core.specs.OncePlaced.{is_rejected}
 use Rattle.once_core.specs.World.{World}
 
@@ -39,9 +39,19 @@ pub record IsPacketRecordAt (settings : Settings) (h : List HistoryEntry) (packe
   pub there : StandsAt settings h place filing
   pub octets : slice_get packet.form.records index ≡ Some filing.octets
 
+-- a place in the files of a gateway counts for a record: a copy of the record's packet has it
+pub record CountsFor (settings : ℕ → Settings) (w : World) (gateway : ℕ) (place : FilePlace) (given : GivenRecord)
+    : Type 0 where
+  pub packet : Followed
+  pub packet_is : packet_with w given ≡ Some packet
+  pub copy : PacketCopy
+  pub copy_is : Contains packet.state.copies copy
+  pub gateway_is : copy.gateway ≡ gateway
+  pub there : Contains (places_at settings w given.node packet given.index copy) place
+
 -- Each record of each packet that was ever resolved stands at exactly one place, and each record of any other packet at
 -- one at most. A copy that is held, a stranded one too, or that was cancelled has none. What stands at a place is the
--- packet's record, octet for octet.
+-- packet's record, octet for octet. And no place counts for two records.
 pub record StandsOnce (settings : ℕ → Settings) (w : World) : Type 0 where
   pub resolved : (node : ℕ) (packet : Followed) (index : ℕ) → IsFollowed w node packet →
       is_resolved packet.state.copies ≡ true → index < length packet.form.records →
@@ -56,3 +66,5 @@ pub record StandsOnce (settings : ℕ → Settings) (w : World) : Type 0 where
       IsFollowed w node packet → Contains packet.state.copies copy →
       Contains (places_at settings w node packet index copy) place →
       IsPacketRecordAt (settings copy.gateway) (firm_in w copy.gateway) packet index place
+  pub apart : (gateway : ℕ) (place : FilePlace) (one other : GivenRecord) → CountsFor settings w gateway place one →
+      CountsFor settings w gateway place other → one ≡ other

@@ -32,8 +32,9 @@ use crate::once_laws::{a_node_follows_the_procedure, a_node_knows_what_it_was_to
 
 /// Whatever happens in a world of at least one gateway, each record of each packet that its node
 /// ever resolved is filed once by all gateways together, and each record of any other packet at most
-/// once. None is filed of a copy that is held, a stranded one too, or was cancelled, and what is filed
-/// for a copy is its packet's record. So it is, as a case of this, where all go by the same rules.
+/// once. None is filed of a copy that is held, a stranded one too, or was cancelled, what is filed
+/// for a copy is its packet's record, and nothing that is filed counts for two records. So it is, as a
+/// case of this, where all go by the same rules.
 pub fn each_record_is_filed_once()
     ensures each { (first : ℕ → Rules) (gateways nodes : ℕ) (all : List RuledTurn) → 1 ≤ gateways →
         Once (ruled_turns (first_world first gateways nodes) all) }
@@ -100,10 +101,13 @@ pub fn places_stay()
 }
 
 /// A record stands in the files of a history at as many places as it was filed times: each filed
-/// record has one place.
+/// record has one place. And no place is that of two records.
 pub fn each_filed_record_has_one_place()
-    ensures { (settings : Settings) (key : PacketKey) (index : ℕ) (h : List HistoryEntry) →
+    ensures count { (settings : Settings) (key : PacketKey) (index : ℕ) (h : List HistoryEntry) →
         length (file_places settings key index h) ≡ times_filed key index (filed h) }
+    ensures only { (settings : Settings) (key other : PacketKey) (index j : ℕ) (h : List HistoryEntry)
+        (place : FilePlace) → Contains (file_places settings key index h) place →
+        Contains (file_places settings other j h) place → (key ≡ other) × (index ≡ j) }
 {
     file_writer::places::each_record_has_one_place();
 }
@@ -121,9 +125,9 @@ pub fn what_stands_at_a_place_was_filed()
 
 /// Whatever happens in a world of at least one gateway, each record of each packet that its node ever
 /// resolved stands at one place of the files of all gateways, each record of any other packet at one
-/// at most, and what stands there is the record as it was submitted. A copy that is held or was
-/// cancelled has no place. Each gateway has settings of its files of its own. So it is, as a case of
-/// this, where all go by the same rules.
+/// at most, and what stands there is the record as it was submitted. No place counts for two records. A
+/// copy that is held or was cancelled has no place. Each gateway has settings of its files of its own. So
+/// it is, as a case of this, where all go by the same rules.
 pub fn each_record_stands_once()
     ensures each { (first : ℕ → Rules) (settings : ℕ → Settings) (gateways nodes : ℕ) (all : List RuledTurn) →
         1 ≤ gateways → StandsOnce settings (ruled_turns (first_world first gateways nodes) all) }

@@ -5,14 +5,16 @@ use Rattle.once_core.specs.Turn.{ruled_turns, turns}
 
 pub returns-clause-each : goal.returns-clause-each
 returns-clause-each c = λ rules settings gateways nodes all some.
-    stands_once settings (λ q. c.each_filed_record_has_one_place.ensures (settings q))
+    stands_once settings (λ q. c.each_filed_record_has_one_place.ensures.count (settings q))
+    (λ q. c.each_filed_record_has_one_place.ensures.only (settings q))
     (λ q. c.what_stands_at_a_place_was_filed.ensures.there (settings q))
     (ruled_turns (first_world rules gateways nodes) all)
     (c.each_record_is_filed_once.ensures.each rules gateways nodes all some)
 
 pub returns-clause-alike : goal.returns-clause-alike
 returns-clause-alike c = λ rules settings gateways nodes all some.
-    stands_once settings (λ q. c.each_filed_record_has_one_place.ensures (settings q))
+    stands_once settings (λ q. c.each_filed_record_has_one_place.ensures.count (settings q))
+    (λ q. c.each_filed_record_has_one_place.ensures.only (settings q))
     (λ q. c.what_stands_at_a_place_was_filed.ensures.there (settings q))
     (turns rules (world_of rules gateways nodes) all)
     (c.each_record_is_filed_once.ensures.alike rules gateways nodes all some)
