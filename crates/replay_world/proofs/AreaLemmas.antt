@@ -10,11 +10,9 @@ use Rattle.area_disk.specs.declared.memory.MemoryArea.{MemoryArea}
 use Rattle.area_disk.specs.declared.plan.Outcome3.{Outcome3}
 use Rattle.area_disk.specs.declared.plan.Outcome3.TheVariants.{Old}
 use Rattle.area_disk.specs.declared.plan.Plan.{Plan}
-use Rattle.cdr_shelf.specs.Files.{in_stream}
 use Rattle.cdr_shelf.specs.declared.memory.MemoryShelf.{MemoryShelf}
 use Rattle.cgf_journal.specs.Trail.{stop_stands}
-use Rattle.file_writer.specs.Files.{stream_files}
-use Rattle.file_writer.specs.Streams.{stream_count}
+use Rattle.file_writer.specs.Files.{AreFilesOf}
 use Rattle.gateway_book.specs.Items.{items_of}
 use Rattle.gateway_book.specs.Book.{Stays, area_of, value_of}
 use Rattle.gateway_book.specs.Opened.{StandsFitFor}
@@ -115,8 +113,7 @@ left_kept false w v is = inl (ap (λ (x : BookValue). x.firm) is)
 -- what a gateway hands out, whose area this is
 pub handed_out : (setup : Setup) (place : ℕ) (g : Gateway) (m : Machine) (o : Option MemoryArea) (s : MemoryShelf) →
     MatchOption o ⊥ (IsAreaOf setup place g) →
-    ((stream : ℕ) → stream < stream_count → in_stream stream (shelf_tells.files s)
-    ≡ stream_files (files_in setup place) stream (take m.written (items_of g.book.firm))) →
+    AreFilesOf (files_in setup place) (take m.written (items_of g.book.firm)) (shelf_tells.files s) →
     MatchOption o ⊥ (λ area. IsHandedOut setup place g m area s)
 handed_out setup place g m None s none files = none
 handed_out setup place g m (Some area) s is files = record { area = is; files = files }

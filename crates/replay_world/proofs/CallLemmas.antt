@@ -5,8 +5,9 @@ use Rattle.std.proofs.lemmas.List.Elements.{filter_passes}
 use Rattle.area_disk.specs.Armed.{Armed}
 use Rattle.area_disk.specs.Armed.Armed.{Nothing}
 use Rattle.area_disk.specs.declared.memory.MemoryArea.{MemoryArea}
-use Rattle.file_writer.specs.Files.{stream_files}
+use Rattle.file_writer.specs.Files.{AreFilesOf}
 use Rattle.file_writer.specs.Streams.{Settings}
+use Rattle.file_writer.specs.Writer.{shelf_of}
 use Rattle.gateway_book.specs.Book.{Stays}
 use Rattle.gateway_book.specs.Calls.{Left}
 use Rattle.gateway_book.specs.Filed.{along}
@@ -25,7 +26,7 @@ use Rattle.replay_world.specs.Device.{disarmed, entries_kept, is_stop}
 use Rattle.replay_world.specs.Moves.{HasMoved, came_of}
 use Rattle.replay_world.specs.Setup.{Setup, files_in}
 use Rattle.replay_world.specs.Stands.{MachineStands, SiteStands, StandsUp, area_tells, header_at}
-use Rattle.replay_world.specs.Written.{FilesStand, HasTaken}
+use Rattle.replay_world.specs.Written.{FilesStand, HasTaken, shelf_tells}
 use Rattle.replay_world.specs.Value.{Machine}
 use Rattle.replay_world.specs.declared.files.Files.{Files}
 use Rattle.replay_world.specs.declared.machine.Came.TheVariants.{Went, Failed, Halted}
@@ -231,7 +232,7 @@ module _ (setup : Setup) (place : ℕ) (g : Gateway) (m : Machine) (value : Book
         writes = record {
           settings_are = writes.settings_are;
           is_armed = writes.is_armed;
-          files = λ s small. writes.files s small ∙ ap (λ (xs : List Item). stream_files settings s xs) same;
+          files = subst (λ (xs : List Item). AreFilesOf settings xs (shelf_tells.files (shelf_of f.writer))) same writes.files;
           most = omega (arith, writes.most, length-append items more);
         };
         goes_on = λ n is. (

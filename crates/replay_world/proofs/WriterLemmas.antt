@@ -1,7 +1,7 @@
 -- A writer that begins the items anew and takes all of them, and one that is made.
 use Rattle.std.proofs.Common.{◌≡◌, ◌∙◌, refl, sym, ap, subst, ℕ, zero, suc, ◌+◌, ◌-◌, ◌<◌, ◌≤◌, max, false, List, [], ◌∷◌, ◌++◌, length, take, drop, Ok, Some, All, arith, append-nil, length-append}
 use Rattle.std.proofs.lemmas.List.{take-append-drop, take-append-le, take_all}
-use Rattle.std.proofs.lemmas.List.Elements.{All-weaker}
+use Rattle.std.proofs.lemmas.List.Elements.{All-append, All-nil, All-weaker}
 use Rattle.area_disk.specs.Armed.{Came, IsArmed, calls_under}
 use Rattle.area_disk.specs.Armed.Armed.{Nothing}
 use Rattle.area_disk.specs.Armed.Came.{Ran}
@@ -12,7 +12,8 @@ use Rattle.file_rotate.specs.Division.{ClosedRun}
 use Rattle.file_writer.specs.Advancing.{Advances, HasRecovered, calls}
 use Rattle.file_writer.specs.AllStreams.{IsFit}
 use Rattle.file_writer.specs.Asking.{IsAsked}
-use Rattle.file_writer.specs.Files.{files_from, later_files, stream_files}
+use Rattle.file_writer.specs.Calls.{calls_of, seals}
+use Rattle.file_writer.specs.Files.{AreOfStreams, files_from, later_files, stream_files}
 use Rattle.file_writer.specs.Holding.{HoldsOf, IsBegun, files_after}
 use Rattle.file_writer.specs.Making.{Comes, Went}
 use Rattle.file_writer.specs.Streams.{Settings, closed_of, stream_count, stream_division}
@@ -32,6 +33,10 @@ FilesGrow = (settings : Settings) (s : ℕ) (items more : List Item) →
 abbrev pub FilesCounted : Type 0
 FilesCounted = (settings : Settings) (s m : ℕ) (items : List Item) (files : List SealedFile) →
     in_stream s files ≡ take m (stream_files settings s items) → m ≤ closed_of settings s items → greatest_in s files ≡ m
+
+abbrev pub SealOfStreams : Type 0
+SealOfStreams = (settings : Settings) (closed sealed : ℕ → ℕ) (before items : List Item) (k : ℕ) →
+    AreOfStreams (seals (take k (calls_of settings closed sealed before items)))
 
 pub files_length : (file : FileSettings) (s first : ℕ) (closed : List (ClosedRun (List ℕ))) →
     length (files_from file s first closed) ≡ length closed
@@ -84,9 +89,19 @@ module _ (grow : FilesGrow) (settings : Settings) (written : ℕ) (items : List 
 abbrev files_in : Writer MemoryShelf shelf_tells → List SealedFile
 files_in w = shelf_tells.files (writer.shelf_of w)
 
+-- calls seal more files of the streams that there are, and no others
+more_of_streams : SealOfStreams → (closed : ℕ → ℕ) (before items : List Item) (old new : Writer MemoryShelf shelf_tells)
+    (n : ℕ) → Advances shelf_tells closed before items old new (Ok n) → AreOfStreams (files_in old) →
+    AreOfStreams (files_in new)
+more_of_streams law closed before items old new n done are =
+    let sealed = done.makes.sealed refl in
+    subst AreOfStreams (sym sealed.files) (All-append (λ (file : SealedFile). file.name.stream < stream_count)
+    (files_in old) (seals (take sealed.count (calls shelf_tells closed before items old new))) are
+    (law (writer.settings_in old) closed (writer.sealed_in old) before items sealed.count))
+
 -- It recovers, and takes all items.
-module _ (grow : FilesGrow) (counted : FilesCounted) (settings : Settings) (written : ℕ) (items : List Item)
-    (old mid new : Writer MemoryShelf shelf_tells) (stands : WriterStands shelf_tells settings written items old)
+module _ (grow : FilesGrow) (counted : FilesCounted) (within : SealOfStreams) (settings : Settings) (written : ℕ)
+    (items : List Item) (old mid new : Writer MemoryShelf shelf_tells) (stands : WriterStands shelf_tells settings written items old)
     (same : writer.settings_in mid ≡ writer.settings_in old)
     (asked : IsAsked shelf_tells false (writer.shelf_of old) (writer.shelf_of mid))
     (recovered : HasRecovered shelf_tells (λ s. 0) 0 old mid) where
@@ -97,7 +112,7 @@ module _ (grow : FilesGrow) (counted : FilesCounted) (settings : Settings) (writ
   settings_are = same ∙ stands.settings_are
 
   kept : (s : ℕ) → s < stream_count → in_stream s (files_in mid) ≡ stream_files settings s wi
-  kept s small = ap (λ (fs : List SealedFile). in_stream s fs) asked.files ∙ stands.files s small
+  kept s small = ap (λ (fs : List SealedFile). in_stream s fs) asked.files ∙ stands.files.each s small
 
   sealed_is : (s : ℕ) → s < stream_count → writer.sealed_in mid s ≡ closed_of settings s wi
   sealed_is s small =
@@ -136,17 +151,21 @@ module _ (grow : FilesGrow) (counted : FilesCounted) (settings : Settings) (writ
       record {
         settings_are = set;
         is_armed = ran.is_armed;
-        files = λ s small.
-            after s small
-            ∙ ap (λ (q : Settings). take (max (writer.sealed_in new s) (0 + closed_of q s items) - 0)
-            (files_after q (λ s. 0) s (items ++ []))) set
-            ∙ ap (λ (k : ℕ). take k (stream_files settings s (items ++ [])))
-            (last_of (writer.sealed_in new s) (closed_of settings s items)
-            (omega (arith, done.sealed s small, sealed_is s small, fewer grow settings written items s)))
-            ∙ ap (λ (xs : List Item). take (closed_of settings s items) (stream_files settings s xs)) (append-nil items)
-            ∙ take_all (closed_of settings s items) (stream_files settings s items)
-            (omega (arith, files_count settings s items))
-            ∙ ap (λ (xs : List Item). stream_files settings s xs) (sym (take_all (length items) items (omega arith)));
+        files = record {
+          each = λ s small.
+              after s small
+              ∙ ap (λ (q : Settings). take (max (writer.sealed_in new s) (0 + closed_of q s items) - 0)
+              (files_after q (λ s. 0) s (items ++ []))) set
+              ∙ ap (λ (k : ℕ). take k (stream_files settings s (items ++ [])))
+              (last_of (writer.sealed_in new s) (closed_of settings s items)
+              (omega (arith, done.sealed s small, sealed_is s small, fewer grow settings written items s)))
+              ∙ ap (λ (xs : List Item). take (closed_of settings s items) (stream_files settings s xs)) (append-nil items)
+              ∙ take_all (closed_of settings s items) (stream_files settings s items)
+              (omega (arith, files_count settings s items))
+              ∙ ap (λ (xs : List Item). stream_files settings s xs) (sym (take_all (length items) items (omega arith)));
+          only = more_of_streams within (λ s. 0) [] items mid new n done
+              (subst AreOfStreams (sym asked.files) stands.files.only);
+        };
         most = omega arith;
       }
 
@@ -159,7 +178,7 @@ module _ (grow : FilesGrow) (counted : FilesCounted) (settings : Settings) (writ
       })
 
 -- One that goes on takes the items behind those that it has taken.
-module _ (grow : FilesGrow) (settings : Settings) (written : ℕ) (items : List Item)
+module _ (grow : FilesGrow) (within : SealOfStreams) (settings : Settings) (written : ℕ) (items : List Item)
     (old new : Writer MemoryShelf shelf_tells) (stands : WriterStands shelf_tells settings written items old)
     (taken : HasTaken settings (take written items) old)
     (same : writer.settings_in new ≡ writer.settings_in old) where
@@ -181,7 +200,7 @@ module _ (grow : FilesGrow) (settings : Settings) (written : ℕ) (items : List 
       ≡ take (max (writer.sealed_in old s) (0 + closed_of settings s front) - 0)
       (stream_files settings s ((front ++ behind) ++ []))
   held s small =
-      stands.files s small
+      stands.files.each s small
       ∙ sym (front_taken (stream_files settings s front) (later_files settings s front behind))
       ∙ ap (λ (fs : List SealedFile). take (length (stream_files settings s front)) fs)
       (sym (grown grow settings written items s))
@@ -212,18 +231,22 @@ module _ (grow : FilesGrow) (settings : Settings) (written : ℕ) (items : List 
         record {
           settings_are = set;
           is_armed = ran.is_armed;
-          files = λ s small.
-              after s small
-              ∙ ap (λ (q : Settings). take (max (writer.sealed_in new s) (0 + closed_of q s (front ++ behind)) - 0)
-              (files_after q (λ s. 0) s ((front ++ behind) ++ []))) set
-              ∙ ap (λ (xs : List Item). take (max (writer.sealed_in new s) (0 + closed_of settings s xs) - 0)
-              (stream_files settings s (xs ++ []))) joined
-              ∙ ap (λ (k : ℕ). take k (stream_files settings s (items ++ [])))
-              (last_of (writer.sealed_in new s) (closed_of settings s items) (later_sealed n done s small))
-              ∙ ap (λ (xs : List Item). take (closed_of settings s items) (stream_files settings s xs)) (append-nil items)
-              ∙ take_all (closed_of settings s items) (stream_files settings s items)
-              (omega (arith, files_count settings s items))
-              ∙ ap (λ (xs : List Item). stream_files settings s xs) whole;
+          files = record {
+            each = λ s small.
+                after s small
+                ∙ ap (λ (q : Settings). take (max (writer.sealed_in new s) (0 + closed_of q s (front ++ behind)) - 0)
+                (files_after q (λ s. 0) s ((front ++ behind) ++ []))) set
+                ∙ ap (λ (xs : List Item). take (max (writer.sealed_in new s) (0 + closed_of settings s xs) - 0)
+                (stream_files settings s (xs ++ []))) joined
+                ∙ ap (λ (k : ℕ). take k (stream_files settings s (items ++ [])))
+                (last_of (writer.sealed_in new s) (closed_of settings s items) (later_sealed n done s small))
+                ∙ ap (λ (xs : List Item). take (closed_of settings s items) (stream_files settings s xs))
+                (append-nil items)
+                ∙ take_all (closed_of settings s items) (stream_files settings s items)
+                (omega (arith, files_count settings s items))
+                ∙ ap (λ (xs : List Item). stream_files settings s xs) whole;
+            only = more_of_streams within (λ s. 0) front behind old new n done stands.files.only;
+          };
           most = omega arith;
         },
         subst (λ (xs : List Item). HasTaken settings xs new) whole (record {
@@ -249,6 +272,9 @@ pub made_stands : (settings : Settings) (w : Writer MemoryShelf shelf_tells) →
 made_stands settings w settings_is is_armed empty items = record {
   settings_are = settings_is;
   is_armed = is_armed;
-  files = λ s small. ap (λ (files : List SealedFile). in_stream s files) empty;
+  files = record {
+    each = λ s small. ap (λ (files : List SealedFile). in_stream s files) empty;
+    only = subst AreOfStreams (sym empty) (All-nil (λ (file : SealedFile). file.name.stream < stream_count));
+  };
   most = omega arith;
 }

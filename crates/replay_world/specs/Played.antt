@@ -1,10 +1,8 @@
 -- What a replay hands out: the areas, the shelves and the nodes that it ran.
-use Rattle.std.specs.Prelude.{◌≡◌, ◌⊎◌, ℕ, suc, ◌<◌, Bool, true, false, List, [], ◌∷◌, ◌++◌, ◌≤◌, length, take}
+use Rattle.std.specs.Prelude.{◌≡◌, ◌⊎◌, ℕ, suc, Bool, true, false, List, [], ◌∷◌, ◌++◌, ◌≤◌, length, take}
 use Rattle.area_disk.specs.declared.memory.MemoryArea.{MemoryArea}
-use Rattle.cdr_shelf.specs.Files.{in_stream}
 use Rattle.cdr_shelf.specs.declared.memory.MemoryShelf.{MemoryShelf}
-use Rattle.file_writer.specs.Files.{stream_files}
-use Rattle.file_writer.specs.Streams.{stream_count}
+use Rattle.file_writer.specs.Files.{AreFilesOf}
 use Rattle.gateway_book.specs.Items.{items_of}
 use Rattle.gateway_book.specs.Up.{IsDown}
 use Rattle.gateway_book.specs.Value.{history_of}
@@ -28,12 +26,12 @@ pub record IsAreaOf (setup : Setup) (place : ℕ) (g : Gateway) (a : MemoryArea)
   pub down : IsDown area_tells (header_at setup place) history a
   pub kept : IsKept g.is_down g history
 
--- So does the area that is handed out, and the shelf has the files that were written.
+-- So does the area that is handed out, and the sealed files of the shelf are those that were written, of each stream in
+-- its order, and no others.
 pub record IsHandedOut (setup : Setup) (place : ℕ) (g : Gateway) (m : Machine) (a : MemoryArea) (s : MemoryShelf)
     : Type 0 where
   pub area : IsAreaOf setup place g a
-  pub files : (stream : ℕ) → stream < stream_count → in_stream stream (shelf_tells.files s)
-      ≡ stream_files (files_in setup place) stream (take m.written (items_of g.book.firm))
+  pub files : AreFilesOf (files_in setup place) (take m.written (items_of g.book.firm)) (shelf_tells.files s)
 
 abbrev pub EachHandedOut : Setup → ℕ → List Gateway → List Machine → List MemoryArea → List MemoryShelf → Type 0
 EachHandedOut setup place [] [] [] [] = Unit {0}

@@ -2,11 +2,10 @@
 use Rattle.std.specs.Prelude.{◌≡◌, ℕ, ◌<◌, ◌≤◌, List, length, take, Some}
 use Rattle.area_disk.specs.Armed.{IsArmed}
 use Rattle.area_disk.specs.Armed.Armed.{Nothing}
-use Rattle.cdr_shelf.specs.Files.{in_stream}
 use Rattle.cdr_shelf.specs.contracts.memory.MemoryShelfShelf.TheImpl.{ghosts as shelf_ghosts}
 use Rattle.cdr_shelf.specs.declared.memory.MemoryShelf.{MemoryShelf}
 use Rattle.cdr_shelf.specs.declared.shelf.Shelf as shelf
-use Rattle.file_writer.specs.Files.{stream_files}
+use Rattle.file_writer.specs.Files.{AreFilesOf}
 use Rattle.file_writer.specs.Streams.{Settings, closed_of, stream_count}
 use Rattle.file_writer.specs.Writer as writer
 use Rattle.file_writer.specs.declared.writer.Writer.{Writer}
@@ -17,13 +16,13 @@ use Rattle.replay_world.specs.declared.files.Files.{Files}
 abbrev pub shelf_tells : shelf.Ghosts MemoryShelf
 shelf_tells = shelf_ghosts
 
--- So many of these items were written: of each stream the files that they close are sealed, and no others.
+-- So many of these items were written: the sealed files are those that they close, of each stream in its order, and no
+-- others.
 pub record WriterStands {A : Type 0} (tells : shelf.Ghosts A) (settings : Settings) (written : ℕ) (items : List Item)
     (w : Writer A tells) : Type 0 where
   pub settings_are : writer.settings_in w ≡ settings
   pub is_armed : IsArmed Nothing (tells.plan (writer.shelf_of w))
-  pub files : (s : ℕ) → s < stream_count →
-      in_stream s (tells.files (writer.shelf_of w)) ≡ stream_files settings s (take written items)
+  pub files : AreFilesOf settings (take written items) (tells.files (writer.shelf_of w))
   pub most : written ≤ length items
 
 -- The writer has taken these items, and when it recovered no files were sealed but some of those that they close.

@@ -8,7 +8,7 @@ ghost use Rattle.gw_base.specs.declared.item.Item.{Item as ItemValue};
 
 use cdr_shelf::MemoryShelf;
 use file_writer::Writer;
-use file_writer::laws::{files_only_grow, first_files_are_counted};
+use file_writer::laws::{calls_seal_files_of_streams, files_only_grow, first_files_are_counted};
 use gw_base::{Item, NoMemory};
 
 /// The most items that a writer takes.
@@ -45,6 +45,7 @@ impl Files {
             OnOk result (FilesStand settings (length all) all self.new) }
     {
         files_only_grow();
+        calls_seal_files_of_streams();
         let Some(taken) = self.taken else {
             return Err(NoMemory);
         };
@@ -68,6 +69,7 @@ impl Files {
     {
         files_only_grow();
         first_files_are_counted();
+        calls_seal_files_of_streams();
         self.taken = None;
         let Ok(()) = self.writer.recover() else {
             return Err(NoMemory);

@@ -18,7 +18,7 @@ loop-sequence-preserved c = λ setup g m small stands.
     let closed = (stream_division settings c.args.stream (take m.written (items_of g.book.firm))).closed in
     line_more settings.file c.args.stream c.args.place closed (shelf_tells.files c.shelf.result.now)
     (ap (λ (s : MemoryShelf). in_stream c.args.stream (shelf_tells.files s)) c.shelf.ensures
-    ∙ stands.writes.writes.files c.args.stream small)
+    ∙ stands.writes.writes.files.each c.args.stream small)
     c.loop-sequence.sequence c.in-Some.octets.now c.args.out.now c.loop-sequence.out c.print_file.new.out some
     c.in-Some.ensures.octets (c.loop-sequence.invariant setup g m small stands) c.in_ok-print_file.ensures
 
@@ -29,6 +29,6 @@ returns-in_default c = λ setup g m small stands.
     let closed = (stream_division settings c.args.stream (take m.written (items_of g.book.firm))).closed in
     lines_all settings.file c.args.stream c.args.place closed (shelf_tells.files c.shelf.result.now)
     (ap (λ (s : MemoryShelf). in_stream c.args.stream (shelf_tells.files s)) c.shelf.ensures
-    ∙ stands.writes.writes.files c.args.stream small)
+    ∙ stands.writes.writes.files.each c.args.stream small)
     c.loop-sequence.sequence c.args.out.now c.loop-sequence.out some c.in_default.ensures.octets
     (c.loop-sequence.invariant setup g m small stands)
