@@ -57,3 +57,22 @@ torn_dropped g keep e = record {
   rest = refl;
   broken = refl;
 }
+
+-- what a crash leaves
+
+left_none : (b : Bool) (xs ys : List HistoryEntry) → (if b then (if false then ys else []) else take (0 - length xs) ys) ≡ []
+left_none true xs ys = refl
+left_none false xs ys = ap (λ (n : ℕ). take n ys) nothing
+  where
+    nothing : 0 - length xs ≡ 0
+    nothing = omega arith
+
+left_all : (b : Bool) (xs ys : List HistoryEntry) → (if b then (if true then ys else []) else take (length (xs ++ ys) - length xs) ys) ≡ ys
+left_all true xs ys = refl
+left_all false xs ys = all_left xs ys
+
+pub crash_to_firm : (g : Gateway) → history_of (cut 0 false g).book ≡ g.book.firm
+crash_to_firm g = ap (λ (xs : List HistoryEntry). g.book.firm ++ xs) (left_none g.book.is_broken g.book.firm g.book.rest) ∙ append-nil g.book.firm
+
+pub crash_to_all : (g : Gateway) → history_of (cut (length (g.book.firm ++ g.book.rest)) true g).book ≡ g.book.firm ++ g.book.rest
+crash_to_all g = ap (λ (xs : List HistoryEntry). g.book.firm ++ xs) (left_all g.book.is_broken g.book.firm g.book.rest)

@@ -1,7 +1,7 @@
 //! Laws of worlds. Each holds for all settings, and whatever a gateway is told, each time it asks, of which acts may be
 //! recorded and whether its batch is full. Each stands on a function that does nothing.
 
-ghost use Rattle.std.specs.Prelude.{◌≡◌, ◌-◌, ◌<◌, ◌≤◌, ℕ, Bool, true, false, Contains, List, None, Some, length, slice_get};
+ghost use Rattle.std.specs.Prelude.{◌≡◌, ◌-◌, ◌<◌, ◌≤◌, ◌++◌, ℕ, Bool, true, false, Contains, List, None, Some, length, slice_get};
 ghost use Rattle.file_writer.specs.Places.{FilePlace, place_in};
 ghost use Rattle.file_writer.specs.Streams.{Settings};
 ghost use Rattle.gateway_book.specs.Filed.{filed};
@@ -170,6 +170,14 @@ pub fn starts_only_rise()
     node_core::laws::a_gateway_gets_one_copy();
     a_node_follows_the_procedure();
 }
+
+/// What a crash leaves of a gateway's history, by the clauses of its book the firm entries alone or
+/// these with all those behind them, waiting or torn, is what some stop leaves.
+pub fn each_crash_is_a_stop()
+    ensures firm { (g : Gateway) → history_of (cut 0 false g).book ≡ g.book.firm }
+    ensures whole { (g : Gateway) → history_of (cut (length (g.book.firm ++ g.book.rest)) true g).book
+        ≡ g.book.firm ++ g.book.rest }
+{}
 
 /// A commit that fails, with an opening again, leaves what a stop leaves with an opening that
 /// records no Start: one that finds the torn entries whole is a stop that keeps all, and one that
