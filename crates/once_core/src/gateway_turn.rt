@@ -195,8 +195,8 @@ impl KeptGateway {
     }
 }
 
-/// The octets of a Redirection Request.
-fn redirection(number: u16, cause: u8, to: Option<u8>) -> Short
+/// The octets of a Redirection Request with this number, which recommends a gateway or none.
+pub fn redirection(number: u16, cause: u8, to: Option<u8>) -> Short
     ensures octets { result ≡ redirection number cause to }
     ensures low { number < 65536 }
 {

@@ -27,8 +27,11 @@ pub mod told_laws;
 mod world;
 pub mod world_laws;
 
+pub use addresses::{addresses_of, gateway_address, node_address, node_id, port_at};
 pub use event::{Event, Stepped, WorldKind};
+pub use expired::is_expired_at_node;
 pub use gateway::KeptGateway;
+pub use gateway_turn::redirection;
 pub use message::{Message, Waiting};
 pub use node_turn::KeptNode;
 pub use world::World;

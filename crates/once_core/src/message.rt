@@ -1,5 +1,7 @@
 ghost use Rattle.std.specs.Prelude.{◌≡◌, IfOk};
+ghost use Rattle.once_core.specs.Messages.{about, has_type, is_request, is_response};
 
+use gtpp_message::message_types::{TRANSFER_REQUEST, TRANSFER_RESPONSE};
 use gw_base::{Absolute, NoMemory, Octets};
 use node_core::Port;
 use std::alloc::Global;
@@ -31,6 +33,31 @@ pub struct Message {
 }
 
 impl Message {
+    /// Whether it is a Data Record Transfer Request.
+    pub fn is_request(&self) -> bool
+        ensures { result ≡ is_request self.now }
+    {
+        has_type(TRANSFER_REQUEST, self.octets.octets())
+    }
+
+    /// Whether it is a Data Record Transfer Response.
+    pub fn is_response(&self) -> bool
+        ensures { result ≡ is_response self.now }
+    {
+        has_type(TRANSFER_RESPONSE, self.octets.octets())
+    }
+
+    /// The number of the copy that a request speaks of: the one that a release or a cancel names, else its
+    /// own.
+    pub fn about(&self) -> Absolute
+        ensures { result ≡ about self.now }
+    {
+        match self.named {
+            Some(named) => named,
+            None => self.number,
+        }
+    }
+
     /// The same message.
     pub(crate) fn copy(&self, alloc: Global) -> Result<Message, NoMemory>
         ensures { IfOk result (λ message. message ≡ self.now) }
@@ -45,6 +72,16 @@ impl Message {
             named: self.named,
             octets: Octets::of(alloc, self.octets.octets())?,
         })
+    }
+}
+
+/// Whether the octets are a message of this type.
+fn has_type(kind: u8, octets: &[u8]) -> bool
+    ensures { result ≡ has_type kind octets.now }
+{
+    match octets.get(1) {
+        Some(k) => *k == kind,
+        None => false,
     }
 }
 

@@ -5,16 +5,15 @@ ghost use Rattle.gtpp_message.specs.Values.{packet_value};
 ghost use Rattle.node_core.specs.Log.{Began, Halted};
 ghost use Rattle.node_core.specs.Submitting.{refusal_of};
 ghost use Rattle.node_core.specs.Ticks.{tick_entries};
-ghost use Rattle.once_core.specs.Addresses.{addresses_from};
 ghost use Rattle.once_core.specs.NodeMoves.{HasHeard, HasTaken, draft_of_packet, due_messages, first_kept, message_kept, submitted_entries, with_all, with_entries};
 ghost use Rattle.once_core.specs.World.{draft_of};
 
-use crate::addresses::{FIRST_NODE, gateway_address, gateway_at};
+use crate::addresses::{addresses_of, gateway_address, gateway_at, node_id};
 use crate::expired::is_expired_at_node;
 use crate::gateway_turn::answering;
 use crate::message::Message;
 use gtpp_message::{Packet, Records};
-use gw_base::{Addr, NoMemory, Octets};
+use gw_base::{NoMemory, Octets};
 use node_core::{Draft, DraftFault, Node, Outgoing, SubmitFault};
 use std::alloc::Global;
 use std::marker::Model;
@@ -55,9 +54,8 @@ impl KeptNode {
         ensures { IfOk result (λ node. node ≡ first_kept gateways place) }
     {
         let addresses = addresses_of(alloc, gateways)?;
-        let address = FIRST_NODE + u32::from(place);
         Ok(KeptNode {
-            node: Node::new(alloc, address, &addresses, 1)?,
+            node: Node::new(alloc, node_id(place).0, &addresses, 1)?,
             starts: 1,
         })
     }
@@ -158,18 +156,6 @@ impl KeptNode {
         self.node.start();
         self.starts += 1;
     }
-}
-
-/// The addresses of so many gateways.
-#[tactic(auto, using(crate::proofs::NodeTurnLemmas::addresses_more, crate::proofs::NodeTurnLemmas::addresses_none))]
-fn addresses_of(alloc: Global, gateways: u8) -> Result<Vec<Addr>, NoMemory>
-    ensures { IfOk result (λ addresses. addresses.items ≡ addresses_from 0 gateways) }
-{
-    let mut addresses = Vec::new(alloc);
-    for gateway in 0..gateways {
-        addresses.push(gateway_address(gateway))?;
-    }
-    Ok(addresses)
 }
 
 /// Sends these datagrams of the node in this place, in this start.

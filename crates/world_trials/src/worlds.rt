@@ -4,9 +4,9 @@ ghost use Rattle.std.specs.Prelude.{◌≤◌};
 use crate::world_stories::{
     ANSWER_LOST, COPY_LATE, Do, Kind, PACKET, STARTED_AGAIN, Story, TWO_DUPLICATES,
 };
-use gw_base::{Caller, HistoryAct, HistoryEntry, Moment, NodeId, Octets};
-use node_core::Phase;
-use once_core::{Event, Stepped, World, WorldKind};
+use gw_base::{Addr, Caller, HistoryAct, HistoryEntry, Moment, NodeId, Octets};
+use node_core::{Phase, Port};
+use once_core::{Event, Stepped, World, WorldKind, addresses_of, node_address, node_id, port_at};
 use std::alloc::Global;
 use std::process::Abort;
 use std::test::Fail;
@@ -355,4 +355,29 @@ fn starts_no_more<R: Abort>(rt: &R, alloc: Global, world: &mut World) {
     play(rt, alloc, world, &[Do::Halt]);
     let restarts = Stepped::Refused(WorldKind::Restarts);
     assert_eq!(rt; world.step(alloc, &Event::Start { node: 1 }), restarts);
+}
+
+/// Gateways stand one after the other from 10.0.0.1 on, and nodes from 10.0.1.1 on.
+#[test]
+fn gateways_and_nodes_have_addresses(rt: HostRuntime) -> Result<(), Fail> {
+    let gateways = addresses_of(rt.alloc(), 2)?;
+    let wanted = [
+        Addr {
+            ip: 0x0A00_0001,
+            port: 3_386,
+        },
+        Addr {
+            ip: 0x0A00_0002,
+            port: 3_386,
+        },
+    ];
+    assert_eq!(rt; gateways.as_slice(), wanted.as_slice());
+    assert_eq!(rt; node_id(0), NODE);
+    let second = Addr {
+        ip: 0x0A00_0110,
+        port: 40_002,
+    };
+    assert_eq!(rt; node_address(15, Port::Second), second);
+    assert_eq!(rt; port_at(second), Port::Second);
+    Ok(())
 }
