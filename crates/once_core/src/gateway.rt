@@ -132,7 +132,8 @@ impl KeptGateway {
     fn is_full(&self) -> bool
         ensures { result ≡ (self.now.book.is_broken || is_batch_full self.now.book) }
     {
-        is_rest_full(self.rest())
+        let (_, rest) = self.history.split_at(self.firm);
+        is_rest_full(rest)
     }
 
     /// Whether it is stopped.
