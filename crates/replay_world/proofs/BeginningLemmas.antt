@@ -1,9 +1,7 @@
 -- A replay that begins.
 use Rattle.std.proofs.Common.{◌≡◌, ◌∙◌, refl, sym, ap, subst, ℕ, zero, suc, ◌+◌, ◌≤◌, List, [], ◌∷◌, ◌++◌, All, length, arith, vec_capacity}
-use Rattle.gw_base.specs.declared.address.Addr.{Addr}
 use Rattle.node_core.specs.Log.{LogEntry, Began}
 use Rattle.node_core.specs.Value.{NodeValue}
-use Rattle.once_core.specs.Addresses.{addresses_from, gateway_address}
 use Rattle.once_core.specs.Beginning.{first_gateway, times_of}
 use Rattle.once_core.specs.Expired.{starts_in}
 use Rattle.once_core.specs.Gateway.{Gateway}
@@ -22,14 +20,6 @@ times_more (suc n) a = ap (λ l. a ∷ l) (times_more n a)
 pub times_length : {A : Type 0} (n : ℕ) (a : A) → length (times_of n a) ≡ n
 times_length zero a = refl
 times_length (suc n) a = ap (λ k. suc k) (times_length n a)
-
-pub addresses_more : (first count : ℕ) →
-    addresses_from first count ++ gateway_address (first + count) ∷ [] ≡ addresses_from first (suc count)
-addresses_more first zero = let same : first + 0 ≡ first = omega arith in ap (λ (g : ℕ). gateway_address g ∷ []) same
-addresses_more first (suc count) =
-    let same : first + suc count ≡ suc first + count = omega arith in
-    ap (λ (g : ℕ). gateway_address first ∷ (addresses_from (suc first) count ++ gateway_address g ∷ [])) same
-    ∙ ap (λ (l : List Addr). gateway_address first ∷ l) (addresses_more (suc first) count)
 
 -- one more node
 pub nodes_more : (gateways first count : ℕ) (log : List LogEntry) →
@@ -55,10 +45,6 @@ each_more setup first (suc count) g m (q ∷ rs) r each stands =
     let same : first + suc count ≡ suc first + count = omega arith in
     (each.0, each_more setup (suc first) count g m rs r each.1 (subst (λ (p : ℕ). MachineStands setup p g m r) same stands))
 
-pub addresses_length : (first count : ℕ) → length (addresses_from first count) ≡ count
-addresses_length first zero = refl
-addresses_length first (suc count) = ap (λ (n : ℕ). suc n) (addresses_length (suc first) count)
-
 -- The same with the places that a loop counts.
 
 pub each_next : (setup : Setup) (count : ℕ) (g : Gateway) (m : Machine) (rs : List real.Machine) (r : real.Machine) →
@@ -69,15 +55,6 @@ each_next setup count g m rs r each stands =
     let next : suc count ≡ count + 1 = omega arith in
     subst (λ (n : ℕ). EachStands setup 0 (times_of n g) (times_of n m) (rs ++ r ∷ [])) next
     (each_more setup 0 count g m rs r each (subst (λ (p : ℕ). MachineStands setup p g m r) here stands))
-
-pub addresses_next : (count : ℕ) (addresses : List Addr) → addresses ≡ addresses_from 0 count →
-    addresses ++ gateway_address count ∷ [] ≡ addresses_from 0 (count + 1)
-addresses_next count addresses are =
-    let here : count ≡ 0 + count = omega arith in
-    let next : suc count ≡ count + 1 = omega arith in
-    ap (λ (l : List Addr). l ++ gateway_address count ∷ []) are
-    ∙ ap (λ (g : ℕ). addresses_from 0 count ++ gateway_address g ∷ []) here ∙ addresses_more 0 count
-    ∙ ap (λ (n : ℕ). addresses_from 0 n) next
 
 pub nodes_next : (gateways count : ℕ) (nodes : List NodeValue) →
     nodes ≡ nodes_from gateways 0 (times_of count (Began ∷ [])) →

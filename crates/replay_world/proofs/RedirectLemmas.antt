@@ -1,13 +1,9 @@
 -- The requests of a gateway to all nodes that it has a path to.
 use Rattle.std.proofs.Common.{◌≡◌, ◌∙◌, refl, sym, ap, ℕ, zero, suc, ◌+◌, ◌%◌, ◌≤◌, false, List, [], ◌∷◌, ◌++◌, length, map, take, Option, Some, None, option_and_then, option_map, slice_get, take_all, arith}
-use Rattle.byteorder.specs.Endian.{big_bytes}
 use Rattle.gateway_book.specs.Told.{paths_of}
 use Rattle.gateway_book.specs.Value.{BookValue, history_of}
-use Rattle.gtpp_message.specs.Message.{RedirectionRequest}
-use Rattle.gtpp_message.specs.Writing.{written}
 use Rattle.gw_base.specs.Starts.{start_of}
 use Rattle.gw_base.specs.declared.address.Addr.{Addr}
-use Rattle.once_core.specs.Addresses.{gateway_address}
 use Rattle.once_core.specs.Answers.{redirected}
 use Rattle.once_core.specs.Gateway.{Gateway}
 use Rattle.once_core.specs.declared.message.Message.{Message}
@@ -20,14 +16,6 @@ use Rattle.replay_world.specs.Value.{Machine}
 use Rattle.replay_world.specs.declared.machine.Machine as real
 use Rattle.replay_world.specs.declared.machine.Site.{Site}
 use Rattle.replay_world.specs.declared.machine.Site.TheVariants.{Up, Down}
-
--- the address of the gateway that is recommended
-pub recommended : (number cause : ℕ) (to : Option ℕ) →
-    written number (RedirectionRequest cause
-    (option_map (λ ip. big_bytes 4 ip) (option_map (λ other. (gateway_address other).ip) to)))
-    ≡ written number (RedirectionRequest cause (option_map (λ other. big_bytes 4 (gateway_address other).ip) to))
-recommended number cause None = refl
-recommended number cause (Some to) = refl
 
 -- the request to the node with a path
 abbrev pub asks_path : ℕ → ℕ → ℕ → Option ℕ → BookValue → Addr → Message

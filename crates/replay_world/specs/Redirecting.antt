@@ -1,13 +1,11 @@
 -- What a gateway asks nodes to do that it has a path to.
 use Rattle.std.specs.Prelude.{ℕ, false, Option, None, option_map, slice_get}
-use Rattle.byteorder.specs.Endian.{big_bytes}
 use Rattle.gateway_book.specs.Told.{paths_of}
 use Rattle.gateway_book.specs.Value.{BookValue, history_of}
-use Rattle.gtpp_message.specs.Message.{RedirectionRequest}
-use Rattle.gtpp_message.specs.Writing.{written}
 use Rattle.gw_base.specs.Starts.{start_of}
 use Rattle.gw_base.specs.declared.address.Addr.{Addr}
-use Rattle.once_core.specs.Addresses.{gateway_address, node_at, port_at}
+use Rattle.once_core.specs.Addresses.{node_at, port_at}
+use Rattle.once_core.specs.Redirecting.{redirection}
 use Rattle.once_core.specs.declared.message.Message.{Message}
 
 -- the k-th path that it knows, with the start of its node
@@ -25,5 +23,5 @@ asking place cause number to path = record {
   start = path.1;
   number = number;
   named = None;
-  octets = written number (RedirectionRequest cause (option_map (λ other. big_bytes 4 (gateway_address other).ip) to));
+  octets = redirection number cause to;
 }

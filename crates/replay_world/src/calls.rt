@@ -18,7 +18,7 @@ ghost use Rattle.replay_world.specs.Stands.{MachineStands, StandsUp};
 ghost use Rattle.replay_world.specs.Value.{Machine as MachineValue};
 
 use crate::machine::{Came, Machine, Sent, Site};
-use crate::messages::{failure, is_response, kept};
+use crate::messages::{failure, kept};
 use area_disk::MemoryArea;
 use gateway_book::laws::{a_gateway_goes_as_armed, filed_records_stay, what_a_gateway_leaves};
 use gateway_book::{Book, Marked};
@@ -308,7 +308,7 @@ fn fail(alloc: Global, w: Waiting, messages: &mut Vec<Message>) -> Result<(), No
         messages.old.items ++ (if is_response w.message then failing w.message ∷ [] else [])) }
 {
     let mut message = w.message;
-    if !is_response(&message) {
+    if !message.is_response() {
         return Ok(());
     }
     message.octets = kept(alloc, &failure(message.number))?;

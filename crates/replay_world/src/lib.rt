@@ -27,7 +27,7 @@ mod redirecting;
 mod refusals;
 mod replay;
 mod report;
-mod settings;
+pub mod settings;
 mod settling;
 mod summary;
 mod taking;

@@ -27,12 +27,9 @@ use file_writer::Writer;
 use gateway_book::laws::{filed_records_stay, what_a_gateway_leaves, what_stands_is_ours};
 use gateway_book::{Book, Setup};
 use gw_base::NoMemory;
-use once_core::{Message, Waiting};
+use once_core::{Message, Waiting, gateway_address};
 use route_filter::Rules;
 use std::alloc::Global;
-
-/// The IPv4 address of the first gateway, 10.0.0.1.
-pub(crate) const FIRST_GATEWAY: u32 = 0x0A00_0001;
 
 /// A gateway that is up has its book open; one that is down has an area alone.
 #[derive(Drop)]
@@ -121,7 +118,7 @@ impl Machine {
             (first_gateway (rules_in setup)) first_machine) }
     {
         let setup = Setup {
-            address: FIRST_GATEWAY + u32::from(place),
+            address: gateway_address(place).ip,
             open_time: settings.limits.open_time,
         };
         let address = setup.address;

@@ -21,15 +21,14 @@ ghost use Rattle.replay_world.specs.Telling.{heeded_notices};
 ghost use Rattle.replay_world.specs.Value.{ReplayValue};
 
 use crate::gateway_lines::index_of;
-use crate::machine::FIRST_GATEWAY;
 use crate::messages::{Ends, is_expired_at_node, kept};
 use crate::notices::{
     print_done, print_down, print_drop, print_expired, print_refused, print_resolved, print_took,
 };
-use crate::replay::{Replay, gateway_address};
+use crate::replay::Replay;
 use gw_base::{NoMemory, Octets};
 use node_core::{Draft, DraftFault, Heeded, Outgoing, SubmitFault, a_node_stands_for_its_log};
-use once_core::Message;
+use once_core::{Message, gateway_address};
 use std::alloc::Global;
 
 /// The most packets of a node.
@@ -265,7 +264,7 @@ fn messages_of(
     let mut messages = Vec::new(alloc);
     for datagram in sent {
         // It is sent to a gateway.
-        let Ok(gateway) = u8::try_from(datagram.to.ip.saturating_sub(FIRST_GATEWAY)) else {
+        let Ok(gateway) = u8::try_from(datagram.to.ip.saturating_sub(gateway_address(0).ip)) else {
             return Err(NoMemory);
         };
         messages.push(Message {

@@ -1,7 +1,5 @@
 // A gateway asks nodes to send elsewhere.
-ghost use Rattle.std.specs.Prelude.{◌≡◌, IfOk, false, option_and_then, option_map};
-ghost use Rattle.gw_base.specs.declared.address.Addr.{Addr as AddrValue};
-ghost use Rattle.once_core.specs.Addresses.{gateway_address, port_at};
+ghost use Rattle.std.specs.Prelude.{◌≡◌, IfOk, false, option_and_then};
 ghost use Rattle.once_core.specs.Answers.{redirected};
 ghost use Rattle.once_core.specs.Gateway.{Gateway};
 ghost use Rattle.replay_world.specs.Called.{book_in};
@@ -11,16 +9,11 @@ ghost use Rattle.replay_world.specs.Setup.{Setup};
 ghost use Rattle.replay_world.specs.Stands.{MachineStands};
 ghost use Rattle.replay_world.specs.Value.{Machine as MachineValue};
 
-use crate::machine::{FIRST_GATEWAY, Machine, Site};
-use crate::messages::{kept, redirection};
-use crate::replay::FIRST_NODE;
+use crate::machine::{Machine, Site};
+use crate::messages::kept;
 use gw_base::{Addr, NoMemory, NodeId};
-use node_core::Port;
-use once_core::Message;
+use once_core::{Message, node_id, port_at, redirection};
 use std::alloc::Global;
-
-/// The second port of a node.
-const SECOND_PORT: u16 = 40_002;
 
 impl Machine {
     /// Asks all nodes that it has a path to to send elsewhere.
@@ -79,7 +72,6 @@ impl Machine {
 }
 
 /// The request to send elsewhere that goes to the node with this path and this start.
-#[tactic(auto, using(crate::proofs::RedirectLemmas::recommended))]
 fn redirection_to(
     alloc: Global,
     place: u8,
@@ -92,38 +84,18 @@ fn redirection_to(
     ensures { IfOk result (λ message. message ≡ asking place cause number to (path, start)) }
 {
     // Each path is a node's.
-    let Ok(node) = u8::try_from(path.ip.saturating_sub(FIRST_NODE)) else {
+    let Ok(node) = u8::try_from(path.ip.saturating_sub(node_id(0).0)) else {
         return Err(NoMemory);
     };
-    let octets = kept(alloc, &redirection(number, cause, ip_of(to)))?;
+    let octets = kept(alloc, &redirection(number, cause, to))?;
     Ok(Message {
         to_gateway: false,
         gateway: place,
         node,
-        port: port_of(path.port),
+        port: port_at(path),
         start,
         number: u64::from(number),
         named: None,
         octets,
     })
-}
-
-/// The address of the gateway in a place.
-fn ip_of(place: Option<u8>) -> Option<u32>
-    ensures { result ≡ option_map (λ other. (gateway_address other).ip) place }
-{
-    match place {
-        None => None,
-        Some(place) => Some(FIRST_GATEWAY + u32::from(place)),
-    }
-}
-
-fn port_of(port: u16) -> Port
-    ensures { (path : AddrValue) → path.port ≡ port → result ≡ port_at path }
-{
-    if port == SECOND_PORT {
-        Port::Second
-    } else {
-        Port::First
-    }
 }

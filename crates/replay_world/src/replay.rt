@@ -1,7 +1,7 @@
 // A replay: its gateways, nodes and messages.
 ghost use Rattle.std.specs.Prelude.{◌≡◌, ◌∷◌, ◌++◌, ◌<◌, ◌≤◌, [], ℕ, IfOk, List, OnOk, Some, length, vec_capacity, vec_len};
 ghost use Rattle.node_core.specs.Log.{Began};
-ghost use Rattle.once_core.specs.Addresses.{addresses_from, gateway_address, node_id};
+ghost use Rattle.once_core.specs.Addresses.{addresses_from};
 ghost use Rattle.once_core.specs.Beginning.{first_gateway, times_of};
 ghost use Rattle.once_core.specs.Gateway.{Gateway};
 ghost use Rattle.replay_world.specs.Played.{EachHandedOut, HasPlayed, HaveRoom};
@@ -11,23 +11,17 @@ ghost use Rattle.replay_world.specs.Setup.{Setup, rules_in, setup_of};
 ghost use Rattle.replay_world.specs.Stands.{EachStands, Stands, nodes_from};
 ghost use Rattle.replay_world.specs.Value.{Machine as MachineValue, ReplayValue, first_machine, replay_of};
 
-use crate::machine::{FIRST_GATEWAY, Machine};
+use crate::machine::Machine;
 use crate::notices::print_sent;
 use crate::settings::{Settings, rules_of};
 use area_disk::MemoryArea;
 use cdr_shelf::MemoryShelf;
-use gw_base::{Addr, Moment, NoMemory, NodeId, Octets};
+use gw_base::{Addr, Moment, NoMemory, Octets};
 use indexmap::IndexSet;
 use node_core::Node;
-use once_core::Message;
+use once_core::{Message, addresses_of, node_id};
 use std::alloc::Global;
 use world_script::Script;
-
-/// The IPv4 address of the first node, 10.0.1.1.
-pub(crate) const FIRST_NODE: u32 = 0x0A00_0101;
-
-/// The port of every gateway.
-const GATEWAY_PORT: u16 = 3_386;
 
 /// A network from a script.
 #[derive(Drop)]
@@ -54,23 +48,6 @@ pub struct Played {
     pub shelves: Vec<MemoryShelf>,
     /// Each node as it ended.
     pub nodes: Vec<Node>,
-}
-
-/// The address of the gateway in a place.
-pub(crate) fn gateway_address(place: u8) -> Addr
-    ensures { result ≡ gateway_address place }
-{
-    Addr {
-        ip: FIRST_GATEWAY + u32::from(place),
-        port: GATEWAY_PORT,
-    }
-}
-
-/// The address of the node in a place.
-pub(crate) fn node_id(place: u8) -> NodeId
-    ensures { result ≡ node_id place }
-{
-    NodeId(FIRST_NODE + u32::from(place))
 }
 
 impl Replay {
@@ -185,18 +162,6 @@ fn machines_of(
         gateways.push(machine)?;
     }
     Ok(gateways)
-}
-
-/// The addresses of so many gateways.
-fn addresses_of(alloc: Global, count: u8) -> Result<Vec<Addr>, NoMemory>
-    ensures are { IfOk result (λ addresses. addresses.items ≡ addresses_from 0 count) }
-    ensures count { IfOk result (λ addresses. length addresses.items ≡ count) }
-{
-    let mut addresses = Vec::new(alloc);
-    for place in 0..count {
-        addresses.push(gateway_address(place))?;
-    }
-    Ok(addresses)
 }
 
 /// So many nodes that know these gateways, which run.

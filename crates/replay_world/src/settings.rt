@@ -1,9 +1,9 @@
-// The settings of a script.
+//! The settings of a script.
 ghost use Rattle.std.specs.Prelude.{◌≡◌, ◌≤◌, ◌<◌, ◌+◌, ◌++◌, ℕ, IfOk, OnOk, IsSome, IsUtf8, length};
 ghost use Rattle.jiff_core.specs.Calendar.{IsWithin};
 ghost use Rattle.route_filter.specs.Rules.{most_rules, rule_of};
 ghost use Rattle.replay_world.specs.Settings.{AreInRange, AreSet, AreSound, IsInRange, rules_in_line};
-ghost use Rattle.replay_world.specs.Setup.{Setup, after_setting, default_setup, rules_said, setup_of};
+ghost use Rattle.replay_world.specs.Setup.{Setup, after_setting, default_limits, default_setup, rules_said, setup_of};
 
 use cdr_file::Offset16;
 use file_rotate::Limits;
@@ -48,11 +48,7 @@ impl Settings {
             gateways: 1,
             nodes: 1,
             size: 16_777_216,
-            limits: Limits {
-                size: 1_048_576,
-                count: 1_000,
-                open_time: 3_600,
-            },
+            limits: first_limits(),
             offset: offset(0),
         }
     }
@@ -77,8 +73,20 @@ impl Settings {
     }
 }
 
-/// An offset of so many minutes.
-fn offset(minutes: i16) -> Offset16
+/// When a file is closed where nothing is set: at 1 MiB, at 1,000 records, and an hour after it was
+/// opened.
+pub fn first_limits() -> Limits
+    ensures { result ≡ default_limits }
+{
+    Limits {
+        size: 1_048_576,
+        count: 1_000,
+        open_time: 3_600,
+    }
+}
+
+/// An offset of so many minutes, from -959 to 959.
+pub fn offset(minutes: i16) -> Offset16
     requires { IsWithin 959 minutes }
     ensures { result ≡ minutes }
 {
@@ -114,8 +122,8 @@ fn add(rules: &mut Rules, line: &Line) -> Result<(), NoMemory>
     }
 }
 
-/// Adds the rule that a text says.
-fn add_rule(rules: &mut Rules, text: &Octets) -> Result<(), NoMemory>
+/// Adds the rule that a text says behind those before it.
+pub fn add_rule(rules: &mut Rules, text: &Octets) -> Result<(), NoMemory>
     requires rule { IsSome (rule_of text.now) }
     requires text { IsUtf8 text.now }
     requires room { length rules.old < most_rules }

@@ -5,7 +5,6 @@ ghost use Rattle.gateway_book.specs.Calls.{taken};
 ghost use Rattle.gateway_book.specs.Preparing.{prepared_of};
 ghost use Rattle.gateway_book.specs.Up.{fortune_by, ready_sequel_of};
 ghost use Rattle.gateway_book.specs.Value.{history_of};
-ghost use Rattle.once_core.specs.Addresses.{node_address, port_number};
 ghost use Rattle.once_core.specs.Expired.{is_expired};
 ghost use Rattle.once_core.specs.Gateway.{Gateway};
 ghost use Rattle.once_core.specs.Messages.{answering};
@@ -17,20 +16,13 @@ ghost use Rattle.replay_world.specs.Value.{Machine as MachineValue};
 
 use crate::machine::{Came, Machine, Sent, Site};
 use crate::messages::{Ends, is_expired, kept};
-use crate::replay::FIRST_NODE;
 use area_disk::MemoryArea;
 use gateway_book::laws::{a_gateway_goes_as_armed, filed_records_stay};
 use gateway_book::{Book, Outcome, Prepared, Receipt, prepare};
 use gtpp_message::Why;
 use gw_base::{Addr, Caller, Moment, NoMemory};
-use node_core::Port;
-use once_core::{Message, Waiting};
+use once_core::{Message, Waiting, node_address};
 use std::alloc::Global;
-
-/// The ports of a node.
-const FIRST_PORT: u16 = 40_001;
-
-const SECOND_PORT: u16 = 40_002;
 
 /// What is told of a message.
 #[derive(Clone, Copy, PartialEq, Eq)]
@@ -201,7 +193,8 @@ impl Machine {
             return Outcome::NoMemory;
         };
         let mut book = book;
-        let outcome = take(&mut book, sender(message), &request, now);
+        let from = node_address(message.node, message.port);
+        let outcome = take(&mut book, from, &request, now);
         self.site = Some(Site::Up(book));
         outcome
     }
@@ -300,24 +293,5 @@ fn ending_of(came: Came, why: Why) -> Ending
     match came {
         Came::Halted => Ending::Quiet,
         Came::Went | Came::Failed => Ending::Dropped(why),
-    }
-}
-
-/// Where a message of a node is from.
-fn sender(message: &Message) -> Addr
-    ensures { result ≡ node_address message.now.node message.now.port }
-{
-    Addr {
-        ip: FIRST_NODE + u32::from(message.node),
-        port: port_number(message.port),
-    }
-}
-
-fn port_number(port: Port) -> u16
-    ensures { result ≡ port_number port }
-{
-    match port {
-        Port::First => FIRST_PORT,
-        Port::Second => SECOND_PORT,
     }
 }

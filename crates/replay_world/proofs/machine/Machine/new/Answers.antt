@@ -1,4 +1,4 @@
-use Rattle.std.proofs.Common.{◌≡◌, ◌∙◌, ◌+◌, refl, sym, ap, subst, arith}
+use Rattle.std.proofs.Common.{◌≡◌, ◌∙◌, refl, sym, ap, subst, arith}
 use Rattle.area_disk.specs.Armed.{IsArmed}
 use Rattle.area_disk.specs.Armed.Armed.{Nothing}
 use Rattle.area_disk.specs.Plan.{Schedule, schedule_of}
@@ -17,16 +17,16 @@ use Rattle.replay_world.proofs.machine.Machine.new.Goals as goal
 pub returns : goal.returns
 returns c = λ setup is rules.
     let here : BookSetup =
-    record { address = 167772161 + c.from.result; open_time = c.args.settings.now.limits.open_time } in
+    record { address = c.gateway_address.result.ip; open_time = c.args.settings.now.limits.open_time } in
     let there : BookSetup =
     record { address = (gateway_address c.args.place).ip; open_time = setup.limits.open_time } in
     let named : here ≡ there =
-    λ i. record { address = 167772161 + c.from.ensures i; open_time = (sym is.limits i).open_time } in
+    λ i. record { address = (c.gateway_address.ensures i).ip; open_time = (sym is.limits i).open_time } in
     let set : settings_in c.new-writer.result ≡ files_in setup c.args.place =
     c.new-writer.ensures.settings ∙ (λ i. record {
       rules = sym rules i;
       limits = sym is.limits i;
-      file = record { offset = sym is.offset i; address = 167772161 + c.from.ensures i };
+      file = record { offset = sym is.offset i; address = (c.gateway_address.ensures i).ip };
     }) in
     let armed : IsArmed Nothing (shelf_tells.plan c.in-Ok.shelf) =
     subst (λ (q : Schedule). IsArmed Nothing q) (sym c.in-Ok.ensures.plan)

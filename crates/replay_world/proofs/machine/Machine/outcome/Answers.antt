@@ -10,7 +10,7 @@ returns c = λ setup place g m stands runs some.
     let at : c.args.self.now.site ≡ Some (Up c.in-Some-Up.book) =
     cc (c.in-Some-Up.ensures.value, c.in-Some-Up.field-0-is) in
     let up = subst (λ (x : Option Site). SiteStands setup place g m x) at stands.site in
-    outcome_called setup place g m c.args.message.now c.args.now c.sender.result c.prepare-request.result c.args.self.now
+    outcome_called setup place g m c.args.message.now c.args.now c.node_address-from.result c.prepare-request.result c.args.self.now
     (record c.args.self.now { site = Some (Up c.take-outcome.new.book) }) c.take-outcome.new.book c.take-outcome.result
-    c.filed_records_stay.ensures.items stands runs c.sender.ensures (c.prepare-request.ensures ∙ c.octets.ensures) refl
+    c.filed_records_stay.ensures.items stands runs c.node_address-from.ensures.address (c.prepare-request.ensures ∙ c.octets.ensures) refl
     (c.take-outcome.ensures setup place g m up some)

@@ -14,7 +14,7 @@ returns-clause-stands c =
     let each = subst (λ (n : ℕ). EachStands s 0 (times_of n (first_gateway (rules_in s))) (times_of n first_machine)
     c.in_ok-gateways.gateways.items) (sym set.gateways) (c.in_ok-gateways.ensures set) in
     let nodes : c.in_ok-nodes.nodes.items ≡ nodes_from s.gateways 0 (times_of s.nodes (Began ∷ [])) =
-    c.in_ok-nodes.ensures c.of-settings.result.gateways (c.deref.ensures.value ∙ c.in_ok-addresses.ensures.are)
+    c.in_ok-nodes.ensures c.of-settings.result.gateways (c.deref.ensures.value ∙ c.in_ok-addresses.ensures.addresses)
     ∙ ap (λ (n : ℕ). nodes_from n 0 (times_of c.of-settings.result.nodes (Began ∷ []))) (sym set.gateways)
     ∙ ap (λ (n : ℕ). nodes_from s.gateways 0 (times_of n (Began ∷ []))) (sym set.nodes) in
     begun_stands s _ each (search rules) (search rules) nodes (search rules) (search rules) (search rules) (search rules)
