@@ -10,5 +10,6 @@ pub mod AllLemmas
 pub mod WriterLemmas
 pub mod PlacesLemmas
 pub mod RecordsLemmas
+pub mod OccupiedLemmas
 pub mod FirstFilesLemmas
 pub mod OfStreamsLemmas

@@ -13,7 +13,7 @@ use Rattle.gw_base.specs.declared.kind.CdrKind.{CdrKind}
 use Rattle.gw_base.specs.declared.tag.Tag.{Tag}
 use Rattle.route_filter.specs.Rules.{stream_of}
 use Rattle.route_filter.specs.declared.rule.Rule.{Rule}
-use Rattle.file_writer.specs.Places.{FilePlace, HasPlace, in_run, nth_place, place_in, place_of_item, records_to, runs_of}
+use Rattle.file_writer.specs.Places.{FilePlace, HasPlace, in_run, nth_place, place_in, place_of_item, record_at, records_to, run_with, runs_of}
 use Rattle.file_writer.specs.Streams.{Settings, filed_record, record_if, stream_division, stream_item, stream_items}
 
 -- ---- elements of joined lists
@@ -38,7 +38,7 @@ slice_get-after (x ∷ xs) ys (suc i) h = slice_get-after xs ys i (omega (arith,
 
 -- ---- all records of runs
 
-abbrev all_of : {P : Type 0} → List (List (Filed P)) → List (Filed P)
+abbrev pub all_of : {P : Type 0} → List (List (Filed P)) → List (Filed P)
 all_of [] = []
 all_of (run ∷ later) = run ++ all_of later
 
@@ -93,6 +93,19 @@ placed s q (run ∷ later) n h =
           there = ap (λ (i : ℕ). in_run r.place.index (slice_get (run ∷ later) i)) (next_run q r.place.sequence r.from)
               ∙ r.there ∙ sym (slice_get-after run (all_of later) n past);
         }
+
+before_it : (before : ℕ) → before ≡ suc before - 1
+before_it before = omega arith
+
+-- numbers of files count from 1
+run_is : {P : Type 0} (sequence : ℕ) (runs : List (List (Filed P))) → 1 ≤ sequence
+    → run_with sequence runs ≡ slice_get runs (sequence - 1)
+run_is zero runs h = let no : ⊥ = omega (arith, h) in absurd no
+run_is (suc before) runs h = ap (λ (n : ℕ). slice_get runs n) (before_it before)
+
+stands : {P : Type 0} (s : ℕ) (runs : List (List (Filed P))) (n : ℕ) (p : Placed s 1 runs n)
+    → in_run p.place.index (run_with p.place.sequence runs) ≡ slice_get (all_of runs) n
+stands s runs n p = ap (in_run p.place.index) (run_is p.place.sequence runs p.from) ∙ p.there
 
 -- ---- one record at a place
 
@@ -172,7 +185,7 @@ records_of-append (x ∷ xs) ys =
     ap (λ (rest : List (Filed _)). record_in x ++ rest) (records_of-append xs ys)
     ∙ sym (append_assoc (record_in x) (records_of xs) (records_of ys))
 
-length-records : {P : Type 0} (xs ys : List (stream.Item P)) → length (records_of (xs ++ ys))
+pub length-records : {P : Type 0} (xs ys : List (stream.Item P)) → length (records_of (xs ++ ys))
     ≡ length (records_of xs) + length (records_of ys)
 length-records xs ys = ap length (records_of-append xs ys) ∙ length-append (records_of xs) (records_of ys)
 
@@ -237,6 +250,16 @@ HasAll = (settings : Settings) (s : ℕ) (items : List Item)
     ++ (stream_division settings s items).left_open
     ≡ records_of (stream_items settings.rules s items)
 
+-- a record of a stream stands at its place
+stands_there : (settings : Settings) (items : List Item) (s n : ℕ) (filed : Filed (List ℕ))
+    (p : Placed s 1 (runs_of (stream_division settings s items)) n)
+    → slice_get (all_of (runs_of (stream_division settings s items))) n ≡ Some filed
+    → record_at settings items p.place ≡ Some filed
+stands_there settings items s n filed p is =
+    ap (λ (t : ℕ). in_run p.place.index (run_with p.place.sequence (runs_of (stream_division settings t items))))
+    p.stream
+    ∙ stands s (runs_of (stream_division settings s items)) n p ∙ is
+
 pub place-has : HasAll → (settings : Settings) (items : List Item) (k : ℕ) (kind : CdrKind) (tag : Option Tag)
     (octets : List ℕ) (moment : ℕ)
     → slice_get items k ≡ Some (item.Part kind tag octets moment) → HasPlace settings items k kind tag octets moment
@@ -261,10 +284,8 @@ place-has law settings items k kind tag octets moment h =
       place = p.place;
       found = ap (λ (o : Option Item). place_of_item settings items k o) h ∙ p.found;
       stream = p.stream;
-      there = ap
-          (λ (t : ℕ). in_run p.place.index (slice_get (runs_of (stream_division settings t items))
-          (p.place.sequence - 1))) p.stream
-          ∙ p.there ∙ ap (λ (records : List (Filed (List ℕ))). slice_get records n) all ∙ there;
+      there = stands_there settings items s n filed p
+          (ap (λ (records : List (Filed (List ℕ))). slice_get records n) all ∙ there);
     }
 
 -- an item with a place is a record of its stream

@@ -1,6 +1,6 @@
 -- Where each filed record stands: its stream, its file's number in the sequence of the stream, and how many records
 -- stand before it in the file. Records of a file that is still open have places too.
-use Rattle.std.specs.Prelude.{◌≡◌, ℕ, ◌+◌, ◌-◌, nat_lt, if◌then◌else◌, List, [], ◌∷◌, ◌++◌, length, map, take, slice_get, Option, None, Some}
+use Rattle.std.specs.Prelude.{◌≡◌, ℕ, zero, suc, ◌+◌, ◌-◌, nat_lt, if◌then◌else◌, List, [], ◌∷◌, ◌++◌, length, map, take, slice_get, Option, None, Some}
 use Rattle.file_rotate.specs.Division.{Division}
 use Rattle.file_rotate.specs.Items.{Filed, records_of}
 use Rattle.gw_base.specs.declared.item.Item.{Item}
@@ -51,10 +51,15 @@ abbrev pub in_run : {P : Type 0} → ℕ → Option (List (Filed P)) → Option 
 in_run index None = None
 in_run index (Some run) = slice_get run index
 
+-- the run of the file with this number in the sequence of its stream, which counts from 1
+abbrev pub run_with : {P : Type 0} → ℕ → List (List (Filed P)) → Option (List (Filed P))
+run_with zero runs = None
+run_with (suc before) runs = slice_get runs before
+
 -- the record at a place
 abbrev pub record_at : Settings → List Item → FilePlace → Option (Filed (List ℕ))
 record_at settings items place =
-    in_run place.index (slice_get (runs_of (stream_division settings place.stream items)) (place.sequence - 1))
+    in_run place.index (run_with place.sequence (runs_of (stream_division settings place.stream items)))
 
 -- the record that is the item with this number has a place, in the stream that the rules choose, and stands there
 pub record HasPlace (settings : Settings) (items : List Item) (k : ℕ) (kind : CdrKind) (tag : Option Tag)

@@ -1,10 +1,11 @@
 //! Laws of the places of records. Each holds for all items, and stands on a function that does nothing.
 ghost use Rattle.std.specs.Prelude.{◌≡◌, ◌++◌, ℕ, List, Option, Some, slice_get};
+ghost use Rattle.file_rotate.specs.Items.{Filed};
 ghost use Rattle.gw_base.specs.declared.item.Item.{Item};
 ghost use Rattle.gw_base.specs.declared.item.Item.TheVariants as item;
 ghost use Rattle.gw_base.specs.declared.kind.CdrKind.{CdrKind};
 ghost use Rattle.gw_base.specs.declared.tag.Tag.{Tag};
-ghost use Rattle.file_writer.specs.Places.{FilePlace, HasPlace, place_in};
+ghost use Rattle.file_writer.specs.Places.{FilePlace, HasPlace, place_in, record_at};
 ghost use Rattle.file_writer.specs.Streams.{Settings};
 
 use file_rotate::{division_closes_where_files_end, division_goes_on};
@@ -27,6 +28,16 @@ pub fn each_record_has_one_place()
         → HasPlace settings items k kind tag octets moment }
     ensures only { (settings : Settings) (items : List Item) (k l : ℕ) (place : FilePlace)
         → place_in settings items k ≡ Some place → place_in settings items l ≡ Some place → k ≡ l }
+{
+    division_closes_where_files_end::<Octets>();
+}
+
+/// Where the files have a record, it is that of an item: one with this place, and by the law before the only one. So
+/// the files have no record but those of the items.
+pub fn each_place_is_of_an_item()
+    ensures { (settings : Settings) (items : List Item) (place : FilePlace) (filed : Filed (List ℕ))
+        → record_at settings items place ≡ Some filed
+        → (k : ℕ) × (place_in settings items k ≡ Some place) }
 {
     division_closes_where_files_end::<Octets>();
 }
