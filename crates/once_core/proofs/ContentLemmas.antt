@@ -1,9 +1,14 @@
--- What is filed under a key is the record with its index of a packet that was sent with the key's number.
+-- What is filed under a key is the record with its index of a packet that was sent with the key's number, in the
+-- packet's kind.
 use Rattle.std.proofs.Common.{◌≡◌, ⊎_elim, ℕ, ◌==◌, Bool, true, false, List, [], ◌∷◌, ◌++◌, Option, Some, None, Contains, slice_get, refl, sym, ap, subst, ◌∙◌}
 use Rattle.std.proofs.lemmas.Bool.{eqb-true}
 use Rattle.std.proofs.lemmas.List.{append-nil}
 use Rattle.std.proofs.lemmas.List.Elements.{Contains-append_cases}
+use Rattle.std.specs.List.{enumerate_from}
 use Rattle.std.specs.Option.{option_map_or}
+use Rattle.std.specs.Prelude.{option_map}
+use Rattle.gtpp_message.specs.Packet.{PacketForm, packet_of}
+use Rattle.gw_base.specs.CdrKind.{kind_of}
 use Rattle.gw_base.specs.History.{present_state, state_of}
 use Rattle.gw_base.specs.Lists.{once}
 use Rattle.gw_base.specs.declared.address.NodeId.{NodeId}
@@ -13,18 +18,31 @@ use Rattle.gw_base.specs.declared.history.HistoryAct.TheVariants as act
 use Rattle.gw_base.specs.declared.history.HistoryEntry.{HistoryEntry}
 use Rattle.gw_base.specs.declared.history.PacketKey.{PacketKey}
 use Rattle.gw_base.specs.declared.key_state.KeyState.TheVariants.{Held}
-use Rattle.gateway_book.specs.Filed.{filed, filed_by, filed_by_act, held_packet, present_key, records_of, released_by, released_records}
+use Rattle.gateway_book.specs.Filed.{filed, filed_by, filed_by_act, filed_record, held_packet, present_key, records_in, records_of, released_by, released_records}
 use Rattle.gateway_book.specs.FiledLaws.{along-append}
 use Rattle.gateway_book.specs.Once.{same_key}
 use Rattle.gateway_book.specs.declared.filing.FiledRecord.{FiledRecord}
 use Rattle.once_core.specs.Epochs.{StartsRise}
 use Rattle.once_core.specs.Happenings.{Letter, Sends}
-use Rattle.once_core.specs.OncePlaced.{records_within}
+use Rattle.once_core.specs.OncePlaced.{kind_within, records_within}
 use Rattle.once_core.specs.Resting.{Rests, RestsBy}
 use Rattle.once_core.proofs.CountLemmas.{Counted, IsBacked, IsHere, backed_at, backed_stays, counted, fresh_here, held_here, is_here, same_here, starts_rise}
 use Rattle.once_core.proofs.EachLemmas.{by_each}
 use Rattle.once_core.proofs.FiledLemmas.{record_within}
 use Rattle.once_core.proofs.ListLemmas.{in_none}
+use Rattle.once_core.proofs.WaitingLemmas.{of_map}
+
+-- a record of a packet is filed in the packet's kind
+kept_kind : (k : PacketKey) (moment : ℕ) (octets : List ℕ) (r : FiledRecord) → Contains (records_of k moment octets) r
+    → kind_within octets ≡ Some r.kind
+kept_kind k moment octets r is = by_form (packet_of octets) is
+  where
+    by_form : (form : Option PacketForm) → Contains (records_in k moment form) r
+        → option_map (λ (form : PacketForm). kind_of form.format form.version) form ≡ Some r.kind
+    by_form None is = absurd (in_none r is)
+    by_form (Some form) is =
+        let from = of_map (filed_record k moment form.format form.version) (enumerate_from 0 form.records) r is in
+        ap (λ (f : FiledRecord). Some f.kind) from.2
 
 module _ (letters : List Letter) (gateway : ℕ) (key : PacketKey) where
   -- the request that brought a record
@@ -33,10 +51,17 @@ module _ (letters : List Letter) (gateway : ℕ) (key : PacketKey) where
     pub octets : List ℕ
     pub backed : IsBacked letters gateway key h key.number (Sends plain octets)
     pub at : slice_get (records_within octets) filing.index ≡ Some filing.octets
+    pub kind : kind_within octets ≡ Some filing.kind
 
   brought_stays : (h g : List HistoryEntry) (filing : FiledRecord) → IsBrought h filing → IsBrought (h ++ g) filing
   brought_stays h g filing is =
-      record { plain = is.plain; octets = is.octets; backed = backed_stays letters gateway key h g key.number (Sends is.plain is.octets) is.backed; at = is.at }
+      record {
+        plain = is.plain;
+        octets = is.octets;
+        backed = backed_stays letters gateway key h g key.number (Sends is.plain is.octets) is.backed;
+        at = is.at;
+        kind = is.kind;
+      }
 
   abbrev Brings : List HistoryEntry → List FiledRecord → Type 0
   Brings h filings = (filing : FiledRecord) → Contains filings filing → same_key filing.key key ≡ true → IsBrought h filing
@@ -72,6 +97,7 @@ module _ (letters : List Letter) (gateway : ℕ) (key : PacketKey) where
             octets = as_held.0;
             backed = backed_stays letters gateway key h (entry moment who (act.Release n xs) ∷ []) key.number (Sends false as_held.0) as_held.3;
             at = ap (λ (os : List ℕ). slice_get (records_within os) filing.index) octets_are ∙ there.0;
+            kind = ap kind_within octets_are ∙ kept_kind (present_key h n x) moment octets filing kept;
           }
 
   by_act : (h : List HistoryEntry) (moment : ℕ) (who : Caller) (a : HistoryAct) → StartsRise h → RestsBy letters gateway h a → Counted letters gateway key 0 h (state_of key h)
@@ -84,6 +110,7 @@ module _ (letters : List Letter) (gateway : ℕ) (key : PacketKey) where
         octets = packet;
         backed = backed_at letters gateway key 0 h (entry moment who (act.File n x packet)) n x (Sends true packet) rise is rests.1;
         at = there.0;
+        kind = kept_kind (present_key h n x) moment packet filing kept;
       }
   by_act h moment who (act.Release n xs) rise rests so_far filing kept same =
       by_release h moment who n xs rests.names.number rise rests.names.alone rests.names.held so_far filing kept same

@@ -27,11 +27,16 @@ use Rattle.once_core.proofs.WaitingLemmas.{of_map}
 
 -- ---- each item has its source
 
-abbrev IsOf : Option FiledRecord → Item → Type 0
-IsOf None i = Unit {0}
+abbrev pub IsMark : Item → Type 0
+IsMark (item.Part kind tag octets moment) = ⊥
+IsMark (item.Tick moment) = Unit {0}
+IsMark (item.Close moment) = Unit {0}
+
+abbrev pub IsOf : Option FiledRecord → Item → Type 0
+IsOf None i = IsMark i
 IsOf (Some r) i = i ≡ part_of r
 
-abbrev AreOf : List (Option FiledRecord) → List Item → Type 0
+abbrev pub AreOf : List (Option FiledRecord) → List Item → Type 0
 AreOf [] [] = Unit {0}
 AreOf [] (i ∷ is) = ⊥
 AreOf (s ∷ ss) [] = ⊥
@@ -59,7 +64,7 @@ of_act before moment (act.Cancel n xs) = tt
 of_act before moment act.Tick = (tt, tt)
 of_act before moment act.Close = (tt, tt)
 
-of_history : (before h : List HistoryEntry) → AreOf (along sources_by before h) (along items_by before h)
+pub of_history : (before h : List HistoryEntry) → AreOf (along sources_by before h) (along items_by before h)
 of_history before [] = tt
 of_history before (e ∷ h) =
     of_append (sources_by before e) (items_by before e) (along sources_by (before ++ e ∷ []) h) (along items_by (before ++ e ∷ []) h)
@@ -192,7 +197,8 @@ filed_act before moment (act.Cancel n xs) r is = absurd (in_none (Some r) is)
 filed_act before moment act.Tick r is = absurd (no_mark r is)
 filed_act before moment act.Close r is = absurd (no_mark r is)
 
-filed_along : (before h : List HistoryEntry) (r : FiledRecord) → Contains (along sources_by before h) (Some r) → Contains (along filed_by before h) r
+pub filed_along : (before h : List HistoryEntry) (r : FiledRecord) → Contains (along sources_by before h) (Some r)
+    → Contains (along filed_by before h) r
 filed_along before [] r is = absurd (in_none (Some r) is)
 filed_along before (e ∷ h) r is = ⊎_elim
     (λ here. Contains-append_left (filed_by before e) (along filed_by (before ++ e ∷ []) h) r (filed_act before e.moment e.act r here))

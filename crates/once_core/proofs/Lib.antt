@@ -12,6 +12,7 @@ pub mod AdmittedLemmas
 pub mod TableLemmas
 pub mod ApartLemmas
 pub mod FilePlaceLemmas
+pub mod OccupiedLemmas
 pub mod ForwardLemmas
 pub mod AnswerLemmas
 pub mod SceneLemmas

@@ -21,7 +21,7 @@ use Rattle.node_core.specs.declared.copy.Verdict.TheVariants as verdict
 use Rattle.once_core.specs.Epochs.{epoch_with, key_in, state_with, times_with}
 use Rattle.once_core.specs.Following.{Follows, HasCopyAt, MaySend}
 use Rattle.once_core.specs.Happenings.{Asks, Happening, Orders, Request, Scene, Sends}
-use Rattle.once_core.specs.OncePlaced.{IsFiledUnder, IsOnce, is_rejected, places_of, record_count, records_within}
+use Rattle.once_core.specs.OncePlaced.{IsFiledUnder, IsOnce, is_rejected, kind_within, places_of, record_count, records_within}
 use Rattle.gateway_book.specs.declared.filing.FiledRecord.{FiledRecord}
 use Rattle.once_core.proofs.ContentLemmas.{brought}
 use Rattle.once_core.specs.Resting.{IsAsked, IsState, Rests, RestsBy, SceneHolds}
@@ -345,6 +345,16 @@ module _ (scene : Scene) (holds : SceneHolds scene) (node start : ℕ) (values :
       let copy_is = sent_copy packet copy of.plain of.octets is (asked_here copy.gateway copy.number under.epoch (Sends of.plain of.octets) copy.number under.begun of.backed) in
       ap (λ (os : List ℕ). slice_get (records_within os) filing.index) copy_is.1 ∙ of.at
 
+  kind : (packet : PacketState) (copy : PacketCopy) (filing : FiledRecord) → IsCopyOf packets packet copy
+      → IsFiledUnder (firm_of copy.gateway) node start copy.number filing
+      → kind_within (values packet.number) ≡ Some filing.kind
+  kind packet copy filing is under =
+      let of = brought scene.letters copy.gateway (key_in node copy.number under.epoch) (firm_of copy.gateway)
+      (rests copy.gateway) filing under.kept under.key_is in
+      let copy_is = sent_copy packet copy of.plain of.octets is
+      (asked_here copy.gateway copy.number under.epoch (Sends of.plain of.octets) copy.number under.begun of.backed) in
+      ap kind_within copy_is.1 ∙ of.kind
+
   pub is_once : (packet : PacketState) → Contains packets packet → IsOnce firm_of node start (values packet.number) packet
   is_once packet kept = record {
     resolved = resolved packet kept;
@@ -352,6 +362,9 @@ module _ (scene : Scene) (holds : SceneHolds scene) (node start : ℕ) (values :
     rejected = λ k d lt. rejected (get_or packet.copies k d);
     content = λ k d lt filing under.
         content packet (get_or packet.copies k d) filing (record { kept = kept; among = Contains-get_or packet.copies k d lt }) under;
+    kind = λ k d lt filing under.
+        kind packet (get_or packet.copies k d) filing
+        (record { kept = kept; among = Contains-get_or packet.copies k d lt }) under;
   }
 
 pub each_of_scene : (scene : Scene) (node start : ℕ) (values : ℕ → List ℕ) (packets : List PacketState) → SceneHolds scene → Follows (scene.deeds node) start values packets

@@ -17,14 +17,16 @@ use Rattle.node_core.specs.Packets.{is_resolved}
 use Rattle.node_core.specs.declared.copy.PacketCopy.{PacketCopy}
 use Rattle.once_core.specs.Addresses.{node_ip}
 use Rattle.once_core.specs.Epochs.{epoch_with, key_in, state_with, times_with}
-use Rattle.once_core.specs.FilePlaces.{IsRecordAt, file_places}
-use Rattle.once_core.specs.Followed.{Followed}
+use Rattle.once_core.specs.FilePlaces.{HasRecordAt, IsOfRecord, IsRecordAt, file_places}
+use Rattle.once_core.specs.Followed.{Followed, all_followed}
 use Rattle.once_core.specs.Once.{GivenRecord, IsFiledAs, IsFiledFor, IsFollowed, Once, firm_in}
 use Rattle.once_core.specs.OncePlaced.{is_rejected, places_of, record_count}
 use Rattle.once_core.specs.StandsOnce.{CountsFor, IsPacketRecordAt, StandsOnce, copy_places, places_at, place_count}
-use Rattle.once_core.specs.World.{World}
+use Rattle.once_core.specs.Told.{WasSubmitted}
+use Rattle.once_core.specs.World.{World, log_at}
 use Rattle.once_core.proofs.ApartLemmas.{key_of, own_index}
 use Rattle.once_core.proofs.ListLemmas.{in_none}
+use Rattle.once_core.proofs.OccupiedLemmas.{number_of}
 
 -- as many places as it was filed times
 abbrev pub Counts : Settings → Type 0
@@ -38,6 +40,15 @@ Apart settings = (key other : PacketKey) (index j : ℕ) (h : List HistoryEntry)
 -- and the record at each
 abbrev pub Stands : Settings → Type 0
 Stands settings = (key : PacketKey) (index : ℕ) (h : List HistoryEntry) (place : FilePlace) → Contains (file_places settings key index h) place → IsRecordAt settings key index h place
+
+-- each place of the files is that of a record that was filed
+abbrev pub Occupied : Settings → Type 0
+Occupied settings =
+    (h : List HistoryEntry) (place : FilePlace) → HasRecordAt settings h place → IsOfRecord settings h place
+
+-- each record that was filed was submitted
+abbrev pub Submitted : World → Type 0
+Submitted w = (q : ℕ) (filing : FiledRecord) → Contains (filed (firm_in w q)) filing → WasSubmitted w q filing
 
 count_is : (o : Option PacketForm) → option_map_or (λ form. length form.records) o 0 ≡ length (option_map_or (λ (form : PacketForm). form.records) o [])
 count_is None = refl
@@ -103,6 +114,7 @@ module _ (settings : ℕ → Settings) (counts : (q : ℕ) → Counts (settings 
               filing = stands.filing;
               there = stands.there;
               octets = ap (slice_get packet.form.records) (sym (eqb-true stands.filing.index index parts.1)) ∙ once.octets node packet copy stands.filing is filed_for;
+              kind = once.kind node packet copy stands.filing is filed_for;
             }
 
   -- the place is one of the record under its key
@@ -155,11 +167,42 @@ module _ (settings : ℕ → Settings) (counts : (q : ℕ) → Counts (settings 
       (filed_as gateway place one a at_a stands.filing stands.kept stands.is)
       (filed_as gateway place other b at_b stands.filing stands.kept is_b)
 
-  pub stands_once : StandsOnce settings w
-  stands_once = record {
+  -- ---- each place of the files
+
+  nothing_else : ((q : ℕ) → Occupied (settings q)) → Submitted w → (gateway : ℕ) (place : FilePlace)
+      → HasRecordAt (settings gateway) (firm_in w gateway) place
+      → (given : GivenRecord) × CountsFor settings w gateway place given
+  nothing_else occupied submitted gateway place has =
+      let of = occupied gateway (firm_in w gateway) place has in
+      let was = submitted gateway of.filing of.kept in
+      let number = number_of (all_followed (log_at w was.node)) was.packet was.followed in
+      let index : ℕ = of.filing.index in
+      let q : ℕ = was.copy.gateway in
+      let own : PacketKey = key_in (node_ip was.node) was.copy.number was.filed_for.epoch in
+      let key = (key_of own index of.filing was.filed_for.key_is).0 in
+      let here : Contains (file_places (settings q) own index (firm_in w q)) place =
+      subst (λ (k : PacketKey). Contains (file_places (settings q) k index (firm_in w q)) place) key
+      (subst (λ (g : ℕ). Contains (file_places (settings g) of.filing.key index (firm_in w g)) place)
+      (sym was.gateway_is) of.here) in (
+        record { node = was.node; packet = number.0; index = index },
+        record {
+          packet = was.packet;
+          packet_is = number.1;
+          copy = was.copy;
+          copy_is = was.filed_for.copy_is;
+          gateway_is = was.gateway_is;
+          there = subst (λ (o : Option ℕ). Contains (option_map_or (λ epoch. file_places (settings q)
+              (key_in (node_ip was.node) was.copy.number epoch) index (firm_in w q)) o []) place)
+              (sym was.filed_for.begun) here;
+        },
+      )
+
+  pub stands_once : ((q : ℕ) → Occupied (settings q)) → Submitted w → StandsOnce settings w
+  stands_once occupied submitted = record {
     resolved = λ node packet index is. resolved node packet index is;
     at_most = λ node packet index is. at_most node packet index is;
     rejected = λ node packet index copy is. rejected node packet index is copy;
     octets = λ node packet index copy place is. octets node packet index is copy place;
     apart = apart;
+    nothing_else = nothing_else occupied submitted;
   }

@@ -40,7 +40,7 @@ use Rattle.once_core.proofs.OnceLemmas.{first_sealed}
 use Rattle.once_core.proofs.RoleLemmas.{IsCopyOf}
 use Rattle.once_core.proofs.TurnPlays.{Laws}
 use Rattle.once_core.proofs.WaitingLemmas.{of_map, passed}
-use Rattle.once_core.proofs.WorldOnceLemmas.{firm_at, in_start, it_follows, octets_placed, some_log, values_in, world_made}
+use Rattle.once_core.proofs.WorldOnceLemmas.{firm_at, in_start, it_follows, kind_placed, octets_placed, some_log, values_in, world_made}
 use Rattle.once_core.proofs.WorldPlays.{Made}
 
 -- ---- the packets of one start
@@ -226,6 +226,7 @@ module _ (laws : Laws) (w : World) (made : Made (values_in w) w) where
             gateway_is = at.gateway_is;
             filed_for = filed_for;
             octets = octets_placed laws w made node own.of own.followed at.copy filing filed_for;
+            kind = kind_placed laws w made node own.of own.followed at.copy filing filed_for;
           }
 
       by : (filing.key.node.0 < first_node_ip) ⊎ (first_node_ip ≤ filing.key.node.0) → WasSubmitted w place filing

@@ -1,11 +1,14 @@
 -- Each world is made by happenings, and so it files each record once.
 use Rattle.std.proofs.Common.{◌≡◌, ⊎_elim, ℕ, ◌-◌, ◌≤◌, ◌==◌, Bool, true, false, cond, List, [], ◌∷◌, length, filter, map, Option, Some, None, Contains, slice_get, refl, sym, ap, subst, ◌∙◌, arith}
 use Rattle.std.specs.Option.{option_map_or}
+use Rattle.std.specs.Prelude.{option_map}
 use Rattle.std.proofs.lemmas.Bool.{and_parts, eq-eqb}
 use Rattle.std.proofs.lemmas.List.Elements.{All-contains}
 use Rattle.gtpp_message.specs.Packet.{PacketForm}
+use Rattle.gw_base.specs.CdrKind.{kind_of}
 use Rattle.gw_base.specs.declared.history.HistoryEntry.{HistoryEntry}
 use Rattle.gw_base.specs.declared.history.PacketKey.{PacketKey}
+use Rattle.gw_base.specs.declared.kind.CdrKind.{CdrKind}
 use Rattle.gateway_book.specs.Once.{same_key}
 use Rattle.gateway_book.specs.declared.filing.FiledRecord.{FiledRecord}
 use Rattle.node_core.specs.Drafts.{value_octets}
@@ -23,7 +26,7 @@ use Rattle.once_core.specs.Following.{Follows}
 use Rattle.once_core.specs.Gateway.{Gateway, Rules}
 use Rattle.once_core.specs.Happenings.{Deed, Post, Scene}
 use Rattle.once_core.specs.Once.{GivenRecord, IsFiledAs, IsFiledFor, IsFollowed, Once, firm_in}
-use Rattle.once_core.specs.OncePlaced.{IsFiledUnder, IsOnce, records_within}
+use Rattle.once_core.specs.OncePlaced.{IsFiledUnder, IsOnce, kind_within, records_within}
 use Rattle.once_core.specs.Scenes.{scene_after}
 use Rattle.once_core.specs.Shown.{IsMade, Shows, forms_ever, post_of, values_of}
 use Rattle.once_core.specs.Turn.{RuledTurn, Turn, ruled, ruled_turns, turn, turns}
@@ -158,6 +161,26 @@ module _ (laws : Laws) (w : World) (made : Made (values_in w) w) where
         → slice_get (records_within (value_octets packet.form)) f.index ≡ Some f.octets) packet.state.copies copy placed.content filed_for.copy_is in
         ap (λ (rs : List (List ℕ)). slice_get rs filing.index) (sym records_are) ∙ content filing under
 
+  -- it is filed in its packet's kind
+  pub kind_placed : (node : ℕ) (packet : Followed) → IsFollowed w node packet → (copy : PacketCopy)
+      (filing : FiledRecord) → IsFiledFor (firm_in w copy.gateway) node packet copy filing
+      → filing.kind ≡ kind_of packet.form.format packet.form.version
+  kind_placed node packet is copy filing filed_for =
+      let key = and_parts (same_key filing.key (key_in (node_ip node) copy.number filed_for.epoch))
+      (filing.index == filing.index) filed_for.key_is in
+      let under : IsFiledUnder (firm_in w copy.gateway) (node_ip node) packet.start copy.number filing =
+      record { epoch = filed_for.epoch; begun = filed_for.begun; kept = filed_for.kept; key_is = key.0 } in
+      let within = All-contains
+      (λ (c : PacketCopy). (f : FiledRecord) → IsFiledUnder (firm_in w c.gateway) (node_ip node) packet.start c.number f
+      → kind_within (value_octets packet.form) ≡ Some f.kind)
+      packet.state.copies copy (placed node packet is).kind filed_for.copy_is in
+      let good_form : GoodForm packet.form = good node packet is in
+      let both : Some filing.kind ≡ Some (kind_of packet.form.format packet.form.version) =
+      sym (within filing under) ∙ ap kind_within (value_octets_are packet.form good_form.some)
+      ∙ ap (λ (o : Option PacketForm). option_map (λ (form : PacketForm). kind_of form.format form.version) o)
+      good_form.read in
+      ap (λ (o : Option CdrKind). option_map_or (λ k. k) o filing.kind) both
+
   -- a number has one role in its start
   one_role : (node : ℕ) (packet : Followed) → IsFollowed w node packet → (gateway number : ℕ) → uses gateway number (packets_in packet.start (log_at w node)) ≤ 1
   one_role node packet is gateway number =
@@ -197,6 +220,7 @@ module _ (laws : Laws) (w : World) (made : Made (values_in w) w) where
   once = record {
     placed = placed;
     octets = λ node packet copy filing is filed_for. octets_placed node packet is copy filing filed_for;
+    kind = λ node packet copy filing is filed_for. kind_placed node packet is copy filing filed_for;
     records = records_are;
     apart = apart;
   }
@@ -210,7 +234,7 @@ pub same_turns : (rules : Rules) (w : World) (all : List Turn) → ruled_turns w
 same_turns rules w [] = refl
 same_turns rules w (t ∷ all) = same_turns rules (turn rules w t) all
 
-same_worlds : (rules : Rules) (gateways nodes : ℕ) (all : List Turn)
+pub same_worlds : (rules : Rules) (gateways nodes : ℕ) (all : List Turn)
     → ruled_turns (first_world (λ place. rules) gateways nodes) (map (ruled rules) all) ≡ turns rules (world_of rules gateways nodes) all
 same_worlds rules gateways nodes all =
     ap (λ (w : World). ruled_turns w (map (ruled rules) all)) (same_world rules gateways nodes)

@@ -1,5 +1,5 @@
 -- Where the records of a copy stand in the files of its gateway.
-use Rattle.std.specs.Prelude.{◌≡◌, ℕ, Bool, true, false, List, [], ◌∷◌, map, Option, Some, None, Contains}
+use Rattle.std.specs.Prelude.{◌≡◌, ℕ, Bool, true, false, List, [], ◌∷◌, map, Option, Some, None, Contains, is_some}
 use Rattle.std.specs.List.{enumerate_from, filter_map}
 use Rattle.gw_base.specs.declared.history.HistoryAct.{HistoryAct}
 use Rattle.gw_base.specs.declared.history.HistoryAct.TheVariants as act
@@ -51,3 +51,13 @@ pub record IsRecordAt (settings : Settings) (key : PacketKey) (index : ℕ) (h :
   pub kept : Contains (filed h) filing
   pub is : is_record_of key index filing ≡ true
   pub there : StandsAt settings h place filing
+
+-- the files of a history have a record at a place
+abbrev pub HasRecordAt : Settings → List HistoryEntry → FilePlace → Type 0
+HasRecordAt settings h place = is_some (record_at settings (items_of h) place) ≡ true
+
+-- a place is one of those of a record that was filed
+pub record IsOfRecord (settings : Settings) (h : List HistoryEntry) (place : FilePlace) : Type 0 where
+  pub filing : FiledRecord
+  pub kept : Contains (filed h) filing
+  pub here : Contains (file_places settings filing.key filing.index h) place

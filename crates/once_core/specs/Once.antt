@@ -1,6 +1,7 @@
 -- Whether each record of each packet is filed once, over all gateways and all copies of the packet.
 use Rattle.std.specs.Prelude.{◌≡◌, ℕ, true, List, [], Option, Some, Contains, slice_get}
 use Rattle.std.specs.Option.{option_map_or}
+use Rattle.gw_base.specs.CdrKind.{kind_of}
 use Rattle.gw_base.specs.declared.history.HistoryEntry.{HistoryEntry}
 use Rattle.gateway_book.specs.Filed.{filed}
 use Rattle.gateway_book.specs.Once.{is_record_of}
@@ -52,13 +53,16 @@ pub record IsFiledAs (w : World) (gateway : ℕ) (filing : FiledRecord) (given :
 
 -- Of each packet that was ever resolved each record is filed exactly once, and of any other packet each record at most
 -- once. For a copy that is held, a stranded one too, or was cancelled nothing is filed. What is filed for a copy is its
--- packet's record with that index. The records that are spoken of are those that the node was given. And nothing that is
--- filed counts for two of them.
+-- packet's record with that index, in the packet's kind. The records that are spoken of are those that the node was
+-- given. And nothing that is filed counts for two of them.
 pub record Once (w : World) : Type 0 where
   pub placed : (node : ℕ) (packet : Followed) → IsFollowed w node packet →
       IsOnce (firm_in w) (node_ip node) packet.start (value_octets packet.form) packet.state
   pub octets : (node : ℕ) (packet : Followed) (copy : PacketCopy) (filing : FiledRecord) → IsFollowed w node packet →
       IsFiledFor (firm_in w copy.gateway) node packet copy filing → slice_get packet.form.records filing.index ≡ Some filing.octets
+  pub kind : (node : ℕ) (packet : Followed) (copy : PacketCopy) (filing : FiledRecord) → IsFollowed w node packet →
+      IsFiledFor (firm_in w copy.gateway) node packet copy filing →
+      filing.kind ≡ kind_of packet.form.format packet.form.version
   pub records : (node : ℕ) (packet : Followed) → IsFollowed w node packet →
       records_within (value_octets packet.form) ≡ packet.form.records
   pub apart : (gateway : ℕ) (filing : FiledRecord) (one other : GivenRecord) → IsFiledAs w gateway filing one →

@@ -1,13 +1,15 @@
 -- Whether each record of a packet stands once among the filed records of all gateways.
-use Rattle.std.specs.Prelude.{◌≡◌, ℕ, ◌<◌, ◌≤◌, Bool, true, false, All, Contains, List, [], length, Some, slice_get, sum_by}
+use Rattle.std.specs.Prelude.{◌≡◌, ℕ, ◌<◌, ◌≤◌, Bool, true, false, All, Contains, List, [], length, Option, Some, option_map, slice_get, sum_by}
 use Rattle.std.specs.Option.{option_map_or}
 use Rattle.gateway_book.specs.Filed.{filed}
 use Rattle.gateway_book.specs.Once.{same_key}
 use Rattle.gateway_book.specs.declared.filing.FiledRecord.{FiledRecord}
 use Rattle.gtpp_message.specs.Packet.{packet_of}
+use Rattle.gw_base.specs.CdrKind.{kind_of}
 use Rattle.gw_base.specs.declared.history.HistoryEntry.{HistoryEntry}
 use Rattle.gw_base.specs.declared.key_state.KeyState.{KeyState}
 use Rattle.gw_base.specs.declared.key_state.KeyState.TheVariants.{Held, Cancelled}
+use Rattle.gw_base.specs.declared.kind.CdrKind.{CdrKind}
 use Rattle.node_core.specs.Packets.{PacketState, is_resolved}
 use Rattle.node_core.specs.declared.copy.PacketCopy.{PacketCopy}
 use Rattle.once_core.specs.Epochs.{epoch_with, key_in, state_with, times_with}
@@ -18,6 +20,10 @@ records_within octets = option_map_or (λ form. form.records) (packet_of octets)
 
 abbrev pub record_count : List ℕ → ℕ
 record_count octets = option_map_or (λ form. length form.records) (packet_of octets) 0
+
+-- the kind in which they are filed
+abbrev pub kind_within : List ℕ → Option CdrKind
+kind_within octets = option_map (λ form. kind_of form.format form.version) (packet_of octets)
 
 -- the copy is held, or it was cancelled
 abbrev pub is_rejected : KeyState → Bool
@@ -39,7 +45,7 @@ pub record IsFiledUnder (h : List HistoryEntry) (node start number : ℕ) (filin
   pub key_is : same_key filing.key (key_in node number epoch) ≡ true
 
 -- Each record of a packet that is resolved was filed once; each record of any packet at most once; none of a copy that is
--- held or cancelled; and what was filed for a copy is the packet's record with that index.
+-- held or cancelled; and what was filed for a copy is the packet's record with that index, in the packet's kind.
 pub record IsOnce (histories : ℕ → List HistoryEntry) (node start : ℕ) (octets : List ℕ) (packet : PacketState) : Type 0 where
   pub resolved : is_resolved packet.copies ≡ true → (index : ℕ) → index < record_count octets →
       places_of histories node start packet.copies index ≡ 1
@@ -50,3 +56,6 @@ pub record IsOnce (histories : ℕ → List HistoryEntry) (node start : ℕ) (oc
   pub content : All (λ (copy : PacketCopy). (filing : FiledRecord) →
       IsFiledUnder (histories copy.gateway) node start copy.number filing →
       slice_get (records_within octets) filing.index ≡ Some filing.octets) packet.copies
+  pub kind : All (λ (copy : PacketCopy). (filing : FiledRecord) →
+      IsFiledUnder (histories copy.gateway) node start copy.number filing →
+      kind_within octets ≡ Some filing.kind) packet.copies

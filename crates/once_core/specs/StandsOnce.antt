@@ -4,12 +4,13 @@ use Rattle.std.specs.Option.{option_map_or}
 use Rattle.file_writer.specs.Places.{FilePlace}
 use Rattle.file_writer.specs.Streams.{Settings}
 use Rattle.gateway_book.specs.declared.filing.FiledRecord.{FiledRecord}
+use Rattle.gw_base.specs.CdrKind.{kind_of}
 use Rattle.gw_base.specs.declared.history.HistoryEntry.{HistoryEntry}
 use Rattle.node_core.specs.Packets.{is_resolved}
 use Rattle.node_core.specs.declared.copy.PacketCopy.{PacketCopy}
 use Rattle.once_core.specs.Addresses.{node_ip}
 use Rattle.once_core.specs.Epochs.{epoch_with, key_in, state_with}
-use Rattle.once_core.specs.FilePlaces.{StandsAt, file_places}
+use Rattle.once_core.specs.FilePlaces.{HasRecordAt, StandsAt, file_places}
 use Rattle.once_core.specs.Followed.{Followed}
 use Rattle.once_core.specs.Once.{GivenRecord, IsFollowed, firm_in, packet_with}
 use Rattle.once_core.specs.OncePlaced.{is_rejected}
@@ -32,12 +33,13 @@ abbrev pub place_count : (ℕ → Settings) → World → ℕ → Followed → �
 place_count settings w node packet index =
     sum_by (λ (copy : PacketCopy). length (places_at settings w node packet index copy)) packet.state.copies
 
--- what stands at a place is the packet's record with this index
+-- what stands at a place is the packet's record with this index, in the packet's kind
 pub record IsPacketRecordAt (settings : Settings) (h : List HistoryEntry) (packet : Followed) (index : ℕ)
     (place : FilePlace) : Type 0 where
   pub filing : FiledRecord
   pub there : StandsAt settings h place filing
   pub octets : slice_get packet.form.records index ≡ Some filing.octets
+  pub kind : filing.kind ≡ kind_of packet.form.format packet.form.version
 
 -- a place in the files of a gateway counts for a record: a copy of the record's packet has it
 pub record CountsFor (settings : ℕ → Settings) (w : World) (gateway : ℕ) (place : FilePlace) (given : GivenRecord)
@@ -51,7 +53,8 @@ pub record CountsFor (settings : ℕ → Settings) (w : World) (gateway : ℕ) (
 
 -- Each record of each packet that was ever resolved stands at exactly one place, and each record of any other packet at
 -- one at most. A copy that is held, a stranded one too, or that was cancelled has none. What stands at a place is the
--- packet's record, octet for octet. And no place counts for two records.
+-- packet's record, octet for octet, in the packet's kind. No place counts for two records, and the files have no other
+-- record: each place at which they have one counts for a record that a node was given.
 pub record StandsOnce (settings : ℕ → Settings) (w : World) : Type 0 where
   pub resolved : (node : ℕ) (packet : Followed) (index : ℕ) → IsFollowed w node packet →
       is_resolved packet.state.copies ≡ true → index < length packet.form.records →
@@ -68,3 +71,5 @@ pub record StandsOnce (settings : ℕ → Settings) (w : World) : Type 0 where
       IsPacketRecordAt (settings copy.gateway) (firm_in w copy.gateway) packet index place
   pub apart : (gateway : ℕ) (place : FilePlace) (one other : GivenRecord) → CountsFor settings w gateway place one →
       CountsFor settings w gateway place other → one ≡ other
+  pub nothing_else : (gateway : ℕ) (place : FilePlace) → HasRecordAt (settings gateway) (firm_in w gateway) place →
+      (given : GivenRecord) × CountsFor settings w gateway place given

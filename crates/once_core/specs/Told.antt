@@ -2,6 +2,7 @@
 -- are that its gateways filed.
 use Rattle.std.specs.Prelude.{◌≡◌, ℕ, true, Contains, Some, slice_get}
 use Rattle.gateway_book.specs.declared.filing.FiledRecord.{FiledRecord}
+use Rattle.gw_base.specs.CdrKind.{kind_of}
 use Rattle.gw_base.specs.declared.cause.TheConstants.{ALREADY_FULFILLED}
 use Rattle.gw_base.specs.declared.key_state.KeyState.TheVariants as state
 use Rattle.node_core.specs.Choosing.{IsChoice}
@@ -92,7 +93,7 @@ NameChoices w = (m : Message) (named : ℕ) → Contains w.messages m → meanin
     NamesChoice w m named
 
 -- a record that the gateway in this place filed was filed for a copy that a node sent it, and is the record with its
--- index of the packet that was submitted there
+-- index of the packet that was submitted there, in the packet's kind
 pub record WasSubmitted (w : World) (place : ℕ) (filing : FiledRecord) : Type 0 where
   pub node : ℕ
   pub packet : Followed
@@ -101,3 +102,4 @@ pub record WasSubmitted (w : World) (place : ℕ) (filing : FiledRecord) : Type 
   pub gateway_is : copy.gateway ≡ place
   pub filed_for : IsFiledFor (firm_in w copy.gateway) node packet copy filing
   pub octets : slice_get packet.form.records filing.index ≡ Some filing.octets
+  pub kind : filing.kind ≡ kind_of packet.form.format packet.form.version

@@ -15,7 +15,7 @@ ghost use Rattle.gw_base.specs.declared.history.PacketKey.{PacketKey};
 ghost use Rattle.once_core.specs.Admitted.{AllAdmitted, AllKeepLimits, AllLimited, AllMarksDue, KeepLimits, moves_on};
 ghost use Rattle.once_core.specs.Answers.{taken_in};
 ghost use Rattle.once_core.specs.Beginning.{default_rules, first_world, world_of};
-ghost use Rattle.once_core.specs.FilePlaces.{IsRecordAt, file_places, sources_of};
+ghost use Rattle.once_core.specs.FilePlaces.{HasRecordAt, IsOfRecord, IsRecordAt, file_places, sources_of};
 ghost use Rattle.once_core.specs.Epochs.{StartsRise};
 ghost use Rattle.once_core.specs.Gateway.{Gateway, Rules, cut};
 ghost use Rattle.once_core.specs.Expired.{is_expired};
@@ -29,6 +29,7 @@ ghost use Rattle.once_core.specs.declared.event.Event.TheVariants.{Deliver, Tick
 ghost use Rattle.once_core.specs.declared.message.Message.{Message};
 
 use crate::once_laws::{a_node_follows_the_procedure, a_node_knows_what_it_was_told};
+use crate::told_laws::what_is_filed_was_submitted;
 
 /// Whatever happens in a world of at least one gateway, each record of each packet that its node
 /// ever resolved is filed once by all gateways together, and each record of any other packet at most
@@ -112,15 +113,19 @@ pub fn each_filed_record_has_one_place()
     file_writer::places::each_record_has_one_place();
 }
 
-/// What stands at a place of a record is the record as it was filed. And the sources of a history's
-/// items, by which places are told, are those of the items one by one.
+/// What stands at a place of a record is the record as it was filed, and the files of a history have a
+/// record nowhere but at the places of records that it filed. And the sources of a history's items, by
+/// which places are told, are those of the items one by one.
 pub fn what_stands_at_a_place_was_filed()
     ensures item { (h : List HistoryEntry) (k : ℕ) (filing : FiledRecord) →
         slice_get (sources_of h) k ≡ Some (Some filing) → slice_get (items_of h) k ≡ Some (part_of filing) }
     ensures there { (settings : Settings) (key : PacketKey) (index : ℕ) (h : List HistoryEntry) (place : FilePlace) →
         Contains (file_places settings key index h) place → IsRecordAt settings key index h place }
+    ensures all { (settings : Settings) (h : List HistoryEntry) (place : FilePlace) →
+        HasRecordAt settings h place → IsOfRecord settings h place }
 {
     file_writer::places::each_record_has_one_place();
+    file_writer::places::each_place_is_of_an_item();
 }
 
 /// Whatever happens in a world of at least one gateway, each record of each packet that its node ever
@@ -137,6 +142,7 @@ pub fn each_record_stands_once()
     each_record_is_filed_once();
     each_filed_record_has_one_place();
     what_stands_at_a_place_was_filed();
+    what_is_filed_was_submitted();
 }
 
 /// Each entry of a firm part keeps to the table of answers: what it files, holds or seals was fresh,
