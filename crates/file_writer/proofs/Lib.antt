@@ -11,5 +11,6 @@ pub mod WriterLemmas
 pub mod PlacesLemmas
 pub mod RecordsLemmas
 pub mod OccupiedLemmas
+pub mod ReadingLemmas
 pub mod FirstFilesLemmas
 pub mod OfStreamsLemmas

@@ -7,6 +7,7 @@ pub mod Files
 pub mod Holding
 pub mod Making
 pub mod Places
+pub mod Reading
 pub mod Streams
 pub mod Writer
 -- Laws of these.

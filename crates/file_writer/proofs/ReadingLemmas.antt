@@ -1,0 +1,347 @@
+-- The files of items are read back: each number that a header says of their records fits its field.
+use Rattle.std.proofs.Common.{◌≡◌, ℕ, zero, suc, ◌+◌, ◌^◌, ◌<◌, ◌≤◌, ◌==◌, nat_le, if◌then◌else◌, Bool, true, false, All, Contains, List, [], ◌∷◌, ◌++◌, length, map, slice_get, sum_by, Option, None, Some, Ok, refl, sym, ap, ◌∙◌, subst, arith, ℤ, append-nil}
+use Rattle.std.proofs.lemmas.Bool.{leb-false}
+use Rattle.std.proofs.lemmas.List.Elements.{All-head, All-tail}
+use Rattle.std.proofs.lemmas.List.Sums.{sum_by-append, sum_by-cons}
+use Rattle.std.proofs.lemmas.Option.{get_or_from_slice_get, none-some, slice_get_within}
+use Rattle.cdr_file.specs.CdrFile.{FileSettings, FiledRecord, cdr_of, file_header, file_octets, last_moment, node_address, read_file}
+use Rattle.cdr_file.specs.CdrFile as cdr
+use Rattle.cdr_file.specs.CdrHeader.{AreCdrs}
+use Rattle.cdr_file.specs.ClosureReason.{code_of}
+use Rattle.cdr_file.specs.FileHeader.{IsFileHeader}
+use Rattle.cdr_file.specs.Reading as reading
+use Rattle.cdr_file.specs.Timestamp.{stamp_of}
+use Rattle.cdr_file.specs.declared.closure.ClosureReason.{ClosureReason}
+use Rattle.cdr_file.specs.declared.closure.ClosureReason.TheVariants as reason
+use Rattle.file_rotate.specs.Division.{ClosedRun, Division, cdr_length, closed_first, divided_from, ends_after, ends_before, joined, run_length, run_limit_reached, still}
+use Rattle.file_rotate.specs.Items.{AreLimits, Filed, Record, Tick, Close}
+use Rattle.file_rotate.specs.Items as stream
+use Rattle.file_rotate.specs.declared.limits.Limits.{Limits}
+use Rattle.gw_base.specs.CdrKind.{IsCdrKind}
+use Rattle.gw_base.specs.declared.item.Item.{Item}
+use Rattle.gw_base.specs.declared.item.Item.TheVariants as item
+use Rattle.route_filter.specs.Rules.{stream_of}
+use Rattle.route_filter.specs.declared.rule.Rule.{Rule}
+use Rattle.file_writer.specs.AllStreams.{IsFit}
+use Rattle.file_writer.specs.Files.{file_in, files_from, record_of, records_in, stream_files}
+use Rattle.file_writer.specs.Places.{FilePlace, in_run, record_at, run_with, runs_of}
+use Rattle.file_writer.specs.Reading.{IsStamped, ReadsAt}
+use Rattle.file_writer.specs.Streams.{Settings, closed_of, filed_record, record_if, stream_division, stream_items}
+
+-- ---- what a header says of a record
+
+record IsSayable (offset : ℤ) (filed : Filed (List ℕ)) : Type 0 where
+  kind : IsCdrKind filed.kind
+  octets : filed.octets < 2 ^ 16
+  stated : filed.octets ≡ length filed.payload
+  stamp : stamp_of filed.moment offset < 2 ^ 32
+
+abbrev AreSayable : ℤ → List (Filed (List ℕ)) → Type 0
+AreSayable offset [] = Unit {0}
+AreSayable offset (filed ∷ run) = IsSayable offset filed × AreSayable offset run
+
+abbrev IsItemSayable : ℤ → stream.Item (List ℕ) → Type 0
+IsItemSayable offset (Record filed) = IsSayable offset filed
+IsItemSayable offset (Tick moment) = Unit {0}
+IsItemSayable offset (Close moment) = Unit {0}
+
+abbrev AreItemsSayable : ℤ → List (stream.Item (List ℕ)) → Type 0
+AreItemsSayable offset [] = Unit {0}
+AreItemsSayable offset (i ∷ items) = IsItemSayable offset i × AreItemsSayable offset items
+
+items_sayable : (rules : List Rule) (file : FileSettings) (s : ℕ) (items : List Item) → All IsFit items
+    → All (IsStamped file) items → AreItemsSayable file.offset (stream_items rules s items)
+items_sayable rules file s [] fit stamped = tt
+items_sayable rules file s (item.Tick moment ∷ items) fit stamped = (
+  tt,
+  items_sayable rules file s items (All-tail IsFit (item.Tick moment) items fit)
+      (All-tail (IsStamped file) (item.Tick moment) items stamped),
+)
+items_sayable rules file s (item.Close moment ∷ items) fit stamped = (
+  tt,
+  items_sayable rules file s items (All-tail IsFit (item.Close moment) items fit)
+      (All-tail (IsStamped file) (item.Close moment) items stamped),
+)
+items_sayable rules file s (item.Part kind tag octets moment ∷ items) fit stamped =
+    by (stream_of rules tag kind.format == s)
+    (items_sayable rules file s items (All-tail IsFit first items fit) (All-tail (IsStamped file) first items stamped))
+  where
+    first : Item
+    first = item.Part kind tag octets moment
+
+    fits : IsFit first
+    fits = All-head IsFit first items fit
+
+    by : (b : Bool) → AreItemsSayable file.offset (stream_items rules s items)
+        → AreItemsSayable file.offset (record_if b (filed_record kind octets moment) ++ stream_items rules s items)
+    by true rest = (
+      record {
+        kind = fits.0;
+        octets = fits.1;
+        stated = refl;
+        stamp = All-head (IsStamped file) first items stamped;
+      },
+      rest,
+    )
+    by false rest = rest
+
+sayable_more : (offset : ℤ) (run : List (Filed (List ℕ))) (filed : Filed (List ℕ)) → AreSayable offset run
+    → IsSayable offset filed → AreSayable offset (run ++ filed ∷ [])
+sayable_more offset [] filed all is = (is, tt)
+sayable_more offset (x ∷ run) filed all is = (all.0, sayable_more offset run filed all.1 is)
+
+-- ---- how long runs are
+
+one_longer : (run : List (Filed (List ℕ))) (filed : Filed (List ℕ)) → run_length (run ++ filed ∷ [])
+    ≤ run_length run + (56 + filed.octets)
+one_longer [] filed = omega (arith, sum_by-cons cdr_length filed [])
+one_longer (x ∷ run) filed =
+    omega (arith, sum_by-append cdr_length (x ∷ run) (filed ∷ []), sum_by-cons cdr_length filed [])
+
+as_long : (offset : ℤ) (run : List (Filed (List ℕ))) → AreSayable offset run
+    → sum_by cdr.cdr_length (records_in run) ≡ sum_by cdr_length run
+as_long offset [] all = refl
+as_long offset (x ∷ run) all =
+    omega (
+      arith,
+      all.0.stated,
+      as_long offset run all.1,
+      sum_by-cons cdr.cdr_length (record_of x) (records_in run),
+      sum_by-cons cdr_length x run,
+    )
+
+no_more : (run : List (Filed (List ℕ))) → length run ≤ sum_by cdr_length run
+no_more [] = omega arith
+no_more (x ∷ run) = omega (arith, no_more run, sum_by-cons cdr_length x run)
+
+as_many : (run : List (Filed (List ℕ))) → length (records_in run) ≡ length run
+as_many [] = refl
+as_many (x ∷ run) = ap suc (as_many run)
+
+-- ---- closed runs
+
+record IsReadable (offset : ℤ) (run : List (Filed (List ℕ))) : Type 0 where
+  long : run_length run < 2 ^ 32
+  each : AreSayable offset run
+
+abbrev AllReadable : ℤ → List (ClosedRun (List ℕ)) → Type 0
+AllReadable offset [] = Unit {0}
+AllReadable offset (c ∷ closed) = IsReadable offset c.run × AllReadable offset closed
+
+with_first : (offset : ℤ) (reason : Option ClosureReason) (run : List (Filed (List ℕ))) (division : Division (List ℕ))
+    → IsReadable offset run → AllReadable offset division.closed
+    → AllReadable offset (closed_first reason run division).closed
+with_first offset None run division is all = all
+with_first offset (Some reason) run division is all = (is, all)
+
+module _ (limits : Limits) (are : AreLimits limits) (offset : ℤ) where
+  -- an open run hasn't reached the size
+  record IsOpen (run : List (Filed (List ℕ))) : Type 0 where
+    short : run_length run < limits.size
+    each : AreSayable offset run
+
+  none_open : IsOpen []
+  none_open = record { short = are.size_from; each = tt }
+
+  still_open : (reason : Option ClosureReason) (run : List (Filed (List ℕ))) → IsOpen run → IsOpen (still reason run [])
+  still_open None run is = is
+  still_open (Some reason) run is = none_open
+
+  readable : (run : List (Filed (List ℕ))) → IsOpen run → IsReadable offset run
+  readable run is = record { long = omega (arith, is.short, are.size_to); each = is.each }
+
+  -- a run with an item more, which may be closed after it
+  with_item : (run : List (Filed (List ℕ))) (i : stream.Item (List ℕ)) → IsOpen run → IsItemSayable offset i
+      → IsReadable offset (run ++ stream.record_in i)
+  with_item run (Record filed) is sayable = record {
+    long = omega (arith, is.short, are.size_to, sayable.octets, one_longer run filed);
+    each = sayable_more offset run filed is.each sayable;
+  }
+  with_item run (Tick moment) is sayable = subst (IsReadable offset) (sym (append-nil run)) (readable run is)
+  with_item run (Close moment) is sayable = subst (IsReadable offset) (sym (append-nil run)) (readable run is)
+
+  short_of : (run : List (Filed (List ℕ))) → run_limit_reached limits run ≡ None → run_length run < limits.size
+  unfolding run_limit_reached
+  short_of run h = by (nat_le limits.size (run_length run)) refl h
+    where
+      by : (b : Bool) → nat_le limits.size (run_length run) ≡ b
+          → (if b then Some reason.SizeLimit else if nat_le limits.count (length run) then Some reason.CountLimit
+          else None) ≡ None → run_length run < limits.size
+      by true e h = let no : ⊥ = none-some reason.SizeLimit (sym h) in absurd no
+      by false e h = leb-false limits.size (run_length run) e
+
+  -- what is left open
+  left_open : (run : List (Filed (List ℕ))) (i : stream.Item (List ℕ)) → IsOpen run → IsItemSayable offset i
+      → (after : Option ClosureReason) → ends_after limits (run ++ stream.record_in i) i ≡ after
+      → IsOpen (still after (run ++ stream.record_in i) [])
+  unfolding ends_after
+  left_open run i is sayable (Some reason) e = none_open
+  left_open run (Record filed) is sayable None e = record {
+    short = short_of (run ++ filed ∷ []) e;
+    each = sayable_more offset run filed is.each sayable;
+  }
+  left_open run (Tick moment) is sayable None e = subst IsOpen (sym (append-nil run)) is
+  left_open run (Close moment) is sayable None e = subst IsOpen (sym (append-nil run)) is
+
+  all_closed : (run : List (Filed (List ℕ))) → IsOpen run → (items : List (stream.Item (List ℕ)))
+      → AreItemsSayable offset items → AllReadable offset (divided_from limits run items).closed
+  all_closed run is [] all = tt
+  all_closed run is (i ∷ items) all =
+      let before : Option ClosureReason = ends_before limits run i in
+      let at : List (Filed (List ℕ)) = still before run [] in
+      let is_at : IsOpen at = still_open before run is in
+      let joint : List (Filed (List ℕ)) = joined before run i in
+      let after : Option ClosureReason = ends_after limits joint i in
+      let rest : Division (List ℕ) = divided_from limits (still after joint []) items in
+      with_first offset before run (closed_first after joint rest) (readable run is)
+      (with_first offset after joint rest (with_item at i is_at all.0)
+      (all_closed (still after joint []) (left_open at i is_at all.0 after refl) items all.1))
+
+-- ---- what is read of a run's file
+
+address_is : (ip : ℕ) → length (node_address ip) ≡ 20
+unfolding node_address
+address_is ip = refl
+
+reason_is : (r : ClosureReason) → code_of r < 256
+reason_is reason.Normal = omega arith
+reason_is reason.SizeLimit = omega arith
+reason_is reason.OpenTimeLimit = omega arith
+reason_is reason.CountLimit = omega arith
+reason_is reason.Manual = omega arith
+reason_is reason.KindChange = omega arith
+reason_is reason.Abnormal = omega arith
+reason_is reason.FileSystemError = omega arith
+reason_is reason.StorageExhausted = omega arith
+reason_is reason.IntegrityError = omega arith
+
+last_stamp : (offset : ℤ) (first : Filed (List ℕ)) (later : List (Filed (List ℕ))) → AreSayable offset (first ∷ later)
+    → stamp_of (last_moment (records_in (first ∷ later))) offset < 2 ^ 32
+last_stamp offset first [] all = all.0.stamp
+last_stamp offset first (next ∷ later) all = last_stamp offset next later all.1
+
+header_fits : (settings : FileSettings) (first : Filed (List ℕ)) (later : List (Filed (List ℕ))) (sequence : ℕ)
+    (r : ClosureReason) → IsReadable settings.offset (first ∷ later) → sequence < 2 ^ 32
+    → IsFileHeader (file_header (records_in (first ∷ later)) sequence r settings)
+header_fits settings first later sequence r is low =
+    let long = as_long settings.offset (first ∷ later) is.each in
+    record {
+      address = address_is settings.address;
+      file_length = omega (arith, is.long, long);
+      header_length = omega arith;
+      high = (is.each.0.kind.release, is.each.0.kind.version);
+      low = (is.each.0.kind.release, is.each.0.kind.version);
+      stamps = (is.each.0.stamp, last_stamp settings.offset first later is.each);
+      count = omega (arith, is.long, no_more (first ∷ later), as_many (first ∷ later));
+      sequence = low;
+      octets = (reason_is r, omega arith);
+    }
+
+cdrs_fit : (offset : ℤ) (run : List (Filed (List ℕ))) → AreSayable offset run → AreCdrs (map cdr_of (records_in run))
+cdrs_fit offset [] all = tt
+cdrs_fit offset (x ∷ run) all = (
+  record {
+    header = record {
+      length = omega (arith, all.0.octets, all.0.stated);
+      release = all.0.kind.release;
+      version = all.0.kind.version;
+      format = all.0.kind.format;
+      ts = omega arith;
+    };
+    stated = refl;
+  },
+  cdrs_fit offset run all.1,
+)
+
+cdr_at : (run : List (Filed (List ℕ))) (index : ℕ) (filed : Filed (List ℕ)) → slice_get run index ≡ Some filed
+    → slice_get (map cdr_of (records_in run)) index ≡ Some (cdr_of (record_of filed))
+cdr_at [] index filed h = let no : ⊥ = none-some filed h in absurd no
+cdr_at (x ∷ run) zero filed h =
+    let same : x ≡ filed = cc in ap (λ (f : Filed (List ℕ)). Some (cdr_of (record_of f))) same
+cdr_at (x ∷ run) (suc index) filed h = cdr_at run index filed h
+
+-- ---- the file with a number
+
+record IsClosedAt (settings : FileSettings) (s q : ℕ) (closed : List (ClosedRun (List ℕ)))
+    (left : List (Filed (List ℕ))) (before : ℕ) : Type 0 where
+  c : ClosedRun (List ℕ)
+  run_is : slice_get (map (λ (c : ClosedRun (List ℕ)). c.run) closed ++ left ∷ []) before ≡ Some c.run
+  file_is : slice_get (files_from settings s q closed) before ≡ Some (file_in settings s (q + before) c)
+  is : IsReadable settings.offset c.run
+
+none_more : (q : ℕ) → q ≡ q + 0
+none_more q = omega arith
+
+one_sooner : (q before : ℕ) → q + 1 + before ≡ q + suc before
+one_sooner q before = omega arith
+
+closed_at : (settings : FileSettings) (s q : ℕ) (closed : List (ClosedRun (List ℕ))) (left : List (Filed (List ℕ)))
+    (before : ℕ) → before < length closed → AllReadable settings.offset closed
+    → IsClosedAt settings s q closed left before
+closed_at settings s q [] left before less all = let no : ⊥ = omega (arith, less) in absurd no
+closed_at settings s q (x ∷ closed) left zero less all = record {
+  c = x;
+  run_is = refl;
+  file_is = ap (λ (n : ℕ). Some (file_in settings s n x)) (none_more q);
+  is = all.0;
+}
+closed_at settings s q (x ∷ closed) left (suc before) less all =
+    let rest = closed_at settings s (q + 1) closed left before (omega (arith, less)) all.1 in
+    record {
+      c = rest.c;
+      run_is = rest.run_is;
+      file_is = rest.file_is ∙ ap (λ (n : ℕ). Some (file_in settings s n rest.c)) (one_sooner q before);
+      is = rest.is;
+    }
+
+kept_at : {X : Type 0} (xs : List X) (k : ℕ) (x : X) → slice_get xs k ≡ Some x → Contains xs x
+kept_at xs k x h = (k, slice_get_within xs k x h, get_or_from_slice_get xs k x x h)
+
+-- what is written is read back, as it is stated
+abbrev pub ReadsBack : Type 0
+ReadsBack = (run : List FiledRecord) (sequence : ℕ) (r : ClosureReason) (settings : FileSettings)
+    → IsFileHeader (file_header run sequence r settings) → AreCdrs (read_file run sequence r settings).cdrs
+    → reading.file_in (file_octets run sequence r settings) ≡ Ok (read_file run sequence r settings)
+
+reads : ReadsBack → (settings : FileSettings) (run : List (Filed (List ℕ))) (sequence : ℕ) (r : ClosureReason)
+    (index : ℕ) (filed : Filed (List ℕ)) → IsReadable settings.offset run → sequence < 2 ^ 32
+    → slice_get run index ≡ Some filed
+    → reading.file_in (file_octets (records_in run) sequence r settings) ≡ Ok
+    (read_file (records_in run) sequence r settings)
+reads law settings [] sequence r index filed is low h = let no : ⊥ = none-some filed h in absurd no
+reads law settings (first ∷ later) sequence r index filed is low h =
+    law (records_in (first ∷ later)) sequence r settings (header_fits settings first later sequence r is low)
+    (cdrs_fit settings.offset (first ∷ later) is.each)
+
+pub read-there : ReadsBack → (settings : Settings) (items : List Item) (place : FilePlace) (filed : Filed (List ℕ))
+    → AreLimits settings.limits → All IsFit items → All (IsStamped settings.file) items → place.sequence < 2 ^ 32
+    → place.sequence ≤ closed_of settings place.stream items → record_at settings items place ≡ Some filed
+    → ReadsAt (stream_files settings place.stream items) place filed
+read-there law settings items place filed are fit stamped low closed h = by place.sequence refl h
+  where
+    s : ℕ
+    s = place.stream
+
+    division : Division (List ℕ)
+    division = stream_division settings s items
+
+    by : (sequence : ℕ) → place.sequence ≡ sequence
+        → in_run place.index (run_with sequence (runs_of division)) ≡ Some filed
+        → ReadsAt (stream_files settings s items) place filed
+    by zero e there = let no : ⊥ = none-some filed there in absurd no
+    by (suc before) e there =
+        let at = closed_at settings.file s 1 division.closed division.left_open before (omega (arith, e, closed))
+        (all_closed settings.limits are settings.file.offset [] (none_open settings.limits are settings.file.offset)
+        (stream_items settings.rules s items) (items_sayable settings.rules settings.file s items fit stamped)) in
+        let inside : slice_get at.c.run place.index ≡ Some filed =
+        sym (ap (in_run place.index) at.run_is) ∙ there in
+        let number : 1 + before ≡ place.sequence = omega (arith, e) in
+        let fits : 1 + before < 2 ^ 32 = omega (arith, e, low) in
+        record {
+          file = file_in settings.file s (1 + before) at.c;
+          kept = kept_at (stream_files settings s items) before (file_in settings.file s (1 + before) at.c) at.file_is;
+          name = ap (λ (n : ℕ). record { stream = s; sequence = n }) number;
+          read = read_file (records_in at.c.run) (1 + before) at.c.reason settings.file;
+          reads = reads law settings.file at.c.run (1 + before) at.c.reason place.index filed at.is fits inside;
+          there = cdr_at at.c.run place.index filed inside;
+        }
