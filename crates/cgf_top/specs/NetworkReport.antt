@@ -64,7 +64,8 @@ EndsByReport lines = (front : List ℕ) × (report_of_lines lines ≡ front ++ r
 -- that the firm entries of its gateways close, which are all their entries: by the division into files no record of theirs
 -- is in one that is open. The report of the lines, which `drill` doesn't print, ends with these files.
 -- In the files of all its gateways each record of each packet that was ever resolved stands at exactly one place of its
--- own, and each record of any other packet at one at most; no copy that is held or was cancelled puts one there.
+-- own, and each record of any other packet at one at most; no copy that is held or was cancelled puts one there, and the
+-- files have no other record.
 pub record RanNetwork (lines : List Line) (played : Played) : Type 0 where
   pub stands : HasPlayed (replayed lines) played
   pub written : AreWritten (replayed lines)
