@@ -1,9 +1,10 @@
 //! Tests of `world_script`: the lines of a replay and their first faults, scripts as they are printed, and samples.
 
+use crate::scripts::assert_refused_as;
 use std::alloc::Global;
 use std::process::Abort;
 use std::test::Fail;
-use world_script::{InputFault, InputKind, Line, Mode, Script, ScriptKind, print, read, sample};
+use world_script::{InputKind, Line, Mode, Script, ScriptKind, print, read, sample};
 
 /// The text reads as a script of this kind.
 fn script_of(rt: &impl Abort, alloc: Global, text: &[u8], kind: ScriptKind) -> Script {
@@ -144,14 +145,6 @@ fn what_lines_of_a_replay_say(rt: HostRuntime) {
     assert!(&rt; matches!(script.line(4), Some(Line::Mark { gateway: 2 })));
 }
 
-/// The text is refused at this line for this reason, as a replay.
-fn assert_replay_refused(rt: &impl Abort, alloc: Global, text: &[u8], place: u64, kind: InputKind) {
-    match read(alloc, text, ScriptKind::Replay) {
-        Ok(_) => assert!(rt; false, "line {place} is taken"),
-        Err(fault) => assert_eq!(rt; fault, InputFault::Bad { place, kind }),
-    }
-}
-
 #[test]
 fn the_first_test_that_a_line_of_a_replay_fails_is_told(rt: HostRuntime) {
     let refused = [
@@ -185,7 +178,14 @@ fn the_first_test_that_a_line_of_a_replay_fails_is_told(rt: HostRuntime) {
         ("flow\n", 2, InputKind::NoEnd),
     ];
     for (text, place, kind) in refused {
-        assert_replay_refused(&rt, rt.alloc(), text.as_bytes(), place, kind);
+        assert_refused_as(
+            &rt,
+            rt.alloc(),
+            ScriptKind::Replay,
+            text.as_bytes(),
+            place,
+            kind,
+        );
     }
 }
 

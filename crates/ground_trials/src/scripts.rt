@@ -4,7 +4,7 @@ use gw_base::Addr;
 use std::alloc::Global;
 use std::process::Abort;
 use std::test::Fail;
-use world_script::{InputFault, InputKind, Line, Script};
+use world_script::{InputFault, InputKind, Line, Script, ScriptKind, read};
 
 /// A script of every form of line, whose last line lacks its line feed.
 const EVERY_FORM: &str = "# settings\n\
@@ -78,12 +78,24 @@ fn every_form_of_line_is_read(rt: HostRuntime) {
     assert!(&rt; script.line(14).is_none());
 }
 
-/// The text is refused at this line for this reason, as a feed.
-fn assert_refused(rt: &impl Abort, alloc: Global, text: &[u8], place: u64, kind: InputKind) {
-    match Script::read(alloc, text) {
+/// The text is refused at this line for this reason, as a script of this kind.
+pub(crate) fn assert_refused_as(
+    rt: &impl Abort,
+    alloc: Global,
+    script: ScriptKind,
+    text: &[u8],
+    place: u64,
+    kind: InputKind,
+) {
+    match read(alloc, text, script) {
         Ok(_) => assert!(rt; false, "line {place} is taken"),
         Err(fault) => assert_eq!(rt; fault, InputFault::Bad { place, kind }),
     }
+}
+
+/// The same as a feed.
+fn assert_refused(rt: &impl Abort, alloc: Global, text: &[u8], place: u64, kind: InputKind) {
+    assert_refused_as(rt, alloc, ScriptKind::Feed, text, place, kind);
 }
 
 #[test]
