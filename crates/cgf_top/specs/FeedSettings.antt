@@ -3,7 +3,7 @@ use Rattle.std.specs.Prelude.{ℕ, List, [], ◌∷◌, ◌++◌, Option, Some, 
 use Rattle.std.specs.List.{flat_map}
 use Rattle.std.specs.Option.{option_map_or}
 use Rattle.file_writer.specs.Streams.{Settings}
-use Rattle.route_filter.specs.Rules.{rule_of}
+use Rattle.replay_world.specs.Setup.{default_limits, rules_said}
 use Rattle.route_filter.specs.declared.rule.Rule.{Rule}
 use Rattle.world_script.specs.declared.line.Line.{Line}
 use Rattle.world_script.specs.declared.line.Line.TheVariants as line
@@ -37,7 +37,7 @@ offset_in _ = None
 
 -- the rule that a line adds to those before it
 abbrev pub rules_in : Line → List Rule
-rules_in (line.Rule text) = option_map_or (λ rule. rule ∷ []) (rule_of text) []
+rules_in (line.Rule text) = rules_said text
 rules_in _ = []
 
 -- what a line sets, or else what was set before
@@ -75,7 +75,7 @@ first_settings = record {
   reserved = 16777216;
   files = record {
     rules = [];
-    limits = record { size = 1048576; count = 1000; open_time = 3600 };
+    limits = default_limits;
     file = record { offset = pos 0; address = gateway_address };
   };
 }

@@ -1,17 +1,16 @@
 //! What a feed script sets.
-ghost use Rattle.std.specs.Prelude.{◌≡◌, ◌≤◌, ◌<◌, ◌+◌, ◌++◌, IfOk, OnOk, IsSome, IsUtf8, length};
-ghost use Rattle.jiff_core.specs.Calendar.{IsWithin};
-ghost use Rattle.route_filter.specs.Rules.{most_rules, rule_of};
+ghost use Rattle.std.specs.Prelude.{◌≡◌, ◌≤◌, ◌+◌, IfOk, OnOk, length};
+ghost use Rattle.route_filter.specs.Rules.{most_rules};
 ghost use Rattle.cgf_top.specs.FeedSettings.{first_settings, rules_in, settings_of};
 ghost use Rattle.cgf_top.specs.Lines.{AreInRange, IsInRange};
 ghost use Rattle.cgf_top.specs.SettingSteps.{AreSound, settings_seen, settings_with};
 
 use cdr_file::Offset16;
 use file_rotate::Limits;
-use gw_base::{NoMemory, Octets};
-use route_filter::{RuleFault, Rules};
+use gw_base::NoMemory;
+use replay_world::settings::{add_rule, first_limits, offset};
+use route_filter::Rules;
 use std::alloc::Global;
-use std::str;
 use world_script::{Line, Script};
 
 /// The gateway's IPv4 address, 10.0.0.1.
@@ -54,11 +53,7 @@ impl Settings {
         Settings {
             reserved: 16_777_216,
             rules: Rules::none(alloc),
-            limits: Limits {
-                size: 1_048_576,
-                count: 1_000,
-                open_time: 3_600,
-            },
+            limits: first_limits(),
             offset: offset(0),
         }
     }
@@ -81,33 +76,5 @@ impl Settings {
             _ => {}
         }
         Ok(())
-    }
-}
-
-/// An offset of so many minutes.
-fn offset(minutes: i16) -> Offset16
-    requires { IsWithin 959 minutes }
-    ensures { result ≡ minutes }
-{
-    let Some(offset) = Offset16::of(minutes) else {
-        unreachable!();
-    };
-    offset
-}
-
-/// Adds the rule that a line says.
-fn add_rule(rules: &mut Rules, text: &Octets) -> Result<(), NoMemory>
-    requires rule { IsSome (rule_of text.now) }
-    requires text { IsUtf8 text.now }
-    requires room { length rules.old < most_rules }
-    ensures { OnOk result (rules.new ≡ rules.old ++ rules_in (Line.Rule text.now)) }
-{
-    let Ok(line) = str::from_utf8(text.octets()) else {
-        unreachable!();
-    };
-    match rules.add(line) {
-        Ok(()) => Ok(()),
-        Err(RuleFault::NoMemory) => Err(NoMemory),
-        Err(_) => unreachable!(),
     }
 }
