@@ -1,6 +1,6 @@
 //! A stop, with either outcome, and a failure at each call of an area.
 
-use crate::told::{Run, run_before_end, run_text};
+use crate::told::{Run, assert_told, run_before_end};
 use area_disk::Drill;
 use replay_world::LineEnd;
 use std::alloc::Global;
@@ -73,9 +73,7 @@ fn a_commit_stops_or_fails_at_each_call(rt: HostRuntime) -> Result<(), Fail> {
         let wanted = format!(in alloc;
             "{RECORDED_TOLD}{told}{FILED}gateway 1 entries {entries} records 1 held 0 stranded 0\n{DONE}"
         )?;
-        let ran = run_text(alloc, &text)?;
-        assert_eq!(rt; ran.end, LineEnd::Ran, "{arms}");
-        assert_eq!(rt; ran.out.octets(), wanted.as_bytes(), "{arms}");
+        assert_told(&rt, alloc, &text, &wanted)?;
     }
     Ok(())
 }
@@ -153,10 +151,7 @@ fn assert_again(
     let wanted = format!(in alloc;
         "{RECORDED_TOLD}fault 1\nm 6 g1 n1:1 4EF10007000001CCFD00020000\n{told}node 1 packets 1 resolved 0 done 0\n"
     )?;
-    let ran = run_text(alloc, &text)?;
-    assert_eq!(rt; ran.end, LineEnd::Ran, "{arms}, {line}");
-    assert_eq!(rt; ran.out.octets(), wanted.as_bytes(), "{arms}, {line}");
-    Ok(())
+    assert_told(rt, alloc, &text, &wanted)
 }
 
 /// Three packets of one node are recorded, and one commit of four calls answers them.

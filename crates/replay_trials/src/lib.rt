@@ -16,8 +16,6 @@ mod jobs;
 #[cfg(test)]
 mod refusals;
 #[cfg(test)]
-mod samples;
-#[cfg(test)]
 mod stories;
 #[cfg(test)]
 mod told;

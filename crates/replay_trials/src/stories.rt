@@ -1,7 +1,9 @@
 //! Stories, with all that is printed for them.
 
-use crate::told::run_text;
+use crate::told::{assert_told, run_text};
+use once_core::WorldKind;
 use replay_world::LineEnd;
+use std::alloc::Global;
 use std::test::Fail;
 
 /// The answer to a packet is lost: a copy is held elsewhere, and a test of the first one cancels it.
@@ -69,23 +71,29 @@ file 3 00-0000000001.cdr 0000003D00000034606010800800108008000000000100000001040
 300000000000000000000056020A003800105\ngateway 3 entries 5 records 1 held 0 stranded 0\n\
 node 1 packets 1 resolved 1 done 1\n";
 
-/// A packet of a node's start before is expired, and the copy of it that is held is stranded.
-const EARLIER_START: &str =
-    "gateways 2\ntick 1\nflow\nflow\nflow\ncommit 1\ncommit 2\nflow\nsubmit 1 1 0600 A003800105\ntick 1\n\
-redirect 1 63\ndeliver 10\ntick 1\ndeliver 12\ncommit 2\nhalt 1\nstart 1\ntick 1\ndeliver 14\ndeliver 15\n\
-deliver 16\ndeliver 17\ndeliver 18\ndeliver 19\ncommit 1\ncommit 2\ndeliver 20\ndeliver 21\n\
-submit 1 1 0600 A003800105\ntick 1\ndeliver 22\ncommit 1\ndeliver 23\ndeliver 9\nend\n";
+/// A packet of an earlier start of its node is expired, and the copy of it that is held is stranded: the lines before
+/// the node's later starts, and those behind them.
+const BEFORE_STARTS: &str =
+    "reserve 30000\ngateways 2\ntick 1\nflow\nflow\nflow\ncommit 1\ncommit 2\nflow\n\
+submit 1 1 0600 A003800105\ntick 1\nredirect 1 63\ndeliver 10\ntick 1\ndeliver 12\ncommit 2\n";
 
-const EARLIER_START_TOLD: &str =
+const BEHIND_STARTS: &str =
+    "tick 1\ndeliver 14\ndeliver 15\ndeliver 16\ndeliver 17\ndeliver 18\ndeliver 19\ncommit 1\n\
+commit 2\ndeliver 20\ndeliver 21\nsubmit 1 1 0600 A003800105\ntick 1\ndeliver 22\ncommit 1\n\
+deliver 23\ndeliver 9\nend\n";
+
+/// What is printed for them up to the node's restart counter, and behind that.
+const BEFORE_COUNTER: &str =
     "m 1 n1:1 g1 4E0400070000FB00040A000101\nm 2 n1:1 g2 4E0400070000FB00040A000101\nm 3 g1 n1:1 4E0100000000\n\
 m 4 g2 n1:1 4E0100000000\nm 5 n1:1 g1 4E02000200000E01\nm 6 n1:1 g2 4E02000200000E01\n\
 m 7 g1 n1:1 4E0500000000\nm 8 g2 n1:1 4E0500000000\npacket 1.1\n\
 m 9 n1:1 g1 4EF0001000007E01FC000B010106000005A003800105\nm 10 g1 n1:1 4E0600020000013F\n\
 m 11 n1:1 g1 4E07000200000180\nm 12 n1:1 g2 4EF0001000007E02FC000B010106000005A003800105\n\
 m 13 g2 n1:1 4EF1000700000180FD00020000\nm 14 n1:1 g1 4E0400070000FB00040A000101\n\
-m 15 n1:1 g2 4E0400070000FB00040A000101\nm 16 g1 n1:1 4E0100000000\nm 17 g2 n1:1 4E0100000000\n\
-m 18 n1:1 g1 4E02000200000E02\nm 19 n1:1 g2 4E02000200000E02\nm 20 g1 n1:1 4E0500000000\n\
-m 21 g2 n1:1 4E0500000000\npacket 1.2\nm 22 n1:1 g1 4EF0001000007E01FC000B010106000005A003800105\n\
+m 15 n1:1 g2 4E0400070000FB00040A000101\nm 16 g1 n1:1 4E0100000000\nm 17 g2 n1:1 4E0100000000\n";
+
+const BEHIND_COUNTER: &str = "m 20 g1 n1:1 4E0500000000\nm 21 g2 n1:1 4E0500000000\npacket 1.2\n\
+m 22 n1:1 g1 4EF0001000007E01FC000B010106000005A003800105\n\
 m 23 g1 n1:1 4EF1000700000180FD00020000\nresolved 1.2\ndone 1.2\nexpired 9\n\
 file 1 00-0000000001.cdr 0000003D000000346060108008001080080000000001000000010400000000000000000000FFFF0A00000\
 100000000000000000000056020A003800105\ngateway 1 entries 5 records 1 held 0 stranded 0\n\
@@ -124,7 +132,6 @@ fn stories_are_told_line_by_line(rt: HostRuntime) -> Result<(), Fail> {
         (LOST_ANSWER, LOST_ANSWER_TOLD),
         (LATE_PACKET, LATE_PACKET_TOLD),
         (THREE_GATEWAYS, THREE_GATEWAYS_TOLD),
-        (EARLIER_START, EARLIER_START_TOLD),
         (TORN_PATH, TORN_PATH_TOLD),
         (ONE_COMMIT, ONE_COMMIT_TOLD),
         (
@@ -134,9 +141,35 @@ fn stories_are_told_line_by_line(rt: HostRuntime) -> Result<(), Fail> {
     ] {
         // A journal of 16 MiB would take 64 MiB of memory for each gateway.
         let script = format!(in rt.alloc(); "reserve 30000\n{text}")?;
-        let ran = run_text(rt.alloc(), &script)?;
-        assert_eq!(rt; ran.end, LineEnd::Ran, "at {text}");
-        assert_eq!(rt; ran.out.octets(), told.as_bytes(), "at {text}");
+        assert_told(&rt, rt.alloc(), &script, told)?;
     }
+    Ok(())
+}
+
+/// The lines of an earlier start, and so many later ones.
+fn starts_again(alloc: Global, times: u64) -> Result<String, Fail> {
+    let mut text = String::from_str(alloc, BEFORE_STARTS)?;
+    for _ in 0..times {
+        text.push_str("halt 1\nstart 1\n")?;
+    }
+    Ok(text)
+}
+
+/// A node starts 255 times, the first included, and then no more.
+#[test]
+fn a_packet_of_an_earlier_start_is_expired(rt: HostRuntime) -> Result<(), Fail> {
+    let alloc = rt.alloc();
+    for (times, counter) in [(1, "02"), (254, "FF")] {
+        let lines = starts_again(alloc, times)?;
+        let text = format!(in alloc; "{lines}{BEHIND_STARTS}")?;
+        let told = format!(in alloc;
+            "{BEFORE_COUNTER}m 18 n1:1 g1 4E02000200000E{counter}\nm 19 n1:1 g2 4E02000200000E{counter}\n{BEHIND_COUNTER}"
+        )?;
+        assert_told(&rt, alloc, &text, &told)?;
+    }
+    let lines = starts_again(alloc, 255)?;
+    let ran = run_text(alloc, &format!(in alloc; "{lines}end\n")?)?;
+    assert_eq!(rt; ran.end, LineEnd::Refused(WorldKind::Restarts));
+    assert_eq!(rt; ran.place, 526);
     Ok(())
 }

@@ -3,6 +3,7 @@
 use gw_base::Octets;
 use replay_world::{LineEnd, Replay};
 use std::alloc::Global;
+use std::process::Abort;
 use std::test::Fail;
 use world_script::{Line, Script, ScriptKind, read};
 
@@ -24,7 +25,7 @@ pub(crate) fn script_of(alloc: Global, text: &str) -> Result<Script, Fail> {
 }
 
 /// Runs the lines of a script up to one that doesn't run; its last lines from an `end` on aren't run unless `to_end`.
-pub(crate) fn run_lines(alloc: Global, script: &Script, to_end: bool) -> Result<Run, Fail> {
+fn run_lines(alloc: Global, script: &Script, to_end: bool) -> Result<Run, Fail> {
     let mut replay = Replay::new(alloc, script)?;
     let mut out = Octets::of(alloc, b"")?;
     let mut place = 0;
@@ -60,6 +61,19 @@ pub(crate) fn run_text(alloc: Global, text: &str) -> Result<Run, Fail> {
 pub(crate) fn run_before_end(alloc: Global, text: &str) -> Result<Run, Fail> {
     let script = script_of(alloc, text)?;
     run_lines(alloc, &script, false)
+}
+
+/// A text runs with its `end`, and this is printed.
+pub(crate) fn assert_told(
+    rt: &impl Abort,
+    alloc: Global,
+    text: &str,
+    told: &str,
+) -> Result<(), Fail> {
+    let ran = run_text(alloc, text)?;
+    assert_eq!(rt; ran.end, LineEnd::Ran, "{text}");
+    assert_eq!(rt; ran.out.octets(), told.as_bytes(), "{text}");
+    Ok(())
 }
 
 /// Whether octets end with a text.
