@@ -4,6 +4,7 @@ use Rattle.area_disk.specs.declared.memory.MemoryArea.{MemoryArea}
 use Rattle.cdr_shelf.specs.declared.memory.MemoryShelf.{MemoryShelf}
 use Rattle.file_writer.specs.Files.{AreFilesOf}
 use Rattle.gateway_book.specs.Items.{items_of}
+use Rattle.gateway_book.specs.Opened.{StandsFitFor}
 use Rattle.gateway_book.specs.Up.{IsDown}
 use Rattle.gateway_book.specs.Value.{history_of}
 use Rattle.gw_base.specs.declared.history.HistoryEntry.{HistoryEntry}
@@ -20,11 +21,13 @@ IsKept true g h = h ≡ history_of g.book
 IsKept false g h = (h ≡ g.book.firm) ⊎ (h ≡ g.book.firm ++ g.book.rest)
 
 -- The area of a gateway stands for its history, or, of one that isn't down, for the firm entries and maybe those behind
--- them.
+-- them. Of one that goes on a crash leaves the firm entries, whatever else it does to the area.
 pub record IsAreaOf (setup : Setup) (place : ℕ) (g : Gateway) (a : MemoryArea) : Type 0 where
   pub history : List HistoryEntry
   pub down : IsDown area_tells (header_at setup place) history a
   pub kept : IsKept g.is_down g history
+  pub crash : g.is_down ≡ false → g.book.is_broken ≡ false → (octets : List ℕ) → area_tells.may_leave a octets →
+      StandsFitFor (header_at setup place) octets g.book.firm
 
 -- So does the area that is handed out, and the sealed files of the shelf are those that were written, of each stream in
 -- its order, and no others.

@@ -1,10 +1,11 @@
-use Rattle.std.proofs.Common.{refl, sym, ap, subst, ◌∙◌, ℕ, Bool, ◌&&◌, List, Option, Some}
+use Rattle.std.proofs.Common.{◌≡◌, refl, sym, ap, subst, ◌∙◌, ℕ, Bool, false, ◌&&◌, List, Option, Some}
 use Rattle.area_disk.specs.declared.memory.MemoryArea.{MemoryArea}
 use Rattle.area_disk.specs.declared.plan.Outcome3.TheVariants.{New}
 use Rattle.cgf_journal.specs.Trail.{is_closed, stop_stands}
 use Rattle.gateway_book.specs.Book.{area_of, value_of}
 use Rattle.gateway_book.specs.Comes.{left_by_stop}
 use Rattle.gateway_book.specs.Opened.{StandsFitFor}
+use Rattle.gateway_book.specs.Value.{BookValue}
 use Rattle.replay_world.specs.Played.{IsKept}
 use Rattle.replay_world.specs.Stands.{SiteStands, area_tells, header_at}
 use Rattle.replay_world.specs.declared.machine.Site.{Site}
@@ -27,4 +28,10 @@ returns-in-Some-Up c = λ setup place g m stands.
       kept = subst (λ (b : Bool). IsKept b g history) (sym up.runs)
           (left_kept (is_closed c.in-Some-Up.book.trail && stop_stands New c.in-Some-Up.book.trail)
           (value_of c.in-Some-Up.book) g.book up.up.value);
+      crash = λ runs sound octets may.
+          let left = subst (λ (a : MemoryArea). area_tells.may_leave a octets) c.into_area.ensures.area may in
+          let opened : is_closed c.in-Some-Up.book.trail ≡ false = ap (λ (v : BookValue). v.is_broken) up.up.value ∙ sound in
+          subst (λ (v : BookValue). StandsFitFor (header_at setup place) octets v.firm) up.up.value
+          (subst (λ (h : List ℕ). StandsFitFor h octets (value_of c.in-Some-Up.book).firm) up.up.named
+          (c.into_area.ensures.leaves.whole (refl, refl) opened octets left));
     }
