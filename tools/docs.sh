@@ -13,6 +13,7 @@ docs() {
     trap 'rm -rf "$work"' EXIT
     check_map "$work"
     check_uses "$work"
+    check_libraries "$work"
     check_picture "$work"
     stories | cmp -s - "$stories_file" || echo "$stories_file: not as examples/ has the stories; ./do stories makes it"
     # what the sources name, without comments
@@ -67,6 +68,22 @@ check_uses() {
         sed -E 's/^([a-z_0-9]+) .*Stands on (.*)/\1 \2/; s/,//g; s/ nothing$//' | sorted_words >"$work/told"
     comm -3 "$work/uses" "$work/told" | tr -d '\t' | cut -d ' ' -f 1 | sort -u |
         sed 's,.*,docs/ARCHITECTURE.md: crates.txt says otherwise of what & stands on,'
+}
+
+# Each library that the files of a crate name is on its line of crates.txt, and no other is.
+check_libraries() {
+    local work=$1 crate libraries
+    tr ' ' '\n' <"$work/uses" | sort -u >"$work/libraries"
+    while read -r crate libraries; do
+        tr ' ' '\n' <<<"$libraries" | sed '/^$/d' >"$work/listed"
+        {
+            sources "$crate" | xargs sed 's,//.*,,'
+            { specs "$crate"; proofs "$crate"; } | xargs -r sed 's,--.*,,'
+        } | grep -oE 'Rattle\.[a-z_0-9]+|(^|[^:A-Za-z_0-9])[a-z_0-9]+::' | grep -oE '[a-z_0-9]+(::)?$' | sed 's/::$//' |
+            grep -vxF -- "$crate" | sort -u | comm -12 - "$work/libraries" >"$work/named"
+        comm -23 "$work/listed" "$work/named" | sed "s,.*,crates.txt: no file of $crate names &,"
+        comm -13 "$work/listed" "$work/named" | sed "s,.*,crates.txt: $crate names &\, which its line lacks,"
+    done <"$work/uses"
 }
 
 # The picture of the layers has each crate, and each pair of it is in crates.txt. A name stands on those behind its
