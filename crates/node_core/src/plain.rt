@@ -1,5 +1,8 @@
 //! What a node is by its log, asked anew each time: each function reads the log, the newest line
 //! first, and keeps nothing.
+//!
+//! `NoMemory` is the one fault that any of them has: there was no memory for what it notes of the
+//! log, or for its answer.
 
 ghost use Rattle.std.specs.Prelude.{◌≡◌, ◌≤◌, IfOk, length, option_map};
 ghost use Rattle.path_mgmt.specs.NodePath.{is_alive};
@@ -51,7 +54,8 @@ impl Model for Setup {
 }
 
 impl Setup {
-    /// That of a node with this address, at most 255 gateways and this counter.
+    /// That of a node with this address, at most 255 gateways and this counter. `NoMemory`: there was
+    /// no memory for the list of its gateways.
     pub fn of(
         alloc: Global,
         address: u32,
@@ -301,7 +305,7 @@ pub(crate) fn peers(
     }
 }
 
-/// How far the node has come with a packet.
+/// How far the node has come with the packet of this number, from 1 over all starts.
 pub fn phase(alloc: Global, log: &[LogLine], packet: u64) -> Result<Phase, NoMemory>
     ensures { IfOk result (λ found. found ≡ phase_among (packets_of (log_view log.now)) packet) }
 {
@@ -312,7 +316,7 @@ pub fn phase(alloc: Global, log: &[LogLine], packet: u64) -> Result<Phase, NoMem
     })
 }
 
-/// The copies of a packet that was submitted since the start, in order of sending.
+/// The copies of the packet of this number, where it was submitted since the start, in order of sending.
 pub fn copies(alloc: Global, log: &[LogLine], packet: u64) -> Result<Vec<PacketCopy>, NoMemory>
     ensures { IfOk result (λ copies. copies.items ≡ copies_among (packets_of (log_view log.now)) packet) }
 {
