@@ -222,6 +222,7 @@ impl<A: Area> Trail<A> {
         ensures entries { AreEntries result.octets.now (waiting self.now) }
         ensures counted { length result.octets.now ≡ waiting_octets self.now }
         ensures short { waiting_octets self.now ≤ longest_batch }
+        ensures none { waiting_octets self.now ≡ 0 → length_of self.now ≡ firm_length self.now }
         ensures at { Told A.Area → result.at ≡ length (spelled (firm_entries self.now)) }
     {
         Waiting {

@@ -84,9 +84,10 @@ module _ {A : Type 0} {tells : Ghosts A} (new : Book A tells) where
     pub memory : result ≡ marked.NoMemory → is_closed new.trail ≡ false
     pub counts : IsMarkCounted result
 
-  -- what is told of a commit: how many entries are firm, or how many commits and openings again have failed
+  -- what is told of a commit: how many entries are firm, which are all of them, or how many commits and openings again
+  -- have failed
   abbrev pub IsCommitTold : Result ℕ Broken → Type 0
-  IsCommitTold (Ok firm) = firm ≡ firm_length new.trail
+  IsCommitTold (Ok firm) = (firm ≡ firm_length new.trail) × (firm ≡ length_of new.trail)
   IsCommitTold (Err broken) = broken.faults ≡ new.cuts
 
 -- Storage.

@@ -13,6 +13,7 @@ pub mod FitHistory
 pub mod Index
 pub mod Items
 pub mod Limits
+pub mod Lookups
 pub mod Marks
 pub mod Once
 pub mod OpenPlan
@@ -44,7 +45,6 @@ pub mod UpLaws
 pub mod Begun
 pub mod Faults
 pub mod Judging
-pub mod Lookups
 pub mod Adding
 pub mod Cursor
 pub mod Followed

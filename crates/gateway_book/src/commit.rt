@@ -1,10 +1,10 @@
 //! How a book's history is made firm, what has become of its answers, and how it ends.
-ghost use Rattle.std.specs.Prelude.{◌≡◌, ◌≤◌, ◌++◌, IsTrue, is_err};
+ghost use Rattle.std.specs.Prelude.{◌≡◌, ◌≤◌, ◌++◌, IsTrue, OnOk, is_err};
 ghost use Rattle.area_disk.specs.declared.plan.Outcome3.{Outcome3};
 ghost use Rattle.gate_journal.specs.Format.{fewest_octets, most_octets};
 ghost use Rattle.gate_journal.specs.Moments.{Told};
 ghost use Rattle.cgf_journal.specs.Format.{StandsFor};
-ghost use Rattle.cgf_journal.specs.Trail.{IsAtRest, firm_length, is_closed, left_by_stop};
+ghost use Rattle.cgf_journal.specs.Trail.{IsAtRest, firm_length, is_closed, left_by_stop, waiting_octets};
 ghost use Rattle.gateway_book.specs.Caller.{IsCommitTold};
 ghost use Rattle.gateway_book.specs.Calls.{commit_left, counts_of, settled_by, settled_of};
 ghost use Rattle.gateway_book.specs.Comes.{asked_to_commit};
@@ -40,7 +40,11 @@ impl<A: Area> Book<A> {
         ensures told { IsCommitTold self.new result }
     {
         match self.firm_up() {
-            Ok(()) => Ok(self.trail.firm()),
+            Ok(()) => {
+                // The clause of `waiting` says that where no entry waits, all are firm.
+                let _waiting = self.trail.waiting();
+                Ok(self.trail.firm())
+            }
             Err(Device) => Err(Broken { faults: self.cuts }),
         }
     }
@@ -50,6 +54,7 @@ impl<A: Area> Book<A> {
         ensures moved { Told A.Area → value_of self.new ≡
             after_commit (fortune_of self.old self.new) (value_of self.old) }
         ensures closed { is_closed self.new.trail ≡ is_err result }
+        ensures emptied { OnOk result (waiting_octets self.new.trail ≡ 0) }
         ensures any_moment { CrashLeaves self.old self.new }
         ensures stays { Stays self.old self.new }
         ensures cause { HasCause self.old self.new }

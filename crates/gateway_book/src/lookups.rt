@@ -1,8 +1,9 @@
 //! What a book tells without reading its area.
 ghost use Rattle.std.specs.Prelude.{◌≡◌, slice_get};
 ghost use Rattle.gate_journal.specs.Moments.{Told};
-ghost use Rattle.gateway_book.specs.Index.{side_of};
-ghost use Rattle.gateway_book.specs.Lookups.{path_in, paths_in};
+ghost use Rattle.cgf_journal.specs.Trail.{is_closed};
+ghost use Rattle.gateway_book.specs.Index.{observed_by, side_of};
+ghost use Rattle.gateway_book.specs.Lookups.{key_seen, path_in, paths_in};
 ghost use Rattle.gateway_book.specs.Told.{key_of, paths_of};
 ghost use Rattle.gateway_book.specs.Value.{history_of};
 
@@ -62,7 +63,8 @@ impl<A: Area> Book<A> {
     /// entries first named them; none where there are no more. Of a broken book the firm part tells. It reads nothing
     /// and takes no memory.
     pub fn path(&self, k: usize) -> Option<Addr>
-        ensures { Told A.Area → result ≡ slice_get (paths_of (history_of (value_of self.now))) k }
+        ensures told { Told A.Area → result ≡ slice_get (paths_of (history_of (value_of self.now))) k }
+        ensures counted { result ≡ slice_get (paths_in (side_of (is_closed self.now.trail) self.now.index)) k }
     {
         an_index_tells_its_history();
         self.index.path(self.trail.is_closed(), k)
@@ -71,7 +73,8 @@ impl<A: Area> Book<A> {
     /// What a number on the wire means in a node's present epoch: the start of that epoch, the request number that is
     /// meant, and its state. Of a broken book it is told by the firm part. It reads nothing and takes no memory.
     pub fn key(&self, node: NodeId, wire: u16) -> Key
-        ensures { Told A.Area → result ≡ key_of (history_of (value_of self.now)) node wire }
+        ensures told { Told A.Area → result ≡ key_of (history_of (value_of self.now)) node wire }
+        ensures counted { result ≡ key_seen (observed_by (is_closed self.now.trail) self.now.index node) wire }
     {
         an_index_tells_its_history();
         let firm = self.trail.is_closed();

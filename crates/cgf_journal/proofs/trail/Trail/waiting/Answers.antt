@@ -1,7 +1,7 @@
 use Rattle.std.proofs.Common.{sym, subst, arith, List, ℕ}
 use Rattle.entry_codec.specs.Content.{AreEntries, entries_of}
 use Rattle.cgf_journal.specs.Trail.{waiting}
-use Rattle.cgf_journal.proofs.Trails.{firm_spelled}
+use Rattle.cgf_journal.proofs.Trails.{firm_spelled, length_firm}
 use Rattle.cgf_journal.proofs.trail.Trail.waiting.Goals as goal
 
 pub returns-clause-entries : goal.returns-clause-entries
@@ -12,3 +12,6 @@ returns-clause-entries g c =
 
 pub returns-clause-at : goal.returns-clause-at
 returns-clause-at g c = λ told. let t = c.args.self.now in omega (arith, c.firm_costs.ensures, firm_spelled t told)
+
+pub returns-clause-none : goal.returns-clause-none
+returns-clause-none g c = λ none. length_firm c.args.self.now none

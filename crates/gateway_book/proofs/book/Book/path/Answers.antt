@@ -1,4 +1,4 @@
-use Rattle.std.proofs.Common.{ap, ◌∙◌, slice_get}
+use Rattle.std.proofs.Common.{Bool, ap, ◌∙◌, slice_get}
 use Rattle.std.specs.List.{filter_map}
 use Rattle.std.specs.Option.{option_map}
 use Rattle.gw_base.specs.declared.address.Addr.{Addr}
@@ -8,14 +8,15 @@ use Rattle.gw_base.specs.Observed.{Observed}
 use Rattle.cgf_journal.specs.Trail.{firm_entries, is_closed}
 use Rattle.gateway_book.specs.Book.{value_of}
 use Rattle.gateway_book.specs.Followed.{all_entries}
-use Rattle.gateway_book.specs.Index.{observed_by}
+use Rattle.gateway_book.specs.Index.{observed_by, side_of}
+use Rattle.gateway_book.specs.Lookups.{paths_in}
 use Rattle.gateway_book.specs.Value.{history_of}
 use Rattle.gateway_book.proofs.Committing.{asked}
 use Rattle.gateway_book.proofs.book.Book.path.Goals as goal
 
-pub returns : goal.returns
+pub returns-clause-told : goal.returns-clause-told
 unfolding observed_by
-returns g c = λ told.
+returns-clause-told g c = λ told.
     let book = c.args.self.now in
     let laws = c.an_index_tells_its_history.ensures in
     let firm = c.is_closed.result in
@@ -24,3 +25,8 @@ returns g c = λ told.
     let opening : (n : NodeId) → _ = λ n. ap (λ (o : Observed). o.opening) (laws.observed firm book.index h n follows) in
     c.path.ensures
     ∙ λ i. slice_get (filter_map (λ (n : NodeId). option_map (λ (o : Opening). let a : Addr = record { ip = n.0; port = o.port } in a) (opening n i)) (laws.known firm book.index h follows i)) c.args.k
+
+pub returns-clause-counted : goal.returns-clause-counted
+returns-clause-counted g c =
+    let book = c.args.self.now in
+    c.path.ensures ∙ ap (λ (firm : Bool). slice_get (paths_in (side_of firm book.index)) c.args.k) c.is_closed.ensures.closed
