@@ -1,5 +1,5 @@
 // The writer of a gateway's files, which goes on behind the items that it has taken.
-ghost use Rattle.std.specs.Prelude.{◌≡◌, ◌+◌, ◌<◌, ◌^◌, ℕ, All, IfSome, List, None, OnOk, drop, false, length};
+ghost use Rattle.std.specs.Prelude.{◌≡◌, ◌+◌, ◌<◌, ◌≤◌, ◌^◌, ℕ, All, IfSome, List, None, OnOk, drop, false, length};
 ghost use Rattle.std.proofs.Props.{props};
 ghost use Rattle.file_writer.specs.AllStreams.{IsFit};
 ghost use Rattle.file_writer.specs.Streams.{Settings};
@@ -84,7 +84,8 @@ impl Files {
 
 /// How many items a writer has taken once it has taken these behind so many, if it may take so many.
 fn count_after(taken: u64, items: &[Item]) -> Option<u64>
-    ensures { IfSome result (λ n. (n ≡ taken + length items.now) × (n < 2 ^ 31)) }
+    ensures some { IfSome result (λ n. (n ≡ taken + length items.now) × (n < 2 ^ 31)) }
+    ensures none { result ≡ None → 2 ^ 31 ≤ taken + length items.now }
 {
     let count = taken.checked_add(items.len() as u64)?;
     if count > MOST_ITEMS {

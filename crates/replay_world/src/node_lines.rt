@@ -2,6 +2,7 @@
 ghost use Rattle.std.specs.Prelude.{◌≡◌, ◌-◌, ◌++◌, [], ℕ, ◌≢◌, IfErr, IfOk, IfSome, OnOk, MatchOption, None, Some, Ok, Err, false, true, map, List};
 ghost use Rattle.node_core.specs.Drafts.{is_without_records, value_octets};
 ghost use Rattle.node_core.specs.declared.fault.DraftFault.TheVariants as draft_fault;
+ghost use Rattle.node_core.specs.declared.fault.SubmitFault.TheVariants as submit_fault;
 ghost use Rattle.node_core.specs.Log.{LogEntry};
 ghost use Rattle.node_core.specs.Submitting.{refusal_of as refusal_by};
 ghost use Rattle.once_core.specs.Expired.{starts_in};
@@ -37,6 +38,7 @@ const MOST_SUBMISSIONS: u64 = 4_611_686_018_427_355_136;
 fn draft_fault_name(fault: DraftFault) -> Option<&'static str>
     ensures name { IfSome result (λ name. name.now ≡ draft_fault_name fault) }
     ensures own { IfSome result (λ name. fault ≢ draft_fault.NoMemory) }
+    ensures none { result ≡ None → fault ≡ draft_fault.NoMemory }
 {
     match fault {
         DraftFault::Count => Some("Count"),
@@ -49,6 +51,7 @@ fn draft_fault_name(fault: DraftFault) -> Option<&'static str>
 fn submit_fault_name(fault: SubmitFault) -> Option<&'static str>
     ensures name { IfSome result (λ name. name.now ≡ submit_fault_name fault) }
     ensures own { IfSome result (λ name. refusal_by fault ≡ Some fault) }
+    ensures none { result ≡ None → fault ≡ submit_fault.NoMemory }
 {
     match fault {
         SubmitFault::Empty => Some("Empty"),

@@ -12,7 +12,7 @@ pub advance-requires-clause-few : goal.advance-requires-clause-few
 advance-requires-clause-few c =
     let has = subst (λ (o : Option ℕ). IfSome o (λ n. (taken_of c.args.self.now.writer ≡ n) × (n < 2 ^ 31))) c.in-Some.is
     c.args.self.now.counted in
-    omega (arith, has.0, c.in-Some-count_after.ensures)
+    omega (arith, has.0, c.in-Some-count_after.ensures.some)
 
 pub returns : goal.returns
 returns c = λ settings written all stands are.
@@ -26,7 +26,7 @@ returns c = λ settings written all stands are.
         same_count c.in-Some-count_after.count n (length all) is (omega (
           arith,
           goes.0,
-          c.in-Some-count_after.ensures,
+          c.in-Some-count_after.ensures.some,
           ap (λ (xs : List Item). length xs) are,
           length-drop written all,
           stands.writes.most,
