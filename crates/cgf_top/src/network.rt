@@ -79,16 +79,6 @@ pub fn drill_report_of<W: Watch>(
     drill(alloc, &script, watch)
 }
 
-/// How many lines a script has.
-fn lines_of(script: &Script) -> u64 {
-    for at in 0..usize::MAX {
-        if script.line(at).is_none() {
-            return at as u64;
-        }
-    }
-    u64::MAX
-}
-
 /// Runs the lines of a script, up to the first that the world refuses.
 fn replay<W: Watch>(alloc: Global, script: &Script, watch: &mut W) -> Result<Report, NoMemory>
     requires { length script.now.lines ≤ most_text }
@@ -100,7 +90,7 @@ fn replay<W: Watch>(alloc: Global, script: &Script, watch: &mut W) -> Result<Rep
     let _kind = script.kind();
     let mut replay = Replay::new(alloc, script)?;
     let mut printed = Octets::from_vec(Vec::new(alloc));
-    let all = lines_of(script);
+    let all = script.lines().len() as u64;
     let mut at = 0;
     while let Some(line) = script.line(at) {
         watch.ran(at as u64, all);
@@ -155,7 +145,7 @@ fn drill<W: Watch>(alloc: Global, script: &Script, watch: &mut W) -> Result<Repo
     // The clause of `kind` says that its lines are read, so that they end with `end`.
     let _kind = script.kind();
     let mut replay = Replay::new(alloc, script)?;
-    let all = lines_of(script);
+    let all = script.lines().len() as u64;
     let mut at = 0;
     while let Some(line) = script.line(at) {
         watch.ran(at as u64, all);

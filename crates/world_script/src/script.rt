@@ -60,7 +60,7 @@ impl Script {
     }
 
     /// All lines, in order.
-    pub(crate) fn lines(&self) -> &[Line]
+    pub fn lines(&self) -> &[Line]
         ensures { result.now ≡ self.now.lines }
     {
         &self.lines
