@@ -1,4 +1,4 @@
-use Rattle.std.proofs.Common.{◌≡◌, ◌+◌, List, ◌++◌, length, take, drop, true, false, sym, ap, ◌∙◌, refl, arith}
+use Rattle.std.proofs.Common.{◌≡◌, List, ◌++◌, length, take, drop, true, false, sym, ap, ◌∙◌, refl, arith}
 use Rattle.cgf_journal.specs.Merged.{merged, moved_key, moved_keys}
 use Rattle.cgf_journal.specs.declared.key.KeptKey.{KeptKey}
 use Rattle.std.proofs.lemmas.List.{length-map}
