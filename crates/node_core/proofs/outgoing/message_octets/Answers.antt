@@ -1,6 +1,5 @@
 use Rattle.std.proofs.Common.{◌≡◌, ◌%◌, length, refl, ap, arith}
 use Rattle.gw_base.specs.Buffer.{Buffered}
-use Rattle.gtpp_message.specs.Writing.{written}
 use Rattle.gtpp_message.specs.Values.{message_value}
 use Rattle.node_core.proofs.WrittenLemmas.{length-written}
 use Rattle.node_core.proofs.outgoing.message_octets.Goals as goal

@@ -1,4 +1,4 @@
-use Rattle.std.proofs.Common.{◌≡◌, length, map, refl, arith}
+use Rattle.std.proofs.Common.{◌≡◌, length, refl, arith}
 use Rattle.std.proofs.lemmas.List.{length-map}
 use Rattle.node_core.specs.Peers.{peer_anew}
 use Rattle.node_core.proofs.NodeLemmas.{numbers_anew}

@@ -1,10 +1,9 @@
 use Rattle.std.proofs.Common.{◌≡◌, ℕ, suc, ◌-◌, ◌<◌, min, List, map, length, refl, sym, ap, subst, ◌∙◌, arith}
 use Rattle.std.specs.Prelude.{IfSome}
 use Rattle.std.proofs.lemmas.List.{length-map}
-use Rattle.path_mgmt.specs.NodePath.{is_alive}
 use Rattle.node_core.specs.declared.peer.Peer.{Peer}
 use Rattle.node_core.specs.declared.sending.Sending.{Sending}
-use Rattle.node_core.specs.Moving.{favourite_by, moved_at_tick, quiet_by}
+use Rattle.node_core.specs.Moving.{moved_at_tick, quiet_by}
 use Rattle.node_core.specs.NodeFields.{value_of_node}
 use Rattle.node_core.specs.Packets.{PacketState, packet_after_all, while_open}
 use Rattle.node_core.specs.Peers.{all_drawn}
