@@ -7,7 +7,7 @@
 #                       speak of it; also a lemma, test, edit or file of that name; NAME may have a crate, and a
 #                       type or a file, in front, which say where it stands: gw_base::Moment::of
 #   ./do proved [CRATE] the public calls with their clauses, made from the sources
-#   ./do stories        makes the module of tests of the stories in examples/, where they have changed
+#   ./do stories        puts the stories in examples/ behind those of crates/story_runs, where they have changed
 #   ./do docs           what the documents say that the sources don't; silent where there is nothing
 top=$(dirname "$(readlink -f "$0")")
 cd "$top" || exit 1
@@ -67,7 +67,12 @@ proved)
         echo
     done
     ;;
-stories) stories >"$stories_file" ;;
+stories)
+    for part in stdin stdout; do
+        whole=$(mktemp) && stories_file $part >"$whole" && cat "$whole" >"$stories_folder/$part"
+        rm "$whole"
+    done
+    ;;
 docs)
     found=$(docs)
     [ -z "$found" ] || { printf '%s\n' "$found"; exit 1; }

@@ -15,7 +15,10 @@ docs() {
     check_uses "$work"
     check_libraries "$work"
     check_picture "$work"
-    stories | cmp -s - "$stories_file" || echo "$stories_file: not as examples/ has the stories; ./do stories makes it"
+    for page in stdin stdout; do
+        stories_file $page | cmp -s - "$stories_folder/$page" ||
+            echo "$stories_folder/$page: not as examples/ has the stories; ./do stories puts them there"
+    done
     # what the sources name, without comments
     {
         sources | xargs sed 's,//.*,,'

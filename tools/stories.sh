@@ -1,55 +1,51 @@
-# The stories of examples/ as a module of tests.
+# The stories of examples/ among those that crates/story_runs runs.
 
-stories_file=crates/trials/src/story_texts.rt
+stories_folder=crates/story_runs
 
-# A file as a string of Rust, a line of it in each line, and long lines in pieces.
-as_string() {
-    awk -v most=120 '
-        BEGIN { print "\"\\" }
-        {
-            line = $0; gsub(/[\\"]/, "\\\\&", line)
-            while (length(line) > most) {
-                end = most - 1; while (substr(line, end + 1, 1) == " " || substr(line, end, 1) == "\\") end--
-                print substr(line, 1, end) "\\"; line = substr(line, end + 1)
-            }
-            print line
-        }
-        END { printf "\"" }' "$1"
+# The lines of a file of story_runs up to the first story of examples/.
+stories_before() {
+    sed '/^== examples\//,$d' "$1"
 }
 
-# The module: each feed and each replay with what is printed for it and what is said of its end.
+# What a replay hands back, by its settings: an area and a shelf for each gateway, and its nodes.
+handed_back() {
+    awk 'BEGIN { gateways = nodes = 1 } $1 == "gateways" { gateways = $2 } $1 == "nodes" { nodes = $2 }
+        END { print "handed back: areas " gateways ", shelves " gateways ", nodes " nodes }' "$1"
+}
+
+# How a story ends: as its file NAME.err says, or done.
+story_end() {
+    local name=${1%.*}
+    if [ -e "$name.err" ]; then
+        echo "status 2, $(cat "$name.err")"
+        return
+    fi
+    echo "status 0, cgf: done"
+    [ "${1##*.}" != replay ] || handed_back "$1"
+}
+
+# What the file stdin, or stdout, of story_runs has of each feed and each replay.
 stories() {
-    local LC_ALL=C story name part
-    local all=(examples/*.feed examples/*.replay)
-    cat <<TEXT
-//! The stories of \`examples/\`, with what stands beside each. \`./do stories\` makes this file of them.
-
-/// A script, what is printed for it, and what is said on the standard error where it can't be run to its end.
-#[derive(Clone, Copy)]
-pub(crate) struct Story {
-    /// The command that runs it.
-    pub(crate) command: &'static str,
-    pub(crate) name: &'static str,
-    pub(crate) script: &'static str,
-    pub(crate) printed: &'static str,
-    pub(crate) told: &'static str,
+    local LC_ALL=C story between=
+    for story in examples/*.feed examples/*.replay; do
+        printf '%s' "$between"
+        between=$'\n'
+        echo "== $story"
+        case $1 in
+        stdin)
+            echo "${story##*.} -"
+            cat "$story"
+            ;;
+        stdout)
+            cat "${story%.*}.out"
+            story_end "$story"
+            ;;
+        esac
+    done
 }
 
-pub(crate) const STORIES: [Story; ${#all[@]}] = [
-TEXT
-    for story in "${all[@]}"; do
-        name=${story%.*}
-        echo "    Story {"
-        echo "        command: \"${story##*.}\","
-        echo "        name: \"${name#examples/}\","
-        for part in "script:${story##*.}" printed:out told:err; do
-            if [ -s "$name.${part#*:}" ]; then
-                printf '        %s: %s,\n' "${part%:*}" "$(as_string "$name.${part#*:}")"
-            else
-                echo "        ${part%:*}: \"\","
-            fi
-        done
-        echo "    },"
-    done
-    echo "];"
+# The file as it is to be.
+stories_file() {
+    stories_before "$stories_folder/$1"
+    stories "$1"
 }

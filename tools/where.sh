@@ -344,7 +344,8 @@ enclosing() {
         }' -
 }
 
-# The tests that name a word, or else call a helper that does, and the edits that change a line of one of these bodies.
+# The tests that name a word, or else call a helper that does, the stories that print it, and the edits that change a
+# line of one of these bodies.
 tried() {
     local all=$1 bodies=$2 word=$3 text=$4 crates=$5 type=$6 hits=$7 tests helpers hop
     tests=$({
@@ -375,6 +376,7 @@ tried() {
         show "tests that name it" "none${tests:+; of its crate are}"
         [ -z "$tests" ] || head -n 12 <<<"$tests" | sed 's/^/    /'
     fi
+    [[ ! $word =~ ^[A-Z] ]] || show "stories that print it" "$(printing "$word")"
     show "edits that must fail" "$({
         ls crates/*/must-fail/*.edit | within "$crates" | xargs grep -lE -- "$text" | while read -r edit; do
             [[ ! $type =~ ^[A-Z] ]] ||
@@ -388,6 +390,15 @@ tried() {
                 $3 != "" { for (i = 1; i <= n; i++) if (file[i] == $2 && $3 >= first[i] && $3 <= last[i]) print $1 }' \
                 <(printf '%s\n' "$bodies") -
     } | sort -u)"
+}
+
+# The stories in which a word is printed, each with the first line that has it.
+printing() {
+    awk -v word="$1" '
+        /^== / { name = substr($0, 4); next }
+        match(" " $0 " ", "[^A-Za-z0-9_]" word "[^A-Za-z0-9_]") && !(name in told) {
+            told[name] = 1; print FILENAME ":" FNR ": " name
+        }' crates/story_runs/stdout
 }
 
 # The lines of pages that have a name between backquotes.

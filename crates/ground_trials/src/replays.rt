@@ -1,10 +1,9 @@
-//! Tests of `world_script`: the lines of a replay and their first faults, scripts as they are printed, and samples.
+//! Tests of `world_script`: the lines of a replay, scripts as they are printed, and samples.
 
-use crate::scripts::assert_refused_as;
 use std::alloc::Global;
 use std::process::Abort;
 use std::test::Fail;
-use world_script::{InputKind, Line, Mode, Script, ScriptKind, print, read, sample};
+use world_script::{Line, Mode, Script, ScriptKind, print, read, sample};
 
 /// The text reads as a script of this kind.
 fn script_of(rt: &impl Abort, alloc: Global, text: &[u8], kind: ScriptKind) -> Script {
@@ -143,50 +142,6 @@ fn what_lines_of_a_replay_say(rt: HostRuntime) {
     assert_submitted(&rt, &script);
     assert_commands(&rt, &script);
     assert!(&rt; matches!(script.line(4), Some(Line::Mark { gateway: 2 })));
-}
-
-#[test]
-fn the_first_test_that_a_line_of_a_replay_fails_is_told(rt: HostRuntime) {
-    let refused = [
-        ("in 1.2.3.4:5 00\nend", 1, InputKind::Word),
-        ("renew 1 100\nend", 1, InputKind::NotBuilt),
-        ("end\nprofile", 2, InputKind::NotBuilt),
-        ("armshelf\nend", 1, InputKind::NotBuilt),
-        ("takeover x\nend", 1, InputKind::NotBuilt),
-        ("nodestop 1\nend", 1, InputKind::NotBuilt),
-        ("end\ntick 1", 2, InputKind::After),
-        ("tick 1\nnodes\nend", 2, InputKind::Late),
-        ("mark\nend", 1, InputKind::Arity),
-        ("tick 1 2\nend", 1, InputKind::Arity),
-        ("flow 1\nend", 1, InputKind::Arity),
-        ("submit 1 1 0600\nend", 1, InputKind::Arity),
-        ("redirect 1\nend", 1, InputKind::Arity),
-        ("redirect 1 59 1 1\nend", 1, InputKind::Arity),
-        ("arm 1 rot\nend", 1, InputKind::Arity),
-        ("arm x 0 rot\nend", 1, InputKind::NotBuilt),
-        ("arm 1 0 new\nend", 1, InputKind::Number),
-        ("arm 1 1 newer\nend", 1, InputKind::Number),
-        ("fail 1 0\nend", 1, InputKind::Number),
-        ("gateways 9\nend", 1, InputKind::Number),
-        ("nodes 0\nend", 1, InputKind::Number),
-        ("mix 18446744073709551616\nend", 1, InputKind::Number),
-        ("redirect 1 64\nend", 1, InputKind::Number),
-        ("submit 1 256 060 0\nend", 1, InputKind::Number),
-        ("submit 1 1 060 00\nend", 1, InputKind::Hex),
-        ("submit 1 1 060000 00\nend", 1, InputKind::Hex),
-        ("submit 1 1 0600 00 0\nend", 1, InputKind::Hex),
-        ("flow\n", 2, InputKind::NoEnd),
-    ];
-    for (text, place, kind) in refused {
-        assert_refused_as(
-            &rt,
-            rt.alloc(),
-            ScriptKind::Replay,
-            text.as_bytes(),
-            place,
-            kind,
-        );
-    }
 }
 
 /// The sum of the octets of a text, each times its place from 1, modulo 2^32.

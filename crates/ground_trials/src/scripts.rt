@@ -1,10 +1,11 @@
-//! Tests of `world_script`: the lines of a feed, and their first faults.
+//! Tests of `world_script`: the lines of a feed, and faults that take long scripts. Those of short ones are stories of
+//! `story_runs`.
 
 use gw_base::Addr;
 use std::alloc::Global;
 use std::process::Abort;
 use std::test::Fail;
-use world_script::{InputFault, InputKind, Line, Script, ScriptKind, read};
+use world_script::{InputFault, InputKind, Line, Script};
 
 /// A script of every form of line, whose last line lacks its line feed.
 const EVERY_FORM: &str = "# settings\n\
@@ -78,78 +79,11 @@ fn every_form_of_line_is_read(rt: HostRuntime) {
     assert!(&rt; script.line(14).is_none());
 }
 
-/// The text is refused at this line for this reason, as a script of this kind.
-pub(crate) fn assert_refused_as(
-    rt: &impl Abort,
-    alloc: Global,
-    script: ScriptKind,
-    text: &[u8],
-    place: u64,
-    kind: InputKind,
-) {
-    match read(alloc, text, script) {
+/// The text is refused at this line for this reason, as a feed.
+fn assert_refused(rt: &impl Abort, alloc: Global, text: &[u8], place: u64, kind: InputKind) {
+    match Script::read(alloc, text) {
         Ok(_) => assert!(rt; false, "line {place} is taken"),
         Err(fault) => assert_eq!(rt; fault, InputFault::Bad { place, kind }),
-    }
-}
-
-/// The same as a feed.
-fn assert_refused(rt: &impl Abort, alloc: Global, text: &[u8], place: u64, kind: InputKind) {
-    assert_refused_as(rt, alloc, ScriptKind::Feed, text, place, kind);
-}
-
-#[test]
-fn the_first_test_that_a_line_fails_is_told(rt: HostRuntime) {
-    let refused = [
-        ("frob 1\nend", 1, InputKind::Word),
-        ("\n#\n \nend", 3, InputKind::Word),
-        (" # a comment begins its line\nend", 1, InputKind::Word),
-        ("at\t1\nend", 1, InputKind::Word),
-        ("end\r", 1, InputKind::Word),
-        ("end\n\nat 1\n", 3, InputKind::After),
-        ("end\nfrob", 2, InputKind::Word),
-        ("end\nreserve 200\n", 2, InputKind::After),
-        ("end\nend", 2, InputKind::After),
-        ("at 1\nreserve 200\nend", 2, InputKind::Late),
-        ("at 1\nreserve\nend", 2, InputKind::Late),
-        ("at\nend", 1, InputKind::Arity),
-        ("at 1 2\nend", 1, InputKind::Arity),
-        ("in 1.2.3.4:5\nend", 1, InputKind::Arity),
-        ("mark 1\nend", 1, InputKind::Arity),
-        ("close 1\nend", 1, InputKind::Arity),
-        ("end 1", 1, InputKind::Arity),
-        ("reserve\nend", 1, InputKind::Arity),
-        ("limit records\nend", 1, InputKind::Arity),
-        ("offset\nend", 1, InputKind::Arity),
-        ("rule A0 1\nend", 1, InputKind::Arity),
-        ("rule A0 1 2 3\nend", 1, InputKind::Arity),
-        ("at 01\nend", 1, InputKind::Number),
-        ("at +1\nend", 1, InputKind::Number),
-        ("at 4102444800\nend", 1, InputKind::Number),
-        ("at 18446744073709551616\nend", 1, InputKind::Number),
-        ("in 1.2.3:5 00\nend", 1, InputKind::Number),
-        ("in 1.2.3.256:5 00\nend", 1, InputKind::Number),
-        ("in 1.2.3.4.5:5 00\nend", 1, InputKind::Number),
-        ("in 1.2.3.4:65536 0\nend", 1, InputKind::Number),
-        ("reserve 99\nend", 1, InputKind::Number),
-        ("reserve 268435457\nend", 1, InputKind::Number),
-        ("limit records 0\nend", 1, InputKind::Number),
-        ("limit records 1000001\nend", 1, InputKind::Number),
-        ("limit size 1000000001\nend", 1, InputKind::Number),
-        ("limit open 0\nend", 1, InputKind::Number),
-        ("limit frob 1\nend", 1, InputKind::Number),
-        ("offset 03:30\nend", 1, InputKind::Number),
-        ("offset +16:00\nend", 1, InputKind::Number),
-        ("offset +15:60\nend", 1, InputKind::Number),
-        ("offset +15-59\nend", 1, InputKind::Number),
-        ("in 1.2.3.4:5 00 0\nend", 1, InputKind::Hex),
-        ("in 1.2.3.4:5 0G\nend", 1, InputKind::Hex),
-        ("rule A0 1 16\nend", 1, InputKind::Rule),
-        ("", 1, InputKind::NoEnd),
-        ("at 1\n\n# no end", 4, InputKind::NoEnd),
-    ];
-    for (text, place, kind) in refused {
-        assert_refused(&rt, rt.alloc(), text.as_bytes(), place, kind);
     }
 }
 
@@ -182,11 +116,4 @@ fn no_line_holds_the_octet_after_the_most(rt: HostRuntime) -> Result<(), Fail> {
     text[0] = b'?';
     assert_refused(&rt, rt.alloc(), &text, 1, InputKind::Word);
     Ok(())
-}
-
-#[test]
-fn lines_of_a_replay_are_none_of_a_feed(rt: HostRuntime) {
-    assert_refused(&rt, rt.alloc(), b"renew 100\nend", 1, InputKind::NotBuilt);
-    assert_refused(&rt, rt.alloc(), b"store 1 100\nend", 1, InputKind::Word);
-    assert_refused(&rt, rt.alloc(), b"tick 1\nend", 1, InputKind::Word);
 }

@@ -1,8 +1,7 @@
-//! Tests of replays by the public calls of `replay_world`: stories with all that is printed for them, what a stop or a
-//! failure at each call of a device leads to, what the world refuses, and what a replay hands out; and of the jobs of
-//! `replay`, `sample` and `drill` by `run_cgf`. A crate with tests is proved twice in the gate, so they stand here,
-//! above these crates, and are proved over their contracts alone; a crate beside `trials`, so that neither is the
-//! longest.
+//! Tests of replays by the public calls of `replay_world`: what a stop or a failure at each call of a device leads to,
+//! and what a replay hands out. Stories that no more than print are those of `story_runs`. A crate with tests is proved
+//! twice in the gate, so they stand here, above these crates, and are proved over their contracts alone; a crate beside
+//! `trials`, so that neither is the longest.
 #![tactic(auto)]
 
 #[cfg(test)]
@@ -11,12 +10,6 @@ mod devices;
 mod full_batches;
 #[cfg(test)]
 mod handing_out;
-#[cfg(test)]
-mod jobs;
-#[cfg(test)]
-mod refusals;
-#[cfg(test)]
-mod stories;
 #[cfg(test)]
 mod told;
 #[cfg(test)]

@@ -1,7 +1,7 @@
-//! Tests of the upper crates by their public calls: the book of a gateway, CDR files and their writer, and the job of
-//! `feed` and `show`. A crate with tests is proved twice in the gate, so tests stand here, above the crates, and are
-//! proved over their contracts alone; those of the lower crates stand in `ground_trials`, those of nodes and worlds in
-//! `world_trials`.
+//! Tests of the upper crates by their public calls: the book of a gateway, CDR files and their writer, and of the job of
+//! `feed` and `show` what `story_runs` can't show. A crate with tests is proved twice in the gate, so tests stand here,
+//! above the crates, and are proved over their contracts alone; those of the lower crates stand in `ground_trials`, those
+//! of nodes and worlds in `world_trials`.
 #![tactic(auto)]
 
 #[cfg(test)]
@@ -26,11 +26,5 @@ mod cdr_reading;
 mod job;
 #[cfg(test)]
 mod job_datagrams;
-#[cfg(test)]
-mod job_show;
-#[cfg(test)]
-mod stories;
-#[cfg(test)]
-mod story_texts;
 #[cfg(test)]
 mod writer;

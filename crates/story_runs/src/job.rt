@@ -1,0 +1,54 @@
+//! A job over words and an input in memory.
+
+use cgf_top::{Nobody, Played, Status, run_cgf};
+use gw_base::{MemorySink, MemorySource, Octets};
+use std::alloc::Global;
+use std::io;
+use std::io::{Error, ErrorKind};
+
+/// How many octets the source gives a call, and how many the job may write.
+const PIECE: usize = 65_536;
+
+const MOST_WRITTEN: usize = 1_100_000;
+
+/// What stands in front of an input in hexadecimal.
+const OCTETS: &str = "octets ";
+
+/// How a job ended, what it wrote, and how many areas, shelves and nodes it handed back, where it handed back a network.
+#[derive(Drop)]
+pub(crate) struct Done {
+    pub(crate) status: Status,
+    pub(crate) printed: Vec<u8>,
+    pub(crate) played: Option<(usize, usize, usize)>,
+}
+
+/// The job over these words, with single spaces between them, and this input.
+pub(crate) fn run(alloc: Global, words: &str, input: &str) -> io::Result<Done> {
+    let mut given = Vec::new(alloc);
+    for word in words.split(' ') {
+        given.push(String::from_str(alloc, word)?)?;
+    }
+    let input = Octets::from_vec(octets_of(alloc, input)?);
+    let mut source = MemorySource::new(input, PIECE, Vec::new(alloc));
+    let sink = MemorySink::new(alloc, MOST_WRITTEN, Vec::new(alloc));
+    let mut sink = sink.map_err(|_| Error::from(ErrorKind::OutOfMemory))?;
+    let (status, played) = run_cgf(alloc, &given, &mut source, &mut sink, &mut Nobody);
+    Ok(Done {
+        status,
+        printed: sink.octets().to_vec(alloc)?,
+        played: played.map(handed_back),
+    })
+}
+
+/// The octets of an input.
+fn octets_of(alloc: Global, input: &str) -> io::Result<Vec<u8>> {
+    let Some(digits) = input.strip_prefix(OCTETS) else {
+        return Ok(input.as_bytes().to_vec(alloc)?);
+    };
+    hex::decode(alloc, digits.trim_end()).map_err(|_| Error::from(ErrorKind::InvalidData))
+}
+
+/// How many areas, shelves and nodes there are.
+fn handed_back(played: Played) -> (usize, usize, usize) {
+    (played.areas.len(), played.shelves.len(), played.nodes.len())
+}

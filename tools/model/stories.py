@@ -1,0 +1,72 @@
+"""Compares what stands in crates/story_runs/stdout for each story with what the models write for it.
+
+    python3 stories.py
+
+Stories that differ are told with what a model writes. There is no model of `show`. The exit status is 1 where one
+differs.
+"""
+
+import sys
+from pathlib import Path
+
+import feed
+import sample
+import script
+import world
+
+FOLDER = Path(__file__).resolve().parents[2] / "crates" / "story_runs"
+NAME = b"\n== "
+
+
+def stories(part):
+    """The stories of the file `stdin` or `stdout`, by their names."""
+    return dict(text.partition(b"\n")[::2] for text in (FOLDER / part).read_bytes().split(NAME)[1:])
+
+
+def handed_back(lines):
+    """What is told of the network that a script ran."""
+    counts = {form: values[0] for form, *values in lines if form in ("gateways", "nodes")}
+    gateways, nodes = counts.get("gateways", 1), counts.get("nodes", 1)
+    return b"handed back: areas %d, shelves %d, nodes %d\n" % (gateways, gateways, nodes)
+
+
+def model(command, numbers, text):
+    """What the model of a command writes, its status, what it says of its end, and the lines of the network that it
+    ran."""
+    if command == "feed":
+        return *feed.feed(text), []
+    if command == "replay":
+        out, status, error = world.replay(text)
+        return out, status, error, [] if status else script.read(text, "replay")
+    lines = sample.sample(*map(int, numbers))[0]
+    if command == "sample":
+        return script.print_(lines), 0, b"", []
+    return world.summary(lines), 0, b"", lines
+
+
+def told(text):
+    """What is to stand in `stdout` for a story, or nothing where there is no model of its command."""
+    words, _, text = text.partition(b"\n")
+    command, *numbers = words.decode().split(" ")
+    if command == "show":
+        return None
+    if text.startswith(b"octets "):
+        text = bytes.fromhex(text.split()[1].decode())
+    out, status, error, lines = model(command, numbers, text)
+    end = b"status %d, %s" % (status, error or b"cgf: done\n")
+    return out + end + (handed_back(lines) if lines else b"")
+
+
+def main():
+    differ, stands = 0, stories("stdout")
+    for name, text in stories("stdin").items():
+        wanted = told(text)
+        if wanted is not None and stands.pop(name, b"") != wanted:
+            differ += 1
+            print(f"== {name.decode()}\n{wanted.decode()}")
+    print(f"{differ} stories differ", file=sys.stderr)
+    return differ > 0
+
+
+if __name__ == "__main__":
+    sys.exit(main())
