@@ -6,6 +6,7 @@ pub mod Format
 pub mod OpenPlan
 pub mod Outcomes
 pub mod Results
+pub mod Tally
 pub mod Trail
 -- Laws for the layers above.
 pub mod BatchLaws
@@ -22,4 +23,3 @@ pub mod Reserved
 pub mod Sorted
 pub mod Sound
 pub mod Sums
-pub mod Tally

@@ -2,6 +2,7 @@
 pub mod Appending
 pub mod Content
 pub mod Fault
+pub mod Reading
 pub mod Room
 pub mod Spelling
 -- Laws for proofs above, and what those say that stand on functions.
@@ -9,4 +10,3 @@ pub mod Laws
 pub mod LawTypes
 -- Steps of proofs.
 pub mod Props
-pub mod Reading

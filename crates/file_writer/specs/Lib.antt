@@ -1,5 +1,6 @@
 -- What public clauses cite.
 pub mod Advancing
+pub mod AllStreams
 pub mod Asking
 pub mod Calls
 pub mod FaultText
@@ -13,7 +14,6 @@ pub mod Writer
 -- Laws of these.
 pub mod Laws
 -- Steps of proofs.
-pub mod AllStreams
 pub mod Following
 pub mod Props
 pub mod Sound

@@ -15,6 +15,7 @@ pub mod Items
 pub mod Limits
 pub mod Lookups
 pub mod Marks
+pub mod Nodes
 pub mod Once
 pub mod OpenPlan
 pub mod Opened
@@ -22,6 +23,8 @@ pub mod Plain
 pub mod Preparing
 pub mod Read
 pub mod Recording
+pub mod Sides
+pub mod States
 pub mod Told
 pub mod Up
 pub mod Value
@@ -52,11 +55,8 @@ pub mod Marking
 pub mod FollowedProps
 pub mod Gathering
 pub mod HeldCopies
-pub mod Nodes
 pub mod Numbers
-pub mod Sides
 pub mod Standing
-pub mod States
 pub mod Taking
 pub mod Steps
 pub mod WireMarks

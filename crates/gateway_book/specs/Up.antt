@@ -80,6 +80,7 @@ module _ {A : Type 0} {tells : Ghosts A} (header : List ℕ) where
     pub answer : result ≡ left.answer
     pub stands : Stands sequel left.value book
 
--- The gateway is down: what a read gives of its area stands for this history, all of it firm.
+-- An area holds this history: what a read gives of it stands for that, and every entry is fit. So it is of a gateway
+-- that is down, and of one that is up once its area is handed out.
 pub record IsDown {A : Type 0} (tells : Ghosts A) (header : List ℕ) (h : List HistoryEntry) (area : A) : Type 0 where
   pub stands : StandsFitFor header (tells.octets area) h

@@ -1,4 +1,4 @@
--- Whether each record of a packet stands once among the filed records of all gateways.
+-- Whether each record of a packet is filed once by all gateways together.
 use Rattle.std.specs.Prelude.{◌≡◌, ℕ, ◌<◌, ◌≤◌, Bool, true, false, All, Contains, List, [], length, Option, Some, option_map, slice_get, sum_by}
 use Rattle.std.specs.Option.{option_map_or}
 use Rattle.gateway_book.specs.Filed.{filed}

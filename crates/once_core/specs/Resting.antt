@@ -85,7 +85,7 @@ pub record IsAnswerTo (letters : List Letter) (h : List HistoryEntry) (letter : 
   pub tells : Tells h letter request cause
   pub known : IsKnown h letter.node letter.start (about request letter.number)
 
--- an answer that tells a node something of a copy means it in this history
+-- what an answer tells a node of a copy is so in this history
 abbrev pub IsTold : List Letter → List HistoryEntry → Letter → Meaning → Type 0
 IsTold letters h letter (Asks request) = Unit {0}
 IsTold letters h letter (Answers cause) = is_telling cause ≡ true → IsAnswerTo letters h letter cause

@@ -42,7 +42,7 @@ pub fn what_holds_goes_on()
     ensures always { (happenings : List Happening) → SceneHolds (scene_after happenings) }
 {}
 
-/// Where that holds, each record stands as often as it should.
+/// Where that holds, each record is filed as often as it should.
 pub fn what_holds_places_each_record_once()
     ensures { (scene : Scene) (node start : ℕ) (values : ℕ → List ℕ) (packets : List PacketState) → SceneHolds scene →
         Follows (scene.deeds node) start values packets →

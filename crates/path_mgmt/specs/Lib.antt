@@ -1,5 +1,4 @@
--- Steps: answers that change nothing.
-pub mod Answers
 -- What public clauses cite.
+pub mod Answers
 pub mod GatewayPath
 pub mod NodePath

@@ -20,8 +20,8 @@ pub fn a_gateway_stays_alive()
         IsTrue (is_alive (node_after_all (node_anew counter) heard) gateway) }
 {}
 
-/// Two Echo Responses with one counter, with no other counter between them, open one epoch at most:
-/// the second, to which that counter is known, has the reply of the first and changes nothing.
+/// A restart counter that is told again, with no other told between, opens no epoch: the second Echo
+/// Response, at which that counter is known, has the reply of the first and changes nothing.
 pub fn one_counter_opens_one_epoch()
     ensures { (known : Option ℕ) (number counter own : ℕ) →
         heard_at_gateway (Some counter) (PathEvent.EchoTold number counter) own

@@ -14,6 +14,7 @@ pub mod Stands
 pub mod Does
 pub mod Settled
 pub mod Played
+pub mod Tally
 pub mod Summary
 pub mod Worked
 -- What the calls of a gateway and steps of proofs cite.
@@ -27,4 +28,3 @@ pub mod Settings
 pub mod Sending
 pub mod Receiving
 pub mod Settling
-pub mod Tally
