@@ -28,8 +28,9 @@ pub words_decide : {S : Type 0} (asked : Option Command) (command : Command) (en
     asked ≡ Some command → (ended ≡ status.Words → ⊥) → (most_read command ≡ 0 → after ≡ before) →
     WordsDecide asked ended before after
 words_decide asked command ended before after is not_words unread = record {
-  refused = (λ words. absurd (not_words words), λ none. some_is_none command (sym is ∙ none));
-  unread = λ words. absurd (not_words words);
+  refused = λ words. absurd (not_words words);
+  told = λ none. some_is_none command (sym is ∙ none);
+  unread = λ none. some_is_none command (sym is ∙ none);
   unasked = λ other other_is none.
       unread (none_read command (ap has_input (same_Some command other (sym is ∙ other_is)) ∙ none));
 }

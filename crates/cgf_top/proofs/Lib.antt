@@ -12,3 +12,4 @@ pub mod Script
 pub mod SettingLemmas
 pub mod Streams
 pub mod Whole
+pub mod WordLemmas

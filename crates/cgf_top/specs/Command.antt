@@ -2,17 +2,11 @@
 use Rattle.std.specs.Prelude.{ℕ, ◌≤◌, ◌==◌, Bool, true, false, not, if◌then◌else◌, List, [], ◌∷◌, Option, Some, None, option_and_then, option_map, codes}
 use Rattle.std.specs.Str.{bytes_eq}
 use Rattle.route_filter.specs.Words.{number_up_to}
+use Rattle.cgf_top.specs.Words.{is_option}
 use Rattle.world_script.specs.declared.extent.Extent.{Extent}
 use Rattle.cgf_top.specs.declared.command.Command.{Command}
 use Rattle.cgf_top.specs.declared.command.Command.TheVariants.{Feed, Show, Replay, Sample, Drill}
 use Rattle.cgf_top.specs.declared.command.Seeded.{Seeded}
-
--- whether a word may name a file: it doesn't begin with a minus sign, or is that sign alone, which names the standard
--- input
-abbrev pub is_file : List ℕ → Bool
-is_file [] = true
-is_file (x ∷ []) = true
-is_file (x ∷ y ∷ xs) = not (x == 45)
 
 -- the command with a name that has a file
 abbrev pub command_named : List ℕ → Option Command
@@ -48,7 +42,7 @@ seeded_named name seeded =
 
 -- the command that the words ask for, if they are of its form: its name, and a file or numbers
 abbrev pub command_of : List (List ℕ) → Option Command
-command_of (name ∷ file ∷ []) = if is_file file then command_named name else None
+command_of (name ∷ file ∷ []) = if is_option file then None else command_named name
 command_of (name ∷ seed ∷ nodes ∷ gateways ∷ packets ∷ []) =
     option_and_then (seeded_named name) (seeded_of seed nodes gateways packets)
 command_of _ = None

@@ -1,5 +1,5 @@
 -- What decides how the job ends: its words, its input, and the faults of its source and its sink.
-use Rattle.std.specs.Prelude.{ℕ, ◌≡◌, ◌↔◌, ◌<◌, ◌⊎◌, false, List, length, Option, Some, None}
+use Rattle.std.specs.Prelude.{ℕ, ◌≡◌, ◌<◌, ◌⊎◌, false, List, length, Option, Some, None}
 use Rattle.gw_base.specs.Faults.{Rose}
 use Rattle.cgf_top.specs.Command.{command_of, has_input, most_read}
 use Rattle.cgf_top.specs.Run.{IsRead, TakesUpTo, end_of}
@@ -7,11 +7,12 @@ use Rattle.cgf_top.specs.declared.command.Command.{Command}
 use Rattle.cgf_top.specs.declared.status.Status.{Status}
 use Rattle.cgf_top.specs.declared.status.Status.TheVariants as status
 
--- The words are none of the forms exactly where that is told. Then the source stays as it was, and so it does where the
--- command has no input.
+-- `Words` is told of words that are none of the forms alone, and of each of them, unless there was no memory to parse
+-- them. Then the source stays as it was, and so it does where the command has no input.
 pub record WordsDecide {S : Type 0} (asked : Option Command) (ended : Status) (before after : S) : Type 0 where
-  pub refused : (ended ≡ status.Words) ↔ (asked ≡ None)
-  pub unread : ended ≡ status.Words → after ≡ before
+  pub refused : ended ≡ status.Words → asked ≡ None
+  pub told : asked ≡ None → (ended ≡ status.Words) ⊎ (ended ≡ status.Memory)
+  pub unread : asked ≡ None → after ≡ before
   pub unasked : (command : Command) → asked ≡ Some command → has_input command ≡ false → after ≡ before
 
 -- no octet past the most that the command of these words reads is taken

@@ -1,4 +1,5 @@
 -- what public clauses cite
+pub mod Words
 pub mod Command
 pub mod Run
 pub mod Ending

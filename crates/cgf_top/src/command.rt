@@ -1,9 +1,17 @@
 //! What the program is asked for.
 
-ghost use Rattle.std.specs.Prelude.{◌≡◌, ◌∷◌, ◌≤◌, [], IfSome, map, option_and_then, string_bytes};
-ghost use Rattle.cgf_top.specs.Command.{IsExtent, IsWithin, command_of, counted, is_file, most_read, seeded_named, seeded_of};
+ghost use Rattle.std.specs.Prelude.{◌≡◌, ◌∷◌, ◌≤◌, ℕ, false, List, IfOk, IfSome, map, option_and_then, string_bytes};
+ghost use Rattle.std.specs.List.{list_any};
+ghost use Rattle.clap.specs.Words.{found_of, rows_of};
+ghost use Rattle.cgf_top.specs.Command.{IsExtent, IsWithin, command_named, command_of, counted};
+ghost use Rattle.cgf_top.specs.Command.{most_read, seeded_named, seeded_of};
+ghost use Rattle.cgf_top.specs.Words.{found_in, is_option};
 
+use crate::words::{has_option, parse};
+use clap::ArgMatches;
+use gw_base::NoMemory;
 use route_filter::number;
+use std::alloc::Global;
 
 /// A job that the program does.
 #[derive(Clone, Copy, Debug, PartialEq, Eq)]
@@ -39,25 +47,19 @@ const MOST_SCRIPT_READ: usize = 16_777_217;
 const MOST_FILE_READ: usize = 4_294_967_296;
 
 impl Command {
-    /// The command that the words ask for, if they are of its form: its name, and a file or numbers.
-    #[tactic(auto, using(crate::proofs::CommandLemmas::two_words, crate::proofs::CommandLemmas::five_words, crate::proofs::CommandLemmas::other_words))]
-    pub fn of(words: &[String]) -> Option<Command>
-        ensures asked { result ≡ command_of (map string_bytes words.now) }
-        ensures within { IfSome result IsWithin }
+    /// The command that the words ask for, if they are of its form: its name, and a file or numbers. Words with an
+    /// option among them are of none, and aren't parsed.
+    pub fn of(alloc: Global, words: &[String]) -> Result<Option<Command>, NoMemory>
+        ensures asked { IfOk result (λ command. command ≡ command_of (map string_bytes words.now)) }
+        ensures within { IfOk result (λ command. IfSome command IsWithin) }
     {
-        if words.len() == 2 {
-            return on_file(words[0].as_str(), words[1].as_bytes());
+        if has_option(words) {
+            return Ok(None);
         }
-        if words.len() == 5 {
-            let seeded = Seeded::of(
-                words[1].as_bytes(),
-                words[2].as_bytes(),
-                words[3].as_bytes(),
-                words[4].as_bytes(),
-            );
-            return by_seed(words[0].as_str(), seeded);
+        match parse(alloc, words) {
+            Ok(matches) => Ok(asked_by(&matches)),
+            Err(_) => Err(NoMemory),
         }
-        None
     }
 
     /// How many octets of an input can be of use: one more than the command's longest input has, and none where it has
@@ -101,14 +103,43 @@ fn counted(word: &[u8], most: u64) -> Option<u64>
     if number == 0 { None } else { Some(number) }
 }
 
-/// The command with this name that has a file.
-fn on_file(name: &str, file: &[u8]) -> Option<Command>
-    ensures asked { result ≡ command_of (name.now ∷ file.now ∷ []) }
+/// The command that was found, if its name and its values are of its form.
+fn asked_by(matches: &ArgMatches) -> Option<Command>
+    ensures asked { (words : List (List ℕ)) → list_any is_option words ≡ false →
+        rows_of (found_of matches.now) ≡ found_in words → result ≡ command_of words }
     ensures within { IfSome result IsWithin }
 {
-    if !is_file(file) {
-        return None;
+    let name = matches.get_str("COMMAND")?;
+    let values = matches.get_strs("VALUES")?;
+    by_values(name, values)
+}
+
+/// The command with this name, if these are its values: a file, or the numbers of a seed's script.
+fn by_values(name: &str, values: &[&str]) -> Option<Command>
+    ensures asked { list_any (λ value. is_option value.now) values.now ≡ false →
+        result ≡ command_of (name.now ∷ map (λ value. value.now) values.now) }
+    ensures within { IfSome result IsWithin }
+{
+    match values {
+        [_] => on_file(name),
+        [seed, nodes, gateways, packets] => {
+            let seeded = Seeded::of(
+                seed.as_bytes(),
+                nodes.as_bytes(),
+                gateways.as_bytes(),
+                packets.as_bytes(),
+            );
+            by_seed(name, seeded)
+        }
+        _ => None,
     }
+}
+
+/// The command with this name that has a file.
+fn on_file(name: &str) -> Option<Command>
+    ensures asked { result ≡ command_named name.now }
+    ensures within { IfSome result IsWithin }
+{
     if name == "feed" {
         Some(Command::Feed)
     } else if name == "show" {
@@ -132,16 +163,5 @@ fn by_seed(name: &str, seeded: Option<Seeded>) -> Option<Command>
         Some(Command::Drill(seeded))
     } else {
         None
-    }
-}
-
-/// Whether a word may name a file: it doesn't begin with a minus sign, or is that sign alone, which
-/// names the standard input.
-fn is_file(word: &[u8]) -> bool
-    ensures { result ≡ is_file word.now }
-{
-    match word {
-        [] | [_] => true,
-        [first, ..] => *first != b'-',
     }
 }

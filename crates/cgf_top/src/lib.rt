@@ -29,13 +29,14 @@ mod settings;
 mod show;
 mod status;
 mod watch;
+mod words;
 
 use crate::command::Command;
 use crate::input::{ReadEnd, read_input};
 use crate::output::write_all;
 use crate::report::{NoReport, Refusal, Report};
 pub use cdr_file::FileKind;
-use gw_base::{Sink, Source};
+use gw_base::{NoMemory, Sink, Source};
 pub use input_kind::InputKind;
 pub use once_core::WorldKind;
 pub use replay_world::Played;
@@ -64,8 +65,9 @@ pub fn run_cgf<S: Source, K: Sink, W: Watch>(
     sink: &mut K,
     watch: &mut W,
 ) -> (Status, Option<Played>)
-    // `Words` comes exactly where the words are none of the forms. Nothing is read then, nor where the command has no
-    // input. Nothing is written but at `Done`, at `Write`, and at a line that can't be run.
+    // Words that are none of the forms end as `Words`, and no others do, unless there is no memory to parse them. Nothing
+    // is read of them, nor where the command has no input. Nothing is written but at `Done`, at `Write`, and at a line
+    // that can't be run.
     ensures words { WordsDecide (command_of (map string_bytes words.now)) result.0 source.old source.new }
     ensures untouched { may_have_written result.0 ≡ false → sink.new ≡ sink.old }
 
@@ -101,8 +103,10 @@ pub fn run_cgf<S: Source, K: Sink, W: Watch>(
     // prints sums instead.
     ensures once { IsPlayed result.1 result.0 }
 {
-    let Some(command) = Command::of(words) else {
-        return (Status::Words, None);
+    let command = match Command::of(alloc, words) {
+        Ok(Some(command)) => command,
+        Ok(None) => return (Status::Words, None),
+        Err(NoMemory) => return (Status::Memory, None),
     };
     let octets = match read_input(alloc, source, command.most_read()) {
         Ok(octets) => octets,

@@ -91,8 +91,10 @@ fn an_input_comes_in_pieces(rt: HostRuntime) -> Result<(), Fail> {
 #[test]
 fn words_decide_before_anything_is_read(rt: HostRuntime) -> Result<(), Fail> {
     let none: [&str; 0] = [];
-    let lists: [&[&str]; 26] = [
+    let lists: [&[&str]; 28] = [
         &none,
+        &["-V"],
+        &["--", "feed", "-"],
         &["feed"],
         &["show"],
         &["show", "-x"],

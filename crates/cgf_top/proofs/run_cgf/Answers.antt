@@ -18,13 +18,13 @@ pub returns-in-Ok-write_all-clause-words : goal.returns-in-Ok-write_all-clause-w
 returns-in-Ok-write_all-clause-words g c =
     subst (λ (s : Status). WordsDecide (command_of (map string_bytes c.args.words.now)) s c.args.source.now c.read_input.new.source)
     (sym c.ended_by.ensures)
-    (words_decide (command_of (map string_bytes c.args.words.now)) c.in-Some.command _ c.args.source.now c.read_input.new.source
-    (sym c.in-Some.ensures.asked) (not_words c.in-Ok-report_of.field-0.refused)
+    (words_decide (command_of (map string_bytes c.args.words.now)) c.in-Ok-Some.command _ c.args.source.now c.read_input.new.source
+    (sym c.in-Ok-Some.ensures.asked ∙ c.in-Ok-Some.field-0-is) (not_words c.in-Ok-report_of.field-0.refused)
     (λ zero. c.in-Ok.ensures.unread (c.most_read.ensures ∙ zero)))
 
 pub returns-in-Ok-write_all-clause-untouched : goal.returns-in-Ok-write_all-clause-untouched
 returns-in-Ok-write_all-clause-untouched g c untaken =
-    absurd (true≢false (sym (was_taken c.in-Some.command c.in-Ok.octets.items c.in-Ok-report_of.field-0 c.in-Ok-report_of.ensures.report)
+    absurd (true≢false (sym (was_taken c.in-Ok-Some.command c.in-Ok.octets.items c.in-Ok-report_of.field-0 c.in-Ok-report_of.ensures.report)
     ∙ ap may_have_written (sym c.ended_by.ensures) ∙ untaken))
 
 pub returns-in-Ok-write_all-clause-report : goal.returns-in-Ok-write_all-clause-report
@@ -32,9 +32,9 @@ returns-in-Ok-write_all-clause-report g c reported =
     subst (λ (s : Status). WritesReport (map string_bytes c.args.words.now) (g.S.Source.left c.args.source.now)
     (g.S.Source.left c.read_input.new.source) (g.K.Sink.written c.args.sink.now) (g.K.Sink.written c.write_all.new.sink) s
     c.in-Ok-report_of.field-0.played) (sym c.ended_by.ensures)
-    (writes_done (map string_bytes c.args.words.now) c.in-Some.command (g.S.Source.left c.args.source.now)
+    (writes_done (map string_bytes c.args.words.now) c.in-Ok-Some.command (g.S.Source.left c.args.source.now)
     (g.S.Source.left c.read_input.new.source) (g.K.Sink.written c.args.sink.now) (g.K.Sink.written c.write_all.new.sink)
-    c.in-Ok.octets.items c.in-Ok-report_of.field-0 (sym c.in-Some.ensures.asked)
+    c.in-Ok.octets.items c.in-Ok-report_of.field-0 (sym c.in-Ok-Some.ensures.asked ∙ c.in-Ok-Some.field-0-is)
     (subst (λ (most : ℕ). IsRead most (g.S.Source.left c.args.source.now) (g.S.Source.left c.read_input.new.source) c.in-Ok.octets.items)
     c.most_read.ensures c.in-Ok.ensures.read)
     c.in-Ok-report_of.ensures.within c.in-Ok-report_of.ensures.report
@@ -52,8 +52,8 @@ returns-in-Ok-write_all-clause-cause g c =
 
 pub returns-in-Ok-write_all-clause-complete : goal.returns-in-Ok-write_all-clause-complete
 returns-in-Ok-write_all-clause-complete g c some read written =
-    complete_by (map string_bytes c.args.words.now) c.in-Some.command (g.S.Source.left c.args.source.now)
-    (g.S.Source.left c.read_input.new.source) c.in-Ok.octets.items _ (sym c.in-Some.ensures.asked)
+    complete_by (map string_bytes c.args.words.now) c.in-Ok-Some.command (g.S.Source.left c.args.source.now)
+    (g.S.Source.left c.read_input.new.source) c.in-Ok.octets.items _ (sym c.in-Ok-Some.ensures.asked ∙ c.in-Ok-Some.field-0-is)
     (subst (λ (most : ℕ). IsRead most (g.S.Source.left c.args.source.now) (g.S.Source.left c.read_input.new.source) c.in-Ok.octets.items)
     c.most_read.ensures c.in-Ok.ensures.read)
     (c.ended_by.ensures ∙ c.in-Ok-report_of.ensures.report.ended)
@@ -61,38 +61,38 @@ returns-in-Ok-write_all-clause-complete g c some read written =
 pub returns-in-Ok-write_all-clause-once : goal.returns-in-Ok-write_all-clause-once
 returns-in-Ok-write_all-clause-once g c =
     subst (λ (s : Status). IsPlayed c.in-Ok-report_of.field-0.played s) (sym c.ended_by.ensures)
-    (plays_done c.in-Some.command c.in-Ok.octets.items c.in-Ok-report_of.field-0 c.in-Ok-report_of.ensures.report)
+    (plays_done c.in-Ok-Some.command c.in-Ok.octets.items c.in-Ok-report_of.field-0 c.in-Ok-report_of.ensures.report)
 
 -- The sink failed.
 
 pub returns-in-Ok-report_of-clause-words : goal.returns-in-Ok-report_of-clause-words
 returns-in-Ok-report_of-clause-words g c =
-    words_decide (command_of (map string_bytes c.args.words.now)) c.in-Some.command status.Write c.args.source.now c.read_input.new.source
-    (sym c.in-Some.ensures.asked) write_not_words (λ zero. c.in-Ok.ensures.unread (c.most_read.ensures ∙ zero))
+    words_decide (command_of (map string_bytes c.args.words.now)) c.in-Ok-Some.command status.Write c.args.source.now c.read_input.new.source
+    (sym c.in-Ok-Some.ensures.asked ∙ c.in-Ok-Some.field-0-is) write_not_words (λ zero. c.in-Ok.ensures.unread (c.most_read.ensures ∙ zero))
 
 pub returns-in-Ok-report_of-clause-front : goal.returns-in-Ok-report_of-clause-front
 returns-in-Ok-report_of-clause-front g c is =
-    writes_front (map string_bytes c.args.words.now) c.in-Some.command (g.S.Source.left c.args.source.now)
+    writes_front (map string_bytes c.args.words.now) c.in-Ok-Some.command (g.S.Source.left c.args.source.now)
     (g.S.Source.left c.read_input.new.source) (g.K.Sink.written c.args.sink.now) (g.K.Sink.written c.write_all.new.sink)
-    c.in-Ok.octets.items c.in-Ok-report_of.field-0.printed.items _ (sym c.in-Some.ensures.asked)
+    c.in-Ok.octets.items c.in-Ok-report_of.field-0.printed.items _ (sym c.in-Ok-Some.ensures.asked ∙ c.in-Ok-Some.field-0-is)
     (subst (λ (most : ℕ). IsRead most (g.S.Source.left c.args.source.now) (g.S.Source.left c.read_input.new.source) c.in-Ok.octets.items)
     c.most_read.ensures c.in-Ok.ensures.read)
     c.in-Ok-report_of.ensures.within refl c.in-Ok-report_of.ensures.report.taken c.in-Ok-report_of.ensures.report.printed
     (subst (λ (octets : List ℕ). AppendsFront (g.K.Sink.written c.args.sink.now) (g.K.Sink.written c.write_all.new.sink) octets)
-    c.deref.ensures.value c.in-Err.ensures.err)
+    c.deref.ensures.value c.in-Err-write_all.ensures.err)
 
 -- The grammar refuses the input.
 
 pub returns-in-Err-Refused-clause-words : goal.returns-in-Err-Refused-clause-words
 returns-in-Err-Refused-clause-words g c =
-    words_decide (command_of (map string_bytes c.args.words.now)) c.in-Some.command _ c.args.source.now c.read_input.new.source
-    (sym c.in-Some.ensures.asked) (input_not_words _ _) (λ zero. c.in-Ok.ensures.unread (c.most_read.ensures ∙ zero))
+    words_decide (command_of (map string_bytes c.args.words.now)) c.in-Ok-Some.command _ c.args.source.now c.read_input.new.source
+    (sym c.in-Ok-Some.ensures.asked ∙ c.in-Ok-Some.field-0-is) (input_not_words _ _) (λ zero. c.in-Ok.ensures.unread (c.most_read.ensures ∙ zero))
 
 pub returns-in-Err-Refused-clause-report : goal.returns-in-Err-Refused-clause-report
 returns-in-Err-Refused-clause-report g c reported =
-    writes_refusal (map string_bytes c.args.words.now) c.in-Some.command (g.S.Source.left c.args.source.now) (g.S.Source.left c.read_input.new.source)
+    writes_refusal (map string_bytes c.args.words.now) c.in-Ok-Some.command (g.S.Source.left c.args.source.now) (g.S.Source.left c.read_input.new.source)
     (g.K.Sink.written c.args.sink.now) c.in-Ok.octets.items c.in-Err-Refused.field-0-0
-    (sym c.in-Some.ensures.asked)
+    (sym c.in-Ok-Some.ensures.asked ∙ c.in-Ok-Some.field-0-is)
     (subst (λ (most : ℕ). IsRead most (g.S.Source.left c.args.source.now) (g.S.Source.left c.read_input.new.source) c.in-Ok.octets.items)
     c.most_read.ensures c.in-Ok.ensures.read)
     (c.in-Err-Refused.ensures.refused c.in-Err-Refused.field-0-0 (ap (λ (e : NoReport). Err e) c.in-Err-Refused.field-0-is))
