@@ -136,7 +136,7 @@ pub ran_network : (lines : List Line) (played : Option Played) → PlayedOf (rep
     StandsOnce (files_in (setup_of lines)) (replayed lines).world → HandsBackAt (network_end None) (Some lines) played
 ran_network lines None is written told once places = absurd is
 ran_network lines (Some played) is written told once places =
-    record { stands = is; written = written; told = told; filed = once; places = places }
+    record { stands = is.0; written = written; sealed = is.1 written; told = told; filed = once; places = places }
 
 pub replayed_whole : (lines : List Line) (report : Report) → refusal_of_lines lines ≡ None →
     report.printed.items ≡ report_of_lines lines → report.refused ≡ None → PlayedOf (replayed lines) report.played →

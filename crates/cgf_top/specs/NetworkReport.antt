@@ -2,7 +2,7 @@
 use Rattle.std.specs.Prelude.{ℕ, ◌≡◌, ◌++◌, List, [], Option, Some, None, Result, Ok, Err}
 use Rattle.once_core.specs.Once.{Once}
 use Rattle.once_core.specs.StandsOnce.{StandsOnce}
-use Rattle.replay_world.specs.Played.{HasPlayed}
+use Rattle.replay_world.specs.Played.{AreAllSealed, HasPlayed}
 use Rattle.replay_world.specs.Report.{lines_after, refusal_of_lines, report_of, report_of_lines}
 use Rattle.replay_world.specs.Report.{Refusal as WorldRefusal}
 use Rattle.replay_world.specs.Settled.{AreWritten}
@@ -60,15 +60,16 @@ drill_report of = summary_text (summary_of (replayed (seeded_lines of)))
 abbrev pub EndsByReport : List Line → Type 0
 EndsByReport lines = (front : List ℕ) × (report_of_lines lines ≡ front ++ report_of (replayed lines))
 
--- The areas, shelves and nodes are those of the world that the lines make, and the sealed files of the shelves are those
--- that the firm entries of its gateways close, which are all their entries: by the division into files no record of theirs
--- is in one that is open. The report of the lines, which `drill` doesn't print, ends with these files.
+-- The areas, shelves and nodes are those of the world that the lines make. The sealed files of the shelves are those
+-- that the firm entries of its gateways close, which are all their entries, and have all records of theirs; no shelf has
+-- a file that isn't sealed. The report of the lines, which `drill` doesn't print, ends with these files.
 -- In the files of all its gateways each record of each packet that was ever resolved stands at exactly one place of its
 -- own, and each record of any other packet at one at most; no copy that is held or was cancelled puts one there, and the
 -- files have no other record.
 pub record RanNetwork (lines : List Line) (played : Played) : Type 0 where
   pub stands : HasPlayed (replayed lines) played
   pub written : AreWritten (replayed lines)
+  pub sealed : AreAllSealed played.shelves.items
   pub told : EndsByReport lines
   pub filed : Once (replayed lines).world
   pub places : StandsOnce (files_in (setup_of lines)) (replayed lines).world

@@ -98,9 +98,9 @@ pub fn run_cgf<S: Source, K: Sink, W: Watch>(
     // What is handed back, at `Done` alone, stands for the world that some lines make; that they are those that were
     // read, or those of the seed, is `report`. Each record of each packet that its node ever resolved stands at exactly
     // one place of its own in the files of all gateways, and each record of any other packet at one at most; no copy
-    // that is held or was cancelled puts one there, and the files have no other record. By the division into files no
-    // record is in one that is open. The report of these lines, which `replay` prints, ends with these files; `drill`
-    // prints sums instead.
+    // that is held or was cancelled puts one there, and the files have no other record. Each file is sealed, and no
+    // shelf has another. The report of these lines, which `replay` prints, ends with these files; `drill` prints sums
+    // instead.
     ensures once { IsPlayed result.1 result.0 }
 {
     let command = match Command::of(alloc, words) {

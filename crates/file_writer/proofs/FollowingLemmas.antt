@@ -134,7 +134,7 @@ none_body false u = refl
 pub close_follows : {A : Type 0} (tells : Ghosts A) (s : ℕ) (run : List (Filed (List ℕ))) (file later : Progress)
     (reason : Option ClosureReason) (old new : A)
     → Follows tells s run file old → later ≡ closed_progress reason file
-    → (IsTrue tells.tells_files → StillOpen reason (tells.unsealed old s) (tells.unsealed new s))
+    → (IsTrue tells.tells_files → StillOpen reason file (tells.unsealed old s) (tells.unsealed new s))
     → Follows tells s (still reason run []) later new
 close_follows tells s run file later None old new follows e opens =
     subst (λ (f : Progress). Follows tells s run f new) (sym e) (record {
@@ -273,7 +273,7 @@ ready_if true name u = tt
 ready_if false name u = tt
 
 close_ready : (reason : Option ClosureReason) (s : ℕ) (file : Progress) (old new : Option UnsealedFile)
-    → IsReady s file old → StillOpen reason old new → IsReady s (closed_progress reason file) new
+    → IsReady s file old → StillOpen reason file old new → IsReady s (closed_progress reason file) new
 close_ready None s file old new ready opens = subst (λ (u : Option UnsealedFile). IsReady s file u) (sym opens) ready
 close_ready (Some reason) s file old new ready opens =
     ready_if (nat_le (file.closed + 1 + 1) file.sealed) (record { stream = s; sequence = file.closed + 1 + 1 }) new
@@ -281,7 +281,7 @@ close_ready (Some reason) s file old new ready opens =
 pub close_up : {A : Type 0} (tells : Ghosts A) (settings : FileSettings) (s : ℕ) (file later : Progress)
     (reason : Option ClosureReason) (old new : A)
     → IsUp tells s file old → later ≡ closed_progress reason file
-    → (IsTrue tells.tells_files → StillOpen reason (tells.unsealed old s) (tells.unsealed new s))
+    → (IsTrue tells.tells_files → StillOpen reason file (tells.unsealed old s) (tells.unsealed new s))
     → Makes tells (closing_of settings s file (tells.unsealed old s) reason) Went old new → IsUp tells s later new
 close_up tells settings s file later reason old new up e opens made =
     subst (λ (f : Progress). IsUp tells s f new) (sym e) (record {

@@ -8,6 +8,7 @@ pub mod WritingLemmas
 pub mod FollowingLemmas
 pub mod AllLemmas
 pub mod WriterLemmas
+pub mod LeavingLemmas
 pub mod PlacesLemmas
 pub mod RecordsLemmas
 pub mod OccupiedLemmas

@@ -120,7 +120,7 @@ all_stand law settings closed sealed later stood before items rest files new hol
     (subst (λ (m : ℕ). HoldsOf settings closed stood all (files ++ seals calls) s (n m)) (sym (same s h))
     (holds-all law settings closed sealed stood before items rest calls files s h (sym (append-nil calls)) (holds s h)))
 
-any_default : (streams : List Stream) (s : ℕ) (x d : Stream) → s < length streams → slice_index_or streams s x
+pub any_default : (streams : List Stream) (s : ℕ) (x d : Stream) → s < length streams → slice_index_or streams s x
     ≡ slice_index_or streams s d
 any_default [] s x d h = absurd (omega arith)
 any_default (first ∷ later) zero x d h = refl

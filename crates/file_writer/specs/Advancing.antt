@@ -5,6 +5,7 @@ use Rattle.cdr_shelf.specs.declared.shelf.Shelf.{Ghosts}
 use Rattle.gw_base.specs.declared.item.Item.{Item}
 use Rattle.file_writer.specs.Calls.{Call, calls_of, seals}
 use Rattle.file_writer.specs.Holding.{IsBegun}
+use Rattle.file_writer.specs.Leaving.{LeavesUnsealed}
 use Rattle.file_writer.specs.Making.{Makes, ending_of}
 use Rattle.file_writer.specs.Streams.{stream_count}
 use Rattle.file_writer.specs.Writer.{Holds, IsAt, first_of, sealed_in, settings_in, shelf_of, taken_of}
@@ -41,6 +42,9 @@ module _ {A : Type 0} (tells : Ghosts A) (closed : ℕ → ℕ) (before items : 
     pub makes : Makes tells calls (ending_of result) (shelf_of old) (shelf_of new)
     pub at : OnOk result (IsAt new closed (before ++ items))
     pub sealed : OnOk result ((s : ℕ) → s < stream_count → sealed_in new s ≡ sealed_in old s)
+    pub leaves : IsTrue tells.tells_files → OnOk result
+        (LeavesUnsealed (settings_in old) closed (sealed_in old) before (before ++ items)
+        (tells.unsealed (shelf_of old)) (tells.unsealed (shelf_of new)))
     pub keeps : IsTrue tells.tells_files → (stood : ℕ → List SealedFile) (rest : List Item)
         → Holds old closed stood ((before ++ items) ++ rest) before
         → KeepsFiles stood ((before ++ items) ++ rest)

@@ -1,6 +1,7 @@
 -- What is kept of all streams, and the shelf, after items.
-use Rattle.std.specs.Prelude.{◌≡◌, ◌≢◌, ℕ, ◌+◌, ◌-◌, ◌^◌, ◌<◌, ◌≤◌, Bool, true, false, nat_lt, List, [], ◌∷◌, ◌++◌, length, take, slice_index_or, Option, Result, OnOk}
+use Rattle.std.specs.Prelude.{◌≡◌, ◌≢◌, ℕ, ◌+◌, ◌-◌, ◌^◌, ◌<◌, ◌≤◌, Bool, true, false, nat_lt, IsTrue, List, [], ◌∷◌, ◌++◌, length, take, slice_index_or, Option, Result, OnOk}
 use Rattle.cdr_file.specs.CdrFile.{FileSettings}
+use Rattle.cdr_shelf.specs.Files.{UnsealedFile}
 use Rattle.cdr_shelf.specs.declared.shelf.Shelf.{Ghosts}
 use Rattle.file_rotate.specs.Items.{Filed, Record}
 use Rattle.gw_base.specs.CdrKind.{IsCdrKind}
@@ -10,7 +11,7 @@ use Rattle.gw_base.specs.declared.item.Item.{Item}
 use Rattle.gw_base.specs.declared.item.Item.TheVariants as item
 use Rattle.route_filter.specs.declared.rule.Rule.{Rule}
 use Rattle.file_writer.specs.Calls.{Call, calls_below, calls_of}
-use Rattle.file_writer.specs.Following.{IsBehind, IsSafe}
+use Rattle.file_writer.specs.Following.{IsBehind, IsLeft, IsSafe}
 use Rattle.file_writer.specs.Making.{Makes, Went, ending_of}
 use Rattle.file_writer.specs.Streams.{Settings, closed_of, stream_count, stream_division, stream_item}
 use Rattle.file_writer.specs.Writing.{weight_of}
@@ -30,6 +31,19 @@ EachSafe tells streams shelf =
 -- Each stream has at most so many files.
 abbrev pub EachBelow : ℕ → List Stream → Type 0
 EachBelow most streams = (s : ℕ) (d : Stream) → s < stream_count → weight_of (slice_index_or streams s d).file ≤ most
+
+-- Of each stream this is unsealed, where so many files were closed and this was unsealed before.
+pub record AreLeft {A : Type 0} (tells : Ghosts A) (start : ℕ → ℕ) (stale : ℕ → Option UnsealedFile)
+    (streams : List Stream) (shelf : A) : Type 0 where
+  pub each : (s : ℕ) (d : Stream) → s < stream_count
+      → IsLeft (start s) (stale s) (slice_index_or streams s d).file (tells.unsealed shelf s)
+  pub beyond : (s : ℕ) → stream_count ≤ s → tells.unsealed shelf s ≡ stale s
+
+-- what is unsealed goes on so
+abbrev pub StillLeft : {A : Type 0} → Ghosts A → List Stream → List Stream → A → A → Type 0
+StillLeft tells first streams old new =
+    IsTrue tells.tells_files → (start : ℕ → ℕ) (stale : ℕ → Option UnsealedFile)
+    → AreLeft tells start stale first old → AreLeft tells start stale streams new
 
 -- A stream, of which so many files were closed before the first item and files up to a number were sealed, has taken
 -- these items.
@@ -75,6 +89,7 @@ pub record HasMarked {A : Type 0} (tells : Ghosts A) (file : FileSettings) (item
   pub few : EachBelow (2 ^ 32 - 2) streams
   pub sixteen : length streams ≡ stream_count
   pub below : (most : ℕ) → EachBelow most first → EachBelow most streams
+  pub left : StillLeft tells first streams old new
   pub takes : (settings : Settings) (closed sealed : ℕ → ℕ) (before : List Item) → settings.file ≡ file
       → AllAt tells settings closed sealed before first old
       → Makes tells (calls_below n settings closed sealed before item) Went old new
@@ -96,6 +111,7 @@ pub record HasTakenSome {A : Type 0} (tells : Ghosts A) (file : FileSettings) (r
   pub safe : EachSafe tells streams new
   pub sixteen : length streams ≡ stream_count
   pub below : (most : ℕ) → EachBelow most first → EachBelow (most + n) streams
+  pub left : StillLeft tells first streams old new
   pub takes : (settings : Settings) (closed sealed : ℕ → ℕ) (before : List Item) → settings.file ≡ file
       → settings.rules ≡ rules → AllAt tells settings closed sealed before first old
       → Makes tells (calls_of settings closed sealed before (take n items)) Went old new

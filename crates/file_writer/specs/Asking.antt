@@ -11,6 +11,7 @@ use Rattle.file_writer.specs.declared.stream.Stream.{Stream}
 -- A shelf was asked, and nothing else: what it holds stays, and no counted call was made.
 pub record IsAsked {A : Type 0} (tells : Ghosts A) (failed : Bool) (old new : A) : Type 0 where
   pub files : tells.files new ≡ tells.files old
+  pub unsealed : (s : ℕ) → tells.unsealed new s ≡ tells.unsealed old s
   pub calls : IsTrue tells.tells_calls → tells.calls new ≡ tells.calls old
   pub later : tells.faults old ≤ tells.faults new
   pub rose : failed ≡ true → Rose (tells.faults old) (tells.faults new)

@@ -1,5 +1,5 @@
 -- How what is kept of a stream, and its file on the shelf, follow the items of the stream.
-use Rattle.std.specs.Prelude.{◌≡◌, ℕ, ◌+◌, ◌≤◌, max, Bool, true, false, IsTrue, IfOk, List, Option, None, Some, Result}
+use Rattle.std.specs.Prelude.{◌≡◌, ℕ, ◌+◌, ◌<◌, ◌≤◌, max, Bool, true, false, IsTrue, IfOk, List, Option, None, Some, Result}
 use Rattle.cdr_file.specs.CdrFile.{FileSettings, run_octets}
 use Rattle.cdr_file.specs.declared.run.RunFacts.{RunFacts}
 use Rattle.cdr_shelf.specs.Files.{UnsealedFile, greatest_in}
@@ -13,7 +13,7 @@ use Rattle.gw_base.specs.CdrKind.{IsCdrKind}
 use Rattle.file_writer.specs.Calls.{calls_at, closed_by}
 use Rattle.file_writer.specs.Files.{records_in}
 use Rattle.file_writer.specs.Making.{Makes, ending_of}
-use Rattle.file_writer.specs.Writing.{IsReady, body_behind, growing_of, is_sealed}
+use Rattle.file_writer.specs.Writing.{IsReady, body_behind, growing_of, is_sealed, weight_of}
 use Rattle.file_writer.specs.declared.fault.ShelfFault.{ShelfFault}
 use Rattle.file_writer.specs.declared.progress.Progress.{Progress}
 use Rattle.file_writer.specs.declared.stream.Stream.{Stream}
@@ -35,6 +35,19 @@ pub record IsSafe {A : Type 0} (tells : Ghosts A) (s : ℕ) (stream : Stream) (s
   pub limits : AreLimits stream.cutter.limits
   pub pairs : Pairs stream.cutter.file stream.file.growing
   pub up : IsUp tells s stream.file shelf
+
+-- What is unsealed of a stream: what was, where it has no file that is neither sealed before nor one of the first so
+-- many; else none, where none is open.
+pub record IsLeft (start : ℕ) (stale : Option UnsealedFile) (file : Progress) (u : Option UnsealedFile) : Type 0 where
+  pub from : start ≤ file.closed
+  pub same : weight_of file ≤ max start file.sealed → u ≡ stale
+  pub none : max start file.sealed < weight_of file → file.growing ≡ None → u ≡ None
+
+-- what is unsealed of a stream goes on so
+abbrev pub StaysLeft : {A : Type 0} → Ghosts A → ℕ → Progress → Progress → A → A → Type 0
+StaysLeft tells s file later old new =
+    IsTrue tells.tells_files → (start : ℕ) (stale : Option UnsealedFile)
+    → IsLeft start stale file (tells.unsealed old s) → IsLeft start stale later (tells.unsealed new s)
 
 -- A shelf is the same for a stream.
 pub record Stays {A : Type 0} (tells : Ghosts A) (s : ℕ) (old new : A) : Type 0 where

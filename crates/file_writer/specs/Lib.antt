@@ -6,6 +6,7 @@ pub mod Calls
 pub mod FaultText
 pub mod Files
 pub mod Holding
+pub mod Leaving
 pub mod Making
 pub mod Places
 pub mod Reading

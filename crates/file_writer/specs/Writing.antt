@@ -81,9 +81,14 @@ abbrev pub closed_progress : Option ClosureReason → Progress → Progress
 closed_progress None file = file
 closed_progress (Some reason) file = record { growing = None; closed = file.closed + 1; sealed = file.sealed }
 
-abbrev pub StillOpen : Option ClosureReason → Option UnsealedFile → Option UnsealedFile → Type 0
-StillOpen None old new = new ≡ old
-StillOpen (Some reason) old new = Unit {0}
+-- a file that was sealed before stays as it is, and one that is sealed now is gone
+abbrev pub GoneWhere : Bool → Option UnsealedFile → Option UnsealedFile → Type 0
+GoneWhere true old new = new ≡ old
+GoneWhere false old new = new ≡ None
+
+abbrev pub StillOpen : Option ClosureReason → Progress → Option UnsealedFile → Option UnsealedFile → Type 0
+StillOpen None file old new = new ≡ old
+StillOpen (Some reason) file old new = GoneWhere (is_sealed file) old new
 
 -- A record more.
 
@@ -141,10 +146,10 @@ abbrev pub IsBounded : Option RunFacts → Type 0
 IsBounded None = Unit {0}
 IsBounded (Some run) = IsCdrKind run.kind × (run.octets < 2 ^ 32 - 2 ^ 17) × (run.count < 2 ^ 32)
 
--- A record more stands at the end of the file that is written.
+-- A record more stands at the end of the file that is written; one that was sealed before stays as it is.
 abbrev pub GrownWhere : Bool → FileName → Option RunFacts → FiledRecord → Option UnsealedFile → Option UnsealedFile
     → Type 0
-GrownWhere true name growing filed old new = Unit {0}
+GrownWhere true name growing filed old new = new ≡ old
 GrownWhere false name growing filed old new =
     IsOpenAt name (grown_facts growing filed).octets new × (body_of new ≡ body_behind growing old ++ cdr_octets filed)
 

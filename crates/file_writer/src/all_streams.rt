@@ -2,7 +2,7 @@
 ghost use Rattle.std.specs.Prelude.{◌≡◌, ◌+◌, ◌-◌, ◌<◌, ◌^◌, ◌++◌, ◌∷◌, [], ℕ, List, OnOk, All, length};
 ghost use Rattle.gw_base.specs.CdrKind.{IsCdrKind};
 ghost use Rattle.gw_base.specs.declared.item.Item.{Item};
-ghost use Rattle.file_writer.specs.AllStreams.{AllAt, EachAt, EachBelow, EachSafe, Goes, GoesTo, IsFit, part_of, mark_told, up_to};
+ghost use Rattle.file_writer.specs.AllStreams.{AllAt, EachAt, EachBelow, EachSafe, Goes, GoesTo, IsFit, StillLeft, part_of, mark_told, up_to};
 ghost use Rattle.file_writer.specs.Calls.{calls_below, calls_of, stream_calls};
 ghost use Rattle.file_writer.specs.Streams.{Settings, filed_record, stream_count};
 ghost use Rattle.file_writer.specs.Writing.{settings_of};
@@ -37,6 +37,7 @@ fn mark_one<F: Shelf>(
         (up_to (s + 1) before (mark_told closes moment)) streams.new shelf.old shelf.new result }
     ensures safe { OnOk result (EachSafe F.Shelf streams.new shelf.new) }
     ensures below { (most : ℕ) → EachBelow most streams.old → OnOk result (EachBelow most streams.new) }
+    ensures left { OnOk result (StillLeft F.Shelf streams.old streams.new shelf.old shelf.new) }
     ensures sixteen { length streams.new ≡ stream_count }
 {
     division_goes_on::<Octets>();
@@ -64,6 +65,7 @@ fn mark_all<F: Shelf>(
         (λ s. before ++ mark_told closes moment ∷ []) streams.new shelf.old shelf.new result }
     ensures safe { OnOk result (EachSafe F.Shelf streams.new shelf.new) }
     ensures below { (most : ℕ) → EachBelow most streams.old → OnOk result (EachBelow most streams.new) }
+    ensures left { OnOk result (StillLeft F.Shelf streams.old streams.new shelf.old shelf.new) }
     ensures sixteen { length streams.new ≡ stream_count }
 {
     for s in 0..16u8 {
@@ -94,6 +96,7 @@ fn put_one<F: Shelf>(
         (λ t. before ++ item ∷ []) streams.new shelf.old shelf.new result }
     ensures safe { OnOk result (EachSafe F.Shelf streams.new shelf.new) }
     ensures below { (most : ℕ) → EachBelow most streams.old → OnOk result (EachBelow (most + 1) streams.new) }
+    ensures left { OnOk result (StillLeft F.Shelf streams.old streams.new shelf.old shelf.new) }
     ensures sixteen { length streams.new ≡ stream_count }
 {
     division_goes_on::<Octets>();
@@ -131,6 +134,7 @@ fn take_item<F: Shelf>(
         (λ s. before ++ item.now ∷ []) streams.new shelf.old shelf.new result }
     ensures safe { OnOk result (EachSafe F.Shelf streams.new shelf.new) }
     ensures below { (most : ℕ) → EachBelow most streams.old → OnOk result (EachBelow (most + 1) streams.new) }
+    ensures left { OnOk result (StillLeft F.Shelf streams.old streams.new shelf.old shelf.new) }
     ensures sixteen { length streams.new ≡ stream_count }
 {
     match item {
@@ -176,6 +180,7 @@ fn put_by_rules<F: Shelf>(
         streams.new shelf.old shelf.new result }
     ensures safe { OnOk result (EachSafe F.Shelf streams.new shelf.new) }
     ensures below { (most : ℕ) → EachBelow most streams.old → OnOk result (EachBelow (most + 1) streams.new) }
+    ensures left { OnOk result (StillLeft F.Shelf streams.old streams.new shelf.old shelf.new) }
     ensures sixteen { length streams.new ≡ stream_count }
 {
     division_goes_on::<Octets>();
@@ -214,6 +219,7 @@ pub(crate) fn take_all<F: Shelf>(
     ensures safe { OnOk result (EachSafe F.Shelf streams.new shelf.new) }
     ensures below { (most : ℕ) → EachBelow most streams.old →
         OnOk result (EachBelow (most + length items.now) streams.new) }
+    ensures left { OnOk result (StillLeft F.Shelf streams.old streams.new shelf.old shelf.new) }
     ensures sixteen { length streams.new ≡ stream_count }
 {
     for item in items {

@@ -1,12 +1,13 @@
 //! Laws of the files that items are divided into. Each holds for all items, and stands on a function that does nothing.
-ghost use Rattle.std.specs.Prelude.{◌≡◌, ◌-◌, ◌+◌, ◌<◌, ◌≤◌, ◌++◌, ℕ, List, drop, take};
+ghost use Rattle.std.specs.Prelude.{◌≡◌, ◌-◌, ◌+◌, ◌<◌, ◌≤◌, ◌++◌, ℕ, List, Option, drop, take};
 ghost use Rattle.gw_base.specs.declared.item.Item.{Item};
 ghost use Rattle.file_rotate.specs.Division.{divided_from};
 ghost use Rattle.file_rotate.specs.Items.{Filed};
 ghost use Rattle.file_rotate.specs.Items as stream;
-ghost use Rattle.cdr_shelf.specs.Files.{SealedFile, greatest_in, in_stream};
+ghost use Rattle.cdr_shelf.specs.Files.{SealedFile, UnsealedFile, greatest_in, in_stream};
 ghost use Rattle.file_writer.specs.Calls.{calls_from, calls_of, seals};
 ghost use Rattle.file_writer.specs.Files.{AreOfStreams, files_from, later_division, later_files, stream_files};
+ghost use Rattle.file_writer.specs.Leaving.{AreOpenFiles, LeavesUnsealed};
 ghost use Rattle.file_writer.specs.Streams.{Settings, closed_of, stream_count};
 
 use file_rotate::division_goes_on;
@@ -54,3 +55,17 @@ pub fn first_files_are_counted()
         → in_stream s files ≡ take m (stream_files settings s items) → m ≤ closed_of settings s items
         → greatest_in s files ≡ m }
 {}
+
+/// The unsealed files are the open ones, and stay so. Where they are those that some items leave open, and the files
+/// that were sealed are among those that these close, then after calls for these items, or the last of them, and more,
+/// the unsealed files are those that all items leave open. So it is too where a writer recovers, and takes all anew.
+pub fn open_files_go_on()
+    ensures { (settings : Settings) (closed sealed : ℕ → ℕ) (before front rest : List Item)
+        (old new : ℕ → Option UnsealedFile)
+        → ((s : ℕ) → s < stream_count → sealed s ≤ closed s + closed_of settings s (before ++ front))
+        → AreOpenFiles settings closed (before ++ front) old
+        → LeavesUnsealed settings closed sealed before ((before ++ front) ++ rest) old new
+        → AreOpenFiles settings closed ((before ++ front) ++ rest) new }
+{
+    division_goes_on::<Octets>();
+}

@@ -1,5 +1,5 @@
 //! The calls for one file: it is begun, records are appended, and it is closed.
-ghost use Rattle.std.specs.Prelude.{◌+◌, ◌-◌, ◌<◌, ◌^◌, IsTrue, OnOk, [], ◌∷◌, length};
+ghost use Rattle.std.specs.Prelude.{◌≡◌, ◌+◌, ◌-◌, ◌<◌, ◌^◌, IsTrue, OnOk, None, [], ◌∷◌, length};
 ghost use Rattle.cdr_file.specs.CdrFile.{cdr_octets};
 ghost use Rattle.cdr_shelf.specs.Files.{IsFresh};
 ghost use Rattle.cdr_shelf.specs.Steps.{StepsAt};
@@ -81,6 +81,7 @@ pub(crate) fn close_file<F: Shelf>(
     ensures makes { let file =
         closed_file (settings_of gateway.now) name reason (Some run) (F.unsealed shelf.old name.stream) in
         Makes F.Shelf (Writes ∷ Writes ∷ Seals file ∷ []) (ending_of result) shelf.old shelf.new }
+    ensures gone { IsTrue F.tells_files → OnOk result (F.unsealed shelf.new name.stream ≡ None) }
     ensures others { IsTrue F.tells_files →
         OnOk result (OthersStay name.stream (F.unsealed shelf.old) (F.unsealed shelf.new)) }
 {

@@ -161,7 +161,7 @@ pub(crate) fn close<F: Shelf>(
         (ending_of result) shelf.old shelf.new }
     ensures closed { IfOk result (λ later. later ≡ closed_progress reason file) }
     ensures still { IsTrue F.tells_files →
-        OnOk result (StillOpen reason (F.unsealed shelf.old stream) (F.unsealed shelf.new stream)) }
+        OnOk result (StillOpen reason file (F.unsealed shelf.old stream) (F.unsealed shelf.new stream)) }
     ensures others { IsTrue F.tells_files →
         OnOk result (OthersStay stream (F.unsealed shelf.old) (F.unsealed shelf.new)) }
 {

@@ -3,7 +3,7 @@ ghost use Rattle.cdr_file.specs.ClosureReason.{code_of};
 ghost use Rattle.cdr_file.specs.declared.closure.ClosureReason.{ClosureReason};
 ghost use Rattle.file_rotate.specs.Items.{Filed, Record};
 ghost use Rattle.gw_base.specs.CdrKind.{IsCdrKind};
-ghost use Rattle.file_writer.specs.Following.{IsBehind, IsSafe, Stays, Takes, mark_item};
+ghost use Rattle.file_writer.specs.Following.{IsBehind, IsSafe, Stays, StaysLeft, Takes, mark_item};
 ghost use Rattle.file_writer.specs.Streams.{filed_record};
 ghost use Rattle.file_writer.specs.Writing.{settings_of, weight_of};
 
@@ -58,6 +58,7 @@ pub(crate) fn put<F: Shelf>(
         stream shelf.old shelf.new result }
     ensures safe { IfOk result (λ later. IsSafe F.Shelf s later shelf.new) }
     ensures few { IfOk result (λ later. weight_of later.file ≤ weight_of stream.file + 1) }
+    ensures left { IfOk result (λ later. StaysLeft F.Shelf s stream.file later.file shelf.old shelf.new) }
     ensures others { IsTrue F.tells_files → OnOk result ((t : ℕ) → t ≢ s → Stays F.Shelf t shelf.old shelf.new) }
 {
     cutter_keeps_the_run::<Octets>();
@@ -96,6 +97,7 @@ pub(crate) fn mark<F: Shelf>(
         Takes F.Shelf (settings_of gateway.now) s run (mark_item closes moment) stream shelf.old shelf.new result }
     ensures safe { IfOk result (λ later. IsSafe F.Shelf s later shelf.new) }
     ensures few { IfOk result (λ later. weight_of later.file ≤ weight_of stream.file) }
+    ensures left { IfOk result (λ later. StaysLeft F.Shelf s stream.file later.file shelf.old shelf.new) }
     ensures others { IsTrue F.tells_files → OnOk result ((t : ℕ) → t ≢ s → Stays F.Shelf t shelf.old shelf.new) }
 {
     cutter_keeps_the_run::<Octets>();

@@ -13,6 +13,7 @@ use Rattle.area_disk.specs.declared.plan.Plan.{Plan}
 use Rattle.cdr_shelf.specs.declared.memory.MemoryShelf.{MemoryShelf}
 use Rattle.cgf_journal.specs.Trail.{stop_stands}
 use Rattle.file_writer.specs.Files.{AreFilesOf}
+use Rattle.file_writer.specs.Leaving.{AreOpenFiles}
 use Rattle.gateway_book.specs.Items.{items_of}
 use Rattle.gateway_book.specs.Book.{Stays, area_of, value_of}
 use Rattle.gateway_book.specs.Opened.{StandsFitFor}
@@ -114,6 +115,8 @@ left_kept false w v is = inl (ap (λ (x : BookValue). x.firm) is)
 pub handed_out : (setup : Setup) (place : ℕ) (g : Gateway) (m : Machine) (o : Option MemoryArea) (s : MemoryShelf) →
     MatchOption o ⊥ (IsAreaOf setup place g) →
     AreFilesOf (files_in setup place) (take m.written (items_of g.book.firm)) (shelf_tells.files s) →
+    AreOpenFiles (files_in setup place) (λ s. 0) (take m.written (items_of g.book.firm)) (shelf_tells.unsealed s) →
     MatchOption o ⊥ (λ area. IsHandedOut setup place g m area s)
-handed_out setup place g m None s none files = none
-handed_out setup place g m (Some area) s is files = record { area = is; files = files }
+handed_out setup place g m None s none files unsealed = none
+handed_out setup place g m (Some area) s is files unsealed =
+    record { area = is; files = files; unsealed = unsealed }

@@ -6,6 +6,7 @@ use Rattle.area_disk.specs.Armed.{Armed}
 use Rattle.area_disk.specs.Armed.Armed.{Nothing}
 use Rattle.area_disk.specs.declared.memory.MemoryArea.{MemoryArea}
 use Rattle.file_writer.specs.Files.{AreFilesOf}
+use Rattle.file_writer.specs.Leaving.{AreOpenFiles}
 use Rattle.file_writer.specs.Streams.{Settings}
 use Rattle.file_writer.specs.Writer.{shelf_of}
 use Rattle.gateway_book.specs.Book.{Stays}
@@ -233,6 +234,8 @@ module _ (setup : Setup) (place : ℕ) (g : Gateway) (m : Machine) (value : Book
           settings_are = writes.settings_are;
           is_armed = writes.is_armed;
           files = subst (λ (xs : List Item). AreFilesOf settings xs (shelf_tells.files (shelf_of f.writer))) same writes.files;
+          unsealed = subst (λ (xs : List Item). AreOpenFiles settings (λ s. 0) xs (shelf_tells.unsealed (shelf_of f.writer)))
+              same writes.unsealed;
           most = omega (arith, writes.most, length-append items more);
         };
         goes_on = λ n is. (

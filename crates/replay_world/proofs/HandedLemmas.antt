@@ -1,11 +1,20 @@
 -- The areas and the shelves that gateways hand out.
-use Rattle.std.proofs.Common.{◌≡◌, refl, sym, ap, subst, ℕ, zero, suc, ◌+◌, ◌<◌, ◌≤◌, List, [], ◌∷◌, ◌++◌, length, take, Option, Some, None, MatchOption, slice_get, arith, length-take}
+use Rattle.std.proofs.Common.{◌≡◌, ◌∙◌, ◌⊎◌, inl, inr, refl, sym, ap, subst, ℕ, zero, suc, ◌+◌, ◌<◌, ◌≤◌, List, [], ◌∷◌, ◌++◌, length, take, take_all, Option, Some, None, MatchOption, slice_get, arith, length-take}
+use Rattle.std.proofs.lemmas.List.Elements.{All-cons, All-nil}
 use Rattle.area_disk.specs.declared.memory.MemoryArea.{MemoryArea}
+use Rattle.cdr_shelf.specs.Files.{UnsealedFile}
 use Rattle.cdr_shelf.specs.declared.memory.MemoryShelf.{MemoryShelf}
+use Rattle.file_rotate.specs.Items.{Filed}
+use Rattle.file_writer.specs.Leaving.{AreOpenFiles, IsOpenFile}
+use Rattle.file_writer.specs.Streams.{Settings, closed_of, stream_count}
+use Rattle.gateway_book.specs.Items.{items_of}
+use Rattle.gw_base.specs.declared.item.Item.{Item}
 use Rattle.once_core.specs.Gateway.{Gateway}
-use Rattle.replay_world.specs.Played.{EachHandedOut, IsHandedOut}
-use Rattle.replay_world.specs.Setup.{Setup}
+use Rattle.replay_world.specs.Played.{AreAllSealed, EachHandedOut, IsHandedOut}
+use Rattle.replay_world.specs.Settled.{AreShut, IsSettled}
+use Rattle.replay_world.specs.Setup.{Setup, files_in}
 use Rattle.replay_world.specs.Value.{Machine}
+use Rattle.replay_world.specs.Written.{shelf_tells}
 
 module _ (setup : Setup) where
   -- as many as there are gateways
@@ -71,6 +80,48 @@ module _ (setup : Setup) where
       MatchOption o ⊥ (λ a. IsHandedOut setup place g m a s) → (a : MemoryArea) × (o ≡ Some a) × IsHandedOut setup place g m a s
   area_there place g m None s is = absurd is
   area_there place g m (Some a) s is = (a, refl, is)
+
+-- Where no file is open, none is unsealed.
+
+none_unsealed : (settings : Settings) (items : List Item) (unsealed : ℕ → Option UnsealedFile) →
+    AreOpenFiles settings (λ s. 0) items unsealed → AreShut items → (s : ℕ) → unsealed s ≡ None
+none_unsealed settings items unsealed are shut s =
+    elim (either_way s stream_count) [
+      | inl within ↦
+          subst (λ (run : List (Filed (List ℕ))). IsOpenFile
+          (record { stream = s; sequence = 0 + closed_of settings s items + 1 }) run (unsealed s)) (shut settings s)
+          (are.each s within)
+      | inr beyond ↦ are.beyond s beyond
+    ]
+  where
+    either_way : (n k : ℕ) → (n < k) ⊎ (k ≤ n)
+    either_way n k = grind arith
+
+settled_shelf : (setup : Setup) (place : ℕ) (g : Gateway) (m : Machine) (a : MemoryArea) (shelf : MemoryShelf) →
+    IsHandedOut setup place g m a shelf → IsSettled g m → (s : ℕ) → shelf_tells.unsealed shelf s ≡ None
+settled_shelf setup place g m a shelf is settled =
+    let items : List Item = items_of g.book.firm in
+    none_unsealed (files_in setup place) items (shelf_tells.unsealed shelf)
+    (subst (λ (xs : List Item). AreOpenFiles (files_in setup place) (λ s. 0) xs (shelf_tells.unsealed shelf))
+    (ap (λ (n : ℕ). take n items) settled.written ∙ take_all (length items) items (omega arith)) is.unsealed)
+    settled.shut
+
+pub settled_shelves : (setup : Setup) (place : ℕ) (gs : List Gateway) (ms : List Machine) (areas : List MemoryArea)
+    (shelves : List MemoryShelf) → EachHandedOut setup place gs ms areas shelves →
+    ((k : ℕ) (g : Gateway) (m : Machine) → slice_get gs k ≡ Some g → slice_get ms k ≡ Some m → IsSettled g m) →
+    AreAllSealed shelves
+settled_shelves setup place [] [] [] [] each settled =
+    All-nil (λ (shelf : MemoryShelf). (s : ℕ) → shelf_tells.unsealed shelf s ≡ None)
+settled_shelves setup place (g ∷ gs) (m ∷ ms) (a ∷ areas) (shelf ∷ shelves) each settled =
+    All-cons (λ (shelf : MemoryShelf). (s : ℕ) → shelf_tells.unsealed shelf s ≡ None) shelf shelves
+    (settled_shelf setup place g m a shelf each.0 (settled 0 g m refl refl))
+    (settled_shelves setup (suc place) gs ms areas shelves each.1 (λ k f n has is. settled (suc k) f n has is))
+settled_shelves setup place [] [] [] (s ∷ shelves) each settled = absurd each
+settled_shelves setup place [] [] (a ∷ areas) shelves each settled = absurd each
+settled_shelves setup place [] (m ∷ ms) areas shelves each settled = absurd each
+settled_shelves setup place (g ∷ gs) [] areas shelves each settled = absurd each
+settled_shelves setup place (g ∷ gs) (m ∷ ms) [] shelves each settled = absurd each
+settled_shelves setup place (g ∷ gs) (m ∷ ms) (a ∷ areas) [] each settled = absurd each
 
 -- there is room for one more
 pub room_left : {A B : Type 0} (n most capacity : ℕ) (gs : List A) (kept : List B) → length kept ≡ length (take n gs) →

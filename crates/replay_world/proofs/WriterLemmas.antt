@@ -1,12 +1,12 @@
 -- A writer that begins the items anew and takes all of them, and one that is made.
-use Rattle.std.proofs.Common.{◌≡◌, ◌∙◌, refl, sym, ap, subst, ℕ, zero, suc, ◌+◌, ◌-◌, ◌<◌, ◌≤◌, max, false, List, [], ◌∷◌, ◌++◌, length, take, drop, Ok, Some, All, arith, append-nil, length-append}
+use Rattle.std.proofs.Common.{◌≡◌, ◌∙◌, refl, sym, ap, subst, ℕ, zero, suc, ◌+◌, ◌-◌, ◌<◌, ◌≤◌, max, false, List, [], ◌∷◌, ◌++◌, length, take, drop, Ok, Option, Some, None, All, arith, append-nil, length-append}
 use Rattle.std.proofs.lemmas.List.{take-append-drop, take-append-le, take_all}
 use Rattle.std.proofs.lemmas.List.Elements.{All-append, All-nil, All-weaker}
 use Rattle.area_disk.specs.Armed.{Came, IsArmed, calls_under}
 use Rattle.area_disk.specs.Armed.Armed.{Nothing}
 use Rattle.area_disk.specs.Armed.Came.{Ran}
 use Rattle.cdr_file.specs.CdrFile.{FileSettings}
-use Rattle.cdr_shelf.specs.Files.{SealedFile, greatest_in, in_stream}
+use Rattle.cdr_shelf.specs.Files.{SealedFile, UnsealedFile, greatest_in, in_stream}
 use Rattle.cdr_shelf.specs.declared.memory.MemoryShelf.{MemoryShelf}
 use Rattle.file_rotate.specs.Division.{ClosedRun}
 use Rattle.file_writer.specs.Advancing.{Advances, HasRecovered, calls}
@@ -15,6 +15,7 @@ use Rattle.file_writer.specs.Asking.{IsAsked}
 use Rattle.file_writer.specs.Calls.{calls_of, seals}
 use Rattle.file_writer.specs.Files.{AreOfStreams, files_from, later_files, stream_files}
 use Rattle.file_writer.specs.Holding.{HoldsOf, IsBegun, files_after}
+use Rattle.file_writer.specs.Leaving.{AreOpenFiles, LeavesUnsealed}
 use Rattle.file_writer.specs.Making.{Comes, Went}
 use Rattle.file_writer.specs.Streams.{Settings, closed_of, stream_count, stream_division}
 use Rattle.file_writer.specs.Writer as writer
@@ -37,6 +38,14 @@ FilesCounted = (settings : Settings) (s m : ℕ) (items : List Item) (files : Li
 abbrev pub SealOfStreams : Type 0
 SealOfStreams = (settings : Settings) (closed sealed : ℕ → ℕ) (before items : List Item) (k : ℕ) →
     AreOfStreams (seals (take k (calls_of settings closed sealed before items)))
+
+abbrev pub OpenGoOn : Type 0
+OpenGoOn = (settings : Settings) (closed sealed : ℕ → ℕ) (before front rest : List Item)
+    (old new : ℕ → Option UnsealedFile) →
+    ((s : ℕ) → s < stream_count → sealed s ≤ closed s + closed_of settings s (before ++ front)) →
+    AreOpenFiles settings closed (before ++ front) old →
+    LeavesUnsealed settings closed sealed before ((before ++ front) ++ rest) old new →
+    AreOpenFiles settings closed ((before ++ front) ++ rest) new
 
 pub files_length : (file : FileSettings) (s first : ℕ) (closed : List (ClosedRun (List ℕ))) →
     length (files_from file s first closed) ≡ length closed
@@ -89,6 +98,9 @@ module _ (grow : FilesGrow) (settings : Settings) (written : ℕ) (items : List 
 abbrev files_in : Writer MemoryShelf shelf_tells → List SealedFile
 files_in w = shelf_tells.files (writer.shelf_of w)
 
+abbrev unsealed_in : Writer MemoryShelf shelf_tells → ℕ → Option UnsealedFile
+unsealed_in w = shelf_tells.unsealed (writer.shelf_of w)
+
 -- calls seal more files of the streams that there are, and no others
 more_of_streams : SealOfStreams → (closed : ℕ → ℕ) (before items : List Item) (old new : Writer MemoryShelf shelf_tells)
     (n : ℕ) → Advances shelf_tells closed before items old new (Ok n) → AreOfStreams (files_in old) →
@@ -100,8 +112,8 @@ more_of_streams law closed before items old new n done are =
     (law (writer.settings_in old) closed (writer.sealed_in old) before items sealed.count))
 
 -- It recovers, and takes all items.
-module _ (grow : FilesGrow) (counted : FilesCounted) (within : SealOfStreams) (settings : Settings) (written : ℕ)
-    (items : List Item) (old mid new : Writer MemoryShelf shelf_tells) (stands : WriterStands shelf_tells settings written items old)
+module _ (grow : FilesGrow) (counted : FilesCounted) (within : SealOfStreams) (goes : OpenGoOn) (settings : Settings)
+    (written : ℕ) (items : List Item) (old mid new : Writer MemoryShelf shelf_tells) (stands : WriterStands shelf_tells settings written items old)
     (same : writer.settings_in mid ≡ writer.settings_in old)
     (asked : IsAsked shelf_tells false (writer.shelf_of old) (writer.shelf_of mid))
     (recovered : HasRecovered shelf_tells (λ s. 0) 0 old mid) where
@@ -138,6 +150,23 @@ module _ (grow : FilesGrow) (counted : FilesCounted) (within : SealOfStreams) (s
       (subst (λ (xs : List Item). IsBegun settings (λ s. 0) (λ s. []) xs (files_in mid)) (sym (append-nil items))
       (λ s small. (length (stream_files settings s wi), first_files s small))))
 
+  -- what is unsealed after all items
+  opens : (n : ℕ) → Advances shelf_tells (λ s. 0) [] items mid new (Ok n) →
+      AreOpenFiles settings (λ s. 0) (take (length items) items) (unsealed_in new)
+  opens n done =
+      let rest : List Item = drop written items in
+      let joined : wi ++ rest ≡ items = take-append-drop written items in
+      subst (λ (xs : List Item). AreOpenFiles settings (λ s. 0) xs (unsealed_in new))
+      (joined ∙ sym (take_all (length items) items (omega arith)))
+      (goes settings (λ s. 0) (writer.sealed_in mid) [] wi rest (unsealed_in mid) (unsealed_in new)
+      (λ s small. omega (arith, sealed_is s small))
+      (subst (λ (u : ℕ → Option UnsealedFile). AreOpenFiles settings (λ s. 0) wi u)
+      (λ i s. sym (asked.unsealed s) i) stands.unsealed)
+      (subst (λ (xs : List Item). LeavesUnsealed settings (λ s. 0) (writer.sealed_in mid) [] xs (unsealed_in mid)
+      (unsealed_in new)) (sym joined)
+      (subst (λ (q : Settings). LeavesUnsealed q (λ s. 0) (writer.sealed_in mid) [] items (unsealed_in mid)
+      (unsealed_in new)) settings_are (done.leaves refl))))
+
   pub written_stands : (n : ℕ) → writer.settings_in new ≡ writer.settings_in mid →
       Advances shelf_tells (λ s. 0) [] items mid new (Ok n) →
       WriterStands shelf_tells settings (length items) items new
@@ -166,6 +195,7 @@ module _ (grow : FilesGrow) (counted : FilesCounted) (within : SealOfStreams) (s
           only = more_of_streams within (λ s. 0) [] items mid new n done
               (subst AreOfStreams (sym asked.files) stands.files.only);
         };
+        unsealed = opens n done;
         most = omega arith;
       }
 
@@ -178,8 +208,8 @@ module _ (grow : FilesGrow) (counted : FilesCounted) (within : SealOfStreams) (s
       })
 
 -- One that goes on takes the items behind those that it has taken.
-module _ (grow : FilesGrow) (within : SealOfStreams) (settings : Settings) (written : ℕ) (items : List Item)
-    (old new : Writer MemoryShelf shelf_tells) (stands : WriterStands shelf_tells settings written items old)
+module _ (grow : FilesGrow) (within : SealOfStreams) (goes : OpenGoOn) (settings : Settings) (written : ℕ)
+    (items : List Item) (old new : Writer MemoryShelf shelf_tells) (stands : WriterStands shelf_tells settings written items old)
     (taken : HasTaken settings (take written items) old)
     (same : writer.settings_in new ≡ writer.settings_in old) where
   abbrev front : List Item
@@ -217,6 +247,22 @@ module _ (grow : FilesGrow) (within : SealOfStreams) (settings : Settings) (writ
   later_sealed n done s small =
       omega (arith, done.sealed s small, taken.sealed s small, fewer grow settings written items s)
 
+  -- what is unsealed after the items behind
+  opens_behind : (n : ℕ) → Advances shelf_tells (λ s. 0) front behind old new (Ok n) →
+      AreOpenFiles settings (λ s. 0) (take (length items) items) (unsealed_in new)
+  opens_behind n done =
+      let none : front ++ [] ≡ front = append-nil front in
+      subst (λ (xs : List Item). AreOpenFiles settings (λ s. 0) xs (unsealed_in new))
+      (ap (λ (xs : List Item). xs ++ behind) none ∙ joined ∙ sym (take_all (length items) items (omega arith)))
+      (goes settings (λ s. 0) (writer.sealed_in old) front [] behind (unsealed_in old) (unsealed_in new)
+      (λ s small. subst (λ (xs : List Item). writer.sealed_in old s ≤ 0 + closed_of settings s xs) (sym none)
+      (omega (arith, taken.sealed s small)))
+      (subst (λ (xs : List Item). AreOpenFiles settings (λ s. 0) xs (unsealed_in old)) (sym none) stands.unsealed)
+      (subst (λ (xs : List Item). LeavesUnsealed settings (λ s. 0) (writer.sealed_in old) front (xs ++ behind)
+      (unsealed_in old) (unsealed_in new)) (sym none)
+      (subst (λ (q : Settings). LeavesUnsealed q (λ s. 0) (writer.sealed_in old) front (front ++ behind)
+      (unsealed_in old) (unsealed_in new)) stands.settings_are (done.leaves refl))))
+
   went_behind : (n : ℕ) → Advances shelf_tells (λ s. 0) front behind old new (Ok n) →
       WriterStands shelf_tells settings (length items) items new × HasTaken settings (take (length items) items) new
   went_behind n done =
@@ -247,6 +293,7 @@ module _ (grow : FilesGrow) (within : SealOfStreams) (settings : Settings) (writ
                 ∙ ap (λ (xs : List Item). stream_files settings s xs) whole;
             only = more_of_streams within (λ s. 0) front behind old new n done stands.files.only;
           };
+          unsealed = opens_behind n done;
           most = omega arith;
         },
         subst (λ (xs : List Item). HasTaken settings xs new) whole (record {
@@ -268,13 +315,15 @@ same_count count n whole is counted = let same : count ≡ n = cc in sym same �
 -- One that is made has an empty shelf.
 pub made_stands : (settings : Settings) (w : Writer MemoryShelf shelf_tells) →
     writer.settings_in w ≡ settings → IsArmed Nothing (shelf_tells.plan (writer.shelf_of w)) →
-    shelf_tells.files (writer.shelf_of w) ≡ [] → (items : List Item) → WriterStands shelf_tells settings 0 items w
-made_stands settings w settings_is is_armed empty items = record {
+    shelf_tells.files (writer.shelf_of w) ≡ [] → ((s : ℕ) → unsealed_in w s ≡ None) → (items : List Item) →
+    WriterStands shelf_tells settings 0 items w
+made_stands settings w settings_is is_armed empty none items = record {
   settings_are = settings_is;
   is_armed = is_armed;
   files = record {
     each = λ s small. ap (λ (files : List SealedFile). in_stream s files) empty;
     only = subst AreOfStreams (sym empty) (All-nil (λ (file : SealedFile). file.name.stream < stream_count));
   };
+  unsealed = record { each = λ s small. none s; beyond = λ s beyond. none s };
   most = omega arith;
 }

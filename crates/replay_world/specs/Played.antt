@@ -1,8 +1,9 @@
 -- What a replay hands out: the areas, the shelves and the nodes that it ran.
-use Rattle.std.specs.Prelude.{◌≡◌, ◌⊎◌, ℕ, suc, Bool, true, false, List, [], ◌∷◌, ◌++◌, ◌≤◌, length, take}
+use Rattle.std.specs.Prelude.{◌≡◌, ◌⊎◌, ℕ, suc, Bool, true, false, All, List, [], ◌∷◌, ◌++◌, ◌≤◌, length, take, None}
 use Rattle.area_disk.specs.declared.memory.MemoryArea.{MemoryArea}
 use Rattle.cdr_shelf.specs.declared.memory.MemoryShelf.{MemoryShelf}
 use Rattle.file_writer.specs.Files.{AreFilesOf}
+use Rattle.file_writer.specs.Leaving.{AreOpenFiles}
 use Rattle.gateway_book.specs.Items.{items_of}
 use Rattle.gateway_book.specs.Opened.{StandsFitFor}
 use Rattle.gateway_book.specs.Up.{IsDown}
@@ -29,18 +30,24 @@ pub record IsAreaOf (setup : Setup) (place : ℕ) (g : Gateway) (a : MemoryArea)
   pub crash : g.is_down ≡ false → g.book.is_broken ≡ false → (octets : List ℕ) → area_tells.may_leave a octets →
       StandsFitFor (header_at setup place) octets g.book.firm
 
--- So does the area that is handed out, and the sealed files of the shelf are those that were written, of each stream in
--- its order, and no others.
+-- So does the area that is handed out. The sealed files of the shelf are those that were written, of each stream in its
+-- order, and no others; and its unsealed files are those that are open, with their records so far.
 pub record IsHandedOut (setup : Setup) (place : ℕ) (g : Gateway) (m : Machine) (a : MemoryArea) (s : MemoryShelf)
     : Type 0 where
   pub area : IsAreaOf setup place g a
   pub files : AreFilesOf (files_in setup place) (take m.written (items_of g.book.firm)) (shelf_tells.files s)
+  pub unsealed : AreOpenFiles (files_in setup place) (λ s. 0) (take m.written (items_of g.book.firm))
+      (shelf_tells.unsealed s)
 
 abbrev pub EachHandedOut : Setup → ℕ → List Gateway → List Machine → List MemoryArea → List MemoryShelf → Type 0
 EachHandedOut setup place [] [] [] [] = Unit {0}
 EachHandedOut setup place (g ∷ gs) (m ∷ ms) (a ∷ later) (s ∷ ss) =
     IsHandedOut setup place g m a s × EachHandedOut setup (suc place) gs ms later ss
 EachHandedOut setup place _ _ _ _ = ⊥
+
+-- No shelf of these has a file that isn't sealed.
+abbrev pub AreAllSealed : List MemoryShelf → Type 0
+AreAllSealed shelves = All (λ (shelf : MemoryShelf). (s : ℕ) → shelf_tells.unsealed shelf s ≡ None) shelves
 
 -- There is room for so many areas and shelves, and none is there yet.
 pub record HaveRoom (count : ℕ) (areas : List MemoryArea) (most_areas : ℕ) (shelves : List MemoryShelf)

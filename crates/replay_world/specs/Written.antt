@@ -6,6 +6,7 @@ use Rattle.cdr_shelf.specs.contracts.memory.MemoryShelfShelf.TheImpl.{ghosts as 
 use Rattle.cdr_shelf.specs.declared.memory.MemoryShelf.{MemoryShelf}
 use Rattle.cdr_shelf.specs.declared.shelf.Shelf as shelf
 use Rattle.file_writer.specs.Files.{AreFilesOf}
+use Rattle.file_writer.specs.Leaving.{AreOpenFiles}
 use Rattle.file_writer.specs.Streams.{Settings, closed_of, stream_count}
 use Rattle.file_writer.specs.Writer as writer
 use Rattle.file_writer.specs.declared.writer.Writer.{Writer}
@@ -17,12 +18,13 @@ abbrev pub shelf_tells : shelf.Ghosts MemoryShelf
 shelf_tells = shelf_ghosts
 
 -- So many of these items were written: the sealed files are those that they close, of each stream in its order, and no
--- others.
+-- others; and the unsealed files are those that they leave open.
 pub record WriterStands {A : Type 0} (tells : shelf.Ghosts A) (settings : Settings) (written : ℕ) (items : List Item)
     (w : Writer A tells) : Type 0 where
   pub settings_are : writer.settings_in w ≡ settings
   pub is_armed : IsArmed Nothing (tells.plan (writer.shelf_of w))
   pub files : AreFilesOf settings (take written items) (tells.files (writer.shelf_of w))
+  pub unsealed : AreOpenFiles settings (λ s. 0) (take written items) (tells.unsealed (writer.shelf_of w))
   pub most : written ≤ length items
 
 -- The writer has taken these items, and when it recovered no files were sealed but some of those that they close.

@@ -8,7 +8,9 @@ ghost use Rattle.gw_base.specs.declared.item.Item.{Item as ItemValue};
 
 use cdr_shelf::MemoryShelf;
 use file_writer::Writer;
-use file_writer::laws::{calls_seal_files_of_streams, files_only_grow, first_files_are_counted};
+use file_writer::laws::{
+    calls_seal_files_of_streams, files_only_grow, first_files_are_counted, open_files_go_on,
+};
 use gw_base::{Item, NoMemory};
 
 /// The most items that a writer takes.
@@ -46,6 +48,7 @@ impl Files {
     {
         files_only_grow();
         calls_seal_files_of_streams();
+        open_files_go_on();
         let Some(taken) = self.taken else {
             return Err(NoMemory);
         };
@@ -70,6 +73,7 @@ impl Files {
         files_only_grow();
         first_files_are_counted();
         calls_seal_files_of_streams();
+        open_files_go_on();
         self.taken = None;
         let Ok(()) = self.writer.recover() else {
             return Err(NoMemory);

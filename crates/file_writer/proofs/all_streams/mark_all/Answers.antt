@@ -34,6 +34,7 @@ loop-s-init g c = record {
   few = c.requires.few;
   sixteen = c.requires.sixteen;
   below = λ most h. h;
+  left = λ told start stale h. h;
   takes = λ settings closed sealed before same at.
       let item : Item = mark_told c.args.closes c.args.moment in (
         subst (λ (cs : List Call). Makes g.F.Shelf cs Went c.args.shelf.now c.args.shelf.now)
@@ -52,6 +53,7 @@ loop-s-preserved g c =
       few = e.below _ inv.few;
       sixteen = e.sixteen;
       below = λ most h. e.below most (inv.below most h);
+      left = λ told start stale h. e.left told start stale (inv.left told start stale h);
       takes = λ settings closed sealed before same at.
           let item : Item = mark_told c.args.closes c.args.moment in
           let prev = inv.takes settings closed sealed before same at in

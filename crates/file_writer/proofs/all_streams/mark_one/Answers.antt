@@ -4,11 +4,12 @@ use Rattle.file_rotate.specs.Division.{cuts_at}
 use Rattle.gw_base.specs.declared.item.Item.{Item}
 use Rattle.file_writer.specs.AllStreams.{StreamAt, mark_told, up_to}
 use Rattle.file_writer.specs.Calls.{Call, calls_at}
-use Rattle.file_writer.specs.Following.{mark_item}
+use Rattle.file_writer.specs.Following.{IsLeft, mark_item}
 use Rattle.file_writer.specs.Making.{Makes, Went}
 use Rattle.file_writer.specs.Streams.{stream_division}
 use Rattle.file_writer.specs.declared.stream.Stream.{Stream}
 use Rattle.file_writer.proofs.AllLemmas.{at_stays, calls_are, each_set, mark_stream_item, taken_at, up_to_here, up_to_next, up_to_other}
+use Rattle.file_writer.proofs.LeavingLemmas.{left_set}
 use Rattle.file_writer.proofs.all_streams.mark_one.Goals as goal
 
 pub returns-clause-takes : goal.returns-clause-takes
@@ -46,3 +47,14 @@ returns-clause-takes g c = λ settings closed sealed before same each.
           (at_stays g.F.Shelf settings closed sealed (up_to s before item t) t _ _ _
           (λ told. c.in_ok-streams.ensures.others told t other) (each t d h)));
     }
+
+pub returns-clause-left : goal.returns-clause-left
+returns-clause-left g c = λ told start stale left.
+    let s : ℕ = c.args.s in
+    let stream : Stream = c.index-streams-s.result in
+    left_set g.F.Shelf start stale c.args.streams.now s c.in_ok-streams.field-0 c.args.shelf.now c.mark.new.shelf
+    c.requires.within c.requires.sixteen
+    (c.in_ok-streams.ensures.left told (start s) (stale s)
+    (subst (λ (st : Stream). IsLeft (start s) (stale s) st.file (g.F.Shelf.unsealed c.args.shelf.now s))
+    (sym c.index-streams-s.is) (left.each s stream c.requires.within)))
+    (λ t other. (c.in_ok-streams.ensures.others told t other).unsealed) left

@@ -4,13 +4,14 @@ use Rattle.file_rotate.specs.Division.{cuts_at}
 use Rattle.file_rotate.specs.Items.{Record}
 use Rattle.file_writer.specs.AllStreams.{StreamAt}
 use Rattle.file_writer.specs.Calls.{Call, calls_at, calls_below}
-use Rattle.file_writer.specs.Following.{IsSafe}
+use Rattle.file_writer.specs.Following.{IsLeft, IsSafe}
 use Rattle.file_writer.specs.Making.{Makes, Went, ending_at}
 use Rattle.file_writer.specs.Streams.{filed_record, stream_count, stream_division}
 use Rattle.file_writer.specs.declared.stream.Stream.{Stream}
 use Rattle.file_writer.proofs.AllLemmas.{at_stays, calls_are, each_set, no_calls, not_taken, only_one, safe_stays, taken_at}
 use Rattle.file_writer.proofs.FollowingLemmas.{no_result}
 use Rattle.file_writer.proofs.MakingLemmas.{ended_at}
+use Rattle.file_writer.proofs.LeavingLemmas.{left_set}
 use Rattle.file_writer.proofs.all_streams.put_one.Goals as goal
 
 pub returns-in_err-streams-clause-takes : goal.returns-in_err-streams-clause-takes
@@ -79,3 +80,14 @@ returns-clause-safe g c =
     c.in_ok-streams.ensures.safe
     (λ t d other h. safe_stays g.F.Shelf t _ _ _ (λ told. c.in_ok-streams.ensures.others told t other)
     (c.requires.safe t d h))
+
+pub returns-clause-left : goal.returns-clause-left
+returns-clause-left g c = λ told start stale left.
+    let s : ℕ = c.args.s in
+    let stream : Stream = c.index-streams-s.result in
+    left_set g.F.Shelf start stale c.args.streams.now s c.in_ok-streams.field-0 c.args.shelf.now c.put.new.shelf
+    c.requires.within c.requires.sixteen
+    (c.in_ok-streams.ensures.left told (start s) (stale s)
+    (subst (λ (st : Stream). IsLeft (start s) (stale s) st.file (g.F.Shelf.unsealed c.args.shelf.now s))
+    (sym c.index-streams-s.is) (left.each s stream c.requires.within)))
+    (λ t other. (c.in_ok-streams.ensures.others told t other).unsealed) left

@@ -51,6 +51,7 @@ loop-item-preserved g c =
     record {
       safe = e.safe;
       sixteen = e.sixteen;
+      left = λ told start stale h. e.left told start stale (inv.left told start stale h);
       below = λ most h s d g. let b = e.below (most + i) (inv.below most h) s d g in omega arith;
       takes = λ settings closed sealed before same rules at.
           let prev = inv.takes settings closed sealed before same rules at in

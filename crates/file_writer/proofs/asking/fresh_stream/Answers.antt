@@ -10,6 +10,7 @@ returns-in-Err-clause-asked g c =
     let e = c.in-Err.ensures in
     record {
       files = e.files;
+      unsealed = e.unsealed;
       calls = e.calls;
       later = e.cause.later;
       rose = λ h. e.cause.failed;

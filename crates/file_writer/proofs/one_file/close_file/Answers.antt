@@ -3,7 +3,8 @@ use Rattle.cdr_file.specs.CdrFile.{header_of}
 use Rattle.cdr_file.specs.FileHeader.{header_octets}
 use Rattle.cdr_shelf.specs.Files.{UnsealedFile}
 use Rattle.file_writer.specs.Writing.{body_of, settings_of}
-use Rattle.file_writer.proofs.WritingLemmas.{named_file, sealed_of}
+use Rattle.file_writer.proofs.LeavingLemmas.{gone_by}
+use Rattle.file_writer.proofs.WritingLemmas.{named_file, on_ok, sealed_of}
 use Rattle.file_writer.specs.Calls.{Writes, Seals}
 use Rattle.file_writer.proofs.MakingLemmas.{makes_then, stopped_at}
 use Rattle.file_writer.proofs.one_file.close_file.Goals as goal
@@ -30,3 +31,11 @@ returns-clause-makes g c =
     sealed_of c.args.name c.args.run.octets c.run_header-header.result u _ _ (c.requires.open told) long
     (c.in_ok-write.ensures.written told).here (c.in_ok-sync.ensures.synced told).here
     ∙ ap (λ (octets : List ℕ). named_file c.args.name (octets ++ body_of u) ∷ []) c.run_header-header.ensures))
+
+pub returns-clause-gone : goal.returns-clause-gone
+returns-clause-gone g c = λ told.
+    on_ok c.seal.result
+    (λ ended. gone_by c.args.name c.args.run.octets c.run_header-header.result
+    (g.F.Shelf.unsealed c.args.shelf.now c.args.name.stream) _ _ _ (c.requires.open told)
+    (c.in_ok-write.ensures.written told).here (c.in_ok-sync.ensures.synced told).here ended.here)
+    (c.seal.ensures.ended told)

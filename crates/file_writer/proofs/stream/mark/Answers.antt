@@ -11,6 +11,7 @@ use Rattle.file_writer.specs.Following.{Follows, Pairs, mark_item}
 use Rattle.file_writer.specs.Making.{Makes, Went, ending_of}
 use Rattle.file_writer.specs.Writing.{ClosesOpen, closing_of, settings_of}
 use Rattle.file_writer.proofs.FollowingLemmas.{close_follows, close_stays, close_up, closed_count, closed_sealed, makes_closing, mark_calls, mark_closes, mark_cuts_is, mark_file_is, mark_run, no_answer, only_before, pairs_closed}
+use Rattle.file_writer.proofs.LeavingLemmas.{close_left}
 use Rattle.file_writer.proofs.MakingLemmas.{ended_at}
 use Rattle.file_writer.proofs.stream.mark.Goals as goal
 
@@ -114,3 +115,14 @@ pub returns-clause-others : goal.returns-clause-others
 returns-clause-others g c = λ told t other.
     close_stays g.F.Shelf (settings_of c.args.gateway.now) c.args.s t c.args.stream.file c.reason_of.result _ _ other
     told (c.in_ok-file.ensures.others told t other) c.in_ok-file.ensures.makes
+
+pub returns-clause-left : goal.returns-clause-left
+returns-clause-left g c = λ told start stale left.
+    let stream = c.args.stream in
+    let reason : Option ClosureReason = c.reason_of.result in
+    let is_reason : reason ≡ mark_reason stream.cutter.limits stream.cutter.file c.args.closes c.args.moment =
+    c.reason_of.ensures _ (ap (λ (cut : Cut). cut.before) c.mark-cut.ensures.cut) in
+    close_left start stale stream.file c.in_ok-file.file reason _ _
+    (mark_closes stream.cutter.limits stream.cutter.file c.args.closes c.args.moment stream.file.growing reason
+    c.requires.safe.pairs is_reason)
+    c.in_ok-file.ensures.closed (c.in_ok-file.ensures.still told) left

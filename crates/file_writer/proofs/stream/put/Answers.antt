@@ -13,6 +13,7 @@ use Rattle.file_writer.specs.Making.{Makes, Went, ending_at, ending_of}
 use Rattle.file_writer.specs.Streams.{filed_record}
 use Rattle.file_writer.specs.Writing.{ClosesOpen, appending_of, filed_of, settings_of}
 use Rattle.file_writer.proofs.FollowingLemmas.{FactsLaws, append_follows, append_stays, append_up, appending_is, close_follows, close_stays, close_up, closed_count, closed_sealed, grown_closes, makes_closing, no_answer, pairs_closed, pairs_grown, record_closes, stays_then}
+use Rattle.file_writer.proofs.LeavingLemmas.{append_left, close_left}
 use Rattle.file_writer.proofs.MakingLemmas.{ended_at, makes_then, stopped_at}
 use Rattle.file_writer.specs.declared.progress.Progress.{Progress}
 use Rattle.file_writer.proofs.stream.put.Goals as goal
@@ -315,3 +316,22 @@ returns-clause-others g c = λ told t other.
     c.in_ok-file-2.ensures.makes)
     (close_stays g.F.Shelf settings s t c.in_ok-file-2.file c.reason_of-2.result _ _ other told
     (c.in_ok-file-3.ensures.others told t other) c.in_ok-file-3.ensures.makes))
+
+pub returns-clause-left : goal.returns-clause-left
+returns-clause-left g c = λ told start stale left.
+    let stream = c.args.stream in
+    let next : FiledRecord = filed_of c.args.next.kind c.args.next.octets.now c.args.next.moment in
+    let b : Option ClosureReason = c.reason_of.result in
+    let is_b : b ≡ kind_change stream.cutter.file next.kind =
+    c.reason_of.ensures _ (ap (λ (cut : Cut). cut.before) c.put-cut.ensures.cut) in
+    let file : Progress = c.in_ok-file.file in
+    let later : Progress = c.in_ok-file-2.file in
+    let a : Option ClosureReason = c.reason_of-2.result in
+    close_left start stale later c.in_ok-file-3.file a _ _
+    (grown_closes file later next a c.in_ok-file-2.ensures.grown) c.in_ok-file-3.ensures.closed
+    (c.in_ok-file-3.ensures.still told)
+    (append_left start stale c.args.s file later next _ _ c.in_ok-file-2.ensures.grown
+    (c.in_ok-file-2.ensures.stands told)
+    (close_left start stale stream.file file b _ _
+    (record_closes stream.cutter.file next.kind stream.file.growing b c.requires.safe.pairs is_b)
+    c.in_ok-file.ensures.closed (c.in_ok-file.ensures.still told) left))

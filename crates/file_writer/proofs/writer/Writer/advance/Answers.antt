@@ -1,9 +1,10 @@
-use Rattle.std.proofs.Common.{List, ◌++◌, refl}
+use Rattle.std.proofs.Common.{rules, ◌≡◌, List, ◌++◌, length, refl, slice_index_or}
 use Rattle.file_writer.specs.Calls.{Call, calls_of}
 use Rattle.file_writer.specs.Writer.{sealed_in, settings_in}
 use Rattle.file_writer.proofs.FollowingLemmas.{no_result}
+use Rattle.file_writer.proofs.LeavingLemmas.{all_left_now, leaves_unsealed}
 use Rattle.file_writer.proofs.MakingLemmas.{all_sealed, ended_at}
-use Rattle.file_writer.proofs.WriterLemmas.{all_stand, at_self, begun, more_below, sealed_same}
+use Rattle.file_writer.proofs.WriterLemmas.{all_stand, at_self, begun, more_below, no_stream, sealed_same}
 use Rattle.file_writer.proofs.writer.Writer.advance.Goals as goal
 
 pub returns-in_err-take_all-clause-moves : goal.returns-in_err-take_all-clause-moves
@@ -19,6 +20,7 @@ returns-in_err-take_all-clause-moves g c = λ closed before at.
           c.from_residual.ensures made;
       at = no_result c.from_residual.result fault _ c.from_residual.ensures;
       sealed = no_result c.from_residual.result fault _ c.from_residual.ensures;
+      leaves = λ told. no_result c.from_residual.result fault _ c.from_residual.ensures;
       keeps = λ told stood rest holds. record {
         at_any_moment = begun law (settings_in w) closed (sealed_in w) stood before items rest
             (g.F.Shelf.files w.shelf) holds;
@@ -45,6 +47,7 @@ returns-clause-moves g c = λ closed before at.
     let calls : List Call = calls_of (settings_in w) closed (sealed_in w) before items in
     let goes = c.in_ok-take_all.ensures.takes (settings_in w) closed (sealed_in w) before refl refl at in
     let made = goes.makes in
+    let long : length w.streams ≡ 16 = search rules in
     let same = sealed_same g.F.Shelf (settings_in w) closed (sealed_in w) (before ++ items) c.take_all.new.streams
     c.take_all.new.shelf c.in_ok-take_all.ensures.sixteen goes.at in
     record {
@@ -52,6 +55,10 @@ returns-clause-moves g c = λ closed before at.
       at = at_self g.F.Shelf (settings_in w) closed (sealed_in w) (before ++ items) c.take_all.new.streams
           c.take_all.new.shelf c.in_ok-take_all.ensures.sixteen goes.at;
       sealed = same;
+      leaves = λ told. leaves_unsealed g.F.Shelf (settings_in w) closed (sealed_in w) before (before ++ items) w.streams
+          c.take_all.new.streams w.shelf c.take_all.new.shelf told at goes.at c.in_ok-take_all.ensures.safe
+          (c.in_ok-take_all.ensures.left told (λ s. (slice_index_or w.streams s no_stream).file.closed)
+          (g.F.Shelf.unsealed w.shelf) (all_left_now g.F.Shelf w.streams w.shelf long));
       keeps = λ told stood rest holds. record {
         at_any_moment = begun law (settings_in w) closed (sealed_in w) stood before items rest
             (g.F.Shelf.files w.shelf) holds;

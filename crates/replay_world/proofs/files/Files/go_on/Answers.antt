@@ -17,7 +17,8 @@ advance-requires-clause-few c =
 pub returns : goal.returns
 returns c = λ settings written all stands are.
     let goes = stands.goes_on c.in-Some.taken c.in-Some.is in
-    let went = went_on c.files_only_grow.ensures c.calls_seal_files_of_streams.ensures settings written all
+    let went = went_on c.files_only_grow.ensures c.calls_seal_files_of_streams.ensures
+    c.open_files_go_on.ensures settings written all
     c.args.self.now.writer c.advance.new.self stands.writes goes.1 c.in-Ok.ensures.settings c.args.items.now are _
     (c.in-Ok.ensures.moves (λ s. 0) (take written all) goes.1.at) in
     record {

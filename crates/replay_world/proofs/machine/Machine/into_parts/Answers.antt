@@ -1,6 +1,7 @@
 use Rattle.std.proofs.Common.{sym, subst, take}
 use Rattle.cdr_shelf.specs.declared.memory.MemoryShelf.{MemoryShelf}
 use Rattle.file_writer.specs.Files.{AreFilesOf}
+use Rattle.file_writer.specs.Leaving.{AreOpenFiles}
 use Rattle.gateway_book.specs.Items.{items_of}
 use Rattle.replay_world.specs.Setup.{files_in}
 use Rattle.replay_world.specs.Written.{shelf_tells}
@@ -12,3 +13,5 @@ returns c = λ setup place g m stands.
     handed_out setup place g m c.area_of.result c.into_shelf.result (c.area_of.ensures setup place g m stands.site)
     (subst (λ (s : MemoryShelf). AreFilesOf (files_in setup place) (take m.written (items_of g.book.firm))
     (shelf_tells.files s)) (sym c.into_shelf.ensures) stands.writes.writes.files)
+    (subst (λ (s : MemoryShelf). AreOpenFiles (files_in setup place) (λ s. 0) (take m.written (items_of g.book.firm))
+    (shelf_tells.unsealed s)) (sym c.into_shelf.ensures) stands.writes.writes.unsealed)

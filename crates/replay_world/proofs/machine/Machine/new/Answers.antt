@@ -44,6 +44,8 @@ returns c = λ setup is rules.
             (made_stands (files_in setup c.args.place) c.new-writer.result set
             (subst (λ (s : MemoryShelf). IsArmed Nothing (shelf_tells.plan s)) (sym c.new-writer.ensures.shelf) armed)
             (ap (λ (s : MemoryShelf). shelf_tells.files s) c.new-writer.ensures.shelf ∙ c.in-Ok.ensures.files)
+            (λ s. ap (λ (shelf : MemoryShelf). shelf_tells.unsealed shelf s) c.new-writer.ensures.shelf
+            ∙ c.in-Ok.ensures.unsealed s)
             (items_of (first_gateway (rules_in setup)).book.firm));
         goes_on = λ n is_some. absurd (cc (sym c.new-files.ensures.begins ∙ is_some));
       };

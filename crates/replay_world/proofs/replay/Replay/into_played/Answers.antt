@@ -1,7 +1,8 @@
+use Rattle.replay_world.proofs.HandedLemmas.{settled_shelves}
 use Rattle.replay_world.proofs.replay.Replay.into_played.Goals as goal
 
-pub returns : goal.returns
-returns c = λ v stands. record {
+pub returns-clause-played : goal.returns-clause-played
+returns-clause-played c = λ v stands. record {
   gateways = c.hand_out-areas.ensures v.setup v.world.gateways v.machines stands.gateways (record {
     no_areas = stands.room.no_areas;
     no_shelves = stands.room.no_shelves;
@@ -10,3 +11,15 @@ returns c = λ v stands. record {
   });
   nodes = stands.nodes;
 }
+
+pub returns-clause-sealed : goal.returns-clause-sealed
+returns-clause-sealed c = λ v stands are.
+    settled_shelves v.setup 0 v.world.gateways v.machines c.hand_out-areas.result.0.items
+    c.hand_out-areas.result.1.items
+    (c.hand_out-areas.ensures v.setup v.world.gateways v.machines stands.gateways (record {
+      no_areas = stands.room.no_areas;
+      no_shelves = stands.room.no_shelves;
+      many_areas = stands.room.areas;
+      many_shelves = stands.room.shelves;
+    }))
+    (λ place g m has is. are place g m has is)
