@@ -5,9 +5,12 @@
 //! and `Sink`, and tell what these told; the exit code is the number of the status.
 #![tactic(auto)]
 
-ghost use Rattle.std.specs.Prelude.{◌≡◌, ◌≢◌};
+ghost use Rattle.std.specs.Prelude.{◌≡◌, ◌≢◌, ◌⊎◌, ℕ, List, None, map, string_bytes, true};
+ghost use Rattle.std.specs.Io.KnownBytes.{Appends};
 ghost use Rattle.std.specs.Process.{exit_status};
-ghost use Rattle.cgf_top.specs.Run.{status_number};
+ghost use Rattle.cgf_top.specs.Command.{command_of};
+ghost use Rattle.cgf_top.specs.Ending.{HasCause, WordsDecide};
+ghost use Rattle.cgf_top.specs.Run.{IsReported, is_reported, status_number};
 
 mod progress;
 mod sink;
@@ -19,7 +22,7 @@ use crate::progress::Progress;
 use crate::sink::WriterSink;
 use crate::source::{FileSource, ReaderSource};
 use cgf_top::{Status, run_cgf};
-use gw_base::Source;
+use gw_base::{Sink, Source};
 use std::env;
 use std::io::{ErrorKind, IsTerminal, Stderr};
 use std::process::ExitCode;
@@ -67,19 +70,40 @@ fn without_words(kind: ErrorKind) -> Status
 }
 
 /// Runs the job over the file that the second word names, which is opened once it is to be read.
-fn run(rt: &HostRuntime, words: &[String]) -> Status {
+fn run(rt: &HostRuntime, words: &[String]) -> Status
+    ensures words { result ≡ Status.Words → command_of (map string_bytes words.now) ≡ None }
+    ensures told { command_of (map string_bytes words.now) ≡ None →
+        (result ≡ Status.Words) ⊎ (result ≡ Status.Memory) }
+{
+    let mut sink = WriterSink::new(rt.stdout());
     match words {
         [_, file] if file.as_str() != STANDARD_INPUT => {
-            run_over(rt, words, FileSource::new(rt, file.as_str()))
+            let mut source = FileSource::new(rt, file.as_str());
+            run_over(rt, words, &mut source, &mut sink)
         }
-        _ => run_over(rt, words, ReaderSource::new(rt.stdin())),
+        _ => {
+            let mut source = ReaderSource::new(rt.stdin());
+            run_over(rt, words, &mut source, &mut sink)
+        }
     }
 }
 
-fn run_over<S: Source + Drop>(rt: &HostRuntime, words: &[String], mut source: S) -> Status {
-    let mut sink = WriterSink::new(rt.stdout());
+/// Runs the job over a source and a sink, and shows how far it is where the standard error is a terminal.
+fn run_over<S: Source, K: Sink>(
+    rt: &HostRuntime,
+    words: &[String],
+    source: &mut S,
+    sink: &mut K,
+) -> Status
+    ensures words { WordsDecide (command_of (map string_bytes words.now)) result source.old source.new }
+    ensures report { is_reported result ≡ true → (report : List ℕ) ×
+        IsReported (map string_bytes words.now) (S.left source.old) (S.left source.new) result report ×
+        Appends (K.written sink.old) (K.written sink.new) report }
+    ensures cause { HasCause result (S.faults source.old) (S.faults source.new) (K.faults sink.old)
+        (K.faults sink.new) }
+{
     let mut progress = Progress::new(terminal(rt));
-    let (status, _played) = run_cgf(rt.alloc(), words, &mut source, &mut sink, &mut progress);
+    let (status, _played) = run_cgf(rt.alloc(), words, source, sink, &mut progress);
     progress.clear();
     status
 }

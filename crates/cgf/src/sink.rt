@@ -12,8 +12,11 @@ pub struct WriterSink<W: Write + Drop> {
 }
 
 impl<W: Write + Drop> WriterSink<W> {
-    /// What goes to the writer.
-    pub fn new(writer: W) -> Self {
+    /// A sink whose octets go to the writer. It has failed no call yet.
+    pub fn new(writer: W) -> Self
+        ensures writer { result.writer ≡ writer }
+        ensures faults { result.faults ≡ 0 }
+    {
         WriterSink { writer, faults: 0 }
     }
 

@@ -1,4 +1,4 @@
-ghost use Rattle.std.specs.Prelude.{◌≡◌, ◌≤◌, length, IfOk, OnOk, IsSome, option_and_then};
+ghost use Rattle.std.specs.Prelude.{◌≡◌, ◌≤◌, None, length, IfOk, OnOk, IsSome, option_and_then};
 ghost use Rattle.std.specs.Io.KnownBytes.{ReadConsumes};
 
 use gw_base::{Failed, Source};
@@ -14,8 +14,11 @@ pub struct ReaderSource<R: Read + Drop> {
 }
 
 impl<R: Read + Drop> ReaderSource<R> {
-    /// What the reader has left.
-    pub fn new(reader: R) -> Self {
+    /// A source of what the reader has left. It has failed no call yet.
+    pub fn new(reader: R) -> Self
+        ensures reader { result.reader ≡ reader }
+        ensures faults { result.faults ≡ 0 }
+    {
         ReaderSource { reader, faults: 0 }
     }
 }
@@ -47,8 +50,13 @@ pub struct FileSource<'a, R: Files> {
 }
 
 impl<'a, R: Files> FileSource<'a, R> {
-    /// The file at this path.
-    pub fn new(files: &'a R, path: &'a str) -> Self {
+    /// The source of the file at this path, which isn't opened yet. It has failed no call yet.
+    pub fn new(files: &'a R, path: &'a str) -> Self
+        ensures files { result.files.now ≡ files.now }
+        ensures path { result.path.now ≡ path.now }
+        ensures file { result.file ≡ None }
+        ensures faults { result.faults ≡ 0 }
+    {
         FileSource {
             files,
             path,
