@@ -1,43 +1,59 @@
 -- The feed of a script, line by line, and its report.
-use Rattle.std.proofs.Common.{◌≡◌, ℕ, ◌+◌, true, false, List, [], ◌∷◌, ◌++◌, count_by, drop, Option, Some, None, slice_get, Result, Ok, Err, refl, ap, subst, sym, ◌∙◌, append_assoc}
-use Rattle.std.specs.List.{flat_map}
+use Rattle.std.proofs.Common.{◌≡◌, ℕ, ◌+◌, true, false, List, [], ◌∷◌, ◌++◌, drop, length, Option, Some, None, slice_get, Result, Ok, Err, refl, ap, subst, sym, ◌∙◌, append_assoc}
 use Rattle.std.specs.Prelude.{IfOk}
 use Rattle.gw_base.specs.declared.fault.NoMemory.{NoMemory}
-use Rattle.file_writer.specs.Files.{files_of}
 use Rattle.gateway_book.specs.Calls.{counts_of}
+use Rattle.gateway_book.specs.Filed.{filed}
 use Rattle.gateway_book.specs.Items.{items_of}
-use Rattle.gateway_book.specs.Value.{standing_for}
+use Rattle.gateway_book.specs.Value.{history_of, standing_for}
 use Rattle.gateway_book.specs.declared.told.Counts.{Counts}
+use Rattle.gw_base.specs.History.{copies_of}
 use Rattle.gw_base.specs.declared.history.HistoryEntry.{HistoryEntry}
 use Rattle.gw_base.specs.declared.item.Item.{Item}
 use Rattle.world_script.specs.Script.{Refusal as LineRefusal, script_of}
 use Rattle.world_script.specs.declared.line.Line.{Line}
-use Rattle.cgf_top.specs.FeedReport.{Fed, FeedState, after_line, begun, end_lines, fed_from, fed_of, file_line, gateway_line, is_earlier, printed_for, with_print}
-use Rattle.cgf_top.specs.FeedSettings.{FeedSettings, settings_of}
+use Rattle.cgf_top.specs.FeedReport.{Fed, FeedState, after_line, begun, end_lines, fed_from, fed_of, is_earlier, printed_for, with_print}
 use Rattle.cgf_top.specs.Gateway.{after_close}
 use Rattle.cgf_top.specs.NetworkReport.{HandsBackAt}
 use Rattle.cgf_top.specs.Run.{may_have_written, run_end, script_end, script_report}
+use Rattle.replay_world.specs.Report.{counts_line, counts_text, file_lines}
+use Rattle.replay_world.specs.Settings.{AreSet}
+use Rattle.replay_world.specs.Setup.{Setup, setup_of}
 use Rattle.replay_world.specs.declared.replay.Played.{Played}
-use Rattle.cgf_top.specs.Steps.{IsFed, IsRefusal, IsReport, counts_line, ended_by, is_part, refusal_at}
+use Rattle.replay_world.specs.declared.settings.Settings.{Settings}
+use Rattle.route_filter.specs.declared.rule.Rule.{Rule}
+use Rattle.cgf_top.specs.Steps.{IsFed, IsRefusal, IsReport, ended_by, refusal_at, setup_seen}
 use Rattle.cgf_top.specs.declared.command.Command.TheVariants.{Feed}
 use Rattle.cgf_top.specs.declared.input_kind.InputKind.TheVariants.{Script}
 use Rattle.cgf_top.specs.declared.report.Refusal.{Refusal}
 use Rattle.cgf_top.specs.declared.report.Report.{Report}
-use Rattle.cgf_top.proofs.ReportLemmas.{counts_printed, line_refused, line_run}
-use Rattle.cgf_top.proofs.SettingLemmas.{none_at, rest_at}
+use Rattle.cgf_top.proofs.ReportLemmas.{line_refused, line_run}
+use Rattle.cgf_top.proofs.PlaceLemmas.{none_at, rest_at}
+
+-- ---- settings
+
+pub is_seen : {setup : Setup} {s : Settings} {rules : List Rule} → AreSet setup s → rules ≡ setup.rules → setup_seen s rules ≡ setup
+is_seen set same = λ i. record {
+  gateways = sym set.gateways i;
+  nodes = sym set.nodes i;
+  size = sym set.size i;
+  limits = sym set.limits i;
+  offset = sym set.offset i;
+  rules = same i;
+}
 
 -- ---- lines
 
 -- no line was run yet
-pub feed_begins : (script : List Line) (settings : FeedSettings) (s : FeedState) (printed : List ℕ) → settings ≡ settings_of script
-    → s ≡ begun settings → printed ≡ [] → with_print printed (fed_from (settings_of script) 1 s script) ≡ fed_of script
+pub feed_begins : (script : List Line) (settings : Setup) (s : FeedState) (printed : List ℕ) → settings ≡ setup_of script
+    → s ≡ begun settings → printed ≡ [] → with_print printed (fed_from (setup_of script) 1 s script) ≡ fed_of script
 feed_begins script settings s printed set state none =
-    ap (λ (p : List ℕ). with_print p (fed_from (settings_of script) 1 s script)) none
-    ∙ ap (λ (t : FeedState). with_print [] (fed_from (settings_of script) 1 t script)) (state ∙ ap (λ (x : FeedSettings). begun x) set)
+    ap (λ (p : List ℕ). with_print p (fed_from (setup_of script) 1 s script)) none
+    ∙ ap (λ (t : FeedState). with_print [] (fed_from (setup_of script) 1 t script)) (state ∙ ap (λ (x : Setup). begun x) set)
 
 -- what was printed, and what is printed for the lines from a place on, are all that is printed
 abbrev pub IsFedTo : List Line → ℕ → FeedState → List ℕ → Type 0
-IsFedTo script at s printed = with_print printed (fed_from (settings_of script) (at + 1) s (drop at script)) ≡ fed_of script
+IsFedTo script at s printed = with_print printed (fed_from (setup_of script) (at + 1) s (drop at script)) ≡ fed_of script
 
 abbrev fed_with : List ℕ → Option ℕ → Fed
 fed_with printed refused = record { printed = printed; refused = refused }
@@ -45,16 +61,16 @@ fed_with printed refused = record { printed = printed; refused = refused }
 module _ (script : List Line) (at : ℕ) (s : FeedState) (printed : List ℕ) where
   -- the feed from the line at this place on
   here : (l : Line) → slice_get script at ≡ Some l → IsFedTo script at s printed
-      → with_print printed (fed_from (settings_of script) (at + 1) s (l ∷ drop (at + 1) script)) ≡ fed_of script
+      → with_print printed (fed_from (setup_of script) (at + 1) s (l ∷ drop (at + 1) script)) ≡ fed_of script
   here l found whole =
-      ap (λ (lines : List Line). with_print printed (fed_from (settings_of script) (at + 1) s lines)) (sym (rest_at script at l found)) ∙ whole
+      ap (λ (lines : List Line). with_print printed (fed_from (setup_of script) (at + 1) s lines)) (sym (rest_at script at l found)) ∙ whole
 
   pub feed_goes_on : (t : FeedState) (l : Line) (now : List ℕ) → slice_get script at ≡ Some l → is_earlier s.now l ≡ false
       → t ≡ after_line s l → now ≡ printed ++ printed_for s l → IsFedTo script at s printed → IsFedTo script (at + 1) t now
   feed_goes_on t l now found later moved more whole =
-      ap (λ (p : List ℕ). with_print p (fed_from (settings_of script) (at + 1 + 1) t (drop (at + 1) script))) more
-      ∙ ap (λ (u : FeedState). with_print (printed ++ printed_for s l) (fed_from (settings_of script) (at + 1 + 1) u (drop (at + 1) script))) moved
-      ∙ sym (line_run (settings_of script) (at + 1) s l (drop (at + 1) script) printed later)
+      ap (λ (p : List ℕ). with_print p (fed_from (setup_of script) (at + 1 + 1) t (drop (at + 1) script))) more
+      ∙ ap (λ (u : FeedState). with_print (printed ++ printed_for s l) (fed_from (setup_of script) (at + 1 + 1) u (drop (at + 1) script))) moved
+      ∙ sym (line_run (setup_of script) (at + 1) s l (drop (at + 1) script) printed later)
       ∙ here l found whole
 
   pub feed_stops : (l : Line) (report : Report) → slice_get script at ≡ Some l → is_earlier s.now l ≡ true
@@ -67,21 +83,21 @@ module _ (script : List Line) (at : ℕ) (s : FeedState) (printed : List ℕ) wh
   }
     where
       fed : fed_with printed (Some (at + 1)) ≡ fed_of script
-      fed = sym (line_refused (settings_of script) (at + 1) s l (drop (at + 1) script) printed earlier) ∙ here l found whole
+      fed = sym (line_refused (setup_of script) (at + 1) s l (drop (at + 1) script) printed earlier) ∙ here l found whole
 
-  pub feed_ends : (settings : FeedSettings) (report : Report) → slice_get script at ≡ None → settings ≡ settings_of script
+  pub feed_ends : (settings : Setup) (report : Report) → slice_get script at ≡ None → settings ≡ setup_of script
       → report.printed.items ≡ printed ++ end_lines settings (after_close s.gateway s.now).history → report.refused ≡ None
       → report.played ≡ None → IsFedTo script at s printed → IsFed (fed_of script) report
   feed_ends settings report none set is refused played whole = record {
-    printed = is ∙ ap (λ (x : FeedSettings). printed ++ end_lines x (after_close s.gateway s.now).history) set ∙ ap (λ (fed : Fed). fed.printed) fed;
+    printed = is ∙ ap (λ (x : Setup). printed ++ end_lines x (after_close s.gateway s.now).history) set ∙ ap (λ (fed : Fed). fed.printed) fed;
     refused = refused ∙ ap (λ (fed : Fed). refusal_at fed.refused) fed;
     played = played;
   }
     where
-      fed : fed_with (printed ++ end_lines (settings_of script) (after_close s.gateway s.now).history) None ≡ fed_of script
-      fed = ap (λ (lines : List Line). with_print printed (fed_from (settings_of script) (at + 1) s lines)) (sym (none_at script at none)) ∙ whole
+      fed : fed_with (printed ++ end_lines (setup_of script) (after_close s.gateway s.now).history) None ≡ fed_of script
+      fed = ap (λ (lines : List Line). with_print printed (fed_from (setup_of script) (at + 1) s lines)) (sym (none_at script at none)) ∙ whole
 
-  pub feed_ends_if : (settings : FeedSettings) (result : Result Report NoMemory) → slice_get script at ≡ None → settings ≡ settings_of script
+  pub feed_ends_if : (settings : Setup) (result : Result Report NoMemory) → slice_get script at ≡ None → settings ≡ setup_of script
       → IfOk result (λ report. report.printed.items ≡ printed ++ end_lines settings (after_close s.gateway s.now).history)
       → IfOk result (λ report. report.refused ≡ None) → IfOk result (λ report. report.played ≡ None)
       → IsFedTo script at s printed → IfOk result (λ report. IsFed (fed_of script) report)
@@ -90,21 +106,19 @@ module _ (script : List Line) (at : ℕ) (s : FeedState) (printed : List ℕ) wh
 
 -- ---- the end
 
--- the lines of the files of items
-abbrev lines : FeedSettings → List Item → List ℕ
-lines settings items = flat_map file_line (files_of settings.files items)
-
--- these, and then the line of the counts
-pub end_printed : (settings : FeedSettings) (h : List HistoryEntry) (size : ℕ) (items : List Item) (counts : Counts) (records : ℕ) (before middle now : List ℕ)
-    → items ≡ items_of h → middle ≡ before ++ flat_map file_line (files_of settings.files items) → counts ≡ counts_of (standing_for h) size
-    → records ≡ count_by is_part items → now ≡ middle ++ counts_line counts records → now ≡ before ++ end_lines settings h
-end_printed settings h size items counts records before middle now told filed counted found more =
-    more ∙ ap (λ (m : List ℕ). m ++ counts_line counts records) filed
-    ∙ ap (λ (c : Counts). (before ++ lines settings items) ++ counts_line c records) counted
-    ∙ ap (λ (n : ℕ). (before ++ lines settings items) ++ counts_line (counts_of (standing_for h) size) n) found
-    ∙ ap (λ (is : List Item). (before ++ lines settings is) ++ counts_line (counts_of (standing_for h) size) (count_by is_part is)) told
-    ∙ ap (λ (line : List ℕ). (before ++ lines settings (items_of h)) ++ line) (counts_printed h size)
-    ∙ append_assoc before (lines settings (items_of h)) (gateway_line h)
+-- the lines of the files, and then the line of the counts
+pub end_printed : (setup : Setup) (h : List HistoryEntry) (size : ℕ) (items : List Item) (counts : Counts) (records : ℕ) (before middle now : List ℕ)
+    → items ≡ items_of h → middle ≡ before ++ file_lines setup 0 items → counts ≡ counts_of (standing_for h) size
+    → records ≡ length (filed h) → now ≡ middle ++ counts_text 0 counts.entries records counts.held counts.stranded
+    → now ≡ before ++ end_lines setup h
+end_printed setup h size items counts records before middle now told written counted found more =
+    more ∙ ap (λ (m : List ℕ). m ++ counts_text 0 counts.entries records counts.held counts.stranded) written
+    ∙ ap (λ (c : Counts). (before ++ file_lines setup 0 items) ++ counts_text 0 c.entries records c.held c.stranded) counted
+    ∙ ap (λ (n : ℕ). (before ++ file_lines setup 0 items)
+    ++ counts_text 0 (length (history_of (standing_for h))) n (copies_of (history_of (standing_for h))).held
+    (copies_of (history_of (standing_for h))).stranded) found
+    ∙ ap (λ (is : List Item). (before ++ file_lines setup 0 is) ++ counts_line 0 (standing_for h)) told
+    ∙ append_assoc before (file_lines setup 0 (items_of h)) (counts_line 0 (standing_for h))
 
 -- ---- the report
 

@@ -6,10 +6,9 @@ pub mod Ends
 pub mod FeedLemmas
 pub mod FileLemmas
 pub mod NetworkLemmas
+pub mod PlaceLemmas
 pub mod PrintLemmas
 pub mod ReportLemmas
-pub mod Script
-pub mod SettingLemmas
 pub mod Streams
 pub mod Whole
 pub mod WordLemmas

@@ -5,7 +5,7 @@ use Rattle.once_core.specs.StandsOnce.{StandsOnce}
 use Rattle.once_core.specs.declared.event.WorldKind.{WorldKind}
 use Rattle.replay_world.specs.Does.{LineRan}
 use Rattle.replay_world.specs.Lines.{line_after, refusal_of_line}
-use Rattle.replay_world.specs.Report.{Refusal as WorldRefusal}
+use Rattle.replay_world.specs.Report.{Refusal as WorldRefusal, replayed}
 use Rattle.replay_world.specs.Report.{line_text, lines_after, printed_by, printed_unless, refusal_of_lines, refused_from, refused_or, report_of_lines}
 use Rattle.replay_world.specs.Settled.{AreWritten}
 use Rattle.replay_world.specs.Setup.{files_in, setup_of}
@@ -17,7 +17,7 @@ use Rattle.world_script.specs.Script.{Refusal as LineRefusal, script_in}
 use Rattle.world_script.specs.declared.fault.InputKind.{InputKind as LineKind}
 use Rattle.world_script.specs.declared.kind.ScriptKind.TheVariants as kind
 use Rattle.world_script.specs.declared.line.Line.{Line}
-use Rattle.cgf_top.specs.NetworkReport.{EndsByReport, HandsBackAt, lines_ok, network_end, replay_end, replay_report, replayed, seeded_lines}
+use Rattle.cgf_top.specs.NetworkReport.{EndsByReport, HandsBackAt, lines_ok, network_end, replay_end, replay_report, seeded_lines}
 use Rattle.cgf_top.specs.NetworkSteps.{HasDrilled, HasRun, IsAt, IsReplayed, PlayedOf, refusal_at_line}
 use Rattle.cgf_top.specs.Run.{may_have_written}
 use Rattle.cgf_top.specs.Steps.{IsRefusal, IsReport, ended_by}
@@ -27,8 +27,7 @@ use Rattle.cgf_top.specs.declared.input_kind.InputKind.TheVariants.{Script as Of
 use Rattle.cgf_top.specs.declared.report.Refusal.{Refusal}
 use Rattle.cgf_top.specs.declared.report.Report.{Report}
 use Rattle.cgf_top.proofs.EndingLemmas.{some_is_none}
-use Rattle.cgf_top.proofs.Script.{script_in_within}
-use Rattle.cgf_top.proofs.SettingLemmas.{none_at, rest_at}
+use Rattle.cgf_top.proofs.PlaceLemmas.{none_at, rest_at}
 
 -- Lines, one after the other.
 module _ (lines : List Line) (at : ℕ) (said : Line) (found : slice_get lines at ≡ Some said) where
@@ -198,9 +197,6 @@ replay_refused text place why read = record {
   none = ap (λ (r : Result (List Line) LineRefusal). replay_report r) read;
   untaken = ap (λ (r : Result (List Line) LineRefusal). may_have_written (replay_end r)) read;
 }
-
-pub replay_within : (text : List ℕ) (lines : List Line) → script_in kind.Replay text ≡ Ok lines → length text < 16777217
-replay_within text lines read = omega (arith, script_in_within kind.Replay text lines read)
 
 -- The report of a drill.
 pub drilled_is_report : (of : Seeded) (octets : List ℕ) (report : Report) → HasDrilled (seeded_lines of) report →

@@ -7,26 +7,32 @@ use Rattle.cdr_shelf.specs.Files.{SealedFile, in_stream}
 use Rattle.file_writer.specs.Files.{files_below, stream_files}
 use Rattle.file_writer.specs.Streams.{Settings}
 use Rattle.gw_base.specs.declared.item.Item.{Item}
-use Rattle.cgf_top.specs.FeedReport.{file_line, last_digits}
-use Rattle.cgf_top.proofs.SettingLemmas.{none_at, rest_at}
+use Rattle.replay_world.specs.Report.{digits, file_line}
+use Rattle.cgf_top.proofs.PlaceLemmas.{none_at, rest_at}
 
 -- the last digit stands behind the others
-pub last_digit : (count n : ℕ) → (count ≡ 0 → ⊥) → last_digits (count - 1) (n / 10) ++ (48 + n % 10) ∷ [] ≡ last_digits count n
+pub last_digit : (count n : ℕ) → (count ≡ 0 → ⊥) → digits (count - 1) (n / 10) ++ (48 + n % 10) ∷ [] ≡ digits count n
 last_digit zero n some = absurd (some refl)
-last_digit (suc count) n some = ap (λ (k : ℕ). last_digits k (n / 10) ++ (48 + n % 10) ∷ []) (less count)
+last_digit (suc count) n some = ap (λ (k : ℕ). digits k (n / 10) ++ (48 + n % 10) ∷ []) (less count)
   where
     less : (k : ℕ) → suc k - 1 ≡ k
     less k = omega arith
 
+-- the line of a file, part by part
+pub file_printed : (start begun named spaced now word name octets : List ℕ) → begun ≡ start ++ word → named ≡ begun ++ name
+    → spaced ≡ named ++ 32 ∷ [] → now ≡ spaced ++ (octets ++ 10 ∷ []) → now ≡ start ++ (word ++ (name ++ (32 ∷ (octets ++ 10 ∷ []))))
+file_printed start begun named spaced now word name octets first title space last =
+    rw (last, space, title, first) (simp append_assoc)
+
 -- the lines of the files of a stream
 abbrev pub lines_in : ℕ → List SealedFile → List ℕ
-lines_in s files = flat_map file_line (in_stream s files)
+lines_in s files = flat_map (file_line 0) (in_stream s files)
 
 -- one file, and then the others
 lines_step : (s : ℕ) (f : SealedFile) (files : List SealedFile) → lines_in s (f ∷ files) ≡ lines_in s (f ∷ []) ++ lines_in s files
 lines_step s f files =
-    ap (λ (fs : List SealedFile). flat_map file_line fs) (filter-append (λ (g : SealedFile). g.name.stream == s) (f ∷ []) files)
-    ∙ flat_map-append file_line (in_stream s (f ∷ [])) (in_stream s files)
+    ap (λ (fs : List SealedFile). flat_map (file_line 0) fs) (filter-append (λ (g : SealedFile). g.name.stream == s) (f ∷ []) files)
+    ∙ flat_map-append (file_line 0) (in_stream s (f ∷ [])) (in_stream s files)
 
 -- the line of a file was printed, and those behind it are left
 pub line_printed : (s at : ℕ) (files : List SealedFile) (f : SealedFile) (before now all : List ℕ) → slice_get files at ≡ Some f
@@ -45,14 +51,14 @@ lines_printed s at files before all none whole =
 
 -- the lines of one more stream
 pub stream_printed : (settings : Settings) (items : List Item) (s : ℕ) (files : List SealedFile) (start before now : List ℕ)
-    → before ≡ start ++ flat_map file_line (files_below s settings items) → in_stream s files ≡ stream_files settings s items
-    → now ≡ before ++ lines_in s files → now ≡ start ++ flat_map file_line (files_below (s + 1) settings items)
+    → before ≡ start ++ flat_map (file_line 0) (files_below s settings items) → in_stream s files ≡ stream_files settings s items
+    → now ≡ before ++ lines_in s files → now ≡ start ++ flat_map (file_line 0) (files_below (s + 1) settings items)
 stream_printed settings items s files start before now printed stands more =
     more ∙ ap (λ (p : List ℕ). p ++ lines_in s files) printed
-    ∙ append_assoc start (flat_map file_line (files_below s settings items)) (lines_in s files)
-    ∙ ap (λ (fs : List SealedFile). start ++ (flat_map file_line (files_below s settings items) ++ flat_map file_line fs)) stands
-    ∙ ap (λ (x : List ℕ). start ++ x) (sym (flat_map-append file_line (files_below s settings items) (stream_files settings s items)))
-    ∙ ap (λ (n : ℕ). start ++ flat_map file_line (files_below n settings items)) (later s)
+    ∙ append_assoc start (flat_map (file_line 0) (files_below s settings items)) (lines_in s files)
+    ∙ ap (λ (fs : List SealedFile). start ++ (flat_map (file_line 0) (files_below s settings items) ++ flat_map (file_line 0) fs)) stands
+    ∙ ap (λ (x : List ℕ). start ++ x) (sym (flat_map-append (file_line 0) (files_below s settings items) (stream_files settings s items)))
+    ∙ ap (λ (n : ℕ). start ++ flat_map (file_line 0) (files_below n settings items)) (later s)
   where
     later : (k : ℕ) → suc k ≡ k + 1
     later k = omega arith

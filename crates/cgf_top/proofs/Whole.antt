@@ -1,5 +1,5 @@
 -- An input that the grammar takes has fewer octets than are read at most, so that it was read to its end.
-use Rattle.std.proofs.Common.{◌≡◌, ℕ, ◌<◌, inl, inr, true, false, sym, ◌∙◌, List, [], length, Option, Some, None, Result, Ok, Err, refl, ap, subst, arith}
+use Rattle.std.proofs.Common.{◌≡◌, ℕ, ◌<◌, ◌^◌, inl, inr, true, false, sym, ◌∙◌, List, [], length, Option, Some, None, Result, Ok, Err, refl, ap, subst, arith}
 use Rattle.std.specs.Io.KnownBytes.{Appends}
 use Rattle.gw_base.specs.Written.{AppendsFront}
 use Rattle.cdr_file.specs.Spelling.{Spells}
@@ -9,8 +9,6 @@ use Rattle.cdr_file.specs.declared.fault.FileFault.TheVariants as fault
 use Rattle.cdr_file.specs.declared.fault.FileKind.{FileKind}
 use Rattle.cdr_file.specs.declared.file.CdrFile.{CdrFile}
 use Rattle.replay_world.specs.declared.replay.Played.{Played}
-use Rattle.world_script.specs.Script.{script_of}
-use Rattle.world_script.specs.declared.line.Line.{Line}
 use Rattle.cgf_top.specs.Command.{command_of, has_input, most_read}
 use Rattle.cgf_top.specs.Run.{IsPlayed, IsRead, IsReported, WritesFront, WritesReport, end_of, may_have_written, report_of, shown_end}
 use Rattle.cgf_top.specs.NetworkReport.{HandsBackAt, network_lines}
@@ -24,15 +22,11 @@ use Rattle.cgf_top.specs.declared.report.Report.{Report}
 use Rattle.cgf_top.specs.declared.status.Status.{Status}
 use Rattle.cgf_top.specs.declared.status.Status.TheVariants as status
 use Rattle.cgf_top.proofs.Ends.{plays_back}
-use Rattle.cgf_top.proofs.Script.{script_within}
 use Rattle.cgf_top.proofs.Streams.{appends_none}
 
 -- ---- octets on which a job is done are fewer than the most that are read
 
-pub fed_within : (text : List ℕ) (lines : List Line) → script_of text ≡ Ok lines → length text < 16777217
-fed_within text lines read = omega (arith, script_within text lines read)
-
-pub shown_within : (file : CdrFile) (octets : List ℕ) → Spells file octets → length octets < 4294967296
+pub shown_within : (file : CdrFile) (octets : List ℕ) → Spells file octets → length octets < 2 ^ 32
 shown_within file octets spells = omega (arith, ap length spells.spelled, spells.is_file.file_length, spells.is_file.header.file_length)
 
 -- an input was read, and this is what it prints; one that is shorter than the bound was read to its end

@@ -1,7 +1,8 @@
 -- What the words ask the program for, and how much of its input a command can make use of.
-use Rattle.std.specs.Prelude.{ℕ, ◌≤◌, ◌==◌, Bool, true, false, not, if◌then◌else◌, List, [], ◌∷◌, Option, Some, None, option_and_then, option_map, codes}
+use Rattle.std.specs.Prelude.{ℕ, ◌≤◌, ◌==◌, ◌+◌, ◌^◌, Bool, true, false, not, if◌then◌else◌, List, [], ◌∷◌, Option, Some, None, option_and_then, option_map, codes}
 use Rattle.std.specs.Str.{bytes_eq}
 use Rattle.route_filter.specs.Words.{number_up_to}
+use Rattle.world_script.specs.Script.{most_text}
 use Rattle.cgf_top.specs.Words.{is_option}
 use Rattle.world_script.specs.declared.extent.Extent.{Extent}
 use Rattle.cgf_top.specs.declared.command.Command.{Command}
@@ -69,9 +70,9 @@ extent_of of = record { nodes = of.nodes; gateways = of.gateways; packets = of.p
 -- How many octets of an input are read at most: one more than the longest script has, or than the length field of a CDR
 -- file can say; a command that has a seed has no input.
 abbrev pub most_read : Command → ℕ
-most_read Feed = 16777217
-most_read Show = 4294967296
-most_read Replay = 16777217
+most_read Feed = most_text + 1
+most_read Show = 2 ^ 32
+most_read Replay = most_text + 1
 most_read (Sample of) = 0
 most_read (Drill of) = 0
 

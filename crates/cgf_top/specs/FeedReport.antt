@@ -1,21 +1,17 @@
--- What `feed` prints: the reply to each datagram, then the CDR files of the records, then the gateway's counts.
-use Rattle.std.specs.Prelude.{ℕ, zero, suc, ◌+◌, ◌/◌, ◌%◌, nat_lt, Bool, false, if◌then◌else◌, List, [], ◌∷◌, ◌++◌, length, Option, Some, None, codes}
-use Rattle.std.specs.Fmt.{decimal}
-use Rattle.std.specs.List.{flat_map}
+-- What `feed` prints: the reply to each datagram, then what a replay reports of its first gateway, with the settings of
+-- the script: the CDR files of the records, and the gateway's counts.
+use Rattle.std.specs.Prelude.{ℕ, ◌+◌, nat_lt, Bool, false, if◌then◌else◌, List, [], ◌∷◌, ◌++◌, Option, Some, None, codes}
 use Rattle.hex.specs.Hex.{encode_upper}
-use Rattle.cdr_shelf.specs.Files.{SealedFile}
-use Rattle.cdr_shelf.specs.declared.file_name.FileName.{FileName}
-use Rattle.file_writer.specs.Files.{files_of}
 use Rattle.gateway_book.specs.Answer.{Decided, Says, Silent}
-use Rattle.gateway_book.specs.Filed.{filed}
 use Rattle.gateway_book.specs.Items.{items_of}
+use Rattle.gateway_book.specs.Value.{standing_for}
 use Rattle.gtpp_message.specs.Names.{name_of}
 use Rattle.gtpp_message.specs.declared.reading.Why.{Why}
-use Rattle.gw_base.specs.History.{copies_of}
 use Rattle.gw_base.specs.declared.history.HistoryEntry.{HistoryEntry}
+use Rattle.replay_world.specs.Report.{gateway_report}
+use Rattle.replay_world.specs.Setup.{Setup, setup_of}
 use Rattle.world_script.specs.declared.line.Line.{Line}
 use Rattle.world_script.specs.declared.line.Line.TheVariants as line
-use Rattle.cgf_top.specs.FeedSettings.{FeedSettings, settings_of}
 use Rattle.cgf_top.specs.Gateway.{GatewayValue, after_close, after_datagram, after_tick, answered, new_gateway}
 
 -- The lines of a script, one after the other.
@@ -26,8 +22,8 @@ pub record FeedState : Type 0 where
   pub now : ℕ
 
 -- before the first line
-abbrev pub begun : FeedSettings → FeedState
-begun settings = record { gateway = new_gateway settings.reserved settings.files.limits.open_time; now = 0 }
+abbrev pub begun : Setup → FeedState
+begun setup = record { gateway = new_gateway setup.size setup.limits.open_time; now = 0 }
 
 -- after a line; a setting, an empty line and the `end` do nothing
 abbrev pub after_line : FeedState → Line → FeedState
@@ -55,33 +51,9 @@ abbrev pub printed_for : FeedState → Line → List ℕ
 printed_for s (line.Datagram from octets) = reply_line (answered s.gateway from octets)
 printed_for s _ = []
 
--- The end: a Close closes all files that are open, and the files and the counts are printed.
-
--- the last decimal digits of a number, so many of them
-abbrev pub last_digits : ℕ → ℕ → List ℕ
-last_digits zero n = []
-last_digits (suc count) n = last_digits count (n / 10) ++ (48 + n % 10) ∷ []
-
--- the name of a file: its stream in two digits, and its number in the sequence of the stream in ten
-abbrev pub name_text : FileName → List ℕ
-name_text name = last_digits 2 name.stream ++ codes "-" ++ last_digits 10 name.sequence ++ codes ".cdr"
-
-abbrev pub file_line : SealedFile → List ℕ
-file_line file = codes "file 1 " ++ name_text file.name ++ codes " " ++ octets_line file.octets
-
--- the entries of the history, the filed records, the copies that are held, and those of earlier epochs that were neither
--- released nor cancelled
-abbrev pub gateway_line : List HistoryEntry → List ℕ
-gateway_line h =
-    codes "gateway 1 entries " ++ decimal (length h)
-    ++ codes " records " ++ decimal (length (filed h))
-    ++ codes " held " ++ decimal (copies_of h).held
-    ++ codes " stranded " ++ decimal (copies_of h).stranded
-    ++ 10 ∷ []
-
--- the closed files of a history, stream after stream and by their numbers, and its counts
-abbrev pub end_lines : FeedSettings → List HistoryEntry → List ℕ
-end_lines settings h = flat_map file_line (files_of settings.files (items_of h)) ++ gateway_line h
+-- The end: a Close closes all files that are open, and what a replay reports of its first gateway is printed.
+abbrev pub end_lines : Setup → List HistoryEntry → List ℕ
+end_lines setup h = gateway_report setup 0 (items_of h) (standing_for h)
 
 -- The whole script.
 
@@ -101,13 +73,13 @@ with_print printed later = record { printed = printed ++ later.printed; refused 
 
 -- The lines are run from the one with this number on, up to the first that sets an earlier moment; where none does, the
 -- feed comes to its end.
-abbrev pub fed_from : FeedSettings → ℕ → FeedState → List Line → Fed
-fed_from settings place s [] =
-    record { printed = end_lines settings (after_close s.gateway s.now).history; refused = None }
-fed_from settings place s (l ∷ lines) =
+abbrev pub fed_from : Setup → ℕ → FeedState → List Line → Fed
+fed_from setup place s [] =
+    record { printed = end_lines setup (after_close s.gateway s.now).history; refused = None }
+fed_from setup place s (l ∷ lines) =
     if is_earlier s.now l then record { printed = []; refused = Some place }
-    else with_print (printed_for s l) (fed_from settings (place + 1) (after_line s l) lines)
+    else with_print (printed_for s l) (fed_from setup (place + 1) (after_line s l) lines)
 
 -- what is printed for the lines of a script
 abbrev pub fed_of : List Line → Fed
-fed_of lines = let settings = settings_of lines in fed_from settings 1 (begun settings) lines
+fed_of lines = let setup = setup_of lines in fed_from setup 1 (begun setup) lines

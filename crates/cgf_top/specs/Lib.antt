@@ -4,14 +4,11 @@ pub mod Command
 pub mod Run
 pub mod Ending
 pub mod StatusText
-pub mod FeedSettings
 pub mod Gateway
 pub mod FeedReport
 pub mod ShowReport
 pub mod NetworkReport
 -- steps of proofs
 pub mod BookSteps
-pub mod Lines
 pub mod NetworkSteps
-pub mod SettingSteps
 pub mod Steps

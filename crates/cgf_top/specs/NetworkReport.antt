@@ -3,12 +3,11 @@ use Rattle.std.specs.Prelude.{ℕ, ◌≡◌, ◌++◌, List, [], Option, Some, 
 use Rattle.once_core.specs.Once.{Once}
 use Rattle.once_core.specs.StandsOnce.{StandsOnce}
 use Rattle.replay_world.specs.Played.{AreAllSealed, HasPlayed}
-use Rattle.replay_world.specs.Report.{lines_after, refusal_of_lines, report_of, report_of_lines}
+use Rattle.replay_world.specs.Report.{refusal_of_lines, replayed, report_of, report_of_lines}
 use Rattle.replay_world.specs.Report.{Refusal as WorldRefusal}
 use Rattle.replay_world.specs.Settled.{AreWritten}
 use Rattle.replay_world.specs.Setup.{files_in, setup_of}
 use Rattle.replay_world.specs.Summary.{summary_of, summary_text}
-use Rattle.replay_world.specs.Value.{ReplayValue, replay_of}
 use Rattle.replay_world.specs.declared.replay.Played.{Played}
 use Rattle.world_script.specs.Printing.{printed}
 use Rattle.world_script.specs.Sample.{sample_of}
@@ -38,10 +37,6 @@ replay_end (Err refusal) = status.Input refusal.place (input.Script refusal.kind
 abbrev pub replay_report : Result (List Line) LineRefusal → List ℕ
 replay_report (Ok lines) = report_of_lines lines
 replay_report (Err refusal) = []
-
--- the replay after all lines of a script
-abbrev pub replayed : List Line → ReplayValue
-replayed lines = lines_after (replay_of lines) lines
 
 -- A seed's script: its text, and the sums of what all gateways and nodes count after it.
 

@@ -1,7 +1,7 @@
 -- Words for the code that runs a network. No contract of a public call cites them.
 use Rattle.std.specs.Prelude.{ℕ, suc, ◌≡◌, ◌≤◌, ◌++◌, List, drop, Option, Some, None}
 use Rattle.replay_world.specs.Played.{AreAllSealed, HasPlayed}
-use Rattle.replay_world.specs.Report.{Refusal as WorldRefusal}
+use Rattle.replay_world.specs.Report.{Refusal as WorldRefusal, replayed}
 use Rattle.replay_world.specs.Report.{lines_after, printed_by, refusal_of_lines, refused_from, report_of_lines}
 use Rattle.replay_world.specs.Settled.{AreWritten}
 use Rattle.replay_world.specs.Setup.{setup_of}
@@ -11,7 +11,7 @@ use Rattle.replay_world.specs.Value.{ReplayValue}
 use Rattle.replay_world.specs.declared.replay.Played.{Played}
 use Rattle.replay_world.specs.declared.replay.Replay.{Replay}
 use Rattle.world_script.specs.declared.line.Line.{Line}
-use Rattle.cgf_top.specs.NetworkReport.{HandsBack, HandsBackAt, network_end, replayed}
+use Rattle.cgf_top.specs.NetworkReport.{HandsBack, HandsBackAt, network_end}
 use Rattle.cgf_top.specs.declared.input_kind.InputKind.TheVariants.{World}
 use Rattle.cgf_top.specs.declared.report.Refusal.{Refusal}
 use Rattle.cgf_top.specs.declared.report.Report.{Report}

@@ -1,13 +1,12 @@
 -- Words for steps of the code. No contract of a public call cites them.
-use Rattle.std.specs.Prelude.{ℕ, ◌≡◌, Bool, true, false, List, [], ◌∷◌, ◌++◌, length, Option, None, Some, codes}
-use Rattle.std.specs.Fmt.{decimal}
+use Rattle.std.specs.Prelude.{ℕ, ◌≡◌, true, false, List, [], ◌++◌, length, Option, None, Some}
 use Rattle.std.specs.Io.KnownBytes.{Consumes, IsAtEnd}
 use Rattle.gateway_book.specs.declared.outcome.Outcome.{Outcome}
 use Rattle.gateway_book.specs.declared.outcome.Outcome.TheVariants as outcome
-use Rattle.gateway_book.specs.declared.told.Counts.{Counts}
-use Rattle.gw_base.specs.declared.item.Item.{Item}
-use Rattle.gw_base.specs.declared.item.Item.TheVariants as item
 use Rattle.once_core.specs.declared.event.WorldKind.TheVariants.{Earlier}
+use Rattle.replay_world.specs.Setup.{Setup}
+use Rattle.replay_world.specs.declared.settings.Settings.{Settings}
+use Rattle.route_filter.specs.declared.rule.Rule.{Rule}
 use Rattle.cgf_top.specs.FeedReport.{Fed, FeedState, drop_line, octets_line}
 use Rattle.cgf_top.specs.NetworkReport.{HandsBackAt, network_lines}
 use Rattle.cgf_top.specs.Run.{end_of, may_have_written, report_of}
@@ -28,6 +27,17 @@ TakesPiece left rest before after count =
 
 -- Lines.
 
+-- the settings of a network that has them and these rules
+abbrev pub setup_seen : Settings → List Rule → Setup
+setup_seen s rules = record {
+  gateways = s.gateways;
+  nodes = s.nodes;
+  size = s.size;
+  limits = s.limits;
+  offset = s.offset;
+  rules = rules;
+}
+
 abbrev pub state_of : Feed → FeedState
 state_of feed = record { gateway = feed.gateway; now = feed.moment }
 
@@ -36,21 +46,6 @@ abbrev pub outcome_line : Outcome → List ℕ
 outcome_line (outcome.Answer receipt) = octets_line receipt.reply
 outcome_line (outcome.Drop why) = drop_line why
 outcome_line outcome.NoMemory = []
-
--- whether an item is a filed record
-abbrev pub is_part : Item → Bool
-is_part (item.Part kind tag octets moment) = true
-is_part (item.Tick moment) = false
-is_part (item.Close moment) = false
-
--- the line of counts, with so many records
-abbrev pub counts_line : Counts → ℕ → List ℕ
-counts_line counts records =
-    codes "gateway 1 entries " ++ decimal counts.entries
-    ++ codes " records " ++ decimal records
-    ++ codes " held " ++ decimal counts.held
-    ++ codes " stranded " ++ decimal counts.stranded
-    ++ 10 ∷ []
 
 -- the line with this number that can't be run
 abbrev pub refusal_at : Option ℕ → Option Refusal

@@ -1,22 +1,22 @@
 //! What `feed` prints for a script: a gateway in memory that is fed with the script's datagrams.
-ghost use Rattle.std.specs.Prelude.{◌≡◌, ◌++◌, ◌+◌, ◌<◌, ◌≤◌, ◌^◌, if◌then◌else◌, [], All, IfOk, OnOk, None, Some, count_by, length};
-ghost use Rattle.std.specs.List.{flat_map};
+ghost use Rattle.std.specs.Prelude.{◌≡◌, ◌++◌, ◌+◌, ◌<◌, ◌≤◌, ◌^◌, [], All, IfOk, OnOk, None, Some, length};
 ghost use Rattle.file_writer.specs.AllStreams.{IsFit};
-ghost use Rattle.file_writer.specs.Files.{files_of};
-ghost use Rattle.cgf_top.specs.FeedReport.{after_line, begun, end_lines, fed_of, file_line, is_earlier, printed_for, reply_line};
-ghost use Rattle.cgf_top.specs.Gateway.{after_close, after_datagram, answered};
-ghost use Rattle.cgf_top.specs.Lines.{AreInRange};
-ghost use Rattle.cgf_top.specs.SettingSteps.{AreSound, settings_seen};
-ghost use Rattle.cgf_top.specs.Steps.{IsFed, is_part, refusal_at, state_of};
+ghost use Rattle.replay_world.specs.Report.{file_lines};
+ghost use Rattle.replay_world.specs.Settings.{AreSound};
+ghost use Rattle.world_script.specs.Script.{most_text};
+ghost use Rattle.cgf_top.specs.FeedReport.{after_line, end_lines, fed_of, is_earlier, printed_for, reply_line};
+ghost use Rattle.cgf_top.specs.Gateway.{after_close, after_datagram, answered, new_gateway};
+ghost use Rattle.cgf_top.specs.Steps.{IsFed, refusal_at, setup_seen, state_of};
 
 use crate::files::write_files;
 use crate::gateway::Gateway;
 use crate::input_kind::InputKind;
 use crate::printing::{print_counts, print_outcome, print_stream};
 use crate::report::{Refusal, Report};
-use crate::settings::Settings;
 use gw_base::{Addr, Item, Moment, NoMemory};
 use once_core::WorldKind;
+use replay_world::{Settings, record_count, rules_of};
+use route_filter::Rules;
 use std::alloc::Global;
 use world_script::{Line, Script};
 
@@ -33,10 +33,11 @@ struct Feed {
 
 /// What is printed for the lines of a script, up to the first that can't be run.
 pub fn report(alloc: Global, script: Script) -> Result<Report, NoMemory>
-    requires { AreInRange script.lines }
+    requires { length script.lines ≤ most_text }
     ensures { IfOk result (λ report. IsFed (fed_of script.lines) report) }
 {
-    let settings = Settings::of(alloc, &script)?;
+    let settings = Settings::of(&script);
+    let rules = rules_of(alloc, &script)?;
     let mut feed = Feed::open(alloc, &settings)?;
     let mut at = 0;
     while let Some(line) = script.line(at) {
@@ -47,20 +48,21 @@ pub fn report(alloc: Global, script: Script) -> Result<Report, NoMemory>
         at += 1;
     }
     drop(script);
-    feed.end(alloc, settings)
+    feed.end(alloc, settings, rules)
 }
 
 impl Feed {
     /// A gateway that has just begun to run, at moment 0.
     fn open(alloc: Global, settings: &Settings) -> Result<Feed, NoMemory>
         requires { AreSound settings.now }
-        ensures state { IfOk result (λ feed. state_of feed ≡ begun (settings_seen settings.now)) }
+        ensures state { IfOk result (λ feed. state_of feed ≡
+            record { gateway = new_gateway settings.now.size settings.now.limits.open_time; now = 0 }) }
         ensures printed { IfOk result (λ feed. feed.printed.items ≡ []) }
     {
         let Some(moment) = Moment::of(0) else {
             unreachable!();
         };
-        let gateway = Gateway::open(alloc, settings.reserved, settings.limits.open_time)?;
+        let gateway = Gateway::open(alloc, settings.size, settings.limits.open_time)?;
         Ok(Feed {
             gateway,
             moment,
@@ -128,10 +130,10 @@ impl Feed {
     }
 
     /// Closes the open files, and gives all that is printed. The gateway is let go before the files are made.
-    fn end(self, alloc: Global, settings: Settings) -> Result<Report, NoMemory>
+    fn end(self, alloc: Global, settings: Settings, rules: Rules) -> Result<Report, NoMemory>
         requires { AreSound settings }
         ensures printed { IfOk result (λ report. report.printed.items ≡ self.printed.items
-            ++ end_lines (settings_seen settings) (after_close self.gateway self.moment).history) }
+            ++ end_lines (setup_seen settings rules) (after_close self.gateway self.moment).history) }
         ensures refused { IfOk result (λ report. report.refused ≡ None) }
         ensures played { IfOk result (λ report. report.played ≡ None) }
     {
@@ -144,8 +146,8 @@ impl Feed {
         let items = gateway.items(alloc)?;
         let counts = gateway.counts();
         drop(gateway);
-        let records = records_in(&items);
-        print_files(alloc, &mut printed, settings, items)?;
+        let records = record_count(&items);
+        print_files(alloc, &mut printed, settings, rules, items)?;
         print_counts(alloc, &mut printed, counts, records)?;
         Ok(Report {
             printed,
@@ -160,41 +162,19 @@ fn print_files(
     alloc: Global,
     printed: &mut Vec<u8>,
     settings: Settings,
+    rules: Rules,
     items: Vec<Item>,
 ) -> Result<(), NoMemory>
     requires sound { AreSound settings }
     requires few { length items.items < 2 ^ 31 }
     requires fit { All IsFit items.items }
     ensures { OnOk result (printed.new.items ≡
-        printed.old.items ++ flat_map file_line (files_of (settings_seen settings).files items.items)) }
+        printed.old.items ++ file_lines (setup_seen settings rules) 0 items.items) }
 {
-    let shelf = write_files(alloc, settings, &items)?;
+    let shelf = write_files(alloc, settings, rules, &items)?;
     drop(items);
     for stream in 0..STREAMS {
         print_stream(alloc, printed, &shelf, stream)?;
     }
     Ok(())
-}
-
-/// How many of these items are filed records.
-fn records_in(items: &[Item]) -> usize
-    requires { length items.now < 2 ^ 31 }
-    ensures { result ≡ count_by is_part items.now }
-{
-    let mut records = 0;
-    for item in items {
-        records += record_count(item);
-    }
-    records
-}
-
-/// 1 for a filed record, and 0 for a mark.
-fn record_count(item: &Item) -> usize
-    ensures count { result ≡ (if is_part item.now then 1 else 0) }
-    ensures few { result ≤ 1 }
-{
-    match item {
-        Item::Part { .. } => 1,
-        Item::Tick { .. } | Item::Close { .. } => 0,
-    }
 }

@@ -10,7 +10,6 @@ ghost use Rattle.cgf_top.specs.FeedReport.{reply_line};
 ghost use Rattle.cgf_top.specs.Gateway.{after_close, after_datagram, after_tick, answered, new_gateway};
 ghost use Rattle.cgf_top.specs.Steps.{outcome_line};
 
-use crate::settings::GATEWAY;
 use area_disk::QuietArea;
 use gateway_book::{Book, BookFault, Counts, Marked, Outcome, Setup, prepare};
 use gw_base::{Addr, Caller, Item, Moment, NoMemory};
@@ -19,6 +18,9 @@ use std::marker::Model;
 
 /// How many items a gateway tells at most: a list of so many would have more than 2^36 octets.
 const MOST_ITEMS: u32 = 0x7FFF_FFFF;
+
+/// The gateway's IPv4 address, 10.0.0.1.
+pub const GATEWAY: u32 = 0x0A00_0001;
 
 /// A gateway over an area in memory.
 #[derive(Drop)]

@@ -25,7 +25,6 @@ mod network;
 mod output;
 mod printing;
 mod report;
-mod settings;
 mod show;
 mod status;
 mod watch;
@@ -40,6 +39,7 @@ use gw_base::{NoMemory, Sink, Source};
 pub use input_kind::InputKind;
 pub use once_core::WorldKind;
 pub use replay_world::Played;
+use replay_world::laws::a_script_is_short;
 pub use status::Status;
 use std::alloc::Global;
 pub use watch::{Nobody, Watch};
@@ -163,13 +163,14 @@ fn report_of<W: Watch>(
 }
 
 /// What is printed for a script, or its first line that the grammar refuses.
-#[tactic(auto, using(crate::proofs::Script::lines_in_range, crate::proofs::Whole::fed_within, crate::proofs::FeedLemmas::fed_is_report, crate::proofs::FeedLemmas::refused_is))]
+#[tactic(auto, using(crate::proofs::FeedLemmas::fed_is_report, crate::proofs::FeedLemmas::refused_is))]
 fn feed_report_of(alloc: Global, text: Vec<u8>) -> Result<Report, NoReport>
     ensures within { OnOk result (length text.items < most_read Command.Feed) }
     ensures report { IfOk result (λ report. IsReport Command.Feed text.items report) }
     ensures refused { (refusal : Refusal) →
         result ≡ Err (NoReport.Refused refusal) → IsRefusal Command.Feed text.items refusal }
 {
+    a_script_is_short();
     let read = Script::read(alloc, &text);
     drop(text);
     match read {

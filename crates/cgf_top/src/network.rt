@@ -18,14 +18,15 @@ use crate::watch::Watch;
 use gw_base::{NoMemory, Octets};
 use once_core::WorldKind;
 use replay_world::laws::{
-    a_replay_files_each_record_once, a_settling_writes_all_files, no_line_of_a_sample_is_refused,
+    a_replay_files_each_record_once, a_script_is_short, a_settling_writes_all_files,
+    no_line_of_a_sample_is_refused,
 };
 use replay_world::{LineEnd, Replay, print_summary};
 use std::alloc::Global;
 use world_script::{InputFault, Script, ScriptKind, print, read, sample};
 
 /// What is printed for the script of a network, or its first line that the grammar refuses.
-#[tactic(auto, using(crate::proofs::Script::script_in_few, crate::proofs::NetworkLemmas::replay_within, crate::proofs::NetworkLemmas::replayed_is_report, crate::proofs::NetworkLemmas::replay_refused))]
+#[tactic(auto, using(crate::proofs::NetworkLemmas::replayed_is_report, crate::proofs::NetworkLemmas::replay_refused))]
 pub fn replay_report_of<W: Watch>(
     alloc: Global,
     text: Vec<u8>,
@@ -36,6 +37,7 @@ pub fn replay_report_of<W: Watch>(
     ensures refused { (refusal : Refusal) →
         result ≡ Err (NoReport.Refused refusal) → IsRefusal Command.Replay text.items refusal }
 {
+    a_script_is_short();
     let read = read(alloc, &text, ScriptKind::Replay);
     drop(text);
     match read {
@@ -63,7 +65,7 @@ pub fn sample_report_of(alloc: Global, of: Seeded) -> Result<Report, NoMemory>
 }
 
 /// What all gateways and nodes count once a seed's script was run.
-#[tactic(auto, using(crate::proofs::Script::script_in_few, crate::proofs::NetworkLemmas::drilled_is_report))]
+#[tactic(auto, using(crate::proofs::NetworkLemmas::drilled_is_report))]
 pub fn drill_report_of<W: Watch>(
     alloc: Global,
     of: Seeded,
@@ -73,6 +75,7 @@ pub fn drill_report_of<W: Watch>(
     ensures { (octets : List ℕ) → IfOk result (IsReport (Command.Drill of) octets) }
 {
     no_line_of_a_sample_is_refused();
+    a_script_is_short();
     let script = sample(alloc, of.seed, of.nodes, of.gateways, of.packets)?;
     // The clause of `kind` says that its lines are read, so that there are no more of them than a text has octets.
     let _kind = script.kind();

@@ -2,8 +2,9 @@
 ghost use Rattle.std.specs.Prelude.{◌≡◌, ◌≢◌, ◌++◌, ◌∷◌, [], OnOk};
 ghost use Rattle.std.specs.List.{flat_map};
 ghost use Rattle.cdr_shelf.specs.Files.{file_of, in_stream};
-ghost use Rattle.cgf_top.specs.FeedReport.{file_line, last_digits, name_text, octets_line};
-ghost use Rattle.cgf_top.specs.Steps.{counts_line, outcome_line};
+ghost use Rattle.replay_world.specs.Report.{counts_text, digits, file_line, file_name};
+ghost use Rattle.cgf_top.specs.FeedReport.{octets_line};
+ghost use Rattle.cgf_top.specs.Steps.{outcome_line};
 
 use cdr_shelf::{FileName, QuietShelf, Shelf};
 use gateway_book::{Counts, Outcome};
@@ -49,7 +50,7 @@ pub fn print_stream(
     stream: u8,
 ) -> Result<(), NoMemory>
     ensures { OnOk result (printed.new.items ≡
-        printed.old.items ++ flat_map file_line (in_stream stream (⟦<QuietShelf as Shelf>⟧.files shelf.now))) }
+        printed.old.items ++ flat_map (file_line 0) (in_stream stream (⟦<QuietShelf as Shelf>⟧.files shelf.now))) }
 {
     let mut at = 0;
     while let Some((name, octets)) = shelf.nth(at) {
@@ -68,7 +69,7 @@ fn print_if_in(
     octets: &[u8],
 ) -> Result<(), NoMemory>
     ensures { OnOk result (printed.new.items ≡
-        printed.old.items ++ flat_map file_line (in_stream stream (file_of name octets.now ∷ []))) }
+        printed.old.items ++ flat_map (file_line 0) (in_stream stream (file_of name octets.now ∷ []))) }
 {
     if name.stream == stream {
         print_file(alloc, printed, name, octets)?;
@@ -83,17 +84,18 @@ fn print_file(
     name: FileName,
     octets: &[u8],
 ) -> Result<(), NoMemory>
-    ensures { OnOk result (printed.new.items ≡ printed.old.items ++ file_line (file_of name octets.now)) }
+    ensures { OnOk result (printed.new.items ≡ printed.old.items ++ file_line 0 (file_of name octets.now)) }
 {
     printed.extend_from_slice(b"file 1 ")?;
     print_name(printed, name)?;
     printed.push(b' ')?;
-    print_octets(alloc, printed, octets)
+    print_octets(alloc, printed, octets)?;
+    Ok(())
 }
 
 /// Appends the name of a file.
 fn print_name(printed: &mut Vec<u8>, name: FileName) -> Result<(), NoMemory>
-    ensures { OnOk result (printed.new.items ≡ printed.old.items ++ name_text name) }
+    ensures { OnOk result (printed.new.items ≡ printed.old.items ++ file_name name) }
 {
     print_digits(printed, 2, u32::from(name.stream))?;
     printed.push(b'-')?;
@@ -104,7 +106,7 @@ fn print_name(printed: &mut Vec<u8>, name: FileName) -> Result<(), NoMemory>
 
 /// Appends so many of the last decimal digits of a number.
 fn print_digits(printed: &mut Vec<u8>, count: u32, number: u32) -> Result<(), NoMemory>
-    ensures { OnOk result (printed.new.items ≡ printed.old.items ++ last_digits count number) }
+    ensures { OnOk result (printed.new.items ≡ printed.old.items ++ digits count number) }
 {
     if count == 0 {
         return Ok(());
@@ -121,7 +123,8 @@ pub fn print_counts(
     counts: Counts,
     records: usize,
 ) -> Result<(), NoMemory>
-    ensures { OnOk result (printed.new.items ≡ printed.old.items ++ counts_line counts records) }
+    ensures { OnOk result (printed.new.items ≡
+        printed.old.items ++ counts_text 0 counts.entries records counts.held counts.stranded) }
 {
     let Counts {
         entries,
@@ -129,8 +132,10 @@ pub fn print_counts(
         stranded,
         ..
     } = counts;
+    // The only gateway is the first.
+    let place: u32 = 1;
     let line = format!(in alloc;
-        "gateway 1 entries {entries} records {records} held {held} stranded {stranded}\n"
+        "gateway {place} entries {entries} records {records} held {held} stranded {stranded}\n"
     )?;
     printed.extend_from_slice(line.as_bytes())?;
     Ok(())

@@ -8,6 +8,7 @@ mod BeginningLemmas
 mod BookLemmas
 mod CallLemmas
 mod CalmLemmas
+mod CountLemmas
 mod DeliverLemmas
 mod DeliveredLemmas
 mod DigitLemmas

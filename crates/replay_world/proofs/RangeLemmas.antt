@@ -21,7 +21,7 @@ use Rattle.route_filter.specs.Words.{at_most, is_decimal, number_up_to, octets_o
 use Rattle.world_script.specs.Forms.{is_setting, keyword_of}
 use Rattle.world_script.specs.Printing.{ReadsBack, printed}
 use Rattle.world_script.specs.Saying.{arm_on, arm_said, at_said, call_of, fail_said, in_said, last_moment, limit_on, limit_said, offset_said, one_between, one_gateway, one_number, read_or, read_then, redirect_said, rule_said, ruled, said_as, said_by, submit_said, word_said}
-use Rattle.world_script.specs.Script.{Refusal, contented, is_rule_line, keyed, most_text, onward, progress_of, reading_of, script_after, script_in, worded}
+use Rattle.world_script.specs.Script.{Refusal, ScriptValue, contented, is_rule_line, keyed, most_text, onward, progress_of, reading_of, script_after, script_in, worded}
 use Rattle.world_script.specs.Text.{RawLine, is_blank, is_printable, line_content, line_size, onto_line, raw_lines, size_of}
 use Rattle.world_script.specs.Values.{address_of, mode_of, number_between, number_of, offset_of, records_of, signed, two_digits, version_of}
 use Rattle.world_script.specs.declared.fault.InputKind.{InputKind}
@@ -486,7 +486,7 @@ length-raw_lines (x ∷ xs) = by (x == 10) refl (length-raw_lines xs)
     by false e rest = rw e (omega (arith, rest, length-onto_line x (raw_lines xs)))
 
 -- the text of a script has no more octets than it may have
-script_within : (of : ScriptKind) (text : List ℕ) (lines : List Line) → script_in of text ≡ Ok lines → length text ≤ most_text
+pub script_within : (of : ScriptKind) (text : List ℕ) (lines : List Line) → script_in of text ≡ Ok lines → length text ≤ most_text
 script_within of text lines h =
     omega (arith, (after_fine of 0 [] (raw_lines text) lines no_lines (omega arith) h).short, size_of-raw_lines text)
 
@@ -500,5 +500,9 @@ lines_in_range of text lines h =
     }
 
 -- so are those of each script
-pub back_in_range : (of : ScriptKind) (lines : List Line) → ReadsBack of lines → AreInRange lines
-back_in_range of lines h = lines_in_range of (printed of lines) lines h
+pub back_in_range : (script : ScriptValue) → ReadsBack script.kind script.lines → AreInRange script.lines
+back_in_range script h = lines_in_range script.kind (printed script.kind script.lines) script.lines h
+
+-- so that there are no more of them than a text may have octets
+pub script_few : (of : ScriptKind) (text : List ℕ) (lines : List Line) → script_in of text ≡ Ok lines → length lines ≤ most_text
+script_few of text lines h = (lines_in_range of text lines h).few

@@ -5,6 +5,7 @@ use Rattle.std.proofs.lemmas.List.Concat.{flat_map-append}
 use Rattle.file_writer.specs.Files.{files_below, stream_files}
 use Rattle.gateway_book.specs.declared.told.Counts as told
 use Rattle.gateway_book.specs.Answered.{entry_by, no_caller, room_for}
+use Rattle.gateway_book.specs.Filed.{filed}
 use Rattle.gateway_book.specs.Items.{items_of}
 use Rattle.gateway_book.specs.Value.{BookValue, history_of, opened, recorded, standing_for}
 use Rattle.gw_base.specs.History.{begins_epoch, copies_of, fate_of, names, with_entry, with_fate}
@@ -17,7 +18,7 @@ use Rattle.gw_base.specs.declared.scan.HoldFate.{HoldFate}
 use Rattle.gw_base.specs.declared.scan.HoldFate.TheVariants as fate
 use Rattle.once_core.specs.Gateway.{Gateway, opened as reopened}
 use Rattle.replay_world.specs.Opening.{IsOpenedForCounts, SiteIsOpened}
-use Rattle.replay_world.specs.Report.{book_of, counts_line, counts_text, file_line, file_lines, gateway_text, records_in}
+use Rattle.replay_world.specs.Report.{book_of, counts_line, counts_text, file_line, file_lines, gateway_text, written_items}
 use Rattle.replay_world.specs.Setup.{Setup, files_in, rules_in}
 use Rattle.replay_world.specs.Stands.{SiteStands}
 use Rattle.replay_world.specs.Tally.{Counts, IsTallied, Tells}
@@ -105,7 +106,7 @@ module _ (setup : Setup) (place : ℕ) (g : Gateway) (m : Machine) where
       (sym (ap (λ (b : Bool). if b then standing_for h else g.book) down)) (record {
         entries = entries ∙ ap (λ (c : told.Counts). c.firm) tells.counts
             ∙ ap (λ (l : List HistoryEntry). length l) (firm ∙ sym (append-nil h));
-        records = records ∙ tells.records ∙ ap (λ (l : List HistoryEntry). records_in l) firm;
+        records = records ∙ tells.records ∙ ap (λ (l : List HistoryEntry). length (filed l)) firm;
         held = ap (λ (c : told.Counts). c.held) counts ∙ ap (λ (c : told.Counts). c.held) tells.counts
             ∙ ap (λ (c : Copies). c.held) copies;
         stranded = ap (λ (c : told.Counts). c.stranded) counts ∙ ap (λ (c : told.Counts). c.stranded) tells.counts
@@ -133,7 +134,7 @@ module _ (setup : Setup) (place : ℕ) (g : Gateway) (m : Machine) where
 
   -- the lines of its files, and then of its counts
   pub reported : (tally : Tally) (before middle after : List ℕ) → IsTallied g tally →
-      middle ≡ before ++ file_lines setup place g m →
+      middle ≡ before ++ file_lines setup place (written_items g m) →
       after ≡ middle ++ counts_text place tally.entries tally.records tally.counts.held tally.counts.stranded →
       after ≡ before ++ gateway_text setup place g m
   reported tally before middle after is files counts =
@@ -141,12 +142,12 @@ module _ (setup : Setup) (place : ℕ) (g : Gateway) (m : Machine) where
       ∙ ap (λ (n : ℕ). middle ++ counts_text place n tally.records tally.counts.held tally.counts.stranded) is.entries
       ∙ ap (λ (n : ℕ). middle ++ counts_text place (length (history_of (book_of g))) n tally.counts.held
       tally.counts.stranded) is.records
-      ∙ ap (λ (n : ℕ). middle ++ counts_text place (length (history_of (book_of g))) (records_in (book_of g).firm) n
+      ∙ ap (λ (n : ℕ). middle ++ counts_text place (length (history_of (book_of g))) (length (filed (book_of g).firm)) n
       tally.counts.stranded) is.held
-      ∙ ap (λ (n : ℕ). middle ++ counts_text place (length (history_of (book_of g))) (records_in (book_of g).firm)
+      ∙ ap (λ (n : ℕ). middle ++ counts_text place (length (history_of (book_of g))) (length (filed (book_of g).firm))
       (copies_of (history_of (book_of g))).held n) is.stranded
       ∙ ap (λ (text : List ℕ). text ++ counts_line place (book_of g)) files
-      ∙ append_assoc before (file_lines setup place g m) (counts_line place (book_of g))
+      ∙ append_assoc before (file_lines setup place (written_items g m)) (counts_line place (book_of g))
 
   -- the lines of the files of the first streams
 

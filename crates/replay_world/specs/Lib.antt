@@ -1,5 +1,6 @@
 -- What public clauses cite: a replay, what its lines make of it, and what they print.
 pub mod Setup
+pub mod Settings
 pub mod Value
 pub mod Notices
 pub mod Device
@@ -24,7 +25,6 @@ pub mod Called
 pub mod Taking
 pub mod Redirecting
 pub mod Opening
-pub mod Settings
 pub mod Sending
 pub mod Receiving
 pub mod Settling

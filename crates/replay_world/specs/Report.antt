@@ -1,17 +1,16 @@
 -- What a replay reports: the sealed files and the counts of each gateway, and the counts of each node; and all that a
 -- script prints.
-use Rattle.std.specs.Prelude.{ℕ, zero, suc, ◌+◌, ◌/◌, ◌%◌, Bool, true, false, if◌then◌else◌, List, [], ◌∷◌, ◌++◌, length, take, count_by, Option, Some, None, codes}
+use Rattle.std.specs.Prelude.{ℕ, zero, suc, ◌+◌, ◌/◌, ◌%◌, Bool, true, false, if◌then◌else◌, List, [], ◌∷◌, ◌++◌, length, take, Option, Some, None, codes}
 use Rattle.std.specs.Fmt.{decimal}
 use Rattle.std.specs.List.{enumerate_from, flat_map}
 use Rattle.cdr_shelf.specs.Files.{SealedFile}
 use Rattle.cdr_shelf.specs.declared.file_name.FileName.{FileName}
 use Rattle.file_writer.specs.Files.{files_of}
+use Rattle.gateway_book.specs.Filed.{filed}
 use Rattle.gateway_book.specs.Items.{items_of}
 use Rattle.gateway_book.specs.Value.{BookValue, history_of, standing_for}
 use Rattle.gw_base.specs.History.{copies_of}
-use Rattle.gw_base.specs.declared.history.HistoryEntry.{HistoryEntry}
 use Rattle.gw_base.specs.declared.item.Item.{Item}
-use Rattle.gw_base.specs.declared.item.Item.TheVariants as item
 use Rattle.hex.specs.Hex.{encode_upper}
 use Rattle.node_core.specs.Counting.{counts_of}
 use Rattle.node_core.specs.Log.{LogEntry}
@@ -44,12 +43,9 @@ file_line place file =
     codes "file " ++ decimal (suc place) ++ codes " " ++ file_name file.name ++ codes " " ++ encode_upper file.octets
     ++ 10 ∷ []
 
--- the files that the first items of a gateway's firm entries close, so many of which were written
-abbrev pub sealed_files : Setup → ℕ → Gateway → Machine → List SealedFile
-sealed_files setup place g m = files_of (files_in setup place) (take m.written (items_of g.book.firm))
-
-abbrev pub file_lines : Setup → ℕ → Gateway → Machine → List ℕ
-file_lines setup place g m = flat_map (file_line place) (sealed_files setup place g m)
+-- the files that items close, stream after stream and by their numbers
+abbrev pub file_lines : Setup → ℕ → List Item → List ℕ
+file_lines setup place items = flat_map (file_line place) (files_of (files_in setup place) items)
 
 -- A gateway's counts.
 
@@ -57,27 +53,29 @@ file_lines setup place g m = flat_map (file_line place) (sealed_files setup plac
 abbrev pub book_of : Gateway → BookValue
 book_of g = if g.is_down then standing_for (history_of g.book) else g.book
 
-abbrev pub is_part : Item → Bool
-is_part (item.Part kind tag octets moment) = true
-is_part (item.Tick moment) = false
-is_part (item.Close moment) = false
-
--- how many records the firm entries file
-abbrev pub records_in : List HistoryEntry → ℕ
-records_in h = count_by is_part (items_of h)
-
 abbrev pub counts_text : ℕ → ℕ → ℕ → ℕ → ℕ → List ℕ
 counts_text place entries records held stranded =
     codes "gateway " ++ decimal (suc place) ++ codes " entries " ++ decimal entries ++ codes " records "
     ++ decimal records ++ codes " held " ++ decimal held ++ codes " stranded " ++ decimal stranded ++ 10 ∷ []
 
+-- the entries, the records that the firm ones file, the copies that are held, and those of earlier epochs that were
+-- neither released nor cancelled
 abbrev pub counts_line : ℕ → BookValue → List ℕ
 counts_line place book =
     let h = history_of book in
-    counts_text place (length h) (records_in book.firm) (copies_of h).held (copies_of h).stranded
+    counts_text place (length h) (length (filed book.firm)) (copies_of h).held (copies_of h).stranded
+
+-- What is reported of the gateway in a place: the files that these items close, and what this book counts. A feed
+-- reports its gateway as the first of a network, too.
+abbrev pub gateway_report : Setup → ℕ → List Item → BookValue → List ℕ
+gateway_report setup place items book = file_lines setup place items ++ counts_line place book
+
+-- the items of its firm entries of which its files were written
+abbrev pub written_items : Gateway → Machine → List Item
+written_items g m = take m.written (items_of g.book.firm)
 
 abbrev pub gateway_text : Setup → ℕ → Gateway → Machine → List ℕ
-gateway_text setup place g m = file_lines setup place g m ++ counts_line place (book_of g)
+gateway_text setup place g m = gateway_report setup place (written_items g m) (book_of g)
 
 abbrev pub site_lines : ReplayValue → Option Site → List ℕ
 site_lines v None = []
@@ -145,7 +143,11 @@ abbrev pub turns_from : ReplayValue → List Line → List Turn
 turns_from v [] = []
 turns_from v (said ∷ later) = turns_of v said ++ turns_from (line_after v said) later
 
--- A script: all that its lines print, the line that is refused, and the turns of the world that it is.
+-- A script: the replay after its lines, all that they print, the line that is refused, and the turns of the world that
+-- it is.
+
+abbrev pub replayed : List Line → ReplayValue
+replayed lines = lines_after (replay_of lines) lines
 
 abbrev pub report_of_lines : List Line → List ℕ
 report_of_lines lines = printed_by (replay_of lines) lines

@@ -2,6 +2,7 @@
 use Rattle.std.specs.Prelude.{◌≡◌, ◌≤◌, ◌^◌, ◌-◌, List, [], length, All, IsSome, IsUtf8}
 use Rattle.std.specs.List.{flat_map}
 use Rattle.file_rotate.specs.Items.{AreLimits}
+use Rattle.gate_journal.specs.Format.{fewest_octets, most_octets}
 use Rattle.jiff_core.specs.Calendar.{IsWithin}
 use Rattle.route_filter.specs.Rules.{most_rules, rule_of}
 use Rattle.route_filter.specs.declared.rule.Rule.{Rule}
@@ -13,7 +14,7 @@ use Rattle.replay_world.specs.declared.settings.Settings.{Settings}
 
 -- a setting is in its range, and a rule is one, in text
 abbrev pub IsInRange : Line → Type 0
-IsInRange (line.Reserve length) = (100 ≤ length) × (length ≤ 268435456)
+IsInRange (line.Reserve length) = (fewest_octets ≤ length) × (length ≤ most_octets)
 IsInRange (line.LimitRecords count) = 1 ≤ count
 IsInRange (line.LimitSize size) = (1 ≤ size) × (size ≤ 2 ^ 32 - 2 ^ 17)
 IsInRange (line.Offset minutes) = IsWithin 959 minutes
@@ -42,8 +43,8 @@ pub record AreSet (setup : Setup) (s : Settings) : Type 0 where
 
 -- The area isn't too short or too long, files have limits, and there is a gateway.
 pub record AreSound (s : Settings) : Type 0 where
-  pub long : 100 ≤ s.size
-  pub short : s.size ≤ 268435456
+  pub long : fewest_octets ≤ s.size
+  pub short : s.size ≤ most_octets
   pub limits : AreLimits s.limits
   pub some : 1 ≤ s.gateways
   pub most : s.gateways ≤ 255

@@ -9,6 +9,7 @@ use Rattle.gateway_book.specs.Answered.{room_for}
 use Rattle.gateway_book.specs.Value.{is_batch_full}
 use Rattle.gw_base.specs.Observed.{observed}
 use Rattle.once_core.specs.Addresses.{gateway_address}
+use Rattle.once_core.specs.Beginning.{default_open_time, default_size}
 use Rattle.once_core.specs.Gateway.{Rules}
 use Rattle.route_filter.specs.Rules.{rule_of}
 use Rattle.route_filter.specs.declared.rule.Rule.{Rule}
@@ -26,10 +27,11 @@ pub record Setup : Type 0 where
   pub rules : List Rule
 
 abbrev pub default_limits : Limits
-default_limits = record { size = 1048576; count = 1000; open_time = 3600 }
+default_limits = record { size = 1048576; count = 1000; open_time = default_open_time }
 
 abbrev pub default_setup : Setup
-default_setup = record { gateways = 1; nodes = 1; size = 16777216; limits = default_limits; offset = pos 0; rules = [] }
+default_setup =
+    record { gateways = 1; nodes = 1; size = default_size; limits = default_limits; offset = pos 0; rules = [] }
 
 -- the rule that a line says
 abbrev pub rules_said : List ℕ → List Rule

@@ -2,6 +2,7 @@
 use Rattle.std.specs.Prelude.{ℕ, List, [], ◌∷◌, ◌++◌, length, sum_by, slice_get, Option, Some, None, codes}
 use Rattle.std.specs.Fmt.{decimal}
 use Rattle.std.specs.List.{enumerate_from}
+use Rattle.gateway_book.specs.Filed.{filed}
 use Rattle.gateway_book.specs.Value.{history_of}
 use Rattle.gw_base.specs.History.{copies_of}
 use Rattle.node_core.specs.Counting.{counts_of}
@@ -9,7 +10,7 @@ use Rattle.node_core.specs.Log.{LogEntry}
 use Rattle.node_core.specs.declared.counts.NodeCounts.{NodeCounts}
 use Rattle.once_core.specs.Gateway.{Gateway}
 use Rattle.once_core.specs.World.{node_value}
-use Rattle.replay_world.specs.Report.{book_of, records_in}
+use Rattle.replay_world.specs.Report.{book_of}
 use Rattle.replay_world.specs.Tally.{IsTallied}
 use Rattle.replay_world.specs.Value.{ReplayValue}
 use Rattle.replay_world.specs.declared.report.Tally.{Tally}
@@ -20,7 +21,7 @@ use Rattle.replay_world.specs.declared.summary.Summary.{Summary}
 -- Gateways: of one that is down its book is meant as it would be opened, but for its Start.
 
 abbrev pub records_of : Gateway → ℕ
-records_of g = records_in (book_of g).firm
+records_of g = length (filed (book_of g).firm)
 
 abbrev pub held_of : Gateway → ℕ
 held_of g = (copies_of (history_of (book_of g))).held

@@ -3,8 +3,8 @@ use Rattle.std.specs.Prelude.{ℕ, List, [], ◌∷◌, ◌++◌, length, map}
 use Rattle.once_core.specs.Gateway.{Gateway}
 use Rattle.replay_world.specs.Lines.{line_notices}
 use Rattle.replay_world.specs.Notices.{Notice}
-use Rattle.replay_world.specs.Report.{lines_after}
-use Rattle.replay_world.specs.Value.{ReplayValue, replay_of}
+use Rattle.replay_world.specs.Report.{lines_after, replayed}
+use Rattle.replay_world.specs.Value.{ReplayValue}
 use Rattle.world_script.specs.declared.line.Line.{Line}
 use Rattle.world_script.specs.declared.line.Line.TheVariants as line
 use Rattle.world_script.specs.declared.mode.Mode.{Mode}
@@ -15,15 +15,12 @@ packet_sent =
     line.Tick 1 ∷ line.Flow ∷ line.Flow ∷ line.Flow ∷ line.Commit 1 ∷ line.Flow
     ∷ line.Submit 1 1 0x0600 ((0xA0 ∷ 3 ∷ 0x80 ∷ 1 ∷ 5 ∷ []) ∷ []) ∷ line.Tick 1 ∷ line.Flow ∷ []
 
-abbrev pub after_lines : List Line → ReplayValue
-after_lines lines = lines_after (replay_of lines) lines
-
 -- a stop is armed for a call of the commit that follows, or a failure
 abbrev pub stop_armed : ℕ → Mode → ReplayValue
-stop_armed call mode = after_lines (packet_sent ++ line.Arm 1 call mode ∷ [])
+stop_armed call mode = replayed (packet_sent ++ line.Arm 1 call mode ∷ [])
 
 abbrev pub failure_armed : ℕ → ReplayValue
-failure_armed call = after_lines (packet_sent ++ line.Fail 1 call ∷ [])
+failure_armed call = replayed (packet_sent ++ line.Fail 1 call ∷ [])
 
 -- how many entries of each gateway are firm, and how many wait, after these lines
 abbrev pub entries_after : ReplayValue → List Line → List (ℕ × ℕ)

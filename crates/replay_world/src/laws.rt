@@ -1,6 +1,6 @@
 //! Laws of replays. Each stands on a function that does nothing.
 
-ghost use Rattle.std.specs.Prelude.{◌≡◌, ◌≤◌, ℕ, List, None, false, true};
+ghost use Rattle.std.specs.Prelude.{◌≡◌, ◌≤◌, ℕ, List, None, Ok, false, length, true};
 ghost use Rattle.std.specs.List.{list_any};
 ghost use Rattle.once_core.specs.Once.{Once};
 ghost use Rattle.once_core.specs.StandsOnce.{StandsOnce};
@@ -12,9 +12,10 @@ ghost use Rattle.replay_world.specs.Setup.{Setup, files_in, rules_in, setup_of};
 ghost use Rattle.replay_world.specs.Taken.{Allows, IsAsSaid};
 ghost use Rattle.replay_world.specs.Value.{ReplayValue, begun, replay_of};
 ghost use Rattle.world_script.specs.Sample.{sample_of};
-ghost use Rattle.world_script.specs.Script.{is_setting_line};
+ghost use Rattle.world_script.specs.Script.{is_setting_line, most_text, script_in};
 ghost use Rattle.world_script.specs.World.{Scene, after_line, are_settings_first, first_scene, takes, takes_all};
 ghost use Rattle.world_script.specs.declared.extent.Extent.{Extent};
+ghost use Rattle.world_script.specs.declared.kind.ScriptKind.{ScriptKind};
 ghost use Rattle.world_script.specs.declared.line.Line.{Line};
 
 use gw_base::Octets;
@@ -52,6 +53,15 @@ pub fn a_settling_writes_all_files()
     gateway_book::laws::filed_records_stay();
     file_rotate::division_goes_on::<Octets>();
 }
+
+/// The text of a script has no more octets than it may have, and it has no more lines than that.
+#[tactic(auto, using(crate::proofs::RangeLemmas::script_within, crate::proofs::RangeLemmas::script_few))]
+pub fn a_script_is_short()
+    ensures text { (of : ScriptKind) (text : List ℕ) (lines : List Line) →
+        script_in of text ≡ Ok lines → length text ≤ most_text }
+    ensures lines { (of : ScriptKind) (text : List ℕ) (lines : List Line) →
+        script_in of text ≡ Ok lines → length lines ≤ most_text }
+{}
 
 /// What a world surely takes, as the lines before it say, isn't refused: neither the line nor any of
 /// its turns. So it is line by line in a replay that is as the scene says, whatever failures are armed

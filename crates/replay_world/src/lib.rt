@@ -27,7 +27,7 @@ mod redirecting;
 mod refusals;
 mod replay;
 mod report;
-pub mod settings;
+mod settings;
 mod settling;
 mod summary;
 mod taking;
@@ -35,4 +35,6 @@ mod writing;
 
 pub use lines::LineEnd;
 pub use replay::{Played, Replay};
+pub use report::record_count;
+pub use settings::{Settings, rules_of};
 pub use summary::{GatewaySums, NodeSums, Summary, print_summary};

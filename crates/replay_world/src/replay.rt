@@ -6,7 +6,7 @@ ghost use Rattle.once_core.specs.Beginning.{first_gateway, times_of};
 ghost use Rattle.once_core.specs.Gateway.{Gateway};
 ghost use Rattle.replay_world.specs.Played.{AreAllSealed, EachHandedOut, HasPlayed, HaveRoom};
 ghost use Rattle.replay_world.specs.Sending.{HasSent};
-ghost use Rattle.replay_world.specs.Settings.{AreInRange, AreSet, AreSound};
+ghost use Rattle.replay_world.specs.Settings.{AreSet, AreSound};
 ghost use Rattle.replay_world.specs.Settled.{AreWritten};
 ghost use Rattle.replay_world.specs.Setup.{Setup, rules_in, setup_of};
 ghost use Rattle.replay_world.specs.Stands.{EachStands, Stands, nodes_from};
@@ -55,17 +55,6 @@ impl Replay {
     /// All gateways of a script, opened on empty areas, and all its nodes, which run. `NoMemory`: there was no memory
     /// for them.
     pub fn new(alloc: Global, script: &Script) -> Result<Replay, NoMemory>
-        ensures stands { IfOk result (Stands (replay_of script.now.lines)) }
-        ensures gateways { OnOk result (1 ≤ (setup_of script.now.lines).gateways) }
-    {
-        // The clause of `kind` says that its lines are read, so that settings are in their ranges.
-        let _kind = script.kind();
-        Replay::begin(alloc, script)
-    }
-
-    // The same of one whose settings are in their ranges.
-    fn begin(alloc: Global, script: &Script) -> Result<Replay, NoMemory>
-        requires { AreInRange script.now.lines }
         ensures stands { IfOk result (Stands (replay_of script.now.lines)) }
         ensures gateways { OnOk result (1 ≤ (setup_of script.now.lines).gateways) }
     {
@@ -149,8 +138,7 @@ fn machines_of(
     script: &Script,
     settings: &Settings,
 ) -> Result<Vec<Machine>, NoMemory>
-    requires lines { AreInRange script.now.lines }
-    requires sound { AreSound settings.now }
+    requires { AreSound settings.now }
     ensures { AreSet (setup_of script.now.lines) settings.now → IfOk result (λ gateways.
         EachStands (setup_of script.now.lines) 0
         (times_of settings.now.gateways (first_gateway (rules_in (setup_of script.now.lines))))

@@ -1,11 +1,13 @@
 // The report.
-ghost use Rattle.std.specs.Prelude.{◌≡◌, ◌<◌, ◌++◌, ℕ, IfOk, OnOk, count_by, false, length, take, true};
+ghost use Rattle.std.specs.Prelude.{◌≡◌, ◌<◌, ◌++◌, ℕ, IfOk, List, OnOk, false, length, true};
 ghost use Rattle.std.specs.List.{enumerate_from, flat_map, range_with_len};
 ghost use Rattle.file_writer.specs.Files.{stream_files};
 ghost use Rattle.file_writer.specs.Streams.{stream_count};
+ghost use Rattle.gateway_book.specs.Filed.{filed};
 ghost use Rattle.gateway_book.specs.Items.{items_of};
+ghost use Rattle.gw_base.specs.declared.history.HistoryEntry.{HistoryEntry};
 ghost use Rattle.once_core.specs.Gateway.{Gateway};
-ghost use Rattle.replay_world.specs.Report.{counts_text, digits, file_line, file_lines, file_name, gateway_lines, gateway_text, is_part, node_line, node_text, report_of};
+ghost use Rattle.replay_world.specs.Report.{counts_text, digits, file_line, file_lines, file_name, gateway_lines, gateway_text, node_line, node_text, report_of, written_items};
 ghost use Rattle.replay_world.specs.Setup.{Setup, files_in};
 ghost use Rattle.replay_world.specs.Stands.{MachineStands, SiteStands, Stands};
 ghost use Rattle.replay_world.specs.Tally.{IsTallied, Tells};
@@ -142,7 +144,7 @@ impl Machine {
         let counts = book.counts();
         Ok(Tally {
             entries: counts.entries,
-            records: records_in(&items),
+            records: record_count(&items),
             counts,
         })
     }
@@ -150,7 +152,7 @@ impl Machine {
     // The lines of its files.
     fn report_files(&self, alloc: Global, place: u8, out: &mut Octets) -> Result<(), NoMemory>
         ensures { (setup : Setup) (g : Gateway) (m : MachineValue) → MachineStands setup place g m self.now →
-            OnOk result (out.new ≡ out.old ++ file_lines setup place g m) }
+            OnOk result (out.new ≡ out.old ++ file_lines setup place (written_items g m)) }
     {
         for stream in 0..STREAMS {
             self.report_stream(alloc, place, stream, out)?;
@@ -169,7 +171,7 @@ impl Machine {
         ensures { (setup : Setup) (g : Gateway) (m : MachineValue) → stream < stream_count →
             MachineStands setup place g m self.now → OnOk result
             (out.new ≡ out.old ++ flat_map (file_line place)
-            (stream_files (files_in setup place) stream (take m.written (items_of g.book.firm)))) }
+            (stream_files (files_in setup place) stream (written_items g m))) }
     {
         for sequence in 1..u32::MAX {
             let name = FileName { stream, sequence };
@@ -226,9 +228,9 @@ fn print_digits(out: &mut Octets, count: u32, number: u32) -> Result<(), NoMemor
     Ok(())
 }
 
-/// How many of these items are records.
-fn records_in(items: &[Item]) -> usize
-    ensures { result ≡ count_by is_part items.now }
+/// How many records a history filed, by its items.
+pub fn record_count(items: &[Item]) -> usize
+    ensures { (h : List HistoryEntry) → items.now ≡ items_of h → result ≡ length (filed h) }
 {
     let mut records = 0;
     for item in items {

@@ -2,7 +2,7 @@
 ghost use Rattle.std.specs.Prelude.{◌≡◌, ◌≤◌, ◌<◌, ◌+◌, ◌++◌, ℕ, IfOk, OnOk, IsSome, IsUtf8, length};
 ghost use Rattle.jiff_core.specs.Calendar.{IsWithin};
 ghost use Rattle.route_filter.specs.Rules.{most_rules, rule_of};
-ghost use Rattle.replay_world.specs.Settings.{AreInRange, AreSet, AreSound, IsInRange, rules_in_line};
+ghost use Rattle.replay_world.specs.Settings.{AreSet, AreSound, IsInRange, rules_in_line};
 ghost use Rattle.replay_world.specs.Setup.{Setup, after_setting, default_limits, default_setup, rules_said, setup_of};
 
 use cdr_file::Offset16;
@@ -13,23 +13,27 @@ use std::alloc::Global;
 use std::str;
 use world_script::{Line, Script};
 
-/// How many gateways and nodes there are, how long each journal is, and what decides the files.
+/// How many gateways and nodes there are, how long each journal is, and what decides the files, but for the rules.
 #[derive(Clone, Copy)]
-pub(crate) struct Settings {
+pub struct Settings {
     pub gateways: u8,
     pub nodes: u8,
+    /// The length of a journal's area in octets, from 100 to 268,435,456.
     pub size: u64,
+    /// When a file is closed.
     pub limits: Limits,
+    /// How far a gateway's clock is ahead of UTC.
     pub offset: Offset16,
 }
 
 impl Settings {
     /// The settings among the lines of a script. A later one replaces an earlier one.
     pub fn of(script: &Script) -> Settings
-        requires { AreInRange script.now.lines }
         ensures set { AreSet (setup_of script.now.lines) result }
         ensures sound { AreSound result }
     {
+        // The clause of `kind` says that its lines are read, so that settings are in their ranges.
+        let _kind = script.kind();
         let mut settings = Settings::first();
         let mut k = 0;
         while let Some(line) = script.line(k) {
@@ -75,7 +79,7 @@ impl Settings {
 
 /// When a file is closed where nothing is set: at 1 MiB, at 1,000 records, and an hour after it was
 /// opened.
-pub fn first_limits() -> Limits
+fn first_limits() -> Limits
     ensures { result ≡ default_limits }
 {
     Limits {
@@ -86,7 +90,7 @@ pub fn first_limits() -> Limits
 }
 
 /// An offset of so many minutes, from -959 to 959.
-pub fn offset(minutes: i16) -> Offset16
+fn offset(minutes: i16) -> Offset16
     requires { IsWithin 959 minutes }
     ensures { result ≡ minutes }
 {
@@ -97,10 +101,11 @@ pub fn offset(minutes: i16) -> Offset16
 }
 
 /// The rules among the lines of a script.
-pub(crate) fn rules_of(alloc: Global, script: &Script) -> Result<Rules, NoMemory>
-    requires { AreInRange script.now.lines }
+pub fn rules_of(alloc: Global, script: &Script) -> Result<Rules, NoMemory>
     ensures { IfOk result (λ rules. rules ≡ (setup_of script.now.lines).rules) }
 {
+    // The clause of `kind` says that its lines are read, so that each rule is one, and there are few enough.
+    let _kind = script.kind();
     let mut rules = Rules::none(alloc);
     let mut k = 0;
     while let Some(line) = script.line(k) {
@@ -123,7 +128,7 @@ fn add(rules: &mut Rules, line: &Line) -> Result<(), NoMemory>
 }
 
 /// Adds the rule that a text says behind those before it.
-pub fn add_rule(rules: &mut Rules, text: &Octets) -> Result<(), NoMemory>
+fn add_rule(rules: &mut Rules, text: &Octets) -> Result<(), NoMemory>
     requires rule { IsSome (rule_of text.now) }
     requires text { IsUtf8 text.now }
     requires room { length rules.old < most_rules }

@@ -1,7 +1,8 @@
 use Rattle.std.proofs.Common.{List, ap, sym, ◌∙◌, append-nil, arith}
 use Rattle.file_writer.specs.Files.{stream_files}
 use Rattle.gw_base.specs.declared.item.Item.{Item}
-use Rattle.cgf_top.specs.SettingSteps.{settings_seen}
+use Rattle.replay_world.specs.Setup.{files_in}
+use Rattle.cgf_top.specs.Steps.{setup_seen}
 use Rattle.cgf_top.proofs.PrintLemmas.{stream_printed}
 use Rattle.cgf_top.proofs.feed.print_files.Goals as goal
 
@@ -10,8 +11,8 @@ loop-stream-init c = sym (append-nil c.args.printed.now.items)
 
 pub loop-stream-preserved : goal.loop-stream-preserved
 loop-stream-preserved c =
-    stream_printed (settings_seen c.args.settings).files c.args.items.items c.loop-stream.stream c.in_ok-shelf.shelf.contents.files
+    stream_printed (files_in (setup_seen c.args.settings c.args.rules) 0) c.args.items.items c.loop-stream.stream c.in_ok-shelf.shelf.contents.files
     c.args.printed.now.items c.loop-stream.printed.items c.print_stream.new.printed.items c.loop-stream.invariant
     (c.in_ok-shelf.ensures c.loop-stream.stream (omega arith)
-    ∙ ap (λ (is : List Item). stream_files (settings_seen c.args.settings).files c.loop-stream.stream is) c.deref.ensures.value)
+    ∙ ap (λ (is : List Item). stream_files (files_in (setup_seen c.args.settings c.args.rules) 0) c.loop-stream.stream is) c.deref.ensures.value)
     c.in_ok-print_stream.ensures

@@ -2,7 +2,8 @@ use Rattle.std.proofs.Common.{[], ap, refl, ◌∙◌}
 use Rattle.cdr_shelf.specs.Files.{in_stream}
 use Rattle.cdr_shelf.specs.declared.quiet.QuietShelf.{QuietShelf}
 use Rattle.file_writer.specs.Making.{ending_at}
-use Rattle.cgf_top.specs.SettingSteps.{settings_seen}
+use Rattle.replay_world.specs.Setup.{files_in}
+use Rattle.cgf_top.specs.Steps.{setup_seen}
 use Rattle.cgf_top.proofs.FileLemmas.{files_written, never_rose}
 use Rattle.cgf_top.proofs.files.write_files.Goals as goal
 
@@ -18,4 +19,4 @@ returns-in-Ok-advance c =
     let set = c.in-Ok-advance.ensures.settings ∙ c.in-Ok.ensures.settings ∙ c.new-writer.ensures.settings in
     λ s h. ap (λ (shelf : QuietShelf). in_stream s shelf.contents.files) c.into_shelf.ensures
     ∙ files_written c.new-writer.result c.recover.new.self c.advance.new.self c.args.items.now
-    (settings_seen c.args.settings).files c.in-Ok-advance.field-0 refl c.in-Ok.ensures.recovered empty set moved s h
+    (files_in (setup_seen c.args.settings c.args.rules) 0) c.in-Ok-advance.field-0 refl c.in-Ok.ensures.recovered empty set moved s h

@@ -5,7 +5,7 @@ use Rattle.cgf_top.proofs.EndingLemmas.{ended_told, ended_written, reads_ends}
 use Rattle.replay_world.specs.Summary.{summary_text}
 use Rattle.replay_world.specs.declared.summary.Summary.{Summary}
 use Rattle.cgf_top.proofs.NetworkLemmas.{at_end, at_first, at_next, never_refused, ran_network}
-use Rattle.cgf_top.proofs.SettingLemmas.{below_at}
+use Rattle.cgf_top.proofs.PlaceLemmas.{below_at}
 use Rattle.cgf_top.proofs.network.drill.Goals as goal
 
 pub loop-line-init : goal.loop-line-init

@@ -3,7 +3,7 @@ use Rattle.replay_world.specs.Setup.{setup_of}
 use Rattle.replay_world.specs.Value.{replay_of}
 use Rattle.cgf_top.proofs.EndingLemmas.{ended_told, ended_written, reads_ends}
 use Rattle.cgf_top.proofs.NetworkLemmas.{all_printed, at_end, line_ran, line_refused, none_refused, refused_at, replayed_front, replayed_whole, run_first}
-use Rattle.cgf_top.proofs.SettingLemmas.{below_at}
+use Rattle.cgf_top.proofs.PlaceLemmas.{below_at}
 use Rattle.cgf_top.proofs.network.replay.Goals as goal
 
 pub loop-line-init : goal.loop-line-init

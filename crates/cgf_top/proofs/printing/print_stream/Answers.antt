@@ -1,7 +1,7 @@
 use Rattle.std.proofs.Common.{◌++◌, sym, arith}
 use Rattle.cdr_shelf.specs.Files.{file_of}
 use Rattle.cgf_top.proofs.PrintLemmas.{line_printed, lines_in, lines_printed}
-use Rattle.cgf_top.proofs.SettingLemmas.{below_at}
+use Rattle.cgf_top.proofs.PlaceLemmas.{below_at}
 use Rattle.cgf_top.proofs.printing.print_stream.Goals as goal
 
 pub overflow_add-at : goal.overflow_add-at

@@ -1,14 +1,14 @@
 use Rattle.std.proofs.Common.{◌≡◌, ◌≤◌, ◌++◌, ◌-◌, length, drop}
 use Rattle.std.specs.List.{flat_map}
 use Rattle.cdr_shelf.specs.Files.{in_stream}
-use Rattle.cgf_top.specs.FeedReport.{file_line}
+use Rattle.replay_world.specs.Report.{file_line}
 use Rattle.cgf_top.proofs.printing.print_stream.Given as goal
 
 -- what was printed, and the lines of the files that are left
 abbrev pub invariant-loop-name : goal.invariant-loop-name
 invariant-loop-name l = record {
-  printed : l.printed.items ++ flat_map file_line (in_stream l.stream (drop l.at l.shelf.contents.files))
-      ≡ l.fn.printed.items ++ flat_map file_line (in_stream l.stream l.shelf.contents.files);
+  printed : l.printed.items ++ flat_map (file_line 0) (in_stream l.stream (drop l.at l.shelf.contents.files))
+      ≡ l.fn.printed.items ++ flat_map (file_line 0) (in_stream l.stream l.shelf.contents.files);
   within : l.at ≤ length l.shelf.contents.files;
 }
 

@@ -2,16 +2,23 @@ use Rattle.std.proofs.Common.{◌≡◌, ◌+◌, ◌++◌, List, [], ◌∷◌,
 use Rattle.std.specs.List.{flat_map}
 use Rattle.route_filter.specs.declared.rule.Rule.{Rule}
 use Rattle.world_script.specs.declared.line.Line.{Line}
-use Rattle.replay_world.specs.Settings.{rules_in_line}
+use Rattle.replay_world.specs.Settings.{IsInRange, rules_in_line}
 use Rattle.replay_world.specs.Setup.{default_setup}
-use Rattle.replay_world.proofs.SettingLemmas.{below_at, none_at, rest_at, rules_after}
+use Rattle.replay_world.proofs.RangeLemmas.{back_in_range}
+use Rattle.replay_world.proofs.SettingLemmas.{all_at, below_at, none_at, rest_at, rules_after}
 use Rattle.replay_world.proofs.settings.rules_of.Goals as goal
 
 pub overflow_add-k : goal.overflow_add-k
-overflow_add-k c = omega (arith, c.requires.few, below_at c.args.script.now.lines c.loop-line.k c.in-Some.line.now (sym c.in-Some.ensures))
+overflow_add-k c =
+    omega (arith, (back_in_range c.args.script.now c.kind-kind.ensures.reads).few, below_at c.args.script.now.lines c.loop-line.k c.in-Some.line.now (sym c.in-Some.ensures))
 
 pub loop-line-smaller : goal.loop-line-smaller
 loop-line-smaller c = omega (arith, below_at c.args.script.now.lines c.loop-line.k c.in-Some.line.now (sym c.in-Some.ensures))
+
+pub add-requires-clause-range : goal.add-requires-clause-range
+add-requires-clause-range c =
+    all_at IsInRange c.args.script.now.lines c.loop-line.k c.in-Some.line.now
+    (back_in_range c.args.script.now c.kind-kind.ensures.reads).each (sym c.in-Some.ensures)
 
 pub add-requires-clause-room : goal.add-requires-clause-room
 add-requires-clause-room c =
@@ -20,7 +27,7 @@ add-requires-clause-room c =
     rest_at lines c.loop-line.k c.in-Some.line.now (sym c.in-Some.ensures) in
     omega (
       arith,
-      c.requires.rules,
+      (back_in_range c.args.script.now c.kind-kind.ensures.reads).rules,
       ap (λ (ls : List Rule). length ls) c.loop-line.invariant.rules,
       length-append c.loop-line.rules (flat_map rules_in_line (drop c.loop-line.k lines)),
       ap (λ (ls : List Line). length (flat_map rules_in_line ls)) rest,

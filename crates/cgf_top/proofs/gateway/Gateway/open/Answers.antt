@@ -1,5 +1,5 @@
 use Rattle.std.proofs.Common.{length, refl, ◌∙◌}
-use Rattle.cgf_top.specs.declared.settings.TheConstants.{GATEWAY}
+use Rattle.cgf_top.specs.declared.gateway.TheConstants.{GATEWAY}
 use Rattle.cgf_top.proofs.BookLemmas.{opened_gateway, zeros_ours, zeros_start}
 use Rattle.cgf_top.proofs.gateway.Gateway.open.Goals as goal
 

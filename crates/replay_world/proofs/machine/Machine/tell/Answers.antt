@@ -1,10 +1,8 @@
-use Rattle.std.proofs.Common.{◌≡◌, ◌∙◌, refl, ap, subst, ℕ, List, Option, Some, count_by}
+use Rattle.std.proofs.Common.{◌≡◌, ◌∙◌, refl, ap, subst, ℕ, Option, Some}
 use Rattle.gateway_book.specs.Book.{size_of}
 use Rattle.gateway_book.specs.Calls.{counts_of}
 use Rattle.gateway_book.specs.Value.{BookValue}
 use Rattle.gateway_book.specs.declared.told.Counts as told
-use Rattle.gw_base.specs.declared.item.Item.{Item}
-use Rattle.replay_world.specs.Report.{is_part}
 use Rattle.replay_world.specs.Stands.{SiteStands}
 use Rattle.replay_world.specs.declared.machine.Site.{Site}
 use Rattle.replay_world.proofs.machine.Machine.tell.Goals as goal
@@ -20,8 +18,7 @@ returns-clause-told c = λ setup place g m stands runs.
     ∙ ap (λ (n : ℕ). counts_of g.book n) up.size in (
       record {
         entries = ap (λ (k : told.Counts). k.entries) counts;
-        records = c.records_in.ensures
-            ∙ ap (λ (xs : List Item). count_by is_part xs) (c.deref.ensures.value ∙ got.0);
+        records = c.record_count.ensures g.book.firm (c.deref.ensures.value ∙ got.0);
         counts = counts;
       },
       got.1,

@@ -2,11 +2,13 @@ use Rattle.std.proofs.Common.{◌≡◌, refl, ◌+◌, List, [], ◌∷◌, dro
 use Rattle.world_script.specs.declared.line.Line.{Line}
 use Rattle.replay_world.specs.Settings.{AreSet, IsInRange}
 use Rattle.replay_world.specs.Setup.{Setup, after_setting, after_settings, default_setup, setup_of}
+use Rattle.replay_world.proofs.RangeLemmas.{back_in_range}
 use Rattle.replay_world.proofs.SettingLemmas.{all_at, below_at, none_at, rest_at}
 use Rattle.replay_world.proofs.settings.Settings.of.Goals as goal
 
 pub overflow_add-k : goal.overflow_add-k
-overflow_add-k c = omega (arith, c.requires.few, below_at c.args.script.now.lines c.loop-line.k c.in-Some.line.now (sym c.in-Some.ensures))
+overflow_add-k c =
+    omega (arith, (back_in_range c.args.script.now c.kind-kind.ensures.reads).few, below_at c.args.script.now.lines c.loop-line.k c.in-Some.line.now (sym c.in-Some.ensures))
 
 pub loop-line-smaller : goal.loop-line-smaller
 loop-line-smaller c = omega (arith, below_at c.args.script.now.lines c.loop-line.k c.in-Some.line.now (sym c.in-Some.ensures))
@@ -45,4 +47,5 @@ loop-line-init c = record {
 
 pub set-requires-clause-range : goal.set-requires-clause-range
 set-requires-clause-range c =
-    all_at IsInRange c.args.script.now.lines c.loop-line.k c.in-Some.line.now c.requires.each (sym c.in-Some.ensures)
+    all_at IsInRange c.args.script.now.lines c.loop-line.k c.in-Some.line.now
+    (back_in_range c.args.script.now c.kind-kind.ensures.reads).each (sym c.in-Some.ensures)

@@ -1,0 +1,12 @@
+use Rattle.std.proofs.Common.{ℕ, List, take, count_by, ap, ◌∙◌, arith}
+use Rattle.std.proofs.Math.Seq.{take-length}
+use Rattle.gw_base.specs.declared.item.Item.{Item}
+use Rattle.replay_world.specs.Tally.{is_part}
+use Rattle.replay_world.proofs.CountLemmas.{records_filed}
+use Rattle.replay_world.proofs.report.record_count.Goals as goal
+
+pub returns : goal.returns
+returns c = λ h is.
+    c.loop-item.invariant ∙ ap (λ (n : ℕ). count_by is_part (take n c.args.items.now)) (omega arith)
+    ∙ ap (λ (items : List Item). count_by is_part items) (take-length c.args.items.now ∙ is)
+    ∙ records_filed h
