@@ -14,7 +14,7 @@ use Rattle.area_disk.specs.declared.plan.Outcome3.{Outcome3}
 use Rattle.gate_journal.specs.Moments.{Told}
 use Rattle.gate_journal.specs.Planned.{Ending, after_put, append_fails, batch_stands, course_after, course_by, ending_by, ending_of, is_ended, outcome_left, with_reads}
 use Rattle.gate_journal.specs.Planned.Ending.{BothRan, AtWrite, AtSync}
-use Rattle.cgf_journal.specs.Comes.{CommitComes, GoesOn, ReopenComes, plan_of}
+use Rattle.cgf_journal.specs.Comes.{CommitComes, HasRun, ReopenComes, plan_of}
 use Rattle.cgf_journal.specs.Follows.{CommitFollows, ReopenFollows}
 use Rattle.cgf_journal.specs.Outcomes.{CommitPlanned, ReopenPlanned}
 use Rattle.cgf_journal.specs.Trail.{stop_stands, waiting_octets}
@@ -87,7 +87,7 @@ module _ {A : Type 0} {tells : Ghosts A} (old new : Trail A tells) (failed : Boo
     gate_stands is outcome = frame_stands BothRan ran is outcome ∙ ap (λ x. batch_stands BothRan x outcome) gate_end
 
   all_ran : (a : Armed) (tied : IsTied a (plan_of old)) → planned_in a 0 ≡ Runs → planned_in (after_one a) 0 ≡ Runs → planned_in (after_one (after_one a)) 0 ≡ Runs → planned_in (after_one (after_one (after_one a))) 0 ≡ Runs
-      → GoesOn new failed (after_one (after_one (after_one (after_one a))))
+      → HasRun new failed (after_one (after_one (after_one (after_one a))))
   all_ran a tied p q r s =
       let ran : ending_of (plan_of old) ≡ BothRan = frame_ends a (plan_of old) tied ∙ (λ i. ending_by (p i) (q i)) in
       let put : after_put (plan_of old) ≡ after_sync Runs (after_write Runs (plan_of old)) = frame_leaves a (plan_of old) tied ∙ (λ i. course_by (p i) (q i) (plan_of old)) in
@@ -187,7 +187,7 @@ module _ {A : Type 0} {tells : Ghosts A} (old new : Trail A tells) (failed : Boo
     sync_stands : failed ≡ true → (outcome : Outcome3) → stop_stands outcome new ≡ stop_stands (outcome_left fate outcome) old
     sync_stands failing outcome = follows.stands failing outcome ∙ ap (λ x. stop_stands (outcome_left x outcome) old) is
 
-  sync_ran : (a : Armed) → IsArmed a (plan_of old).schedule → fate_of_sync (plan_of old) ≡ Runs → GoesOn new failed (after_one a)
+  sync_ran : (a : Armed) → IsArmed a (plan_of old).schedule → fate_of_sync (plan_of old) ≡ Runs → HasRun new failed (after_one a)
   sync_ran a armed is =
       let synced = tied_synced a (plan_of old) armed in
       record {

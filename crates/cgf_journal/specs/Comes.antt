@@ -16,7 +16,7 @@ plan_of {tells = tells} trail = course_of (tells.fate (area_of trail))
 
 module _ {A : Type 0} {tells : Ghosts A} (trail : Trail A tells) (failed : Bool) where
   -- The calls ran, and this is armed for those to come.
-  pub record GoesOn (armed : Armed) : Type 0 where
+  pub record HasRun (armed : Armed) : Type 0 where
     pub runs : failed ≡ false
     pub tied : IsTied armed (plan_of trail)
 
@@ -35,12 +35,12 @@ module _ {A : Type 0} {tells : Ghosts A} (trail : Trail A tells) (failed : Bool)
   -- Entries of a commit that failed at its fourth call stand where what was written is kept; those of one that was
   -- stopped at its third or fourth call stand where the stop kept what was written; else they don't.
   abbrev pub CommitComes : Came → Type 0
-  CommitComes (Ran armed) = GoesOn armed
+  CommitComes (Ran armed) = HasRun armed
   CommitComes (FailedAt call) = HasFailed (λ outcome. (call == 4) && is_new outcome)
   CommitComes (StoppedAt call outcome) = HasStopped (nat_le 3 call && is_new outcome)
 
 -- Torn entries stand by an opening again that failed as before it, and as a stop leaves them that came in it.
 abbrev pub ReopenComes : {A : Type 0} {tells : Ghosts A} → Trail A tells → Trail A tells → Bool → Came → Type 0
-ReopenComes old new failed (Ran armed) = GoesOn new failed armed
+ReopenComes old new failed (Ran armed) = HasRun new failed armed
 ReopenComes old new failed (FailedAt call) = HasFailed new failed (λ outcome. stop_stands outcome old)
 ReopenComes old new failed (StoppedAt call outcome) = HasStopped new failed (stop_stands outcome old)

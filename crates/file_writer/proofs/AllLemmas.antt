@@ -16,11 +16,11 @@ use Rattle.gw_base.specs.declared.tag.Tag.{Tag}
 use Rattle.route_filter.specs.Rules.{stream_of}
 use Rattle.file_writer.specs.AllStreams.{GoesTo, StreamAt, mark_told, part_of, up_to, with_item}
 use Rattle.file_writer.specs.Calls.{Call, calls_at, calls_below, calls_from, calls_of, closed_by, stream_calls}
-use Rattle.file_writer.specs.Files.{later_division, records_in}
+use Rattle.file_writer.specs.Files.{later_division, run_records}
 use Rattle.file_writer.specs.Following.{BodyWhere, HasTaken, IsBehind, IsSafe, Stays, mark_item}
 use Rattle.route_filter.specs.declared.rule.Rule.{Rule}
 use Rattle.file_writer.specs.Laws.{DivisionGoesOn}
-use Rattle.file_writer.specs.Streams.{Settings, closed_of, filed_record, record_if, stream_count, stream_division, stream_item, stream_items}
+use Rattle.file_writer.specs.Streams.{Settings, closed_of, record_if, stream_count, stream_division, stream_item, stream_items, stream_record}
 use Rattle.file_writer.specs.Writing.{IsReady, is_sealed}
 use Rattle.file_writer.specs.declared.stream.Stream.{Stream}
 use Rattle.file_writer.proofs.FilesLemmas.{closed_of-append}
@@ -153,7 +153,7 @@ at_stays tells settings closed sealed items s stream old new stays at = record {
     follows = record {
       kept = at.behind.follows.kept;
       body = λ told. subst (λ (u : Option UnsealedFile). BodyWhere (is_sealed stream.file) stream.file.growing
-          (run_octets (records_in (stream_division settings s items).left_open)) u) (sym (stays told).unsealed)
+          (run_octets (run_records (stream_division settings s items).left_open)) u) (sym (stays told).unsealed)
           (at.behind.follows.body told);
     };
   };
@@ -311,14 +311,14 @@ pub not_here : (rules : List Rule) (kind : CdrKind) (tag : Option Tag) (octets :
     → s ≡ stream_of rules tag kind.format → t ≢ s
     → stream_item rules t (part_of kind tag octets moment) ≡ []
 not_here rules kind tag octets moment s t e other =
-    ap (λ (b : Bool). record_if b (filed_record kind octets moment))
+    ap (λ (b : Bool). record_if b (stream_record kind octets moment))
     (unequal_numbers t (stream_of rules tag kind.format) (λ same. other (same ∙ sym e)))
 
 pub goes_to : (rules : List Rule) (kind : CdrKind) (tag : Option Tag) (octets : List ℕ) (moment s : ℕ)
     → s ≡ stream_of rules tag kind.format
-    → GoesTo rules (part_of kind tag octets moment) s (filed_record kind octets moment)
+    → GoesTo rules (part_of kind tag octets moment) s (stream_record kind octets moment)
 goes_to rules kind tag octets moment s e = record {
-  here = ap (λ (b : Bool). record_if b (filed_record kind octets moment))
+  here = ap (λ (b : Bool). record_if b (stream_record kind octets moment))
       (equal_numbers s (stream_of rules tag kind.format) e);
   others = λ t other. not_here rules kind tag octets moment s t e other;
 }

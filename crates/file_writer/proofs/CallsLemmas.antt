@@ -8,7 +8,7 @@ use Rattle.file_rotate.specs.Division.{Cuts, Division, closed_first, cuts_at, di
 use Rattle.file_rotate.specs.Items.{Filed, Record, Tick, Close}
 use Rattle.file_rotate.specs.Items as stream
 use Rattle.file_writer.specs.Calls.{Call, Writes, Seals, appending, calls_at, calls_from, closed_by, closing, seals}
-use Rattle.file_writer.specs.Files.{file_in, files_from}
+use Rattle.file_writer.specs.Files.{files_from, sealed_file}
 use Rattle.file_writer.specs.Streams.{Settings}
 
 pub seals-append : (xs ys : List Call) → seals (xs ++ ys) ≡ seals xs ++ seals ys
@@ -58,7 +58,7 @@ closing-first : (settings : FileSettings) (s sealed closed : ℕ) (reason : Opti
     ≡ drop (sealed - closed) (files_from settings s (closed + 1) (closed_first reason run division).closed)
 closing-first settings s sealed closed None run division = refl
 closing-first settings s sealed closed (Some reason) run division =
-    closing-where sealed closed (file_in settings s (closed + 1) (record { run = run; reason = reason }))
+    closing-where sealed closed (sealed_file settings s (closed + 1) (record { run = run; reason = reason }))
     (files_from settings s (closed + 1 + 1) division.closed) (nat_le (closed + 1) sealed) refl
 
 -- three lists of calls, of which the second seals nothing

@@ -7,7 +7,7 @@ use Rattle.cdr_shelf.specs.Files.{SealedFile, in_stream}
 use Rattle.file_rotate.specs.Division.{ClosedRun, Division, division_of, goes_on}
 use Rattle.file_rotate.specs.Items as stream
 use Rattle.gw_base.specs.declared.item.Item.{Item}
-use Rattle.file_writer.specs.Files.{file_in, files_from, later_division, later_files, stream_files}
+use Rattle.file_writer.specs.Files.{files_from, later_division, later_files, sealed_file, stream_files}
 use Rattle.file_writer.specs.Laws.{DivisionGoesOn}
 use Rattle.file_writer.specs.Streams.{Settings, closed_of, stream_division, stream_item, stream_items}
 
@@ -21,7 +21,7 @@ pub files_from-append : (settings : FileSettings) (s n : ℕ) (xs ys : List (Clo
     → files_from settings s n (xs ++ ys) ≡ files_from settings s n xs ++ files_from settings s (n + length xs) ys
 files_from-append settings s n [] ys = ap (λ (m : ℕ). files_from settings s m ys) (plus_none n)
 files_from-append settings s n (x ∷ xs) ys =
-    ap (λ (files : List SealedFile). file_in settings s n x ∷ files)
+    ap (λ (files : List SealedFile). sealed_file settings s n x ∷ files)
     (files_from-append settings s (n + 1) xs ys
     ∙ ap (λ (m : ℕ). files_from settings s (n + 1) xs ++ files_from settings s m ys) (one_then n (length xs)))
 
@@ -43,9 +43,9 @@ pub in_stream-own : (settings : FileSettings) (s n k : ℕ) (xs : List (ClosedRu
 in_stream-own settings s n zero [] = refl
 in_stream-own settings s n (suc k) [] = refl
 in_stream-own settings s n zero (x ∷ xs) =
-    ap (λ (b : Bool). cond b (file_in settings s n x ∷ in_stream s (files_from settings s (n + 1) xs))
+    ap (λ (b : Bool). cond b (sealed_file settings s n x ∷ in_stream s (files_from settings s (n + 1) xs))
     (in_stream s (files_from settings s (n + 1) xs))) (same_number s)
-    ∙ ap (λ (files : List SealedFile). file_in settings s n x ∷ files) (in_stream-own settings s (n + 1) zero xs)
+    ∙ ap (λ (files : List SealedFile). sealed_file settings s n x ∷ files) (in_stream-own settings s (n + 1) zero xs)
 in_stream-own settings s n (suc k) (x ∷ xs) = in_stream-own settings s (n + 1) k xs
 
 pub in_stream-other : (settings : FileSettings) (s t n k : ℕ) (xs : List (ClosedRun (List ℕ))) → t ≢ s
@@ -53,7 +53,7 @@ pub in_stream-other : (settings : FileSettings) (s t n k : ℕ) (xs : List (Clos
 in_stream-other settings s t n zero [] h = refl
 in_stream-other settings s t n (suc k) [] h = refl
 in_stream-other settings s t n zero (x ∷ xs) h =
-    ap (λ (b : Bool). cond b (file_in settings t n x ∷ in_stream s (files_from settings t (n + 1) xs))
+    ap (λ (b : Bool). cond b (sealed_file settings t n x ∷ in_stream s (files_from settings t (n + 1) xs))
     (in_stream s (files_from settings t (n + 1) xs))) (other_number s t h)
     ∙ in_stream-other settings s t (n + 1) zero xs h
 in_stream-other settings s t n (suc k) (x ∷ xs) h = in_stream-other settings s t (n + 1) k xs h

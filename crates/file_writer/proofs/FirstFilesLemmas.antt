@@ -4,7 +4,7 @@ use Rattle.gw_base.specs.declared.item.Item.{Item}
 use Rattle.cdr_file.specs.CdrFile.{FileSettings}
 use Rattle.cdr_shelf.specs.Files.{SealedFile, greatest_in, in_stream, number_in}
 use Rattle.file_rotate.specs.Division.{ClosedRun}
-use Rattle.file_writer.specs.Files.{file_in, files_from, stream_files}
+use Rattle.file_writer.specs.Files.{files_from, sealed_file, stream_files}
 use Rattle.file_writer.specs.Streams.{Settings, closed_of, stream_division}
 
 -- files of other streams don't count
@@ -17,7 +17,7 @@ greatest_of_stream : (s : ℕ) (files : List SealedFile) → greatest_in s files
 greatest_of_stream s [] = refl
 greatest_of_stream s (f ∷ files) = one_more s f files (in_stream s files) (f.name.stream == s) refl (greatest_of_stream s files)
 
-own_number : (settings : FileSettings) (s sequence : ℕ) (run : ClosedRun (List ℕ)) → number_in s (file_in settings s sequence run).name ≡ sequence
+own_number : (settings : FileSettings) (s sequence : ℕ) (run : ClosedRun (List ℕ)) → number_in s (sealed_file settings s sequence run).name ≡ sequence
 own_number settings s sequence run = ap (λ (b : Bool). if b then sequence else 0) (eq-eqb s s refl)
 
 -- the last of so many files from this number on

@@ -21,7 +21,7 @@ use Rattle.file_rotate.specs.declared.open_file.OpenFile.{OpenFile}
 use Rattle.gw_base.specs.CdrKind.{IsCdrKind}
 use Rattle.gw_base.specs.declared.kind.CdrKind.{CdrKind}
 use Rattle.file_writer.specs.Calls.{Call, Writes, Seals, appending, beginning, calls_at, closed_by, closing, seals, unless_sealed}
-use Rattle.file_writer.specs.Files.{record_of, records_in}
+use Rattle.file_writer.specs.Files.{record_of, run_records}
 use Rattle.file_writer.specs.Following.{BodyWhere, Follows, IsUp, Pairs, Stays, mark_item}
 use Rattle.file_writer.specs.Making.{Comes, Ending, HasSealed, Makes, Went, done_at}
 use Rattle.file_writer.specs.Writing.{ClosesOpen, GrownWhere, IsGrown, IsReady, ReadyWhere, StillOpen, appending_of, beginning_of, body_behind, closed_file, closed_progress, closing_of, grown, grown_facts, growing_of, is_sealed, name_in}
@@ -109,13 +109,13 @@ same_if false growing octets u f g body same = ap (λ (file : SealedFile). Write
 
 closing_is : (settings : FileSettings) (s : ℕ) (file : Progress) (u : Option UnsealedFile)
     (reason : Option ClosureReason) (run : List (Filed (List ℕ)))
-    → file.growing ≡ growing_of (records_in run) → ClosesOpen reason file.growing
-    → BodyWhere (is_sealed file) file.growing (run_octets (records_in run)) u
+    → file.growing ≡ growing_of (run_records run) → ClosesOpen reason file.growing
+    → BodyWhere (is_sealed file) file.growing (run_octets (run_records run)) u
     → closing_of settings s file u reason ≡ closing settings s file.sealed (file.closed + 1) reason run
 closing_is settings s file u None run kept opens body = refl
 closing_is settings s file u (Some reason) run kept opens body =
-    same_if (is_sealed file) file.growing (run_octets (records_in run)) u _ _ body
-    (λ stands. file_is settings (name_in s file) reason file.growing (records_in run) u kept opens stands)
+    same_if (is_sealed file) file.growing (run_octets (run_records run)) u _ _ body
+    (λ stands. file_is settings (name_in s file) reason file.growing (run_records run) u kept opens stands)
 
 -- the calls of a closing are those for the run
 pub makes_closing : {A : Type 0} (tells : Ghosts A) (settings : FileSettings) (s : ℕ) (run : List (Filed (List ℕ)))
@@ -140,7 +140,7 @@ close_follows tells s run file later None old new follows e opens =
     subst (λ (f : Progress). Follows tells s run f new) (sym e) (record {
       kept = follows.kept;
       body = λ told. subst (λ (u : Option UnsealedFile). BodyWhere (is_sealed file) file.growing
-          (run_octets (records_in run)) u) (sym (opens told)) (follows.body told);
+          (run_octets (run_records run)) u) (sym (opens told)) (follows.body told);
     })
 close_follows tells s run file later (Some reason) old new follows e opens =
     subst (λ (f : Progress). Follows tells s [] f new) (sym e) (record {
@@ -187,19 +187,19 @@ pub append_follows : {A : Type 0} (tells : Ghosts A) (s : ℕ) (run : List (File
     → (IsTrue tells.tells_files → IsGrown s file (record_of filed) (tells.unsealed old s) (tells.unsealed new s))
     → Follows tells s (run ++ filed ∷ []) later new
 append_follows tells s run filed file later old new laws follows e has_grown =
-    let records : records_in (run ++ filed ∷ []) ≡ records_in run ++ record_of filed ∷ [] =
+    let records : run_records (run ++ filed ∷ []) ≡ run_records run ++ record_of filed ∷ [] =
     map-append record_of run (filed ∷ []) in
     subst (λ (f : Progress). Follows tells s (run ++ filed ∷ []) f new) (sym e) (record {
       kept = ap (λ (g : Option RunFacts). Some (grown_facts g (record_of filed))) follows.kept
-          ∙ growing_grown laws (records_in run) (record_of filed)
+          ∙ growing_grown laws (run_records run) (record_of filed)
           ∙ ap (λ (rs : List FiledRecord). growing_of rs) (sym records);
       body = λ told. subst (λ (rs : List FiledRecord). BodyWhere (is_sealed file)
           (Some (grown_facts file.growing (record_of filed))) (run_octets rs) (tells.unsealed new s)) (sym records)
-          (grown_body laws (is_sealed file) (name_in s file) file.growing (records_in run) (record_of filed)
+          (grown_body laws (is_sealed file) (name_in s file) file.growing (run_records run) (record_of filed)
           (tells.unsealed old s) (tells.unsealed new s) (follows.body told) (has_grown told));
     })
 
-beginning_is : (growing : Option RunFacts) (run : List (Filed (List ℕ))) → growing ≡ growing_of (records_in run)
+beginning_is : (growing : Option RunFacts) (run : List (Filed (List ℕ))) → growing ≡ growing_of (run_records run)
     → beginning_of growing ≡ beginning run
 beginning_is growing [] e = ap beginning_of e
 beginning_is growing (first ∷ later) e = ap beginning_of e

@@ -14,7 +14,7 @@ use Rattle.file_rotate.specs.Items as rotate
 use Rattle.file_rotate.specs.declared.limits.Limits.{Limits}
 use Rattle.gw_base.specs.declared.item.Item.{Item}
 use Rattle.file_writer.specs.AllStreams.{AllAt, AreLeft, EachSafe}
-use Rattle.file_writer.specs.Files.{later_division, records_in}
+use Rattle.file_writer.specs.Files.{later_division, run_records}
 use Rattle.file_writer.specs.Following.{BodyWhere, IsLeft}
 use Rattle.file_writer.specs.Laws.{DivisionGoesOn}
 use Rattle.file_writer.specs.Leaving.{AreOpenFiles, IsOpenFile, IsOpenFileOf, LeavesUnsealed, begun_of, count_open}
@@ -165,15 +165,15 @@ left_set tells start stale streams s later old new within sixteen here others le
 
 -- ---- what items leave open
 
-none_grows : (run : List (Filed (List ℕ))) (growing : Option RunFacts) → growing ≡ growing_of (records_in run)
+none_grows : (run : List (Filed (List ℕ))) (growing : Option RunFacts) → growing ≡ growing_of (run_records run)
     → open_count growing ≡ count_open run
 none_grows [] growing e = ap open_count e
 none_grows (first ∷ later) growing e = ap open_count e
 
 -- the file of a run that is open on the shelf
 file_open : (name : FileName) (run : List (Filed (List ℕ))) (growing : Option RunFacts) (u : Option UnsealedFile)
-    → growing ≡ growing_of (records_in run) → ReadyWhere false name growing u
-    → BodyWhere false growing (run_octets (records_in run)) u → (growing ≡ None → u ≡ None) → IsOpenFile name run u
+    → growing ≡ growing_of (run_records run) → ReadyWhere false name growing u
+    → BodyWhere false growing (run_octets (run_records run)) u → (growing ≡ None → u ≡ None) → IsOpenFile name run u
 file_open name [] growing u e ready body none = none e
 file_open name (first ∷ later) None u e ready body none = some_is_open _ (sym e)
 file_open name (first ∷ later) (Some run) None e ready body none = absurd ready
@@ -208,7 +208,7 @@ module _ {A : Type 0} (tells : Ghosts A) (settings : Settings) (closed sealed : 
       let at = at_last s no_stream h in
       let file : Progress = (last_at s).file in
       let run : List (Filed (List ℕ)) = (stream_division settings s after).left_open in
-      let growing : file.growing ≡ growing_of (records_in run) = at.behind.follows.kept in
+      let growing : file.growing ≡ growing_of (run_records run) = at.behind.follows.kept in
       let none : file.growing ≡ None → tells.unsealed new s ≡ None = (left.each s no_stream h).none
       (omega (arith, wrote, weight_is s h, start_is s h)) in
       elim (by_test (file.closed + 1) file.sealed) [
@@ -219,7 +219,7 @@ module _ {A : Type 0} (tells : Ghosts A) (settings : Settings) (closed sealed : 
             (file_open (name_in s file) run file.growing (tells.unsealed new s) growing
             (subst (λ (b : Bool). ReadyWhere b (name_in s file) file.growing (tells.unsealed new s)) later.0
             ((safe s no_stream h).up.ready told))
-            (subst (λ (b : Bool). BodyWhere b file.growing (run_octets (records_in run)) (tells.unsealed new s)) later.0
+            (subst (λ (b : Bool). BodyWhere b file.growing (run_octets (run_records run)) (tells.unsealed new s)) later.0
             (at.behind.follows.body told)) none)
       ]
 

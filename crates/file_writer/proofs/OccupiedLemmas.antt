@@ -12,7 +12,7 @@ use Rattle.route_filter.specs.Rules.{stream_of}
 use Rattle.route_filter.specs.declared.rule.Rule.{Rule}
 use Rattle.file_writer.proofs.RecordsLemmas.{HasAll, all_of, all_of-runs, length-records}
 use Rattle.file_writer.specs.Places.{FilePlace, in_run, nth_place, place_in, place_of_item, record_at, records_to, run_with, runs_of}
-use Rattle.file_writer.specs.Streams.{Settings, filed_record, record_if, stream_division, stream_item, stream_items}
+use Rattle.file_writer.specs.Streams.{Settings, record_if, stream_division, stream_item, stream_items, stream_record}
 
 -- ---- places of runs
 
@@ -110,10 +110,10 @@ is_item rules s (item.Part kind tag octets moment ∷ items) n h =
     first = item.Part kind tag octets moment
 
     one : (stream_of rules tag kind.format == s) ≡ true → length (records_of (stream_item rules s first)) ≡ 1
-    one e = ap (λ (b : Bool). length (records_of (record_if b (filed_record kind octets moment)))) e
+    one e = ap (λ (b : Bool). length (records_of (record_if b (stream_record kind octets moment)))) e
 
     none : (stream_of rules tag kind.format == s) ≡ false → length (records_of (stream_item rules s first)) ≡ 0
-    none e = ap (λ (b : Bool). length (records_of (record_if b (filed_record kind octets moment)))) e
+    none e = ap (λ (b : Bool). length (records_of (record_if b (stream_record kind octets moment)))) e
 
     by : (b : Bool) → (stream_of rules tag kind.format == s) ≡ b → (n : ℕ)
         → n < length (records_of (stream_items rules s (first ∷ items)))

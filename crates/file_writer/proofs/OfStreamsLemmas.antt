@@ -6,7 +6,7 @@ use Rattle.cdr_shelf.specs.Files.{SealedFile}
 use Rattle.file_rotate.specs.Division.{ClosedRun}
 use Rattle.gw_base.specs.declared.item.Item.{Item}
 use Rattle.file_writer.specs.Calls.{Call, Writes, Seals, calls_below, calls_of, seals, stream_calls}
-use Rattle.file_writer.specs.Files.{AreOfStreams, file_in, files_from, later_division}
+use Rattle.file_writer.specs.Files.{AreOfStreams, files_from, later_division, sealed_file}
 use Rattle.file_writer.specs.Streams.{Settings, closed_of, stream_count, stream_division, stream_items}
 use Rattle.file_writer.proofs.CallsLemmas.{seals-append, seals-calls_from}
 
@@ -17,7 +17,7 @@ files_of_stream : (settings : FileSettings) (s sequence : ℕ) (runs : List (Clo
     → AreOfStreams (files_from settings s sequence runs)
 files_of_stream settings s sequence [] h = All-nil IsOfStream
 files_of_stream settings s sequence (closed ∷ later) h =
-    All-cons IsOfStream (file_in settings s sequence closed) (files_from settings s (sequence + 1) later) h
+    All-cons IsOfStream (sealed_file settings s sequence closed) (files_from settings s (sequence + 1) later) h
     (files_of_stream settings s (sequence + 1) later h)
 
 both_of_streams : (xs ys : List Call) → AreOfStreams (seals xs) → AreOfStreams (seals ys) → AreOfStreams (seals (xs ++ ys))

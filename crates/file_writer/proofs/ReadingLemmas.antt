@@ -23,10 +23,10 @@ use Rattle.gw_base.specs.declared.item.Item.TheVariants as item
 use Rattle.route_filter.specs.Rules.{stream_of}
 use Rattle.route_filter.specs.declared.rule.Rule.{Rule}
 use Rattle.file_writer.specs.AllStreams.{IsFit}
-use Rattle.file_writer.specs.Files.{file_in, files_from, record_of, records_in, stream_files}
+use Rattle.file_writer.specs.Files.{files_from, record_of, run_records, sealed_file, stream_files}
 use Rattle.file_writer.specs.Places.{FilePlace, in_run, record_at, run_with, runs_of}
 use Rattle.file_writer.specs.Reading.{IsStamped, ReadsAt}
-use Rattle.file_writer.specs.Streams.{Settings, closed_of, filed_record, record_if, stream_division, stream_items}
+use Rattle.file_writer.specs.Streams.{Settings, closed_of, record_if, stream_division, stream_items, stream_record}
 
 -- ---- what a header says of a record
 
@@ -73,7 +73,7 @@ items_sayable rules file s (item.Part kind tag octets moment ∷ items) fit stam
     fits = All-head IsFit first items fit
 
     by : (b : Bool) → AreItemsSayable file.offset (stream_items rules s items)
-        → AreItemsSayable file.offset (record_if b (filed_record kind octets moment) ++ stream_items rules s items)
+        → AreItemsSayable file.offset (record_if b (stream_record kind octets moment) ++ stream_items rules s items)
     by true rest = (
       record {
         kind = fits.0;
@@ -99,14 +99,14 @@ one_longer (x ∷ run) filed =
     omega (arith, sum_by-append cdr_length (x ∷ run) (filed ∷ []), sum_by-cons cdr_length filed [])
 
 as_long : (offset : ℤ) (run : List (Filed (List ℕ))) → AreSayable offset run
-    → sum_by cdr.cdr_length (records_in run) ≡ sum_by cdr_length run
+    → sum_by cdr.cdr_length (run_records run) ≡ sum_by cdr_length run
 as_long offset [] all = refl
 as_long offset (x ∷ run) all =
     omega (
       arith,
       all.0.stated,
       as_long offset run all.1,
-      sum_by-cons cdr.cdr_length (record_of x) (records_in run),
+      sum_by-cons cdr.cdr_length (record_of x) (run_records run),
       sum_by-cons cdr_length x run,
     )
 
@@ -114,7 +114,7 @@ no_more : (run : List (Filed (List ℕ))) → length run ≤ sum_by cdr_length r
 no_more [] = omega arith
 no_more (x ∷ run) = omega (arith, no_more run, sum_by-cons cdr_length x run)
 
-as_many : (run : List (Filed (List ℕ))) → length (records_in run) ≡ length run
+as_many : (run : List (Filed (List ℕ))) → length (run_records run) ≡ length run
 as_many [] = refl
 as_many (x ∷ run) = ap suc (as_many run)
 
@@ -216,13 +216,13 @@ reason_is reason.StorageExhausted = omega arith
 reason_is reason.IntegrityError = omega arith
 
 last_stamp : (offset : ℤ) (first : Filed (List ℕ)) (later : List (Filed (List ℕ))) → AreSayable offset (first ∷ later)
-    → stamp_of (last_moment (records_in (first ∷ later))) offset < 2 ^ 32
+    → stamp_of (last_moment (run_records (first ∷ later))) offset < 2 ^ 32
 last_stamp offset first [] all = all.0.stamp
 last_stamp offset first (next ∷ later) all = last_stamp offset next later all.1
 
 header_fits : (settings : FileSettings) (first : Filed (List ℕ)) (later : List (Filed (List ℕ))) (sequence : ℕ)
     (r : ClosureReason) → IsReadable settings.offset (first ∷ later) → sequence < 2 ^ 32
-    → IsFileHeader (file_header (records_in (first ∷ later)) sequence r settings)
+    → IsFileHeader (file_header (run_records (first ∷ later)) sequence r settings)
 header_fits settings first later sequence r is low =
     let long = as_long settings.offset (first ∷ later) is.each in
     record {
@@ -237,7 +237,7 @@ header_fits settings first later sequence r is low =
       octets = (reason_is r, omega arith);
     }
 
-cdrs_fit : (offset : ℤ) (run : List (Filed (List ℕ))) → AreSayable offset run → AreCdrs (map cdr_of (records_in run))
+cdrs_fit : (offset : ℤ) (run : List (Filed (List ℕ))) → AreSayable offset run → AreCdrs (map cdr_of (run_records run))
 cdrs_fit offset [] all = tt
 cdrs_fit offset (x ∷ run) all = (
   record {
@@ -254,7 +254,7 @@ cdrs_fit offset (x ∷ run) all = (
 )
 
 cdr_at : (run : List (Filed (List ℕ))) (index : ℕ) (filed : Filed (List ℕ)) → slice_get run index ≡ Some filed
-    → slice_get (map cdr_of (records_in run)) index ≡ Some (cdr_of (record_of filed))
+    → slice_get (map cdr_of (run_records run)) index ≡ Some (cdr_of (record_of filed))
 cdr_at [] index filed h = let no : ⊥ = none-some filed h in absurd no
 cdr_at (x ∷ run) zero filed h =
     let same : x ≡ filed = cc in ap (λ (f : Filed (List ℕ)). Some (cdr_of (record_of f))) same
@@ -266,7 +266,7 @@ record IsClosedAt (settings : FileSettings) (s q : ℕ) (closed : List (ClosedRu
     (left : List (Filed (List ℕ))) (before : ℕ) : Type 0 where
   c : ClosedRun (List ℕ)
   run_is : slice_get (map (λ (c : ClosedRun (List ℕ)). c.run) closed ++ left ∷ []) before ≡ Some c.run
-  file_is : slice_get (files_from settings s q closed) before ≡ Some (file_in settings s (q + before) c)
+  file_is : slice_get (files_from settings s q closed) before ≡ Some (sealed_file settings s (q + before) c)
   is : IsReadable settings.offset c.run
 
 none_more : (q : ℕ) → q ≡ q + 0
@@ -282,7 +282,7 @@ closed_at settings s q [] left before less all = let no : ⊥ = omega (arith, le
 closed_at settings s q (x ∷ closed) left zero less all = record {
   c = x;
   run_is = refl;
-  file_is = ap (λ (n : ℕ). Some (file_in settings s n x)) (none_more q);
+  file_is = ap (λ (n : ℕ). Some (sealed_file settings s n x)) (none_more q);
   is = all.0;
 }
 closed_at settings s q (x ∷ closed) left (suc before) less all =
@@ -290,7 +290,7 @@ closed_at settings s q (x ∷ closed) left (suc before) less all =
     record {
       c = rest.c;
       run_is = rest.run_is;
-      file_is = rest.file_is ∙ ap (λ (n : ℕ). Some (file_in settings s n rest.c)) (one_sooner q before);
+      file_is = rest.file_is ∙ ap (λ (n : ℕ). Some (sealed_file settings s n rest.c)) (one_sooner q before);
       is = rest.is;
     }
 
@@ -306,11 +306,11 @@ ReadsBack = (run : List FiledRecord) (sequence : ℕ) (r : ClosureReason) (setti
 reads : ReadsBack → (settings : FileSettings) (run : List (Filed (List ℕ))) (sequence : ℕ) (r : ClosureReason)
     (index : ℕ) (filed : Filed (List ℕ)) → IsReadable settings.offset run → sequence < 2 ^ 32
     → slice_get run index ≡ Some filed
-    → reading.file_in (file_octets (records_in run) sequence r settings) ≡ Ok
-    (read_file (records_in run) sequence r settings)
+    → reading.file_in (file_octets (run_records run) sequence r settings) ≡ Ok
+    (read_file (run_records run) sequence r settings)
 reads law settings [] sequence r index filed is low h = let no : ⊥ = none-some filed h in absurd no
 reads law settings (first ∷ later) sequence r index filed is low h =
-    law (records_in (first ∷ later)) sequence r settings (header_fits settings first later sequence r is low)
+    law (run_records (first ∷ later)) sequence r settings (header_fits settings first later sequence r is low)
     (cdrs_fit settings.offset (first ∷ later) is.each)
 
 pub read-there : ReadsBack → (settings : Settings) (items : List Item) (place : FilePlace) (filed : Filed (List ℕ))
@@ -338,10 +338,11 @@ read-there law settings items place filed are fit stamped low closed h = by plac
         let number : 1 + before ≡ place.sequence = omega (arith, e) in
         let fits : 1 + before < 2 ^ 32 = omega (arith, e, low) in
         record {
-          file = file_in settings.file s (1 + before) at.c;
-          kept = kept_at (stream_files settings s items) before (file_in settings.file s (1 + before) at.c) at.file_is;
+          file = sealed_file settings.file s (1 + before) at.c;
+          kept = kept_at (stream_files settings s items) before (sealed_file settings.file s (1 + before) at.c)
+              at.file_is;
           name = ap (λ (n : ℕ). record { stream = s; sequence = n }) number;
-          read = read_file (records_in at.c.run) (1 + before) at.c.reason settings.file;
+          read = read_file (run_records at.c.run) (1 + before) at.c.reason settings.file;
           reads = reads law settings.file at.c.run (1 + before) at.c.reason place.index filed at.is fits inside;
           there = cdr_at at.c.run place.index filed inside;
         }

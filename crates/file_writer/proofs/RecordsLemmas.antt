@@ -14,7 +14,7 @@ use Rattle.gw_base.specs.declared.tag.Tag.{Tag}
 use Rattle.route_filter.specs.Rules.{stream_of}
 use Rattle.route_filter.specs.declared.rule.Rule.{Rule}
 use Rattle.file_writer.specs.Places.{FilePlace, HasPlace, in_run, nth_place, place_in, place_of_item, record_at, records_to, run_with, runs_of}
-use Rattle.file_writer.specs.Streams.{Settings, filed_record, record_if, stream_division, stream_item, stream_items}
+use Rattle.file_writer.specs.Streams.{Settings, record_if, stream_division, stream_item, stream_items, stream_record}
 
 -- ---- elements of joined lists
 
@@ -265,7 +265,7 @@ pub place-has : HasAll → (settings : Settings) (items : List Item) (k : ℕ) (
     → slice_get items k ≡ Some (item.Part kind tag octets moment) → HasPlace settings items k kind tag octets moment
 place-has law settings items k kind tag octets moment h =
     let s : ℕ = stream_of settings.rules tag kind.format in
-    let filed : Filed (List ℕ) = filed_record kind octets moment in
+    let filed : Filed (List ℕ) = stream_record kind octets moment in
     let is : stream_item settings.rules s (item.Part kind tag octets moment) ≡ Record filed ∷ [] =
     ap (λ (b : Bool). record_if b filed) (same s) in
     let n : ℕ = records_to settings s (take k items) in
@@ -312,10 +312,10 @@ is_there settings items k p h = by (slice_get items k) refl h
         (records_to settings s (take k items)) p h in
         record {
           found = item.Part kind tag octets moment;
-          filed = filed_record kind octets moment;
+          filed = stream_record kind octets moment;
           is = e;
-          record_is = ap (λ (t : ℕ). record_if (s == t) (filed_record kind octets moment)) (sym at)
-              ∙ ap (λ (b : Bool). record_if b (filed_record kind octets moment)) (same s);
+          record_is = ap (λ (t : ℕ). record_if (s == t) (stream_record kind octets moment)) (sym at)
+              ∙ ap (λ (b : Bool). record_if b (stream_record kind octets moment)) (same s);
           nth = subst (λ (t : ℕ). nth_place t 1 (runs_of (stream_division settings t items))
               (records_to settings t (take k items)) ≡ Some p) at h;
         }

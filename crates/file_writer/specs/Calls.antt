@@ -7,7 +7,7 @@ use Rattle.file_rotate.specs.Division.{Cuts, cuts_at, joined, run_after, still}
 use Rattle.file_rotate.specs.Items.{Filed, Record, Tick, Close}
 use Rattle.file_rotate.specs.Items as stream
 use Rattle.gw_base.specs.declared.item.Item.{Item}
-use Rattle.file_writer.specs.Files.{file_in}
+use Rattle.file_writer.specs.Files.{sealed_file}
 use Rattle.file_writer.specs.Streams.{Settings, closed_of, stream_count, stream_division, stream_items}
 
 -- a call that begins, writes or syncs a file, or one that seals this file
@@ -43,7 +43,7 @@ abbrev pub closing : FileSettings → ℕ → ℕ → ℕ → Option ClosureReas
 closing settings s sealed sequence None run = []
 closing settings s sealed sequence (Some reason) run =
     unless_sealed sealed sequence
-    (Writes ∷ Writes ∷ Seals (file_in settings s sequence (record { run = run; reason = reason })) ∷ [])
+    (Writes ∷ Writes ∷ Seals (sealed_file settings s sequence (record { run = run; reason = reason })) ∷ [])
 
 -- a number, and one more where a file was closed
 abbrev pub closed_by : Option ClosureReason → ℕ → ℕ

@@ -10,21 +10,22 @@ use Rattle.file_writer.specs.Streams.{Settings, stream_count, closed_of, stream_
 abbrev pub record_of : Filed (List ℕ) → FiledRecord
 record_of filed = record { kind = filed.kind; octets = filed.payload; moment = filed.moment }
 
-abbrev pub records_in : List (Filed (List ℕ)) → List FiledRecord
-records_in run = map record_of run
+-- the records of a run, as its CDR file has them
+abbrev pub run_records : List (Filed (List ℕ)) → List FiledRecord
+run_records run = map record_of run
 
 -- the file of a closed run, with this number in the sequence of its stream
-abbrev pub file_in : FileSettings → ℕ → ℕ → ClosedRun (List ℕ) → SealedFile
-file_in settings s sequence closed = record {
+abbrev pub sealed_file : FileSettings → ℕ → ℕ → ClosedRun (List ℕ) → SealedFile
+sealed_file settings s sequence closed = record {
   name = record { stream = s; sequence = sequence };
-  octets = file_octets (records_in closed.run) sequence closed.reason settings;
+  octets = file_octets (run_records closed.run) sequence closed.reason settings;
 }
 
 -- the files of closed runs, numbered one after the other
 abbrev pub files_from : FileSettings → ℕ → ℕ → List (ClosedRun (List ℕ)) → List SealedFile
 files_from settings s sequence [] = []
 files_from settings s sequence (closed ∷ later) =
-    file_in settings s sequence closed ∷ files_from settings s (sequence + 1) later
+    sealed_file settings s sequence closed ∷ files_from settings s (sequence + 1) later
 
 -- the files of a stream, numbered from 1
 abbrev pub stream_files : Settings → ℕ → List Item → List SealedFile

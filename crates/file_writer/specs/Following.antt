@@ -11,7 +11,7 @@ use Rattle.file_rotate.specs.Items as stream
 use Rattle.file_rotate.specs.declared.open_file.OpenFile.{OpenFile}
 use Rattle.gw_base.specs.CdrKind.{IsCdrKind}
 use Rattle.file_writer.specs.Calls.{calls_at, closed_by}
-use Rattle.file_writer.specs.Files.{records_in}
+use Rattle.file_writer.specs.Files.{run_records}
 use Rattle.file_writer.specs.Making.{Makes, ending_of}
 use Rattle.file_writer.specs.Writing.{IsReady, body_behind, growing_of, is_sealed, weight_of}
 use Rattle.file_writer.specs.declared.fault.ShelfFault.{ShelfFault}
@@ -62,9 +62,9 @@ BodyWhere false growing octets u = body_behind growing u ≡ octets
 -- What is kept, and the file on the shelf, are those of a run.
 pub record Follows {A : Type 0} (tells : Ghosts A) (s : ℕ) (run : List (Filed (List ℕ))) (file : Progress) (shelf : A)
     : Type 0 where
-  pub kept : file.growing ≡ growing_of (records_in run)
+  pub kept : file.growing ≡ growing_of (run_records run)
   pub body : IsTrue tells.tells_files
-      → BodyWhere (is_sealed file) file.growing (run_octets (records_in run)) (tells.unsealed shelf s)
+      → BodyWhere (is_sealed file) file.growing (run_octets (run_records run)) (tells.unsealed shelf s)
 
 pub record IsBehind {A : Type 0} (tells : Ghosts A) (s : ℕ) (run : List (Filed (List ℕ))) (stream : Stream) (shelf : A)
     : Type 0 where

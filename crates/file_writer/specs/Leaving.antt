@@ -5,7 +5,7 @@ use Rattle.cdr_shelf.specs.Files.{UnsealedFile}
 use Rattle.cdr_shelf.specs.declared.file_name.FileName.{FileName}
 use Rattle.file_rotate.specs.Items.{Filed}
 use Rattle.gw_base.specs.declared.item.Item.{Item}
-use Rattle.file_writer.specs.Files.{records_in}
+use Rattle.file_writer.specs.Files.{run_records}
 use Rattle.file_writer.specs.Streams.{Settings, closed_of, stream_count, stream_division}
 
 -- The file of an open run: it has this name, and the run's records behind its header. Where no run is open there is
@@ -14,7 +14,7 @@ abbrev pub IsOpenFile : FileName → List (Filed (List ℕ)) → Option Unsealed
 IsOpenFile name [] u = u ≡ None
 IsOpenFile name (first ∷ later) None = ⊥
 IsOpenFile name (first ∷ later) (Some f) =
-    (f.name ≡ name) × (drop 52 f.octets ≡ run_octets (records_in (first ∷ later)))
+    (f.name ≡ name) × (drop 52 f.octets ≡ run_octets (run_records (first ∷ later)))
 
 -- the unsealed file of a stream, of which so many files were closed before the first item, is the one that items leave
 -- open

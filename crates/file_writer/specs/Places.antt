@@ -8,7 +8,7 @@ use Rattle.gw_base.specs.declared.item.Item.TheVariants as item
 use Rattle.gw_base.specs.declared.kind.CdrKind.{CdrKind}
 use Rattle.gw_base.specs.declared.tag.Tag.{Tag}
 use Rattle.route_filter.specs.Rules.{stream_of}
-use Rattle.file_writer.specs.Streams.{Settings, filed_record, stream_division, stream_items}
+use Rattle.file_writer.specs.Streams.{Settings, stream_division, stream_items, stream_record}
 
 pub record FilePlace : Type 0 where
   pub stream : ℕ
@@ -67,4 +67,4 @@ pub record HasPlace (settings : Settings) (items : List Item) (k : ℕ) (kind : 
   pub place : FilePlace
   pub found : place_in settings items k ≡ Some place
   pub stream : place.stream ≡ stream_of settings.rules tag kind.format
-  pub there : record_at settings items place ≡ Some (filed_record kind octets moment)
+  pub there : record_at settings items place ≡ Some (stream_record kind octets moment)

@@ -24,8 +24,8 @@ pub record Settings : Type 0 where
   pub file : FileSettings
 
 -- a record as its stream has it: with its octets
-abbrev pub filed_record : CdrKind → List ℕ → ℕ → Filed (List ℕ)
-filed_record kind octets moment = record { kind = kind; octets = length octets; moment = moment; payload = octets }
+abbrev pub stream_record : CdrKind → List ℕ → ℕ → Filed (List ℕ)
+stream_record kind octets moment = record { kind = kind; octets = length octets; moment = moment; payload = octets }
 
 abbrev pub record_if : Bool → Filed (List ℕ) → List (stream.Item (List ℕ))
 record_if true filed = Record filed ∷ []
@@ -34,7 +34,7 @@ record_if false filed = []
 -- what a stream has of an item: a record that the rules send there, and every mark
 abbrev pub stream_item : List Rule → ℕ → Item → List (stream.Item (List ℕ))
 stream_item rules s (item.Part kind tag octets moment) =
-    record_if (stream_of rules tag kind.format == s) (filed_record kind octets moment)
+    record_if (stream_of rules tag kind.format == s) (stream_record kind octets moment)
 stream_item rules s (item.Tick moment) = Tick moment ∷ []
 stream_item rules s (item.Close moment) = Close moment ∷ []
 

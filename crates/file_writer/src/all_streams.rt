@@ -4,7 +4,7 @@ ghost use Rattle.gw_base.specs.CdrKind.{IsCdrKind};
 ghost use Rattle.gw_base.specs.declared.item.Item.{Item};
 ghost use Rattle.file_writer.specs.AllStreams.{AllAt, EachAt, EachBelow, EachSafe, Goes, GoesTo, IsFit, StillLeft, part_of, mark_told, up_to};
 ghost use Rattle.file_writer.specs.Calls.{calls_below, calls_of, stream_calls};
-ghost use Rattle.file_writer.specs.Streams.{Settings, filed_record, stream_count};
+ghost use Rattle.file_writer.specs.Streams.{Settings, stream_count, stream_record};
 ghost use Rattle.file_writer.specs.Writing.{settings_of};
 
 use crate::fault::ShelfFault;
@@ -90,7 +90,7 @@ fn put_one<F: Shelf>(
     requires length { length next.octets.now < 2 ^ 16 }
     ensures takes { (settings : Settings) (closed sealed : ℕ → ℕ) (before : List Item) (item : Item) →
         settings.file ≡ settings_of gateway.now →
-        GoesTo settings.rules item s (filed_record next.entry.kind next.entry.octets.now next.entry.moment) →
+        GoesTo settings.rules item s (stream_record next.entry.kind next.entry.octets.now next.entry.moment) →
         AllAt F.Shelf settings closed sealed before streams.old shelf.old →
         Goes F.Shelf settings closed sealed (calls_below stream_count settings closed sealed before item)
         (λ t. before ++ item ∷ []) streams.new shelf.old shelf.new result }

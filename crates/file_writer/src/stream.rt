@@ -4,7 +4,7 @@ ghost use Rattle.cdr_file.specs.declared.closure.ClosureReason.{ClosureReason};
 ghost use Rattle.file_rotate.specs.Items.{Filed, Record};
 ghost use Rattle.gw_base.specs.CdrKind.{IsCdrKind};
 ghost use Rattle.file_writer.specs.Following.{IsBehind, IsSafe, Stays, StaysLeft, Takes, mark_item};
-ghost use Rattle.file_writer.specs.Streams.{filed_record};
+ghost use Rattle.file_writer.specs.Streams.{stream_record};
 ghost use Rattle.file_writer.specs.Writing.{settings_of, weight_of};
 
 use crate::fault::ShelfFault;
@@ -54,7 +54,7 @@ pub(crate) fn put<F: Shelf>(
     requires few { weight_of stream.file + 1 < 2 ^ 32 }
     ensures takes { (run : List (Filed (List ℕ))) → IsBehind F.Shelf s run stream shelf.old →
         Takes F.Shelf (settings_of gateway.now) s run
-        (Record (filed_record next.entry.kind next.entry.octets.now next.entry.moment))
+        (Record (stream_record next.entry.kind next.entry.octets.now next.entry.moment))
         stream shelf.old shelf.new result }
     ensures safe { IfOk result (λ later. IsSafe F.Shelf s later shelf.new) }
     ensures few { IfOk result (λ later. weight_of later.file ≤ weight_of stream.file + 1) }

@@ -12,7 +12,7 @@ use Rattle.gw_base.specs.declared.history.HistoryAct.{HistoryAct}
 use Rattle.gw_base.specs.declared.history.HistoryEntry.{HistoryEntry}
 use Rattle.gw_base.specs.declared.item.Item.{Item}
 use Rattle.gateway_book.specs.Cursor.{AreHeldIn, HasPassed, HasStayed, IsAt, IsBegun, IsWithin, NamesOnce, StandsIn, gathered_at_last, items_from}
-use Rattle.gateway_book.specs.Filed.{along, packet_of_hold, present_key, records_of, released_records}
+use Rattle.gateway_book.specs.Filed.{along, filed_under, packet_of_hold, present_key, released_records}
 use Rattle.gateway_book.specs.Gathering.{Gathered, gathered}
 use Rattle.gateway_book.specs.HeldCopies.{AreBelow, CopyPlaces, HoldCopies, copies_after, copy_at, no_copies, packet_at, places_of}
 use Rattle.gateway_book.specs.Items.{items_between, items_by, items_of}
@@ -131,13 +131,13 @@ at_still h old new still at = record {
 
 module _ (before : List HistoryEntry) (copies : CopyPlaces) (n : NodeId) (number moment : ℕ) (held : HoldCopies copies before) where
   pub none_released : copy_at copies n.0 number ≡ None → released_records before moment n number ≡ []
-  none_released none = ap (λ (packet : Option (List ℕ)). option_map_or (records_of (present_key before n number) moment) packet []) (held n.0 number ∙ ap (packet_at before) none)
+  none_released none = ap (λ (packet : Option (List ℕ)). option_map_or (filed_under (present_key before n number) moment) packet []) (held n.0 number ∙ ap (packet_at before) none)
 
   -- what the entry that holds it has for a packet
   pub one_released : (k : ℕ) (e : HistoryEntry) → copy_at copies n.0 number ≡ Some k → slice_get before k ≡ Some e
-      → released_records before moment n number ≡ option_map_or (records_of (present_key before n number) moment) (packet_of_hold e.act) []
+      → released_records before moment n number ≡ option_map_or (filed_under (present_key before n number) moment) (packet_of_hold e.act) []
   one_released k e at here =
-      ap (λ (packet : Option (List ℕ)). option_map_or (records_of (present_key before n number) moment) packet [])
+      ap (λ (packet : Option (List ℕ)). option_map_or (filed_under (present_key before n number) moment) packet [])
       (held n.0 number ∙ ap (packet_at before) at ∙ ap (λ (o : Option HistoryEntry). packet_in o) here)
     where
       packet_in : Option HistoryEntry → Option (List ℕ)
@@ -153,13 +153,13 @@ get_front (x ∷ before) rest (suc k) lt = get_front before rest k (omega (arith
 -- the records of a released number, as the entry that holds it was read
 pub released_in : {A : Type 0} {tells : Ghosts A} (trail : Trail A tells) (copies : CopyPlaces) (before : List HistoryEntry) (n : NodeId) (number moment k : ℕ) (v : HistoryEntry) → AreHeldIn trail copies before
     → Some k ≡ copy_at copies n.0 number → ((e : HistoryEntry) → slice_get (firm_entries trail) k ≡ Some e → v ≡ e)
-    → released_records before moment n number ≡ option_map_or (records_of (present_key before n number) moment) (packet_of_hold v.act) []
+    → released_records before moment n number ≡ option_map_or (filed_under (present_key before n number) moment) (packet_of_hold v.act) []
 released_in trail copies before n number moment k v are at read =
     let lt : k < length before = after_is (copies.path n.0) (copies.hold n.0 number) (λ j. j < length before) (are.below.hold n.0 number) k (sym at) in
     let found = some_at before k lt in
     let here : slice_get (firm_entries trail) k ≡ Some found.0 = ap (λ (xs : List HistoryEntry). slice_get xs k) are.front ∙ get_front before are.rest k lt ∙ found.1 in
     one_released before copies n number moment are.held k found.0 (sym at) found.1
-    ∙ ap (λ (e : HistoryEntry). option_map_or (records_of (present_key before n number) moment) (packet_of_hold e.act) []) (sym (read found.0 here))
+    ∙ ap (λ (e : HistoryEntry). option_map_or (filed_under (present_key before n number) moment) (packet_of_hold e.act) []) (sym (read found.0 here))
 
 -- copies stay where they are as the trail is read
 pub held_still : {A : Type 0} {tells : Ghosts A} (old new : Trail A tells) (copies : CopyPlaces) (before : List HistoryEntry) → Told tells → IsRead old new → AreHeldIn old copies before → AreHeldIn new copies before

@@ -7,7 +7,7 @@ use Rattle.gw_base.specs.History.{begins_epoch, last_naming, names, present_entr
 use Rattle.gw_base.specs.ListLaws.{after_last-push, fold_is}
 use Rattle.gw_base.specs.declared.history.HistoryEntry.{HistoryEntry}
 use Rattle.gw_base.specs.declared.history.PacketKey.{PacketKey}
-use Rattle.gateway_book.specs.Filed.{along, filed, filed_by, filed_record, held_packet, packet_of_hold, records_from, records_in, records_of}
+use Rattle.gateway_book.specs.Filed.{along, filed, filed_by, filed_record, filed_under, held_packet, packet_of_hold, records_from, records_if}
 use Rattle.gateway_book.specs.Steps.{packet_after}
 use Rattle.gateway_book.specs.declared.filing.FiledRecord.{FiledRecord}
 
@@ -60,8 +60,8 @@ held_packet_is node number h = fold_is (λ (p : Option (List ℕ)) (e : HistoryE
 
 -- the records that a packet's value files are those of the packet that is stated with it
 pub records_filed : (key : PacketKey) (moment count format version : ℕ) (value : List ℕ) → packet.IsPacket (packet.Full (packet.stated_form count format version value) value) →
-    records_of key moment value ≡ records_from key moment format version 0 (packet.packet_records (packet.Full (packet.stated_form count format version value) value))
-records_filed key moment count format version value is = ap (records_in key moment) is
+    filed_under key moment value ≡ records_from key moment format version 0 (packet.packet_records (packet.Full (packet.stated_form count format version value) value))
+records_filed key moment count format version value is = ap (records_if key moment) is
 
 -- the first of the records is filed
 pub filed_more : (key : PacketKey) (moment format version index : ℕ) (old rest : List (List ℕ)) (r : List ℕ) (front new : List FiledRecord) → old ≡ r ∷ rest →

@@ -17,7 +17,7 @@ use Rattle.gw_base.specs.declared.history.HistoryEntry.{HistoryEntry}
 use Rattle.gw_base.specs.declared.history.PacketKey.{PacketKey}
 use Rattle.gw_base.specs.declared.item.Item.{Item}
 use Rattle.gateway_book.specs.Cursor.{NamesOnce, items_from}
-use Rattle.gateway_book.specs.Filed.{along, present_key, records_from, records_in, records_of, released_by, released_records}
+use Rattle.gateway_book.specs.Filed.{along, filed_under, present_key, records_from, records_if, released_by, released_records}
 use Rattle.gateway_book.specs.FiledLaws.{along-append}
 use Rattle.gateway_book.specs.Fit.{IsFit, are_distinct, is_act_fit}
 use Rattle.gateway_book.specs.FitHistory.{FitBehind}
@@ -45,10 +45,10 @@ empty_is_none (count ∷ format ∷ high ∷ low ∷ []) empty = no_records coun
 empty_is_none (count ∷ format ∷ high ∷ low ∷ x ∷ octets) empty = absurd (true≢false (sym empty))
 
 -- the items of what a packet's octets say
-pub items_of_packet : (key : PacketKey) (moment : ℕ) (octets : List ℕ) (value : PacketValue) → Some value ≡ packet_reading octets → packet_items moment value ≡ map part_of (records_of key moment octets)
+pub items_of_packet : (key : PacketKey) (moment : ℕ) (octets : List ℕ) (value : PacketValue) → Some value ≡ packet_reading octets → packet_items moment value ≡ map part_of (filed_under key moment octets)
 items_of_packet key moment octets value reads = by_test (is_empty_packet octets) refl reads
   where
-    in_packet : (form : Option PacketForm) → packet_of octets ≡ form → Some value ≡ option_map (λ f. Full f octets) form → packet_items moment value ≡ map part_of (records_in key moment form)
+    in_packet : (form : Option PacketForm) → packet_of octets ≡ form → Some value ≡ option_map (λ f. Full f octets) form → packet_items moment value ≡ map part_of (records_if key moment form)
     in_packet None is e = absurd (none-some value (sym e))
     in_packet (Some form) is e =
         ap (λ (o : Option PacketValue). items_in o) e ∙ records_items key moment form.format form.version 0 form.records
@@ -57,23 +57,23 @@ items_of_packet key moment octets value reads = by_test (is_empty_packet octets)
         items_in None = []
         items_in (Some v) = packet_items moment v
 
-    by_test : (b : Bool) → is_empty_packet octets ≡ b → Some value ≡ (if b then Some Empty else full_packet octets) → packet_items moment value ≡ map part_of (records_of key moment octets)
+    by_test : (b : Bool) → is_empty_packet octets ≡ b → Some value ≡ (if b then Some Empty else full_packet octets) → packet_items moment value ≡ map part_of (filed_under key moment octets)
     by_test true empty e =
-        ap (λ (o : Option PacketValue). items_in o) e ∙ sym (ap (λ (form : Option PacketForm). map part_of (records_in key moment form)) (empty_is_none octets empty))
+        ap (λ (o : Option PacketValue). items_in o) e ∙ sym (ap (λ (form : Option PacketForm). map part_of (records_if key moment form)) (empty_is_none octets empty))
       where
         items_in : Option PacketValue → List Item
         items_in None = []
         items_in (Some v) = packet_items moment v
     by_test false empty e = in_packet (packet_of octets) refl e
 
-pub no_items_of_packet : (key : PacketKey) (moment : ℕ) (octets : List ℕ) → ◌≡◌ {A = Option PacketValue} None (packet_reading octets) → map part_of (records_of key moment octets) ≡ []
+pub no_items_of_packet : (key : PacketKey) (moment : ℕ) (octets : List ℕ) → ◌≡◌ {A = Option PacketValue} None (packet_reading octets) → map part_of (filed_under key moment octets) ≡ []
 no_items_of_packet key moment octets reads = by_test (is_empty_packet octets) reads
   where
-    in_packet : (form : Option PacketForm) → ◌≡◌ {A = Option PacketValue} None (option_map (λ f. Full f octets) form) → map part_of (records_in key moment form) ≡ []
+    in_packet : (form : Option PacketForm) → ◌≡◌ {A = Option PacketValue} None (option_map (λ f. Full f octets) form) → map part_of (records_if key moment form) ≡ []
     in_packet None e = refl
     in_packet (Some form) e = absurd (none-some (Full form octets) e)
 
-    by_test : (b : Bool) → ◌≡◌ {A = Option PacketValue} None (if b then Some Empty else full_packet octets) → map part_of (records_of key moment octets) ≡ []
+    by_test : (b : Bool) → ◌≡◌ {A = Option PacketValue} None (if b then Some Empty else full_packet octets) → map part_of (filed_under key moment octets) ≡ []
     by_test true e = absurd (none-some Empty e)
     by_test false e = in_packet (packet_of octets) e
 
@@ -119,7 +119,7 @@ released_end before moment n xs i g past = sym (ap (λ (ys : List ℕ). gathered
 -- ---- the items of an entry by its act
 
 module _ (before : List HistoryEntry) (v : HistoryEntry) where
-  pub file_items : (n : NodeId) (x : ℕ) (packet : List ℕ) → v.act ≡ File n x packet → map part_of (records_of (present_key before n x) v.moment packet) ≡ items_by before v
+  pub file_items : (n : NodeId) (x : ℕ) (packet : List ℕ) → v.act ≡ File n x packet → map part_of (filed_under (present_key before n x) v.moment packet) ≡ items_by before v
   file_items n x packet is = sym (ap (items_by_act before v.moment) is)
 
   pub release_items : (n : NodeId) (xs : List ℕ) → v.act ≡ Release n xs → NamesOnce v.act → released_items before v.moment n xs ≡ items_by before v

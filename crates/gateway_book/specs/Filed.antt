@@ -36,13 +36,14 @@ abbrev pub records_from : PacketKey → ℕ → ℕ → ℕ → ℕ → List (Li
 records_from key moment format version index records =
     map (filed_record key moment format version) (enumerate_from index records)
 
-abbrev pub records_in : PacketKey → ℕ → Option PacketForm → List FiledRecord
-records_in key moment None = []
-records_in key moment (Some packet) = records_from key moment packet.format packet.version 0 packet.records
+-- all records of a packet, and none where there is no packet
+abbrev pub records_if : PacketKey → ℕ → Option PacketForm → List FiledRecord
+records_if key moment None = []
+records_if key moment (Some packet) = records_from key moment packet.format packet.version 0 packet.records
 
 -- the records of a packet, filed under a key at a moment
-abbrev pub records_of : PacketKey → ℕ → List ℕ → List FiledRecord
-records_of key moment packet = records_in key moment (packet_of packet)
+abbrev pub filed_under : PacketKey → ℕ → List ℕ → List FiledRecord
+filed_under key moment packet = records_if key moment (packet_of packet)
 
 -- the key of a node's number in the node's present epoch
 abbrev pub present_key : List HistoryEntry → NodeId → ℕ → PacketKey
@@ -61,7 +62,7 @@ held_packet node number h = option_and_then (λ e. packet_of_hold e.act) (last_n
 -- the records that the release of a number files: those that are held under it, and none where it isn't held
 abbrev pub released_records : List HistoryEntry → ℕ → NodeId → ℕ → List FiledRecord
 released_records before moment n number =
-    option_map_or (records_of (present_key before n number) moment) (held_packet n.0 number before) []
+    option_map_or (filed_under (present_key before n number) moment) (held_packet n.0 number before) []
 
 -- the records that the release of these numbers of a node files, number after number
 abbrev pub released_by : List HistoryEntry → ℕ → NodeId → List ℕ → List FiledRecord
@@ -69,7 +70,7 @@ released_by before moment n numbers = flat_map (released_records before moment n
 
 -- the records that an act files, by the entries before it: a release that names a number twice files its records once
 abbrev pub filed_by_act : List HistoryEntry → ℕ → HistoryAct → List FiledRecord
-filed_by_act before moment (File n x packet) = records_of (present_key before n x) moment packet
+filed_by_act before moment (File n x packet) = filed_under (present_key before n x) moment packet
 filed_by_act before moment (Release n xs) = released_by before moment n (once (λ x y. x == y) xs)
 filed_by_act before moment _ = []
 

@@ -19,7 +19,7 @@ use Rattle.gw_base.specs.declared.history.PacketKey.{PacketKey}
 use Rattle.gw_base.specs.declared.key_state.KeyState.{KeyState}
 use Rattle.gw_base.specs.declared.key_state.KeyState.TheVariants.{Fresh, Filed, Sealed, Held, Released, Cancelled}
 use Rattle.transfer_cmd.specs.Lists.{is_held}
-use Rattle.gateway_book.specs.Filed.{filed, filed_by, filed_by_act, filed_record, held_packet, present_key, records_from, records_in, records_of, released_by, released_records}
+use Rattle.gateway_book.specs.Filed.{filed, filed_by, filed_by_act, filed_record, filed_under, held_packet, present_key, records_from, records_if, released_by, released_records}
 use Rattle.gateway_book.specs.FiledLaws.{along-append}
 use Rattle.gateway_book.specs.Fit.{are_distinct, is_act_fit, is_fresh, is_in_window, is_list_fit, is_new, is_packet_fit}
 use Rattle.gateway_book.specs.FitHistory.{AllFit}
@@ -172,17 +172,17 @@ module _ (key : PacketKey) (index : ℕ) where
       by_test false e is rest =
           omega (arith, is, rest, none_if_false (same_key k key && (j == index)) (and_right (same_key k key) (j == index) e))
 
-  times_of_form : (k : PacketKey) (moment : ℕ) (form : Option PacketForm) → times (records_in k moment form) ≤ one_if (same_key k key)
+  times_of_form : (k : PacketKey) (moment : ℕ) (form : Option PacketForm) → times (records_if k moment form) ≤ one_if (same_key k key)
   times_of_form k moment None = omega arith
   times_of_form k moment (Some form) = times_of_records k moment form.format form.version 0 form.records
 
-  times_of_packet : (k : PacketKey) (moment : ℕ) (packet : List ℕ) → times (records_of k moment packet) ≤ one_if (same_key k key)
+  times_of_packet : (k : PacketKey) (moment : ℕ) (packet : List ℕ) → times (filed_under k moment packet) ≤ one_if (same_key k key)
   times_of_packet k moment packet = times_of_form k moment (packet_of packet)
 
   times_released : (h : List HistoryEntry) (moment : ℕ) (n : NodeId) (x : ℕ) → times (released_records h moment n x) ≤ one_if (same_key (present_key h n x) key)
   times_released h moment n x = by_held (held_packet n.0 x h)
     where
-      by_held : (packet : Option (List ℕ)) → times (option_map_or (records_of (present_key h n x) moment) packet []) ≤ one_if (same_key (present_key h n x) key)
+      by_held : (packet : Option (List ℕ)) → times (option_map_or (filed_under (present_key h n x) moment) packet []) ≤ one_if (same_key (present_key h n x) key)
       by_held None = omega arith
       by_held (Some packet) = times_of_packet (present_key h n x) moment packet
 
@@ -270,11 +270,11 @@ module _ (key : PacketKey) (index : ℕ) where
   silent_none more false le e = omega (arith, le)
 
   step_file : (h : List HistoryEntry) (moment : ℕ) (n : NodeId) (x : ℕ) (packet : List ℕ) → is_new (observed h n) x ≡ true → times (filed h) ≤ filed_yet (state_of key h)
-      → times (filed h) + times (records_of (present_key h n x) moment packet) ≤ filed_yet (if named h n (x == key.number) then Filed else state_of key h)
+      → times (filed h) + times (filed_under (present_key h n x) moment packet) ≤ filed_yet (if named h n (x == key.number) then Filed else state_of key h)
   step_file h moment n x packet new so_far =
-      let more : times (records_of (present_key h n x) moment packet) ≤ one_if (named h n (x == key.number)) =
-      subst (λ (b : Bool). times (records_of (present_key h n x) moment packet) ≤ one_if b) (here_is_named h n (x == key.number)) (times_of_packet (present_key h n x) moment packet) in
-      by_name (times (filed h)) (times (records_of (present_key h n x) moment packet)) (state_of key h) Filed (named h n (x == key.number)) so_far
+      let more : times (filed_under (present_key h n x) moment packet) ≤ one_if (named h n (x == key.number)) =
+      subst (λ (b : Bool). times (filed_under (present_key h n x) moment packet) ≤ one_if b) (here_is_named h n (x == key.number)) (times_of_packet (present_key h n x) moment packet) in
+      by_name (times (filed h)) (times (filed_under (present_key h n x) moment packet)) (state_of key h) Filed (named h n (x == key.number)) so_far
       (none_of_new h n x new) (given_one _ (named h n (x == key.number)) more) (silent_none _ (named h n (x == key.number)) more)
 
   step_release : (h : List HistoryEntry) (moment : ℕ) (n : NodeId) (xs : List ℕ) → is_list_fit (observed h n) xs ≡ true → times (filed h) ≤ filed_yet (state_of key h)

@@ -70,17 +70,18 @@ module _ {A : Type 0} {tells : Ghosts A} (header : List ℕ) where
     pub leaves : (outcome : Outcome3) → left_by_stop outcome book ≡ h
 
   -- The gateway after a call of which this came, and which left this value.
-  abbrev pub Stands : Sequel → BookValue → Book A tells → Type 0
-  Stands (GoesOn armed) v book = (v.is_broken ≡ false) × IsUp v armed false book
-  Stands (Breaks at_last) v book = (v.is_broken ≡ true) × IsUp v Nothing at_last book
-  Stands (Stops stands) v book = IsCut (if stands then v.firm ++ v.rest else v.firm) book
+  abbrev pub StandsAfter : Sequel → BookValue → Book A tells → Type 0
+  StandsAfter (GoesOn armed) v book = (v.is_broken ≡ false) × IsUp v armed false book
+  StandsAfter (Breaks at_last) v book = (v.is_broken ≡ true) × IsUp v Nothing at_last book
+  StandsAfter (Stops stands) v book = IsCut (if stands then v.firm ++ v.rest else v.firm) book
 
   -- A call of which this came left this, and answered this.
   pub record HasLeft {R : Type 0} (sequel : Sequel) (left : Left R) (book : Book A tells) (result : R) : Type 0 where
     pub answer : result ≡ left.answer
-    pub stands : Stands sequel left.value book
+    pub stands : StandsAfter sequel left.value book
 
 -- An area holds this history: what a read gives of it stands for that, and every entry is fit. So it is of a gateway
 -- that is down, and of one that is up once its area is handed out.
-pub record IsDown {A : Type 0} (tells : Ghosts A) (header : List ℕ) (h : List HistoryEntry) (area : A) : Type 0 where
+pub record HoldsHistory {A : Type 0} (tells : Ghosts A) (header : List ℕ) (h : List HistoryEntry) (area : A)
+    : Type 0 where
   pub stands : StandsFitFor header (tells.octets area) h

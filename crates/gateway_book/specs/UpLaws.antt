@@ -28,7 +28,7 @@ use Rattle.gateway_book.specs.Marks.{Mark, Makes, NoRoom, NotDue}
 use Rattle.gateway_book.specs.Opened.{IsOpened, StandsFitFor}
 use Rattle.gateway_book.specs.Preparing.{PreparedValue}
 use Rattle.gateway_book.specs.Read.{IsUnchanged}
-use Rattle.gateway_book.specs.Up.{Breaks, HasLeft, IsCut, IsDown, IsUp, Stands, Stops, commit_sequel, fortune_by, reopening_sequel, sequel_of}
+use Rattle.gateway_book.specs.Up.{Breaks, HasLeft, HoldsHistory, IsCut, IsUp, StandsAfter, Stops, commit_sequel, fortune_by, reopening_sequel, sequel_of}
 use Rattle.gateway_book.specs.Value.{BookValue, Fortune, Gone, Refused, Reopening, Whole, after_commit, is_batch_full, readied, recorded_if, reopened, tried, tried_with}
 use Rattle.gateway_book.specs.declared.book.Book.{Book}
 use Rattle.gateway_book.specs.declared.outcome.Broken.{Broken}
@@ -125,13 +125,13 @@ module _ {A : Type 0} {tells : Ghosts A} (told : Told tells) (fate : IsTrue tell
         ∙ ap (λ b. if b then (value_of new).firm ++ (value_of new).rest else (value_of new).firm) is
         ∙ ap (λ (u : BookValue). if stands then u.firm ++ u.rest else u.firm) value
 
-    none_stands : v.is_broken ≡ false → w.is_broken ≡ false → area_of new ≡ area_of old → Stands header (sequel_of AsksNothing armed at_last) w new
+    none_stands : v.is_broken ≡ false → w.is_broken ≡ false → area_of new ≡ area_of old → StandsAfter header (sequel_of AsksNothing armed at_last) w new
     none_stands whole still area =
         goes_on header new w armed value name still
         (subst (λ (x : A). IsTied armed (course_of (tells.fate x))) (sym area) (record { is_armed = up.is_armed; has_spare = up.has_spare whole }))
 
     failed_stands : (last : Bool) → is_closed new.trail ≡ true → IsArmed Nothing (plan_of new).schedule → ((outcome : Outcome3) → stop_stands outcome new.trail ≡ (last && is_new outcome))
-        → Stands header (Breaks last) w new
+        → StandsAfter header (Breaks last) w new
     failed_stands last fails none torn =
         let breaks = w_broken true fails in (
           breaks,
@@ -145,15 +145,15 @@ module _ {A : Type 0} {tells : Ghosts A} (told : Told tells) (fate : IsTrue tell
         )
 
     stopped_stands : (stands : Bool) → is_closed new.trail ≡ true → (plan_of new).schedule.stopped ≡ true → ((outcome : Outcome3) → stop_stands outcome new.trail ≡ stands)
-        → Stands header (Stops stands) w new
+        → StandsAfter header (Stops stands) w new
     stopped_stands stands fails stopped left = record { named = name; stopped = stopped; leaves = λ o. left_is o stands fails (left o) }
 
-    commit_stands : (came : Came) → CommitComes new.trail (is_closed new.trail) came → Stands header (commit_sequel came) w new
+    commit_stands : (came : Came) → CommitComes new.trail (is_closed new.trail) came → StandsAfter header (commit_sequel came) w new
     commit_stands (Ran b) goes = goes_on header new w b value name (w_broken false goes.runs) goes.tied
     commit_stands (FailedAt call) failed = failed_stands (call == 4) failed.fails failed.armed failed.left
     commit_stands (StoppedAt call outcome) stopped = stopped_stands (nat_le 3 call && is_new outcome) stopped.fails stopped.stopped stopped.left
 
-    opening_stands : v.is_broken ≡ true → (came : Came) → ReopenComes old.trail new.trail (is_closed new.trail) came → Stands header (reopening_sequel at_last came) w new
+    opening_stands : v.is_broken ≡ true → (came : Came) → ReopenComes old.trail new.trail (is_closed new.trail) came → StandsAfter header (reopening_sequel at_last came) w new
     opening_stands broken (Ran b) goes = goes_on header new w b value name (w_broken false goes.runs) goes.tied
     opening_stands broken (FailedAt call) failed =
         failed_stands at_last failed.fails failed.armed (λ outcome. failed.left outcome ∙ up.torn broken outcome)
@@ -182,14 +182,14 @@ module _ {A : Type 0} {tells : Ghosts A} (told : Told tells) (fate : IsTrue tell
   -- the book after a call whose answer and value go by what it is readied to, and which breaks it no further
   module _ {R : Type 0} (leaves : BookValue → Left R) (keeps : (r : BookValue) → (leaves r).value.is_broken ≡ r.is_broken) where
     ready_stands : (b : Bool) → v.is_broken ≡ b → (c : Bool) → is_batch_full v ≡ c → AsPlanned old new (asked_to_ready v) → header_of new ≡ header_of old → (w : BookValue) → value_of new ≡ w
-        → w ≡ (leaves (readied (fortune_by at_last (sequel_of (asked_to_ready v) armed at_last)) v)).value → Stands header (sequel_of (asked_to_ready v) armed at_last) w new
+        → w ≡ (leaves (readied (fortune_by at_last (sequel_of (asked_to_ready v) armed at_last)) v)).value → StandsAfter header (sequel_of (asked_to_ready v) armed at_last) w new
     ready_stands true broken c full planned named w value is =
         let asks = reopening_asked v (if is_batch_full v then AsksCommit else AsksNothing) broken in
-        subst (λ (a : Asked). Stands header (sequel_of a armed at_last) w new) (sym asks)
+        subst (λ (a : Asked). StandsAfter header (sequel_of a armed at_last) w new) (sym asks)
         (opening_stands w value named broken (calls_under armed 1) (opening_came broken (subst (λ (a : Asked). AsPlanned old new a) asks planned)))
     ready_stands false whole true full planned named w value is =
         let asks = other_asked v (if is_batch_full v then AsksCommit else AsksNothing) whole ∙ full_asked v true full in
-        subst (λ (a : Asked). Stands header (sequel_of a armed at_last) w new) (sym asks)
+        subst (λ (a : Asked). StandsAfter header (sequel_of a armed at_last) w new) (sym asks)
         (commit_stands w value named (calls_under armed 4) (commit_came whole (subst (λ (a : Asked). AsPlanned old new a) asks planned)))
     ready_stands false whole false full planned named w value is =
         let asks = other_asked v (if is_batch_full v then AsksCommit else AsksNothing) whole ∙ full_asked v false full in
@@ -198,7 +198,7 @@ module _ {A : Type 0} {tells : Ghosts A} (told : Told tells) (fate : IsTrue tell
         ∙ keeps (readied (fortune_by at_last (sequel_of (asked_to_ready v) armed at_last)) v)
         ∙ ap (λ (u : BookValue). u.is_broken) (readied_whole v (fortune_by at_last (sequel_of (asked_to_ready v) armed at_last)) whole false full)
         ∙ whole in
-        subst (λ (a : Asked). Stands header (sequel_of a armed at_last) w new) (sym asks)
+        subst (λ (a : Asked). StandsAfter header (sequel_of a armed at_last) w new) (sym asks)
         (none_stands w value named whole still (subst (λ (a : Asked). AsPlanned old new a) asks planned))
 
     pub has_readied : (result : R) → IsLeft old new (leaves (readied (fortune_of old new) (value_of old))) result → header_of new ≡ header_of old → AsPlanned old new (asked_to_ready (value_of old))
@@ -232,20 +232,20 @@ module _ {A : Type 0} {tells : Ghosts A} (told : Told tells) (fate : IsTrue tell
       ∙ sym (ap (λ (a : Asked). after_commit (fortune_by at_last (sequel_of a armed at_last)) v) asks)
 
   committed_stands : (b : Bool) → v.is_broken ≡ b → (h : List HistoryEntry) → v.rest ≡ h → AsPlanned old new (asked_to_commit v) → header_of new ≡ header_of old → (w : BookValue) → value_of new ≡ w
-      → w ≡ after_commit (fortune_by at_last (sequel_of (asked_to_commit v) armed at_last)) v → Stands header (sequel_of (asked_to_commit v) armed at_last) w new
+      → w ≡ after_commit (fortune_by at_last (sequel_of (asked_to_commit v) armed at_last)) v → StandsAfter header (sequel_of (asked_to_commit v) armed at_last) w new
   committed_stands true broken h rest planned named w value is =
       let asks = reopening_asked v (asked_with v.rest) broken in
-      subst (λ (a : Asked). Stands header (sequel_of a armed at_last) w new) (sym asks)
+      subst (λ (a : Asked). StandsAfter header (sequel_of a armed at_last) w new) (sym asks)
       (opening_stands w value named broken (calls_under armed 1) (opening_came broken (subst (λ (a : Asked). AsPlanned old new a) asks planned)))
   committed_stands false whole [] rest planned named w value is =
       let asks = other_asked v (asked_with v.rest) whole ∙ ap asked_with rest in
       let still : w.is_broken ≡ false =
       ap (λ (u : BookValue). u.is_broken) (is ∙ after_whole v (fortune_by at_last (sequel_of (asked_to_commit v) armed at_last)) whole [] rest) ∙ whole in
-      subst (λ (a : Asked). Stands header (sequel_of a armed at_last) w new) (sym asks)
+      subst (λ (a : Asked). StandsAfter header (sequel_of a armed at_last) w new) (sym asks)
       (none_stands w value named whole still (subst (λ (a : Asked). AsPlanned old new a) asks planned))
   committed_stands false whole (e ∷ h) rest planned named w value is =
       let asks = other_asked v (asked_with v.rest) whole ∙ ap asked_with rest in
-      subst (λ (a : Asked). Stands header (sequel_of a armed at_last) w new) (sym asks)
+      subst (λ (a : Asked). StandsAfter header (sequel_of a armed at_last) w new) (sym asks)
       (commit_stands w value named (calls_under armed 4) (commit_came whole (subst (λ (a : Asked). AsPlanned old new a) asks planned)))
 
   pub has_committed : (result : Result ℕ Broken) → IsLeft old new (commit_left (fortune_of old new) (value_of old)) result → header_of new ≡ header_of old → AsPlanned old new (asked_to_commit (value_of old))
@@ -280,8 +280,8 @@ mark_keeps r now who mark = by_state r.is_broken refl
 
 -- the area of a gateway that is up, and of one that is cut
 module _ {A : Type 0} {tells : Ghosts A} (told : Told tells) (fate : IsTrue tells.tells_fate) (header : List ℕ) (book : Book A tells) (leaves : LeavesFit book) where
-  pub cut_is_down : (h : List HistoryEntry) → IsCut header h book → IsDown tells header h (area_of book)
-  cut_is_down h cut = record {
+  pub cut_holds_history : (h : List HistoryEntry) → IsCut header h book → HoldsHistory tells header h (area_of book)
+  cut_holds_history h cut = record {
     stands = subst (λ (x : List ℕ). StandsFitFor x (tells.octets (area_of book)) h) cut.named
         (subst (λ (g : List HistoryEntry). StandsFitFor (header_of book) (tells.octets (area_of book)) g) (cut.leaves New) (leaves.reads fate told));
   }

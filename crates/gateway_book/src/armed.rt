@@ -11,7 +11,7 @@ ghost use Rattle.gateway_book.specs.Calls.{commit_left, taken};
 ghost use Rattle.gateway_book.specs.Items.{items_between};
 ghost use Rattle.gateway_book.specs.Opened.{StandsFitFor};
 ghost use Rattle.gateway_book.specs.Preparing.{prepared_of};
-ghost use Rattle.gateway_book.specs.Up.{HasLeft, IsCut, IsDown, IsUp, commit_sequel_of, fortune_by, ready_sequel_of};
+ghost use Rattle.gateway_book.specs.Up.{HasLeft, HoldsHistory, IsCut, IsUp, commit_sequel_of, fortune_by, ready_sequel_of};
 ghost use Rattle.gateway_book.specs.Value.{BookValue};
 ghost use Rattle.gateway_book.specs.declared.outcome.Outcome.TheVariants.{NoMemory};
 
@@ -71,7 +71,7 @@ fn told<A: Area>(
 // The area of a gateway that is cut, and of one that is up.
 fn given_up<A: Area>(book: Book<A>) -> A
     ensures cut { Told A.Area → IsTrue A.tells_fate → (header : List ℕ) (h : List HistoryEntry) →
-        IsCut header h book → IsDown A.Area header h result }
+        IsCut header h book → HoldsHistory A.Area header h result }
     ensures stop { Told A.Area → IsTrue A.tells_fate → (header : List ℕ) (v : BookValue) (armed : Armed)
         (at_last : Bool) → IsUp header v armed at_last book → (outcome : Outcome3) →
         StandsFitFor header ((A.fate result).leaves outcome)

@@ -7,7 +7,7 @@ ghost use Rattle.gw_base.specs.Entry.{act_view, entry_view};
 ghost use Rattle.gw_base.specs.declared.history.HistoryEntry.{HistoryEntry};
 ghost use Rattle.gw_base.specs.declared.history.PacketKey.{PacketKey};
 ghost use Rattle.gateway_book.specs.Cursor.{AreHeldIn, NamesOnce};
-ghost use Rattle.gateway_book.specs.Filed.{packet_of_hold, records_of, released_by, released_records};
+ghost use Rattle.gateway_book.specs.Filed.{filed_under, packet_of_hold, released_by, released_records};
 ghost use Rattle.gateway_book.specs.Gathering.{gathered};
 ghost use Rattle.gateway_book.specs.HeldCopies.{AreBelow, places_of};
 ghost use Rattle.gateway_book.specs.Items.{IsWritable, items_by, part_of};
@@ -26,7 +26,7 @@ use gw_base::{Absolute, Act, Entry, Item, Moment, NoMemory, NodeId};
 #[tactic(auto, using(crate::proofs::ItemsLemmas::items_of_packet, crate::proofs::ItemsLemmas::no_items_of_packet, crate::proofs::GatheringLemmas::none_more))]
 fn add_packet(packet: &[u8], moment: Moment, into: &mut Gathering) -> Result<(), ItemsFault>
     ensures items { (key : PacketKey) → OnOk result (into.new ≡
-        gathered (map part_of (records_of key moment packet.now)) into.old) }
+        gathered (map part_of (filed_under key moment packet.now)) into.old) }
     ensures memory { result ≢ Err ItemsFault.Device }
 {
     let Some(packet) = Packet::of(packet) else {

@@ -2,7 +2,7 @@ ghost use Rattle.std.specs.Prelude.{◌≡◌, ◌==◌, ◌++◌, IfOk, OnOk};
 ghost use Rattle.gtpp_message.specs.Packet.{IsPacket, packet_octets};
 ghost use Rattle.gtpp_message.specs.Values.{lent, packet_value};
 ghost use Rattle.gw_base.specs.Lists.{once};
-ghost use Rattle.gateway_book.specs.Filed.{filed, filed_by, filed_record, held_packet, present_key, record_tag, records_of, released_by, released_records};
+ghost use Rattle.gateway_book.specs.Filed.{filed, filed_by, filed_record, filed_under, held_packet, present_key, record_tag, released_by, released_records};
 ghost use Rattle.gateway_book.specs.Steps.{packet_after, with_number};
 
 use crate::preparing::BER_FORMAT;
@@ -179,7 +179,7 @@ fn file_packet(
     moment: Moment,
     packet: &[u8],
 ) -> Result<(), NoMemory>
-    ensures { OnOk result (into.new.items ≡ into.old.items ++ records_of key moment packet.now) }
+    ensures { OnOk result (into.new.items ≡ into.old.items ++ filed_under key moment packet.now) }
 {
     match Packet::of(packet) {
         Some(packet) => file_records(alloc, into, key, moment, packet),
@@ -198,7 +198,7 @@ fn file_records(
 ) -> Result<(), NoMemory>
     requires { IsPacket (packet_value packet) }
     ensures { OnOk result (into.new.items
-        ≡ into.old.items ++ records_of key moment (packet_octets (packet_value packet.entry))) }
+        ≡ into.old.items ++ filed_under key moment (packet_octets (packet_value packet.entry))) }
 {
     let Packet::Full {
         count,

@@ -37,7 +37,7 @@ ghost use Rattle.gateway_book.specs.Opened.{IsNotOurs, IsOpened, StandsFitFor};
 ghost use Rattle.gateway_book.specs.Preparing.{IsWhole, PreparedValue, Request, prepared_of};
 ghost use Rattle.gateway_book.specs.Read.{IsUnchanged};
 ghost use Rattle.gateway_book.specs.Recording.{Accepts, HasRoomFor, IfRecords, IsWithinLimits, is_without_resources, tells_a_fault};
-ghost use Rattle.gateway_book.specs.Up.{HasLeft, IsCut, IsDown, IsUp, commit_sequel_of, fortune_by, ready_sequel_of};
+ghost use Rattle.gateway_book.specs.Up.{HasLeft, HoldsHistory, IsCut, IsUp, commit_sequel_of, fortune_by, ready_sequel_of};
 ghost use Rattle.gateway_book.specs.Value.{BookValue};
 ghost use Rattle.gateway_book.specs.declared.book.Book.{Book};
 ghost use Rattle.gateway_book.specs.declared.outcome.Broken.{Broken};
@@ -189,7 +189,7 @@ pub fn a_gateway_stays_up_as_it_is_read<A: Area>()
 /// that was opened is up.
 pub fn what_a_gateway_leaves<A: Area>()
     ensures cut { Told A.Area → IsTrue A.tells_fate → (header : List ℕ) (book : Book A A.Area)
-        (h : List HistoryEntry) → LeavesFit book → IsCut header h book → IsDown A.Area header h (area_of book) }
+        (h : List HistoryEntry) → LeavesFit book → IsCut header h book → HoldsHistory A.Area header h (area_of book) }
     ensures stop { Told A.Area → IsTrue A.tells_fate → (header : List ℕ) (book : Book A A.Area) (v : BookValue)
         (armed : Armed) (at_last : Bool) → LeavesFit book → IsUp header v armed at_last book → (outcome : Outcome3) →
         StandsFitFor header ((A.fate (area_of book)).leaves outcome)

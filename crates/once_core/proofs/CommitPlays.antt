@@ -70,7 +70,7 @@ module _ (gateway : ℕ) (scene : Scene) (g : Gateway) (stands : Stands gateway 
     sends = λ m is speaking.
         Contains-append_right scene.letters (firming (scene.posts gateway)).sends (letter_of m)
         (subst (λ (p : Post). Contains (firming p).sends (letter_of m)) (sym stands.post)
-        (subst (λ (ws : List did.Waiting). Contains (map (λ (v : did.Waiting). v.letter) ws) (letter_of m))
+        (subst (λ (ws : List did.WaitingLetter). Contains (map (λ (v : did.WaitingLetter). v.letter) ws) (letter_of m))
         (letters_passing (λ n. nat_le n (length all)) g.waiting)
         (sent_letters (filter (λ w. nat_le w.front (length all)) g.waiting) m is speaking)));
     said = settled_said (record g { book = whole_book g.book cuts false }) stands.rightly.said;
@@ -81,7 +81,7 @@ module _ (gateway : ℕ) (scene : Scene) (g : Gateway) (stands : Stands gateway 
       all = g.book.firm ++ g.book.rest
 
       post_is : (firming (post_of g)).post ≡ post_of (settling (record g { book = whole_book g.book cuts false })).gateway
-      post_is = ap (λ (ws : List did.Waiting). record { firm = all; rest = []; waiting = ws })
+      post_is = ap (λ (ws : List did.WaitingLetter). record { firm = all; rest = []; waiting = ws })
           (sym (letters_passing (λ n. not (nat_le n (length all))) g.waiting))
 
   -- the torn entries are gone
@@ -93,7 +93,7 @@ module _ (gateway : ℕ) (scene : Scene) (g : Gateway) (stands : Stands gateway 
     goes = post_goes gateway (keeping 0 (scene.posts gateway)) scene;
     post =
         at_same gateway (keeping 0 (scene.posts gateway)) scene.posts ∙ ap (keeping 0) stands.post
-        ∙ ap (λ (ws : List did.Waiting). record { firm = g.book.firm; rest = []; waiting = ws })
+        ∙ ap (λ (ws : List did.WaitingLetter). record { firm = g.book.firm; rest = []; waiting = ws })
         (ap (λ (ws : List Waiting). waiting_letters (filter (λ w. not (is_reached (cut_book g.book cuts) w)) ws)) (sym none));
     sends = λ m is speaking. absurd (in_none m (subst (λ (ws : List Waiting). Contains (map (λ w. w.message) (filter (is_reached (cut_book g.book cuts)) ws)) m) none is));
     said = settled_said (record g { book = cut_book g.book cuts }) stands.rightly.said;

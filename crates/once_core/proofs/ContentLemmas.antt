@@ -18,13 +18,13 @@ use Rattle.gw_base.specs.declared.history.HistoryAct.TheVariants as act
 use Rattle.gw_base.specs.declared.history.HistoryEntry.{HistoryEntry}
 use Rattle.gw_base.specs.declared.history.PacketKey.{PacketKey}
 use Rattle.gw_base.specs.declared.key_state.KeyState.TheVariants.{Held}
-use Rattle.gateway_book.specs.Filed.{filed, filed_by, filed_by_act, filed_record, held_packet, present_key, records_in, records_of, released_by, released_records}
+use Rattle.gateway_book.specs.Filed.{filed, filed_by, filed_by_act, filed_record, filed_under, held_packet, present_key, records_if, released_by, released_records}
 use Rattle.gateway_book.specs.FiledLaws.{along-append}
 use Rattle.gateway_book.specs.Once.{same_key}
 use Rattle.gateway_book.specs.declared.filing.FiledRecord.{FiledRecord}
 use Rattle.once_core.specs.Epochs.{StartsRise}
 use Rattle.once_core.specs.Happenings.{Letter, Sends}
-use Rattle.once_core.specs.OncePlaced.{kind_within, records_within}
+use Rattle.once_core.specs.FiledOnce.{kind_within, records_within}
 use Rattle.once_core.specs.Resting.{Rests, RestsBy}
 use Rattle.once_core.proofs.CountLemmas.{Counted, IsBacked, IsHere, backed_at, backed_stays, counted, fresh_here, held_here, is_here, same_here, starts_rise}
 use Rattle.once_core.proofs.EachLemmas.{by_each}
@@ -33,11 +33,11 @@ use Rattle.once_core.proofs.ListLemmas.{in_none}
 use Rattle.once_core.proofs.WaitingLemmas.{of_map}
 
 -- a record of a packet is filed in the packet's kind
-kept_kind : (k : PacketKey) (moment : ℕ) (octets : List ℕ) (r : FiledRecord) → Contains (records_of k moment octets) r
+kept_kind : (k : PacketKey) (moment : ℕ) (octets : List ℕ) (r : FiledRecord) → Contains (filed_under k moment octets) r
     → kind_within octets ≡ Some r.kind
 kept_kind k moment octets r is = by_form (packet_of octets) is
   where
-    by_form : (form : Option PacketForm) → Contains (records_in k moment form) r
+    by_form : (form : Option PacketForm) → Contains (records_if k moment form) r
         → option_map (λ (form : PacketForm). kind_of form.format form.version) form ≡ Some r.kind
     by_form None is = absurd (in_none r is)
     by_form (Some form) is =
@@ -82,7 +82,7 @@ module _ (letters : List Letter) (gateway : ℕ) (key : PacketKey) where
       by_packet (held_packet n.0 x h) refl
       (subst (λ rs. Contains rs filing) (ap (λ ys. released_by h moment n (once (λ y z. y == z) ys)) alone ∙ append-nil (released_records h moment n x)) kept)
     where
-      by_packet : (packet : Option (List ℕ)) → held_packet n.0 x h ≡ packet → Contains (option_map_or (records_of (present_key h n x) moment) packet []) filing
+      by_packet : (packet : Option (List ℕ)) → held_packet n.0 x h ≡ packet → Contains (option_map_or (filed_under (present_key h n x) moment) packet []) filing
           → IsBrought (h ++ entry moment who (act.Release n xs) ∷ []) filing
       by_packet None none kept = absurd (in_none filing kept)
       by_packet (Some octets) some kept =

@@ -17,7 +17,7 @@ use Rattle.gw_base.specs.declared.history.PacketKey.{PacketKey}
 use Rattle.gw_base.specs.declared.key_state.KeyState.{KeyState}
 use Rattle.gw_base.specs.declared.key_state.KeyState.TheVariants.{Fresh, Filed, Sealed, Held, Released, Cancelled}
 use Rattle.node_core.specs.declared.copy.Order.TheVariants as order
-use Rattle.gateway_book.specs.Filed.{filed, filed_by, filed_by_act, held_packet, packet_of_hold, present_key, records_of, released_by, released_records}
+use Rattle.gateway_book.specs.Filed.{filed, filed_by, filed_by_act, filed_under, held_packet, packet_of_hold, present_key, released_by, released_records}
 use Rattle.gateway_book.specs.FiledLaws.{along-append}
 use Rattle.gateway_book.specs.Once.{same_key, times_filed}
 use Rattle.once_core.specs.Epochs.{RisesBy, StartsRise, epoch_with}
@@ -200,14 +200,14 @@ module _ (letters : List Letter) (gateway : ℕ) (key : PacketKey) where
     released_other : (h : List HistoryEntry) (moment : ℕ) (n : NodeId) (x : ℕ) → named h n (x == key.number) ≡ false → times_filed key index (released_records h moment n x) ≡ 0
     released_other h moment n x isnt = by_held (held_packet n.0 x h)
       where
-        by_held : (packet : Option (List ℕ)) → times_filed key index (option_map_or (records_of (present_key h n x) moment) packet []) ≡ 0
+        by_held : (packet : Option (List ℕ)) → times_filed key index (option_map_or (filed_under (present_key h n x) moment) packet []) ≡ 0
         by_held None = refl
         by_held (Some octets) = none_of_packet key index (present_key h n x) moment octets (same_here h n x ∙ isnt)
 
     released_this : (h : List HistoryEntry) (moment : ℕ) (n : NodeId) (x : ℕ) (octets : List ℕ) → named h n (x == key.number) ≡ true → IsHere h n (x == key.number)
         → held_at h ≡ Some octets → times_filed key index (released_records h moment n x) ≡ within index octets
     released_this h moment n x octets named is held =
-        ap (λ (o : Option (List ℕ)). times_filed key index (option_map_or (records_of (present_key h n x) moment) o []))
+        ap (λ (o : Option (List ℕ)). times_filed key index (option_map_or (filed_under (present_key h n x) moment) o []))
         (ap (λ (y : ℕ). held_packet n.0 y h) (eqb-true x key.number is.test) ∙ held_here h n (x == key.number) is ∙ held)
         ∙ times_of_packet key index (present_key h n x) moment octets (same_here h n x ∙ named)
 

@@ -5,10 +5,10 @@ use Rattle.std.proofs.lemmas.List.Sums.{sum_by-append, sum_by-cons}
 use Rattle.std.specs.Option.{option_map_or}
 use Rattle.gtpp_message.specs.Packet.{PacketForm, packet_of}
 use Rattle.gw_base.specs.declared.history.PacketKey.{PacketKey}
-use Rattle.gateway_book.specs.Filed.{filed_record, records_from, records_in, records_of}
+use Rattle.gateway_book.specs.Filed.{filed_record, filed_under, records_from, records_if}
 use Rattle.gateway_book.specs.Once.{is_record_of, same_key, times_filed}
 use Rattle.gateway_book.specs.declared.filing.FiledRecord.{FiledRecord}
-use Rattle.once_core.specs.OncePlaced.{record_count, records_within}
+use Rattle.once_core.specs.FiledOnce.{record_count, records_within}
 use Rattle.once_core.proofs.ListLemmas.{in_cons, in_none}
 
 -- one, where the test passes
@@ -67,19 +67,19 @@ module _ (key : PacketKey) (index : ℕ) where
           let longer : (j + 1) + length records ≡ j + length (r ∷ records) = omega arith in
           omega (arith, here, more later, ap (λ (n : ℕ). one_if (nat_lt index n)) longer)
 
-  pub times_of_packet : (k : PacketKey) (moment : ℕ) (octets : List ℕ) → same_key k key ≡ true → times_filed key index (records_of k moment octets) ≡ within index octets
+  pub times_of_packet : (k : PacketKey) (moment : ℕ) (octets : List ℕ) → same_key k key ≡ true → times_filed key index (filed_under k moment octets) ≡ within index octets
   times_of_packet k moment octets same = by_form (packet_of octets)
     where
-      by_form : (form : Option PacketForm) → times_filed key index (records_in k moment form) ≡ one_if (nat_lt index (option_map_or (λ form. length form.records) form 0))
+      by_form : (form : Option PacketForm) → times_filed key index (records_if k moment form) ≡ one_if (nat_lt index (option_map_or (λ form. length form.records) form 0))
       by_form None = sym (ap one_if (le-ltb index 0 (omega arith)))
       by_form (Some form) =
           one_within k moment form.format form.version 0 form.records same (omega arith)
           ∙ ap (λ (n : ℕ). one_if (nat_lt index n)) (let e : 0 + length form.records ≡ length form.records = omega arith in e)
 
-  pub none_of_packet : (k : PacketKey) (moment : ℕ) (octets : List ℕ) → same_key k key ≡ false → times_filed key index (records_of k moment octets) ≡ 0
+  pub none_of_packet : (k : PacketKey) (moment : ℕ) (octets : List ℕ) → same_key k key ≡ false → times_filed key index (filed_under k moment octets) ≡ 0
   none_of_packet k moment octets apart = by_form (packet_of octets)
     where
-      by_form : (form : Option PacketForm) → times_filed key index (records_in k moment form) ≡ 0
+      by_form : (form : Option PacketForm) → times_filed key index (records_if k moment form) ≡ 0
       by_form None = refl
       by_form (Some form) = none_elsewhere k moment form.format form.version 0 form.records apart
 
@@ -100,11 +100,11 @@ numbered_records k moment format version j (octets ∷ records) r is = ⊎_elim
     (in_cons (filed_record k moment format version (j, octets)) r (records_from k moment format version (j + 1) records) is)
 
 -- a record of a packet is the one with its index
-pub record_within : (k : PacketKey) (moment : ℕ) (octets : List ℕ) (r : FiledRecord) → Contains (records_of k moment octets) r
+pub record_within : (k : PacketKey) (moment : ℕ) (octets : List ℕ) (r : FiledRecord) → Contains (filed_under k moment octets) r
     → (slice_get (records_within octets) r.index ≡ Some r.octets) × (r.key ≡ k)
 record_within k moment octets r is = by_form (packet_of octets) is
   where
-    by_form : (form : Option PacketForm) → Contains (records_in k moment form) r
+    by_form : (form : Option PacketForm) → Contains (records_if k moment form) r
         → (slice_get (option_map_or (λ form. form.records) form []) r.index ≡ Some r.octets) × (r.key ≡ k)
     by_form None is = absurd (in_none r is)
     by_form (Some form) is =

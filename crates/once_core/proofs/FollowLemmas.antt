@@ -14,7 +14,7 @@ use Rattle.node_core.specs.declared.copy.PacketCopy.{PacketCopy}
 use Rattle.node_core.specs.declared.port.Port.{Port}
 use Rattle.once_core.specs.Expired.{begins, starts_in}
 use Rattle.once_core.specs.Followed.{Followed, followed_before, following, packets_in}
-use Rattle.once_core.specs.Following.{HasCopyAt, MaySend}
+use Rattle.once_core.specs.Following.{AnyHasCopyAt, MaySend}
 use Rattle.once_core.specs.Happenings.{Asks, Answers, Else, Letter, Meaning, Orders, Sends, Tests}
 use Rattle.once_core.proofs.ListLemmas.{in_cons, in_head, in_none, in_tail}
 
@@ -73,11 +73,11 @@ command_on copy later order number answered grows is =
         (command.is_answered, e ∙ ap (λ (c : Command). Some c) same)
 
 record CopyOn (after : List PacketState) (gateway number packet : ℕ) (copy : PacketCopy) : Type 0 where
-  now : HasCopyAt after gateway number
+  now : AnyHasCopyAt after gateway number
   packet_is : now.packet.number ≡ packet
   grows : CopyGrows copy now.copy
 
-copy_on : (packets after : List PacketState) (gateway number : ℕ) → Extends PacketGrows packets after → (at : HasCopyAt packets gateway number) →
+copy_on : (packets after : List PacketState) (gateway number : ℕ) → Extends PacketGrows packets after → (at : AnyHasCopyAt packets gateway number) →
     CopyOn after gateway number at.packet.number at.copy
 copy_on packets after gateway number grows at =
     let packet = goes_on PacketGrows packets after grows at.packet at.kept in
@@ -108,7 +108,7 @@ may_send_on packets after values letter (Asks (Orders order named)) grows is =
 may_send_on packets after values letter (Answers cause) grows is = tt
 may_send_on packets after values letter Else grows is = tt
 
-copy_behind : (front packets : List PacketState) (gateway number : ℕ) → HasCopyAt packets gateway number → HasCopyAt (front ++ packets) gateway number
+copy_behind : (front packets : List PacketState) (gateway number : ℕ) → AnyHasCopyAt packets gateway number → AnyHasCopyAt (front ++ packets) gateway number
 copy_behind front packets gateway number at = record {
   packet = at.packet;
   kept = Contains-append_right front packets at.packet at.kept;

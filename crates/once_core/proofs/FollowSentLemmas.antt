@@ -25,7 +25,7 @@ use Rattle.node_core.specs.Value.{NodeValue, logged, node_of}
 use Rattle.once_core.specs.Deeds.{asked_by, deeds_of, letter_of, told_by}
 use Rattle.once_core.specs.Expired.{starts_in}
 use Rattle.once_core.specs.Followed.{followed_before, packets_in}
-use Rattle.once_core.specs.Following.{HasCopyAt, MaySend}
+use Rattle.once_core.specs.Following.{AnyHasCopyAt, MaySend}
 use Rattle.once_core.specs.Happenings as did
 use Rattle.once_core.specs.Happenings.{Asks, Letter, Orders, Sends, Tests}
 use Rattle.once_core.proofs.FollowLemmas.{Grows, began_same, halted_same, in_present, may_send_behind, may_send_on, packets_grow, starts_within, states_at}
@@ -41,7 +41,7 @@ module _ (node start : ℕ) (values : ℕ → List ℕ) (packets : List PacketSt
   alone : (asked letter : Letter) → Contains (asked ∷ []) letter → MaySendNow asked → MaySendNow letter
   alone asked letter there is = ⊎_elim (λ e. subst MaySendNow e is) (λ none. absurd (in_none letter none)) (in_cons asked letter [] there)
 
-  abbrev copy_of : (packet gateway number : ℕ) → HasCopyOf packets packet gateway number → HasCopyAt packets gateway number
+  abbrev copy_of : (packet gateway number : ℕ) → HasCopyOf packets packet gateway number → AnyHasCopyAt packets gateway number
   copy_of packet gateway number of = record {
     packet = of.state;
     kept = of.kept;

@@ -20,7 +20,7 @@ use Rattle.node_core.specs.declared.copy.PacketCopy.{PacketCopy}
 use Rattle.node_core.specs.declared.copy.Verdict.TheVariants as verdict
 use Rattle.node_core.specs.declared.port.Port.{Port}
 use Rattle.node_core.specs.declared.port.Port.TheVariants.{First, Second}
-use Rattle.once_core.specs.Following.{Follows, HasCopyAt, IsCommandSent, MaySend, entries_by, entries_of, heard_in}
+use Rattle.once_core.specs.Following.{AnyHasCopyAt, Follows, IsCommandSent, MaySend, entries_by, entries_of, heard_in}
 use Rattle.once_core.specs.Happenings.{Answers, Asks, Deed, Else, Heard, Letter, Meaning, Orders, Request, Scene, Sends, Sent, Tests, about}
 use Rattle.once_core.specs.Resting.{IsKnown, IsState, SceneHolds, Tells}
 use Rattle.once_core.specs.Scenes.{is_telling}
@@ -178,7 +178,7 @@ module _ (scene : Scene) (holds : SceneHolds scene) (node start : ℕ) (values :
       (record { kept = sent.at.kept; among = sent.at.among }) refl refl sent.at.gateway_is sent.sent same
 
   -- the copy at a gateway with a number is the one
-  pub the_copy : (packet : PacketState) (copy : PacketCopy) → IsCopyOf packets packet copy → (at : HasCopyAt packets copy.gateway copy.number) → (packet ≡ at.packet) × (copy ≡ at.copy)
+  pub the_copy : (packet : PacketState) (copy : PacketCopy) → IsCopyOf packets packet copy → (at : AnyHasCopyAt packets copy.gateway copy.number) → (packet ≡ at.packet) × (copy ≡ at.copy)
   the_copy packet copy is at =
       same_user copy.gateway copy.number packets (follows.roles copy.gateway copy.number) packet at.packet copy at.copy is (record { kept = at.kept; among = at.among })
       (own_use copy.gateway copy.number copy refl refl) (own_use copy.gateway copy.number at.copy at.gateway_is at.number_is)
@@ -243,7 +243,7 @@ module _ (scene : Scene) (holds : SceneHolds scene) (node start : ℕ) (values :
       → copy.command ≡ Some command → command.order ≡ order.Release → IsAnswered copy.gateway port command.number cause → IsState (firm copy.gateway) node start copy.number state.Released
   by_release_answer packet copy command cause port fulfilled is e release answer = by answer.request answer.may answer.tells
     where
-      mixed : HasCopyAt packets copy.gateway command.number → ⊥
+      mixed : AnyHasCopyAt packets copy.gateway command.number → ⊥
       mixed at =
           not_both copy.gateway command.number packets (follows.roles copy.gateway command.number) at.packet packet at.copy copy command
           (record { kept = at.kept; among = at.among }) is at.gateway_is at.number_is refl e refl

@@ -17,7 +17,7 @@ use Rattle.once_core.specs.Answers as out
 use Rattle.once_core.specs.Answers.{replying}
 use Rattle.once_core.specs.Epochs.{RisesBy, StartsRise}
 use Rattle.once_core.specs.Gateway.{Gateway, Moved, Rules, committing, cut, followed, giving_up, is_reached, readying, settling, still, with_book}
-use Rattle.once_core.specs.Growing.{GoesOn}
+use Rattle.once_core.specs.Growing.{GrowsTo}
 use Rattle.once_core.specs.Messages.{failing, has_type, is_response}
 use Rattle.once_core.specs.declared.message.Message.{Message}
 use Rattle.once_core.specs.declared.message.Waiting.{Waiting}
@@ -48,7 +48,7 @@ pub record Truly (place : ℕ) (bound : ℕ → ℕ) (g : Gateway) : Type 0 wher
 -- a move leaves it so, and what is sent tells of a start that is firm
 pub record TrulyMoved (place : ℕ) (bound : ℕ → ℕ) (g : Gateway) (moved : Moved) : Type 0 where
   pub truly : Truly place bound moved.gateway
-  pub grows : GoesOn g.book.firm moved.gateway.book.firm
+  pub grows : GrowsTo g.book.firm moved.gateway.book.firm
   pub from : (m : Message) → Contains moved.sends m → (m.to_gateway ≡ false) × (m.gateway ≡ place)
   pub tells : (m : Message) → Contains moved.sends m → tells_alive m ≡ true → m.start ≤ start_of (node_ip m.node) moved.gateway.book.firm
 
@@ -111,7 +111,7 @@ module _ (place : ℕ) (bound : ℕ → ℕ) where
     }
 
     -- a gateway that lost what waited
-    pub lost_truly : (book : BookValue) (is_down : Bool) (redirects : ℕ) (more : List HistoryEntry) → g.book.firm ++ g.book.rest ≡ (book.firm ++ book.rest) ++ more → GoesOn g.book.firm book.firm
+    pub lost_truly : (book : BookValue) (is_down : Bool) (redirects : ℕ) (more : List HistoryEntry) → g.book.firm ++ g.book.rest ≡ (book.firm ++ book.rest) ++ more → GrowsTo g.book.firm book.firm
         → TrulyMoved place bound g (still (record { book = book; waiting = []; is_down = is_down; redirects = redirects }))
     lost_truly book is_down redirects more is grows =
         let rises = subst StartsRise is truly.rises in

@@ -13,7 +13,7 @@ use Rattle.node_core.specs.Roles.{HasOneRole, uses}
 use Rattle.once_core.specs.Deeds.{deeds_of}
 use Rattle.once_core.specs.Expired.{starts_in}
 use Rattle.once_core.specs.Followed.{packets_in}
-use Rattle.once_core.specs.Following.{Follows, HasCopyAt, Knows, MaySend}
+use Rattle.once_core.specs.Following.{AnyHasCopyAt, Follows, Knows, MaySend}
 use Rattle.once_core.specs.Growing.{IsBetween}
 use Rattle.once_core.specs.Happenings.{Answers, Asks, Deed, Else, Happening, Letter, Meaning, Orders, Sends, Tests}
 use Rattle.once_core.specs.Scenes.{scene_after}
@@ -40,7 +40,7 @@ pub record Numbers : Type 0 where
 -- ---- what is sent is of a present packet
 
 module _ (log : List LogEntry) (running : runs log ≡ true) where
-  copy_present : (gateway number : ℕ) → HasCopyAt (packets_in (starts_in log) log) gateway number → HasCopyAt (packets_of log) gateway number
+  copy_present : (gateway number : ℕ) → AnyHasCopyAt (packets_in (starts_in log) log) gateway number → AnyHasCopyAt (packets_of log) gateway number
   copy_present gateway number at = record {
     packet = at.packet;
     kept = present_packet log at.packet running at.kept;

@@ -12,8 +12,8 @@ use Rattle.gw_base.specs.declared.history.HistoryEntry.{HistoryEntry}
 use Rattle.gateway_book.specs.Answer.{Given}
 use Rattle.gateway_book.specs.Answered.{act_given, entry_by, with_act}
 use Rattle.node_core.specs.declared.copy.Order.TheVariants as order
-use Rattle.once_core.specs.Happenings.{Adds, Answers, Asks, Closes, Comes, Else, Firms, Happening, Hears, Keeps, Letter, Meaning, Note, Notes, Opens, Orders, Post, Request, Scene, Sends, Starts, Tests, Ticks, Waiting, about, act_noted, cause_of, given, history, is_timely, reply}
-use Rattle.once_core.specs.Resting.{IsKnown, IsSent, IsTold, PostHolds, Rests, RestsBy, SceneHolds, Tells, Waits}
+use Rattle.once_core.specs.Happenings.{Adds, Answers, Asks, Closes, Comes, Else, Firms, Happening, Hears, Keeps, Letter, Meaning, Note, Notes, Opens, Orders, Post, Request, Scene, Sends, Starts, Tests, Ticks, WaitingLetter, about, act_noted, cause_of, given, history, is_timely, reply}
+use Rattle.once_core.specs.Resting.{IsBorneOut, IsKnown, IsSent, PostHolds, Rests, RestsBy, SceneHolds, Tells, Waits}
 use Rattle.once_core.specs.Scenes.{Settled, after_coming, after_hearing, answering, at, coming, firming, happened, happened_all, is_answer, is_idle, is_request, keeping, nothing_yet, noting, noting_if, opening, scene_after, waiting_for, with_one}
 use Rattle.once_core.specs.Happenings as happens
 use Rattle.once_core.proofs.AnswerLemmas.{IsSound, answer_is_sound}
@@ -32,7 +32,7 @@ record Moves (scene : Scene) (gateway : ℕ) (letters sends : List Letter) (post
   holds : PostHolds letters gateway post
   more : List HistoryEntry
   firm : post.firm ≡ (scene.posts gateway).firm ++ more
-  sent : (l : Letter) → Contains sends l → (l.gateway ≡ gateway) × (is_answer l.says ≡ true) × IsTold letters post.firm l l.says
+  sent : (l : Letter) → Contains sends l → (l.gateway ≡ gateway) × (is_answer l.says ≡ true) × IsBorneOut letters post.firm l l.says
 
 not_a_request : (deeds : ℕ → List happens.Deed) (l : Letter) (says : Meaning) → is_answer says ≡ true → IsSent deeds l says
 not_a_request deeds l (Asks request) e = absurd (false≢true e)
@@ -55,19 +55,19 @@ moved scene gateway letters sends post holds moves = record {
     firm_rests : Rests letters gateway post.firm
     firm_rests = each_front (λ before e. RestsBy letters gateway before e.act) [] post.firm post.rest moves.holds.rests
 
-    old_told : (l : Letter) → IsTold letters (scene.posts l.gateway).firm l l.says → (b : Bool) → (l.gateway == gateway) ≡ b
-        → IsTold letters (if b then post else scene.posts l.gateway).firm l l.says
+    old_told : (l : Letter) → IsBorneOut letters (scene.posts l.gateway).firm l l.says → (b : Bool) → (l.gateway == gateway) ≡ b
+        → IsBorneOut letters (if b then post else scene.posts l.gateway).firm l l.says
     old_told l told true e =
-        let here : IsTold letters (scene.posts gateway).firm l l.says = subst (λ (k : ℕ). IsTold letters (scene.posts k).firm l l.says) (eqb-true l.gateway gateway e) told in
+        let here : IsBorneOut letters (scene.posts gateway).firm l l.says = subst (λ (k : ℕ). IsBorneOut letters (scene.posts k).firm l l.says) (eqb-true l.gateway gateway e) told in
         let later = told_later letters gateway (scene.posts gateway).firm moves.more l l.says (subst (Rests letters gateway) moves.firm firm_rests) here in
-        subst (λ (h : List HistoryEntry). IsTold letters h l l.says) (sym moves.firm) later
+        subst (λ (h : List HistoryEntry). IsBorneOut letters h l l.says) (sym moves.firm) later
     old_told l told false e = told
 
-    new_told : (l : Letter) → Contains sends l → IsTold letters (at gateway post scene.posts l.gateway).firm l l.says
+    new_told : (l : Letter) → Contains sends l → IsBorneOut letters (at gateway post scene.posts l.gateway).firm l l.says
     new_told l new =
         let is = moves.sent l new in
         let same : at gateway post scene.posts l.gateway ≡ post = ap (at gateway post scene.posts) is.0 ∙ at_same gateway post scene.posts in
-        subst (λ (p : Post). IsTold letters p.firm l l.says) (sym same) is.2
+        subst (λ (p : Post). IsBorneOut letters p.firm l l.says) (sym same) is.2
 
 -- one that sends nothing
 quietly : (scene : Scene) (gateway : ℕ) (post : Post) → SceneHolds scene → PostHolds scene.letters gateway post → (more : List HistoryEntry)
@@ -91,7 +91,7 @@ noted letters gateway post now who a holds one =
           record {
             gateway_is = is.gateway_is;
             answers = is.answers;
-            told = subst (λ (h : List HistoryEntry). IsTold letters h w.letter w.letter.says) longer (told_later letters gateway (history post) (e ∷ []) w.letter w.letter.says rests is.told);
+            told = subst (λ (h : List HistoryEntry). IsBorneOut letters h w.letter w.letter.says) longer (told_later letters gateway (history post) (e ∷ []) w.letter w.letter.says rests is.told);
           };
     }
 
@@ -118,7 +118,7 @@ firmed scene gateway holds = record {
         record {
           gateway_is = is.gateway_is;
           answers = is.answers;
-          told = subst (λ (h : List HistoryEntry). IsTold letters h w.letter w.letter.says) (sym (append-nil (history post))) is.told;
+          told = subst (λ (h : List HistoryEntry). IsBorneOut letters h w.letter w.letter.says) (sym (append-nil (history post))) is.told;
         };
   };
   more = post.rest;
@@ -126,7 +126,7 @@ firmed scene gateway holds = record {
   sent = λ l new.
       let there = mapped (filter (λ v. nat_le v.front (length (history post))) post.waiting) l new in
       let is = waits_on scene.letters letters grows gateway (history post) there.0.letter (before.waits there.0 (filtered (λ v. nat_le v.front (length (history post))) post.waiting there.0 there.1)) in
-      subst (λ (m : Letter). (m.gateway ≡ gateway) × (is_answer m.says ≡ true) × IsTold letters (history post) m m.says) there.2 (is.gateway_is, is.answers, is.told);
+      subst (λ (m : Letter). (m.gateway ≡ gateway) × (is_answer m.says ≡ true) × IsBorneOut letters (history post) m m.says) there.2 (is.gateway_is, is.answers, is.told);
 }
   where
     post : Post
@@ -160,7 +160,7 @@ tells_reply h letter answer (Orders order.Cancel named) cause told = tt
 
 -- an answer waits or is sent
 waited : (scene : Scene) (l : Letter) (post : Post) → SceneHolds scene → PostHolds scene.letters l.gateway post → (more : List HistoryEntry)
-    → post.firm ≡ (scene.posts l.gateway).firm ++ more → is_answer l.says ≡ true → IsTold scene.letters (history post) l l.says
+    → post.firm ≡ (scene.posts l.gateway).firm ++ more → is_answer l.says ≡ true → IsBorneOut scene.letters (history post) l l.says
     → SceneHolds (record scene { posts = at l.gateway (waiting_for l post).post scene.posts; letters = scene.letters ++ (waiting_for l post).sends })
 waited scene l post holds is more firm answers told = by (nat_le (length (history post)) (length post.firm)) refl
   where
@@ -185,8 +185,8 @@ waited scene l post holds is more firm answers told = by (nat_le (length (histor
           firm = firm;
           sent = λ m new. ⊎_elim
               (λ old. absurd (in_none m old))
-              (λ same. subst (λ (x : Letter). (x.gateway ≡ l.gateway) × (is_answer x.says ≡ true) × IsTold (scene.letters ++ l ∷ []) post.firm x x.says) same
-              (refl, answers, told_on scene.letters (scene.letters ++ l ∷ []) grows post.firm l l.says (subst (λ (h : List HistoryEntry). IsTold scene.letters h l l.says) all told)))
+              (λ same. subst (λ (x : Letter). (x.gateway ≡ l.gateway) × (is_answer x.says ≡ true) × IsBorneOut (scene.letters ++ l ∷ []) post.firm x x.says) same
+              (refl, answers, told_on scene.letters (scene.letters ++ l ∷ []) grows post.firm l l.says (subst (λ (h : List HistoryEntry). IsBorneOut scene.letters h l l.says) all told)))
               (Contains-push_cases [] l m new);
         })
     by false e =
@@ -199,7 +199,7 @@ waited scene l post holds is more firm answers told = by (nat_le (length (histor
             rests = later.rests;
             waits = λ w kept. ⊎_elim
                 (λ old. later.waits w old)
-                (λ same. subst (λ (x : Waiting). Waits (scene.letters ++ []) l.gateway (history post) x.letter) same
+                (λ same. subst (λ (x : WaitingLetter). Waits (scene.letters ++ []) l.gateway (history post) x.letter) same
                 (record { gateway_is = refl; answers = answers; told = told_on scene.letters (scene.letters ++ []) grows (history post) l l.says told }))
                 (Contains-push_cases post.waiting (record { front = length (history post); letter = l }) w kept);
           };

@@ -10,8 +10,8 @@ use Rattle.node_core.specs.Nearness.{HasCopy, HasOpenCopy}
 use Rattle.node_core.specs.Packets.{PacketState, is_done}
 use Rattle.node_core.specs.declared.port.Port.{Port}
 use Rattle.once_core.specs.Epochs.{epoch_with, key_in}
-use Rattle.once_core.specs.Following.{Follows, HasCopyAt, MaySend}
-use Rattle.once_core.specs.Growing.{GoesOn}
+use Rattle.once_core.specs.Following.{AnyHasCopyAt, Follows, MaySend}
+use Rattle.once_core.specs.Growing.{GrowsTo}
 use Rattle.once_core.specs.Happenings.{Asks, Orders, Request, Scene, Sends, Tests, about, history}
 use Rattle.once_core.specs.Resting.{IsKnown, Rests, RestsBy, SceneHolds}
 use Rattle.once_core.proofs.CountLemmas.{starts_rise}
@@ -60,7 +60,7 @@ copy_of_open packets gateway number is = record { packet = is.packet; copy = is.
 
 module _ (law : NearestIsTheOne) (scene : Scene) (holds : SceneHolds scene) (node start : ℕ) (values : ℕ → List ℕ) (packets : List PacketState)
     (follows : Follows (scene.deeds node) start values packets) (gateway next : ℕ) (near : AreNear packets gateway next)
-    (h : List HistoryEntry) (front : GoesOn (scene.posts gateway).firm h) (back : GoesOn h (history (scene.posts gateway))) (present : start_of node h ≡ start) where
+    (h : List HistoryEntry) (front : GrowsTo (scene.posts gateway).firm h) (back : GrowsTo h (history (scene.posts gateway))) (present : start_of node h ≡ start) where
   rests : Rests scene.letters gateway h
   rests = each_front (λ before e. RestsBy scene.letters gateway before e.act) [] h back.more (subst (Rests scene.letters gateway) back.is (holds.posts gateway).rests)
 
@@ -95,7 +95,7 @@ module _ (law : NearestIsTheOne) (scene : Scene) (holds : SceneHolds scene) (nod
       (knows.may_send scene holds node start values packets follows gateway asked.asked.port asked.own asked.request
       (subst (λ (s : ℕ). Contains scene.letters (record { node = node; start = s; gateway = gateway; port = asked.asked.port; number = asked.own; says = Asks asked.request })) present asked.asked.kept))
     where
-      of : (number : ℕ) → number ≡ t → HasCopyAt packets gateway number → HasCopy packets gateway t
+      of : (number : ℕ) → number ≡ t → AnyHasCopyAt packets gateway number → HasCopy packets gateway t
       of number same at = record { packet = at.packet; copy = at.copy; kept = at.kept; sent = at.among; gateway_is = at.gateway_is; number_is = at.number_is ∙ same }
 
       by : (request : Request) (own : ℕ) (port : Port) → about request own ≡ t → MaySend packets values (record { node = node; start = start; gateway = gateway; port = port; number = own; says = Asks request }) (Asks request)

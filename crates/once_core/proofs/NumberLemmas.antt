@@ -12,7 +12,7 @@ use Rattle.node_core.specs.declared.port.Port.{Port}
 use Rattle.node_core.specs.declared.sending.Sending.{Sending}
 use Rattle.once_core.specs.Expired.{starts_in}
 use Rattle.once_core.specs.Followed.{Followed, all_followed, followed_before, following, packets_in}
-use Rattle.once_core.specs.Growing.{GoesOn}
+use Rattle.once_core.specs.Growing.{GrowsTo}
 use Rattle.once_core.specs.Shown.{forms_ever, values_of}
 use Rattle.once_core.proofs.GrowingLemmas.{on, on_on, on_with}
 use Rattle.once_core.proofs.ListLemmas.{filtered, in_cons, in_head, in_none, in_tail}
@@ -235,7 +235,7 @@ present_packet log packet running is =
 
 -- ---- what was submitted stays
 
-forms_more : (entry : LogEntry) (log : List LogEntry) → GoesOn (forms_ever log) (forms_ever (entry ∷ log))
+forms_more : (entry : LogEntry) (log : List LogEntry) → GrowsTo (forms_ever log) (forms_ever (entry ∷ log))
 forms_more Began log = on (forms_ever log)
 forms_more Halted log = on (forms_ever log)
 forms_more (Submitted form) log = on_with (forms_ever log) (form ∷ [])
@@ -243,7 +243,7 @@ forms_more (Appointed gateway) log = on (forms_ever log)
 forms_more (Ticked sendings) log = on (forms_ever log)
 forms_more (Heard port gateway saying) log = on (forms_ever log)
 
-pub forms_grow : (entries log : List LogEntry) → GoesOn (forms_ever log) (forms_ever (logged entries log))
+pub forms_grow : (entries log : List LogEntry) → GrowsTo (forms_ever log) (forms_ever (logged entries log))
 forms_grow [] log = on (forms_ever log)
 forms_grow (entry ∷ entries) log = on_on (forms_ever log) (forms_ever (entry ∷ log)) (forms_ever (logged entries (entry ∷ log))) (forms_more entry log) (forms_grow entries (entry ∷ log))
 
@@ -254,7 +254,7 @@ pub record Values (values : ℕ → List ℕ) (forms : List PacketForm) : Type 0
 pub values_are : (log : List LogEntry) → Values (values_of log) (forms_ever log)
 values_are log = record { each = λ number form there. ap (λ (o : Option PacketForm). option_map_or value_octets o []) there }
 
-pub values_before : (values : ℕ → List ℕ) (forms more : List PacketForm) → GoesOn forms more → Values values more → Values values forms
+pub values_before : (values : ℕ → List ℕ) (forms more : List PacketForm) → GrowsTo forms more → Values values more → Values values forms
 values_before values forms more goes are = record {
   each = λ number form there. are.each number form (subst (λ (fs : List PacketForm). slice_get fs (number - 1) ≡ Some form) (sym goes.is) (get_more forms goes.more (number - 1) form there));
 }

@@ -19,9 +19,9 @@ use Rattle.node_core.specs.declared.copy.PacketCopy.{PacketCopy}
 use Rattle.node_core.specs.declared.copy.Verdict.{Verdict}
 use Rattle.node_core.specs.declared.copy.Verdict.TheVariants as verdict
 use Rattle.once_core.specs.Epochs.{epoch_with, key_in, state_with, times_with}
-use Rattle.once_core.specs.Following.{Follows, HasCopyAt, MaySend}
+use Rattle.once_core.specs.FiledOnce.{IsFiledUnder, IsOnce, filing_count, is_withheld, kind_within, record_count, records_within}
+use Rattle.once_core.specs.Following.{AnyHasCopyAt, Follows, MaySend}
 use Rattle.once_core.specs.Happenings.{Asks, Happening, Orders, Request, Scene, Sends}
-use Rattle.once_core.specs.OncePlaced.{IsFiledUnder, IsOnce, is_rejected, kind_within, places_of, record_count, records_within}
 use Rattle.gateway_book.specs.declared.filing.FiledRecord.{FiledRecord}
 use Rattle.once_core.proofs.ContentLemmas.{brought}
 use Rattle.once_core.specs.Resting.{IsAsked, IsState, Rests, RestsBy, SceneHolds}
@@ -70,7 +70,7 @@ module _ (scene : Scene) (holds : SceneHolds scene) (node start : ℕ) (values :
       (ap (λ (c : PacketCopy). c.is_plain) same.1 ∙ plain_of plain may, ap (λ (p : PacketState). values p.number) same.0 ∙ packet_of plain may)
     where
       at_of : (b : Bool) → MaySend packets values (record { node = node; start = start; gateway = copy.gateway; port = asked.port; number = copy.number; says = Asks (Sends b octets) }) (Asks (Sends b octets))
-          → HasCopyAt packets copy.gateway copy.number
+          → AnyHasCopyAt packets copy.gateway copy.number
       at_of b may = may.1.at
 
       plain_of : (b : Bool) (may : MaySend packets values (record { node = node; start = start; gateway = copy.gateway; port = asked.port; number = copy.number; says = Asks (Sends b octets) }) (Asks (Sends b octets)))
@@ -220,7 +220,7 @@ module _ (scene : Scene) (holds : SceneHolds scene) (node start : ℕ) (values :
       (stands packet b index is_b))
       (stands packet a index is_a)
 
-  at_most : (packet : PacketState) → Contains packets packet → (index : ℕ) → places_of firm_of node start packet.copies index ≤ 1
+  at_most : (packet : PacketState) → Contains packets packet → (index : ℕ) → filing_count firm_of node start packet.copies index ≤ 1
   at_most packet kept index =
       sum_one (λ (copy : PacketCopy). placed copy index) packet.copies
       (λ copy among. each_once packet copy index (record { kept = kept; among = among }))
@@ -261,7 +261,7 @@ module _ (scene : Scene) (holds : SceneHolds scene) (node start : ℕ) (values :
           (λ r. by_released (subst (Counted scene.letters copy.gateway (key_in node copy.number at.epoch) index (firm_of copy.gateway)) (e ∙ r) so_far))
           which
 
-  resolved_once : (packet : PacketState) (copy : PacketCopy) (index : ℕ) → IsCopyOf packets packet copy → placed copy index ≡ 1 → places_of firm_of node start packet.copies index ≡ 1
+  resolved_once : (packet : PacketState) (copy : PacketCopy) (index : ℕ) → IsCopyOf packets packet copy → placed copy index ≡ 1 → filing_count firm_of node start packet.copies index ≡ 1
   resolved_once packet copy index is one =
       let has = sum_has (λ (c : PacketCopy). placed c index) packet.copies copy is.among in
       let most = at_most packet is.kept index in
@@ -284,16 +284,16 @@ module _ (scene : Scene) (holds : SceneHolds scene) (node start : ℕ) (values :
       by false is e later = let there = later e in (there.0, in_tail first there.0 copies there.1, there.2)
 
   resolved : (packet : PacketState) → Contains packets packet → is_resolved packet.copies ≡ true → (index : ℕ) → index < record_count (values packet.number)
-      → places_of firm_of node start packet.copies index ≡ 1
+      → filing_count firm_of node start packet.copies index ≡ 1
   resolved packet kept is index inside = by packet.copies refl is
     where
-      by_release : (copy : PacketCopy) → Contains packet.copies copy → is_released copy ≡ true → places_of firm_of node start packet.copies index ≡ 1
+      by_release : (copy : PacketCopy) → Contains packet.copies copy → is_released copy ≡ true → filing_count firm_of node start packet.copies index ≡ 1
       by_release copy among released =
           let of : IsCopyOf packets packet copy = record { kept = kept; among = among } in
           resolved_once packet copy index of
           (placed_by_state packet copy index state.Released of (is_released_there scene holds node start values packets follows packet copy of released) (inr refl) inside)
 
-      by_plain : (plain : PacketCopy) (duplicates : List PacketCopy) → packet.copies ≡ plain ∷ duplicates → plain.verdict ≡ verdict.Filed → places_of firm_of node start packet.copies index ≡ 1
+      by_plain : (plain : PacketCopy) (duplicates : List PacketCopy) → packet.copies ≡ plain ∷ duplicates → plain.verdict ≡ verdict.Filed → filing_count firm_of node start packet.copies index ≡ 1
       by_plain plain duplicates whole filed_plain =
           let of : IsCopyOf packets packet plain = record { kept = kept; among = subst (λ cs. Contains cs plain) (sym whole) (in_head plain duplicates) } in
           resolved_once packet plain index of
@@ -303,22 +303,22 @@ module _ (scene : Scene) (holds : SceneHolds scene) (node start : ℕ) (values :
           (inl refl) inside)
 
       by_either : (plain : PacketCopy) (duplicates : List PacketCopy) → packet.copies ≡ plain ∷ duplicates → (b : Bool) → is_filed plain.verdict ≡ b
-          → (b || list_any is_released duplicates) ≡ true → places_of firm_of node start packet.copies index ≡ 1
+          → (b || list_any is_released duplicates) ≡ true → filing_count firm_of node start packet.copies index ≡ 1
       by_either plain duplicates whole true filed_plain e = by_plain plain duplicates whole (filed_verdict plain.verdict filed_plain)
       by_either plain duplicates whole false unfiled e =
           let there = any_released duplicates e in
           by_release there.0 (subst (λ cs. Contains cs there.0) (sym whole) (in_tail plain there.0 duplicates there.1)) there.2
 
-      by : (copies : List PacketCopy) → packet.copies ≡ copies → is_resolved copies ≡ true → places_of firm_of node start packet.copies index ≡ 1
+      by : (copies : List PacketCopy) → packet.copies ≡ copies → is_resolved copies ≡ true → filing_count firm_of node start packet.copies index ≡ 1
       by [] whole e = absurd (false≢true e)
       by (plain ∷ duplicates) whole e = by_either plain duplicates whole (is_filed plain.verdict) refl e
 
   -- ---- a copy that is held or cancelled
 
-  rejected : (copy : PacketCopy) → is_rejected (state_with node start copy.number (firm_of copy.gateway)) ≡ true → (index : ℕ) → placed copy index ≡ 0
-  rejected copy is index = by (epoch_with node start (firm_of copy.gateway)) refl is
+  withheld : (copy : PacketCopy) → is_withheld (state_with node start copy.number (firm_of copy.gateway)) ≡ true → (index : ℕ) → placed copy index ≡ 0
+  withheld copy is index = by (epoch_with node start (firm_of copy.gateway)) refl is
     where
-      by_state : (epoch : ℕ) (s : KeyState) → is_rejected s ≡ true
+      by_state : (epoch : ℕ) (s : KeyState) → is_withheld s ≡ true
           → Counted scene.letters copy.gateway (key_in node copy.number epoch) index (firm_of copy.gateway) s
           → times_filed (key_in node copy.number epoch) index (filed (firm_of copy.gateway)) ≡ 0
       by_state epoch state.Held e so_far = so_far.1
@@ -329,7 +329,7 @@ module _ (scene : Scene) (holds : SceneHolds scene) (node start : ℕ) (values :
       by_state epoch state.Released e so_far = absurd (false≢true e)
 
       by : (there : Option ℕ) → epoch_with node start (firm_of copy.gateway) ≡ there
-          → is_rejected (option_map_or (λ epoch. state_of (key_in node copy.number epoch) (firm_of copy.gateway)) there state.Fresh) ≡ true → placed copy index ≡ 0
+          → is_withheld (option_map_or (λ epoch. state_of (key_in node copy.number epoch) (firm_of copy.gateway)) there state.Fresh) ≡ true → placed copy index ≡ 0
       by None none e = absurd (false≢true e)
       by (Some epoch) begun e =
           ap (λ (o : Option ℕ). option_map_or (λ k. times_filed (key_in node copy.number k) index (filed (firm_of copy.gateway))) o 0) begun
@@ -359,7 +359,7 @@ module _ (scene : Scene) (holds : SceneHolds scene) (node start : ℕ) (values :
   is_once packet kept = record {
     resolved = resolved packet kept;
     at_most = at_most packet kept;
-    rejected = λ k d lt. rejected (get_or packet.copies k d);
+    withheld = λ k d lt. withheld (get_or packet.copies k d);
     content = λ k d lt filing under.
         content packet (get_or packet.copies k d) filing (record { kept = kept; among = Contains-get_or packet.copies k d lt }) under;
     kind = λ k d lt filing under.
@@ -372,8 +372,8 @@ pub each_of_scene : (scene : Scene) (node start : ℕ) (values : ℕ → List �
 each_of_scene scene node start values packets holds follows =
     λ k d lt. is_once scene holds node start values packets follows (get_or packets k d) (Contains-get_or packets k d lt)
 
-pub each_is_placed_once : (happenings : List Happening) (node start : ℕ) (values : ℕ → List ℕ) (packets : List PacketState)
+pub each_is_filed_once : (happenings : List Happening) (node start : ℕ) (values : ℕ → List ℕ) (packets : List PacketState)
     → Follows ((scene_after happenings).deeds node) start values packets
     → All (λ packet. IsOnce (λ gateway. ((scene_after happenings).posts gateway).firm) node start (values packet.number) packet) packets
-each_is_placed_once happenings node start values packets follows =
+each_is_filed_once happenings node start values packets follows =
     each_of_scene (scene_after happenings) node start values packets (holds_always happenings) follows

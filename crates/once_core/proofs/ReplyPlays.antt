@@ -98,7 +98,7 @@ module _ (g : Gateway) (m : Message) (rightly : Rightly g) where
       after = scene;
       is = refl;
       goes = same_at gateway scene;
-      post = stands ∙ ap (λ (ws : List did.Waiting). record { firm = g.book.firm; rest = g.book.rest; waiting = ws }) (sym (by (is_reached g.book (world.waiting_for g m)) refl));
+      post = stands ∙ ap (λ (ws : List did.WaitingLetter). record { firm = g.book.firm; rest = g.book.rest; waiting = ws }) (sym (by (is_reached g.book (world.waiting_for g m)) refl));
       sends = λ other is speaking. absurd (false≢true (sym silent ∙ ap speaks (only_one other is) ∙ speaking));
       said = settled_said (record g { waiting = g.waiting ++ world.waiting_for g m ∷ [] }) (waiting_said from said);
       rightly = settled_rightly (record g { waiting = g.waiting ++ world.waiting_for g m ∷ [] }) sound (waiting_said from said);
@@ -115,7 +115,7 @@ module _ (g : Gateway) (m : Message) (rightly : Rightly g) where
             → waiting_letters (filter (λ w. not (is_reached g.book w)) (g.waiting ++ world.waiting_for g m ∷ [])) ≡ waiting_letters g.waiting
         by b e =
             ap waiting_letters (kept b e) ∙ letters_append g.waiting (cond b [] (world.waiting_for g m ∷ []))
-            ∙ ap (λ (ws : List did.Waiting). waiting_letters g.waiting ++ ws) (left b) ∙ append-nil (waiting_letters g.waiting)
+            ∙ ap (λ (ws : List did.WaitingLetter). waiting_letters g.waiting ++ ws) (left b) ∙ append-nil (waiting_letters g.waiting)
 
     -- an answer to a request
     pub answer_plays : (later : List Happening) → happened_all scene later ≡ with_settled gateway (waiting_for (letter_of m) (post_of g)) scene
@@ -155,11 +155,11 @@ module _ (g : Gateway) (m : Message) (rightly : Rightly g) where
             ∙ ap (λ (h : List HistoryEntry). record { front = length h; letter = letter_of m } ∷ []) history_is
 
         post_by : (b : Bool) → nat_le (length (g.book.firm ++ g.book.rest)) (length g.book.firm) ≡ b → (settled b).post ≡ post_of (replying g m).gateway
-        post_by true e = ap (λ (ws : List did.Waiting). record { firm = g.book.firm; rest = g.book.rest; waiting = ws })
+        post_by true e = ap (λ (ws : List did.WaitingLetter). record { firm = g.book.firm; rest = g.book.rest; waiting = ws })
             (sym (ap waiting_letters (kept true (reached_is true e) ∙ append-nil g.waiting)))
-        post_by false e = ap (λ (ws : List did.Waiting). record { firm = g.book.firm; rest = g.book.rest; waiting = ws })
+        post_by false e = ap (λ (ws : List did.WaitingLetter). record { firm = g.book.firm; rest = g.book.rest; waiting = ws })
             (sym (ap waiting_letters (kept false (reached_is false e)) ∙ letters_append g.waiting (world.waiting_for g m ∷ [])
-            ∙ ap (λ (ws : List did.Waiting). waiting_letters g.waiting ++ ws) the_last))
+            ∙ ap (λ (ws : List did.WaitingLetter). waiting_letters g.waiting ++ ws) the_last))
 
         sent_by : (b : Bool) → nat_le (length (g.book.firm ++ g.book.rest)) (length g.book.firm) ≡ b → Contains (replying g m).sends m → Contains (settled b).sends (letter_of m)
         sent_by true e there = (0, omega arith, refl)

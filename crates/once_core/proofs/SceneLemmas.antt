@@ -3,15 +3,15 @@ use Rattle.std.proofs.Common.{◌≡◌, ◌⊎◌, inl, inr, ⊎_elim, ℕ, ◌
 use Rattle.std.proofs.lemmas.Bool.{eqb-true, eq-eqb, false≢true}
 use Rattle.std.proofs.lemmas.List.Elements.{Contains-append_left, Contains-push, Contains-push_cases}
 use Rattle.gw_base.specs.declared.history.HistoryEntry.{HistoryEntry}
-use Rattle.once_core.specs.Happenings.{Answers, Asks, Deed, Else, Heard, Letter, Meaning, Post, Scene, Sent, Waiting, about, history}
-use Rattle.once_core.specs.Resting.{IsAnswerTo, IsSent, IsTold, PostHolds, Rests, SceneHolds, Waits}
+use Rattle.once_core.specs.Happenings.{Answers, Asks, Deed, Else, Heard, Letter, Meaning, Post, Scene, Sent, WaitingLetter, about, history}
+use Rattle.once_core.specs.Resting.{IsAnswerTo, IsBorneOut, IsSent, PostHolds, Rests, SceneHolds, Waits}
 use Rattle.once_core.specs.Scenes.{after_adding, after_hearing, after_sending, at, is_idle, is_request}
 use Rattle.once_core.proofs.ForwardLemmas.{Grows, known_on, rests_on, tells_on}
 use Rattle.once_core.proofs.ListLemmas.{in_cons, in_head, in_none, in_tail}
 
 -- ---- lists
 
-pub mapped : (ws : List Waiting) (l : Letter) → Contains (map (λ w. w.letter) ws) l → (w : Waiting) × Contains ws w × (w.letter ≡ l)
+pub mapped : (ws : List WaitingLetter) (l : Letter) → Contains (map (λ w. w.letter) ws) l → (w : WaitingLetter) × Contains ws w × (w.letter ≡ l)
 mapped [] l is = absurd (in_none l is)
 mapped (w ∷ ws) l is = ⊎_elim
     (λ e. (w, in_head w ws, e))
@@ -27,13 +27,13 @@ answer_on : (letters more : List Letter) → Grows letters more → (h : List Hi
     → IsAnswerTo letters h letter cause → IsAnswerTo more h letter cause
 answer_on letters more grows h letter cause is = record { request = is.request; asked = grows (record letter { says = Asks is.request }) is.asked; tells = is.tells; known = is.known }
 
-pub told_on : (letters more : List Letter) → Grows letters more → (h : List HistoryEntry) (letter : Letter) (says : Meaning) → IsTold letters h letter says → IsTold more h letter says
+pub told_on : (letters more : List Letter) → Grows letters more → (h : List HistoryEntry) (letter : Letter) (says : Meaning) → IsBorneOut letters h letter says → IsBorneOut more h letter says
 told_on letters more grows h letter (Asks request) told = tt
 told_on letters more grows h letter (Answers cause) told = λ telling. answer_on letters more grows h letter cause (told telling)
 told_on letters more grows h letter Else told = tt
 
 pub told_later : (letters : List Letter) (gateway : ℕ) (h g : List HistoryEntry) (letter : Letter) (says : Meaning) → Rests letters gateway (h ++ g)
-    → IsTold letters h letter says → IsTold letters (h ++ g) letter says
+    → IsBorneOut letters h letter says → IsBorneOut letters (h ++ g) letter says
 told_later letters gateway h g letter (Asks request) rests told = tt
 told_later letters gateway h g letter (Answers cause) rests told = λ telling.
     let is = told telling in
@@ -61,11 +61,11 @@ with_more : (letters : List Letter) (letter : Letter) → Grows letters (letters
 with_more letters letter l is = Contains-append_left letters (letter ∷ []) l is
 
 -- what is told, where a message comes to the others
-told_more : (scene : Scene) (letter : Letter) → SceneHolds scene → IsTold (scene.letters ++ letter ∷ []) (scene.posts letter.gateway).firm letter letter.says
-    → (l : Letter) → Contains (scene.letters ++ letter ∷ []) l → IsTold (scene.letters ++ letter ∷ []) (scene.posts l.gateway).firm l l.says
+told_more : (scene : Scene) (letter : Letter) → SceneHolds scene → IsBorneOut (scene.letters ++ letter ∷ []) (scene.posts letter.gateway).firm letter letter.says
+    → (l : Letter) → Contains (scene.letters ++ letter ∷ []) l → IsBorneOut (scene.letters ++ letter ∷ []) (scene.posts l.gateway).firm l l.says
 told_more scene letter holds new l is = ⊎_elim
     (λ old. told_on scene.letters (scene.letters ++ letter ∷ []) (with_more scene.letters letter) (scene.posts l.gateway).firm l l.says (holds.told l old))
-    (λ e. subst (λ (m : Letter). IsTold (scene.letters ++ letter ∷ []) (scene.posts m.gateway).firm m m.says) e new)
+    (λ e. subst (λ (m : Letter). IsBorneOut (scene.letters ++ letter ∷ []) (scene.posts m.gateway).firm m m.says) e new)
     (Contains-push_cases scene.letters letter l is)
 
 -- a node's list with one deed more has those before
@@ -107,7 +107,7 @@ sending scene letter true is holds = record {
       (deeds_back scene.deeds letter.node (Sent letter) node (Heard l) kept);
 }
   where
-    asks_only : (says : Meaning) → is_request says ≡ true → IsTold (scene.letters ++ letter ∷ []) (scene.posts letter.gateway).firm letter says
+    asks_only : (says : Meaning) → is_request says ≡ true → IsBorneOut (scene.letters ++ letter ∷ []) (scene.posts letter.gateway).firm letter says
     asks_only (Asks request) e = tt
     asks_only (Answers cause) e = absurd (false≢true e)
     asks_only Else e = tt
@@ -130,7 +130,7 @@ adding scene letter true is holds = record {
   heard = λ node l kept. let there = holds.heard node l kept in (there.0, with_more scene.letters letter l there.1);
 }
   where
-    idle : (says : Meaning) → is_idle says ≡ true → IsTold (scene.letters ++ letter ∷ []) (scene.posts letter.gateway).firm letter says
+    idle : (says : Meaning) → is_idle says ≡ true → IsBorneOut (scene.letters ++ letter ∷ []) (scene.posts letter.gateway).firm letter says
     idle (Asks request) e = tt
     idle (Answers cause) e = λ telling. absurd (false≢true (ap not (sym telling) ∙ e))
     idle Else e = tt

@@ -32,7 +32,7 @@ use Rattle.once_core.specs.Deeds.{asked_by, deeds_of}
 use Rattle.once_core.specs.Deeds as did
 use Rattle.once_core.specs.Expired.{starts_in}
 use Rattle.once_core.specs.Followed.{packets_in}
-use Rattle.once_core.specs.Following.{Follows, HasCopyAt, MaySend}
+use Rattle.once_core.specs.Following.{AnyHasCopyAt, Follows, MaySend}
 use Rattle.once_core.specs.Happenings.{Asks, Letter, Meaning, Orders, Sends, Tests}
 use Rattle.once_core.specs.Happenings as happens
 use Rattle.once_core.specs.Meaning.{is_spoken, letter_of, meaning_in, meaning_of, speaks}
@@ -101,10 +101,10 @@ module _ (gateways place : ℕ) (log : List LogEntry) (rightly : NodeRightly gat
       subst (λ (l : List LogEntry). All (IsSingle (peers_of (addresses_from 0 gateways) l)) (packets_of l)) (sym calls_are)
       (one_each (setup_of gateways place) (call.Tick ∷ rightly.calls) (omega (arith, some, many)))
 
-  present : (gateway number : ℕ) (at : HasCopyAt (packets_in (starts_in after_tick) after_tick) gateway number) → Contains (packets_of after_tick) at.packet
+  present : (gateway number : ℕ) (at : AnyHasCopyAt (packets_in (starts_in after_tick) after_tick) gateway number) → Contains (packets_of after_tick) at.packet
   present gateway number at = present_packet after_tick at.packet running_still at.kept
 
-  in_range : (gateway number : ℕ) → HasCopyAt (packets_in (starts_in after_tick) after_tick) gateway number → gateway < gateways
+  in_range : (gateway number : ℕ) → AnyHasCopyAt (packets_in (starts_in after_tick) after_tick) gateway number → gateway < gateways
   in_range gateway number at =
       let single : IsSingle (peers_of (addresses_from 0 gateways) after_tick) at.packet =
       All-contains (IsSingle (peers_of (addresses_from 0 gateways) after_tick)) (packets_of after_tick) at.packet singles (present gateway number at) in

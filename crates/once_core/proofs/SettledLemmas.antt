@@ -14,7 +14,7 @@ use Rattle.node_core.specs.declared.copy.Verdict.{Verdict}
 use Rattle.node_core.specs.declared.copy.Verdict.TheVariants as verdict
 use Rattle.node_core.specs.declared.port.Port.{Port}
 use Rattle.node_core.specs.declared.port.Port.TheVariants.{First, Second}
-use Rattle.once_core.specs.Following.{Follows, HasCopyAt, IsCommandSent, MaySend, heard_in}
+use Rattle.once_core.specs.Following.{AnyHasCopyAt, Follows, IsCommandSent, MaySend, heard_in}
 use Rattle.once_core.specs.Happenings.{Asks, Letter, Meaning, Orders, Request, Scene, Sends, Tests, about}
 use Rattle.once_core.specs.Resting.{IsKnown, SceneHolds}
 use Rattle.once_core.specs.Scenes.{is_telling}
@@ -111,7 +111,7 @@ module _ (scene : Scene) (holds : SceneHolds scene) (node start : ℕ) (values :
       let answer = knows.answered scene holds node start values packets follows copy.gateway of.port command.number of.cause of.numbers of.heard of.named (fulfilled_tells of.cause of.tells) in
       by of.port answer.request answer.may answer.known
     where
-      mixed : HasCopyAt packets copy.gateway command.number → ⊥
+      mixed : AnyHasCopyAt packets copy.gateway command.number → ⊥
       mixed at =
           not_both copy.gateway command.number packets (follows.roles copy.gateway command.number) at.packet packet at.copy copy command
           (record { kept = at.kept; among = at.among }) is at.gateway_is at.number_is refl e refl

@@ -20,7 +20,7 @@ use Rattle.once_core.specs.Epochs.{epoch_with, key_in, state_with, times_with}
 use Rattle.once_core.specs.FilePlaces.{HasRecordAt, IsOfRecord, IsRecordAt, file_places}
 use Rattle.once_core.specs.Followed.{Followed, all_followed}
 use Rattle.once_core.specs.Once.{GivenRecord, IsFiledAs, IsFiledFor, IsFollowed, Once, firm_in}
-use Rattle.once_core.specs.OncePlaced.{is_rejected, places_of, record_count}
+use Rattle.once_core.specs.FiledOnce.{filing_count, is_withheld, record_count}
 use Rattle.once_core.specs.StandsOnce.{CountsFor, IsPacketRecordAt, StandsOnce, copy_places, places_at, place_count}
 use Rattle.once_core.specs.Told.{WasSubmitted}
 use Rattle.once_core.specs.World.{World, log_at}
@@ -67,7 +67,7 @@ module _ (settings : ℕ → Settings) (counts : (q : ℕ) → Counts (settings 
     each : (copy : PacketCopy) → length (places_at settings w node packet index copy) ≡ times_with (node_ip node) packet.start copy.number index (firm_in w copy.gateway)
     each copy = many (settings copy.gateway) (counts copy.gateway) (node_ip node) packet.start copy.number index (firm_in w copy.gateway)
 
-    summed : place_count settings w node packet index ≡ places_of (firm_in w) (node_ip node) packet.start packet.state.copies index
+    summed : place_count settings w node packet index ≡ filing_count (firm_in w) (node_ip node) packet.start packet.state.copies index
     summed = ap (λ (f : PacketCopy → ℕ). sum_by f packet.state.copies) (λ i copy. each copy i)
 
     within : index < length packet.form.records → index < record_count (value_octets packet.form)
@@ -82,13 +82,13 @@ module _ (settings : ℕ → Settings) (counts : (q : ℕ) → Counts (settings 
     at_most : place_count settings w node packet index ≤ 1
     at_most = let one = (once.placed node packet is).at_most index in let same = summed in omega (arith, one, same)
 
-    rejected : (copy : PacketCopy) → Contains packet.state.copies copy
-        → is_rejected (state_with (node_ip node) packet.start copy.number (firm_in w copy.gateway)) ≡ true → places_at settings w node packet index copy ≡ []
-    rejected copy kept is_so =
+    withheld : (copy : PacketCopy) → Contains packet.state.copies copy
+        → is_withheld (state_with (node_ip node) packet.start copy.number (firm_in w copy.gateway)) ≡ true → places_at settings w node packet index copy ≡ []
+    withheld copy kept is_so =
         let none = All-contains
-        (λ (c : PacketCopy). is_rejected (state_with (node_ip node) packet.start c.number (firm_in w c.gateway)) ≡ true → (i : ℕ)
+        (λ (c : PacketCopy). is_withheld (state_with (node_ip node) packet.start c.number (firm_in w c.gateway)) ≡ true → (i : ℕ)
         → times_with (node_ip node) packet.start c.number i (firm_in w c.gateway) ≡ 0)
-        packet.state.copies copy (once.placed node packet is).rejected kept in
+        packet.state.copies copy (once.placed node packet is).withheld kept in
         nil_from_length (places_at settings w node packet index copy) (each copy ∙ none is_so index)
 
     octets : (copy : PacketCopy) (place : FilePlace) → Contains packet.state.copies copy → Contains (places_at settings w node packet index copy) place
@@ -201,7 +201,7 @@ module _ (settings : ℕ → Settings) (counts : (q : ℕ) → Counts (settings 
   stands_once occupied submitted = record {
     resolved = λ node packet index is. resolved node packet index is;
     at_most = λ node packet index is. at_most node packet index is;
-    rejected = λ node packet index copy is. rejected node packet index is copy;
+    withheld = λ node packet index copy is. withheld node packet index is copy;
     octets = λ node packet index copy place is. octets node packet index is copy place;
     apart = apart;
     nothing_else = nothing_else occupied submitted;

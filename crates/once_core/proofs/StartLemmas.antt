@@ -12,7 +12,7 @@ use Rattle.gw_base.specs.declared.history.HistoryEntry.{HistoryEntry}
 use Rattle.gw_base.specs.declared.history.Opening.{Opening}
 use Rattle.path_mgmt.specs.GatewayPath.{opened_by}
 use Rattle.once_core.specs.Epochs.{RisesBy, StartsRise}
-use Rattle.once_core.specs.Growing.{GoesOn}
+use Rattle.once_core.specs.Growing.{GrowsTo}
 use Rattle.once_core.proofs.EachLemmas.{by_each_from, each_front}
 
 -- ---- with one entry
@@ -87,7 +87,7 @@ path_starts h moment who n port counter =
 -- ---- with some entries
 
 -- a front of a history knows of no greater start
-pub front_low : (ip : ℕ) (h rest k : List HistoryEntry) → StartsRise (k ++ rest) → GoesOn h k → start_of ip h ≤ start_of ip k
+pub front_low : (ip : ℕ) (h rest k : List HistoryEntry) → StartsRise (k ++ rest) → GrowsTo h k → start_of ip h ≤ start_of ip k
 front_low ip h rest k all goes =
     let front = each_front (λ before e. RisesBy before e.act) [] k rest all in
     subst (λ (v : List HistoryEntry). start_of ip h ≤ start_of ip v) (sym goes.is) (start_rises ip h goes.more (subst StartsRise goes.is front))

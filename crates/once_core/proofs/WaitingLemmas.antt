@@ -47,47 +47,47 @@ pub letters_append : (first second : List Waiting) → waiting_letters (first ++
 letters_append first second = flat_map-append (λ (w : Waiting). waiting_if (speaks w.message) w) first second
 
 module _ (q : ℕ → Bool) where
-  head : (b : Bool) (w : Waiting) (a : Bool) → q w.front ≡ a → filter (λ (v : did.Waiting). q v.front) (waiting_if b w) ≡ cond a (waiting_if b w) []
+  head : (b : Bool) (w : Waiting) (a : Bool) → q w.front ≡ a → filter (λ (v : did.WaitingLetter). q v.front) (waiting_if b w) ≡ cond a (waiting_if b w) []
   head true w a e = ap (λ (c : Bool). cond c (record { front = w.front; letter = letter_of w.message } ∷ []) []) e
   head false w true e = refl
   head false w false e = refl
 
   -- the answers among those that pass are the answers that pass
-  pub letters_passing : (ws : List Waiting) → waiting_letters (filter (λ w. q w.front) ws) ≡ filter (λ (v : did.Waiting). q v.front) (waiting_letters ws)
+  pub letters_passing : (ws : List Waiting) → waiting_letters (filter (λ w. q w.front) ws) ≡ filter (λ (v : did.WaitingLetter). q v.front) (waiting_letters ws)
   letters_passing [] = refl
   letters_passing (w ∷ ws) = by (q w.front) refl (letters_passing ws)
     where
-      here : List did.Waiting
+      here : List did.WaitingLetter
       here = waiting_if (speaks w.message) w
 
-      later : List did.Waiting
+      later : List did.WaitingLetter
       later = waiting_letters ws
 
-      apart : (a : Bool) → q w.front ≡ a → filter (λ (v : did.Waiting). q v.front) (here ++ later) ≡ cond a here [] ++ filter (λ (v : did.Waiting). q v.front) later
+      apart : (a : Bool) → q w.front ≡ a → filter (λ (v : did.WaitingLetter). q v.front) (here ++ later) ≡ cond a here [] ++ filter (λ (v : did.WaitingLetter). q v.front) later
       apart a e =
-          filter-append (λ (v : did.Waiting). q v.front) here later
-          ∙ ap (λ (r : List did.Waiting). r ++ filter (λ (v : did.Waiting). q v.front) later) (head (speaks w.message) w a e)
+          filter-append (λ (v : did.WaitingLetter). q v.front) here later
+          ∙ ap (λ (r : List did.WaitingLetter). r ++ filter (λ (v : did.WaitingLetter). q v.front) later) (head (speaks w.message) w a e)
 
-      by : (a : Bool) → q w.front ≡ a → waiting_letters (filter (λ v. q v.front) ws) ≡ filter (λ (v : did.Waiting). q v.front) later
-          → waiting_letters (cond a (w ∷ filter (λ v. q v.front) ws) (filter (λ v. q v.front) ws)) ≡ filter (λ (v : did.Waiting). q v.front) (here ++ later)
-      by true e rest = ap (λ (r : List did.Waiting). here ++ r) rest ∙ sym (apart true e)
+      by : (a : Bool) → q w.front ≡ a → waiting_letters (filter (λ v. q v.front) ws) ≡ filter (λ (v : did.WaitingLetter). q v.front) later
+          → waiting_letters (cond a (w ∷ filter (λ v. q v.front) ws) (filter (λ v. q v.front) ws)) ≡ filter (λ (v : did.WaitingLetter). q v.front) (here ++ later)
+      by true e rest = ap (λ (r : List did.WaitingLetter). here ++ r) rest ∙ sym (apart true e)
       by false e rest = rest ∙ sym (apart false e)
 
 -- an answer among the messages that wait is among the letters
 pub sent_letters : (ws : List Waiting) (m : Message) → Contains (map (λ w. w.message) ws) m → speaks m ≡ true
-    → Contains (map (λ (v : did.Waiting). v.letter) (waiting_letters ws)) (letter_of m)
+    → Contains (map (λ (v : did.WaitingLetter). v.letter) (waiting_letters ws)) (letter_of m)
 sent_letters [] m is speaking = absurd (in_none m is)
 sent_letters (w ∷ ws) m is speaking = ⊎_elim
-    (λ e. subst (λ (n : Message). Contains (map (λ (v : did.Waiting). v.letter) (waiting_letters (w ∷ ws))) (letter_of n)) e
+    (λ e. subst (λ (n : Message). Contains (map (λ (v : did.WaitingLetter). v.letter) (waiting_letters (w ∷ ws))) (letter_of n)) e
     (here (speaks w.message) (ap speaks e ∙ speaking)))
     (λ c. there (speaks w.message) (sent_letters ws m c speaking))
     (in_cons w.message m (map (λ v. v.message) ws) is)
   where
-    here : (b : Bool) → b ≡ true → Contains (map (λ (v : did.Waiting). v.letter) (waiting_if b w ++ waiting_letters ws)) (letter_of w.message)
-    here true e = in_head (letter_of w.message) (map (λ (v : did.Waiting). v.letter) (waiting_letters ws))
+    here : (b : Bool) → b ≡ true → Contains (map (λ (v : did.WaitingLetter). v.letter) (waiting_if b w ++ waiting_letters ws)) (letter_of w.message)
+    here true e = in_head (letter_of w.message) (map (λ (v : did.WaitingLetter). v.letter) (waiting_letters ws))
     here false e = absurd (false≢true e)
 
-    there : (b : Bool) → Contains (map (λ (v : did.Waiting). v.letter) (waiting_letters ws)) (letter_of m)
-        → Contains (map (λ (v : did.Waiting). v.letter) (waiting_if b w ++ waiting_letters ws)) (letter_of m)
-    there true later = in_tail (letter_of w.message) (letter_of m) (map (λ (v : did.Waiting). v.letter) (waiting_letters ws)) later
+    there : (b : Bool) → Contains (map (λ (v : did.WaitingLetter). v.letter) (waiting_letters ws)) (letter_of m)
+        → Contains (map (λ (v : did.WaitingLetter). v.letter) (waiting_if b w ++ waiting_letters ws)) (letter_of m)
+    there true later = in_tail (letter_of w.message) (letter_of m) (map (λ (v : did.WaitingLetter). v.letter) (waiting_letters ws)) later
     there false later = later

@@ -26,7 +26,7 @@ use Rattle.once_core.specs.Following.{Follows}
 use Rattle.once_core.specs.Gateway.{Gateway, Rules}
 use Rattle.once_core.specs.Happenings.{Deed, Post, Scene}
 use Rattle.once_core.specs.Once.{GivenRecord, IsFiledAs, IsFiledFor, IsFollowed, Once, firm_in}
-use Rattle.once_core.specs.OncePlaced.{IsFiledUnder, IsOnce, kind_within, records_within}
+use Rattle.once_core.specs.FiledOnce.{IsFiledUnder, IsOnce, kind_within, records_within}
 use Rattle.once_core.specs.Scenes.{scene_after}
 use Rattle.once_core.specs.Shown.{IsMade, Shows, forms_ever, post_of, values_of}
 use Rattle.once_core.specs.Turn.{RuledTurn, Turn, ruled, ruled_turns, turn, turns}
@@ -38,7 +38,7 @@ use Rattle.once_core.proofs.FormLemmas.{GoodForm, value_octets_are}
 use Rattle.once_core.proofs.ListLemmas.{get_contains, in_cons, in_head, in_none, in_tail}
 use Rattle.once_core.proofs.LogLemmas.{as_many}
 use Rattle.once_core.proofs.NumberLemmas.{Values, all_followed_at, values_are, values_before}
-use Rattle.once_core.proofs.OnceLemmas.{each_is_placed_once}
+use Rattle.once_core.proofs.OnceLemmas.{each_is_filed_once}
 use Rattle.once_core.proofs.RoleLemmas.{among_copies, own_use}
 use Rattle.once_core.proofs.SubmittedLemmas.{turns_forms}
 use Rattle.once_core.proofs.TurnPlays.{Laws, turn_made}
@@ -130,7 +130,7 @@ module _ (laws : Laws) (w : World) (made : Made (values_in w) w) where
     placed =
         let there = some_log (slice_get w.nodes node) refl in
         let follows = it_follows node there.0 there.1 packet.start in
-        let each = each_is_placed_once made.happenings (node_ip node) packet.start (values_in w node) (packets_in packet.start (log_at w node))
+        let each = each_is_filed_once made.happenings (node_ip node) packet.start (values_in w node) (packets_in packet.start (log_at w node))
         (subst (λ (s : Scene). Follows (s.deeds (node_ip node)) packet.start (values_in w node) (packets_in packet.start (log_at w node))) (sym made.is) follows) in
         let one = All-contains (λ (p : PacketState). IsOnce (λ gateway. ((scene_after made.happenings).posts gateway).firm) (node_ip node) packet.start (values_in w node p.number) p)
         (packets_in packet.start (log_at w node)) packet.state each in_start in

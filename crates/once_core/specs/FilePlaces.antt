@@ -6,7 +6,7 @@ use Rattle.gw_base.specs.declared.history.HistoryAct.TheVariants as act
 use Rattle.gw_base.specs.declared.history.HistoryEntry.{HistoryEntry}
 use Rattle.gw_base.specs.declared.history.PacketKey.{PacketKey}
 use Rattle.file_writer.specs.Places.{FilePlace, place_in, record_at}
-use Rattle.file_writer.specs.Streams.{Settings, filed_record}
+use Rattle.file_writer.specs.Streams.{Settings, stream_record}
 use Rattle.gateway_book.specs.Filed.{along, filed, filed_by_act}
 use Rattle.gateway_book.specs.Items.{items_of}
 use Rattle.gateway_book.specs.Once.{is_record_of}
@@ -42,7 +42,7 @@ file_places settings key index h =
 -- a filed record stands at a place in the files of a history
 abbrev pub StandsAt : Settings → List HistoryEntry → FilePlace → FiledRecord → Type 0
 StandsAt settings h place filing =
-    record_at settings (items_of h) place ≡ Some (filed_record filing.kind filing.octets filing.moment)
+    record_at settings (items_of h) place ≡ Some (stream_record filing.kind filing.octets filing.moment)
 
 -- the record that was filed with this index of the packet under a key stands at a place
 pub record IsRecordAt (settings : Settings) (key : PacketKey) (index : ℕ) (h : List HistoryEntry)

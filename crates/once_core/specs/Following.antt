@@ -26,7 +26,7 @@ heard_in start [] = []
 heard_in start (deed ∷ deeds) = entries_of start deed ++ heard_in start deeds
 
 -- one of these packets has a copy at this gateway with this number
-pub record HasCopyAt (packets : List PacketState) (gateway number : ℕ) : Type 0 where
+pub record AnyHasCopyAt (packets : List PacketState) (gateway number : ℕ) : Type 0 where
   pub packet : PacketState
   pub kept : Contains packets packet
   pub copy : PacketCopy
@@ -37,20 +37,20 @@ pub record HasCopyAt (packets : List PacketState) (gateway number : ℕ) : Type 
 -- a copy that is sent, plain or not as the request says, with the packet's octets
 pub record IsCopySent (packets : List PacketState) (values : ℕ → List ℕ) (gateway number : ℕ) (is_plain : Bool)
     (octets : List ℕ) : Type 0 where
-  pub at : HasCopyAt packets gateway number
+  pub at : AnyHasCopyAt packets gateway number
   pub plain : at.copy.is_plain ≡ is_plain
   pub packet : values at.packet.number ≡ octets
 
 -- a release or a cancel that is sent for a copy, with a number of its own
 pub record IsCommandSent (packets : List PacketState) (gateway named : ℕ) (command : Command) : Type 0 where
-  pub at : HasCopyAt packets gateway named
+  pub at : AnyHasCopyAt packets gateway named
   pub sent : at.copy.command ≡ Some command
 
 -- a request is of one of these packets: a copy goes from the first port, and all else that is asked of it from the second
 abbrev pub MaySend : List PacketState → (ℕ → List ℕ) → Letter → Meaning → Type 0
 MaySend packets values letter (Asks (Sends is_plain octets)) =
     (letter.port ≡ First) × IsCopySent packets values letter.gateway letter.number is_plain octets
-MaySend packets values letter (Asks Tests) = (letter.port ≡ Second) × HasCopyAt packets letter.gateway letter.number
+MaySend packets values letter (Asks Tests) = (letter.port ≡ Second) × AnyHasCopyAt packets letter.gateway letter.number
 MaySend packets values letter (Asks (Orders order named)) =
     (letter.port ≡ Second) × (answered : Bool)
     × IsCommandSent packets letter.gateway named (record { order = order; number = letter.number; is_answered = answered })

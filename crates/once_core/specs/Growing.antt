@@ -5,7 +5,7 @@ use Rattle.gw_base.specs.declared.history.HistoryEntry.{HistoryEntry}
 use Rattle.once_core.specs.Happenings.{Post, history}
 
 -- a list goes on with some more
-pub record GoesOn {A : Type 0} (before after : List A) : Type 0 where
+pub record GrowsTo {A : Type 0} (before after : List A) : Type 0 where
   pub more : List A
   pub is : after ≡ before ++ more
 
@@ -17,5 +17,5 @@ pub record HoldSame (a b : BookValue) : Type 0 where
 
 -- a history that holds the firm part of a gateway's, and more of it or not
 pub record IsBetween (post : Post) (h : List HistoryEntry) : Type 0 where
-  pub front : GoesOn post.firm h
-  pub back : GoesOn h (history post)
+  pub front : GrowsTo post.firm h
+  pub back : GrowsTo h (history post)

@@ -41,7 +41,7 @@ pub record Letter : Type 0 where
   pub says : Meaning
 
 -- an answer that waits until so many entries of the gateway's history are firm
-pub record Waiting : Type 0 where
+pub record WaitingLetter : Type 0 where
   pub front : ℕ
   pub letter : Letter
 
@@ -49,7 +49,7 @@ pub record Waiting : Type 0 where
 pub record Post : Type 0 where
   pub firm : List HistoryEntry
   pub rest : List HistoryEntry
-  pub waiting : List Waiting
+  pub waiting : List WaitingLetter
 
 -- what a node did
 pub data Deed : Type 0 where

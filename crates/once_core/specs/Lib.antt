@@ -19,7 +19,7 @@ pub mod Epochs
 pub mod Deeds
 pub mod Following
 pub mod Happenings
-pub mod OncePlaced
+pub mod FiledOnce
 pub mod Resting
 pub mod Scenes
 pub mod Story

@@ -10,9 +10,9 @@ use Rattle.node_core.specs.Drafts.{value_octets}
 use Rattle.node_core.specs.declared.copy.PacketCopy.{PacketCopy}
 use Rattle.once_core.specs.Addresses.{node_ip}
 use Rattle.once_core.specs.Epochs.{epoch_with, key_in}
+use Rattle.once_core.specs.FiledOnce.{IsOnce, records_within}
 use Rattle.once_core.specs.Followed.{Followed, all_followed}
 use Rattle.once_core.specs.Gateway.{Gateway}
-use Rattle.once_core.specs.OncePlaced.{IsOnce, records_within}
 use Rattle.once_core.specs.World.{World, log_at}
 
 -- the firm part of the history of the gateway in this place

@@ -13,7 +13,7 @@ use Rattle.node_core.specs.Copies.{is_filing, is_fulfilled}
 use Rattle.node_core.specs.declared.copy.Order.TheVariants as order
 use Rattle.node_core.specs.declared.port.Port.{Port}
 use Rattle.once_core.specs.Epochs.{EachBehind, epoch_with, key_in}
-use Rattle.once_core.specs.Happenings.{Answers, Asks, Deed, Else, Heard, Letter, Meaning, Orders, Post, Request, Scene, Sends, Sent, Tests, Waiting, about, history}
+use Rattle.once_core.specs.Happenings.{Answers, Asks, Deed, Else, Heard, Letter, Meaning, Orders, Post, Request, Scene, Sends, Sent, Tests, WaitingLetter, about, history}
 use Rattle.once_core.specs.Scenes.{is_answer, is_telling}
 
 -- a request of a node in a start to a gateway is among these messages
@@ -86,10 +86,10 @@ pub record IsAnswerTo (letters : List Letter) (h : List HistoryEntry) (letter : 
   pub known : IsKnown h letter.node letter.start (about request letter.number)
 
 -- what an answer tells a node of a copy is so in this history
-abbrev pub IsTold : List Letter → List HistoryEntry → Letter → Meaning → Type 0
-IsTold letters h letter (Asks request) = Unit {0}
-IsTold letters h letter (Answers cause) = is_telling cause ≡ true → IsAnswerTo letters h letter cause
-IsTold letters h letter Else = Unit {0}
+abbrev pub IsBorneOut : List Letter → List HistoryEntry → Letter → Meaning → Type 0
+IsBorneOut letters h letter (Asks request) = Unit {0}
+IsBorneOut letters h letter (Answers cause) = is_telling cause ≡ true → IsAnswerTo letters h letter cause
+IsBorneOut letters h letter Else = Unit {0}
 
 -- a request was sent by its node
 abbrev pub IsSent : (ℕ → List Deed) → Letter → Meaning → Type 0
@@ -101,11 +101,11 @@ IsSent deeds letter Else = Unit {0}
 pub record Waits (letters : List Letter) (gateway : ℕ) (h : List HistoryEntry) (letter : Letter) : Type 0 where
   pub gateway_is : letter.gateway ≡ gateway
   pub answers : is_answer letter.says ≡ true
-  pub told : IsTold letters h letter letter.says
+  pub told : IsBorneOut letters h letter letter.says
 
 pub record PostHolds (letters : List Letter) (gateway : ℕ) (post : Post) : Type 0 where
   pub rests : Rests letters gateway (history post)
-  pub waits : (w : Waiting) → Contains post.waiting w → Waits letters gateway (history post) w.letter
+  pub waits : (w : WaitingLetter) → Contains post.waiting w → Waits letters gateway (history post) w.letter
 
 -- What holds of all gateways and nodes, whatever happened: each entry keeps to the table and rests on a message; each
 -- answer that was sent means what it says in the firm part of its gateway's history, and one that waits in all of it; each
@@ -113,7 +113,7 @@ pub record PostHolds (letters : List Letter) (gateway : ℕ) (post : Post) : Typ
 pub record SceneHolds (scene : Scene) : Type 0 where
   pub posts : (gateway : ℕ) → PostHolds scene.letters gateway (scene.posts gateway)
   pub told : (letter : Letter) → Contains scene.letters letter →
-      IsTold scene.letters (scene.posts letter.gateway).firm letter letter.says
+      IsBorneOut scene.letters (scene.posts letter.gateway).firm letter letter.says
   pub sent : (letter : Letter) → Contains scene.letters letter → IsSent scene.deeds letter letter.says
   pub heard : (node : ℕ) (letter : Letter) → Contains (scene.deeds node) (Heard letter) →
       (letter.node ≡ node) × Contains scene.letters letter

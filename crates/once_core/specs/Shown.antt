@@ -18,11 +18,11 @@ use Rattle.once_core.specs.declared.message.Message.{Message}
 use Rattle.once_core.specs.declared.message.Waiting.{Waiting}
 
 -- the answers among the messages that wait; the others mean nothing here
-abbrev pub waiting_if : Bool → Waiting → List did.Waiting
+abbrev pub waiting_if : Bool → Waiting → List did.WaitingLetter
 waiting_if true w = record { front = w.front; letter = letter_of w.message } ∷ []
 waiting_if false w = []
 
-abbrev pub waiting_letters : List Waiting → List did.Waiting
+abbrev pub waiting_letters : List Waiting → List did.WaitingLetter
 waiting_letters waiting = flat_map (λ (w : Waiting). waiting_if (speaks w.message) w) waiting
 
 abbrev pub post_of : Gateway → Post

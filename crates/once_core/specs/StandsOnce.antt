@@ -11,9 +11,9 @@ use Rattle.node_core.specs.declared.copy.PacketCopy.{PacketCopy}
 use Rattle.once_core.specs.Addresses.{node_ip}
 use Rattle.once_core.specs.Epochs.{epoch_with, key_in, state_with}
 use Rattle.once_core.specs.FilePlaces.{HasRecordAt, StandsAt, file_places}
+use Rattle.once_core.specs.FiledOnce.{is_withheld}
 use Rattle.once_core.specs.Followed.{Followed}
 use Rattle.once_core.specs.Once.{GivenRecord, IsFollowed, firm_in, packet_with}
-use Rattle.once_core.specs.OncePlaced.{is_rejected}
 use Rattle.once_core.specs.World.{World}
 
 -- the places at which the record with this index of a copy's packet stands in the files of a history, where the node
@@ -61,9 +61,9 @@ pub record StandsOnce (settings : ℕ → Settings) (w : World) : Type 0 where
       place_count settings w node packet index ≡ 1
   pub at_most : (node : ℕ) (packet : Followed) (index : ℕ) → IsFollowed w node packet →
       place_count settings w node packet index ≤ 1
-  pub rejected : (node : ℕ) (packet : Followed) (index : ℕ) (copy : PacketCopy) → IsFollowed w node packet →
+  pub withheld : (node : ℕ) (packet : Followed) (index : ℕ) (copy : PacketCopy) → IsFollowed w node packet →
       Contains packet.state.copies copy →
-      is_rejected (state_with (node_ip node) packet.start copy.number (firm_in w copy.gateway)) ≡ true →
+      is_withheld (state_with (node_ip node) packet.start copy.number (firm_in w copy.gateway)) ≡ true →
       places_at settings w node packet index copy ≡ []
   pub octets : (node : ℕ) (packet : Followed) (index : ℕ) (copy : PacketCopy) (place : FilePlace) →
       IsFollowed w node packet → Contains packet.state.copies copy →

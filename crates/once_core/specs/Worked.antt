@@ -4,10 +4,10 @@ use Rattle.gateway_book.specs.Value.{Gone}
 use Rattle.node_core.specs.Packets.{is_resolved}
 use Rattle.once_core.specs.Addresses.{node_ip}
 use Rattle.once_core.specs.Beginning.{default_rules, world_of}
+use Rattle.once_core.specs.FiledOnce.{filing_count}
 use Rattle.once_core.specs.Followed.{Followed, all_followed}
 use Rattle.once_core.specs.Gateway.{Gateway}
 use Rattle.once_core.specs.Once.{firm_in}
-use Rattle.once_core.specs.OncePlaced.{places_of}
 use Rattle.once_core.specs.Turn.{Turn, calm, turns}
 use Rattle.once_core.specs.World.{World, log_at}
 use Rattle.once_core.specs.declared.event.Event.{Event}
@@ -30,7 +30,7 @@ entries w = map (λ (g : Gateway). (length g.book.firm, length g.book.rest)) w.g
 
 -- of each packet that the node ever followed: whether it is resolved, and how often its first record is filed
 abbrev pub packets : World → List (Bool × ℕ)
-packets w = map (λ (p : Followed). (is_resolved p.state.copies, places_of (firm_in w) (node_ip 0) p.start p.state.copies 0)) (all_followed (log_at w 0))
+packets w = map (λ (p : Followed). (is_resolved p.state.copies, filing_count (firm_in w) (node_ip 0) p.start p.state.copies 0)) (all_followed (log_at w 0))
 
 -- a packet of one record, of format 1 and version 0x0600
 abbrev pub a_packet : List ℕ

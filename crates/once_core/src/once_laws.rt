@@ -14,11 +14,11 @@ ghost use Rattle.node_core.specs.Reached.{NodeCall, log_of, reached};
 ghost use Rattle.once_core.specs.Deeds.{deeds_of};
 ghost use Rattle.once_core.specs.Epochs.{StartsRise, epoch_with};
 ghost use Rattle.once_core.specs.Expired.{starts_in};
+ghost use Rattle.once_core.specs.FiledOnce.{IsOnce};
 ghost use Rattle.once_core.specs.Followed.{packets_in};
 ghost use Rattle.once_core.specs.Following.{Follows, Knows};
 ghost use Rattle.once_core.specs.Growing.{IsBetween};
 ghost use Rattle.once_core.specs.Happenings.{Happening, Scene};
-ghost use Rattle.once_core.specs.OncePlaced.{IsOnce};
 ghost use Rattle.once_core.specs.Resting.{SceneHolds};
 ghost use Rattle.once_core.specs.Scenes.{happened, nothing_yet, scene_after};
 ghost use Rattle.once_core.specs.Story.{one_known, one_packet, one_story, times_of_one};
@@ -26,7 +26,7 @@ ghost use Rattle.once_core.specs.Story.{one_known, one_packet, one_story, times_
 /// Whatever happens: where a node followed the procedure in a start, each record of each packet of
 /// that start that it resolved was filed once by all gateways together, each record of any other at
 /// most once, and no record of a copy that is held or cancelled.
-pub fn each_record_is_placed_once()
+pub fn each_record_of_a_start_is_filed_once()
     ensures { (happenings : List Happening) (node start : ℕ) (values : ℕ → List ℕ) (packets : List PacketState) →
         Follows ((scene_after happenings).deeds node) start values packets →
         All (λ packet.
@@ -43,7 +43,7 @@ pub fn what_holds_goes_on()
 {}
 
 /// Where that holds, each record is filed as often as it should.
-pub fn what_holds_places_each_record_once()
+pub fn what_holds_files_each_record_once()
     ensures { (scene : Scene) (node start : ℕ) (values : ℕ → List ℕ) (packets : List PacketState) → SceneHolds scene →
         Follows (scene.deeds node) start values packets →
         All (λ packet. IsOnce (λ gateway. (scene.posts gateway).firm) node start (values packet.number) packet)
@@ -112,5 +112,5 @@ pub fn open_numbers_are_read_as_meant()
 /// answered, the node follows the procedure, and the packet's record is filed once.
 pub fn a_node_may_follow_the_procedure()
     ensures follows { Follows ((scene_after one_story).deeds 5) 1 (λ number. one_packet) one_known }
-    ensures placed { times_of_one ≡ 1 }
+    ensures filed { times_of_one ≡ 1 }
 {}

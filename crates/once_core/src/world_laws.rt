@@ -19,7 +19,7 @@ ghost use Rattle.once_core.specs.FilePlaces.{HasRecordAt, IsOfRecord, IsRecordAt
 ghost use Rattle.once_core.specs.Epochs.{StartsRise};
 ghost use Rattle.once_core.specs.Gateway.{Gateway, Rules, cut};
 ghost use Rattle.once_core.specs.Expired.{is_expired};
-ghost use Rattle.once_core.specs.Growing.{GoesOn, HoldSame, IsBetween};
+ghost use Rattle.once_core.specs.Growing.{GrowsTo, HoldSame, IsBetween};
 ghost use Rattle.once_core.specs.Once.{Once, firm_in};
 ghost use Rattle.once_core.specs.Shown.{post_of};
 ghost use Rattle.once_core.specs.StandsOnce.{StandsOnce};
@@ -87,9 +87,9 @@ pub fn what_a_tick_sends_is_not_expired()
 /// only grows, and so do the records that it files.
 pub fn firm_parts_only_grow()
     ensures entries { (w : World) (later : List RuledTurn) (place : ℕ) →
-        GoesOn (firm_in w place) (firm_in (ruled_turns w later) place) }
+        GrowsTo (firm_in w place) (firm_in (ruled_turns w later) place) }
     ensures filed { (w : World) (later : List RuledTurn) (place : ℕ) →
-        GoesOn (filed (firm_in w place)) (filed (firm_in (ruled_turns w later) place)) }
+        GrowsTo (filed (firm_in w place)) (filed (firm_in (ruled_turns w later) place)) }
 {}
 
 /// The place of a record in the files of a firm part stays.

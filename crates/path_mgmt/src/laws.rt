@@ -22,7 +22,7 @@ pub fn a_gateway_stays_alive()
 
 /// A restart counter that is told again, with no other told between, opens no epoch: the second Echo
 /// Response, at which that counter is known, has the reply of the first and changes nothing.
-pub fn one_counter_opens_one_epoch()
+pub fn a_counter_told_again_opens_no_epoch()
     ensures { (known : Option ℕ) (number counter own : ℕ) →
         heard_at_gateway (Some counter) (PathEvent.EchoTold number counter) own
         ≡ record (heard_at_gateway known (PathEvent.EchoTold number counter) own) { changed = None } }

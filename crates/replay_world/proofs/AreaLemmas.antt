@@ -17,7 +17,7 @@ use Rattle.file_writer.specs.Leaving.{AreOpenFiles}
 use Rattle.gateway_book.specs.Items.{items_of}
 use Rattle.gateway_book.specs.Book.{Stays, area_of, value_of}
 use Rattle.gateway_book.specs.Opened.{StandsFitFor}
-use Rattle.gateway_book.specs.Up.{IsDown, IsUp}
+use Rattle.gateway_book.specs.Up.{HoldsHistory, IsUp}
 use Rattle.gateway_book.specs.Value.{BookValue}
 use Rattle.gateway_book.specs.declared.book.Book.{Book}
 use Rattle.gw_base.specs.declared.history.HistoryEntry.{HistoryEntry}
@@ -37,7 +37,7 @@ pub area_down : (setup : Setup) (place : ℕ) (h : List HistoryEntry) (old reviv
     plan.read_fail.items ≡ [] → plan.fail.items ≡ [] → plan.stop ≡ None →
     (area_tells.fate revived).schedule ≡ with_stopped false (area_tells.fate old).schedule → IsKept old revived →
     (area_tells.fate new).schedule ≡ armed plan (area_tells.fate revived).schedule → IsKept revived new →
-    IsDown area_tells (header_at setup place) h old → area_tells.size old ≡ setup.size →
+    HoldsHistory area_tells (header_at setup place) h old → area_tells.size old ≡ setup.size →
     AreaIsDown setup place h new
 area_down setup place h old revived new plan arms reads fails stops running first planned second down size =
     let disk : new.disk ≡ old.disk = second.disk ∙ first.disk in
@@ -98,7 +98,7 @@ no_torn b at_last = ap (λ (c : Bool). b && c) (and_false at_last) ∙ and_false
 pub stopped_area : (setup : Setup) (place : ℕ) (v : BookValue) (at_last : Bool) (old new : MemoryArea) →
     StandsFitFor (header_at setup place) ((area_tells.fate old).leaves Old)
     (if v.is_broken && (at_last && false) then v.firm ++ v.rest else v.firm) →
-    IsLeft old Old new → IsDown area_tells (header_at setup place) v.firm new
+    IsLeft old Old new → HoldsHistory area_tells (header_at setup place) v.firm new
 stopped_area setup place v at_last old new stands left = record {
   stands = subst (λ (octets : List ℕ). StandsFitFor (header_at setup place) octets v.firm) (sym left.present)
       (subst (λ (b : Bool). StandsFitFor (header_at setup place) ((area_tells.fate old).leaves Old)

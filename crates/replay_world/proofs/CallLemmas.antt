@@ -13,7 +13,7 @@ use Rattle.gateway_book.specs.Book.{Stays}
 use Rattle.gateway_book.specs.Calls.{Left}
 use Rattle.gateway_book.specs.Filed.{along}
 use Rattle.gateway_book.specs.Items.{items_by, items_of}
-use Rattle.gateway_book.specs.Up.{HasLeft, IsDown, Sequel, GoesOn, Breaks, Stops}
+use Rattle.gateway_book.specs.Up.{HasLeft, HoldsHistory, Sequel, GoesOn, Breaks, Stops}
 use Rattle.gateway_book.specs.Value.{BookValue, history_of}
 use Rattle.gateway_book.specs.declared.book.Book.{Book}
 use Rattle.gw_base.specs.declared.history.HistoryEntry.{HistoryEntry}
@@ -159,7 +159,7 @@ module _ (setup : Setup) (place : ℕ) (g : Gateway) (m : Machine) (value : Book
   site_down h after (Some (Up book)) down none is stands = absurd stands
   site_down h after (Some (Down fallen)) down none is stands = record {
     stopped = down;
-    down = subst (λ (q : List HistoryEntry). IsDown area_tells (header_at setup place) q fallen.area) (sym is) stands.down;
+    down = subst (λ (q : List HistoryEntry). HoldsHistory area_tells (header_at setup place) q fallen.area) (sym is) stands.down;
     is_armed = stands.is_armed;
     unarmed = refl;
     silent = none;

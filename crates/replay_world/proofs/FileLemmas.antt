@@ -5,7 +5,7 @@ use Rattle.cdr_file.specs.CdrFile.{FileSettings}
 use Rattle.cdr_shelf.specs.Files.{SealedFile, file_named, in_stream}
 use Rattle.cdr_shelf.specs.declared.file_name.FileName.{FileName}
 use Rattle.file_rotate.specs.Division.{ClosedRun}
-use Rattle.file_writer.specs.Files.{file_in, files_from}
+use Rattle.file_writer.specs.Files.{files_from, sealed_file}
 use Rattle.replay_world.specs.Report.{file_line}
 
 abbrev name_at : ℕ → ℕ → FileName
@@ -42,12 +42,12 @@ kth : (file : FileSettings) (s first k : ℕ) (closed : List (ClosedRun (List �
 kth file s first k [] = refl
 kth file s first zero (run ∷ closed) =
     let same : first ≡ first + 0 = omega arith in
-    ap (λ (b : Bool). if b then Some ((file_in file s first run).octets) else file_named (name_at s (first + 0)) (files_from file s (first + 1) closed))
+    ap (λ (b : Bool). if b then Some ((sealed_file file s first run).octets) else file_named (name_at s (first + 0)) (files_from file s (first + 1) closed))
     (both (s == s) (first == first + 0) (eq-eqb s s refl) (eq-eqb first (first + 0) same))
 kth file s first (suc k) (run ∷ closed) =
     let other : (first == first + suc k) ≡ false = ne_eqb first (first + suc k) (λ same. absurd (omega (arith, same))) in
     let next : first + suc k ≡ first + 1 + k = omega arith in
-    ap (λ (b : Bool). if b then Some ((file_in file s first run).octets) else file_named (name_at s (first + suc k)) (files_from file s (first + 1) closed))
+    ap (λ (b : Bool). if b then Some ((sealed_file file s first run).octets) else file_named (name_at s (first + suc k)) (files_from file s (first + 1) closed))
     (and_false (s == s) (first == first + suc k) other)
     ∙ ap (λ (n : ℕ). file_named (name_at s n) (files_from file s (first + 1) closed)) next
     ∙ kth file s (first + 1) k closed

@@ -11,7 +11,7 @@ use Rattle.gateway_book.specs.Items.{items_of}
 use Rattle.gw_base.specs.declared.item.Item.{Item}
 use Rattle.once_core.specs.Gateway.{Gateway}
 use Rattle.replay_world.specs.Played.{AreAllSealed, EachHandedOut, IsHandedOut}
-use Rattle.replay_world.specs.Settled.{AreShut, IsSettled}
+use Rattle.replay_world.specs.Settled.{AreShut, IsAllWritten}
 use Rattle.replay_world.specs.Setup.{Setup, files_in}
 use Rattle.replay_world.specs.Value.{Machine}
 use Rattle.replay_world.specs.Written.{shelf_tells}
@@ -98,7 +98,7 @@ none_unsealed settings items unsealed are shut s =
     either_way n k = grind arith
 
 settled_shelf : (setup : Setup) (place : ℕ) (g : Gateway) (m : Machine) (a : MemoryArea) (shelf : MemoryShelf) →
-    IsHandedOut setup place g m a shelf → IsSettled g m → (s : ℕ) → shelf_tells.unsealed shelf s ≡ None
+    IsHandedOut setup place g m a shelf → IsAllWritten g m → (s : ℕ) → shelf_tells.unsealed shelf s ≡ None
 settled_shelf setup place g m a shelf is settled =
     let items : List Item = items_of g.book.firm in
     none_unsealed (files_in setup place) items (shelf_tells.unsealed shelf)
@@ -108,7 +108,7 @@ settled_shelf setup place g m a shelf is settled =
 
 pub settled_shelves : (setup : Setup) (place : ℕ) (gs : List Gateway) (ms : List Machine) (areas : List MemoryArea)
     (shelves : List MemoryShelf) → EachHandedOut setup place gs ms areas shelves →
-    ((k : ℕ) (g : Gateway) (m : Machine) → slice_get gs k ≡ Some g → slice_get ms k ≡ Some m → IsSettled g m) →
+    ((k : ℕ) (g : Gateway) (m : Machine) → slice_get gs k ≡ Some g → slice_get ms k ≡ Some m → IsAllWritten g m) →
     AreAllSealed shelves
 settled_shelves setup place [] [] [] [] each settled =
     All-nil (λ (shelf : MemoryShelf). (s : ℕ) → shelf_tells.unsealed shelf s ≡ None)

@@ -26,7 +26,7 @@ use Rattle.replay_world.specs.Device.{asked_of, machine_after, machine_with, seq
 use Rattle.replay_world.specs.Does.{goes_on}
 use Rattle.replay_world.specs.Lines.{after_steps, settle_steps, settled, settling_steps}
 use Rattle.replay_world.specs.Moves.{moved_by}
-use Rattle.replay_world.specs.Settled.{AreShut, AreWritten, HaveMachines, IsSettled}
+use Rattle.replay_world.specs.Settled.{AreShut, AreWritten, HaveMachines, IsAllWritten}
 use Rattle.replay_world.specs.Settling.{AreUnarmed}
 use Rattle.replay_world.specs.Setup.{rules_in}
 use Rattle.replay_world.specs.Steps.{Step, Arms, Plays, Writes, after_step, ends_line, machines_at, machines_in, site_of}
@@ -299,7 +299,7 @@ record SettledAt (v : ReplayValue) (steps : List Step) (number : ℕ) : Type 0 w
   pub g : Gateway
   pub m : Machine
   pub at : At u number g m
-  pub is : IsSettled g m
+  pub is : IsAllWritten g m
 
 module _ (shut : (h : List HistoryEntry) → is_close_due h ≡ false → AreShut (items_of h)) where
   -- one that runs
@@ -385,7 +385,7 @@ module _ (shut : (h : List HistoryEntry) → is_close_due h ≡ false → AreShu
 
   abbrev SettledTo : ReplayValue → ℕ → Type 0
   SettledTo u k = (j : ℕ) (g : Gateway) (m : Machine) → j < k →
-      slice_get u.world.gateways j ≡ Some g → slice_get u.machines j ≡ Some m → IsSettled g m
+      slice_get u.world.gateways j ≡ Some g → slice_get u.machines j ≡ Some m → IsAllWritten g m
 
   settled_more : (u : ReplayValue) (k : ℕ) (steps : List Step) → SettledTo u k → (did : SettledAt u steps (k + 1)) →
       SettledTo did.u (k + 1)
@@ -394,7 +394,7 @@ module _ (shut : (h : List HistoryEntry) → is_close_due h ≡ false → AreShu
       back : k + 1 - 1 ≡ k
       back = omega arith
 
-      by : (b : Bool) → (j == k) ≡ b → IsSettled g m
+      by : (b : Bool) → (j == k) ≡ b → IsAllWritten g m
       by true e =
           let here : j ≡ k + 1 - 1 = eqb-true j k e ∙ sym back in
           let gateway : slice_get did.u.world.gateways j ≡ Some did.g =
@@ -403,8 +403,8 @@ module _ (shut : (h : List HistoryEntry) → is_close_due h ≡ false → AreShu
           ap (λ (i : ℕ). slice_get did.u.machines i) here ∙ did.at.machine in
           let same_gateway : did.g ≡ g = cc in
           let same_machine : did.m ≡ m = cc in
-          subst (λ (x : Gateway). IsSettled x m) same_gateway
-          (subst (λ (x : Machine). IsSettled did.g x) same_machine did.is)
+          subst (λ (x : Gateway). IsAllWritten x m) same_gateway
+          (subst (λ (x : Machine). IsAllWritten did.g x) same_machine did.is)
       by false e =
           let apart : j ≡ k → ⊥ = λ same. absurd (true≢false (sym (eq-eqb j k same) ∙ e)) in
           let other : j ≡ k + 1 - 1 → ⊥ = λ same. apart (same ∙ back) in

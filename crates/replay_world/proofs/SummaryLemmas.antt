@@ -7,7 +7,7 @@ use Rattle.node_core.specs.Log.{LogEntry}
 use Rattle.node_core.specs.declared.counts.NodeCounts.{NodeCounts}
 use Rattle.once_core.specs.Gateway.{Gateway}
 use Rattle.once_core.specs.World.{node_value}
-use Rattle.replay_world.specs.Summary.{TalliesIf, counts_at, gateway_sums, held_of, node_sums, records_of, stranded_of}
+use Rattle.replay_world.specs.Summary.{TalliesIf, counts_at, filed_of, gateway_sums, held_of, node_sums, stranded_of}
 use Rattle.replay_world.specs.declared.report.Tally.{Tally}
 use Rattle.replay_world.specs.declared.summary.GatewaySums.{GatewaySums}
 use Rattle.replay_world.specs.declared.summary.NodeSums.{NodeSums}
@@ -42,9 +42,9 @@ module _ (gs : List Gateway) (k : ℕ) (tally : Tally) (sums more : GatewaySums)
       by None is told = absurd told
       by (Some g) is told =
           let next : suc k ≡ k + 1 = omega arith in
-          let records : sums.records + tally.records ≡ sum_by records_of (take (suc k) gs) =
+          let records : sums.records + tally.records ≡ sum_by filed_of (take (suc k) gs) =
           ap (λ (s : GatewaySums). s.records + tally.records) so_far
-          ∙ ap (λ (n : ℕ). sum_by records_of (take k gs) + n) told.records ∙ sum_next records_of gs k g is in
+          ∙ ap (λ (n : ℕ). sum_by filed_of (take k gs) + n) told.records ∙ sum_next filed_of gs k g is in
           let held : sums.held + tally.counts.held ≡ sum_by held_of (take (suc k) gs) =
           ap (λ (s : GatewaySums). s.held + tally.counts.held) so_far
           ∙ ap (λ (n : ℕ). sum_by held_of (take k gs) + n) told.held ∙ sum_next held_of gs k g is in

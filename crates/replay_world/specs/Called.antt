@@ -11,7 +11,7 @@ use Rattle.gateway_book.specs.Calls.{Left, taken, ticked}
 use Rattle.gateway_book.specs.Items.{items_of}
 use Rattle.gateway_book.specs.Preparing.{prepared_of}
 use Rattle.gateway_book.specs.Up as up
-use Rattle.gateway_book.specs.Up.{IsCut, IsDown, Sequel, GoesOn, Breaks, Stops, fortune_by}
+use Rattle.gateway_book.specs.Up.{IsCut, HoldsHistory, Sequel, GoesOn, Breaks, Stops, fortune_by}
 use Rattle.gateway_book.specs.Value.{BookValue, Fortune}
 use Rattle.gateway_book.specs.declared.book.Book.{Book}
 use Rattle.gateway_book.specs.declared.outcome.Marked.{Marked}
@@ -40,7 +40,7 @@ moved_after (Stops stands) book g = still (cut (entries_kept stands g) stands g)
 -- Its book stands as a call left it of which this came.
 pub record BookStands {A : Type 0} {tells : Ghosts A} (setup : Setup) (place : ℕ) (value : BookValue)
     (sequel : Sequel) (book : Book A tells) : Type 0 where
-  pub stands : up.Stands (header_at setup place) sequel value book
+  pub stands : up.StandsAfter (header_at setup place) sequel value book
   pub size : size_of book ≡ setup.size
   pub open_time : open_time_of book ≡ setup.limits.open_time
 
@@ -56,7 +56,7 @@ pub record BookIsCut {A : Type 0} {tells : Ghosts A} (setup : Setup) (place : �
   pub size : size_of book ≡ setup.size
 
 pub record AreaIsDown (setup : Setup) (place : ℕ) (h : List HistoryEntry) (area : MemoryArea) : Type 0 where
-  pub down : IsDown area_tells (header_at setup place) h area
+  pub down : HoldsHistory area_tells (header_at setup place) h area
   pub is_armed : IsArmed Nothing (area_tells.fate area).schedule
   pub size : area_tells.size area ≡ setup.size
 

@@ -6,7 +6,7 @@ use Rattle.file_writer.specs.Files.{AreFilesOf}
 use Rattle.file_writer.specs.Leaving.{AreOpenFiles}
 use Rattle.gateway_book.specs.Items.{items_of}
 use Rattle.gateway_book.specs.Opened.{StandsFitFor}
-use Rattle.gateway_book.specs.Up.{IsDown}
+use Rattle.gateway_book.specs.Up.{HoldsHistory}
 use Rattle.gateway_book.specs.Value.{history_of}
 use Rattle.gw_base.specs.declared.history.HistoryEntry.{HistoryEntry}
 use Rattle.once_core.specs.Gateway.{Gateway}
@@ -16,17 +16,17 @@ use Rattle.replay_world.specs.Written.{shelf_tells}
 use Rattle.replay_world.specs.Value.{Machine, ReplayValue}
 use Rattle.replay_world.specs.declared.replay.Played.{Played}
 
--- the history that the area of a gateway keeps that is down, or isn't
-abbrev pub IsKept : Bool → Gateway → List HistoryEntry → Type 0
-IsKept true g h = h ≡ history_of g.book
-IsKept false g h = (h ≡ g.book.firm) ⊎ (h ≡ g.book.firm ++ g.book.rest)
+-- the area of a gateway leaves this history: its whole one where it is down, else what is firm of it, or all of it
+abbrev pub LeavesHistory : Bool → Gateway → List HistoryEntry → Type 0
+LeavesHistory true g h = h ≡ history_of g.book
+LeavesHistory false g h = (h ≡ g.book.firm) ⊎ (h ≡ g.book.firm ++ g.book.rest)
 
 -- The area of a gateway stands for its history, or, of one that isn't down, for the firm entries and maybe those behind
 -- them. Of one that goes on a crash leaves the firm entries, whatever else it does to the area.
 pub record IsAreaOf (setup : Setup) (place : ℕ) (g : Gateway) (a : MemoryArea) : Type 0 where
   pub history : List HistoryEntry
-  pub down : IsDown area_tells (header_at setup place) history a
-  pub kept : IsKept g.is_down g history
+  pub holds : HoldsHistory area_tells (header_at setup place) history a
+  pub kept : LeavesHistory g.is_down g history
   pub crash : g.is_down ≡ false → g.book.is_broken ≡ false → (octets : List ℕ) → area_tells.may_leave a octets →
       StandsFitFor (header_at setup place) octets g.book.firm
 

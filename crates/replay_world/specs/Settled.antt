@@ -16,7 +16,7 @@ AreShut items = (settings : Settings) (s : ℕ) → (stream_division settings s 
 
 -- The gateway runs, and its journal is open; its whole history is firm, and all items of it were written; and the files
 -- that these close, which are sealed, have all records.
-pub record IsSettled (g : Gateway) (m : Machine) : Type 0 where
+pub record IsAllWritten (g : Gateway) (m : Machine) : Type 0 where
   pub runs : g.is_down ≡ false
   pub whole : g.book.is_broken ≡ false
   pub firm : g.book.rest ≡ []
@@ -26,7 +26,7 @@ pub record IsSettled (g : Gateway) (m : Machine) : Type 0 where
 -- so it is of the gateway in a place, if there is one, and of all
 abbrev pub IsWritten : ReplayValue → ℕ → Type 0
 IsWritten v place = (g : Gateway) (m : Machine) → slice_get v.world.gateways place ≡ Some g →
-    slice_get v.machines place ≡ Some m → IsSettled g m
+    slice_get v.machines place ≡ Some m → IsAllWritten g m
 
 abbrev pub AreWritten : ReplayValue → Type 0
 AreWritten v = (place : ℕ) → IsWritten v place

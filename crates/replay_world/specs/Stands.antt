@@ -8,7 +8,7 @@ use Rattle.area_disk.specs.declared.memory.MemoryArea.{MemoryArea}
 use Rattle.gate_journal.specs.Format.{header}
 use Rattle.gateway_book.specs.Book.{open_time_of, size_of}
 use Rattle.gateway_book.specs.Items.{items_of}
-use Rattle.gateway_book.specs.Up.{IsDown, IsUp}
+use Rattle.gateway_book.specs.Up.{HoldsHistory, IsUp}
 use Rattle.gateway_book.specs.Value.{history_of}
 use Rattle.gateway_book.specs.declared.book.Book.{Book}
 use Rattle.node_core.specs.Log.{LogEntry, counter_of}
@@ -71,7 +71,7 @@ module _ (setup : Setup) (place : ℕ) (g : Gateway) (m : Machine) where
   -- It is down, with this area, for whose calls nothing is armed, and no answer waits.
   pub record StandsDown {A : Type 0} (tells : Ghosts A) (area : A) : Type 0 where
     pub stopped : g.is_down ≡ true
-    pub down : IsDown tells (header_at setup place) (history_of g.book) area
+    pub down : HoldsHistory tells (header_at setup place) (history_of g.book) area
     pub is_armed : IsArmed Nothing (tells.fate area).schedule
     pub unarmed : m.armed ≡ Nothing
     pub silent : g.waiting ≡ []

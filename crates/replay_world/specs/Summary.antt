@@ -20,8 +20,8 @@ use Rattle.replay_world.specs.declared.summary.Summary.{Summary}
 
 -- Gateways: of one that is down its book is meant as it would be opened, but for its Start.
 
-abbrev pub records_of : Gateway → ℕ
-records_of g = length (filed (book_of g).firm)
+abbrev pub filed_of : Gateway → ℕ
+filed_of g = length (filed (book_of g).firm)
 
 abbrev pub held_of : Gateway → ℕ
 held_of g = (copies_of (history_of (book_of g))).held
@@ -31,7 +31,7 @@ stranded_of g = (copies_of (history_of (book_of g))).stranded
 
 abbrev pub gateway_sums : List Gateway → GatewaySums
 gateway_sums gs = record {
-  records = sum_by records_of gs;
+  records = sum_by filed_of gs;
   held = sum_by held_of gs;
   stranded = sum_by stranded_of gs;
 }

@@ -239,7 +239,7 @@ fn close(book: &mut Book<MemoryArea>, now: Moment) -> Result<(), NoMemory>
 
 /// What the area of a book made of the last call.
 fn came_of(book: &Book<MemoryArea>) -> Came
-    ensures { (header : List ℕ) (value : BookValue) (sequel : Sequel) → up.Stands header sequel value book.now →
+    ensures { (header : List ℕ) (value : BookValue) (sequel : Sequel) → up.StandsAfter header sequel value book.now →
         result ≡ came_of sequel }
 {
     if book.stopped() {

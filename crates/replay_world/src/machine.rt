@@ -2,7 +2,7 @@
 ghost use Rattle.std.specs.Prelude.{◌≡◌, ◌≤◌, ℕ, [], ◌∷◌, IfOk, List, MatchOption, None, OnOk, Some, false, true};
 ghost use Rattle.area_disk.specs.Armed.{Armed};
 ghost use Rattle.area_disk.specs.Armed.Armed.{Nothing};
-ghost use Rattle.gateway_book.specs.Up.{IsDown};
+ghost use Rattle.gateway_book.specs.Up.{HoldsHistory};
 ghost use Rattle.gw_base.specs.declared.history.HistoryEntry.{HistoryEntry};
 ghost use Rattle.once_core.specs.Addresses.{gateway_address};
 ghost use Rattle.once_core.specs.Beginning.{first_gateway};
@@ -203,7 +203,7 @@ impl Machine {
         requires long { 100 ≤ area_tells.size area }
         requires short { area_tells.size area ≤ 268435456 }
         ensures down { (setup : SetupValue) (place : ℕ) (h : List HistoryEntry) →
-            IsDown area_tells (header_at setup place) h area → area_tells.size area ≡ setup.size →
+            HoldsHistory area_tells (header_at setup place) h area → area_tells.size area ≡ setup.size →
             SiteIsDown setup place h self.new.site }
         ensures none { self.new.waiting.items ≡ [] }
         ensures rest { self.new ≡ record self.old { site = self.new.site; waiting = self.new.waiting } }

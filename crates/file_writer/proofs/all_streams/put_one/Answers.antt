@@ -6,7 +6,7 @@ use Rattle.file_writer.specs.AllStreams.{StreamAt}
 use Rattle.file_writer.specs.Calls.{Call, calls_at, calls_below}
 use Rattle.file_writer.specs.Following.{IsLeft, IsSafe}
 use Rattle.file_writer.specs.Making.{Makes, Went, ending_at}
-use Rattle.file_writer.specs.Streams.{filed_record, stream_count, stream_division}
+use Rattle.file_writer.specs.Streams.{stream_count, stream_division, stream_record}
 use Rattle.file_writer.specs.declared.stream.Stream.{Stream}
 use Rattle.file_writer.proofs.AllLemmas.{at_stays, calls_are, each_set, no_calls, not_taken, only_one, safe_stays, taken_at}
 use Rattle.file_writer.proofs.FollowingLemmas.{no_result}
@@ -17,7 +17,7 @@ use Rattle.file_writer.proofs.all_streams.put_one.Goals as goal
 pub returns-in_err-streams-clause-takes : goal.returns-in_err-streams-clause-takes
 returns-in_err-streams-clause-takes g c = λ settings closed sealed before item same goes each.
     let s : ℕ = c.args.s in
-    let x = Record (filed_record c.args.next.kind c.args.next.octets.now c.args.next.moment) in
+    let x = Record (stream_record c.args.next.kind c.args.next.octets.now c.args.next.moment) in
     let stream : Stream = c.index-streams-s.result in
     let at : StreamAt g.F.Shelf settings closed sealed before s stream c.args.shelf.now =
     subst (λ (st : Stream). StreamAt g.F.Shelf settings closed sealed before s st c.args.shelf.now)
@@ -43,7 +43,7 @@ returns-in_err-streams-clause-takes g c = λ settings closed sealed before item 
 pub returns-clause-takes : goal.returns-clause-takes
 returns-clause-takes g c = λ settings closed sealed before item same goes each.
     let s : ℕ = c.args.s in
-    let x = Record (filed_record c.args.next.kind c.args.next.octets.now c.args.next.moment) in
+    let x = Record (stream_record c.args.next.kind c.args.next.octets.now c.args.next.moment) in
     let stream : Stream = c.index-streams-s.result in
     let at : StreamAt g.F.Shelf settings closed sealed before s stream c.args.shelf.now =
     subst (λ (st : Stream). StreamAt g.F.Shelf settings closed sealed before s st c.args.shelf.now)

@@ -10,7 +10,7 @@ use Rattle.file_rotate.specs.declared.open_file.OpenFile.{OpenFile}
 use Rattle.file_writer.specs.Calls.{Call, appending, calls_at, closed_by, closing}
 use Rattle.file_writer.specs.Following.{Follows, IsUp, Pairs}
 use Rattle.file_writer.specs.Making.{Makes, Went, ending_at, ending_of}
-use Rattle.file_writer.specs.Streams.{filed_record}
+use Rattle.file_writer.specs.Streams.{stream_record}
 use Rattle.file_writer.specs.Writing.{ClosesOpen, appending_of, filed_of, settings_of}
 use Rattle.file_writer.proofs.FollowingLemmas.{FactsLaws, append_follows, append_stays, append_up, appending_is, close_follows, close_stays, close_up, closed_count, closed_sealed, grown_closes, makes_closing, no_answer, pairs_closed, pairs_grown, record_closes, stays_then}
 use Rattle.file_writer.proofs.LeavingLemmas.{append_left, close_left}
@@ -24,7 +24,7 @@ returns-in_err-file-clause-takes g c = λ run behind.
     let s : ℕ = c.args.s in
     let kept : Option OpenFile = stream.cutter.file in
     let settings = settings_of c.args.gateway.now in
-    let filed : Filed (List ℕ) = filed_record c.args.next.kind c.args.next.octets.now c.args.next.moment in
+    let filed : Filed (List ℕ) = stream_record c.args.next.kind c.args.next.octets.now c.args.next.moment in
     let next : FiledRecord = filed_of c.args.next.kind c.args.next.octets.now c.args.next.moment in
     let b : Option ClosureReason = c.reason_of.result in
     let is_b : b ≡ kind_change kept next.kind =
@@ -65,7 +65,7 @@ returns-in_err-file-2-clause-takes g c = λ run behind.
     let s : ℕ = c.args.s in
     let kept : Option OpenFile = stream.cutter.file in
     let settings = settings_of c.args.gateway.now in
-    let filed : Filed (List ℕ) = filed_record c.args.next.kind c.args.next.octets.now c.args.next.moment in
+    let filed : Filed (List ℕ) = stream_record c.args.next.kind c.args.next.octets.now c.args.next.moment in
     let next : FiledRecord = filed_of c.args.next.kind c.args.next.octets.now c.args.next.moment in
     let b : Option ClosureReason = c.reason_of.result in
     let is_b : b ≡ kind_change kept next.kind =
@@ -111,7 +111,7 @@ returns-in_err-file-3-clause-takes g c = λ run behind.
     let s : ℕ = c.args.s in
     let kept : Option OpenFile = stream.cutter.file in
     let settings = settings_of c.args.gateway.now in
-    let filed : Filed (List ℕ) = filed_record c.args.next.kind c.args.next.octets.now c.args.next.moment in
+    let filed : Filed (List ℕ) = stream_record c.args.next.kind c.args.next.octets.now c.args.next.moment in
     let next : FiledRecord = filed_of c.args.next.kind c.args.next.octets.now c.args.next.moment in
     let b : Option ClosureReason = c.reason_of.result in
     let is_b : b ≡ kind_change kept next.kind =
@@ -183,7 +183,7 @@ returns-clause-takes g c = λ run behind.
     let s : ℕ = c.args.s in
     let kept : Option OpenFile = stream.cutter.file in
     let settings = settings_of c.args.gateway.now in
-    let filed : Filed (List ℕ) = filed_record c.args.next.kind c.args.next.octets.now c.args.next.moment in
+    let filed : Filed (List ℕ) = stream_record c.args.next.kind c.args.next.octets.now c.args.next.moment in
     let next : FiledRecord = filed_of c.args.next.kind c.args.next.octets.now c.args.next.moment in
     let b : Option ClosureReason = c.reason_of.result in
     let is_b : b ≡ kind_change kept next.kind =
@@ -268,7 +268,7 @@ returns-clause-safe g c =
     let s : ℕ = c.args.s in
     let kept : Option OpenFile = stream.cutter.file in
     let settings = settings_of c.args.gateway.now in
-    let filed : Filed (List ℕ) = filed_record c.args.next.kind c.args.next.octets.now c.args.next.moment in
+    let filed : Filed (List ℕ) = stream_record c.args.next.kind c.args.next.octets.now c.args.next.moment in
     let next : FiledRecord = filed_of c.args.next.kind c.args.next.octets.now c.args.next.moment in
     let b : Option ClosureReason = c.reason_of.result in
     let is_b : b ≡ kind_change kept next.kind =

@@ -1,7 +1,7 @@
 use Rattle.std.proofs.Common.{◌≡◌, List, [], ℕ, OnOk, Option, ap, subst, sym, ◌∙◌, map}
 use Rattle.std.specs.Option.{option_map_or}
 use Rattle.gw_base.specs.Entry.{entry_view}
-use Rattle.gateway_book.specs.Filed.{present_key, records_of}
+use Rattle.gateway_book.specs.Filed.{filed_under, present_key}
 use Rattle.gateway_book.specs.Gathering.{gathered}
 use Rattle.gateway_book.specs.HeldCopies.{places_of}
 use Rattle.gateway_book.specs.Items.{part_of}
@@ -15,7 +15,7 @@ returns-in_default-held_packet-clause-items g c = λ told before are.
     let n = c.args.node in
     sym (ap (λ (records : List FiledRecord). gathered (map part_of records) c.args.into.now)
     (released_in c.args.trail.now (places_of c.args.copies.now) before n c.args.number c.args.moment c.in-Some.k (entry_view c.in-Ok.entry) are c.in-Some.ensures (c.in-Ok.ensures.entry told)
-    ∙ ap (λ (packet : Option (List ℕ)). option_map_or (records_of (present_key before n c.args.number) c.args.moment) packet []) (sym c.in_default-held_packet.ensures))
+    ∙ ap (λ (packet : Option (List ℕ)). option_map_or (filed_under (present_key before n c.args.number) c.args.moment) packet []) (sym c.in_default-held_packet.ensures))
     ∙ none_more c.args.into.now)
 
 pub returns-clause-items : goal.returns-clause-items
@@ -23,5 +23,5 @@ returns-clause-items g c = λ told before are.
     let n = c.args.node in
     subst (λ (records : List FiledRecord). OnOk c.add_packet.result (c.add_packet.new.into ≡ gathered (map part_of records) c.args.into.now))
     (sym (released_in c.args.trail.now (places_of c.args.copies.now) before n c.args.number c.args.moment c.in-Some.k (entry_view c.in-Ok.entry) are c.in-Some.ensures (c.in-Ok.ensures.entry told)
-    ∙ ap (λ (packet : Option (List ℕ)). option_map_or (records_of (present_key before n c.args.number) c.args.moment) packet []) (sym c.in-Some-held_packet.ensures)))
+    ∙ ap (λ (packet : Option (List ℕ)). option_map_or (filed_under (present_key before n c.args.number) c.args.moment) packet []) (sym c.in-Some-held_packet.ensures)))
     (c.add_packet.ensures.items (present_key before n c.args.number))

@@ -5,5 +5,5 @@ use Rattle.once_core.proofs.once_laws.a_node_may_follow_the_procedure.Goals as g
 pub returns-clause-follows : goal.returns-clause-follows
 returns-clause-follows c = follows
 
-pub returns-clause-placed : goal.returns-clause-placed
-returns-clause-placed c = refl
+pub returns-clause-filed : goal.returns-clause-filed
+returns-clause-filed c = refl

@@ -6,7 +6,7 @@ use Rattle.gateway_book.specs.Book.{area_of, value_of}
 use Rattle.gateway_book.specs.Comes.{left_by_stop}
 use Rattle.gateway_book.specs.Opened.{StandsFitFor}
 use Rattle.gateway_book.specs.Value.{BookValue}
-use Rattle.replay_world.specs.Played.{IsKept}
+use Rattle.replay_world.specs.Played.{LeavesHistory}
 use Rattle.replay_world.specs.Stands.{SiteStands, area_tells, header_at}
 use Rattle.replay_world.specs.declared.machine.Site.{Site}
 use Rattle.replay_world.proofs.AreaLemmas.{left_kept}
@@ -19,13 +19,13 @@ returns-in-Some-Up c = λ setup place g m stands.
     let history = left_by_stop New c.in-Some-Up.book in
     record {
       history = history;
-      down = record {
+      holds = record {
         stands = subst (λ (a : MemoryArea). StandsFitFor (header_at setup place) (area_tells.octets a) history)
             (sym c.into_area.ensures.area)
             (subst (λ (h : List ℕ). StandsFitFor h (area_tells.octets (area_of c.in-Some-Up.book)) history) up.up.named
             (c.into_area.ensures.leaves.reads refl (refl, refl)));
       };
-      kept = subst (λ (b : Bool). IsKept b g history) (sym up.runs)
+      kept = subst (λ (b : Bool). LeavesHistory b g history) (sym up.runs)
           (left_kept (is_closed c.in-Some-Up.book.trail && stop_stands New c.in-Some-Up.book.trail)
           (value_of c.in-Some-Up.book) g.book up.up.value);
       crash = λ runs sound octets may.

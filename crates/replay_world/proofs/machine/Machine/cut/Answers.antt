@@ -1,6 +1,6 @@
 use Rattle.std.proofs.Common.{◌≡◌, refl, sym, ap, subst, ◌∙◌, Option, Some}
 use Rattle.area_disk.specs.declared.memory.MemoryArea.{MemoryArea}
-use Rattle.gateway_book.specs.Up.{IsDown}
+use Rattle.gateway_book.specs.Up.{HoldsHistory}
 use Rattle.replay_world.specs.Called.{SiteIsCut}
 use Rattle.replay_world.specs.Stands.{area_tells, header_at}
 use Rattle.replay_world.specs.declared.machine.Site.{Site}
@@ -15,7 +15,7 @@ returns-clause-down c = λ setup place h is_cut.
     let down = c.what_a_gateway_leaves.ensures.cut (refl, refl) refl (header_at setup place) c.in-Some-Up.book h
     c.into_area.ensures.leaves cut.cut in (
       c.leave.ensures.down setup place h
-          (subst (λ (a : MemoryArea). IsDown area_tells (header_at setup place) h a) (sym c.into_area.ensures.area) down)
+          (subst (λ (a : MemoryArea). HoldsHistory area_tells (header_at setup place) h a) (sym c.into_area.ensures.area) down)
           (ap (λ (a : MemoryArea). area_tells.size a) c.into_area.ensures.area ∙ cut.size),
       c.leave.ensures.none,
     )

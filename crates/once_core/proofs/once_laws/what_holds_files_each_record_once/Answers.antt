@@ -1,5 +1,5 @@
 use Rattle.once_core.proofs.OnceLemmas.{each_of_scene}
-use Rattle.once_core.proofs.once_laws.what_holds_places_each_record_once.Goals as goal
+use Rattle.once_core.proofs.once_laws.what_holds_files_each_record_once.Goals as goal
 
 pub returns : goal.returns
 returns c = each_of_scene

@@ -26,15 +26,15 @@ abbrev pub kind_within : List ℕ → Option CdrKind
 kind_within octets = option_map (λ form. kind_of form.format form.version) (packet_of octets)
 
 -- the copy is held, or it was cancelled
-abbrev pub is_rejected : KeyState → Bool
-is_rejected Held = true
-is_rejected Cancelled = true
-is_rejected _ = false
+abbrev pub is_withheld : KeyState → Bool
+is_withheld Held = true
+is_withheld Cancelled = true
+is_withheld _ = false
 
 -- how often the record with this index was filed under the keys of these copies, which a node sent in a start, by the
 -- histories of all gateways
-abbrev pub places_of : (ℕ → List HistoryEntry) → ℕ → ℕ → List PacketCopy → ℕ → ℕ
-places_of histories node start copies index =
+abbrev pub filing_count : (ℕ → List HistoryEntry) → ℕ → ℕ → List PacketCopy → ℕ → ℕ
+filing_count histories node start copies index =
     sum_by (λ (copy : PacketCopy). times_with node start copy.number index (histories copy.gateway)) copies
 
 -- a record that was filed under a copy's key, in the epoch with the start
@@ -48,10 +48,10 @@ pub record IsFiledUnder (h : List HistoryEntry) (node start number : ℕ) (filin
 -- held or cancelled; and what was filed for a copy is the packet's record with that index, in the packet's kind.
 pub record IsOnce (histories : ℕ → List HistoryEntry) (node start : ℕ) (octets : List ℕ) (packet : PacketState) : Type 0 where
   pub resolved : is_resolved packet.copies ≡ true → (index : ℕ) → index < record_count octets →
-      places_of histories node start packet.copies index ≡ 1
-  pub at_most : (index : ℕ) → places_of histories node start packet.copies index ≤ 1
-  pub rejected : All (λ (copy : PacketCopy).
-      is_rejected (state_with node start copy.number (histories copy.gateway)) ≡ true → (index : ℕ) →
+      filing_count histories node start packet.copies index ≡ 1
+  pub at_most : (index : ℕ) → filing_count histories node start packet.copies index ≤ 1
+  pub withheld : All (λ (copy : PacketCopy).
+      is_withheld (state_with node start copy.number (histories copy.gateway)) ≡ true → (index : ℕ) →
       times_with node start copy.number index (histories copy.gateway) ≡ 0) packet.copies
   pub content : All (λ (copy : PacketCopy). (filing : FiledRecord) →
       IsFiledUnder (histories copy.gateway) node start copy.number filing →
