@@ -2,13 +2,18 @@
 # Small tools for whoever works on this repository. Plain shell: bash, awk, grep, find, sort and comm.
 #
 #   ./do check CRATE    proves a crate, with its tests; what was proved before is kept
+#   ./do prove          builds the proved program, which ./cgf runs from then on
+#   ./do install FOLDER copies the proved program with its page and its completion to FOLDER, where it runs without the kit
 #   ./do gate           the gate: everything from nothing, and how long it took
 #   ./do where NAME     where a name is defined and where its body stands, and the clauses, tests, edits and pages that
 #                       speak of it; also a lemma, test, edit or file of that name; NAME may have a crate, and a
-#                       type or a file, in front, which say where it stands: gw_base::Moment::of
+#                       type or a file, in front, which say where it stands: gw_base::Moment::of; a number, as of a
+#                       cause, finds its constants
+#   ./do map [CRATE]    what each file of the crates, or of one, holds: its first line
 #   ./do proved [CRATE] the public calls with their clauses, made from the sources
 #   ./do stories        puts the stories in examples/ behind those of crates/story_runs, where they have changed
 #   ./do docs           what the documents say that the sources don't; silent where there is nothing
+unset CDPATH
 top=$(dirname "$(readlink -f "$0")")
 cd "$top" || exit 1
 
@@ -42,12 +47,38 @@ definitions() {
 . tools/proved.sh
 . tools/stories.sh
 . tools/docs.sh
+. tools/program.sh
+. tools/install.sh
+
+# The first line of each file of a crate: of its definitions, then of its sources.
+map() {
+    local file
+    echo "$1"
+    for file in $(specs "$1" | grep -v /Lib.antt) $(sources "$1"); do
+        printf '    %-34s %s\n' "${file#crates/"$1"/}" "$(sed -n '/^\(--\|\/\/[!\/]\)/ { s/^\(--\|\/\/[!\/]\) *//; p; q }' "$file")"
+    done
+}
 
 case ${1:-} in
 check)
     [ $# = 2 ] || usage
     [ -d "crates/$2" ] || { echo "no crate has the name $2" >&2; exit 1; }
     cd "crates/$2" && rt check && rt check --test
+    ;;
+prove)
+    [ $# = 1 ] || usage
+    prove_program || exit
+    ;;
+install)
+    [ $# = 2 ] || usage
+    install_program "$2"
+    ;;
+map)
+    [ $# -le 2 ] || usage
+    for crate in ${2:-$(ls crates)}; do
+        [ -d "crates/$crate" ] || { echo "no crate has the name $crate" >&2; exit 1; }
+        map "$crate"
+    done
     ;;
 gate)
     started=$(date +%s)

@@ -53,7 +53,7 @@ model) of=model stories=(examples/*.feed examples/*.replay) ;;
     ;;
 esac
 # the first run builds the program, where that isn't done
-[ $of = model ] || echo end | ./cgf feed - >/dev/null || exit 1
+[ $of = model ] || ./do prove || exit 1
 for story in "${stories[@]}"; do
     compare "$story"
 done

@@ -1,7 +1,7 @@
 #!/bin/bash
 # How long `feed` takes for scripts of 16 MiB, on one core: small datagrams of several kinds, up to tens of thousands of
 # keys that are held at once, and the longest lists of them; bench/feed/scripts.py says what each kind is. Run it at the
-# top of the repository; ./cgf builds the program first where that is wanting. The words are the kinds, all of them
+# top of the repository; ./do prove builds the program first where that is wanting. The words are the kinds, all of them
 # where there is none; RUNS in the environment says how many runs each best time is taken of, 3 where it is wanting.
 #
 # For each kind:
@@ -62,7 +62,7 @@ measure() {
     fi
 }
 
-echo end | ./cgf feed - >/dev/null || exit 1
+./do prove || exit 1
 for kind in ${*:-echoes packets falling files held lists epochs}; do
     measure "$kind"
 done

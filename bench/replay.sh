@@ -1,7 +1,7 @@
 #!/bin/bash
 # How long the commands `drill` and `replay` take, on one core: of seed 7 with four nodes, three gateways and 2,000
 # packets, 22,665 lines that print 13,062 messages; and of ten times as many packets. Run it at the top of the repository;
-# ./cgf builds the program first where that is wanting. RUNS in the environment says how many runs each best time is taken
+# ./do prove builds the program first where that is wanting. RUNS in the environment says how many runs each best time is taken
 # of, 3 where it is wanting. The exit status is 1 where the small drill takes five seconds or more, or a sum is wrong.
 #
 # For each:
@@ -44,7 +44,7 @@ if [ "$1" = lines ]; then
     lines "${@:2}"
     exit
 fi
-echo end | ./cgf replay - >/dev/null || exit 1
+./do prove || exit 1
 for packets in 2000 20000; do
     echo "$packets packets:"
     # of five packets one each has one record, two, and so on

@@ -1,7 +1,7 @@
 #!/bin/bash
 # How long the longest scripts take: 16 MiB of comments, of empty lines and of blank words, a line past the bound, 128 of
 # the largest datagrams whose records are nested BER values that are refused at their last octet, 128 of the longest
-# lists, and 10,000 small datagrams. Run it at the top of the repository once ./cgf has built the program. Each line is
+# lists, and 10,000 small datagrams. Run it at the top of the repository once ./do prove has built the program. Each line is
 # the seconds of one run, the exit status, what was run, and for datagrams how many octets of them and how many of them
 # were read in a second.
 cd "$(dirname "$0")/.." || exit 1
@@ -53,7 +53,7 @@ listed() {
     times 32747 0001
 }
 
-./cgf feed examples/first.feed >/dev/null || exit 1
+./do prove || exit 1
 (yes '#' | head -c $((MOST - 4)); echo; echo end) | head -c "$MOST" >"$work/comments"
 (yes '' | head -c $((MOST - 4)); echo end) >"$work/empty"
 head -c $((MOST + 1)) /dev/zero | tr '\0' '#' >"$work/long"

@@ -17,6 +17,19 @@ edits() {
 where() {
     local wanted=$1 crate= type= word rest found=0
     local -x LC_ALL=C
+    # a number is that of a constant, as causes are; what is no name may stand in a page or in a story
+    if [[ $wanted =~ ^[0-9][0-9_,]*$ ]]; then
+        numbered "${wanted//[_,]/}"
+        return
+    fi
+    if [[ ! $wanted =~ ^[A-Za-z_0-9]+(::[A-Za-z_0-9]+)*$ ]]; then
+        rest=$(grep -rnF --include='*.md' -- "$wanted" README.md CONTRIBUTING.md docs
+            grep -nF -- "$wanted" crates/*/stdout)
+        show "documents and stories" "$(cut -c 1-110 <<<"$rest")"
+        [ -n "$rest" ] && return
+        echo "no document and no story has $wanted" >&2
+        return 1
+    fi
     word=${wanted##*::}
     rest=${wanted%"$word"}
     rest=${rest%::}
@@ -98,9 +111,17 @@ where() {
         fi
     fi
     # a definition without a body of its name is tried by what tries the calls whose clauses cite it
-    [ -n "$bodies" ] || [ -z "$defined" ] ||
+    local anew=$bodies$'\n'$defined
+    if [ -z "$bodies" ] && [ -n "$defined" ]; then
         bodies=$(cut -f 2 <<<"$citations" | awk -F'\t' 'NR == FNR { wanted[$0] = 1; next }
             $1 == "item" && (($2 ":" $3) in wanted)' - <(printf '%s\n' "$all"))
+        if [ -n "$bodies" ] && ! grep -q ^test <<<"$hits"; then
+            text=$(awk -F'\t' '{ sub(/^.*::/, "", $7); print $7 }' <<<"$bodies" | sort -u | paste -sd '|')
+            text="[^A-Za-z0-9_]($text)(::<[^(]*>)?[(]"
+            crates=$(reaching "$bodies" "")
+            hits=$(enclosing "$text" "$crates" "" "" "$bodies" <<<"$all")
+        fi
+    fi
     [ -z "$bodies$defined" ] || tried "$all" "$bodies" "$word" "$text" "$crates" "$type" "$hits"
     # a definition and a constant whose names differ in capitals alone
     local other=
@@ -128,6 +149,50 @@ where() {
         echo "no file, definition, body or document has the name $wanted" >&2
         return 1
     fi
+    show "proved anew where it changes" "$(above "$(cut -f 1,2 <<<"$anew" | grep -oE 'crates/[a-z_0-9]+' |
+        cut -d / -f 2 | sort -u)" | paste -sd ' ' | fold -s -w 100)"
+}
+
+# Where a number stands as a constant: its lines, and where the first such constant is used.
+numbered() {
+    local constants names
+    constants=$(sources | xargs grep -nE "const [A-Z_0-9]+: [a-z0-9]+ = $(sed 's/[0-9]/&_?/g' <<<"$1");")
+    names=$(specs | xargs grep -nE "^[a-z_0-9]+ = $1\$")
+    if [ -z "$constants$names" ]; then
+        echo "no constant is $1" >&2
+        return 1
+    fi
+    show "constants that are $1" "$constants"
+    show "definitions that are $1" "$names"
+    show documents "$(grep -rnwE --include='*.md' -- "$(rev <<<"$1" | sed -E 's/([0-9]{3})([0-9])/\1?,\2/g' | rev)" \
+        README.md CONTRIBUTING.md docs | cut -c 1-110)"
+    sed -E 's/^.*const ([A-Z_0-9]+):.*/\1/; s/^[^:]*:[0-9]+:([a-z_0-9]+) = .*/\1/' <<<"$constants${constants:+
+}$names" | grep . | sort -u | while read -r name; do
+        echo
+        echo "== $name"
+        where "$name"
+    done
+}
+
+# These crates, and those that stand on them, in the order of crates.txt's names.
+above() {
+    awk -v first="$1" '
+        BEGIN { n = split(first, list, /[ \n]+/); for (i = 1; i <= n; i++) hit[list[i]] = 1 }
+        { sub(/#.*/, "") }
+        /:/ {
+            name = $0; sub(/( staticlib)?:.*/, "", name)
+            deps[name] = $0; sub(/^[^:]*:/, "", deps[name])
+        }
+        END {
+            do {
+                more = 0
+                for (name in deps) if (!(name in hit)) {
+                    n = split(deps[name], list, " ")
+                    for (i = 1; i <= n; i++) if (list[i] in hit) { hit[name] = 1; more = 1; break }
+                }
+            } while (more)
+            for (name in hit) if (name in deps) print name
+        }' crates.txt | sort
 }
 
 # A heading and the first lines under it, where there are any.
