@@ -3,12 +3,13 @@ use Rattle.std.specs.Prelude.{ℕ, ◌≡◌, ◌≤◌, ◌++◌, Bool, true, L
 use Rattle.gw_base.specs.declared.history.HistoryEntry.{HistoryEntry}
 
 -- The numbers hold always, the lists where they are told: a size that stays, counts of faults and of cuts that never
--- fall, a length that never falls, the list of entries that the value stands for, those that are firm, and those that
--- a fault tore off the list, of which nobody knows whether they will be found again
+-- fall, how many entries the list has, a length that never falls, the list of entries that the value stands for, those
+-- that are firm, and those that a fault tore off the list, of which nobody knows whether they will be found again
 pub record Facts : Type 0 where
   pub size : ℕ
   pub faults : ℕ
   pub cuts : ℕ
+  pub entries : ℕ
   pub length : ℕ
   pub list : List HistoryEntry
   pub firm : List HistoryEntry
@@ -18,11 +19,17 @@ pub record Facts : Type 0 where
 abbrev pub joined : Facts → List HistoryEntry
 joined f = f.list ++ f.torn
 
--- facts that fit together: the list begins with the firm part, and the length is at most that of the firm part
-pub record AreSound (f : Facts) : Type 0 where
-  pub begins : (rest : List HistoryEntry) × (f.list ≡ f.firm ++ rest)
-  pub within : f.length ≤ length f.firm
-
 -- a fact of the lists, which holds where they are told
 abbrev pub WhereTold : Bool → Type 0 → Type 0
 WhereTold told fact = told ≡ true → fact
+
+-- Facts that fit together.
+pub record AreSound (told : Bool) (f : Facts) : Type 0 where
+  -- each cut came by a fault
+  pub cut : f.cuts ≤ f.faults
+  -- the length counts entries of the list
+  pub within : f.length ≤ f.entries
+  pub counted : WhereTold told (f.entries ≡ length f.list)
+  -- the list begins with the firm part, and the length is at most that of the firm part
+  pub begins : WhereTold told ((rest : List HistoryEntry) × (f.list ≡ f.firm ++ rest))
+  pub firm : WhereTold told (f.length ≤ length f.firm)

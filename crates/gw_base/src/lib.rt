@@ -46,7 +46,7 @@ pub use act::lists;
 pub use address::{Absolute, Addr, GatewayId, NodeId};
 pub use buffer::Buffer;
 pub use clock::Clock;
-pub use counted::Counted;
+pub use counted::{Counted, a_count_rose_or_stood};
 pub use entry::{Act, Entry};
 pub use fault::{Failed, Full, NoMemory};
 pub use history::{Absolutes, Caller, HistoryAct, HistoryEntry, Opening, PacketKey};

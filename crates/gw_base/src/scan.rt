@@ -56,7 +56,7 @@ pub fn epoch(history: &[HistoryEntry], node: NodeId) -> u64
 }
 
 /// How far a scan for one key has come: the epoch of the key's node, and the key's state.
-#[derive(Clone, Copy, Debug, PartialEq, Eq)]
+#[derive(Clone, Copy, PartialEq, Eq)]
 struct KeyScan {
     epoch: u64,
     state: KeyState,
