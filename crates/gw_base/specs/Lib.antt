@@ -13,6 +13,7 @@ pub mod MemorySink
 pub mod MemorySource
 pub mod Nearest
 pub mod Observed
+pub mod Owes
 pub mod Starts
 pub mod TickDue
 pub mod View
