@@ -1,6 +1,5 @@
 -- What the window of a node knows after a gateway's history, and how one more entry changes it.
-use Rattle.std.specs.Prelude.{◌≡◌, ℕ, ◌<◌, ◌==◌, true, if◌then◌else◌, List, ◌∷◌, ◌++◌, Option}
-use Rattle.std.specs.Option.{ForSome}
+use Rattle.std.specs.Prelude.{◌≡◌, ℕ, ◌<◌, ◌==◌, true, if◌then◌else◌, List, ◌∷◌, ◌++◌, IfSome}
 use Rattle.gw_base.specs.declared.history.HistoryAct.{HistoryAct}
 use Rattle.gw_base.specs.declared.history.HistoryAct.TheVariants.{Path, File, Hold, Seal, Release, Cancel}
 use Rattle.gw_base.specs.declared.history.HistoryEntry.{HistoryEntry}
@@ -24,7 +23,7 @@ seen_after half node _ seen = seen
 
 -- no number of the present epoch above the greatest one has a state
 abbrev pub IsFreshAbove : ℕ → List HistoryEntry → Type 0
-IsFreshAbove node h = (n : ℕ) → ForSome (top_of node h) (λ top. top < n) → present_state node n h ≡ Fresh
+IsFreshAbove node h = (n : ℕ) → IfSome (top_of node h) (λ top. top < n) → present_state node n h ≡ Fresh
 
 -- a Release or a Cancel of the node names held numbers alone
 abbrev pub NamesHeld : ℕ → List HistoryEntry → HistoryAct → Type 0

@@ -29,10 +29,7 @@ with_state half number state seen = within half (raised seen.top number) (λ n. 
 
 -- with a state for those of these numbers that the window holds
 abbrev pub with_states : ℕ → List ℕ → KeyState → Seen → Seen
-with_states half numbers state seen = record {
-  top = seen.top;
-  state = λ n. if is_within half seen.top n && list_any (λ x. x == n) numbers then state else seen.state n;
-}
+with_states half numbers state seen = within half seen.top (λ n. if list_any (λ x. x == n) numbers then state else seen.state n)
 
 -- moved up, so that a number isn't above the greatest one
 abbrev pub moved_to : ℕ → ℕ → Seen → Seen

@@ -129,7 +129,7 @@ impl<const HALF: usize> Window<HALF> {
     }
 
     /// Gives a state to those of these numbers that the window holds.
-    pub fn set_held(&mut self, numbers: &[Absolute], state: KeyState)
+    pub fn set_within(&mut self, numbers: &[Absolute], state: KeyState)
         ensures { seen_of HALF self.new ≡ with_states HALF numbers.now state (seen_of HALF self.old) }
     {
         for number in numbers {

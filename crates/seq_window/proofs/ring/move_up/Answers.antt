@@ -1,1 +1,0 @@
-use Rattle.seq_window.proofs.ring.move_up.Goals as goal
