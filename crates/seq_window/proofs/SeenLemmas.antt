@@ -147,8 +147,8 @@ put_is half top at x s cells new count inside held is = same_seen _ _ (sym (rais
     there : (n : ℕ) → top ≤ n + half → n ≤ top → (x ≡ n → ⊥) → slice_index_or new (cell_below (half + 1) at (top - n)) Fresh ≡ slice_index_or cells (cell_below (half + 1) at (top - n)) Fresh
     there n a b ne = ap (λ (xs : List KeyState). slice_index_or xs (cell_below (half + 1) at (top - n)) Fresh) is
         ∙ get_or-set_other cells (cell_below (half + 1) at (top - x)) (cell_below (half + 1) at (top - n)) s Fresh
-          (λ e. let same : top - n ≡ top - x = cells_apart (half + 1) at (top - n) (top - x) inside (omega (arith, a)) (omega (arith, x_facts.0)) e in
-            ne (omega (arith, same, b, x_facts.1)))
+        (λ e. let same : top - n ≡ top - x = cells_apart (half + 1) at (top - n) (top - x) inside (omega (arith, a)) (omega (arith, x_facts.0)) e in
+        ne (omega (arith, same, b, x_facts.1)))
 
     go : (n : ℕ) (w b : Bool) → is_within half (Some top) n ≡ w → (x == n) ≡ b
         → (if w then slice_index_or new (cell_below (half + 1) at (top - n)) Fresh else Fresh)
@@ -181,7 +181,7 @@ moved_is half top x at new_at cells new count up m = same_seen _ _ (λ i. Some (
         ap (λ (k : ℕ). slice_index_or new (cell_below k new_at (x - n)) Fresh) m.count
         ∙ m.cells (x - n) (omega (arith, b.0, count))
         ∙ elim (cases_lt top n) as (λ z. (if nat_lt (x - n) (x - top) then Fresh else slice_index_or cells (cell_below (length cells) at (x - n - (x - top))) Fresh)
-            ≡ (if is_within half (Some top) n then slice_index_or cells (cell_below (length cells) at (top - n)) Fresh else Fresh)) [
+        ≡ (if is_within half (Some top) n then slice_index_or cells (cell_below (length cells) at (top - n)) Fresh else Fresh)) [
           | inl lt ↦ rw (lt-ltb (x - n) (x - top) (omega (arith, lt, b.1, up)), not_held_above half top n lt) refl
           | inr le ↦ rw (le-ltb (x - n) (x - top) (omega (arith, le, up)), held_by_facts half top n (omega (arith, b.0, up)) le)
               (ap (λ (k : ℕ). slice_index_or cells (cell_below (length cells) at k) Fresh) (omega (arith, le, up, b.1)))

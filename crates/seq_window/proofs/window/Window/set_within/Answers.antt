@@ -1,4 +1,4 @@
-use Rattle.std.proofs.Common.{◌≡◌, ℕ, List, ap, sym, ◌∙◌, take, true, false}
+use Rattle.std.proofs.Common.{ℕ, List, ap, sym, ◌∙◌, take}
 use Rattle.std.proofs.lemmas.List.{take_more}
 use Rattle.seq_window.specs.Seen.{with_states}
 use Rattle.seq_window.specs.Stored.{seen_of}
