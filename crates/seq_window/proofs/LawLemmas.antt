@@ -1,5 +1,5 @@
 -- A window after a list of calls, and after a history.
-use Rattle.std.proofs.Common.{◌≡◌, ℕ, ◌<◌, max, ◌==◌, ◌&&◌, Bool, true, false, cond, if◌then◌else◌, List, [], ◌∷◌, ◌++◌, fold, filter, map, Option, Some, None, refl, sym, ap, subst, ◌∙◌, append_assoc, arith}
+use Rattle.std.proofs.Common.{◌≡◌, ℕ, ◌<◌, ◌==◌, ◌&&◌, Bool, true, false, cond, if◌then◌else◌, List, [], ◌∷◌, ◌++◌, fold, filter, map, Option, Some, None, refl, sym, ap, subst, ◌∙◌, append_assoc, arith}
 use Rattle.std.specs.List.{last_or, list_any}
 use Rattle.std.specs.Option.{option_map_or}
 use Rattle.std.proofs.lemmas.Bool.{ne_eqb}
@@ -25,9 +25,6 @@ raised_above None x n a = (tt, a)
 raised_above (Some t) x n a = (omega (arith, a), omega (arith, a))
 
 -- ---- calls
-
-numbers : List Setting → List ℕ
-numbers sets = map (λ (s : Setting). s.number) sets
 
 greatest-sets : (sets : List Setting) (s : Setting) → greatest (map (λ (t : Setting). t.number) (sets ++ s ∷ [])) ≡ raised (greatest (map (λ (t : Setting). t.number) sets)) s.number
 greatest-sets sets s = ap greatest (map-append (λ (t : Setting). t.number) sets (s ∷ [])) ∙ greatest-push (map (λ (t : Setting). t.number) sets) s.number
@@ -78,9 +75,6 @@ with_several half top f xs s = same_seen _ _ refl (λ n. at n (is_within half to
 pub window_follows : (half node : ℕ) (h : List HistoryEntry) (e : HistoryEntry) → IsFreshAbove node h → window_of half node (h ++ e ∷ []) ≡ seen_after half node e.act (window_of half node h)
 window_follows half node h e fresh = (λ i. within half (top_of-append node h e i) (λ n. present_state-append node n h e i)) ∙ by_act e.act
   where
-    top : Option ℕ
-    top = top_of node h
-
     by_number : (b : Bool) (x : ℕ) (s : KeyState)
         → within half (if b then raised (top_of node h) x else top_of node h) (λ n. if b && (x == n) then s else present_state node n h)
         ≡ (if b then with_state half x s (window_of half node h) else window_of half node h)

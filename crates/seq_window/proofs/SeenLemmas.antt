@@ -1,15 +1,15 @@
 -- What a window knows, restated.
-use Rattle.std.proofs.Common.{◌≡◌, ℕ, ◌+◌, ◌-◌, ◌<◌, ◌≤◌, max, ◌==◌, ◌&&◌, ◌||◌, Bool, true, false, cond, if◌then◌else◌, nat_le, nat_lt, List, [], ◌∷◌, ◌++◌, length, slice_index_or, Option, Some, None, refl, sym, ap, ◌∙◌, inl, inr, arith}
+use Rattle.std.proofs.Common.{◌≡◌, ℕ, ◌+◌, ◌-◌, ◌<◌, ◌≤◌, max, ◌==◌, ◌||◌, Bool, true, false, if◌then◌else◌, nat_le, nat_lt, List, [], ◌∷◌, ◌++◌, length, slice_index_or, Option, Some, None, refl, sym, ap, ◌∙◌, inl, inr, arith}
 use Rattle.std.specs.List.{list_any}
 use Rattle.std.specs.Prelude.{IfSome, slice_set}
-use Rattle.std.proofs.lemmas.Bool.{and_left, and_parts, and_right, cases_lt, eqb-true, eqb-false, false≢true, le-leb, leb-true, lt-leb, le-ltb, lt-ltb}
+use Rattle.std.proofs.lemmas.Bool.{and_parts, and_right, cases_lt, eqb-true, eqb-false, false≢true, le-leb, leb-true, lt-leb, le-ltb, lt-ltb}
 use Rattle.std.proofs.lemmas.List.{get_or-set_same, get_or-set_other, length-set}
 use Rattle.std.proofs.lemmas.List.Folds.{list_any-append}
 use Rattle.gw_base.specs.Lists.{raised}
 use Rattle.gw_base.specs.declared.key_state.KeyState.{KeyState}
 use Rattle.gw_base.specs.declared.key_state.KeyState.TheVariants.{Fresh}
 use Rattle.seq_window.specs.Seen.{Seen, is_within, moved_to, with_state, with_states, within}
-use Rattle.seq_window.specs.Stored.{HasCells, IsMovedUp, Stored, cell_below, cell_state, seen_of}
+use Rattle.seq_window.specs.Stored.{HasCells, IsMovedUp, cell_below, cell_state, seen_of}
 use Rattle.seq_window.proofs.RingLemmas.{cell_inside, cells_apart}
 
 pub same_seen : (one other : Seen) → one.top ≡ other.top → ((n : ℕ) → one.state n ≡ other.state n) → one ≡ other

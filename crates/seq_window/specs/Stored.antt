@@ -1,5 +1,5 @@
 -- How a window is stored: a ring of cells, one for each number that it holds. Public clauses cite `seen_of` alone.
-use Rattle.std.specs.Prelude.{◌≡◌, ℕ, ◌+◌, ◌-◌, ◌^◌, ◌<◌, ◌≤◌, if◌then◌else◌, nat_le, nat_lt, List, [], length, slice_index_or, Option, Some, None}
+use Rattle.std.specs.Prelude.{◌≡◌, ℕ, ◌+◌, ◌-◌, ◌^◌, ◌<◌, if◌then◌else◌, nat_le, nat_lt, List, [], length, slice_index_or, Option, Some, None}
 use Rattle.gw_base.specs.declared.key_state.KeyState.{KeyState}
 use Rattle.gw_base.specs.declared.key_state.KeyState.TheVariants.{Fresh}
 use Rattle.seq_window.specs.Seen.{Seen, within}

@@ -2,7 +2,7 @@
 //! a function that does nothing.
 ghost use Rattle.std.specs.Prelude.{◌≡◌, ℕ, List, [], ◌∷◌, ◌++◌, fold};
 ghost use Rattle.gw_base.specs.declared.history.HistoryEntry.{HistoryEntry};
-ghost use Rattle.seq_window.specs.Seen.{Seen, nothing_seen, with_state};
+ghost use Rattle.seq_window.specs.Seen.{nothing_seen, with_state};
 ghost use Rattle.seq_window.specs.Sets.{Setting, seen_by};
 ghost use Rattle.seq_window.specs.Histories.{EachNamesHeld, IsFreshAbove, NamesHeld, seen_after, window_of};
 

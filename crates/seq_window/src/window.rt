@@ -1,5 +1,5 @@
 // The window of one node.
-ghost use Rattle.std.specs.Prelude.{◌≡◌, ℕ, ◌+◌, ◌^◌, ◌<◌, ◌≤◌, true, IfOk, IfSome};
+ghost use Rattle.std.specs.Prelude.{◌≡◌, ◌+◌, ◌^◌, ◌<◌, ◌≤◌, true, IfOk, IfSome};
 ghost use Rattle.gw_base.specs.Nearest.{nearest};
 ghost use Rattle.seq_window.specs.Seen.{is_within, moved_to, nothing_seen, with_state, with_states};
 ghost use Rattle.seq_window.specs.Stored.{seen_of};
