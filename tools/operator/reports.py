@@ -1,5 +1,6 @@
 """Reports of feeds and of replays, and the CDR files in them."""
 
+import re
 import struct
 from typing import NamedTuple
 
@@ -68,6 +69,19 @@ def stamp(value):
     sign = "+" if value >> 11 & 1 else "-"
     day = f"{value >> 28:02}-{value >> 23 & 31:02} {value >> 18 & 31:02}:{value >> 12 & 63:02}"
     return f"{day} {sign}{value >> 6 & 31:02}:{value & 63:02}"
+
+
+LINE = re.compile(
+    r"- \w+|(?:[0-9A-F]{2})+|(?:fault|stopped|down|expired|packet|refused|resolved|done|held|stranded|records|packets) \S+"
+    r"|m \d+ \S+ \S+ [0-9A-F]+|drop \d+ \w+|file \d+ \S+ [0-9A-F]+|(?:gateway|node) \d+ .*"
+)
+
+
+def check(path, lines):
+    """Each line is one of a report."""
+    for place, line in enumerate(lines, 1):
+        if not LINE.fullmatch(line):
+            raise words.Ended(f"{path}:{place}: no line of a report: {line[:60]}")
 
 
 def file_of(line):
