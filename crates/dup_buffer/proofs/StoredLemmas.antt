@@ -1,158 +1,246 @@
--- What the entries of the map say of the copies that they stand for.
-use Rattle.std.proofs.Common.{◌≡◌, ℕ, ◌+◌, ◌-◌, ◌==◌, ◌&&◌, not, Bool, true, false, if◌then◌else◌, List, [], ◌∷◌, ◌++◌, Option, None, Some, is_some, length, length-append, filter, refl, sym, ap, subst, ◌∙◌, true≢false, arith}
-use Rattle.std.proofs.lemmas.Bool.{eqb-true}
+-- What the stored copies say of those that are held.
+use Rattle.std.proofs.Common.{◌≡◌, ℕ, zero, suc, ◌+◌, ◌-◌, ◌<◌, ◌≤◌, ◌==◌, ◌&&◌, not, Bool, true, false, cond, if◌then◌else◌, List, [], ◌∷◌, ◌++◌, Option, None, Some, is_some, length, take, drop, drop-cons, filter, refl, sym, ap, subst, ◌∙◌, true≢false, arith}
+use Rattle.std.specs.List.{count_by, find}
+use Rattle.std.specs.Option.{option_map}
+use Rattle.std.specs.Prelude.{slice_index_or}
+use Rattle.std.proofs.lemmas.Bool.{and_parts, eqb-true}
+use Rattle.std.proofs.lemmas.List.Edits.{length-insert, length-remove}
 use Rattle.std.proofs.lemmas.List.Filters.{length-filter_both}
-use Rattle.std.proofs.lemmas.List.Sums.{length-filter, sum_by-append, sum_by-cons}
-use Rattle.std.specs.List.{count_by}
-use Rattle.std.specs.Map.{lookup, remove_entry}
-use Rattle.gw_base.specs.declared.place.Place.{Place}
-use Rattle.dup_buffer.specs.declared.held.Key.{Key}
+use Rattle.std.proofs.lemmas.List.Sums.{length-filter, sum_by-cons, sum_by-insert, sum_by-remove}
 use Rattle.dup_buffer.specs.Copies.{Copies, with_copy, without_copy, without_node}
-use Rattle.dup_buffer.specs.Stored.{Stored, copies_of, is_of, same_key}
+use Rattle.dup_buffer.specs.Stored.{IsFound, Stored, copies_of, is_copy_of, is_of, place_of}
+use Rattle.dup_buffer.specs.declared.copy.HeldCopy.{HeldCopy}
+use Rattle.dup_buffer.proofs.OrderLemmas.{key_of}
 
 pub same_copies : (one other : Copies) → one.place_of ≡ other.place_of → one.count ≡ other.count → one.count_of ≡ other.count_of → one ≡ other
 same_copies one other p c n = λ i. record { place_of = p i; count = c i; count_of = n i }
 
--- ---- tests of keys
+-- these copies, whatever spare room there is
+abbrev pub stored : List HeldCopy → Stored
+stored copies = record { entries = copies; spare = 0 }
 
--- keys that pass the test are equal
-equal_keys : (key other : Key) → same_key key other ≡ true → key ≡ other
-equal_keys key other h = by (key.node == other.node) (key.number == other.number) refl refl h
+abbrev with_one : List HeldCopy → ℕ → HeldCopy → List HeldCopy
+with_one copies at one = take at copies ++ one ∷ drop at copies
+
+abbrev without_one : List HeldCopy → ℕ → List HeldCopy
+without_one copies at = take at copies ++ drop (suc at) copies
+
+-- ---- the first that passes
+
+first_of : Option HeldCopy → Option HeldCopy → Option HeldCopy
+first_of None other = other
+first_of (Some copy) other = Some copy
+
+find-append : (p : HeldCopy → Bool) (xs ys : List HeldCopy) → find p (xs ++ ys) ≡ first_of (find p xs) (find p ys)
+unfolding first_of
+find-append p [] ys = refl
+find-append p (x ∷ xs) ys = by (p x) (find-append p xs ys)
   where
-    by : (m n : Bool) → (key.node == other.node) ≡ m → (key.number == other.number) ≡ n → (m && n) ≡ true → key ≡ other
-    by true true e f h = λ i. record { node = eqb-true key.node other.node e i; number = eqb-true key.number other.number f i }
-    by true false e f h = absurd (true≢false (sym h))
-    by false n e f h = absurd (true≢false (sym h))
+    by : (b : Bool) → find p (xs ++ ys) ≡ first_of (find p xs) (find p ys) → cond b (Some x) (find p (xs ++ ys)) ≡ first_of (cond b (Some x) (find p xs)) (find p ys)
+    by true rest = refl
+    by false rest = rest
 
--- ---- counts
+none_in_front : (a b : Option HeldCopy) → first_of a b ≡ None → a ≡ None
+unfolding first_of
+none_in_front None b e = refl
+none_in_front (Some x) b e = absurd (cc)
 
-count_by-cons : (f : Key × Place → Bool) (e : Key × Place) (es : List (Key × Place)) → count_by f (e ∷ es) ≡ (if f e then 1 else 0) + count_by f es
-count_by-cons f e es = sum_by-cons (λ x. if f x then 1 else 0) e es
+parts : (copies : List HeldCopy) (at : ℕ) → take at copies ++ drop at copies ≡ copies
+parts [] zero = refl
+parts [] (suc at) = refl
+parts (copy ∷ copies) zero = refl
+parts (copy ∷ copies) (suc at) = ap (λ (l : List HeldCopy). copy ∷ l) (parts copies at)
 
--- an entry counts where it passes
-count_by-pass : (f : Key × Place → Bool) (e : Key × Place) (es : List (Key × Place)) (r : Bool) → f e ≡ r → count_by f (e ∷ es) ≡ (if r then 1 else 0) + count_by f es
-count_by-pass f e es r p = count_by-cons f e es ∙ ap (λ (t : Bool). (if t then 1 else 0) + count_by f es) p
+find-other : (p : HeldCopy → Bool) (xs ys : List HeldCopy) (one : HeldCopy) → p one ≡ false → find p (xs ++ one ∷ ys) ≡ find p (xs ++ ys)
+find-other p xs ys one fails =
+    find-append p xs (one ∷ ys) ∙ ap (λ (b : Bool). first_of (find p xs) (cond b (Some one) (find p ys))) fails ∙ sym (find-append p xs ys)
 
--- one entry less counts one less where it passes
-pub count_by-remove_entry : (f : Key × Place → Bool) (key : Key) (w : ℕ) → ((place : Place) → (if f (key, place) then 1 else 0) ≡ w)
-    → (entries : List (Key × Place))
-    → count_by f (remove_entry (same_key key) entries) + (if is_some (lookup (same_key key) entries) then w else 0) ≡ count_by f entries
-count_by-remove_entry f key w h [] = refl
-count_by-remove_entry f key w h (e ∷ es) = by (same_key key e.0) refl (count_by-remove_entry f key w h es)
+find-one : (p : HeldCopy → Bool) (xs ys : List HeldCopy) (one : HeldCopy) → p one ≡ true → find p (xs ++ ys) ≡ None → find p (xs ++ one ∷ ys) ≡ Some one
+unfolding first_of
+find-one p xs ys one passes none =
+    find-append p xs (one ∷ ys)
+    ∙ ap (λ (o : Option HeldCopy). first_of o (cond (p one) (Some one) (find p ys))) (none_in_front (find p xs) (find p ys) (sym (find-append p xs ys) ∙ none))
+    ∙ ap (λ (b : Bool). cond b (Some one) (find p ys)) passes
+
+-- ---- one copy more
+
+pub copies_of-one_more : (one : HeldCopy) (copies : List HeldCopy) (at : ℕ) → at ≤ length copies → find (is_copy_of one.node one.number) copies ≡ None
+    → copies_of (stored (with_one copies at one)) ≡ with_copy one.node one.number (place_of one) (copies_of (stored copies))
+copies_of-one_more one copies at inside absent = same_copies _ _
+    (λ i n k. place n k (is_copy_of n k one) refl i)
+    (length-insert copies at one inside)
+    (λ i n. count n (one.node == n) refl i)
   where
-    by : (r : Bool) → same_key key e.0 ≡ r
-        → count_by f (remove_entry (same_key key) es) + (if is_some (lookup (same_key key) es) then w else 0) ≡ count_by f es
-        → count_by f (remove_entry (same_key key) (e ∷ es)) + (if is_some (lookup (same_key key) (e ∷ es)) then w else 0) ≡ count_by f (e ∷ es)
-    by true p rest =
-        let here : (if f e then 1 else 0) ≡ w = subst (λ (k : Key). (if f (k, e.1) then 1 else 0) ≡ w) (equal_keys key e.0 p) (h e.1) in
-        rw p (omega (arith, here, count_by-cons f e es))
-    by false p rest = rw p (omega (arith, rest, count_by-cons f e es, count_by-cons f e (remove_entry (same_key key) es)))
+    place : (n k : ℕ) (b : Bool) → is_copy_of n k one ≡ b → option_map place_of (find (is_copy_of n k) (with_one copies at one))
+        ≡ (if is_copy_of n k one then Some (place_of one) else option_map place_of (find (is_copy_of n k) copies))
+    place n k true e =
+        let key = key_of n k one e in
+        let none : find (is_copy_of n k) copies ≡ None = (λ i. find (is_copy_of (sym key.0 i) (sym key.1 i)) copies) ∙ absent in
+        rw e (ap (λ (o : Option HeldCopy). option_map place_of o)
+        (find-one (is_copy_of n k) (take at copies) (drop at copies) one e (ap (λ (l : List HeldCopy). find (is_copy_of n k) l) (parts copies at) ∙ none)))
+    place n k false e = rw e (ap (λ (o : Option HeldCopy). option_map place_of o)
+        (find-other (is_copy_of n k) (take at copies) (drop at copies) one e ∙ ap (λ (l : List HeldCopy). find (is_copy_of n k) l) (parts copies at)))
 
--- ---- a node's entries
+    count : (n : ℕ) (b : Bool) → (one.node == n) ≡ b → count_by (is_of n) (with_one copies at one) ≡ (if one.node == n then count_by (is_of n) copies + 1 else count_by (is_of n) copies)
+    count n true e = rw e (sum_by-insert (λ (c : HeldCopy). if is_of n c then 1 else 0) copies at one ∙ ap (λ (b : Bool). count_by (is_of n) copies + (if b then 1 else 0)) e)
+    count n false e = rw e (sum_by-insert (λ (c : HeldCopy). if is_of n c then 1 else 0) copies at one ∙ ap (λ (b : Bool). count_by (is_of n) copies + (if b then 1 else 0)) e ∙ (omega arith))
 
--- the entries of the other nodes
-abbrev others : ℕ → List (Key × Place) → List (Key × Place)
-others node entries = filter (λ e. not (e.0.node == node)) entries
+-- ---- one copy less
 
-pub lookup-filter : (node : ℕ) (key : Key) (entries : List (Key × Place))
-    → lookup (same_key key) (others node entries) ≡ (if key.node == node then None else lookup (same_key key) entries)
-lookup-filter node key [] = by (key.node == node)
+abbrev nothing : HeldCopy
+nothing = record { number = 0; at = 0; node = 0; length = 0 }
+
+whole : (copies : List HeldCopy) (at : ℕ) (d : HeldCopy) → at < length copies → take at copies ++ slice_index_or copies at d ∷ drop (suc at) copies ≡ copies
+whole copies at d lt = ap (λ (l : List HeldCopy). take at copies ++ l) (sym (drop-cons copies at d lt)) ∙ parts copies at
+
+-- in what is left no copy of the number stands
+none_left : (p : HeldCopy → Bool) (copies : List HeldCopy) (at : ℕ) → at < length copies → ((j : ℕ) (d : HeldCopy) → j < length copies → (j ≡ at → ⊥) → p (slice_index_or copies j d) ≡ false)
+    → find p (without_one copies at) ≡ None
+none_left p [] at lt fails = absurd (omega (arith, lt))
+none_left p (copy ∷ copies) zero lt fails = all_fail copies (λ j d in_it. fails (suc j) d (omega (arith, in_it)) (λ e. omega (arith, e)))
   where
-    by : (r : Bool) → ◌≡◌ {A = Option Place} None (if r then None else None)
+    all_fail : (xs : List HeldCopy) → ((j : ℕ) (d : HeldCopy) → j < length xs → p (slice_index_or xs j d) ≡ false) → find p xs ≡ None
+    all_fail [] f = refl
+    all_fail (x ∷ xs) f = rw (f 0 x (omega arith)) (all_fail xs (λ j d in_it. f (suc j) d (omega (arith, in_it))))
+none_left p (copy ∷ copies) (suc at) lt fails =
+    rw (fails 0 copy (omega arith) (λ e. omega (arith, e)))
+    (none_left p copies at (omega (arith, lt)) (λ j d in_it ne. fails (suc j) d (omega (arith, in_it)) (λ e. ne (omega (arith, e)))))
+
+pub found_is : (node number : ℕ) (copies : List HeldCopy) (at : ℕ) (d : HeldCopy) → IsFound copies at node number → find (is_copy_of node number) copies ≡ Some (slice_index_or copies at d)
+found_is node number copies at d is =
+    ap (λ (l : List HeldCopy). find (is_copy_of node number) l) (sym (whole copies at d is.inside))
+    ∙ find-one (is_copy_of node number) (take at copies) (drop (suc at) copies) (slice_index_or copies at d) (is.named d) (none_left (is_copy_of node number) copies at is.inside is.others)
+
+pub held_if_found : (node number : ℕ) (copies : List HeldCopy) (at : ℕ) → IsFound copies at node number
+    → ◌≡◌ {A = ℕ} (if is_some (option_map place_of (find (is_copy_of node number) copies)) then 1 else 0) 1
+held_if_found node number copies at is = rw (found_is node number copies at nothing is) refl
+
+pub copies_of-one_less : (node number : ℕ) (copies : List HeldCopy) (at : ℕ) → IsFound copies at node number
+    → copies_of (stored (without_one copies at)) ≡ without_copy node number (copies_of (stored copies))
+copies_of-one_less node number copies at is = same_copies _ _
+    (λ i n k. place n k ((node == n) && (number == k)) refl i)
+    (omega (arith, length-remove copies at is.inside, held_if_found node number copies at is))
+    (λ i n. count n (node == n) refl i)
+  where
+    key : ((slice_index_or copies at nothing).node ≡ node) × ((slice_index_or copies at nothing).number ≡ number)
+    key = key_of node number (slice_index_or copies at nothing) (is.named nothing)
+
+    place : (n k : ℕ) (b : Bool) → ((node == n) && (number == k)) ≡ b → option_map place_of (find (is_copy_of n k) (without_one copies at))
+        ≡ (if (node == n) && (number == k) then None else option_map place_of (find (is_copy_of n k) copies))
+    place n k true e =
+        let b = and_parts (node == n) (number == k) e in
+        let same_node : node ≡ n = eqb-true node n b.0 in
+        let same_number : number ≡ k = eqb-true number k b.1 in
+        rw e (ap (λ (o : Option HeldCopy). option_map place_of o)
+        ((λ i. find (is_copy_of (sym same_node i) (sym same_number i)) (without_one copies at)) ∙ none_left (is_copy_of node number) copies at is.inside is.others))
+    place n k false e =
+        let fails : is_copy_of n k (slice_index_or copies at nothing) ≡ false = (λ i. (key.0 i == n) && (key.1 i == k)) ∙ e in
+        rw e (ap (λ (o : Option HeldCopy). option_map place_of o)
+        (sym (find-other (is_copy_of n k) (take at copies) (drop (suc at) copies) (slice_index_or copies at nothing) fails)
+        ∙ ap (λ (l : List HeldCopy). find (is_copy_of n k) l) (whole copies at nothing is.inside)))
+
+    -- the copies of a node, by whether the one that goes is one of them
+    left : (n : ℕ) → count_by (is_of n) (without_one copies at) + (if node == n then 1 else 0) ≡ count_by (is_of n) copies
+    left n =
+        ap (λ (m : ℕ). count_by (is_of n) (without_one copies at) + (if m == n then 1 else 0)) (sym key.0)
+        ∙ sum_by-remove (λ (c : HeldCopy). if is_of n c then 1 else 0) copies at nothing is.inside
+
+    count : (n : ℕ) (b : Bool) → (node == n) ≡ b → count_by (is_of n) (without_one copies at)
+        ≡ (if node == n then count_by (is_of n) copies - (if is_some (option_map place_of (find (is_copy_of node number) copies)) then 1 else 0) else count_by (is_of n) copies)
+    count n true e =
+        let all : count_by (is_of n) (without_one copies at) + 1 ≡ count_by (is_of n) copies = ap (λ (b : Bool). count_by (is_of n) (without_one copies at) + (if b then 1 else 0)) (sym e) ∙ left n in
+        rw (e, held_if_found node number copies at is) (omega (arith, all))
+    count n false e =
+        let all : count_by (is_of n) (without_one copies at) + 0 ≡ count_by (is_of n) copies = ap (λ (b : Bool). count_by (is_of n) (without_one copies at) + (if b then 1 else 0)) (sym e) ∙ left n in
+        rw e (omega (arith, all))
+
+pub copies_of-none_less : (node number : ℕ) (copies : List HeldCopy) → find (is_copy_of node number) copies ≡ None
+    → copies_of (stored copies) ≡ without_copy node number (copies_of (stored copies))
+copies_of-none_less node number copies none = same_copies _ _
+    (λ i n k. place n k ((node == n) && (number == k)) refl i)
+    (rw none (omega arith))
+    (λ i n. count n (node == n) i)
+  where
+    place : (n k : ℕ) (b : Bool) → ((node == n) && (number == k)) ≡ b → option_map place_of (find (is_copy_of n k) copies)
+        ≡ (if (node == n) && (number == k) then None else option_map place_of (find (is_copy_of n k) copies))
+    place n k true e =
+        let b = and_parts (node == n) (number == k) e in
+        let same_node : node ≡ n = eqb-true node n b.0 in
+        let same_number : number ≡ k = eqb-true number k b.1 in
+        rw e (ap (λ (o : Option HeldCopy). option_map place_of o) ((λ i. find (is_copy_of (sym same_node i) (sym same_number i)) copies) ∙ none))
+    place n k false e = rw e refl
+
+    count : (n : ℕ) (b : Bool) → count_by (is_of n) copies
+        ≡ (if b then count_by (is_of n) copies - (if is_some (option_map place_of (find (is_copy_of node number) copies)) then 1 else 0) else count_by (is_of n) copies)
+    count n true = rw none (omega arith)
+    count n false = refl
+
+-- ---- a node's copies
+
+-- those of the other nodes
+abbrev others : ℕ → List HeldCopy → List HeldCopy
+others node copies = filter (λ c. not (c.node == node)) copies
+
+find-filter : (node n k : ℕ) (copies : List HeldCopy) → find (is_copy_of n k) (others node copies) ≡ (if n == node then None else find (is_copy_of n k) copies)
+find-filter node n k [] = by (n == node)
+  where
+    by : (r : Bool) → ◌≡◌ {A = Option HeldCopy} None (if r then None else None)
     by true = refl
     by false = refl
-lookup-filter node key (e ∷ es) = by (e.0.node == node) (same_key key e.0) refl refl (lookup-filter node key es)
+find-filter node n k (e ∷ es) = by (e.node == node) (is_copy_of n k e) refl refl (find-filter node n k es)
   where
-    by : (r t : Bool) → (e.0.node == node) ≡ r → same_key key e.0 ≡ t
-        → lookup (same_key key) (others node es) ≡ (if key.node == node then None else lookup (same_key key) es)
-        → lookup (same_key key) (others node (e ∷ es)) ≡ (if key.node == node then None else lookup (same_key key) (e ∷ es))
+    by : (r t : Bool) → (e.node == node) ≡ r → is_copy_of n k e ≡ t
+        → find (is_copy_of n k) (others node es) ≡ (if n == node then None else find (is_copy_of n k) es)
+        → find (is_copy_of n k) (others node (e ∷ es)) ≡ (if n == node then None else find (is_copy_of n k) (e ∷ es))
     by true true p q rest =
-        let of_node : (key.node == node) ≡ true = subst (λ (k : Key). (k.node == node) ≡ true) (sym (equal_keys key e.0 q)) p in
+        let key = key_of n k e q in
+        let of_node : (n == node) ≡ true = ap (λ (m : ℕ). m == node) (sym key.0) ∙ p in
         rw (p, q, of_node) (rest ∙ rw of_node refl)
     by true false p q rest = rw (p, q) rest
     by false true p q rest =
-        let of_other : (key.node == node) ≡ false = subst (λ (k : Key). (k.node == node) ≡ false) (sym (equal_keys key e.0 q)) p in
+        let key = key_of n k e q in
+        let of_other : (n == node) ≡ false = ap (λ (m : ℕ). m == node) (sym key.0) ∙ p in
         rw (p, q, of_other) refl
     by false false p q rest = rw (p, q) rest
 
-pub count_by-filter : (node n : ℕ) (entries : List (Key × Place)) → count_by (is_of n) (others node entries) ≡ (if n == node then 0 else count_by (is_of n) entries)
+count_by-pass : (f : HeldCopy → Bool) (e : HeldCopy) (es : List HeldCopy) (r : Bool) → f e ≡ r → count_by f (e ∷ es) ≡ (if r then 1 else 0) + count_by f es
+count_by-pass f e es r p = sum_by-cons (λ x. if f x then 1 else 0) e es ∙ ap (λ (t : Bool). (if t then 1 else 0) + count_by f es) p
+
+count_by-filter : (node n : ℕ) (copies : List HeldCopy) → count_by (is_of n) (others node copies) ≡ (if n == node then 0 else count_by (is_of n) copies)
 count_by-filter node n [] = by (n == node)
   where
     by : (r : Bool) → ◌≡◌ {A = ℕ} 0 (if r then 0 else 0)
     by true = refl
     by false = refl
-count_by-filter node n (e ∷ es) = at (e.0.node == node) (e.0.node == n) (n == node) refl refl refl (count_by-filter node n es)
+count_by-filter node n (e ∷ es) = at (e.node == node) (e.node == n) (n == node) refl refl refl (count_by-filter node n es)
   where
-    at : (r t u : Bool) → (e.0.node == node) ≡ r → (e.0.node == n) ≡ t → (n == node) ≡ u
+    at : (r t u : Bool) → (e.node == node) ≡ r → (e.node == n) ≡ t → (n == node) ≡ u
         → count_by (is_of n) (others node es) ≡ (if n == node then 0 else count_by (is_of n) es)
         → count_by (is_of n) (others node (e ∷ es)) ≡ (if n == node then 0 else count_by (is_of n) (e ∷ es))
     at true t true p q u rest = rw (p, u) (rest ∙ rw u refl)
-    at true true false p q u rest = absurd (true≢false (sym (subst (λ (m : ℕ). (m == node) ≡ true) (eqb-true e.0.node n q) p) ∙ u))
+    at true true false p q u rest = absurd (true≢false (sym (subst (λ (m : ℕ). (m == node) ≡ true) (eqb-true e.node n q) p) ∙ u))
     at true false false p q u rest = rw (p, u) (rest ∙ rw u (omega (arith, count_by-pass (is_of n) e es false q)))
-    at false true true p q u rest = absurd (true≢false (sym (sym (subst (λ (m : ℕ). (m == node) ≡ false) (eqb-true e.0.node n q) p) ∙ u)))
+    at false true true p q u rest = absurd (true≢false (sym (sym (subst (λ (m : ℕ). (m == node) ≡ false) (eqb-true e.node n q) p) ∙ u)))
     at false false true p q u rest =
-        let none_left : count_by (is_of n) (others node es) ≡ 0 = rest ∙ rw u refl in
-        rw (p, u) (count_by-pass (is_of n) e (others node es) false q ∙ (omega (arith, none_left)))
+        let none_of_it : count_by (is_of n) (others node es) ≡ 0 = rest ∙ rw u refl in
+        rw (p, u) (count_by-pass (is_of n) e (others node es) false q ∙ (omega (arith, none_of_it)))
     at false t false p q u rest =
-        let left : count_by (is_of n) (others node es) ≡ count_by (is_of n) es = rest ∙ rw u refl in
-        rw (p, u) (omega (arith, left, count_by-cons (is_of n) e es, count_by-cons (is_of n) e (others node es)))
+        let same : count_by (is_of n) (others node es) ≡ count_by (is_of n) es = rest ∙ rw u refl in
+        rw (p, u) (omega (arith, same, count_by-pass (is_of n) e es t q, count_by-pass (is_of n) e (others node es) t q))
 
--- a node's entries are as many as go with it
-pub count_by-is_of : (node : ℕ) (entries : List (Key × Place)) → count_by (is_of node) entries + length (others node entries) ≡ length entries
-count_by-is_of node entries = omega (arith, length-filter (is_of node) entries, length-filter_both (is_of node) (λ e. not (is_of node e)) (λ _. refl) entries)
+-- a node's copies are as many as go with it
+pub count_by-is_of : (node : ℕ) (copies : List HeldCopy) → count_by (is_of node) copies + length (others node copies) ≡ length copies
+count_by-is_of node copies = omega (arith, length-filter (is_of node) copies, length-filter_both (is_of node) (λ e. not (is_of node e)) (λ _. refl) copies)
 
--- ---- the copies that they stand for
-
--- these entries, whatever spare room there is
-abbrev stored : List (Key × Place) → Stored
-stored entries = record { entries = entries; spare = 0 }
-
-pub copies_of-one_more : (key : Key) (place : Place) (old new : List (Key × Place))
-    → ((q : Key) → lookup (same_key q) new ≡ (if same_key key q then Some place else lookup (same_key q) old))
-    → new ≡ old ++ (key, place) ∷ []
-    → copies_of (stored new) ≡ with_copy key.node key.number place (copies_of (stored old))
-copies_of-one_more key place old new found grown = same_copies _ _
-    (λ i n k. found (record { node = n; number = k }) i)
-    (rw grown (length-append old ((key, place) ∷ [])))
-    (λ i n. by n i)
+pub copies_of-node_out : (node : ℕ) (copies : List HeldCopy) → copies_of (stored (others node copies)) ≡ without_node node (copies_of (stored copies))
+copies_of-node_out node copies = same_copies _ _
+    (λ i n k. place n k i)
+    (omega (arith, count_by-is_of node copies))
+    (λ i n. count_by-filter node n copies i)
   where
-    more : (n : ℕ) (r : Bool) → (key.node == n) ≡ r → count_by (is_of n) old + (if key.node == n then 1 else 0) ≡ (if key.node == n then count_by (is_of n) old + 1 else count_by (is_of n) old)
-    more n true e = rw e refl
-    more n false e = rw e (omega arith)
+    by : (r : Bool) (o : Option HeldCopy) → option_map place_of (if r then None else o) ≡ (if r then None else option_map place_of o)
+    by true o = refl
+    by false o = refl
 
-    by : (n : ℕ) → count_by (is_of n) new ≡ (if key.node == n then count_by (is_of n) old + 1 else count_by (is_of n) old)
-    by n = rw grown (sum_by-append (λ x. if is_of n x then 1 else 0) old ((key, place) ∷ []) ∙ (omega (arith, count_by-cons (is_of n) (key, place) [])) ∙ more n (key.node == n) refl)
-
-pub copies_of-one_less : (key : Key) (old new : List (Key × Place))
-    → ((q : Key) → lookup (same_key q) new ≡ (if same_key key q then None else lookup (same_key q) old))
-    → length new + (if is_some (lookup (same_key key) old) then 1 else 0) ≡ length old
-    → new ≡ remove_entry (same_key key) old
-    → copies_of (stored new) ≡ without_copy key.node key.number (copies_of (stored old))
-copies_of-one_less key old new found less left = same_copies _ _
-    (λ i n k. found (record { node = n; number = k }) i)
-    (omega (arith, less))
-    (λ i n. by n (key.node == n) refl (is_some (lookup (same_key key) old)) refl i)
-  where
-    go : (r t : Bool) (few many : ℕ) → few + (if t then (if r then 1 else 0) else 0) ≡ many → few ≡ (if r then many - (if t then 1 else 0) else many)
-    go true true few many e = omega (arith, e)
-    go true false few many e = omega (arith, e)
-    go false true few many e = omega (arith, e)
-    go false false few many e = omega (arith, e)
-
-    -- what the copy counts for
-    weight : (r t : Bool) → ℕ
-    weight r t = if t then (if r then 1 else 0) else 0
-
-    counted : (n : ℕ) → count_by (is_of n) new + weight (key.node == n) (is_some (lookup (same_key key) old)) ≡ count_by (is_of n) old
-    counted n = rw left (count_by-remove_entry (is_of n) key (if key.node == n then 1 else 0) (λ place. refl) old)
-
-    by : (n : ℕ) (r : Bool) → (key.node == n) ≡ r → (t : Bool) → is_some (lookup (same_key key) old) ≡ t → count_by (is_of n) new
-        ≡ (if key.node == n then count_by (is_of n) old - (if is_some (lookup (same_key key) old) then 1 else 0) else count_by (is_of n) old)
-    by n r e t f = let all = counted n in rw (e, f) (go r t (count_by (is_of n) new) (count_by (is_of n) old) (rw (e, f) at all))
-
-pub copies_of-node_out : (node : ℕ) (old : List (Key × Place))
-    → copies_of (stored (others node old)) ≡ without_node node (copies_of (stored old))
-copies_of-node_out node old = same_copies _ _
-    (λ i n k. lookup-filter node (record { node = n; number = k }) old i)
-    (omega (arith, count_by-is_of node old))
-    (λ i n. count_by-filter node n old i)
+    place : (n k : ℕ) → option_map place_of (find (is_copy_of n k) (others node copies)) ≡ (if n == node then None else option_map place_of (find (is_copy_of n k) copies))
+    place n k = ap (λ (o : Option HeldCopy). option_map place_of o) (find-filter node n k copies) ∙ by (n == node) (find (is_copy_of n k) copies)

@@ -1,50 +1,39 @@
-ghost use Rattle.std.specs.Prelude.{◌≡◌, ◌↔◌, ◌≤◌, ◌+◌, not, ◌==◌, None, IfOk, OnOk, OnErr};
+ghost use Rattle.std.specs.Prelude.{◌≡◌, ◌↔◌, ◌≤◌, ◌+◌, None, IfOk, OnOk, OnErr};
 ghost use Rattle.dup_buffer.specs.Stored.{copies_of};
-ghost use Rattle.dup_buffer.specs.Copies.{most_copies, no_copies, with_copy, without_copy, without_node};
+ghost use Rattle.dup_buffer.specs.Copies.{held_of, most_copies, no_copies, with_copy, without_copy, without_node};
 
+use crate::copy::HeldCopy;
 use crate::fault::HoldFault;
+use crate::order::{copy_all, copy_at, drop_copies, search};
 use gw_base::{Absolute, NoMemory, NodeId, Place};
-use indexmap::IndexMap;
 use std::alloc::Global;
 use std::marker::Model;
 
 /// The most copies that a gateway holds.
 const MOST_COPIES: usize = 65_536;
 
-/// What a copy is found by: its node's address and its number.
-#[derive(Clone, Copy, Debug, PartialEq, Eq, Hash)]
-struct Key {
-    node: u32,
-    number: Absolute,
-}
-
-impl Key {
-    fn of(node: NodeId, number: Absolute) -> Key
-        ensures { result ≡ record { node = node.0; number = number } }
-    {
-        Key {
-            node: node.0,
-            number,
-        }
-    }
-}
-
-/// The copies of possibly duplicated packets that a gateway holds, with the place of each in its
-/// journal.
-#[derive(Debug, Drop)]
+/// The copies of possibly duplicated packets that a gateway holds, with the place of each in its journal.
+///
+/// They stand in order of their nodes and numbers. To find one takes a time that grows with the logarithm of their
+/// number; to hold one or take one out moves those behind it, 24 octets each.
+#[derive(Drop)]
 pub struct Held {
-    places: IndexMap<Key, Place>,
+    copies: Vec<HeldCopy>,
 }
 
 impl Model for Held {
-    ghost use Rattle.dup_buffer.specs.Stored.{IsStored, Stored};
-    ghost use Rattle.indexmap.specs.IndexMap.{spare};
+    ghost use Rattle.std.specs.Prelude.{◌-◌, ◌≤◌, length, vec_capacity};
+    ghost use Rattle.dup_buffer.specs.Copies.{most_copies};
+    ghost use Rattle.dup_buffer.specs.Stored.{AreFrom, Stored};
 
     ghost Value = { Stored };
 
-    ghost view = { λ held. record { entries = held.places.entries; spare = spare held.places } };
+    ghost view = { λ held. record {
+      entries = held.copies.items;
+      spare = vec_capacity held.copies - length held.copies.items;
+    } };
 
-    ghost invariant = { λ held. IsStored held.places };
+    ghost invariant = { λ held. AreFrom 0 held.copies.items × (length held.copies.items ≤ most_copies) };
 }
 
 impl Held {
@@ -54,7 +43,7 @@ impl Held {
         ensures room { IfOk result (λ held. spare ≤ held.spare) }
     {
         Ok(Held {
-            places: IndexMap::with_capacity(alloc, spare)?,
+            copies: Vec::with_capacity(alloc, spare)?,
         })
     }
 
@@ -63,14 +52,17 @@ impl Held {
         ensures value { result ≡ (copies_of self.now).count }
         ensures within { result ≤ most_copies }
     {
-        self.places.len()
+        self.copies.len()
     }
 
     /// Where the copy of a node's number lies, if it is held.
     pub fn find(&self, node: NodeId, number: Absolute) -> Option<Place>
         ensures { result ≡ (copies_of self.now).place_of node.0 number }
     {
-        self.places.get(&Key::of(node, number)).copied()
+        match search(&self.copies, node, number) {
+            Ok(at) => Some(copy_at(&self.copies, at).place()),
+            Err(_) => None,
+        }
     }
 
     /// Holds one more copy, which isn't held yet. It takes no memory where there is spare room.
@@ -85,11 +77,20 @@ impl Held {
         ensures spare { self.old.spare ≤ self.new.spare + 1 }
         ensures spare_kept { OnErr result (self.old.spare ≤ self.new.spare) }
     {
-        if self.places.len() >= MOST_COPIES {
+        if self.copies.len() >= MOST_COPIES {
             return Err(HoldFault::Full);
         }
-        match self.places.insert(Key::of(node, number), place) {
-            Ok(_) => Ok(()),
+        let Err(at) = search(&self.copies, node, number) else {
+            unreachable!();
+        };
+        let copy = HeldCopy {
+            number,
+            at: place.at,
+            node: node.0,
+            length: place.length,
+        };
+        match self.copies.insert(at, copy) {
+            Ok(()) => Ok(()),
             Err(_) => Err(HoldFault::NoMemory),
         }
     }
@@ -98,23 +99,31 @@ impl Held {
     pub fn take(&mut self, node: NodeId, number: Absolute) -> Option<Place>
         ensures value { result ≡ (copies_of self.old).place_of node.0 number }
         ensures others { copies_of self.new ≡ without_copy node.0 number (copies_of self.old) }
-        ensures spare { self.old.spare ≤ self.new.spare }
+        ensures spare { self.old.spare + held_of node.0 number (copies_of self.old) ≤ self.new.spare }
     {
-        self.places.shift_remove(&Key::of(node, number))
+        match search(&self.copies, node, number) {
+            Ok(at) => Some(self.copies.remove(at).place()),
+            Err(_) => None,
+        }
     }
 
     /// Takes out all copies of a node, and says how many there were.
     pub fn drop_node(&mut self, node: NodeId) -> u64
         ensures value { result ≡ (copies_of self.old).count_of node.0 }
         ensures others { copies_of self.new ≡ without_node node.0 (copies_of self.old) }
-        ensures spare { self.old.spare ≤ self.new.spare }
+        ensures spare { self.old.spare + (copies_of self.old).count_of node.0 ≤ self.new.spare }
     {
-        let before = self.places.len();
-        self.places.retain(
-            |key: &Key, place: &mut Place| -> bool
-                ensures { (result ≡ not (key.now.node == node.0)) × (place.new ≡ place.old) }
-            { key.node != node.0 },
-        );
-        (before - self.places.len()) as u64
+        let before = self.copies.len();
+        drop_copies(&mut self.copies, node);
+        (before - self.copies.len()) as u64
+    }
+
+    /// Holds what another buffer holds, for which there is room.
+    pub fn copy_from(&mut self, other: &Held)
+        requires { (copies_of other.now).count ≤ (copies_of self.old).count + self.old.spare }
+        ensures copies { copies_of self.new ≡ copies_of other.now }
+        ensures spare { (copies_of self.old).count + self.old.spare ≤ (copies_of self.new).count + self.new.spare }
+    {
+        copy_all(&mut self.copies, &other.copies);
     }
 }

@@ -7,8 +7,10 @@
 //!     let place = held.find(node, number);
 #![tactic(auto)]
 
+mod copy;
 mod fault;
 mod held;
+mod order;
 
 pub use fault::HoldFault;
 pub use held::Held;
