@@ -141,7 +141,7 @@ fn a_quiet_shelf_keeps_what_was_sealed(rt: HostRuntime) -> Result<(), Fail> {
     assert_eq!(rt; shelf.file(SECOND), None);
     assert_eq!(rt; (shelf.sealed(3)?, shelf.sealed(4)?), (1, 0));
     let None = shelf.file(OTHER) else {
-        return Ok(());
+        panic!(rt; "a file that wasn't written")
     };
     assert_eq!(rt; write_file(&mut shelf, OTHER), Ok(()));
     assert_eq!(rt; shelf.sealed(200), Ok(9));
