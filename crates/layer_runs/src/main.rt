@@ -8,6 +8,7 @@
 #![tactic(auto)]
 
 mod cases;
+mod cdrs;
 mod datagrams;
 mod elements;
 mod entries;
@@ -119,7 +120,7 @@ fn answer_of_scene(
     }
 }
 
-/// Prints what a line on the outside in memory, or on a table of cases, is answered.
+/// Prints what a line on the outside in memory, a CDR file or a table of cases is answered.
 fn answer_outside(
     rt: &HostRuntime,
     scene: &mut Scene,
@@ -133,6 +134,13 @@ fn answer_outside(
         "push" => outside::push(rt, &mut scene.sink, words),
         "clock" => outside::clock(rt, &mut scene.clock, words),
         "now" => outside::now(rt, &mut scene.clock),
+        "stamp" => cdrs::stamped(rt, words),
+        "fields" => cdrs::fields(rt, words),
+        "file" => cdrs::file(rt, words),
+        "file-head" => cdrs::file_head(rt, words),
+        "cdr-head" => cdrs::cdr_head(rt, words),
+        "listed" => cdrs::listed(rt, words),
+        "long" => cdrs::long(rt, words),
         "doubled" => cases::doubled(rt, words),
         "row" => cases::row(rt, words),
         _ => Err(bad()),

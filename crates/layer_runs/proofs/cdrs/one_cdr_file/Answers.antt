@@ -1,6 +1,6 @@
 use Rattle.std.proofs.Common.{append_assoc, zero-add}
 use Rattle.std.proofs.lemmas.List.{append-nil}
-use Rattle.trials.proofs.cdr_files.one_cdr_file.Goals as goal
+use Rattle.layer_runs.proofs.cdrs.one_cdr_file.Goals as goal
 
 pub returns : goal.returns
 returns c =
