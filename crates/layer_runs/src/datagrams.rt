@@ -9,7 +9,7 @@
 //! - `message ADDRESS EVENT`: the message that tells an event, from this address.
 
 ghost use Rattle.std.specs.Prelude.{◌≡◌, ◌≤◌, true, length};
-ghost use Rattle.gtpp_message.specs.Packet.{IsPacket};
+ghost use Rattle.gtpp_message.specs.Packet.{IsPacket, count_of};
 ghost use Rattle.gtpp_message.specs.Values.{message_value, packet_value};
 ghost use Rattle.gtpp_message.specs.Writing.{body_octets};
 
@@ -36,14 +36,6 @@ pub(crate) fn read_one(rt: &HostRuntime, words: &str) -> io::Result<()> {
 /// The most octets that a message of a line lends.
 const MOST_LENT: usize = 40;
 
-/// How many octets a request for a transfer lends.
-fn lent_by_transfer(body: &Transfer<'_>) -> usize {
-    match body {
-        Transfer::Send(packet) | Transfer::Possible(packet) => packet.octets().len(),
-        Transfer::Cancel(numbers) | Transfer::Release(numbers) => numbers.octets().len(),
-    }
-}
-
 /// Whether a message lends few octets.
 fn is_short(message: &Message<'_>) -> bool
     ensures { result ≡ true → length (body_octets (message_value message.now)) ≤ 58 }
@@ -53,9 +45,15 @@ fn is_short(message: &Message<'_>) -> bool
             address: Some(octets),
         }
         | Message::RedirectionRequest {
-            to: Some(octets), ..
+            to: Some(octets),
+            ..
         } => octets.len() <= MOST_LENT,
-        Message::TransferRequest { body } => lent_by_transfer(body) <= MOST_LENT,
+        Message::TransferRequest {
+            body: Transfer::Send(packet) | Transfer::Possible(packet),
+        } => packet.octets().len() <= MOST_LENT,
+        Message::TransferRequest {
+            body: Transfer::Cancel(numbers) | Transfer::Release(numbers),
+        } => numbers.octets().len() <= MOST_LENT,
         Message::TransferResponse { responded, .. } => responded.octets().len() <= MOST_LENT,
         Message::EchoRequest
         | Message::EchoResponse { .. }
@@ -100,21 +98,33 @@ pub(crate) fn packet(rt: &HostRuntime, words: &str) -> io::Result<()> {
     };
     print!(rt; "{packet:?}")?;
     let mut records = packet.records();
-    while let Some(record) = records.next() {
+    for _ in 0..=u8::MAX {
+        let Some(record) = records.next() else {
+            break;
+        };
         print!(rt; ", ")?;
         print_octets(rt, record)?;
     }
     each_part(rt, &packet)
 }
 
+/// How many records a packet has.
+fn count_of(packet: &Packet<'_>) -> u8
+    requires { IsPacket (packet_value packet.now) }
+    ensures { result ≡ count_of (packet_value packet.now) }
+{
+    let _records = packet.records();
+    match packet {
+        Packet::Empty => 0,
+        Packet::Full { count, .. } => *count,
+    }
+}
+
 /// Prints each record by its place.
 fn each_part(rt: &HostRuntime, packet: &Packet<'_>) -> io::Result<()>
     requires { IsPacket (packet_value packet.now) }
 {
-    let Packet::Full { count, .. } = packet else {
-        return Ok(());
-    };
-    for k in 0..*count {
+    for k in 0..count_of(packet) {
         print!(rt; ", {k} ")?;
         print_octets(rt, packet.part(k))?;
     }

@@ -14,11 +14,7 @@ const MOST_SIZE: u64 = 4_294_836_224;
 
 const MOST_RECORDS: u64 = 4_294_967_295;
 
-pub(crate) fn limits(
-    rt: &HostRuntime,
-    cutter: &mut Option<Cutter>,
-    words: &str,
-) -> io::Result<()> {
+pub(crate) fn limits(rt: &HostRuntime, cutter: &mut Option<Cutter>, words: &str) -> io::Result<()> {
     let (size, words) = first_word(words);
     let (count, open_time) = first_word(words);
     let size = number(size, MOST_SIZE)? as u32;
@@ -40,11 +36,7 @@ fn moment_of(word: &str) -> io::Result<Moment> {
     Moment::of(number(word, u64::MAX)?).ok_or(bad())
 }
 
-pub(crate) fn record(
-    rt: &HostRuntime,
-    cutter: &mut Option<Cutter>,
-    words: &str,
-) -> io::Result<()> {
+pub(crate) fn record(rt: &HostRuntime, cutter: &mut Option<Cutter>, words: &str) -> io::Result<()> {
     let (format, words) = first_word(words);
     let (length, at) = first_word(words);
     let kind = CdrKind {

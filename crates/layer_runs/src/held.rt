@@ -6,7 +6,7 @@
 //! - `drop NODE`: how many of a node were held, which are held no more.
 
 use crate::words::{first_word, number};
-use dup_buffer::{HoldFault, Held};
+use dup_buffer::{Held, HoldFault};
 use gw_base::{NodeId, Place};
 use std::io;
 

@@ -58,12 +58,7 @@ fn act_of(alloc: Global, words: &str) -> io::Result<HistoryAct> {
     act_of_number(alloc, form, node, number(value, u64::MAX)?)
 }
 
-fn act_of_number(
-    alloc: Global,
-    form: &str,
-    node: NodeId,
-    number: u64,
-) -> io::Result<HistoryAct> {
+fn act_of_number(alloc: Global, form: &str, node: NodeId, number: u64) -> io::Result<HistoryAct> {
     let packet = Octets::of(alloc, &PACKET).map_err(|_| no_memory())?;
     let numbers = Absolutes::from_vec(vec![in alloc; number]?);
     match form {
@@ -145,7 +140,11 @@ pub(crate) fn begun(rt: &HostRuntime, history: &[HistoryEntry], words: &str) -> 
 pub(crate) fn copies(rt: &HostRuntime, history: &[HistoryEntry], words: &str) -> io::Result<()> {
     let (front, _) = front(history, words)?;
     let is_due = is_close_due(front);
-    print!(rt; "{:?}, {is_due}, {}", copies_of(front), promised_octets(front))
+    print!(rt;
+        "{:?}, {is_due}, {}",
+        copies_of(front),
+        promised_octets(front)
+    )
 }
 
 pub(crate) fn moment(rt: &HostRuntime, history: &[HistoryEntry], words: &str) -> io::Result<()> {

@@ -81,12 +81,7 @@ fn answer(rt: &HostRuntime, scene: &mut Scene, line: &str) -> io::Result<()> {
 }
 
 /// Prints what a line is answered that adds to what lines before it said, or asks it.
-fn answer_of_scene(
-    rt: &HostRuntime,
-    scene: &mut Scene,
-    form: &str,
-    words: &str,
-) -> io::Result<()> {
+fn answer_of_scene(rt: &HostRuntime, scene: &mut Scene, form: &str, words: &str) -> io::Result<()> {
     match form {
         "room" => scene.begin_buffer(rt, words),
         "front" => scripts::front(rt, &mut scene.text, words),
@@ -121,12 +116,7 @@ fn answer_of_scene(
 }
 
 /// Prints what a line on the outside in memory, a CDR file or a table of cases is answered.
-fn answer_outside(
-    rt: &HostRuntime,
-    scene: &mut Scene,
-    form: &str,
-    words: &str,
-) -> io::Result<()> {
+fn answer_outside(rt: &HostRuntime, scene: &mut Scene, form: &str, words: &str) -> io::Result<()> {
     match form {
         "source" => outside::source(rt, &mut scene.source, words),
         "pull" => outside::pull(rt, &mut scene.source, words),

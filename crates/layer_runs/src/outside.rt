@@ -29,11 +29,7 @@ fn fail_of(alloc: Global, word: &str) -> io::Result<Vec<u64>> {
     Ok(vec![in alloc; call]?)
 }
 
-pub(crate) fn source(
-    rt: &HostRuntime,
-    source: &mut MemorySource,
-    words: &str,
-) -> io::Result<()> {
+pub(crate) fn source(rt: &HostRuntime, source: &mut MemorySource, words: &str) -> io::Result<()> {
     let (fail, words) = first_word(words);
     let (piece, input) = first_word(words);
     let fail = fail_of(rt.alloc(), fail)?;
