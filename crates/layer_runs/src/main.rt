@@ -15,6 +15,7 @@ mod entries;
 mod files;
 mod held;
 mod histories;
+mod nodes;
 mod outside;
 mod paths;
 mod rules;
@@ -111,12 +112,34 @@ fn answer_of_scene(rt: &HostRuntime, scene: &mut Scene, form: &str, words: &str)
         "due" => histories::due(rt, &scene.history, words),
         "told" => histories::told(rt, &scene.history),
         "owned" => histories::owned(rt, &scene.history, words),
+        _ => answer_of_node(rt, scene, form, words),
+    }
+}
+
+/// Prints what a line on a serving node is answered.
+fn answer_of_node(rt: &HostRuntime, scene: &mut Scene, form: &str, words: &str) -> io::Result<()> {
+    match form {
+        "serving" => nodes::serving(rt, &mut scene.serving, words),
+        "ready" => nodes::ready(rt, &mut scene.serving, words),
+        "submit" => nodes::submit(rt, &mut scene.serving),
+        "turn" => nodes::turn(rt, &mut scene.serving),
+        "hears" => nodes::hears(rt, &mut scene.serving, words),
+        "restart" => nodes::restart(rt, &mut scene.serving),
+        "packets" => nodes::packets(rt, &scene.serving),
+        "draft" => nodes::begin_draft(rt, &mut scene.draft, words),
+        "grow" => nodes::grow(rt, &mut scene.draft, words),
+        "grow-zeros" => nodes::grow_zeros(rt, &mut scene.draft, words),
         _ => answer_outside(rt, scene, form, words),
     }
 }
 
 /// Prints what a line on the outside in memory, a CDR file or a table of cases is answered.
-fn answer_outside(rt: &HostRuntime, scene: &mut Scene, form: &str, words: &str) -> io::Result<()> {
+fn answer_outside(
+    rt: &HostRuntime,
+    scene: &mut Scene,
+    form: &str,
+    words: &str,
+) -> io::Result<()> {
     match form {
         "source" => outside::source(rt, &mut scene.source, words),
         "pull" => outside::pull(rt, &mut scene.source, words),

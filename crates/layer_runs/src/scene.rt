@@ -1,5 +1,5 @@
 //! What the lines of a group add to: a buffer, rules, a text, a history, a node's paths, the files of a stream, held
-//! copies, the outside in memory.
+//! copies, a serving node and a draft, the outside in memory.
 //!
 //! `room N OCTETS` begins the buffer anew, with so many octets of room and these in it.
 
@@ -8,6 +8,7 @@ use crate::words::{bad, first_word, no_memory, number, octets};
 use dup_buffer::Held;
 use file_rotate::Cutter;
 use gw_base::{Buffer, HistoryEntry, MemoryClock, MemorySink, MemorySource};
+use node_core::{Draft, Node};
 use path_mgmt::NodePath;
 use route_filter::Rules;
 use std::alloc::Global;
@@ -29,6 +30,8 @@ pub(crate) struct Scene {
     pub(crate) path: NodePath,
     pub(crate) cutter: Option<Cutter>,
     pub(crate) held: Held,
+    pub(crate) serving: Option<Node>,
+    pub(crate) draft: Draft,
     pub(crate) source: MemorySource,
     pub(crate) sink: MemorySink,
     pub(crate) clock: Option<MemoryClock>,
@@ -45,6 +48,8 @@ impl Scene {
             path: NodePath::new(COUNTER),
             cutter: None,
             held: Held::new(alloc, 0).map_err(|_| no_memory())?,
+            serving: None,
+            draft: Draft::new(alloc, 1, 0),
             source: no_source(alloc),
             sink: no_sink(alloc)?,
             clock: None,
