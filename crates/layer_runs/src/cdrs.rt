@@ -10,7 +10,7 @@
 //! - `listed OCTETS`: what is listed of a file, its head, and then each CDR by itself; or its first fault.
 //! - `long LENGTH`: what is read of a file of one record of so many octets, of release 7, version 31 and format 7.
 
-ghost use Rattle.std.specs.Prelude.{◌≡◌, ◌<◌, ◌∷◌, [], length, pos, negsuc, IfOk};
+ghost use Rattle.std.specs.Prelude.{◌≡◌, ◌<◌, ◌≤◌, ◌∷◌, [], length, pos, negsuc, IfOk};
 ghost use Rattle.cdr_file.specs.CdrFile.{file_octets};
 ghost use Rattle.cdr_file.specs.Timestamp.{stamp_of};
 
