@@ -409,10 +409,11 @@ enclosing() {
         }' -
 }
 
-# The tests that name a word, or else call a helper that does, the stories that print it, and the edits that change a
-# line of one of these bodies.
+# The tests that name a word, or else call a helper that does, the lines of layer_runs that call it, the stories and
+# lines that print it, and the edits that change a line of one of these bodies.
 tried() {
-    local all=$1 bodies=$2 word=$3 text=$4 crates=$5 type=$6 hits=$7 tests helpers hop
+    local all=$1 bodies=$2 word=$3 text=$4 crates=$5 type=$6 hits=$7 tests helpers hop lines
+    lines=$(asking "$hits" "$all")
     tests=$({
         awk -F'\t' '$1 == "test" { print $2 ":" $3 ": " $5 }' <<<"$hits"
         [[ $word != *_* ]] || awk -F'\t' -v word="$word" -v crates="$crates" '$5 == "test" {
@@ -423,7 +424,7 @@ tried() {
     for hop in 1 2 3; do
         [ -z "$tests" ] || break
         helpers=$(awk -F'\t' '
-            $1 != "test" && $2 ~ /^crates\/(ground_|replay_|world_)?trials\/|tests\.rt$/ && $5 !~ /::/' <<<"$hits")
+            $1 != "test" && $2 ~ /^crates\/(journal_tests|(replay_|world_)?trials)\/|tests\.rt$/ && $5 !~ /::/' <<<"$hits")
         [ -n "$helpers" ] || break
         hits=$(enclosing "[^A-Za-z0-9_.]($(cut -f 5 <<<"$helpers" | sort -u | paste -sd '|'))[(]" \
             " $(cut -d / -f 2 <<<"$helpers" | sort -u | paste -sd ' ') " "" "" "$helpers" <<<"$all" |
@@ -434,14 +435,15 @@ tried() {
     done
     if [ -n "$tests" ]; then
         show "tests that name it, or call a helper that does" "$tests"
-    elif [ -n "$bodies" ]; then
+    elif [ -n "$bodies" ] && [ -z "$lines" ]; then
         tests=$(cut -f 2 <<<"$bodies" | cut -d / -f 2 | sort -u | while read -r owner; do
             sources "$owner" | xargs grep -lE '#\[test\]'
         done)
         show "tests that name it" "none${tests:+; of its crate are}"
         [ -z "$tests" ] || head -n 12 <<<"$tests" | sed 's/^/    /'
     fi
-    [[ ! $word =~ ^[A-Z] ]] || show "stories that print it" "$(printing "$word")"
+    show "lines that call it" "$lines"
+    [[ ! $word =~ ^[A-Z] ]] || show "stories and lines that print it" "$(printing "$word")"
     show "edits that must fail" "$({
         ls crates/*/must-fail/*.edit | within "$crates" | xargs grep -lE -- "$text" | while read -r edit; do
             [[ ! $type =~ ^[A-Z] ]] ||
@@ -457,13 +459,35 @@ tried() {
     } | sort -u)"
 }
 
-# The stories in which a word is printed, each with the first line that has it.
+# The groups of lines of layer_runs that call one of these functions, each with its first such line: the functions of
+# that crate among them, or what calls these there, and the forms of lines that main has for them.
+asking() {
+    local asked more forms hop
+    asked=$(awk -F'\t' '$2 ~ /^crates\/layer_runs\// { print }' <<<"$1")
+    for hop in 1 2; do
+        [ -n "$asked" ] || return 0
+        forms=$(awk -F'\t' '{ n = split($5, parts, "::"); print parts[n] }' <<<"$asked" | sort -u | while read -r name; do
+            sed -nE "s/^ *\"([a-z-]+)\" => ([a-z]+::|scene\.)$name\(.*/\1/p" crates/layer_runs/src/main.rt
+        done)
+        [ -z "$forms" ] || break
+        asked=$(enclosing "[^A-Za-z0-9_.]($(cut -f 5 <<<"$asked" | sort -u | paste -sd '|'))[(]" " layer_runs " "" "" \
+            "$asked" <<<"$2")
+    done
+    [ -n "$forms" ] || return 0
+    awk -v forms="$(paste -sd ' ' <<<"$forms")" '
+        /^== / { name = substr($0, 4); next }
+        index(" " forms " ", " " $1 " ") && / => / && !(name in told) {
+            told[name] = 1; print FILENAME ":" FNR ": " name
+        }' crates/layer_runs/stdout
+}
+
+# The stories and the groups of lines in which a word is printed, each with the first line that has it.
 printing() {
     awk -v word="$1" '
         /^== / { name = substr($0, 4); next }
-        match(" " $0 " ", "[^A-Za-z0-9_]" word "[^A-Za-z0-9_]") && !(name in told) {
-            told[name] = 1; print FILENAME ":" FNR ": " name
-        }' crates/story_runs/stdout
+        match(" " $0 " ", "[^A-Za-z0-9_]" word "[^A-Za-z0-9_]") && !((FILENAME, name) in told) {
+            told[FILENAME, name] = 1; print FILENAME ":" FNR ": " name
+        }' crates/story_runs/stdout crates/layer_runs/stdout
 }
 
 # The lines of pages that have a name between backquotes.

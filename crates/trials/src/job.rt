@@ -4,7 +4,6 @@
 
 ghost use Rattle.std.specs.Prelude.{◌≤◌};
 
-use crate::cdr_files::ONE_CDR;
 use cgf_top::{InputKind, LineKind, Nobody, Played, Status, WorldKind, run_cgf};
 use gw_base::{MemorySink, MemorySource, Octets};
 use std::alloc::Global;
@@ -20,7 +19,13 @@ file 1 00-0000000001.cdr 0000003D0000003460602E8008002E8008000000000100000001040
 0A00000100000000000000000000056020A003800105\n\
 gateway 1 entries 3 records 1 held 0 stranded 0\n";
 
-/// The listing of a CDR file.
+/// A CDR file of one record.
+const ONE_CDR: &[u8] = b"\
+\x00\x00\x00\x3D\x00\x00\x00\x34\x60\x60\x2E\x80\x08\x00\x2E\x80\x08\x00\x00\x00\x00\x01\x00\x00\x00\x01\x04\
+\x00\x00\x00\x00\x00\x00\x00\x00\x00\x00\xFF\xFF\x0A\x00\x00\x01\x00\x00\x00\x00\x00\x00\x00\x00\x00\x00\x05\
+\x60\x20\xA0\x03\x80\x01\x05";
+
+/// The listing of it.
 const LISTING: &str = "file 61 52 3.0 3.0 02-29/00:00/+00:00 02-29/00:00/+00:00 1 1 4 \
 00000000000000000000FFFF0A00000100000000 0\ncdr 1 5 3.0 1 0 A003800105\n";
 
@@ -75,7 +80,7 @@ fn handed(played: Option<Played>) -> Option<(usize, usize, usize)> {
 fn an_input_comes_in_pieces(rt: HostRuntime) -> Result<(), Fail> {
     let inputs: [(&str, &[u8], &str); 2] = [
         ("feed", FIRST.as_bytes(), FIRST_REPORT),
-        ("show", &ONE_CDR, LISTING),
+        ("show", ONE_CDR, LISTING),
     ];
     for (command, input, told) in inputs {
         for piece in [4096, 1] {
@@ -168,8 +173,8 @@ fn a_fault_of_the_input_or_the_output_is_told(rt: HostRuntime) -> Result<(), Fai
             &[1],
             Status::Write,
         ),
-        (&["show", "-"], &ONE_CDR, &[3], &[], Status::Read),
-        (&["show", "-"], &ONE_CDR, &[], &[1], Status::Write),
+        (&["show", "-"], ONE_CDR, &[3], &[], Status::Read),
+        (&["show", "-"], ONE_CDR, &[], &[1], Status::Write),
         (&["replay", "-"], b"end\n", &[1], &[], Status::Read),
         (&["replay", "-"], b"end\n", &[], &[1], Status::Write),
         (

@@ -19,10 +19,6 @@ mod book_taking;
 #[cfg(test)]
 mod book_worked;
 #[cfg(test)]
-mod cdr_files;
-#[cfg(test)]
-mod cdr_reading;
-#[cfg(test)]
 mod job;
 #[cfg(test)]
 mod job_datagrams;

@@ -1,13 +1,8 @@
-//! Tests of serving nodes and of worlds of gateways and nodes, by the public calls of `node_core` and `once_core`. They
-//! stand above these, so that each of them is proved once, and apart from `trials`, which stands on the job.
+//! Tests of serving nodes beside their logs and of worlds of gateways and nodes, by the public calls of `node_core` and
+//! `once_core`. They stand above these, so that each of them is proved once, and apart from `trials`, which stands on the
+//! job. What a node sends and makes of an answer is told by lines of `layer_runs`.
 #![tactic(auto)]
 
-#[cfg(test)]
-mod node_causes;
-#[cfg(test)]
-mod node_drafts;
-#[cfg(test)]
-mod node_driving;
 #[cfg(test)]
 mod node_logged;
 #[cfg(test)]

@@ -37,6 +37,22 @@ const ALIVE_RESPONSE: [u8; 6] = [0x4E, 5, 0, 0, 0, 0];
 /// The Redirection Request of a gateway that is about to go down.
 const REDIRECTION: [u8; 8] = [0x4E, 6, 0, 2, 0, 0, 1, 63];
 
+/// The gateways of the nodes.
+pub(crate) const GATEWAYS: [Addr; 3] = [
+    Addr {
+        ip: 0x0A00_0001,
+        port: 3386,
+    },
+    Addr {
+        ip: 0x0A00_0002,
+        port: 3386,
+    },
+    Addr {
+        ip: 0x0A00_0003,
+        port: 3386,
+    },
+];
+
 /// The address of the gateway at a place.
 pub(crate) fn at(place: u8) -> Addr {
     Addr {

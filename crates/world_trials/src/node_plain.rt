@@ -1,7 +1,6 @@
 //! The worked stories of a node by its log.
 
-use crate::node_driving::GATEWAYS;
-use crate::node_logged::{Logged, Step, at, draft, reply};
+use crate::node_logged::{GATEWAYS, Logged, Step, at, draft, reply};
 use gtpp_message::Why;
 use node_core::{NodeCounts, Order, Phase, Port, Sending, SubmitFault, plain};
 use std::alloc::Global;

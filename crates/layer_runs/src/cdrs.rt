@@ -1,0 +1,274 @@
+//! CDR files: their headers, timestamps, and what is read of them.
+//!
+//! - `stamp SECONDS MINUTES`: the timestamp of a moment at an offset from UTC in minutes.
+//! - `fields STAMP`: the fields of a timestamp.
+//! - `file SECONDS MINUTES ADDRESS RECORD`: the file of one record, of release 3, version 0 and format 1, that was filed
+//!   then and that an operator closed, at a gateway with this address; and its header as that of a run of records.
+//! - `file-head LENGTH HEADER HIGH HIGH-VERSION LOW LOW-VERSION REASON LOST REST`: the header of a file; REST is, in
+//!   hexadecimal, when it was opened and appended to, the count, the sequence number and the node's address.
+//! - `cdr-head LENGTH RELEASE VERSION FORMAT TS`: the header of a CDR.
+//! - `listed OCTETS`: what is listed of a file, its head, and then each CDR by itself; or its first fault.
+//! - `long LENGTH`: what is read of a file of one record of so many octets, of release 7, version 31 and format 7.
+
+ghost use Rattle.std.specs.Prelude.{◌≡◌, ◌<◌, ◌≤◌, ◌∷◌, [], length, pos, negsuc, IfOk};
+ghost use Rattle.cdr_file.specs.CdrFile.{file_octets};
+ghost use Rattle.cdr_file.specs.Timestamp.{stamp_of};
+
+use crate::words::{bad, first_word, no_memory, number, octets, print_octets};
+use byteorder::{BigEndian, ByteOrder};
+use cdr_file::{
+    CdrFile, CdrHeader, ClosureReason, FileHeader, Offset16, RunFacts, StampFields, cdr_line,
+    head_lines, node_address, read, run_header, stamp, write_cdr, write_header,
+};
+use gw_base::{CdrKind, GatewayId, Moment};
+use std::alloc::{AllocError, Global};
+use std::io;
+
+/// A file of one CDR, which was filed in the first second of 29 February 2024 and is closed by an operator: the
+/// header, the CDR's header, and its octets.
+const ONE_CDR: [u8; 61] = [
+    0x00, 0x00, 0x00, 0x3D, // file length
+    0x00, 0x00, 0x00, 0x34, // header length
+    0x60, 0x60, // high and low release 3, version 0
+    0x2E, 0x80, 0x08, 0x00, // opened
+    0x2E, 0x80, 0x08, 0x00, // appended to
+    0x00, 0x00, 0x00, 0x01, // one CDR
+    0x00, 0x00, 0x00, 0x01, // sequence number
+    0x04, // manual intervention
+    0x00, 0x00, 0x00, 0x00, 0x00, 0x00, 0x00, 0x00, 0x00, 0x00, // node address
+    0xFF, 0xFF, 0x0A, 0x00, 0x00, 0x01, 0x00, 0x00, 0x00, 0x00, //
+    0x00, // none lost
+    0x00, 0x00, 0x00, 0x00, // no routeing filter, no private extension
+    0x00, 0x05, 0x60, 0x20, // five octets, release 3, version 0, format 1
+    0xA0, 0x03, 0x80, 0x01, 0x05,
+];
+
+/// The definition gives these octets for this file.
+fn one_cdr_by_definition()
+    ensures { file_octets
+        ((record {
+          kind = record { release = 3; version = 0; format = 1 };
+          octets = 0xA0 ∷ 0x03 ∷ 0x80 ∷ 0x01 ∷ 0x05 ∷ [];
+          moment = 1_709_164_800;
+        }) ∷ [])
+        1 ClosureReason.Manual (record { offset = pos 0; address = 0x0A00_0001 })
+        ≡ ONE_CDR }
+{}
+
+/// The definition gives these timestamps.
+fn timestamps_by_definition()
+    ensures evening_before { stamp_of 1_709_251_140 (negsuc 209) ≡ 0x2ED1_D0DE }
+    ensures midnight { stamp_of 1_709_164_800 (pos 0) ≡ 0x2E80_0800 }
+    ensures day_after { stamp_of 1_709_251_140 (pos 60) ≡ 0x3083_B840 }
+    ensures furthest_behind { stamp_of 0 (negsuc 958) ≡ 0xCFA0_13FB }
+    ensures a_minute_behind { stamp_of 0 (negsuc 0) ≡ 0xCFDF_B001 }
+    ensures furthest_ahead { stamp_of 4_102_444_799 (pos 959) ≡ 0x10BF_ABFB }
+    ensures a_minute_ahead { stamp_of 4_102_444_799 (pos 1) ≡ 0x1080_0801 }
+{}
+
+/// The octets of a file of one CDR that an operator closed, as plain code: its contract is the definition.
+fn one_cdr_file(
+    alloc: Global,
+    kind: CdrKind,
+    octets: &[u8],
+    filed: Moment,
+    offset: Offset16,
+    gateway: GatewayId,
+) -> Result<Vec<u8>, AllocError>
+    requires release { kind.release < 8 }
+    requires version { kind.version < 32 }
+    requires format { kind.format < 8 }
+    requires short { length octets.now < 65536 }
+    ensures { IfOk result (λ file. file.items ≡ file_octets
+        ((record { kind = kind; octets = octets.now; moment = filed }) ∷ [])
+        1 ClosureReason.Manual (record { offset = offset; address = gateway.0 })) }
+{
+    let stamp = stamp(filed, offset);
+    let header = FileHeader {
+        length: 52 + (4 + octets.len() as u32),
+        header_length: 52,
+        high_release: kind.release,
+        high_version: kind.version,
+        low_release: kind.release,
+        low_version: kind.version,
+        opened: stamp,
+        appended: stamp,
+        count: 1,
+        sequence: 1,
+        reason: ClosureReason::Manual.code(),
+        address: node_address(gateway.0),
+        lost: 0,
+    };
+    let cdr = CdrHeader {
+        length: octets.len() as u16,
+        release: kind.release,
+        version: kind.version,
+        format: kind.format,
+        ts: 0,
+    };
+    let mut file = Vec::new(alloc);
+    file.extend_from_slice(&write_header(&header))?;
+    file.extend_from_slice(&write_cdr(cdr))?;
+    file.extend_from_slice(octets)?;
+    Ok(file)
+}
+
+/// A moment and an offset, and the words behind them.
+fn time_of(words: &str) -> io::Result<(Moment, Offset16, &str)> {
+    let (seconds, words) = first_word(words);
+    let (minutes, words) = first_word(words);
+    let moment = Moment::of(number(seconds, u64::MAX)?).ok_or(bad())?;
+    let minutes = minutes.parse::<i16>().map_err(|_| bad())?;
+    let offset = Offset16::of(minutes).ok_or(bad())?;
+    Ok((moment, offset, words))
+}
+
+pub(crate) fn stamped(rt: &HostRuntime, words: &str) -> io::Result<()> {
+    timestamps_by_definition();
+    let (moment, offset, _) = time_of(words)?;
+    print_octets(rt, &stamp(moment, offset).to_be_bytes())
+}
+
+pub(crate) fn fields(rt: &HostRuntime, words: &str) -> io::Result<()> {
+    let octets = octets(rt.alloc(), words)?;
+    if octets.len() != 4 {
+        return Err(bad());
+    }
+    print!(rt; "{:?}", StampFields::of(BigEndian::read_u32(&octets)))
+}
+
+pub(crate) fn file(rt: &HostRuntime, words: &str) -> io::Result<()> {
+    one_cdr_by_definition();
+    let (filed, offset, words) = time_of(words)?;
+    let (address, record) = first_word(words);
+    let address = number(address, 4_294_967_295)? as u32;
+    let record = octets(rt.alloc(), record)?;
+    if record.len() > 65_535 {
+        return Err(bad());
+    }
+    let kind = CdrKind {
+        release: 3,
+        version: 0,
+        format: 1,
+    };
+    let gateway = GatewayId(address);
+    let file = one_cdr_file(rt.alloc(), kind, &record, filed, offset, gateway)?;
+    print_octets(rt, &file)?;
+    print!(rt; ", ")?;
+    let run = RunFacts {
+        kind,
+        opened: filed,
+        appended: filed,
+        count: 1,
+        octets: record.len() as u64 + 4,
+    };
+    print_octets(
+        rt,
+        &run_header(run, 1, ClosureReason::Manual, offset, address),
+    )
+}
+
+/// The number that the next word says, and the words behind it.
+fn next(words: &str, most: u64) -> io::Result<(u64, &str)>
+    ensures { IfOk result (λ next. next.0 ≤ most) }
+{
+    let (word, words) = first_word(words);
+    Ok((number(word, most)?, words))
+}
+
+pub(crate) fn file_head(rt: &HostRuntime, words: &str) -> io::Result<()> {
+    let (length, words) = next(words, 4_294_967_295)?;
+    let (header_length, words) = next(words, 4_294_967_295)?;
+    let (high_release, words) = next(words, 7)?;
+    let (high_version, words) = next(words, 31)?;
+    let (low_release, words) = next(words, 7)?;
+    let (low_version, words) = next(words, 31)?;
+    let (reason, words) = next(words, 255)?;
+    let (lost, words) = next(words, 255)?;
+    let rest = octets(rt.alloc(), words)?;
+    if rest.len() != 36 {
+        return Err(bad());
+    }
+    let mut address = [0; 20];
+    address.copy_from_slice(&rest[16..]);
+    let header = FileHeader {
+        length: length as u32,
+        header_length: header_length as u32,
+        high_release: high_release as u8,
+        high_version: high_version as u8,
+        low_release: low_release as u8,
+        low_version: low_version as u8,
+        opened: BigEndian::read_u32(&rest),
+        appended: BigEndian::read_u32(&rest[4..]),
+        count: BigEndian::read_u32(&rest[8..]),
+        sequence: BigEndian::read_u32(&rest[12..]),
+        reason: reason as u8,
+        address,
+        lost: lost as u8,
+    };
+    print_octets(rt, &write_header(&header))
+}
+
+pub(crate) fn cdr_head(rt: &HostRuntime, words: &str) -> io::Result<()> {
+    let (length, words) = next(words, 65_535)?;
+    let (release, words) = next(words, 7)?;
+    let (version, words) = next(words, 31)?;
+    let (format, words) = next(words, 7)?;
+    let header = CdrHeader {
+        length: length as u16,
+        release: release as u8,
+        version: version as u8,
+        format: format as u8,
+        ts: number(words, 31)? as u8,
+    };
+    print_octets(rt, &write_cdr(header))
+}
+
+pub(crate) fn listed(rt: &HostRuntime, words: &str) -> io::Result<()> {
+    let octets = octets(rt.alloc(), words)?;
+    match read(rt.alloc(), &octets) {
+        Ok(file) => print_parts(rt, &file),
+        Err(fault) => print!(rt; "{fault:?}, {fault}"),
+    }
+}
+
+/// Prints what is listed of a file's head, and of each of its CDRs.
+fn print_parts(rt: &HostRuntime, file: &CdrFile) -> io::Result<()> {
+    print_lines(rt, &head_lines(rt.alloc(), file).map_err(|_| no_memory())?)?;
+    for (number, cdr) in (1..).zip(file.cdrs.cdrs()) {
+        print!(rt; ", ")?;
+        print_lines(
+            rt,
+            &cdr_line(rt.alloc(), number, cdr).map_err(|_| no_memory())?,
+        )?;
+    }
+    Ok(())
+}
+
+/// Prints lines with each line feed as `\n`.
+fn print_lines(rt: &HostRuntime, text: &[u8]) -> io::Result<()> {
+    match str::from_utf8(text) {
+        Ok(text) => print!(rt; "{text:?}"),
+        Err(_) => Err(bad()),
+    }
+}
+
+pub(crate) fn long(rt: &HostRuntime, words: &str) -> io::Result<()> {
+    let (filed, offset, words) = time_of(words)?;
+    let length = number(words, 65_535)? as usize;
+    let kind = CdrKind {
+        release: 7,
+        version: 31,
+        format: 7,
+    };
+    let record = vec![in rt.alloc(); 0x5A_u8; length]?;
+    let file = one_cdr_file(rt.alloc(), kind, &record, filed, offset, GatewayId(1))?;
+    let found = read(rt.alloc(), &file).map_err(|_| bad())?;
+    let opened = found.header.opened;
+    print!(rt; "{} octets, opened {opened:08X}", found.header.length)?;
+    for cdr in found.cdrs.cdrs() {
+        let is_same = cdr.octets.octets() == record.as_slice();
+        print!(rt; ", {} octets, the same: {is_same}", cdr.header.length)?;
+    }
+    Ok(())
+}

@@ -1,0 +1,108 @@
+//! The outside in memory: an input, an output and a clock, each of which fails at one call.
+//!
+//! - `source FAIL PIECE OCTETS`: an input of these octets, which gives pieces and fails at the call of this number.
+//! - `pull N`: what comes of a call with room for so many octets, and what stands in the room then.
+//! - `sink FAIL ROOM`: an output with so much room. `push OCTETS`: what comes of a call, and all that was written.
+//! - `clock FAIL SECONDS ..`: a clock of these moments. `now`: what comes of a call.
+
+use crate::words::{bad, first_word, no_memory, number, octets, print_octets};
+use gw_base::{Clock, Failed, MemoryClock, MemorySink, MemorySource, Moment, Octets, Sink, Source};
+use std::alloc::Global;
+use std::io;
+
+/// The most octets that a call is given room for.
+const MOST: u64 = 65_536;
+
+/// An input without octets.
+pub(crate) fn no_source(alloc: Global) -> MemorySource {
+    MemorySource::new(Octets::from_vec(Vec::new(alloc)), 1, Vec::new(alloc))
+}
+
+/// An output without room.
+pub(crate) fn no_sink(alloc: Global) -> io::Result<MemorySink> {
+    MemorySink::new(alloc, 0, Vec::new(alloc)).map_err(|_| no_memory())
+}
+
+/// The call that fails, alone in a list.
+fn fail_of(alloc: Global, word: &str) -> io::Result<Vec<u64>> {
+    let call = number(word, MOST)?;
+    Ok(vec![in alloc; call]?)
+}
+
+pub(crate) fn source(rt: &HostRuntime, source: &mut MemorySource, words: &str) -> io::Result<()> {
+    let (fail, words) = first_word(words);
+    let (piece, input) = first_word(words);
+    let fail = fail_of(rt.alloc(), fail)?;
+    let input = octets(rt.alloc(), input)?;
+    let piece = number(piece, MOST)? as usize;
+    if piece == 0 {
+        return Err(bad());
+    }
+    print!(rt; "{} octets", input.len())?;
+    *source = MemorySource::new(Octets::from_vec(input), piece, fail);
+    Ok(())
+}
+
+/// Takes once from a source.
+fn take_once<S: Source>(source: &mut S, into: &mut [u8]) -> Result<usize, Failed> {
+    source.take(into)
+}
+
+pub(crate) fn pull(rt: &HostRuntime, source: &mut MemorySource, words: &str) -> io::Result<()> {
+    let room = number(words, MOST)? as usize;
+    let mut into = vec![in rt.alloc(); 0; room]?;
+    let taken = take_once(source, &mut into);
+    print!(rt; "{taken:?}, ")?;
+    print_octets(rt, &into)
+}
+
+pub(crate) fn sink(rt: &HostRuntime, sink: &mut MemorySink, words: &str) -> io::Result<()> {
+    let (fail, room) = first_word(words);
+    let fail = fail_of(rt.alloc(), fail)?;
+    let room = number(room, MOST)? as usize;
+    *sink = MemorySink::new(rt.alloc(), room, fail).map_err(|_| no_memory())?;
+    print!(rt; "room {room}")
+}
+
+/// Puts once into a sink.
+fn put_once<S: Sink>(sink: &mut S, from: &[u8]) -> Result<usize, Failed> {
+    sink.put(from)
+}
+
+pub(crate) fn push(rt: &HostRuntime, sink: &mut MemorySink, words: &str) -> io::Result<()> {
+    let from = octets(rt.alloc(), words)?;
+    let put = put_once(sink, &from);
+    print!(rt; "{put:?}, ")?;
+    print_octets(rt, sink.octets())
+}
+
+pub(crate) fn clock(
+    rt: &HostRuntime,
+    clock: &mut Option<MemoryClock>,
+    words: &str,
+) -> io::Result<()> {
+    let (fail, words) = first_word(words);
+    let fail = fail_of(rt.alloc(), fail)?;
+    let mut moments = Vec::new(rt.alloc());
+    for word in words.split(' ') {
+        moments.push(Moment::of(number(word, u64::MAX)?).ok_or(bad())?)?;
+    }
+    if moments.is_empty() {
+        return Err(bad());
+    }
+    print!(rt; "{} moments", moments.len())?;
+    *clock = Some(MemoryClock::new(moments, fail));
+    Ok(())
+}
+
+/// Asks a clock once.
+fn ask_once<C: Clock>(clock: &mut C) -> Result<u64, Failed> {
+    clock.now().map(Moment::seconds)
+}
+
+pub(crate) fn now(rt: &HostRuntime, clock: &mut Option<MemoryClock>) -> io::Result<()> {
+    match clock {
+        Some(clock) => print!(rt; "{:?}", ask_once(clock)),
+        None => Err(bad()),
+    }
+}
