@@ -3,7 +3,7 @@
 use crate::node_driving::GATEWAYS;
 use crate::node_logged::{Logged, Step, at, draft, reply};
 use gtpp_message::Why;
-use node_core::{NodeCounts, Order, Phase, Port, Sending, SubmitFault, plain};
+use node_core::{NodeCounts, Order, Phase, Port, Sending, SubmitFault};
 use std::alloc::Global;
 use std::process::Abort;
 use std::test::Fail;
@@ -166,7 +166,7 @@ fn counts(
     wanted: (u64, u64, u64),
 ) -> Result<(), Fail> {
     let (packets, resolved, done) = wanted;
-    let counts = plain::counts(alloc, &logged.log)?;
+    let counts = node_plain::counts(alloc, &logged.log)?;
     assert_eq!(rt;
         counts,
         NodeCounts {
@@ -272,9 +272,9 @@ fn the_log_of_sixty_four_open_packets(rt: HostRuntime) -> Result<(), Fail> {
         Ok(_) => panic!(rt; "it is taken"),
         Err((fault, _)) => assert_eq!(rt; fault, SubmitFault::InFlight),
     }
-    assert_eq!(rt; plain::submitted(&logged.log), 64);
-    assert_eq!(rt; plain::phase(rt.alloc(), &logged.log, 64)?, Phase::Open);
-    assert_eq!(rt; plain::phase(rt.alloc(), &logged.log, 65)?, Phase::Unknown);
+    assert_eq!(rt; node_plain::submitted(&logged.log), 64);
+    assert_eq!(rt; node_plain::phase(rt.alloc(), &logged.log, 64)?, Phase::Open);
+    assert_eq!(rt; node_plain::phase(rt.alloc(), &logged.log, 65)?, Phase::Unknown);
     Ok(())
 }
 
