@@ -74,7 +74,7 @@ gateways_stay gateways (Heard port gateway saying ∷ log) = gateways_stay gatew
 -- a log has as many gateways as its node was made with
 pub gateways_count : (gateways : List Addr) (log : List LogEntry) → length (peers_of gateways log) ≡ length gateways
 gateways_count gateways log =
-    sym (length-anew (peers_of gateways log))
+    sym (length-map (peers_of gateways log) (λ (peer : Peer). peer_anew peer.address))
     ∙ ap (λ (ps : List Peer). length ps) (gateways_stay gateways log)
     ∙ length-map gateways peer_anew
 
