@@ -3,6 +3,8 @@
 #![tactic(auto)]
 
 #[cfg(test)]
+mod node_by_log;
+#[cfg(test)]
 mod node_causes;
 #[cfg(test)]
 mod node_drafts;
@@ -10,8 +12,6 @@ mod node_drafts;
 mod node_driving;
 #[cfg(test)]
 mod node_logged;
-#[cfg(test)]
-mod node_plain;
 #[cfg(test)]
 mod random_worlds;
 #[cfg(test)]

@@ -273,8 +273,14 @@ fn the_log_of_sixty_four_open_packets(rt: HostRuntime) -> Result<(), Fail> {
         Err((fault, _)) => assert_eq!(rt; fault, SubmitFault::InFlight),
     }
     assert_eq!(rt; node_plain::submitted(&logged.log), 64);
-    assert_eq!(rt; node_plain::phase(rt.alloc(), &logged.log, 64)?, Phase::Open);
-    assert_eq!(rt; node_plain::phase(rt.alloc(), &logged.log, 65)?, Phase::Unknown);
+    assert_eq!(rt;
+        node_plain::phase(rt.alloc(), &logged.log, 64)?,
+        Phase::Open
+    );
+    assert_eq!(rt;
+        node_plain::phase(rt.alloc(), &logged.log, 65)?,
+        Phase::Unknown
+    );
     Ok(())
 }
 
