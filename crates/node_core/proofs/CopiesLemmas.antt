@@ -1,10 +1,15 @@
 -- Loops over copies: one copy more.
-use Rattle.std.proofs.Common.{◌≡◌, ℕ, zero, suc, ◌+◌, ◌<◌, ◌==◌, min, if◌then◌else◌, Bool, true, false, List, [], ◌∷◌, ◌++◌, length, map, take, drop, set, get_or, refl, add-one, arith}
+use Rattle.std.proofs.Common.{◌≡◌, ℕ, zero, suc, ◌+◌, ◌<◌, ◌==◌, ◌||◌, min, if◌then◌else◌, Bool, true, false, List, [], ◌∷◌, ◌++◌, length, map, take, drop, set, get_or, Option, Some, None, refl, ap, ◌∙◌, add-one, arith}
 use Rattle.std.proofs.lemmas.List.Edits.{map_over_more}
+use Rattle.std.specs.Prelude.{option_map}
+use Rattle.gw_base.specs.declared.cause.TheConstants.{SYSTEM_FAILURE}
 use Rattle.node_core.specs.declared.copy.Command.{Command}
 use Rattle.node_core.specs.declared.copy.PacketCopy.{PacketCopy}
+use Rattle.node_core.specs.declared.copy.Verdict.{Verdict}
+use Rattle.node_core.specs.declared.copy.Verdict.TheVariants as verdict
 use Rattle.node_core.specs.declared.port.Port.{Port}
-use Rattle.node_core.specs.Copies.{copy_hearing}
+use Rattle.node_core.specs.declared.port.Port.TheVariants as port
+use Rattle.node_core.specs.Copies.{command_hearing, copy_hearing, copy_hearing_own, first_told, names, told, told_if}
 use Rattle.node_core.specs.Packets.{commanded}
 use Rattle.node_core.specs.Submitting.{least, numbers_at}
 
@@ -39,3 +44,46 @@ least_more gateway low copies i d below = rw add-one (at gateway low copies i d 
 pub least_none : (gateway low : ℕ) (copies : List PacketCopy) → least low (numbers_at gateway (drop (length copies) copies)) ≡ low
 least_none gateway low [] = refl
 least_none gateway low (copy ∷ copies) = least_none gateway low copies
+
+-- ---- a failing device
+
+-- it tells nothing of a copy
+pub failure_tells : (port : Port) (is_plain : Bool) → told port is_plain SYSTEM_FAILURE ≡ verdict.Unknown
+failure_tells port.First true = refl
+failure_tells port.First false = refl
+failure_tells port.Second true = refl
+failure_tells port.Second false = refl
+
+failure_told : (is_named : Bool) (port : Port) (is_plain : Bool) → told_if is_named port is_plain SYSTEM_FAILURE ≡ verdict.Unknown
+failure_told true port is_plain = failure_tells port is_plain
+failure_told false port is_plain = refl
+
+stays_told : (known : Verdict) → first_told known verdict.Unknown ≡ known
+stays_told verdict.Unknown = refl
+stays_told verdict.Filed = refl
+stays_told verdict.Sealed = refl
+stays_told verdict.Held = refl
+
+stays_answered : (is : Bool) → (is || false) ≡ is
+stays_answered true = refl
+stays_answered false = refl
+
+failure_commands : (numbers : List ℕ) (command : Option Command) →
+    option_map (command_hearing SYSTEM_FAILURE numbers) command ≡ command
+failure_commands numbers None = refl
+failure_commands numbers (Some command) = λ i. Some (record command { is_answered = stays_answered command.is_answered i })
+
+failure_keeps_own : (port : Port) (numbers : List ℕ) (copy : PacketCopy) → copy_hearing_own port SYSTEM_FAILURE numbers copy ≡ copy
+failure_keeps_own port numbers copy =
+    let known : first_told copy.verdict (told_if (names numbers copy.number) port copy.is_plain SYSTEM_FAILURE) ≡ copy.verdict =
+    ap (first_told copy.verdict) (failure_told (names numbers copy.number) port copy.is_plain) ∙ stays_told copy.verdict in
+    λ i. record copy { verdict = known i; command = failure_commands numbers copy.command i }
+
+-- it leaves a copy as it was
+pub failure_keeps : (port : Port) (gateway : ℕ) (numbers : List ℕ) (copy : PacketCopy) →
+    copy_hearing port gateway SYSTEM_FAILURE numbers copy ≡ copy
+failure_keeps port gateway numbers copy = by (copy.gateway == gateway)
+  where
+    by : (is : Bool) → (if is then copy_hearing_own port SYSTEM_FAILURE numbers copy else copy) ≡ copy
+    by true = failure_keeps_own port numbers copy
+    by false = refl

@@ -1,5 +1,4 @@
 pub mod CopiesLemmas
-pub mod PlainLemmas
 pub mod LogLemmas
 pub mod NodeLemmas
 pub mod NumberedLemmas

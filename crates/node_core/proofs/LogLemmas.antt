@@ -1,5 +1,6 @@
 -- One more entry of the log makes of a node what befalls it.
-use Rattle.std.proofs.Common.{◌≡◌, ℕ, zero, suc, min, ◌+◌, ◌%◌, ◌==◌, nat_lt, Bool, true, false, IsTrue, if◌then◌else◌, List, [], ◌∷◌, ◌++◌, map, Option, Some, None, refl, sym, ap, ◌∙◌, arith}
+use Rattle.std.proofs.Common.{◌≡◌, ℕ, zero, suc, min, ◌+◌, ◌%◌, ◌==◌, nat_lt, Bool, true, false, IsTrue, if◌then◌else◌, List, [], ◌∷◌, ◌++◌, length, map, Option, Some, None, refl, sym, ap, ◌∙◌, arith}
+use Rattle.std.proofs.lemmas.List.{length-map}
 use Rattle.std.specs.Prelude.{slice_get, slice_set}
 use Rattle.std.specs.Option.{option_map_or}
 use Rattle.gw_base.specs.declared.address.Addr.{Addr}
@@ -69,6 +70,13 @@ gateways_stay gateways (Submitted form ∷ log) = gateways_stay gateways log
 gateways_stay gateways (Appointed gateway ∷ log) = gateways_stay gateways log
 gateways_stay gateways (Ticked sendings ∷ log) = all_drawn_keeps sendings (peers_of gateways log) ∙ gateways_stay gateways log
 gateways_stay gateways (Heard port gateway saying ∷ log) = gateways_stay gateways log
+
+-- a log has as many gateways as its node was made with
+pub gateways_count : (gateways : List Addr) (log : List LogEntry) → length (peers_of gateways log) ≡ length gateways
+gateways_count gateways log =
+    sym (length-map (peers_of gateways log) (λ (peer : Peer). peer_anew peer.address))
+    ∙ ap (λ (ps : List Peer). length ps) (gateways_stay gateways log)
+    ∙ length-map gateways peer_anew
 
 -- ---- the restart counter is that of the paths
 

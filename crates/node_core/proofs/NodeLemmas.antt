@@ -4,8 +4,8 @@ use Rattle.std.proofs.lemmas.List.{length-map}
 use Rattle.gw_base.specs.declared.address.Addr.{Addr}
 use Rattle.node_core.specs.declared.peer.Peer.{Peer}
 use Rattle.node_core.specs.Packets.{PacketState}
-use Rattle.node_core.specs.Peers.{peer_anew}
-use Rattle.node_core.specs.Sound.{AreNumbered, AreNumbers}
+use Rattle.node_core.specs.Peers.{AreNumbers, peer_anew}
+use Rattle.node_core.specs.Sound.{AreNumbered}
 use Rattle.node_core.specs.Value.{peers_anew}
 use Rattle.node_core.proofs.NumberedLemmas.{numbered_push}
 

@@ -13,7 +13,6 @@ pub mod Submitting
 pub mod Counting
 pub mod Drafts
 pub mod FaultText
-pub mod Plain
 -- Steps of proofs, and private clauses.
 pub mod NodeFields
 pub mod Sound

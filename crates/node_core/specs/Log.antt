@@ -45,10 +45,7 @@ abbrev pub runs : List LogEntry → Bool
 runs [] = false
 runs (Began ∷ log) = true
 runs (Halted ∷ log) = false
-runs (Submitted form ∷ log) = runs log
-runs (Appointed gateway ∷ log) = runs log
-runs (Ticked sendings ∷ log) = runs log
-runs (Heard port gateway saying ∷ log) = runs log
+runs (_ ∷ log) = runs log
 
 -- the restart counter: it rises by one at each start but the first, and returns to 0 behind 255
 abbrev pub restarted : Bool → ℕ → ℕ
@@ -62,21 +59,13 @@ has_entries (entry ∷ log) = true
 abbrev pub counter_of : ℕ → List LogEntry → ℕ
 counter_of first [] = first
 counter_of first (Began ∷ log) = restarted (has_entries log) (counter_of first log)
-counter_of first (Halted ∷ log) = counter_of first log
-counter_of first (Submitted form ∷ log) = counter_of first log
-counter_of first (Appointed gateway ∷ log) = counter_of first log
-counter_of first (Ticked sendings ∷ log) = counter_of first log
-counter_of first (Heard port gateway saying ∷ log) = counter_of first log
+counter_of first (_ ∷ log) = counter_of first log
 
 -- how many packets were submitted
 abbrev pub submitted : List LogEntry → ℕ
 submitted [] = 0
-submitted (Began ∷ log) = submitted log
-submitted (Halted ∷ log) = submitted log
 submitted (Submitted form ∷ log) = suc (submitted log)
-submitted (Appointed gateway ∷ log) = submitted log
-submitted (Ticked sendings ∷ log) = submitted log
-submitted (Heard port gateway saying ∷ log) = submitted log
+submitted (_ ∷ log) = submitted log
 
 -- ---- since the start
 
@@ -85,10 +74,8 @@ abbrev pub favourite : List LogEntry → ℕ
 favourite [] = 0
 favourite (Began ∷ log) = 0
 favourite (Halted ∷ log) = 0
-favourite (Submitted form ∷ log) = favourite log
 favourite (Appointed gateway ∷ log) = gateway
-favourite (Ticked sendings ∷ log) = favourite log
-favourite (Heard port gateway saying ∷ log) = favourite log
+favourite (_ ∷ log) = favourite log
 
 -- how many ticks were made since the latest of the start, the favourite's appointment and the last message heard from
 -- it; the tick at whose start it was appointed is one of them
@@ -104,36 +91,28 @@ quiet_ticks (Heard port gateway saying ∷ log) = if gateway == favourite log th
 -- which gateways are alive, and the restart counter
 abbrev pub paths_hearing : ℕ → Saying → PathsOfNode → PathsOfNode
 paths_hearing gateway (Path event) paths = node_after paths gateway event
-paths_hearing gateway (Redirects to) paths = paths
-paths_hearing gateway (Responds cause numbers) paths = paths
-paths_hearing gateway Other paths = paths
+paths_hearing gateway _ paths = paths
 
 abbrev pub paths_of : ℕ → List LogEntry → PathsOfNode
 paths_of first [] = node_anew first
 paths_of first (Began ∷ log) = node_anew (counter_of first (Began ∷ log))
 paths_of first (Halted ∷ log) = node_anew (counter_of first log)
-paths_of first (Submitted form ∷ log) = paths_of first log
-paths_of first (Appointed gateway ∷ log) = paths_of first log
-paths_of first (Ticked sendings ∷ log) = paths_of first log
 paths_of first (Heard port gateway saying ∷ log) = paths_hearing gateway saying (paths_of first log)
+paths_of first (_ ∷ log) = paths_of first log
 
 -- the gateways with the numbers that are next
 abbrev pub peers_of : List Addr → List LogEntry → List Peer
 peers_of gateways [] = map peer_anew gateways
 peers_of gateways (Began ∷ log) = map peer_anew gateways
 peers_of gateways (Halted ∷ log) = map peer_anew gateways
-peers_of gateways (Submitted form ∷ log) = peers_of gateways log
-peers_of gateways (Appointed gateway ∷ log) = peers_of gateways log
 peers_of gateways (Ticked sendings ∷ log) = all_drawn sendings (peers_of gateways log)
-peers_of gateways (Heard port gateway saying ∷ log) = peers_of gateways log
+peers_of gateways (_ ∷ log) = peers_of gateways log
 
 -- the packets, in order of submission; one that is done stays as it is
 abbrev pub packets_hearing : Port → ℕ → Saying → List PacketState → List PacketState
-packets_hearing port gateway (Path event) packets = packets
-packets_hearing port gateway (Redirects to) packets = packets
 packets_hearing port gateway (Responds cause numbers) packets =
     map (while_open (packet_hearing port gateway cause numbers)) packets
-packets_hearing port gateway Other packets = packets
+packets_hearing port gateway _ packets = packets
 
 abbrev pub packets_of : List LogEntry → List PacketState
 packets_of [] = []
@@ -150,9 +129,7 @@ forms_of [] = []
 forms_of (Began ∷ log) = []
 forms_of (Halted ∷ log) = []
 forms_of (Submitted form ∷ log) = forms_of log ++ form ∷ []
-forms_of (Appointed gateway ∷ log) = forms_of log
-forms_of (Ticked sendings ∷ log) = forms_of log
-forms_of (Heard port gateway saying ∷ log) = forms_of log
+forms_of (_ ∷ log) = forms_of log
 
 -- ---- how many packets became resolved, and done
 
@@ -173,7 +150,4 @@ abbrev pub tally_before : List LogEntry → Tally
 tally_before [] = record { resolved = 0; done = 0 }
 tally_before (Began ∷ log) = tally_with (packets_of log) (tally_before log)
 tally_before (Halted ∷ log) = tally_with (packets_of log) (tally_before log)
-tally_before (Submitted form ∷ log) = tally_before log
-tally_before (Appointed gateway ∷ log) = tally_before log
-tally_before (Ticked sendings ∷ log) = tally_before log
-tally_before (Heard port gateway saying ∷ log) = tally_before log
+tally_before (_ ∷ log) = tally_before log

@@ -1,7 +1,8 @@
 -- What a node's fields mean, and what holds of them (steps of the proof).
 use Rattle.std.specs.Prelude.{◌≡◌, ℕ, ◌≤◌, ◌<◌, ◌+◌, ◌-◌, ◌^◌, length}
 use Rattle.node_core.specs.declared.node.Node.TheInside.{Inside}
-use Rattle.node_core.specs.Sound.{AreNumbered, AreNumbers}
+use Rattle.node_core.specs.Peers.{AreNumbers}
+use Rattle.node_core.specs.Sound.{AreNumbered}
 use Rattle.node_core.specs.Value.{NodeValue}
 
 -- the node that the fields stand for

@@ -1,7 +1,7 @@
 -- The gateways of a node, and the numbers that it draws for each: path numbers from 0, which return to 0 behind
 -- 65,535, and request numbers from 65,536 on, of which the wire carries the last 16 bits.
-use Rattle.std.specs.Prelude.{ℕ, suc, min, ◌+◌, ◌-◌, ◌%◌, ◌==◌, Bool, if◌then◌else◌, List, [], ◌∷◌, Option, slice_get, slice_set}
-use Rattle.std.specs.List.{position}
+use Rattle.std.specs.Prelude.{ℕ, suc, min, ◌+◌, ◌-◌, ◌%◌, ◌==◌, ◌≤◌, Bool, if◌then◌else◌, List, [], ◌∷◌, Option, slice_get, slice_set}
+use Rattle.std.specs.List.{All, position}
 use Rattle.std.specs.Option.{option_map_or}
 use Rattle.gw_base.specs.declared.address.Addr.{Addr}
 use Rattle.node_core.specs.declared.peer.Peer.{Peer}
@@ -28,6 +28,10 @@ at_place gateway f peers =
 -- numbers of a gateway, so it takes 2 to the 62nd packets in one start to come here.
 abbrev pub end_of_numbers : ℕ
 end_of_numbers = 9223372036854775808
+
+-- the next request numbers are at most that
+abbrev pub AreNumbers : List Peer → Type 0
+AreNumbers peers = All (λ (peer : Peer). peer.next ≤ end_of_numbers) peers
 
 -- the gateways after a path number, and a request number, was drawn for one of them
 abbrev pub path_drawn : ℕ → ℕ → List Peer → List Peer

@@ -1,14 +1,9 @@
 -- What holds of every node (steps of the proof).
 use Rattle.std.specs.Prelude.{◌≡◌, ℕ, suc, ◌≤◌, Bool, true, List, [], ◌∷◌, length, take}
-use Rattle.std.specs.List.{All}
 use Rattle.node_core.specs.declared.peer.Peer.{Peer}
 use Rattle.node_core.specs.Packets.{PacketState, is_done, packet_after_all}
-use Rattle.node_core.specs.Peers.{all_drawn, end_of_numbers}
+use Rattle.node_core.specs.Peers.{all_drawn}
 use Rattle.node_core.specs.Sendings.{due_for}
-
--- the next request numbers are at most the end of all numbers
-abbrev pub AreNumbers : List Peer → Type 0
-AreNumbers peers = All (λ (peer : Peer). peer.next ≤ end_of_numbers) peers
 
 -- all of these packets are done
 abbrev pub AllDone : List PacketState → Type 0

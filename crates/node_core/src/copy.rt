@@ -20,7 +20,8 @@ pub enum Verdict {
 }
 
 impl Verdict {
-    pub(crate) fn is_unknown(self) -> bool
+    /// Whether nothing is known of the copy.
+    pub fn is_unknown(self) -> bool
         ensures { result ≡ is_unknown self }
     {
         matches!(self, Verdict::Unknown)
@@ -45,7 +46,7 @@ impl Verdict {
     }
 
     /// The verdict with what is told later, which counts where nothing was told before.
-    pub(crate) fn first_told(self, later: Verdict) -> Verdict
+    pub fn first_told(self, later: Verdict) -> Verdict
         ensures { result ≡ first_told self later }
     {
         match self {
@@ -200,7 +201,7 @@ fn command_hearing(command: Option<Command>, cause: u8, numbers: &Responded<'_>)
 
 /// Whether the cause is that of a release or a cancel that is fulfilled, now or before, and of a
 /// possible duplicate that is held.
-pub(crate) fn is_fulfilled(cause: u8) -> bool
+pub fn is_fulfilled(cause: u8) -> bool
     ensures { result ≡ is_fulfilled cause }
 {
     cause == ACCEPTED || cause == DUPLICATE_ALREADY_FULFILLED
@@ -214,7 +215,7 @@ fn is_filing(cause: u8) -> bool
 }
 
 /// What a response with this cause tells of a copy, where it names it.
-pub(crate) fn told_if(is_named: bool, port: Port, is_plain: bool, cause: u8) -> Verdict
+pub fn told_if(is_named: bool, port: Port, is_plain: bool, cause: u8) -> Verdict
     ensures { result ≡ told_if is_named port is_plain cause }
 {
     if is_named {
@@ -225,7 +226,7 @@ pub(crate) fn told_if(is_named: bool, port: Port, is_plain: bool, cause: u8) -> 
 }
 
 /// What a response with this cause tells of a copy, plain or not, at this port.
-pub(crate) fn told(port: Port, is_plain: bool, cause: u8) -> Verdict
+pub fn told(port: Port, is_plain: bool, cause: u8) -> Verdict
     ensures { result ≡ told port is_plain cause }
 {
     match (port, is_plain) {

@@ -12,8 +12,8 @@ use crate::sending::Sending;
 use gw_base::NoMemory;
 
 /// Where a new copy goes: the favourite, and whether it is alive.
-#[derive(Clone, Copy, Debug)]
-pub(crate) struct Aim {
+#[derive(Clone, Copy)]
+pub struct Aim {
     pub favourite: u8,
     pub is_alive: bool,
 }
@@ -33,7 +33,8 @@ pub(crate) fn due_for(
     due_by_copies(aim, peers, packet.number(), packet.copies(), out)
 }
 
-fn due_by_copies(
+/// Appends what is due for an open packet with this number and these copies.
+pub fn due_by_copies(
     aim: Aim,
     peers: &[Peer],
     packet: u64,

@@ -229,7 +229,7 @@ impl Node {
 }
 
 /// The datagram is dropped.
-pub(crate) fn dropping(why: Why) -> Heeded
+pub fn dropping(why: Why) -> Heeded
     ensures { result ≡ dropping why }
 {
     Heeded {
@@ -241,7 +241,7 @@ pub(crate) fn dropping(why: Why) -> Heeded
 }
 
 /// The datagram is answered so, and made no packet resolved or done.
-pub(crate) fn replying(reply: Option<Short>) -> Heeded
+pub fn replying(reply: Option<Short>) -> Heeded
     ensures { result ≡ record { reply = reply; drop = None; resolved = None; done = None } }
 {
     Heeded {
@@ -269,7 +269,8 @@ fn telling(address: u32, made: Made) -> Heeded
     }
 }
 
-pub(crate) fn id_of(address: u32, number: Option<u64>) -> Option<PacketId>
+/// The packet of a node with this address and this number, where there is one.
+pub fn id_of(address: u32, number: Option<u64>) -> Option<PacketId>
     ensures { result ≡ id_of address number }
 {
     match number {
@@ -282,7 +283,7 @@ pub(crate) fn id_of(address: u32, number: Option<u64>) -> Option<PacketId>
 }
 
 /// The octets of an answer of path management, where there is one.
-pub(crate) fn path_reply(answer: Option<PathEvent>) -> Option<Short>
+pub fn path_reply(answer: Option<PathEvent>) -> Option<Short>
     ensures { result ≡ option_map path_octets answer }
 {
     match answer {

@@ -1,14 +1,20 @@
 //! Laws of nodes. Each stands on a function that does nothing, and holds for every log, or for every
 //! log that a node has after any calls.
 
-ghost use Rattle.std.specs.Prelude.{◌≡◌, ℕ, ◌≤◌, ◌<◌, ◌+◌, Bool, true, List, ◌∷◌, All, Contains, length};
+ghost use Rattle.std.specs.Prelude.{◌≡◌, ℕ, ◌≤◌, ◌<◌, ◌+◌, Bool, true, false, List, ◌∷◌, All, Contains, length};
 ghost use Rattle.std.specs.List.{flat_map};
+ghost use Rattle.gw_base.specs.declared.address.Addr.{Addr};
+ghost use Rattle.gw_base.specs.declared.cause.TheConstants.{SYSTEM_FAILURE};
 ghost use Rattle.node_core.specs.declared.copy.Order.TheVariants as order;
+ghost use Rattle.node_core.specs.declared.copy.PacketCopy.{PacketCopy};
+ghost use Rattle.node_core.specs.declared.copy.Verdict.TheVariants as verdict;
+ghost use Rattle.node_core.specs.declared.port.Port.{Port};
 ghost use Rattle.node_core.specs.declared.sending.Sending.TheVariants as send;
 ghost use Rattle.node_core.specs.Choosing.{IsChoiceOf, ReleasesChoice};
+ghost use Rattle.node_core.specs.Copies.{copy_hearing, is_fulfilled, told};
 ghost use Rattle.node_core.specs.Growing.{Extends, PacketGrows, is_within_start};
 ghost use Rattle.node_core.specs.Knowing.{AreKnown};
-ghost use Rattle.node_core.specs.Log.{LogEntry, NodeSetup, packets_of};
+ghost use Rattle.node_core.specs.Log.{LogEntry, NodeSetup, counter_of, packets_of, paths_of, peers_of};
 ghost use Rattle.node_core.specs.Nearness.{ComesSoon, HasCopy, HasOpenCopy, IsCopyOrBase, all_unsettled_at};
 ghost use Rattle.node_core.specs.Peers.{next_number};
 ghost use Rattle.node_core.specs.Reached.{NodeCall, Tick, log_of, reached};
@@ -18,6 +24,25 @@ ghost use Rattle.node_core.specs.Sent.{IsSent};
 ghost use Rattle.node_core.specs.Submitting.{least, unsettled_at};
 ghost use Rattle.node_core.specs.Ticks.{due};
 ghost use Rattle.node_core.specs.Value.{NodeValue};
+
+/// A log has as many gateways as its node was made with.
+pub fn a_log_keeps_its_gateways()
+    ensures { (gateways : List Addr) (log : List LogEntry) → length (peers_of gateways log) ≡ length gateways }
+{}
+
+/// The restart counter of a log is the one that its node tells.
+pub fn a_log_has_one_counter()
+    ensures { (first : ℕ) (log : List LogEntry) → (paths_of first log).counter ≡ counter_of first log }
+{}
+
+/// A response that the gateway's device failed (cause 204) teaches a node nothing: at either port it
+/// tells nothing of a copy, fulfills no release and no cancel, and leaves each copy as it was.
+pub fn a_failure_teaches_nothing()
+    ensures told { (port : Port) (is_plain : Bool) → told port is_plain SYSTEM_FAILURE ≡ verdict.Unknown }
+    ensures fulfilled { is_fulfilled SYSTEM_FAILURE ≡ false }
+    ensures copy { (port : Port) (gateway : ℕ) (numbers : List ℕ) (copy : PacketCopy) →
+        copy_hearing port gateway SYSTEM_FAILURE numbers copy ≡ copy }
+{}
 
 /// What a node knows of a copy, and that a release or a cancel is fulfilled, was told by a response
 /// that it heard since its start from the copy's gateway and that names just this number.

@@ -28,17 +28,11 @@ mod outgoing;
 mod packets;
 mod patterns;
 mod peer;
-pub mod plain;
-mod plain_counts;
-mod plain_due;
-mod plain_hearing;
-mod plain_knowing;
-mod plain_roles;
-mod plain_steps;
 mod plan;
 mod port;
 mod responded;
 mod sending;
+pub mod steps;
 mod submit;
 mod tick;
 

@@ -1,7 +1,7 @@
 ghost use Rattle.std.specs.Prelude.{◌≡◌, ◌≤◌, [], ◌∷◌, IsFalse, IfOk, length, map};
 ghost use Rattle.node_core.specs.Counting.{copy_of, counts_of, phase_of};
 ghost use Rattle.node_core.specs.Log.{Began, Halted};
-ghost use Rattle.node_core.specs.Peers.{last_number, peer_anew};
+ghost use Rattle.node_core.specs.Peers.{AreNumbers, last_number, peer_anew};
 ghost use Rattle.node_core.specs.Value.{befell, forgotten, node_of};
 
 use crate::counts::{NodeCopy, NodeCounts, Phase, Tally};
@@ -187,8 +187,10 @@ impl Node {
 }
 
 /// The gateways as at a start.
-pub(crate) fn peers_of(alloc: Global, gateways: &[Addr]) -> Result<Vec<Peer>, NoMemory>
-    ensures { IfOk result (λ peers. peers.items ≡ map peer_anew gateways.now) }
+#[tactic(auto, using(crate::proofs::NodeLemmas::numbers_anew))]
+pub fn peers_of(alloc: Global, gateways: &[Addr]) -> Result<Vec<Peer>, NoMemory>
+    ensures peers { IfOk result (λ peers. peers.items ≡ map peer_anew gateways.now) }
+    ensures numbers { IfOk result (λ peers. AreNumbers peers.items) }
 {
     let mut peers = Vec::with_capacity(alloc, gateways.len())?;
     for address in gateways {

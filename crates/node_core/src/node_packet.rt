@@ -7,7 +7,6 @@ ghost use Rattle.node_core.specs.Submitting.{least, unsettled_at};
 use crate::copies;
 use crate::copy::PacketCopy;
 use crate::counts::{NodeCopy, Phase};
-use crate::plain_steps::hear_copies;
 use crate::port::Port;
 use crate::responded::Responded;
 use crate::sending::Sending;
@@ -131,21 +130,12 @@ impl NodePacket {
         }
     }
 
-    /// Hears a response to these whole numbers from a gateway, unless it is done.
-    pub fn hear_numbers(&mut self, port: Port, gateway: u8, cause: u8, numbers: &[u64])
-        ensures { self.new ≡ while_open (packet_hearing port gateway cause numbers.now) self.old }
-    {
-        if !self.is_done() {
-            hear_copies(&mut self.copies, port, gateway, cause, numbers);
-        }
-    }
-
     /// Notes a sending, where it is of this packet.
     pub fn send(&mut self, sending: &Sending) -> Result<(), NoMemory>
         ensures { OnOk result (self.new ≡ packet_after sending.now self.old) }
     {
         if sending.is_of(self.number) {
-            copies::send(&mut self.copies, sending)?;
+            copies::note_sending(&mut self.copies, sending)?;
         }
         Ok(())
     }

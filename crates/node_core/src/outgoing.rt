@@ -116,11 +116,16 @@ impl Node {
     }
 }
 
+/// Whether its octets are those of every message of its kind but for the numbers.
+fn has_pattern(sending: &Sending) -> bool {
+    matches!(sending, Sending::Test { .. } | Sending::Command { .. })
+}
+
 /// The patterns, where one of these sendings is made by them.
 fn patterns_for(sendings: &[Sending]) -> Option<Patterns>
     ensures { IfSome result (λ patterns. patterns ≡ the_patterns) }
 {
-    if sendings.iter().any(|sending| sending.has_pattern()) {
+    if sendings.iter().any(has_pattern) {
         Some(Patterns::spelled())
     } else {
         None

@@ -6,9 +6,9 @@ ghost use Rattle.node_core.specs.Hearing.{first_made};
 ghost use Rattle.node_core.specs.Log.{done_among, resolved_among};
 ghost use Rattle.node_core.specs.Moving.{waits_at};
 ghost use Rattle.node_core.specs.Packets.{is_done, is_resolved, packet_hearing, while_open};
-ghost use Rattle.node_core.specs.Peers.{all_drawn};
+ghost use Rattle.node_core.specs.Peers.{AreNumbers, all_drawn};
 ghost use Rattle.node_core.specs.Sendings.{due_for_all};
-ghost use Rattle.node_core.specs.Sound.{AllDone, AreNumbered, AreNumbers, IsSettled, planned};
+ghost use Rattle.node_core.specs.Sound.{AllDone, AreNumbered, IsSettled, planned};
 ghost use Rattle.node_core.specs.Submitting.{oldest_number, open_among};
 
 use crate::counts::Tally;
@@ -42,7 +42,7 @@ impl Model for Packets {
 }
 
 /// The first packets that became resolved, and done.
-#[derive(Clone, Copy, Debug, PartialEq, Eq)]
+#[derive(Clone, Copy)]
 pub(crate) struct Made {
     pub resolved: Option<u64>,
     pub done: Option<u64>,
@@ -141,15 +141,6 @@ fn oldest_at(gateway: u8, next: u64, packets: &[NodePacket]) -> u64
         oldest = packet.least_at(gateway, oldest);
     }
     oldest
-}
-
-/// The most sendings that are due for these open packets.
-fn most_due(packets: &[NodePacket]) -> usize {
-    let mut most = 0usize;
-    for packet in packets {
-        most = most.saturating_add(packet.copies().len().max(1));
-    }
-    most
 }
 
 /// The packets hear a response from a gateway, of which those before `from` are done; tells the
@@ -341,12 +332,6 @@ impl Packets {
         let mut after = Vec::with_capacity(alloc, unsettled.len())?;
         plan_all(alloc, aim, peers, unsettled, &mut after, sendings)?;
         Ok(after)
-    }
-
-    /// The most sendings that are due for these packets: one for each copy of an open one, and one for an
-    /// open one that has none.
-    pub(crate) fn most_due(&self) -> usize {
-        most_due(self.open())
     }
 
     /// Puts planned packets in the place of those from the first open one on. It takes no memory.

@@ -22,7 +22,7 @@ const NUMBER: usize = 4;
 const NAMED: usize = 11;
 
 /// A test, a release and a cancel, with 0 for each number.
-#[derive(Debug, Drop)]
+#[derive(Drop)]
 pub(crate) struct Patterns {
     pub test: Short,
     pub release: Short,

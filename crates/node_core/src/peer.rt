@@ -1,6 +1,5 @@
 ghost use Rattle.std.specs.Prelude.{◌≡◌, ◌<◌, ◌≤◌, IfSome, length};
-ghost use Rattle.node_core.specs.Peers.{address_at, drawn, last_number, next_number, number_drawn, path_drawn, peer_anew, place_of};
-ghost use Rattle.node_core.specs.Sound.{AreNumbers};
+ghost use Rattle.node_core.specs.Peers.{AreNumbers, address_at, drawn, last_number, next_number, number_drawn, path_drawn, peer_anew, place_of};
 ghost use Rattle.node_core.specs.Value.{peers_anew};
 
 use crate::sending::Sending;
@@ -46,7 +45,7 @@ pub(crate) fn renew(peers: &mut [Peer])
 }
 
 /// The next request number of a gateway.
-pub(crate) fn next_number(peers: &[Peer], gateway: u8) -> u64
+pub fn next_number(peers: &[Peer], gateway: u8) -> u64
     ensures { result ≡ next_number peers.now gateway }
 {
     match peers.get(usize::from(gateway)) {
@@ -56,7 +55,7 @@ pub(crate) fn next_number(peers: &[Peer], gateway: u8) -> u64
 }
 
 /// The last request number that was drawn for a gateway.
-pub(crate) fn last_number(peers: &[Peer], gateway: u8) -> u64
+pub fn last_number(peers: &[Peer], gateway: u8) -> u64
     ensures { result ≡ last_number peers.now gateway }
 {
     next_number(peers, gateway).saturating_sub(1)
@@ -73,7 +72,7 @@ pub(crate) fn address_at(peers: &[Peer], gateway: u8) -> Addr
 }
 
 /// The place of the gateway with this IPv4 address.
-pub(crate) fn place_of(peers: &[Peer], ip: u32) -> Option<u8>
+pub fn place_of(peers: &[Peer], ip: u32) -> Option<u8>
     requires { length peers.now ≤ 255 }
     ensures place { result ≡ place_of peers.now ip }
     ensures within { IfSome result (λ place. place < length peers.now) }
@@ -92,7 +91,7 @@ fn position_of(peers: &[Peer], ip: u32) -> Option<usize>
 }
 
 /// Notes the number that a sending draws, if it draws one.
-pub(crate) fn draw(peers: &mut [Peer], sending: &Sending)
+pub fn draw(peers: &mut [Peer], sending: &Sending)
     requires { AreNumbers peers.old }
     ensures drawn { peers.new ≡ drawn sending.now peers.old }
     ensures numbers { AreNumbers peers.new }

@@ -3,9 +3,9 @@
 
 ghost use Rattle.std.specs.Prelude.{◌≡◌, ◌++◌, OnOk};
 ghost use Rattle.node_core.specs.Packets.{packet_after_all};
-ghost use Rattle.node_core.specs.Peers.{all_drawn};
+ghost use Rattle.node_core.specs.Peers.{AreNumbers, all_drawn};
 ghost use Rattle.node_core.specs.Sendings.{due_for, due_for_all};
-ghost use Rattle.node_core.specs.Sound.{AreNumbers, planned};
+ghost use Rattle.node_core.specs.Sound.{planned};
 
 use crate::due::{Aim, due_for};
 use crate::node_packet::NodePacket;

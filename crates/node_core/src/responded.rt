@@ -8,7 +8,7 @@ use std::marker::Model;
 
 /// The request numbers that a response speaks for: each is the whole number nearest to the last
 /// one that was drawn for the gateway.
-#[derive(Debug, Drop)]
+#[derive(Drop)]
 pub(crate) struct Responded<'a> {
     numbers: Numbers<'a>,
     last: u64,

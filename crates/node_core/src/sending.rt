@@ -43,7 +43,7 @@ pub enum Sending {
 
 impl Sending {
     /// Whether it is of the packet with this number.
-    pub(crate) fn is_of(&self, number: u64) -> bool
+    pub fn is_of(&self, number: u64) -> bool
         ensures { result ≡ is_of number self.now }
     {
         match self {
@@ -52,11 +52,6 @@ impl Sending {
             | Sending::Test { packet, .. }
             | Sending::Command { packet, .. } => *packet == number,
         }
-    }
-
-    /// Whether its octets are those of every message of its kind but for the numbers.
-    pub(crate) fn has_pattern(&self) -> bool {
-        matches!(self, Sending::Test { .. } | Sending::Command { .. })
     }
 
     /// The port that it goes from, the gateway that it goes to, its number, and the number that it

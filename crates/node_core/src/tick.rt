@@ -1,9 +1,9 @@
 ghost use Rattle.std.specs.Prelude.{◌≡◌, ◌≤◌, ◌<◌, ◌++◌, IsTrue, IfOk, IfSome, OnOk, OnErr, length, map, drop};
 ghost use Rattle.node_core.specs.Moving.{favourite_by, is_silent, moved_at_tick, quiet_by};
 ghost use Rattle.node_core.specs.Octets.{outgoing};
-ghost use Rattle.node_core.specs.Peers.{all_drawn};
+ghost use Rattle.node_core.specs.Peers.{AreNumbers, all_drawn};
 ghost use Rattle.node_core.specs.Sendings.{due_for_all, probe_of, probes};
-ghost use Rattle.node_core.specs.Sound.{AreNumbers, IsSettled, planned};
+ghost use Rattle.node_core.specs.Sound.{IsSettled, planned};
 ghost use Rattle.node_core.specs.Ticks.{due, due_by, tick_entries};
 ghost use Rattle.node_core.specs.Value.{befallen};
 
@@ -23,7 +23,7 @@ use std::alloc::Global;
 pub const MOST_QUIET: u8 = 3;
 
 /// What a tick does to a node, before it is done.
-#[derive(Debug, Drop)]
+#[derive(Drop)]
 struct TickPlan {
     peers: Vec<Peer>,
     /// The packets from the first open one on.
@@ -80,7 +80,7 @@ impl Node {
 }
 
 /// The favourite, once one is appointed or not.
-pub(crate) fn favourite_by(appointed: Option<u8>, gateway: u8) -> u8
+pub fn favourite_by(appointed: Option<u8>, gateway: u8) -> u8
     ensures { result ≡ favourite_by appointed gateway }
 {
     match appointed {
@@ -120,8 +120,8 @@ fn plan(
     ensures settled { OnOk result (IsSettled packets.now) }
 {
     let mut peers = gateways.to_vec(alloc)?;
-    let most_due = gateways.len().saturating_add(packets.most_due());
-    let mut sendings = Vec::with_capacity(alloc, most_due)?;
+    let reserved = gateways.len().saturating_add(packets.count_open());
+    let mut sendings = Vec::with_capacity(alloc, reserved)?;
     let packets = plan_with(
         alloc,
         aim,

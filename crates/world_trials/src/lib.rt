@@ -4,9 +4,10 @@
 #![tactic(auto)]
 
 #[cfg(test)]
-mod node_logged;
 #[cfg(test)]
-mod node_plain;
+mod node_by_log;
+#[cfg(test)]
+mod node_logged;
 #[cfg(test)]
 mod random_worlds;
 #[cfg(test)]

@@ -2,8 +2,8 @@
 //! tells.
 
 use gw_base::{Absolutes, Addr};
-use node_core::plain::{self, LogLine, Said, Setup};
 use node_core::{Command, Draft, Heeded, Node, NodeCopy, PacketCopy, Port, Sending};
+use node_plain::{LogLine, Said, Setup};
 use path_mgmt::PathEvent;
 use std::alloc::Global;
 use std::process::Abort;
@@ -172,7 +172,7 @@ impl Logged {
         appointed: Option<u8>,
         wanted: &[Sending],
     ) -> Result<(), Fail> {
-        let due = plain::due(alloc, &self.setup, &self.log)?;
+        let due = node_plain::due(alloc, &self.setup, &self.log)?;
         assert_eq!(rt; due.as_slice(), wanted);
         if !self.node.runs() {
             panic!(rt; "the node is halted");
@@ -196,7 +196,7 @@ impl Logged {
         assert_eq!(rt; reply(&heeded).len(), 8);
         let told = Said::Path(PathEvent::AliveTold { number: 0 });
         let _heeded = self.hear(rt, alloc, Port::First, gateway, &ALIVE_RESPONSE, told)?;
-        assert!(rt; plain::is_alive(&self.setup, &self.log, gateway));
+        assert!(rt; node_plain::is_alive(&self.setup, &self.log, gateway));
         Ok(())
     }
 
@@ -210,7 +210,7 @@ impl Logged {
         let said = Said::Redirects(None);
         let _heeded = self.hear(rt, alloc, Port::First, gateway, &REDIRECTION, said)?;
         self.log.insert(0, LogLine::Appointed(next))?;
-        assert_eq!(rt; plain::favourite(&self.log), next);
+        assert_eq!(rt; node_plain::favourite(&self.log), next);
         Ok(())
     }
 
@@ -264,7 +264,7 @@ impl Logged {
         from: Addr,
         octets: &[u8],
     ) -> Result<Heeded, Fail> {
-        let told = plain::heeds(alloc, &self.setup, &self.log, port, from, octets)?;
+        let told = node_plain::heeds(alloc, &self.setup, &self.log, port, from, octets)?;
         if !self.node.runs() {
             panic!(rt; "the node is halted");
         }
@@ -279,13 +279,13 @@ impl Logged {
     /// The log tells what the node tells.
     pub(crate) fn is_told(&self, rt: &impl Abort, alloc: Global) -> Result<(), Fail> {
         let log = self.log.as_slice();
-        assert_eq!(rt; plain::runs(log), self.node.runs());
-        assert_eq!(rt; plain::counter(&self.setup, log), self.node.counter());
-        assert_eq!(rt; plain::counts(alloc, log)?, self.node.counts());
+        assert_eq!(rt; node_plain::runs(log), self.node.runs());
+        assert_eq!(rt; node_plain::counter(&self.setup, log), self.node.counter());
+        assert_eq!(rt; node_plain::counts(alloc, log)?, self.node.counts());
         for gateway in 0..3 {
-            let next = plain::next_number(alloc, &self.setup, log, gateway)?;
+            let next = node_plain::next_number(alloc, &self.setup, log, gateway)?;
             assert_eq!(rt; next.checked_sub(1), Some(self.node.last_number(gateway)));
-            assert_eq!(rt; plain::uses(alloc, log, gateway, next)?, 0);
+            assert_eq!(rt; node_plain::uses(alloc, log, gateway, next)?, 0);
         }
         for packet in 0..3 {
             self.packet_is_told(rt, alloc, packet)?;
@@ -295,9 +295,9 @@ impl Logged {
 
     fn packet_is_told(&self, rt: &impl Abort, alloc: Global, packet: u64) -> Result<(), Fail> {
         let log = self.log.as_slice();
-        let phase = plain::phase(alloc, log, packet)?;
+        let phase = node_plain::phase(alloc, log, packet)?;
         assert_eq!(rt; phase, self.node.phase(packet), "packet {packet}");
-        let copies = plain::copies(alloc, log, packet)?;
+        let copies = node_plain::copies(alloc, log, packet)?;
         for k in 0..4 {
             let told = match copies.get(k) {
                 None => None,
@@ -317,8 +317,8 @@ impl Logged {
     /// What is known of a copy rests on the responses to its number, which has no other use.
     fn copy_is_told(&self, rt: &impl Abort, alloc: Global, copy: PacketCopy) -> Result<(), Fail> {
         let log = self.log.as_slice();
-        assert_eq!(rt; plain::known(alloc, log, copy)?, copy.verdict);
-        assert_eq!(rt; plain::uses(alloc, log, copy.gateway, copy.number)?, 1);
+        assert_eq!(rt; node_plain::known(alloc, log, copy)?, copy.verdict);
+        assert_eq!(rt; node_plain::uses(alloc, log, copy.gateway, copy.number)?, 1);
         match copy.command {
             None => Ok(()),
             Some(command) => self.command_is_told(rt, alloc, copy.gateway, command),
@@ -333,9 +333,9 @@ impl Logged {
         command: Command,
     ) -> Result<(), Fail> {
         let log = self.log.as_slice();
-        let is_fulfilled = plain::is_fulfilled_by(alloc, log, gateway, command.number)?;
+        let is_fulfilled = node_plain::is_fulfilled_by(alloc, log, gateway, command.number)?;
         assert_eq!(rt; is_fulfilled, command.is_answered);
-        assert_eq!(rt; plain::uses(alloc, log, gateway, command.number)?, 1);
+        assert_eq!(rt; node_plain::uses(alloc, log, gateway, command.number)?, 1);
         Ok(())
     }
 }
