@@ -4,7 +4,6 @@
 #![tactic(auto)]
 
 #[cfg(test)]
-#[cfg(test)]
 mod node_by_log;
 #[cfg(test)]
 mod node_logged;
