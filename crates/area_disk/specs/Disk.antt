@@ -1,5 +1,5 @@
 -- The disk model: what the calls of an area do to its octets, and what a crash at any moment may leave.
-use Rattle.std.specs.Prelude.{◌≡◌, ◌⊎◌, ℕ, ◌+◌, ◌-◌, ◌^◌, ◌≤◌, min, List, ◌++◌, length, take, drop, replicate, Result, OnOk, OnErr}
+use Rattle.std.specs.Prelude.{◌≡◌, ℕ, ◌+◌, ◌-◌, ◌^◌, ◌≤◌, min, List, ◌++◌, length, take, drop, replicate, Result, OnOk, OnErr}
 
 -- these octets, with others written over them from this place on
 abbrev pub overwritten : List ℕ → ℕ → List ℕ → List ℕ
@@ -22,16 +22,6 @@ Within old new = (c : List ℕ) → new c → old c
 -- a crash leaves these octets and nothing else
 abbrev pub Only : List ℕ → (List ℕ → Type 0) → Type 0
 Only octets outcomes = (c : List ℕ) → outcomes c → c ≡ octets
-
--- Time goes on from old to new: a crash since t, where that is told, might have left what it might have left before,
--- or what it may leave now.
-pub record Elapses {A : Type 0} (told_from moment : A → ℕ) (left_since : A → ℕ → List ℕ → Type 0)
-    (may_leave : A → List ℕ → Type 0) (old new : A) : Type 0 where
-  pub later : moment old ≤ moment new
-  pub told_later : told_from old ≤ told_from new
-  pub nothing_else : (t : ℕ) (c : List ℕ) → told_from new ≤ t → t ≤ moment old → left_since new t c →
-      left_since old t c ⊎ may_leave new c
-  pub keeps : (t : ℕ) (c : List ℕ) → told_from new ≤ t → t ≤ moment old → left_since old t c → left_since new t c
 
 -- so many octets 0
 unfoldable pub zeros : ℕ → List ℕ

@@ -1,4 +1,5 @@
 -- what public clauses cite
+pub mod AreaLaws
 pub mod Armed
 pub mod Course
 pub mod Disk

@@ -1,15 +1,15 @@
 -- What an area in memory tells, from its octets and its past.
-use Rattle.std.proofs.Common.{◌≡◌, inl, inr, ⊎_elim, ℕ, ◌+◌, ◌-◌, ◌≤◌, min, max, true, false, drop, List, [], ◌∷◌, ◌++◌, length, replicate, refl, sym, ◌∙◌, ap, subst, arith}
+use Rattle.std.proofs.Common.{◌≡◌, ◌⊎◌, inl, inr, ⊎_elim, ℕ, ◌+◌, ◌-◌, ◌<◌, ◌≤◌, min, max, true, false, drop, List, [], ◌∷◌, ◌++◌, length, replicate, refl, sym, ◌∙◌, ap, subst, arith}
 use Rattle.std.proofs.lemmas.List.{length-replicate, length-take}
-use Rattle.area_disk.specs.Disk.{overwritten, Torn, Follows, Within, Only, Elapses, last_count}
+use Rattle.area_disk.specs.Disk.{overwritten, Torn, Follows, Within, Only, last_count}
 use Rattle.area_disk.specs.Octets.{torn_overwritten, torn_same}
 use Rattle.area_disk.specs.Plan.{Prospect, most_unsynced, rot, written_as}
 use Rattle.area_disk.specs.Stretch.{SameOutside, filled, left_as, low_of, high_of, hull_of}
 use Rattle.area_disk.specs.Outside.{same_refl, same_everywhere, same_filled, filled_written, follows_write}
-use Rattle.area_disk.specs.Past.{Change, Past, image_after, IsOutcome, LeftSince, moment_of, told_of, noted, stop_change, room_for_calls, room_for_octets}
-use Rattle.area_disk.specs.PastLaws.{past_counts_now, past_only_now, past_same_size, goes_noted, goes_same, noted_stays}
+use Rattle.area_disk.specs.Past.{Change, Past, all_room, image_after, IsOutcome, LeftSince, moment_of, moments_of, most_calls, most_octets, told_of, noted, stop_change, room_for_calls, room_for_octets}
+use Rattle.area_disk.specs.PastLaws.{past_counts_now, past_only_now, past_same_size, Began, Begins, Goes, Keeps, goes_noted, goes_same, noted_begins, noted_stays}
 use Rattle.area_disk.specs.Hull.{low_of_least, low_of-push, high_of-push}
-use Rattle.area_disk.specs.Record.{Room, Step, Takes, GoesOn, nothing, stopped_at, stopped, write_of, sync_of}
+use Rattle.area_disk.specs.Record.{Moments, Room, Step, Takes, StaysTold, BeganAnew, GoesOn, nothing, stopped_at, stopped, write_of, sync_of}
 use Rattle.std.specs.Prelude.{Result, Ok, Err, IsErr}
 use Rattle.area_disk.specs.declared.disk.Disk.{Disk}
 use Rattle.area_disk.specs.declared.memory.MemoryArea.{MemoryArea}
@@ -68,104 +68,131 @@ disk_may_stop disk New = same_refl disk.unsynced.items disk.present.items
 disk_may_stop disk Rot = same_filled rot disk.unsynced.items disk.present.items disk.sound.fit
 
 -- how much more its record takes
-abbrev pub room_of : MemoryArea → Room
+abbrev pub room_of : Disk → Room
 room_of a = record {
-  calls = room_for_calls a.disk.past;
-  octets = room_for_octets a.disk.past;
-  low = low_of a.disk.unsynced.items;
-  high = high_of a.disk.unsynced.items;
+  calls = room_for_calls a.past;
+  octets = room_for_octets a.past;
+  low = low_of a.unsynced.items;
+  high = high_of a.unsynced.items;
 }
 
--- how time goes on from one area to another
-abbrev pub AreaGoes : Step → MemoryArea → MemoryArea → Type 0
-AreaGoes step old new = GoesOn (λ (a : MemoryArea). told_of a.disk.past) (λ (a : MemoryArea). moment_of a.disk.past) (λ (a : MemoryArea) (t : ℕ) (octets : List ℕ). LeftSince a.disk.past t octets) (λ (a : MemoryArea) (octets : List ℕ). DiskMayLeave a.disk octets) room_of step old new
+-- what it tells of its moments
+abbrev pub moments_in : Disk → Moments
+moments_in disk = moments_of (room_of disk) disk.past
+
+-- how time goes on from one disk to another
+abbrev pub DiskGoes : Step → Disk → Disk → Type 0
+DiskGoes step old new = GoesOn all_room step (moments_in old) (moments_in new) (DiskMayLeave new)
 
 -- one change is one step of time
-pub goes_noted_on : (old new : MemoryArea) (change : Change) (step : Step) → new.disk.past ≡ noted change old.disk.past
-    → 1 ≤ step.calls → length change.octets ≤ step.octets → step.low ≤ low_of new.disk.unsynced.items → high_of new.disk.unsynced.items ≤ step.high → AreaGoes step old new
-goes_noted_on old new change step is counted short low high =
-    let time = subst (λ (q : Past). Elapses told_of moment_of LeftSince IsOutcome old.disk.past q) (sym is) (goes_noted change old.disk.past) in
-    let stays = λ (takes : Takes (room_of old) step). noted_stays change old.disk.past old.disk.sound.few_octets (omega (arith, counted, takes.0)) (omega (arith, short, takes.1)) in
-    record {
-      time = record {
-        later = time.later;
-        told_later = time.told_later;
-        nothing_else = λ t octets told le left. ⊎_elim (λ past. inl past) (λ out. inr (now_outcome new.disk octets out)) (time.nothing_else t octets told le left);
-        keeps = time.keeps;
-      };
-      noted = record {
-        told = λ takes. ap told_of is ∙ (stays takes).0;
-        calls = λ takes. omega (arith, ap room_for_calls is, (stays takes).1, counted);
-        octets = λ takes. omega (arith, ap room_for_octets is, (stays takes).2, short);
-        low = low;
-        high = high;
-      };
-    }
+module _ (old new : Disk) (change : Change) (step : Step) (is : new.past ≡ noted change old.past)
+    (counted : 1 ≤ step.calls) (short : length change.octets ≤ step.octets) where
+  time : Goes old.past new.past
+  time = subst (λ (q : Past). Goes old.past q) (sym is) (goes_noted change old.past)
 
-pub goes_same_on : (old new : MemoryArea) (step : Step) → new.disk ≡ old.disk → step.low ≤ low_of old.disk.unsynced.items → high_of old.disk.unsynced.items ≤ step.high → AreaGoes step old new
+  stays : Keeps (length change.octets) old.past new.past → StaysTold step (moments_in old) (moments_in new)
+  stays keeps = record { told = keeps.0; calls = omega (arith, keeps.1, counted); octets = omega (arith, keeps.2, short) }
+
+  has_room : Takes (room_of old) step → Keeps (length change.octets) old.past new.past
+  has_room takes = subst (λ (q : Past). Keeps (length change.octets) old.past q) (sym is)
+      (noted_stays change old.past old.sound.few_octets (omega (arith, counted, takes.0)) (omega (arith, short, takes.1)))
+
+  begins : Begins change old.past new.past
+  begins = subst (λ (q : Past). Begins change old.past q) (sym is) (noted_begins change old.past)
+
+  anew : Began (moment_of old.past) 1 (length change.octets) new.past
+      → BeganAnew all_room (moment_of old.past) step.calls step.octets (moments_in new)
+  anew began = record { told = began.0; calls_left = omega (arith, began.1, counted); octets_left = omega (arith, began.2, short) }
+
+  pub goes_noted_on : step.low ≤ low_of new.unsynced.items → high_of new.unsynced.items ≤ step.high → DiskGoes step old new
+  goes_noted_on low high = record {
+    time = record {
+      later = time.later;
+      told_later = time.told_later;
+      nothing_else = λ t octets told le left. ⊎_elim (λ past. inl past) (λ out. inr (now_outcome new octets out)) (time.nothing_else t octets told le left);
+      keeps = time.keeps;
+    };
+    noted = record {
+      stays = λ takes. stays (has_room takes);
+      anew = λ takes below. ⊎_elim (λ keeps. inl (stays keeps))
+          (λ other. inr (⊎_elim anew (λ passed. absurd (omega (arith, passed.0, takes.1, short))) other)) (begins below);
+      behind = λ below. ⊎_elim (λ keeps. inl (stays keeps))
+          (λ other. inr (⊎_elim (λ began. inl (anew began))
+          (λ passed. inr (record { told = passed.1.0; calls_left = passed.1.1; octets_left = passed.1.2 })) other)) (begins below);
+      low = low;
+      high = high;
+    };
+  }
+
+pub goes_same_on : (old new : Disk) (step : Step) → new ≡ old → step.low ≤ low_of old.unsynced.items → high_of old.unsynced.items ≤ step.high → DiskGoes step old new
 goes_same_on old new step is low high =
-    let past_is : new.disk.past ≡ old.disk.past = ap (λ (d : Disk). d.past) is in
-    let time = subst (λ (q : Past). Elapses told_of moment_of LeftSince IsOutcome old.disk.past q) (sym past_is) (goes_same old.disk.past) in
+    let past_is : new.past ≡ old.past = ap (λ (d : Disk). d.past) is in
+    let time = subst (λ (q : Past). Goes old.past q) (sym past_is) (goes_same old.past) in
+    let stays : StaysTold step (moments_in old) (moments_in new) = record {
+      told = ap told_of past_is;
+      calls = omega (arith, ap room_for_calls past_is);
+      octets = omega (arith, ap room_for_octets past_is);
+    } in
     record {
       time = record {
         later = time.later;
         told_later = time.told_later;
-        nothing_else = λ t octets told le left. ⊎_elim (λ past. inl past) (λ out. inr (now_outcome new.disk octets out)) (time.nothing_else t octets told le left);
+        nothing_else = λ t octets told le left. ⊎_elim (λ past. inl past) (λ out. inr (now_outcome new octets out)) (time.nothing_else t octets told le left);
         keeps = time.keeps;
       };
       noted = record {
-        told = λ takes. ap told_of past_is;
-        calls = λ takes. omega (arith, ap room_for_calls past_is);
-        octets = λ takes. omega (arith, ap room_for_octets past_is);
+        stays = λ takes. stays;
+        anew = λ takes below. inl stays;
+        behind = λ below. inl stays;
         low = omega (arith, low, ap (λ (d : Disk). low_of d.unsynced.items) is);
         high = omega (arith, high, ap (λ (d : Disk). high_of d.unsynced.items) is);
       };
     }
 
 -- a write
-pub goes_written : (old new : MemoryArea) (at : ℕ) (from : List ℕ) → new.disk.past ≡ noted (record { at = at; octets = from; settles = false }) old.disk.past → new.disk.unsynced.items ≡ old.disk.unsynced.items ++ record { at = at; count = length from } ∷ []
-    → AreaGoes (record { calls = 1; octets = length from; low = min (low_of old.disk.unsynced.items) at; high = max (high_of old.disk.unsynced.items) (at + length from) }) old new
+pub goes_written : (old new : Disk) (at : ℕ) (from : List ℕ) → new.past ≡ noted (record { at = at; octets = from; settles = false }) old.past → new.unsynced.items ≡ old.unsynced.items ++ record { at = at; count = length from } ∷ []
+    → DiskGoes (record { calls = 1; octets = length from; low = min (low_of old.unsynced.items) at; high = max (high_of old.unsynced.items) (at + length from) }) old new
 goes_written old new at from is unsynced_is =
     let s : Stretch = record { at = at; count = length from } in
     goes_noted_on old new (record { at = at; octets = from; settles = false }) _ is (omega arith) (omega arith)
-    (omega (arith, ap low_of unsynced_is, low_of-push old.disk.unsynced.items s, low_of_least old.disk.unsynced.items)) (omega (arith, ap high_of unsynced_is, high_of-push old.disk.unsynced.items s))
+    (omega (arith, ap low_of unsynced_is, low_of-push old.unsynced.items s, low_of_least old.unsynced.items)) (omega (arith, ap high_of unsynced_is, high_of-push old.unsynced.items s))
 
 -- a sync
-pub goes_settled : (old new : MemoryArea) → new.disk.past ≡ noted (record { at = 0; octets = []; settles = true }) old.disk.past → new.disk.unsynced.items ≡ []
-    → AreaGoes (record { calls = 1; octets = 0; low = last_count; high = 0 }) old new
+pub goes_settled : (old new : Disk) → new.past ≡ noted (record { at = 0; octets = []; settles = true }) old.past → new.unsynced.items ≡ []
+    → DiskGoes (record { calls = 1; octets = 0; low = last_count; high = 0 }) old new
 goes_settled old new is none =
     goes_noted_on old new (record { at = 0; octets = []; settles = true }) _ is (omega arith) (omega arith) (omega (arith, ap low_of none)) (omega (arith, ap high_of none))
 
 -- a stop, which changes the shortest stretch that holds these
-goes_stopped_in : (stretches : List Stretch) (old new : MemoryArea) (step : Step) → new.disk.past ≡ noted (stop_change stretches new.disk.present.items) old.disk.past → new.disk.unsynced.items ≡ []
-    → step.calls ≡ 1 → high_of stretches - low_of stretches ≤ step.octets → step.low ≤ last_count → AreaGoes step old new
+goes_stopped_in : (stretches : List Stretch) (old new : Disk) (step : Step) → new.past ≡ noted (stop_change stretches new.present.items) old.past → new.unsynced.items ≡ []
+    → step.calls ≡ 1 → high_of stretches - low_of stretches ≤ step.octets → step.low ≤ last_count → DiskGoes step old new
 goes_stopped_in stretches old new step is none one most low =
-    goes_noted_on old new (stop_change stretches new.disk.present.items) step is (omega (arith, one))
-    (omega (arith, most, length-take (hull_of stretches).count (drop (hull_of stretches).at new.disk.present.items)))
+    goes_noted_on old new (stop_change stretches new.present.items) step is (omega (arith, one))
+    (omega (arith, most, length-take (hull_of stretches).count (drop (hull_of stretches).at new.present.items)))
     (omega (arith, low, ap low_of none)) (omega (arith, ap high_of none))
 
 -- in a write
-goes_stopped_at : (old new : MemoryArea) (at : ℕ) (from : List ℕ) → new.disk.past ≡ noted (stop_change (old.disk.unsynced.items ++ record { at = at; count = length from } ∷ []) new.disk.present.items) old.disk.past → new.disk.unsynced.items ≡ []
-    → at ≤ last_count → AreaGoes (stopped_at (room_of old) at (length from)) old new
+goes_stopped_at : (old new : Disk) (at : ℕ) (from : List ℕ) → new.past ≡ noted (stop_change (old.unsynced.items ++ record { at = at; count = length from } ∷ []) new.present.items) old.past → new.unsynced.items ≡ []
+    → at ≤ last_count → DiskGoes (stopped_at (room_of old) at (length from)) old new
 goes_stopped_at old new at from is none inside =
     let s : Stretch = record { at = at; count = length from } in
-    goes_stopped_in (old.disk.unsynced.items ++ s ∷ []) old new (stopped_at (room_of old) at (length from)) is none refl
-    (omega (arith, low_of-push old.disk.unsynced.items s, high_of-push old.disk.unsynced.items s, inside)) (low_of_least old.disk.unsynced.items)
+    goes_stopped_in (old.unsynced.items ++ s ∷ []) old new (stopped_at (room_of old) at (length from)) is none refl
+    (omega (arith, low_of-push old.unsynced.items s, high_of-push old.unsynced.items s, inside)) (low_of_least old.unsynced.items)
 
 -- between two writes
-pub goes_stopped : (old new : MemoryArea) → new.disk.past ≡ noted (stop_change old.disk.unsynced.items new.disk.present.items) old.disk.past → new.disk.unsynced.items ≡ [] → AreaGoes (stopped (room_of old)) old new
-goes_stopped old new is none = goes_stopped_in old.disk.unsynced.items old new (stopped (room_of old)) is none refl (omega arith) (low_of_least old.disk.unsynced.items)
+pub goes_stopped : (old new : Disk) → new.past ≡ noted (stop_change old.unsynced.items new.present.items) old.past → new.unsynced.items ≡ [] → DiskGoes (stopped (room_of old)) old new
+goes_stopped old new is none = goes_stopped_in old.unsynced.items old new (stopped (room_of old)) is none refl (omega arith) (low_of_least old.unsynced.items)
 
 not_err : false ≡ true → ⊥
 not_err e = cc
 
 -- the same of a call that failed
-pub goes_stopped_write : {T E : Type 0} (old new : MemoryArea) (at : ℕ) (from : List ℕ) (result : Result T E) → new.disk.past ≡ noted (stop_change (old.disk.unsynced.items ++ record { at = at; count = length from } ∷ []) new.disk.present.items) old.disk.past → new.disk.unsynced.items ≡ []
-    → at ≤ last_count → IsErr result → AreaGoes (write_of (room_of old) at (length from) result) old new
+pub goes_stopped_write : {T E : Type 0} (old new : Disk) (at : ℕ) (from : List ℕ) (result : Result T E) → new.past ≡ noted (stop_change (old.unsynced.items ++ record { at = at; count = length from } ∷ []) new.present.items) old.past → new.unsynced.items ≡ []
+    → at ≤ last_count → IsErr result → DiskGoes (write_of (room_of old) at (length from) result) old new
 goes_stopped_write old new at from (Ok done) is none inside err = absurd (not_err err)
 goes_stopped_write old new at from (Err failed) is none inside err = goes_stopped_at old new at from is none inside
 
-pub goes_stopped_sync : {T E : Type 0} (old new : MemoryArea) (result : Result T E) → new.disk.past ≡ noted (stop_change old.disk.unsynced.items new.disk.present.items) old.disk.past → new.disk.unsynced.items ≡ [] → IsErr result → AreaGoes (sync_of (room_of old) result) old new
+pub goes_stopped_sync : {T E : Type 0} (old new : Disk) (result : Result T E) → new.past ≡ noted (stop_change old.unsynced.items new.present.items) old.past → new.unsynced.items ≡ [] → IsErr result → DiskGoes (sync_of (room_of old) result) old new
 goes_stopped_sync old new (Ok done) is none err = absurd (not_err err)
 goes_stopped_sync old new (Err failed) is none err = goes_stopped old new is none
 
@@ -224,8 +251,8 @@ module _ (old new : MemoryArea) (kept : IsKept old new) where
   pub kept_within : Within (DiskMayLeave old.disk) (DiskMayLeave new.disk)
   kept_within octets left = subst (λ (d : Disk). DiskMayLeave d octets) kept.disk left
 
-  pub kept_goes : AreaGoes (nothing (room_of old)) old new
-  kept_goes = goes_same_on old new (nothing (room_of old)) kept.disk (omega arith) (omega arith)
+  pub kept_goes : DiskGoes (nothing (room_of old.disk)) old.disk new.disk
+  kept_goes = goes_same_on old.disk new.disk (nothing (room_of old.disk)) kept.disk (omega arith) (omega arith)
 
   pub kept_leaves_of : (o : Outcome3) → leaves_of new.disk o ≡ leaves_of old.disk o
   kept_leaves_of o = ap (λ (d : Disk). leaves_of d o) kept.disk
@@ -237,8 +264,8 @@ module _ (old new : MemoryArea) (o : Outcome3) (left : IsLeft old o new) where
   pub left_within : Within (DiskMayLeave old.disk) (DiskMayLeave new.disk)
   left_within = disk_within_stop old.disk new.disk o left.present left.unsynced
 
-  pub left_goes : AreaGoes (stopped (room_of old)) old new
-  left_goes = goes_stopped old new left.past left.unsynced
+  pub left_goes : DiskGoes (stopped (room_of old.disk)) old.disk new.disk
+  left_goes = goes_stopped old.disk new.disk left.past left.unsynced
 
   pub left_leaves_of : (p : Outcome3) → leaves_of new.disk p ≡ leaves_of old.disk o
   left_leaves_of Old = left.firm ∙ left.present

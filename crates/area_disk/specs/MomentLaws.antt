@@ -11,11 +11,11 @@ use Rattle.area_disk.specs.declared.area.Area.{Ghosts}
 module _ {A : Type 0} (area : Ghosts A) where
   -- since this moment there is no other
   abbrev pub OnlyNow : Type 0
-  OnlyNow = (a : A) (c : List ℕ) → area.told_from a ≤ area.moment a → area.left_since a (area.moment a) c → area.may_leave a c
+  OnlyNow = (a : A) (c : List ℕ) → (area.moments a).told_from ≤ (area.moments a).now → (area.moments a).left_since (area.moments a).now c → area.may_leave a c
 
   -- one call more
   abbrev pub Goes : Step → A → A → Type 0
-  Goes made old new = GoesOn area.told_from area.moment area.left_since area.may_leave area.room made old new
+  Goes made old new = GoesOn area.most_room made (area.moments old) (area.moments new) (area.may_leave new)
 
   -- before the first call
   pub begin : OnlyNow → (old : A) (P : List ℕ → Type 0) → ((c : List ℕ) → area.may_leave old c → P c) → Leaves area old old P
@@ -36,7 +36,7 @@ module _ {A : Type 0} (area : Ghosts A) where
       later = omega (arith, so_far.moments.later, time.later);
       told_later = omega (arith, so_far.moments.told_later, time.told_later);
       each = λ c told left.
-          ⊎_elim (so_far.moments.each c (omega (arith, told, time.told_later))) (here c) (time.nothing_else (area.moment old) c told so_far.moments.later left);
+          ⊎_elim (so_far.moments.each c (omega (arith, told, time.told_later))) (here c) (time.nothing_else ((area.moments old).now) c told so_far.moments.later left);
       before = λ t c told le left.
           ⊎_elim (so_far.moments.before t c (omega (arith, told, time.told_later)) le) (λ now. inr (here c now)) (time.nothing_else t c told (omega (arith, le, so_far.moments.later)) left);
     };
@@ -75,7 +75,7 @@ module _ {A : Type 0} (area : Ghosts A) where
       later = omega (arith, one.moments.later, two.moments.later);
       told_later = omega (arith, one.moments.told_later, two.moments.told_later);
       each = λ c told left. ⊎_elim (one.moments.each c (omega (arith, told, two.moments.told_later))) (λ has. has)
-          (two.moments.before (area.moment old) c told one.moments.later left);
+          (two.moments.before ((area.moments old).now) c told one.moments.later left);
       before = λ t c told le left. ⊎_elim (one.moments.before t c (omega (arith, told, two.moments.told_later)) le) inr
           (two.moments.before t c told (omega (arith, le, one.moments.later)) left);
     };

@@ -2,6 +2,7 @@
 use Rattle.std.specs.Prelude.{◌≡◌, ◌⊎◌, ℕ, ◌≤◌, List, IsTrue, Result, OnOk, OnErr}
 use Rattle.area_disk.specs.Course.{ReadOn}
 use Rattle.area_disk.specs.Disk.{counted}
+use Rattle.area_disk.specs.Record.{Moments}
 use Rattle.area_disk.specs.declared.area.Area.{Ghosts}
 
 -- the area tells what a read gives and what a crash may leave
@@ -9,18 +10,16 @@ abbrev pub Told : {A : Type 0} → Ghosts A → Type 0
 Told area = IsTrue area.tells_octets × IsTrue area.tells_crash
 
 -- A crash at any moment since old leaves octets that have P, where the moments since old are told.
-pub record LeavesOnly {A : Type 0} (told_from moment : A → ℕ) (left_since : A → ℕ → List ℕ → Type 0) (old new : A)
-    (P : List ℕ → Type 0) : Type 0 where
-  pub later : moment old ≤ moment new
-  pub told_later : told_from old ≤ told_from new
-  pub each : (c : List ℕ) → told_from new ≤ moment old → left_since new (moment old) c → P c
+pub record LeavesOnly (old new : Moments) (P : List ℕ → Type 0) : Type 0 where
+  pub later : old.now ≤ new.now
+  pub told_later : old.told_from ≤ new.told_from
+  pub each : (c : List ℕ) → new.told_from ≤ old.now → new.left_since old.now c → P c
   -- for a run that began earlier
-  pub before : (t : ℕ) (c : List ℕ) → told_from new ≤ t → t ≤ moment old → left_since new t c →
-      left_since old t c ⊎ P c
+  pub before : (t : ℕ) (c : List ℕ) → new.told_from ≤ t → t ≤ old.now → new.left_since t c → old.left_since t c ⊎ P c
 
 -- What a crash leaves has P: at each moment since the call's start that is told, and now.
 pub record Leaves {A : Type 0} (area : Ghosts A) (old new : A) (P : List ℕ → Type 0) : Type 0 where
-  pub moments : LeavesOnly area.told_from area.moment area.left_since old new P
+  pub moments : LeavesOnly (area.moments old) (area.moments new) P
   pub now : (c : List ℕ) → area.may_leave new c → P c
 
 -- a count of calls after at least one more and at most n

@@ -2,7 +2,7 @@
 use Rattle.std.specs.Prelude.{◌≡◌, ℕ, ◌+◌, ◌-◌, ◌^◌, ◌≤◌, ◌<◌, min, Bool, true, false, ◌&&◌, nat_lt, nat_le, List, [], ◌∷◌, ◌++◌, length, take, drop, get_or}
 use Rattle.area_disk.specs.Disk.{overwritten, last_count}
 use Rattle.area_disk.specs.Plan.{most_unsynced}
-use Rattle.area_disk.specs.Record.{Room}
+use Rattle.area_disk.specs.Record.{Moments, Room}
 use Rattle.area_disk.specs.Stretch.{SameOutside, hull_of}
 use Rattle.area_disk.specs.declared.stretch.Stretch.{Stretch}
 use Rattle.area_disk.specs.declared.past.Call.{Call}
@@ -92,6 +92,10 @@ room_for_octets p = most_octets - octets_in p.changes
 -- the room of a record without calls, where nothing is unsynced
 abbrev pub all_room : Room
 all_room = record { calls = most_calls; octets = most_octets; low = last_count; high = 0 }
+
+-- what is told of the moments of a past, whose record has this room
+abbrev pub moments_of : Room → Past → Moments
+moments_of room p = record { now = moment_of p; told_from = told_of p; left_since = λ t octets. LeftSince p t octets; room = room }
 
 -- a past that begins anew at the last moment
 abbrev pub anew : Past → Past

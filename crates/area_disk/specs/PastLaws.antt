@@ -5,10 +5,11 @@ use Rattle.std.specs.Prelude.{All}
 use Rattle.std.proofs.lemmas.List.Elements.{All-nil, All-cons, All-push, All-take, All-head, All-tail}
 use Rattle.std.proofs.lemmas.Bool.{cases_lt}
 use Rattle.std.proofs.lemmas.Bool.Decides.{nat_tests}
-use Rattle.area_disk.specs.Disk.{overwritten, Elapses, last_count}
+use Rattle.area_disk.specs.Disk.{overwritten, last_count}
+use Rattle.area_disk.specs.Record.{Elapses}
 use Rattle.area_disk.specs.Octets.{length-overwritten}
 use Rattle.area_disk.specs.Stretch.{SameOutside}
-use Rattle.area_disk.specs.Past.{Change, Past, IsWithin, image_after, unsynced_with, unsynced_after, IsOutcome, up_to, LeftSince, moment_of, first_told, told_of, anew, pushed, pushed_where, noted_where, noted, most_calls, most_octets, octets_in, room_for_calls, room_for_octets}
+use Rattle.area_disk.specs.Past.{Change, Past, IsWithin, image_after, unsynced_with, unsynced_after, IsOutcome, up_to, LeftSince, moment_of, first_told, told_of, anew, pushed, pushed_where, noted_where, noted, most_calls, most_octets, octets_in, room_for_calls, room_for_octets, all_room, moments_of}
 use Rattle.area_disk.specs.declared.stretch.Stretch.{Stretch}
 
 pub image_after-push : (changes : List Change) (c : Change) (image : List ℕ) → image_after (changes ++ c ∷ []) image ≡ overwritten (image_after changes image) c.at c.octets
@@ -116,8 +117,8 @@ past_only_now p octets told left =
     subst (λ (l : List Change). LeftAfter p l octets) (all_changes p left.0 here) left.3
 
 -- how time goes on from one past to another
-abbrev Goes : Past → Past → Type 0
-Goes p q = Elapses told_of moment_of LeftSince IsOutcome p q
+abbrev pub Goes : Past → Past → Type 0
+Goes p q = Elapses (moments_of all_room p) (moments_of all_room q) (IsOutcome q)
 
 goes_pushed : (c : Change) (p : Past) → Goes p (pushed c p)
 goes_pushed c p = record {
@@ -197,7 +198,7 @@ goes_passed c p = record {
         omega (arith, here.0, here.1, le, length_push p.changes c)
 
 -- one change more is one step of time
-pub goes_noted : (c : Change) (p : Past) → Elapses told_of moment_of LeftSince IsOutcome p (noted c p)
+pub goes_noted : (c : Change) (p : Past) → Goes p (noted c p)
 goes_noted c p = by_size (nat_lt most_octets (length c.octets))
   where
     by_room : (b : Bool) → Goes p (pushed_where b c p)
@@ -209,7 +210,7 @@ goes_noted c p = by_size (nat_lt most_octets (length c.octets))
     by_size false = by_room (nat_lt (length p.changes) most_calls && nat_le (octets_in p.changes + length c.octets) most_octets)
 
 -- where nothing changes, no time passes
-pub goes_same : (p : Past) → Elapses told_of moment_of LeftSince IsOutcome p p
+pub goes_same : (p : Past) → Goes p p
 goes_same p = record { later = omega arith; told_later = omega arith; nothing_else = λ t octets told le left. inl left; keeps = λ t octets told le left. left }
 
 octets_in-push : (changes : List Change) (c : Change) → octets_in (changes ++ c ∷ []) ≡ octets_in changes + length c.octets
@@ -267,3 +268,42 @@ noted_stays c p held calls octets = subst (λ (q : Past). (told_of q ≡ told_of
       omega (arith, more),
       omega (arith, octets_in-push p.changes c),
     )
+
+-- a past of which so much is told as of one before it, and that has taken one change more, with n octets
+abbrev pub Keeps : ℕ → Past → Past → Type 0
+Keeps n p q = (told_of q ≡ told_of p) × (room_for_calls p ≤ room_for_calls q + 1) × (room_for_octets p ≤ room_for_octets q + n)
+
+-- a past that began anew at this moment, and has taken so many changes and octets since
+abbrev pub Began : ℕ → ℕ → ℕ → Past → Type 0
+Began at calls octets q = (told_of q ≡ at) × (most_calls ≤ room_for_calls q + calls) × (most_octets ≤ room_for_octets q + octets)
+
+-- before the numbers of moments end all moments since the first are told
+told_numbered : (p : Past) → p.first + length p.changes < last_count → told_of p ≡ p.first
+told_numbered p below =
+    let is : nat_lt (p.first + length p.changes) last_count ≡ true = grind (arith, nat_tests) in
+    ap (λ b. first_told b p.first) is
+
+-- how a past stands to one before it that took a change more: the change went behind those before it, or the past began
+-- anew with it, or, where it alone is too large, behind it
+abbrev pub Begins : Change → Past → Past → Type 0
+Begins c p q = moment_of q + most_calls < last_count → Keeps (length c.octets) p q
+    ⊎ (Began (moment_of p) 1 (length c.octets) q ⊎ ((most_octets < length c.octets) × Began (moment_of q) 0 0 q))
+
+pub noted_begins : (c : Change) (p : Past) → Begins c p (noted c p)
+noted_begins c p = by_size (nat_lt most_octets (length c.octets)) refl
+  where
+    by_room : (b : Bool) → Begins c p (pushed_where b c p)
+    by_room true below =
+        let more = length_push p.changes c in
+        inl (
+          told_numbered (pushed c p) (omega (arith, below)) ∙ sym (told_numbered p (omega (arith, below, more))),
+          omega (arith, more),
+          omega (arith, octets_in-push p.changes c),
+        )
+    by_room false below = inr (inl (told_numbered (pushed c (anew p)) (omega (arith, below)), omega (arith, below), omega arith))
+
+    by_size : (b : Bool) → nat_lt most_octets (length c.octets) ≡ b → Begins c p (noted_where b c p)
+    by_size true is below =
+        let large : most_octets < length c.octets = grind (arith, nat_tests) in
+        inr (inr (large, (told_numbered (anew (pushed c p)) (omega (arith, below)) ∙ omega (arith, below), omega (arith, below), omega arith)))
+    by_size false is below = by_room (nat_lt (length p.changes) most_calls && nat_le (octets_in p.changes + length c.octets) most_octets) below

@@ -2,7 +2,7 @@
 use Rattle.std.specs.Prelude.{[], false, true, None, ◌≡◌, IsTrue}
 use Rattle.area_disk.specs.Disk.{last_count}
 use Rattle.area_disk.specs.Plan.{Prospect}
-use Rattle.area_disk.specs.Record.{Room}
+use Rattle.area_disk.specs.Record.{Moments, Room}
 
 -- what an area tells that tells of no plan
 abbrev pub no_prospect : Prospect
@@ -11,6 +11,10 @@ no_prospect = record { schedule = record { calls = 0; reads = 0; fail = []; read
 -- what an area tells that keeps no record of its moments
 abbrev pub no_room : Room
 no_room = record { calls = 0; octets = 0; low = last_count; high = 0 }
+
+-- what it tells of its moments: none is told
+abbrev pub no_moments : Moments
+no_moments = record { now = 0; told_from = 1; left_since = λ t octets. Unit {0}; room = no_room }
 
 -- what isn't told has every property
 pub not_told : {P : Type 0} → IsTrue false → P

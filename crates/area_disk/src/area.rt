@@ -2,7 +2,7 @@
 ghost use Rattle.std.specs.Prelude.{◌≡◌, ◌≤◌, ◌+◌, ℕ, List, length, take, drop, Bool, IsTrue, OnOk, Some, codes};
 ghost use Rattle.area_disk.specs.Disk.{overwritten, Torn, Follows, Within, Only, counted, HasCause};
 ghost use Rattle.area_disk.specs.Plan.{Prospect, WriteAsPlanned, SyncAsPlanned, ReadAsPlanned};
-ghost use Rattle.area_disk.specs.Record.{Room, GoesOn, nothing, write_of, sync_of};
+ghost use Rattle.area_disk.specs.Record.{GoesOn, Moments, Room, nothing, write_of, sync_of};
 ghost use Rattle.area_disk.specs.declared.plan.Outcome3.{Outcome3};
 ghost use Rattle.area_disk.specs.declared.plan.Outcome3.TheVariants.{New};
 
@@ -67,18 +67,13 @@ pub trait Area: Send + Drop {
     /// What a crash at this moment may leave.
     ghost may_leave: { Self → List ℕ → Type 0 };
 
-    /// The moment, as a number that doesn't fall.
-    ghost moment: { Self → ℕ };
+    /// What it tells of its moments: which one this is, from which one on it is told what a crash might have left, and
+    /// how much the record of them takes before it begins anew. Where it has room for what a call adds, the moments
+    /// that were told stay told.
+    ghost moments: { Self → Moments };
 
-    /// The first moment from which on it is told what a crash might have left. Above `moment`: none.
-    ghost told_from: { Self → ℕ };
-
-    /// What a crash at some moment from that one on might have left, in a call or between two.
-    ghost left_since: { Self → ℕ → List ℕ → Type 0 };
-
-    /// How much the record of these moments takes before it begins anew: where it has room for what a call adds, the
-    /// moments that were told stay told.
-    ghost room: { Self → Room };
+    /// The room of an empty record of moments.
+    ghost most_room: { Room };
 
     /// Whether it tells the number of its counted calls.
     ghost tells_calls: { Bool };
@@ -110,7 +105,8 @@ pub trait Area: Send + Drop {
         ensures octets { octets self.new ≡ octets self.old }
 
         ensures crash { Within (may_leave self.old) (may_leave self.new) }
-        ensures time { GoesOn told_from moment left_since may_leave room (nothing (room self.old)) self.old self.new }
+        ensures time { GoesOn most_room (nothing (moments self.old).room)
+            (moments self.old) (moments self.new) (may_leave self.new) }
 
         ensures calls { IsTrue tells_calls → calls self.new ≡ calls self.old }
         ensures planned { IsTrue tells_fate → ReadAsPlanned (fate self.old) result (fate self.new) }
@@ -126,8 +122,8 @@ pub trait Area: Send + Drop {
             OnOk result (octets self.new ≡ overwritten (octets self.old) at from.now) }
 
         ensures crash { Follows (Torn at (length from.now)) (may_leave self.old) (may_leave self.new) }
-        ensures time { let step = write_of (room self.old) at (length from.now) result in
-            GoesOn told_from moment left_since may_leave room step self.old self.new }
+        ensures time { GoesOn most_room (write_of (moments self.old).room at (length from.now) result)
+            (moments self.old) (moments self.new) (may_leave self.new) }
 
         ensures calls { IsTrue tells_calls → calls self.new ≡ counted 1 (calls self.old) }
         ensures planned { IsTrue tells_fate → WriteAsPlanned (fate self.old) at from.now result (fate self.new) }
@@ -141,8 +137,8 @@ pub trait Area: Send + Drop {
 
         ensures durable { IsTrue tells_crash → OnOk result (Only (octets self.new) (may_leave self.new)) }
         ensures crash { Within (may_leave self.old) (may_leave self.new) }
-        ensures time { let step = sync_of (room self.old) result in
-            GoesOn told_from moment left_since may_leave room step self.old self.new }
+        ensures time { GoesOn most_room (sync_of (moments self.old).room result)
+            (moments self.old) (moments self.new) (may_leave self.new) }
 
         ensures calls { IsTrue tells_calls → calls self.new ≡ counted 1 (calls self.old) }
         ensures planned { IsTrue tells_fate → SyncAsPlanned (fate self.old) result (fate self.new) }
@@ -159,14 +155,16 @@ pub trait Area: Send + Drop {
 
     /// So it did at each moment since one that is told.
     ghost same_size_since: { (a : Self) (t : ℕ) (c : List ℕ) →
-        IsTrue tells_crash → told_from a ≤ t → t ≤ moment a → left_since a t c → length c ≡ size a };
+        IsTrue tells_crash → (moments a).told_from ≤ t → t ≤ (moments a).now → (moments a).left_since t c →
+        length c ≡ size a };
 
     /// This moment is one of those since an earlier one.
     ghost counts_now: { (a : Self) (t : ℕ) (c : List ℕ) →
-        told_from a ≤ t → t ≤ moment a → may_leave a c → left_since a t c };
+        (moments a).told_from ≤ t → t ≤ (moments a).now → may_leave a c → (moments a).left_since t c };
 
     /// Since this moment there is no other.
-    ghost only_now: { (a : Self) (c : List ℕ) → told_from a ≤ moment a → left_since a (moment a) c → may_leave a c };
+    ghost only_now: { (a : Self) (c : List ℕ) → (moments a).told_from ≤ (moments a).now →
+        (moments a).left_since (moments a).now c → may_leave a c };
 
     /// What a stop would leave is what a crash may leave.
     ghost may_stop: { (a : Self) (o : Outcome3) → IsTrue tells_fate → may_leave a ((fate a).leaves o) };

@@ -63,7 +63,8 @@ pub trait DrillArea: Area + Drill {
     ghost kept_crash: { (old new : Self) → Self.kept old new → Within (Self.may_leave old) (Self.may_leave new) };
 
     ghost kept_time: { (old new : Self) → Self.kept old new →
-        GoesOn Self.told_from Self.moment Self.left_since Self.may_leave Self.room (nothing (Self.room old)) old new };
+        GoesOn Self.most_room (nothing (Self.moments old).room)
+        (Self.moments old) (Self.moments new) (Self.may_leave new) };
 
     ghost kept_leaves: { (old new : Self) (o : Outcome3) → Self.kept old new →
         (Self.fate new).leaves o ≡ (Self.fate old).leaves o };
@@ -82,7 +83,8 @@ pub trait DrillArea: Area + Drill {
         Within (Self.may_leave old) (Self.may_leave new) };
 
     ghost left_time: { (old new : Self) (o : Outcome3) → Self.left old o new →
-        GoesOn Self.told_from Self.moment Self.left_since Self.may_leave Self.room (stopped (Self.room old)) old new };
+        GoesOn Self.most_room (stopped (Self.moments old).room)
+        (Self.moments old) (Self.moments new) (Self.may_leave new) };
 
     ghost left_leaves: { (old new : Self) (o p : Outcome3) → Self.left old o new →
         (Self.fate new).leaves p ≡ (Self.fate old).leaves o };

@@ -1,5 +1,5 @@
-//! Laws of a plan that arms one call. Each holds for all plans and schedules, and stands on a function that does
-//! nothing.
+//! Laws of areas, and of a plan that arms one call. Each holds for all areas, plans and schedules, and stands on a
+//! function that does nothing.
 
 ghost use Rattle.std.specs.Prelude.{◌≡◌, ◌+◌, ◌<◌, ℕ, [], ◌∷◌, None, Some, true, false};
 ghost use Rattle.area_disk.specs.Armed.{Armed, IsArmed, after_one, calls_under, planned_in, then_calls};
@@ -10,6 +10,15 @@ ghost use Rattle.area_disk.specs.declared.plan.Fate.{Fate};
 ghost use Rattle.area_disk.specs.declared.plan.Fate.TheVariants.{Fails};
 ghost use Rattle.area_disk.specs.declared.plan.Outcome3.{Outcome3};
 ghost use Rattle.area_disk.specs.declared.plan.Plan.{Plan};
+ghost use Rattle.area_disk.specs.AreaLaws.{AreaLaws};
+
+use crate::Area;
+
+/// What a read gives, what a crash may leave and what is planned of an area go together as `Area` says. A caller calls
+/// it so that these facts are known there.
+pub fn area_laws<A: Area>()
+    ensures { AreaLaws A.Area }
+{}
 
 /// A plan that is empty arms nothing.
 pub fn arms_nothing()

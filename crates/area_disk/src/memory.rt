@@ -4,8 +4,8 @@ ghost use Rattle.std.proofs.Common.{refl};
 ghost use Rattle.area_disk.specs.Disk.{HasCause, Only, zeros};
 ghost use Rattle.area_disk.specs.Plan.{IsFresh, next_fate, fate_with, most_unsynced};
 ghost use Rattle.area_disk.specs.Outside.{same_refl};
-ghost use Rattle.area_disk.specs.Past.{all_room, moment_of, told_of, LeftSince};
-ghost use Rattle.area_disk.specs.Memory.{prospect_of, room_of, DiskMayLeave, disk_counts_now, disk_only_now, disk_same_size, disk_may_stop, IsKept, IsLeft, kept_disk_size, kept_present, kept_within, kept_goes, kept_leaves_of, kept_disk_spare, left_within, left_goes, left_leaves_of, left_disk_spare};
+ghost use Rattle.area_disk.specs.Past.{all_room};
+ghost use Rattle.area_disk.specs.Memory.{prospect_of, moments_in, DiskMayLeave, disk_counts_now, disk_only_now, disk_same_size, disk_may_stop, IsKept, IsLeft, kept_disk_size, kept_present, kept_within, kept_goes, kept_leaves_of, kept_disk_spare, left_within, left_goes, left_leaves_of, left_disk_spare};
 ghost use Rattle.area_disk.specs.declared.plan.Outcome3.{Outcome3};
 
 use crate::disk::Disk;
@@ -38,8 +38,8 @@ impl MemoryArea {
         ensures durable { IfOk result (λ area. Only (zeros length) (⟦<MemoryArea as Area>⟧.may_leave area)) }
         ensures plan { IfOk result (λ area. IsFresh plan (zeros length) (⟦<MemoryArea as Area>⟧.fate area)) }
         ensures told { IfOk result (λ area.
-            ⟦<MemoryArea as Area>⟧.told_from area ≡ ⟦<MemoryArea as Area>⟧.moment area) }
-        ensures room { IfOk result (λ area. ⟦<MemoryArea as Area>⟧.room area ≡ all_room) }
+            (⟦<MemoryArea as Area>⟧.moments area).told_from ≡ (⟦<MemoryArea as Area>⟧.moments area).now) }
+        ensures room { IfOk result (λ area. (⟦<MemoryArea as Area>⟧.moments area).room ≡ all_room) }
         ensures faults { IfOk result (λ area. ⟦<MemoryArea as Area>⟧.faults area ≡ 0) }
     {
         let disk = Disk::new(alloc, length as usize)?;
@@ -82,13 +82,9 @@ impl Area for MemoryArea {
 
     ghost may_leave = { λ a octets. DiskMayLeave a.disk octets };
 
-    ghost moment = { λ a. moment_of a.disk.past };
+    ghost moments = { λ a. moments_in a.disk };
 
-    ghost told_from = { λ a. told_of a.disk.past };
-
-    ghost left_since = { λ a t octets. LeftSince a.disk.past t octets };
-
-    ghost room = { room_of };
+    ghost most_room = { all_room };
 
     ghost tells_calls = { true };
 

@@ -17,7 +17,7 @@ const MOST_OCTETS: usize = 8_388_608;
 pub const MOST_UNSYNCED: usize = 65_536;
 
 /// One counted call: where it wrote and how many octets, and whether nothing was unsynced after it.
-#[derive(Clone, Copy, Debug)]
+#[derive(Clone, Copy)]
 pub struct Call {
     pub at: usize,
     pub count: usize,

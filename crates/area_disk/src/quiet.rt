@@ -45,7 +45,7 @@ impl QuietArea {
 impl Area for QuietArea {
     ghost use Rattle.std.proofs.Common.{refl, ap, le_trans};
     ghost use Rattle.std.proofs.Math.Bridge.{no_suc-le-zero};
-    ghost use Rattle.area_disk.specs.Quiet.{no_prospect, no_room, not_told};
+    ghost use Rattle.area_disk.specs.Quiet.{no_moments, no_prospect, no_room, not_told};
 
     ghost size = { λ a. length a };
 
@@ -57,13 +57,9 @@ impl Area for QuietArea {
 
     ghost may_leave = { λ a c. c ≡ a };
 
-    ghost moment = { λ a. 0 };
+    ghost moments = { λ a. no_moments };
 
-    ghost told_from = { λ a. 1 };
-
-    ghost left_since = { λ a t c. Unit {0} };
-
-    ghost room = { λ a. no_room };
+    ghost most_room = { no_room };
 
     ghost tells_calls = { false };
 

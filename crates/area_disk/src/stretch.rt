@@ -6,7 +6,7 @@ ghost use Rattle.area_disk.specs.Stretch.{SameOutside, EachFits, filled, hull_of
 use std::alloc::{AllocError, Global};
 
 /// A run of octets of an area: so many from this place on.
-#[derive(Clone, Copy, Debug, PartialEq, Eq)]
+#[derive(Clone, Copy)]
 pub struct Stretch {
     pub at: usize,
     pub count: usize,

@@ -1,4 +1,5 @@
 -- what public clauses cite
+pub mod Calls
 pub mod FaultText
 pub mod Files
 pub mod Steps

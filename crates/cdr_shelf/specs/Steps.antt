@@ -46,12 +46,12 @@ is_memory (Ok x) = false
 is_memory (Err Failed) = false
 is_memory (Err NoMemory) = true
 
--- The count of faults doesn't fall, and rose where a call failed, in no other case.
-pub record HasStopCause {T : Type 0} (before now : ℕ) (result : Result T ShelfStop) : Type 0 where
+-- The count of faults doesn't fall, and rose where a call failed, in no other case: not where it had no memory.
+pub record HasStopCause {T E : Type 0} (starved : Bool) (before now : ℕ) (result : Result T E) : Type 0 where
   pub later : before ≤ now
   pub ok : OnOk result (now ≡ before)
-  pub no_memory : is_memory result ≡ true → now ≡ before
-  pub failed : OnErr result (is_memory result ≡ false → Rose before now)
+  pub no_memory : starved ≡ true → now ≡ before
+  pub failed : OnErr result (starved ≡ false → Rose before now)
 
 -- A counted call came out as was planned.
 pub record CallAsPlanned {T E : Type 0} (old : Schedule) (result : Result T E) (new : Schedule) : Type 0 where

@@ -1,9 +1,10 @@
 // A shelf as a writer of files sees it: sealed files, which stay, and one file per stream that is being written.
-ghost use Rattle.std.specs.Prelude.{◌≡◌, ◌++◌, ◌⊎◌, ℕ, List, Bool, IsTrue, IsSome, IfOk, OnOk, Option, true, false};
-ghost use Rattle.area_disk.specs.Disk.{counted, HasCause};
-ghost use Rattle.area_disk.specs.Plan.{Schedule, next_fate};
-ghost use Rattle.cdr_shelf.specs.Files.{SealedFile, UnsealedFile, IsFresh, greatest_in, sealed_as};
-ghost use Rattle.cdr_shelf.specs.Steps.{TakesWrite, begun, written, synced, left_unsealed, StepsAt, is_memory, HasStopCause, CallAsPlanned, ReadAsPlanned, LeavesAfter, SealLeaves};
+ghost use Rattle.std.specs.Prelude.{◌≡◌, ℕ, List, Bool, IsTrue, IsSome, IfOk, Option, false};
+ghost use Rattle.area_disk.specs.Disk.{HasCause};
+ghost use Rattle.area_disk.specs.Plan.{Schedule};
+ghost use Rattle.cdr_shelf.specs.Files.{SealedFile, UnsealedFile, IsFresh, greatest_in};
+ghost use Rattle.cdr_shelf.specs.Calls.{Seals, Steps, state_by, told_by};
+ghost use Rattle.cdr_shelf.specs.Steps.{ReadAsPlanned, TakesWrite, begun, is_memory, synced, written};
 
 use crate::FileName;
 use area_disk::Failed;
@@ -97,71 +98,31 @@ pub trait Shelf: Send + Drop {
     /// sealed file has the name.
     fn begin(&mut self, name: FileName) -> Result<(), ShelfStop>
         requires { IsTrue tells_files → IsFresh name (files self.old) }
-
-        ensures files { files self.new ≡ files self.old }
-        ensures begun { IsTrue tells_files →
-            OnOk result (StepsAt name.stream (begun name) (unsealed self.old) (unsealed self.new)) }
-        ensures no_memory { is_memory result ≡ true → (calls self.new ≡ calls self.old) ×
-            (plan self.new ≡ plan self.old) × ((s : ℕ) → unsealed self.new s ≡ unsealed self.old s) }
-
-        ensures calls { IsTrue tells_calls → is_memory result ≡ false → calls self.new ≡ counted 1 (calls self.old) }
-        ensures planned { IsTrue tells_plan → is_memory result ≡ false →
-            CallAsPlanned (plan self.old) result (plan self.new) }
-        ensures leaves { IsTrue tells_files → IsTrue tells_plan → is_memory result ≡ false →
-            LeavesAfter (next_fate (plan self.old)) name.stream (begun name)
-            (unsealed self.old) (unsealed self.new) }
-        ensures cause { HasStopCause (faults self.old) (faults self.new) result };
+        ensures steps { let state = state_by files unsealed calls plan faults in
+            Steps (told_by tells_files tells_calls tells_plan) name.stream (begun name) (is_memory result)
+            (state self.old) (state self.new) result };
 
     /// Writes `from` over the octets of the stream's unsealed file from octet `at` on, which is at most its end. The
     /// file grows where `from` reaches past its end.
     fn write_at(&mut self, stream: u8, at: u32, from: &[u8]) -> Result<(), ShelfStop>
         requires { IsTrue tells_files → TakesWrite at (unsealed self.old stream) }
-
-        ensures files { files self.new ≡ files self.old }
-        ensures written { IsTrue tells_files →
-            OnOk result (StepsAt stream (written at from.now) (unsealed self.old) (unsealed self.new)) }
-        ensures no_memory { is_memory result ≡ true → (calls self.new ≡ calls self.old) ×
-            (plan self.new ≡ plan self.old) × ((s : ℕ) → unsealed self.new s ≡ unsealed self.old s) }
-
-        ensures calls { IsTrue tells_calls → is_memory result ≡ false → calls self.new ≡ counted 1 (calls self.old) }
-        ensures planned { IsTrue tells_plan → is_memory result ≡ false →
-            CallAsPlanned (plan self.old) result (plan self.new) }
-        ensures leaves { IsTrue tells_files → IsTrue tells_plan → is_memory result ≡ false →
-            LeavesAfter (next_fate (plan self.old)) stream (written at from.now)
-            (unsealed self.old) (unsealed self.new) }
-        ensures cause { HasStopCause (faults self.old) (faults self.new) result };
+        ensures steps { let state = state_by files unsealed calls plan faults in
+            Steps (told_by tells_files tells_calls tells_plan) stream (written at from.now) (is_memory result)
+            (state self.old) (state self.new) result };
 
     /// Waits until what was written of the stream's unsealed file stands.
     fn sync(&mut self, stream: u8) -> Result<(), Failed>
         requires { IsTrue tells_files → IsSome (unsealed self.old stream) }
-
-        ensures files { files self.new ≡ files self.old }
-        ensures synced { IsTrue tells_files →
-            OnOk result (StepsAt stream synced (unsealed self.old) (unsealed self.new)) }
-
-        ensures calls { IsTrue tells_calls → calls self.new ≡ counted 1 (calls self.old) }
-        ensures planned { IsTrue tells_plan → CallAsPlanned (plan self.old) result (plan self.new) }
-        ensures leaves { IsTrue tells_files → IsTrue tells_plan →
-            LeavesAfter (next_fate (plan self.old)) stream synced (unsealed self.old) (unsealed self.new) }
-        ensures cause { HasCause (faults self.old) (faults self.new) result };
+        ensures steps { let state = state_by files unsealed calls plan faults in
+            Steps (told_by tells_files tells_calls tells_plan) stream synced false
+            (state self.old) (state self.new) result };
 
     /// Seals the stream's unsealed file, which is synced before. A file that wasn't synced since its last write
     /// isn't sealed by it. After `Failed` the file may be sealed or not. It takes no memory.
     fn seal(&mut self, stream: u8) -> Result<(), Failed>
         requires { IsTrue tells_files → IsSome (unsealed self.old stream) }
-
-        ensures sealed { IsTrue tells_files →
-            OnOk result (files self.new ≡ files self.old ++ sealed_as (unsealed self.old stream)) }
-        ensures ended { IsTrue tells_files →
-            OnOk result (StepsAt stream left_unsealed (unsealed self.old) (unsealed self.new)) }
-        ensures any_moment { IsTrue tells_files → (files self.new ≡ files self.old) ⊎
-            (files self.new ≡ files self.old ++ sealed_as (unsealed self.old stream)) }
-
-        ensures calls { IsTrue tells_calls → calls self.new ≡ counted 1 (calls self.old) }
-        ensures planned { IsTrue tells_plan → CallAsPlanned (plan self.old) result (plan self.new) }
-        ensures leaves { IsTrue tells_files → IsTrue tells_plan → SealLeaves (next_fate (plan self.old)) stream
-            (unsealed self.old) (files self.old) (unsealed self.new) (files self.new) }
-        ensures cause { HasCause (faults self.old) (faults self.new) result };
+        ensures seals { let state = state_by files unsealed calls plan faults in
+            Seals (told_by tells_files tells_calls tells_plan) stream (state self.old) (state self.new) result };
 
     /// The greatest sequence number of a sealed file of this stream, 0 where there is none. It changes nothing but the
     /// count of faults.

@@ -9,6 +9,7 @@ pub mod InOrder
 pub mod KeptLemmas
 pub mod KeptSums
 pub mod Listings
+mod Lying
 pub mod Meanings
 pub mod MergedLemmas
 pub mod Opened

@@ -14,7 +14,8 @@ use Rattle.gate_journal.specs.Format.{header_length}
 use Rattle.gate_journal.specs.Journal as journal
 use Rattle.gate_journal.specs.Moments.{Leaves, Told}
 use Rattle.gate_journal.specs.State.{Keeps}
-use Rattle.area_disk.specs.MomentLaws.{OnlyNow, begin, both, widen}
+use Rattle.area_disk.specs.AreaLaws.{AreaLaws}
+use Rattle.area_disk.specs.MomentLaws.{begin, both, widen}
 use Rattle.entry_codec.specs.Content.{entries_of, spelled}
 use Rattle.entry_codec.specs.Room.{capacity_of, costs_of}
 use Rattle.entry_codec.specs.Spelling.{HasSpelling, cost_of, entry_length}
@@ -53,24 +54,17 @@ pub same_free : {A : Type 0} {tells : Ghosts A} (old new : Trail A tells) → te
 unfolding free_of
 same_free old new size same i = free_beside (same i) (size i)
 
--- the area's laws of how many octets a crash leaves
-abbrev pub SameSize : {A : Type 0} → Ghosts A → Type 0
-SameSize {A} tells = (a : A) (c : List ℕ) → IsTrue tells.tells_crash → tells.may_leave a c → length c ≡ tells.size a
-
-abbrev pub SameSizeSince : {A : Type 0} → Ghosts A → Type 0
-SameSizeSince {A} tells = (a : A) (t : ℕ) (c : List ℕ) → IsTrue tells.tells_crash → tells.told_from a ≤ t → t ≤ tells.moment a → tells.left_since a t c → length c ≡ tells.size a
-
 -- what a crash leaves at any moment of calls has as many octets as the area
-leaves_sized : {A : Type 0} (tells : Ghosts A) → SameSize tells → SameSizeSince tells → (old new : A) → tells.size new ≡ tells.size old → IsTrue tells.tells_crash
+leaves_sized : {A : Type 0} (tells : Ghosts A) → AreaLaws tells → (old new : A) → tells.size new ≡ tells.size old → IsTrue tells.tells_crash
     → {P : List ℕ → Type 0} → Leaves tells old new P → Leaves tells old new (λ c. length c ≡ tells.size old)
-leaves_sized tells here since old new same told leaves = record {
+leaves_sized tells laws old new same told leaves = record {
   moments = record {
     later = leaves.moments.later;
     told_later = leaves.moments.told_later;
-    each = λ c from left. since new (tells.moment old) c told from leaves.moments.later left ∙ same;
-    before = λ t c from le left. inr (since new t c told from (omega (arith, le, leaves.moments.later)) left ∙ same);
+    each = λ c from left. laws.same_size_since new ((tells.moments old).now) c told from leaves.moments.later left ∙ same;
+    before = λ t c from le left. inr (laws.same_size_since new t c told from (omega (arith, le, leaves.moments.later)) left ∙ same);
   };
-  now = λ c left. here new c told left ∙ same;
+  now = λ c left. laws.same_size new c told left ∙ same;
 }
 
 -- what a trail holds stays where its journal lists the same
@@ -251,13 +245,13 @@ module _ {A : Type 0} {tells : Ghosts A} (trail : Trail A tells) where
           later_length (k - trail.firm) place e (later_place (k - trail.firm) place (ap (λ n. slice_get trail.places.items n) at ∙ is)) (later_get high (is_closed trail) inside get)
 
   -- with the laws of the area
-  module _ (whole : (a : A) → IsTrue tells.tells_octets → length (tells.octets a) ≡ tells.size a) (same_size : SameSize tells) (only_now : OnlyNow tells) where
+  module _ (laws : AreaLaws tells) where
     pub settled : journal.IsSettled trail.journal → IsSettled trail
     unfolding firm_entries
     settled is = record {
-      reads = λ told. still told (tells.octets (area_of trail)) (whole (area_of trail) told.0) (is.reads told);
-      crash = λ told c left. still told c (same_size (area_of trail) c told.1 left) (is.crash told c left);
-      still = λ told. begin tells only_now (area_of trail) _ (λ c left. still told c (same_size (area_of trail) c told.1 left) (is.crash told c left));
+      reads = λ told. still told (tells.octets (area_of trail)) (laws.whole (area_of trail) told.0) (is.reads told);
+      crash = λ told c left. still told c (laws.same_size (area_of trail) c told.1 left) (is.crash told c left);
+      still = λ told. begin tells laws.only_now (area_of trail) _ (λ c left. still told c (laws.same_size (area_of trail) c told.1 left) (is.crash told c left));
     }
       where
         still : Told tells → (c : List ℕ) → length c ≡ tells.size (area_of trail) → Keeps (journal.front_of trail.journal) (header_of trail) (journal.batches trail.journal) c → StandsFor (header_of trail) c (entries_in (journal.batches trail.journal))
@@ -267,8 +261,8 @@ module _ {A : Type 0} {tells : Ghosts A} (trail : Trail A tells) where
     pub at_rest : (is_closed trail ≡ false → journal.IsSettled trail.journal) → journal.Rests trail.journal → IsAtRest trail
     unfolding firm_entries waiting
     at_rest opened rests = record {
-      reads = λ told. by_closed told (tells.octets (area_of trail)) (whole (area_of trail) told.0) (λ e. (opened e).reads told) (rests.reads told) (is_closed trail) refl;
-      still = λ told. begin tells only_now (area_of trail) _ (λ c left. by_closed told c (same_size (area_of trail) c told.1 left) (λ e. (opened e).crash told c left) (rests.crash told c left) (is_closed trail) refl);
+      reads = λ told. by_closed told (tells.octets (area_of trail)) (laws.whole (area_of trail) told.0) (λ e. (opened e).reads told) (rests.reads told) (is_closed trail) refl;
+      still = λ told. begin tells laws.only_now (area_of trail) _ (λ c left. by_closed told c (laws.same_size (area_of trail) c told.1 left) (λ e. (opened e).crash told c left) (rests.crash told c left) (is_closed trail) refl);
     }
       where
         by_closed : Told tells → (c : List ℕ) → length c ≡ tells.size (area_of trail) → (is_closed trail ≡ false → Keeps (journal.front_of trail.journal) (header_of trail) (journal.batches trail.journal) c)
@@ -283,12 +277,12 @@ module _ {A : Type 0} {tells : Ghosts A} (trail : Trail A tells) where
 
   -- what the journal leaves in a call, stands for the firm entries, or with those that wait
   pub leaves_either : (new : A) (batch : List ℕ) → Told tells → batch ≡ trail.waiting.octets → trail.waiting.octets ≢ []
-      → SameSize tells → SameSizeSince tells → tells.size new ≡ tells.size (area_of trail)
+      → AreaLaws tells → tells.size new ≡ tells.size (area_of trail)
       → Leaves tells (area_of trail) new (journal.KeepsOr (journal.front_of trail.journal) (header_of trail) (journal.batches trail.journal) batch)
       → Leaves tells (area_of trail) new (StandsForOr (header_of trail) (firm_entries trail) (firm_entries trail ++ waiting trail))
   unfolding firm_entries waiting
-  leaves_either new batch told is some here since same keeps =
-      let sized = leaves_sized tells here since (area_of trail) new same told.1 keeps in
+  leaves_either new batch told is some laws same keeps =
+      let sized = leaves_sized tells laws (area_of trail) new same told.1 keeps in
       let more = one_more_batch trail.journal trail.size trail.waiting trail.places.items trail.firm trail.tally trail.sound told some in
       widen tells (area_of trail) new _ _
       (λ c has. keeps_either (journal.front_of trail.journal) (tells.size (area_of trail)) (header_of trail) (journal.batches trail.journal) trail.sound.founded (trail.sound.are_batches told) trail.waiting.octets more c has.0

@@ -1,5 +1,5 @@
 -- What contracts see of a trail.
-use Rattle.std.specs.Prelude.{◌≡◌, ◌⊎◌, ℕ, ◌<◌, Bool, if◌then◌else◌, List, ◌++◌, length, slice_get, Some}
+use Rattle.std.specs.Prelude.{◌≡◌, ◌⊎◌, ℕ, ◌<◌, Bool, if◌then◌else◌, List, ◌++◌, drop, length, slice_get, take, Some}
 use Rattle.area_disk.specs.declared.area.Area.{Ghosts}
 use Rattle.area_disk.specs.declared.plan.Outcome3.{Outcome3}
 use Rattle.gw_base.specs.declared.history.HistoryEntry.{HistoryEntry}
@@ -7,6 +7,7 @@ use Rattle.gw_base.specs.declared.place.Place.{Place}
 use Rattle.gate_journal.specs.Journal as journal
 use Rattle.gate_journal.specs.Moments.{Leaves, Told}
 use Rattle.entry_codec.specs.Content.{entries_of}
+use Rattle.entry_codec.specs.Spelling.{spelling}
 use Rattle.cgf_journal.specs.Format.{StandsFor, entries_in}
 use Rattle.cgf_journal.specs.Tally.{TallyValue, free_beside, has_room_behind}
 use Rattle.cgf_journal.specs.declared.trail.Trail.{Trail}
@@ -69,6 +70,10 @@ IsFirmPlaceOf trail k place = (k < trail.firm) × IsPlaceOf trail k place
 -- this is the place of a firm entry
 abbrev pub IsPlace : {A : Type 0} {tells : Ghosts A} → Trail A tells → Place → Type 0
 IsPlace trail place = (k : ℕ) × IsFirmPlaceOf trail k place
+
+-- the spelling of this entry lies at this place of an area
+abbrev pub LiesAt : Place → HistoryEntry → List ℕ → Type 0
+LiesAt place e octets = take place.length (drop place.at octets) ≡ spelling e
 
 -- the torn entries stand, as a read tells: the gate of their batch is open
 abbrev pub torn_stands : {A : Type 0} {tells : Ghosts A} → Trail A tells → Bool

@@ -22,7 +22,7 @@ pub trait Judge {
 }
 
 /// The judge to whom each entry is fit.
-#[derive(Clone, Copy, Debug)]
+#[derive(Clone, Copy)]
 pub(crate) struct TakesAll;
 
 impl Judge for TakesAll {

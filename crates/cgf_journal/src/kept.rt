@@ -18,7 +18,7 @@ const LATE: usize = 1024;
 
 /// The keys that the firm entries hold and those that all hold, in two lists in order: a short one of those that came
 /// last, so that one more key moves few others, and one of all before them.
-#[derive(Debug, Drop)]
+#[derive(Drop)]
 pub(crate) struct KeptKeys {
     early: SortedKeys,
     late: SortedKeys,

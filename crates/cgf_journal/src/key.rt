@@ -8,7 +8,7 @@ use gw_base::{Absolute, NodeId};
 
 /// A key that the firm entries hold or held, or that all entries do, and the round in which that
 /// changed last. A round goes from one commit to the next.
-#[derive(Clone, Copy, Debug)]
+#[derive(Clone, Copy)]
 pub(crate) struct KeptKey {
     pub(crate) node: NodeId,
     pub(crate) number: Absolute,

@@ -20,6 +20,7 @@ use crate::Trail;
 use crate::judge::{Judge, TakesAll};
 use crate::listing::{Listing, content_for, list, list_before};
 use area_disk::Area;
+use area_disk::laws::area_laws;
 use entry_codec::laws::entries_are_read_back;
 use gate_journal::{Journal, LONGEST_BATCH, OpenFault};
 use gw_base::Buffer;
@@ -155,6 +156,7 @@ impl<A: Area> Trail<A> {
         ensures planned { IsTrue A.tells_fate → is_memory result ≡ false →
             OpenFollows A.Area area result (header (A.size area) address generation) }
     {
+        area_laws::<A>();
         let size = area.length();
         let Ok(mut content) = content_for(alloc, size) else {
             return Err((OpenFault::NoMemory, area));
@@ -238,6 +240,7 @@ impl<A: Area> Trail<A> {
         ensures fresh { IsFresh (gates.header_of journal) result }
         ensures area { area_of result ≡ gates.area_of journal }
     {
+        area_laws::<A>();
         let Listing {
             numbers: _,
             places,

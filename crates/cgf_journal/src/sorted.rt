@@ -97,7 +97,7 @@ fn kept_at(keys: &[KeptKey], at: usize) -> KeptKey
 }
 
 /// The keys that the firm entries hold and those that all hold, in order, with how many they are.
-#[derive(Debug, Drop)]
+#[derive(Drop)]
 pub(crate) struct SortedKeys {
     keys: Vec<KeptKey>,
     /// For how many keys there is memory.

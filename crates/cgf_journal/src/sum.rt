@@ -9,7 +9,7 @@ use entry_codec::cost;
 use gw_base::{Act, Entry};
 
 /// What entries cost, and whether a Close is due after them.
-#[derive(Clone, Copy, Debug)]
+#[derive(Clone, Copy)]
 pub(crate) struct Sum {
     pub(crate) costs: u64,
     pub(crate) is_close_due: bool,

@@ -14,7 +14,7 @@ use std::marker::Model;
 
 /// What the entries of a trail cost of its journal and what they promise: the firm ones, and all of
 /// them.
-#[derive(Debug, Drop)]
+#[derive(Drop)]
 pub(crate) struct Tally {
     keys: KeptKeys,
     firm: Sum,

@@ -20,6 +20,7 @@ use crate::faults::BatchFull;
 use crate::places::Places;
 use crate::tally::Tally;
 use area_disk::Area;
+use area_disk::laws::area_laws;
 use entry_codec::laws::entries_are_read_back;
 use entry_codec::{cost, write};
 use gate_journal::{AppendFault, Device, Journal};
@@ -59,7 +60,7 @@ impl<A: Area> Trail<A> {
     ghost use Rattle.area_disk.specs.declared.plan.Outcome3.{Outcome3};
     ghost use Rattle.area_disk.specs.declared.plan.Outcome3.TheVariants.{New};
     ghost use Rattle.cgf_journal.specs.Outcomes.{AllFirm, AreTorn, CommitCalls, CommitPlanned, CrashLeaves, FirmPlacesStay, FirmStays, IsKept, IsPushed, IsReopened, ReadPlanned, ReopenCalls, ReopenPlanned, Stays, TornDropped, TornStand, UnmadeIfNone};
-    ghost use Rattle.cgf_journal.specs.Trail.{IsAtRest, IsFirmPlaceOf, IsPlace, IsPlaceOf, IsSettled, area_of, entries, firm_entries, firm_length, free_of, has_room_of, header_of, is_closed, left_by_stop, length_of, stop_stands, torn_stands, waiting, waiting_octets};
+    ghost use Rattle.cgf_journal.specs.Trail.{IsAtRest, IsFirmPlaceOf, IsPlace, IsPlaceOf, IsSettled, LiesAt, area_of, entries, firm_entries, firm_length, free_of, has_room_of, header_of, is_closed, left_by_stop, length_of, stop_stands, torn_stands, waiting, waiting_octets};
 
     /// Adds an entry after the others. It is firm after the next commit. It takes no memory.
     ///
@@ -110,6 +111,7 @@ impl<A: Area> Trail<A> {
         ensures device { CommitCalls self.old self.new result }
         ensures planned { CommitPlanned self.old self.new result }
     {
+        area_laws::<A>();
         if self.waiting.octets().is_empty() {
             let is_closed = self.journal.is_closed();
             prove!(!is_closed);
@@ -146,6 +148,7 @@ impl<A: Area> Trail<A> {
         ensures device { ReopenCalls self.old self.new result }
         ensures planned { ReopenPlanned self.old self.new result }
     {
+        area_laws::<A>();
         let end = self.journal.end();
         self.journal.reopen()?;
         if self.journal.end() == end {
@@ -171,6 +174,7 @@ impl<A: Area> Trail<A> {
             (left_by_stop outcome self.now) }
         ensures torn { IsTrue A.tells_fate → torn_stands self.now ≡ stop_stands New self.now }
     {
+        area_laws::<A>();
         self.journal.is_closed()
     }
 
@@ -235,9 +239,13 @@ impl<A: Area> Trail<A> {
     pub fn entry_at(&self, k: u64) -> Place
         requires { k < length_of self.now }
         ensures place { IsPlaceOf self.now k result }
+        // A firm entry lies there in the area.
+        ensures lies { Told A.Area → (e : HistoryEntry) → k < firm_length self.now →
+            slice_get (firm_entries self.now) k ≡ Some e → LiesAt result e (A.octets (area_of self.now)) }
         ensures length { Told A.Area → (e : HistoryEntry) → slice_get (entries self.now) k ≡ Some e →
             result.length ≡ entry_length e }
     {
+        let _closed = self.journal.is_closed();
         self.places.at(k as usize)
     }
 
@@ -269,6 +277,7 @@ impl<A: Area> Trail<A> {
         ensures stop { IsTrue A.tells_fate → Told A.Area → (outcome : Outcome3) →
             StandsFor (header_of self) ((A.fate (area_of self)).leaves outcome) (left_by_stop outcome self) }
     {
+        area_laws::<A>();
         let _closed = self.journal.is_closed();
         let Trail {
             journal,

@@ -82,7 +82,7 @@ three_parts law settings closed items more rest s =
     )
 
 -- how many files stand before any call, and after all of them
-first_count : (sealed closed n : ℕ) → max sealed (closed + n) - closed ≡ n + (sealed - (closed + n))
+pub first_count : (sealed closed n : ℕ) → max sealed (closed + n) - closed ≡ n + (sealed - (closed + n))
 first_count sealed closed n = omega arith
 
 last_count : (sealed closed n m after : ℕ) → after ≡ n + m

@@ -2,7 +2,7 @@
 use Rattle.std.proofs.Common.{◌≡◌, ℕ, zero, suc, max, ◌+◌, ◌-◌, ◌<◌, List, [], ◌∷◌, ◌++◌, length, map, take, drop, replicate, Option, None, slice_index, slice_index_or, slice_set, inl, inr, refl, sym, ap, ◌∙◌, subst, arith}
 use Rattle.std.proofs.lemmas.List.{append-nil, get_or-map, get_or-set_other, get_or-set_same, take-append-drop}
 use Rattle.cdr_file.specs.declared.run.RunFacts.{RunFacts}
-use Rattle.cdr_shelf.specs.Files.{SealedFile}
+use Rattle.cdr_shelf.specs.Files.{SealedFile, in_stream}
 use Rattle.cdr_shelf.specs.declared.shelf.Shelf.{Ghosts}
 use Rattle.file_rotate.specs.Cutting.{Cutting}
 use Rattle.gw_base.specs.declared.item.Item.{Item}
@@ -10,14 +10,14 @@ use Rattle.file_writer.specs.AllStreams.{AllAt, EachBelow}
 use Rattle.file_writer.specs.Asking.{HasAsked}
 use Rattle.file_writer.specs.Calls.{Call, calls_of, seals}
 use Rattle.file_writer.specs.Following.{BodyWhere}
-use Rattle.file_writer.specs.Holding.{HoldsOf, IsBegun}
+use Rattle.file_writer.specs.Holding.{HoldsOf}
 use Rattle.file_writer.specs.Laws.{DivisionGoesOn}
 use Rattle.file_writer.specs.Streams.{Settings, closed_of, stream_count}
 use Rattle.file_writer.specs.Writing.{is_sealed}
 use Rattle.file_writer.specs.declared.stream.Stream.{Stream}
 use Rattle.file_writer.proofs.AllLemmas.{is_same}
 use Rattle.file_writer.proofs.FollowingLemmas.{none_body}
-use Rattle.file_writer.proofs.HoldingLemmas.{holds-all, holds-some}
+use Rattle.file_writer.proofs.HoldingLemmas.{first_count, holds-all, holds-some}
 
 -- any stream
 abbrev pub no_stream : Stream
@@ -86,21 +86,26 @@ pub more_below : (base n m : ℕ) (streams : List Stream) → EachBelow (base + 
     → EachBelow (base + (n + m)) streams
 more_below base n m streams below s d h = let b = below s d h in omega arith
 
--- each beginning of what calls seal is a beginning of the files
+-- after some of the calls so many files of each stream stand
 pub begun : DivisionGoesOn → (settings : Settings) (closed sealed : ℕ → ℕ) (stood : ℕ
     → List SealedFile) (before items rest : List Item) (files : List SealedFile)
     → ((s : ℕ) → s < stream_count
     → HoldsOf settings closed stood ((before ++ items) ++ rest) files s
     (max (sealed s) (closed s + closed_of settings s before) - closed s))
-    → (k : ℕ)
-    → IsBegun settings closed stood ((before ++ items) ++ rest)
-    (files ++ seals (take k (calls_of settings closed sealed before items)))
+    → (k s : ℕ) → s < stream_count
+    → HoldsOf settings closed stood ((before ++ items) ++ rest)
+    (files ++ seals (take k (calls_of settings closed sealed before items))) s
+    (max (sealed s) (closed s + closed_of settings s before) - closed s
+    + length (in_stream s (seals (take k (calls_of settings closed sealed before items)))))
 begun law settings closed sealed stood before items rest files holds k s h =
-    let calls : List Call = calls_of settings closed sealed before items in (
-      _,
-      holds-some law settings closed sealed stood before items rest (take k calls) (drop k calls) files s h
-          (sym (take-append-drop k calls)) (holds s h),
-    )
+    let calls : List Call = calls_of settings closed sealed before items in
+    let made : List SealedFile = in_stream s (seals (take k calls)) in
+    subst
+    (λ (n : ℕ). HoldsOf settings closed stood ((before ++ items) ++ rest) (files ++ seals (take k calls)) s
+    (n + length made))
+    (sym (first_count (sealed s) (closed s) (closed_of settings s before)))
+    (holds-some law settings closed sealed stood before items rest (take k calls) (drop k calls) files s h
+    (sym (take-append-drop k calls)) (holds s h))
 
 pub all_stand : DivisionGoesOn → (settings : Settings) (closed sealed later : ℕ → ℕ) (stood : ℕ
     → List SealedFile) (before items rest : List Item) (files new : List SealedFile)

@@ -1,13 +1,13 @@
 -- What a writer's calls leave.
-use Rattle.std.specs.Prelude.{◌≡◌, ℕ, ◌<◌, ◌≤◌, IsTrue, List, [], ◌++◌, take, Result, OnOk}
-use Rattle.cdr_shelf.specs.Files.{SealedFile, greatest_in}
+use Rattle.std.specs.Prelude.{◌≡◌, ℕ, ◌+◌, ◌-◌, ◌<◌, ◌≤◌, max, IsTrue, List, [], ◌++◌, length, take, Result, OnOk}
+use Rattle.cdr_shelf.specs.Files.{SealedFile, greatest_in, in_stream}
 use Rattle.cdr_shelf.specs.declared.shelf.Shelf.{Ghosts}
 use Rattle.gw_base.specs.declared.item.Item.{Item}
 use Rattle.file_writer.specs.Calls.{Call, calls_of, seals}
-use Rattle.file_writer.specs.Holding.{IsBegun}
+use Rattle.file_writer.specs.Holding.{HoldsOf, IsBegun}
 use Rattle.file_writer.specs.Leaving.{LeavesUnsealed}
 use Rattle.file_writer.specs.Making.{Makes, ending_of}
-use Rattle.file_writer.specs.Streams.{stream_count}
+use Rattle.file_writer.specs.Streams.{closed_of, stream_count}
 use Rattle.file_writer.specs.Writer.{Holds, IsAt, first_of, sealed_in, settings_in, shelf_of, taken_of}
 use Rattle.file_writer.specs.declared.fault.ShelfFault.{ShelfFault}
 use Rattle.file_writer.specs.declared.writer.Writer.{Writer}
@@ -30,10 +30,18 @@ module _ {A : Type 0} (tells : Ghosts A) (closed : ℕ → ℕ) (before items : 
   abbrev pub calls : List Call
   calls = calls_of (settings_in old) closed (sealed_in old) before items
 
+  -- How many files of a stream are sealed after so many of the calls: those that were closed or sealed before, and
+  -- those that these calls seal.
+  abbrev pub sealed_after : ℕ → ℕ → ℕ
+  sealed_after k s =
+      max (sealed_in old s) (closed s + closed_of (settings_in old) s before) - closed s
+      + length (in_stream s (seals (take k calls)))
+
   -- After any number of calls each stream's sealed files are the first ones of those that all items are divided into.
   pub record KeepsFiles (stood : ℕ → List SealedFile) (all : List Item) : Type 0 where
-    pub at_any_moment : (k : ℕ)
-        → IsBegun (settings_in old) closed stood all (tells.files (shelf_of old) ++ seals (take k calls))
+    pub at_any_moment : (k s : ℕ) → s < stream_count
+        → HoldsOf (settings_in old) closed stood all (tells.files (shelf_of old) ++ seals (take k calls)) s
+        (sealed_after k s)
     pub now : (k : ℕ) × (tells.files (shelf_of new) ≡ tells.files (shelf_of old) ++ seals (take k calls))
 
   -- A writer that took these items takes others: by their calls, and where they all ran it has taken them, and each

@@ -87,6 +87,13 @@ impl<F: Shelf> Writer<F> {
         self.is_broken
     }
 
+    /// How many items it has taken since it recovered. A call that failed took none.
+    pub fn taken(&self) -> u64
+        ensures { result ≡ taken_of self.now }
+    {
+        self.taken
+    }
+
     /// The shelf.
     pub fn shelf(&self) -> &F
         ensures { result.now ≡ shelf_of self.now }
@@ -150,13 +157,14 @@ impl<F: Shelf> Writer<F> {
         requires ready { is_broken self.old ≡ false }
         requires few { taken_of self.old + length items.now < 2 ^ 31 }
         requires fit { All IsFit items.now }
-        ensures broken { is_broken self.new ≡ is_err result }
-        ensures settings { settings_in self.new ≡ settings_in self.old }
+        // It has taken the items then, and each file that they close is sealed.
+        ensures moves { (closed_before : ℕ → ℕ) (before : List Item) → IsAt self.old closed_before before →
+            Advances F.Shelf closed_before before items.now self.old self.new result }
         ensures count { IfOk result (λ n.
             (n ≡ min (first_of self.old + (taken_of self.old + length items.now)) (2 ^ 64 - 1))
             × (first_of self.new ≡ first_of self.old) × (taken_of self.new ≡ taken_of self.old + length items.now)) }
-        ensures moves { (closed : ℕ → ℕ) (before : List Item) → IsAt self.old closed before →
-            Advances F.Shelf closed before items.now self.old self.new result }
+        ensures broken { is_broken self.new ≡ is_err result }
+        ensures settings { settings_in self.new ≡ settings_in self.old }
     {
         division_goes_on::<Octets>();
         self.is_broken = true;

@@ -1,5 +1,6 @@
 mod Adding
 mod Apart
+mod Appends
 mod Below
 mod Calm
 mod Contents

@@ -3,6 +3,7 @@ use Rattle.std.proofs.Common.{◌≡◌, ◌⊎◌, inl, inr, ⊎_elim, ℕ, ◌
 use Rattle.std.specs.Prelude.{All, IsTrue, ◌&&◌, ◌==◌, if◌then◌else◌}
 use Rattle.std.proofs.lemmas.List.{length-take-le, length-drop}
 use Rattle.std.proofs.lemmas.List.Elements.{All-push}
+use Rattle.area_disk.specs.AreaLaws.{AreaLaws}
 use Rattle.area_disk.specs.Disk.{Only, Within, Torn, overwritten}
 use Rattle.area_disk.specs.declared.area.Area.{Ghosts}
 use Rattle.area_disk.specs.declared.plan.Outcome3.TheVariants.{New}
@@ -76,15 +77,14 @@ pub moves_or_stays : (moves : Bool) (gate n : ℕ) → ((if moves then gate + 5 
 moves_or_stays true gate n = inr refl
 moves_or_stays false gate n = inl refl
 
-module _ {A : Type 0} (g : Ghosts A) (holds : (a : A) → g.may_leave a (g.octets a)) (whole : (a : A) → IsTrue g.tells_octets → length (g.octets a) ≡ g.size a)
-    (same_size : (a : A) (c : List ℕ) → IsTrue g.tells_crash → g.may_leave a c → length c ≡ g.size a) where
+module _ {A : Type 0} (g : Ghosts A) (laws : AreaLaws g) where
   module _ (old : A) (buffer : List ℕ) (gate torn_length : ℕ) (is_torn : Bool) (front : Front) (address generation : ℕ) (sound : IsSound g old buffer gate torn_length is_torn front address generation) (ready : IsReady front is_torn) where
     head : List ℕ
     head = header (g.size old) address generation
 
     -- the octets of a journal that may be added to
     pub content_of : Told g → Content (header (g.size old) address generation) front false (batches_below gate (g.octets old)) (take torn_length (drop 4 buffer)) gate (g.octets old)
-    content_of told = subst (λ t. Content (header (g.size old) address generation) front t (batches_below gate (g.octets old)) (take torn_length (drop 4 buffer)) gate (g.octets old)) ready.whole (sound.content told (g.octets old) (holds old))
+    content_of told = subst (λ t. Content (header (g.size old) address generation) front t (batches_below gate (g.octets old)) (take torn_length (drop 4 buffer)) gate (g.octets old)) ready.whole (sound.content told (g.octets old) (laws.holds old))
 
     module _ (new : A) (later : List ℕ) (batch framed : List ℕ) (short : length batch ≤ longest_batch) (is : framed ≡ frame batch) (held : take (length batch) (drop 4 later) ≡ batch)
         (same_buffer : length later ≡ length buffer) (fits : length batch + 5 ≤ g.size old - 1 - gate) (size : g.size new ≡ g.size old) where
@@ -96,7 +96,7 @@ module _ {A : Type 0} (g : Ghosts A) (holds : (a : A) → g.may_leave a (g.octet
       pub stands_or : Told g → (c : List ℕ) → IsAdding gate framed (g.octets old) c → KeepsOr front (header (g.size old) address generation) (batches_below gate (g.octets old)) batch c
       stands_or told c step =
           content_keeps_or (header (g.size old) address generation) (length-header (g.size old) address generation) front (batches_below gate (g.octets old)) gate sound.low (sound.small told) batch c short
-          (omega (arith, step.size, whole old told.0, sound.high)) (still_adding told c step)
+          (omega (arith, step.size, laws.whole old told.0, sound.high)) (still_adding told c step)
 
       pub moments : Told g → Leaves g old new (IsAdding gate framed (g.octets old)) → Leaves g old new (KeepsOr front (header (g.size old) address generation) (batches_below gate (g.octets old)) batch)
       moments told leaves = widen g old new _ _ (stands_or told) leaves
@@ -105,10 +105,10 @@ module _ {A : Type 0} (g : Ghosts A) (holds : (a : A) → g.may_leave a (g.octet
       module _ (octets_are : IsTrue g.tells_octets → g.octets new ≡ added gate framed (g.octets old)) where
         stood : Told g → Content (header (g.size old) address generation) front false (batches_below gate (g.octets old) ++ batch ∷ []) [] (gate + 5 + length batch) (g.octets new)
         stood told =
-            let inside : gate + 1 + length framed ≤ length (g.octets old) = omega (arith, ap length is, length-frame batch, whole old told.0, sound.high) in
+            let inside : gate + 1 + length framed ≤ length (g.octets old) = omega (arith, ap length is, length-frame batch, laws.whole old told.0, sound.high) in
             subst (λ (o : List ℕ). Content (header (g.size old) address generation) front false (batches_below gate (g.octets old) ++ batch ∷ []) [] (gate + 5 + length batch) o) (sym (octets_are told.0))
             (taken_in (header (g.size old) address generation) front (batches_below gate (g.octets old)) gate sound.low (length-header (g.size old) address generation) batch [] (added gate framed (g.octets old))
-            (omega (arith, (is_adding gate framed (g.octets old) inside).size, whole old told.0, sound.high)) (still_adding told (added gate framed (g.octets old)) (is_adding gate framed (g.octets old) inside))
+            (omega (arith, (is_adding gate framed (g.octets old) inside).size, laws.whole old told.0, sound.high)) (still_adding told (added gate framed (g.octets old)) (is_adding gate framed (g.octets old) inside))
             (added_open gate framed (g.octets old) (omega arith)))
 
         small_with : Told g → All IsSmall (batches_below gate (g.octets old) ++ batch ∷ [])
@@ -148,7 +148,7 @@ module _ {A : Type 0} (g : Ghosts A) (holds : (a : A) → g.may_leave a (g.octet
       module _ (left : Told g → (c : List ℕ) → g.may_leave new c → IsAdding gate framed (g.octets old) c) where
         pub batches_stay : Told g → batches_below gate (g.octets new) ≡ batches_below gate (g.octets old)
         batches_stay told =
-            listed_below (header (g.size old) address generation) (length-header (g.size old) address generation) gate (g.octets new) (batches_below gate (g.octets old)) (still_adding told (g.octets new) (left told (g.octets new) (holds new))).listed (sound.small told)
+            listed_below (header (g.size old) address generation) (length-header (g.size old) address generation) gate (g.octets new) (batches_below gate (g.octets old)) (still_adding told (g.octets new) (left told (g.octets new) (laws.holds new))).listed (sound.small told)
 
         pub sound_err : IsSound g new later gate (length batch) true front address generation
         sound_err =
@@ -176,7 +176,7 @@ module _ {A : Type 0} (g : Ghosts A) (holds : (a : A) → g.may_leave a (g.octet
       (within : Within (g.may_leave old) (g.may_leave new)) where
     pub kept_batches : Told g → batches_below gate (g.octets new) ≡ batches_below gate (g.octets old)
     kept_batches told =
-        listed_below (header (g.size old) address generation) (length-header (g.size old) address generation) gate (g.octets new) (batches_below gate (g.octets old)) (sound.content told (g.octets new) (within (g.octets new) (holds new))).listed (sound.small told)
+        listed_below (header (g.size old) address generation) (length-header (g.size old) address generation) gate (g.octets new) (batches_below gate (g.octets old)) (sound.content told (g.octets new) (within (g.octets new) (laws.holds new))).listed (sound.small told)
 
     pub kept_sound : IsSound g new buffer gate torn_length is_torn front address generation
     kept_sound = record {
@@ -193,7 +193,7 @@ module _ {A : Type 0} (g : Ghosts A) (holds : (a : A) → g.may_leave a (g.octet
       content = λ told c left.
           moved (header (g.size old) address generation) (header (g.size new) address generation) front is_torn (batches_below gate (g.octets old)) (batches_below gate (g.octets new)) (take torn_length (drop 4 buffer)) (take torn_length (drop 4 buffer)) gate c
           (ap (λ n. header n address generation) size) (kept_batches told) refl (sound.content told c (within c left));
-      durable = λ told yes c left. sound.durable told yes c (within c left) ∙ sym (sound.durable told yes (g.octets new) (within (g.octets new) (holds new)));
+      durable = λ told yes c left. sound.durable told yes c (within c left) ∙ sym (sound.durable told yes (g.octets new) (within (g.octets new) (laws.holds new)));
     }
 
   -- the journal is opened again
@@ -210,7 +210,7 @@ module _ {A : Type 0} (g : Ghosts A) (holds : (a : A) → g.may_leave a (g.octet
         (gate_after is_torn gate torn_length octet) (g.octets old) first (first_is told.0)
         (subst (λ n. Content (header (g.size old) address generation) front false (if is_torn && (octet == open_gate) then batches_below gate (g.octets old) ++ batch ∷ [] else batches_below gate (g.octets old)) [] (gate_after is_torn gate n octet) (g.octets old)) long
         (after_gate (header (g.size old) address generation) (length-header (g.size old) address generation) front (batches_below gate (g.octets old)) batch gate sound.low (g.octets old) is_torn octet
-        (λ e. omega (arith, sound.torn_fits e, whole old told.0, long)) (octet_is told.0) (sound.content told (g.octets old) (holds old))))
+        (λ e. omega (arith, sound.torn_fits e, laws.whole old told.0, long)) (octet_is told.0) (sound.content told (g.octets old) (laws.holds old))))
 
     reopened_small : Told g → All IsSmall (if is_torn && (octet == open_gate) then batches_below gate (g.octets old) ++ take torn_length (drop 4 buffer) ∷ [] else batches_below gate (g.octets old))
     reopened_small told = either (is_torn && (octet == open_gate))
@@ -263,17 +263,17 @@ module _ {A : Type 0} (g : Ghosts A) (holds : (a : A) → g.may_leave a (g.octet
     pub founding_content : Told g → (c : List ℕ) → Torn 0 1 (g.octets old) c
         → Content (header (g.size old) address generation) Founding false (batches_below gate (g.octets old)) (take torn_length (drop 4 buffer)) gate c
     founding_content told c torn =
-        founding (header (g.size old) address generation) front (batches_below gate (g.octets old)) gate sound.low (take torn_length (drop 4 buffer)) (g.octets old) c (omega (arith, whole old told.0, sound.high))
+        founding (header (g.size old) address generation) front (batches_below gate (g.octets old)) gate sound.low (take torn_length (drop 4 buffer)) (g.octets old) c (omega (arith, laws.whole old told.0, sound.high))
         (content_of old buffer gate torn_length is_torn front address generation sound ready told) torn
 
     pub founding_keeps : Told g → (c : List ℕ) → Torn 0 1 (g.octets old) c → Keeps Founding (header (g.size old) address generation) (batches_below gate (g.octets old)) c
     founding_keeps told c torn =
-        content_keeps (header (g.size old) address generation) (length-header (g.size old) address generation) Founding (batches_below gate (g.octets old)) gate sound.low (sound.small told) _ c (omega (arith, torn.size, whole old told.0, sound.high)) (founding_content told c torn)
+        content_keeps (header (g.size old) address generation) (length-header (g.size old) address generation) Founding (batches_below gate (g.octets old)) gate sound.low (sound.small told) _ c (omega (arith, torn.size, laws.whole old told.0, sound.high)) (founding_content told c torn)
 
     module _ (left : Told g → (c : List ℕ) → g.may_leave new c → Torn 0 1 (g.octets old) c) where
       pub founding_batches : Told g → batches_below gate (g.octets new) ≡ batches_below gate (g.octets old)
       founding_batches told =
-          listed_below (header (g.size old) address generation) (length-header (g.size old) address generation) gate (g.octets new) (batches_below gate (g.octets old)) (founding_content told (g.octets new) (left told (g.octets new) (holds new))).listed (sound.small told)
+          listed_below (header (g.size old) address generation) (length-header (g.size old) address generation) gate (g.octets new) (batches_below gate (g.octets old)) (founding_content told (g.octets new) (left told (g.octets new) (laws.holds new))).listed (sound.small told)
 
       pub founding_sound : IsSound g new buffer gate torn_length is_torn Founding address generation
       founding_sound = record {
@@ -302,7 +302,7 @@ module _ {A : Type 0} (g : Ghosts A) (holds : (a : A) → g.may_leave a (g.octet
             let now = λ (told : Told g).
             after_first h (first-header (g.size old) address generation) Founding (batches_below gate (g.octets old)) (take torn_length (drop 4 buffer)) gate (g.octets new) 67
             (sym (ap (λ (o : List ℕ). get_or o 0 0) (octets_are told.0)))
-            (founding_content told (g.octets new) (left told (g.octets new) (holds new))) in
+            (founding_content told (g.octets new) (left told (g.octets new) (laws.holds new))) in
             record {
               long = omega (arith, sound.long);
               short = omega (arith, sound.short);
@@ -329,7 +329,7 @@ module _ {A : Type 0} (g : Ghosts A) (holds : (a : A) → g.may_leave a (g.octet
       let s = journal.sound in
       let long = length-torn journal.buffer.items journal.torn_length s.torn_held in
       content_keeps_any (header (g.size journal.area) journal.address journal.generation) (length-header (g.size journal.area) journal.address journal.generation) journal.front journal.is_torn (batches_below journal.gate (g.octets journal.area)) journal.gate s.low (s.small told)
-      (take journal.torn_length (drop 4 journal.buffer.items)) c (omega (arith, s.torn_size)) (omega (arith, same_size journal.area c told.1 left, s.high)) (λ e. omega (arith, s.torn_fits e, same_size journal.area c told.1 left))
+      (take journal.torn_length (drop 4 journal.buffer.items)) c (omega (arith, s.torn_size)) (omega (arith, laws.same_size journal.area c told.1 left, s.high)) (λ e. omega (arith, s.torn_fits e, laws.same_size journal.area c told.1 left))
       (s.content told c left)
 
   -- the first closed gate stands behind the batches
@@ -338,7 +338,7 @@ module _ {A : Type 0} (g : Ghosts A) (holds : (a : A) → g.may_leave a (g.octet
   place_told journal told =
       let s = journal.sound in
       place_is (header (g.size journal.area) journal.address journal.generation) (length-header (g.size journal.area) journal.address journal.generation) journal.gate (g.octets journal.area) (batches_below journal.gate (g.octets journal.area)) s.low
-      (omega (arith, whole journal.area told.0, s.high)) (s.content told (g.octets journal.area) (holds journal.area)).listed
+      (omega (arith, laws.whole journal.area told.0, s.high)) (s.content told (g.octets journal.area) (laws.holds journal.area)).listed
 
   -- what a crash leaves of a journal, by the gate that it leaves
   pub keeps_by_gate : (journal : Journal A g) → Told g → (c : List ℕ) → g.may_leave journal.area c
@@ -351,7 +351,7 @@ module _ {A : Type 0} (g : Ghosts A) (holds : (a : A) → g.may_leave a (g.octet
       let bs = batches_below journal.gate (g.octets journal.area) in
       let batch = take journal.torn_length (drop 4 journal.buffer.items) in
       let long : length (take journal.torn_length (drop 4 journal.buffer.items)) ≡ journal.torn_length = length-torn journal.buffer.items journal.torn_length s.torn_held in
-      let size = same_size journal.area c told.1 left in
+      let size = laws.same_size journal.area c told.1 left in
       let fits : journal.is_torn ≡ true → journal.gate + 5 + length (take journal.torn_length (drop 4 journal.buffer.items)) < length c = λ e. omega (arith, s.torn_fits e, size, long) in
       let place = gate_after journal.is_torn journal.gate (length batch) (gate_at c journal.gate) in
       let content = after_gate h lh journal.front bs batch journal.gate s.low c journal.is_torn (gate_at c journal.gate) fits refl (s.content told c left) in
@@ -368,13 +368,13 @@ module _ {A : Type 0} (g : Ghosts A) (holds : (a : A) → g.may_leave a (g.octet
       let h = header (g.size journal.area) journal.address journal.generation in
       let crash = λ (told : Told g) (c : List ℕ) (left : g.may_leave journal.area c).
       content_keeps h (length-header (g.size journal.area) journal.address journal.generation) journal.front (batches_below journal.gate (g.octets journal.area)) journal.gate s.low (s.small told) _ c
-      (omega (arith, same_size journal.area c told.1 left, s.high))
+      (omega (arith, laws.same_size journal.area c told.1 left, s.high))
       (subst (λ t. Content h journal.front t (batches_below journal.gate (g.octets journal.area)) (take journal.torn_length (drop 4 journal.buffer.items)) journal.gate c) ready.whole (s.content told c left)) in
       let place = λ (told : Told g).
-      place_is h (length-header (g.size journal.area) journal.address journal.generation) journal.gate (g.octets journal.area) (batches_below journal.gate (g.octets journal.area)) s.low (omega (arith, whole journal.area told.0, s.high))
-      (s.content told (g.octets journal.area) (holds journal.area)).listed in
+      place_is h (length-header (g.size journal.area) journal.address journal.generation) journal.gate (g.octets journal.area) (batches_below journal.gate (g.octets journal.area)) s.low (omega (arith, laws.whole journal.area told.0, s.high))
+      (s.content told (g.octets journal.area) (laws.holds journal.area)).listed in
       record {
-        reads = λ told. crash told (g.octets journal.area) (holds journal.area);
+        reads = λ told. crash told (g.octets journal.area) (laws.holds journal.area);
         crash = crash;
         place = place;
         free = λ told. omega (arith, place told);
@@ -383,7 +383,7 @@ module _ {A : Type 0} (g : Ghosts A) (holds : (a : A) → g.may_leave a (g.octet
   -- what a crash leaves of a journal at rest, open or closed
   pub rests : (journal : Journal A g) → Rests journal
   rests journal = record {
-    reads = λ told. keeps_any journal told (g.octets journal.area) (holds journal.area);
+    reads = λ told. keeps_any journal told (g.octets journal.area) (laws.holds journal.area);
     crash = λ told c left. keeps_any journal told c left;
     place = λ told. place_told journal told;
   }

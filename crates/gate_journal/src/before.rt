@@ -9,6 +9,7 @@ ghost use Rattle.gate_journal.specs.Planned.{ReadsRun};
 use crate::Device;
 use crate::journal::content_behind;
 use crate::reading::read_gate;
+use area_disk::laws::area_laws;
 use area_disk::{Area, Failed};
 
 /// The place and the length of the content behind the gate at this octet, of a batch that ends at octet `end` of the
@@ -32,6 +33,7 @@ pub fn batch_before<A: Area>(
     ensures runs { IsTrue A.tells_fate → ReadsRun (A.fate area.old).schedule → is_err result ≡ false }
     ensures cause { HasCause (A.faults area.old) (A.faults area.new) result }
 {
+    area_laws::<A>();
     let end = end.min(area.length());
     if end <= gate {
         return Ok(None);

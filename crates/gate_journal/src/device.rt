@@ -7,6 +7,7 @@ ghost use Rattle.gate_journal.specs.Planned.{PutPlanned, AppendPlanned};
 ghost use Rattle.gate_journal.specs.Moments.{Told, Leaves, Calls};
 
 use crate::format::OPEN;
+use area_disk::laws::area_laws;
 use area_disk::{Area, Failed};
 
 /// Writes, and waits until it stands.
@@ -24,6 +25,7 @@ pub fn put<A: Area>(area: &mut A, at: u64, from: &[u8]) -> Result<(), Failed>
     ensures planned { IsTrue A.tells_fate → PutPlanned (A.fate area.old) at from.now result (A.fate area.new) }
     ensures cause { HasCause (A.faults area.old) (A.faults area.new) result }
 {
+    area_laws::<A>();
     area.write_at(at, from)?;
     area.sync()
 }
@@ -46,6 +48,7 @@ pub fn add<A: Area>(area: &mut A, gate: u64, frame: &[u8]) -> Result<(), Failed>
         AppendPlanned (A.fate area.old) gate result (A.fate area.new) }
     ensures cause { HasCause (A.faults area.old) (A.faults area.new) result }
 {
+    area_laws::<A>();
     put(area, gate + 1, frame)?;
     put(area, gate, &[OPEN])
 }

@@ -3,6 +3,7 @@ ghost use Rattle.std.specs.Prelude.{◌≡◌};
 ghost use Rattle.area_disk.specs.Plan.{armed};
 
 use crate::Journal;
+use area_disk::laws::area_laws;
 use area_disk::{DrillArea, Plan};
 
 impl<A: DrillArea> Journal<A> {
@@ -15,6 +16,7 @@ impl<A: DrillArea> Journal<A> {
         ensures kept { A.kept (area_of self.old) (area_of self.new) }
         ensures same { IsArmed self.old self.new }
     {
+        area_laws::<A>();
         self.area.arm(plan);
     }
 

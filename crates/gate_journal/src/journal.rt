@@ -12,6 +12,7 @@ use crate::device::{add, put};
 use crate::format::{FIRST, OPEN, fill};
 use crate::reading::{Behind, read_gate, see};
 use crate::{AppendFault, Device};
+use area_disk::laws::area_laws;
 use area_disk::{Area, Failed};
 
 /// How far a journal's area is made.
@@ -82,6 +83,7 @@ impl<A: Area> Journal<A> {
         ensures header { header_of result ≡ header (A.size area) address generation }
         ensures settled { IsSettled result }
     {
+        area_laws::<A>();
         Journal {
             area,
             buffer,
@@ -115,6 +117,7 @@ impl<A: Area> Journal<A> {
         ensures counted { AppendCounts self.old self.new result }
         ensures planned { AppendsAsPlanned self.old self.new (length batch.now) (is_err result) }
     {
+        area_laws::<A>();
         let free = self.area.length() - 1 - self.gate;
         let length = batch.len() as u64;
         if free < length + 5 {
@@ -149,6 +152,7 @@ impl<A: Area> Journal<A> {
         ensures counted { CountsOne A.Area (area_of self.old) (area_of self.new) result }
         ensures planned { IsTrue A.tells_fate → ReopenFollows self.old self.new (is_err result) }
     {
+        area_laws::<A>();
         match see(&mut self.area, self.gate) {
             Ok(ends) => {
                 self.gate = next_gate(self.is_torn, self.gate, self.torn_length, ends.gate);
@@ -177,6 +181,7 @@ impl<A: Area> Journal<A> {
         ensures counted { Counts 2 A.Area (area_of self.old) (area_of self.new) result }
         ensures planned { IsTrue A.tells_fate → FoundFollows self.old self.new result }
     {
+        area_laws::<A>();
         match put(&mut self.area, 0, &[FIRST]) {
             Ok(()) => {
                 self.front = Front::Founded;
@@ -202,6 +207,7 @@ impl<A: Area> Journal<A> {
             ReadAsPlanned (A.fate (area_of self.old)) result (A.fate (area_of self.new)) }
         ensures cause { HasCause (A.faults (area_of self.old)) (A.faults (area_of self.new)) result }
     {
+        area_laws::<A>();
         match self.area.read_at(at, into) {
             Ok(()) => Ok(()),
             Err(Failed) => Err(Device),
@@ -225,6 +231,7 @@ impl<A: Area> Journal<A> {
         ensures runs { IsTrue A.tells_fate → ReadsRun (A.fate (area_of self.old)).schedule → is_err result ≡ false }
         ensures cause { HasCause (A.faults (area_of self.old)) (A.faults (area_of self.new)) result }
     {
+        area_laws::<A>();
         if gate >= self.gate {
             return Ok(None);
         }
@@ -241,6 +248,7 @@ impl<A: Area> Journal<A> {
         ensures high { result < A.size (area_of self.now) }
         ensures told { Told A.Area → result ≡ end_of (batches self.now) }
     {
+        area_laws::<A>();
         self.gate
     }
 
@@ -255,6 +263,7 @@ impl<A: Area> Journal<A> {
         ensures torn { IsTrue A.tells_fate → torn_stands self.now ≡ stop_stands New self.now }
         ensures stop { IsTrue A.tells_fate → Told A.Area → StopLeaves self.now }
     {
+        area_laws::<A>();
         match self.front {
             Front::Founded | Front::Draft => self.is_torn,
             Front::Founding => true,
@@ -269,6 +278,7 @@ impl<A: Area> Journal<A> {
         ensures rests { Rests self }
         ensures stop { IsTrue A.tells_fate → Told A.Area → StopLeaves self }
     {
+        area_laws::<A>();
         let Journal {
             area,
             buffer: _,

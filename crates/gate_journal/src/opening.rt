@@ -16,6 +16,7 @@ use crate::device::put;
 use crate::format::{CLOSED, LONGEST_BATCH, header_of};
 use crate::reading::{Scanned, Verdict, look, scan};
 use crate::{Device, Front, Journal, OpenFault};
+use area_disk::laws::area_laws;
 use area_disk::{Area, Failed};
 use std::alloc::{AllocError, Global};
 
@@ -44,6 +45,7 @@ fn lay_front<A: Area>(area: &mut A, header: &[u8; 32], blank: bool) -> Result<()
     ensures course { IsTrue A.tells_fate → course_of (A.fate area.new) ≡ after_put (course_of (A.fate area.old)) }
     ensures cause { HasCause (A.faults area.old) (A.faults area.new) result }
 {
+    area_laws::<A>();
     if blank {
         let front = front_octets(header);
         put(area, 1, &front)
@@ -120,6 +122,7 @@ fn list<A: Area>(
     ensures runs { IsTrue A.tells_fate → ReadsRun (A.fate area).schedule → is_device result ≡ false }
     ensures cause { RoseByDevice A.Area area result }
 {
+    area_laws::<A>();
     match scan(&mut area) {
         Ok(Scanned::End { gate }) => {
             let Ok(buffer) = buffer_for(alloc, area.length()) else {

@@ -8,6 +8,7 @@ ghost use Rattle.gate_journal.specs.Moments.{Leaves, Kept};
 ghost use Rattle.gate_journal.specs.Verdicts.{IsVerdict, IsBehind, Fits, IsScanned, LiesIn};
 
 use crate::format::{LONGEST_BATCH, OPEN};
+use area_disk::laws::area_laws;
 use area_disk::{Area, Failed};
 use byteorder::{BigEndian, ByteOrder};
 
@@ -114,6 +115,7 @@ fn octet_at<A: Area>(area: &mut A, at: u64) -> Result<u8, Failed>
     ensures runs { IsTrue A.tells_fate → ReadsRun (A.fate area.old).schedule → is_err result ≡ false }
     ensures cause { HasCause (A.faults area.old) (A.faults area.new) result }
 {
+    area_laws::<A>();
     let mut octet = [0; 1];
     area.read_at(at, &mut octet)?;
     Ok(octet[0])
@@ -130,6 +132,7 @@ fn length_behind<A: Area>(area: &mut A, at: u64) -> Result<u32, Failed>
     ensures runs { IsTrue A.tells_fate → ReadsRun (A.fate area.old).schedule → is_err result ≡ false }
     ensures cause { HasCause (A.faults area.old) (A.faults area.new) result }
 {
+    area_laws::<A>();
     let mut field = [0; 4];
     area.read_at(at + 1, &mut field)?;
     Ok(number_of(&field))
@@ -175,6 +178,7 @@ pub fn scan<A: Area>(area: &mut A) -> Result<Scanned, Failed>
     ensures runs { IsTrue A.tells_fate → ReadsRun (A.fate area.old).schedule → is_err result ≡ false }
     ensures cause { HasCause (A.faults area.old) (A.faults area.new) result }
 {
+    area_laws::<A>();
     let mut at = 32;
     'batches: loop {
         match read_gate(area, at)? {
@@ -207,6 +211,7 @@ pub fn see<A: Area>(area: &mut A, gate: u64) -> Result<Ends, Failed>
     ensures planned { IsTrue A.tells_fate → SyncPlanned (A.fate area.old) (is_err result) (A.fate area.new) }
     ensures cause { HasCause (A.faults area.old) (A.faults area.new) result }
 {
+    area_laws::<A>();
     area.sync()?;
     let first = octet_at(area, 0)?;
     let gate = octet_at(area, gate)?;

@@ -13,14 +13,14 @@ use Rattle.gateway_book.specs.declared.book.Book.{Book}
 use Rattle.gateway_book.proofs.BookLemmas.{fit_front}
 
 module _ {A : Type 0} {tells : Ghosts A} (here : (a : A) (c : List ℕ) → IsTrue tells.tells_crash → tells.may_leave a c → length c ≡ tells.size a)
-    (since : (a : A) (t : ℕ) (c : List ℕ) → IsTrue tells.tells_crash → tells.told_from a ≤ t → t ≤ tells.moment a → tells.left_since a t c → length c ≡ tells.size a) where
+    (since : (a : A) (t : ℕ) (c : List ℕ) → IsTrue tells.tells_crash → (tells.moments a).told_from ≤ t → t ≤ (tells.moments a).now → (tells.moments a).left_since t c → length c ≡ tells.size a) where
   both_fit : (header : List ℕ) (old new : A) (h g : List HistoryEntry) → IsTrue tells.tells_crash → tells.size new ≡ tells.size old → AllFit (tells.size old) h → AllFit (tells.size old) g
       → Leaves tells old new (StandsForOr header h g) → Leaves tells old new (StandsFitForOr header h g)
   both_fit header old new h g told same first second leaves = record {
     moments = record {
       later = leaves.moments.later;
       told_later = leaves.moments.told_later;
-      each = λ c from left. fits c (since new (tells.moment old) c told from leaves.moments.later left ∙ same) (leaves.moments.each c from left);
+      each = λ c from left. fits c (since new ((tells.moments old).now) c told from leaves.moments.later left ∙ same) (leaves.moments.each c from left);
       before = λ t c from le left.
           ⊎_elim inl (λ has. inr (fits c (since new t c told from (omega (arith, le, leaves.moments.later)) left ∙ same) has)) (leaves.moments.before t c from le left);
     };

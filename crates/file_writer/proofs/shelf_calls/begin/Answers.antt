@@ -7,13 +7,13 @@ use Rattle.file_writer.proofs.shelf_calls.begin.Goals as goal
 
 pub returns-in-Ok-clause-makes : goal.returns-in-Ok-clause-makes
 returns-in-Ok-clause-makes g c =
-    let e = c.in-Ok.ensures {u = tt} in
+    let e = (c.in-Ok.ensures {u = tt}).steps in
     one_went g.F.Shelf Writes _ _ (λ told. e.calls told refl) (λ told. unsealed_by e.files) e.cause.ok
     (λ told. let p = e.planned told refl in record { fails = p.fails; schedule = p.schedule })
 
 pub returns-in-Err-Failed-clause-makes : goal.returns-in-Err-Failed-clause-makes
 returns-in-Err-Failed-clause-makes g c =
-    let e = c.in-Err-Failed.ensures {u = tt} in
+    let e = (c.in-Err-Failed.ensures {u = tt}).steps in
     let m : is_memory {T = Unit {0}} (Err c.in-Err-Failed.field-0) ≡ false =
     ap (λ (stop : ShelfStop). is_memory {T = Unit {0}} (Err stop)) c.in-Err-Failed.field-0-is in
     one_failed g.F.Shelf Writes _ _ (λ told. e.calls told m) (λ told. inl e.files) e.cause.later (e.cause.failed m)

@@ -8,7 +8,7 @@ use Rattle.file_writer.proofs.shelf_calls.seal.Goals as goal
 
 pub returns-in-Ok-clause-makes : goal.returns-in-Ok-clause-makes
 returns-in-Ok-clause-makes g c = λ file as_file.
-    let e = c.in-Ok.ensures {u = tt} in
+    let e = (c.in-Ok.ensures {u = tt}).seals in
     one_went g.F.Shelf (Seals file) _ _ (λ told. e.calls told)
     (λ told. e.sealed told ∙ ap (λ (files : List SealedFile). g.F.Shelf.files c.args.shelf.now ++ files)
     (as_file told)) e.cause.ok
@@ -21,7 +21,7 @@ maybe_file new old files file e (inr h) = inr (h ∙ ap (λ (fs : List SealedFil
 
 pub returns-in-Err-clause-makes : goal.returns-in-Err-clause-makes
 returns-in-Err-clause-makes g c = λ file as_file.
-    let e = c.in-Err.ensures {u = tt} in
+    let e = (c.in-Err.ensures {u = tt}).seals in
     let files : List SealedFile = g.F.Shelf.files c.args.shelf.now in
     one_failed g.F.Shelf (Seals file) _ _ (λ told. e.calls told)
     (λ told. maybe_file _ files _ file (as_file told) (e.any_moment told)) e.cause.later e.cause.failed

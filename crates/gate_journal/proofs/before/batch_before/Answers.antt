@@ -7,9 +7,8 @@ use Rattle.gate_journal.proofs.before.batch_before.Goals as goal
 
 pub returns-in-Ok-clause-found : goal.returns-in-Ok-clause-found
 returns-in-Ok-clause-found g c = λ tells header some batch more long before at.
-    let laws = g.met.A.Area g.world.𝓛 g.world.𝓜 g.world.𝓡 ((λ s x. x), (λ x. x), (λ x. x), λ x. x) in
     let o = g.A.Area.octets c.args.area.now in
-    let same : c.min-end.result ≡ c.args.end = omega (arith, laws.whole c.args.area.now tells, before.inside) in
+    let same : c.min-end.result ≡ c.args.end = omega (arith, c.area_laws.ensures.whole c.args.area.now tells, before.inside) in
     c.content_behind.ensures
     ∙ subst (λ n. content_at c.in-Ok.behind n c.min-end.result ≡ Some (n + 5, length batch)) (sym at)
     (subst (λ n. content_at c.in-Ok.behind (end_of some) n ≡ Some (end_of some + 5, length batch)) (sym same)

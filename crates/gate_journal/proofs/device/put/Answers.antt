@@ -21,23 +21,21 @@ returns-clause-planned g c = λ told.
 pub returns-in_err-write_at-clause-any_moment : goal.returns-in_err-write_at-clause-any_moment
 returns-in_err-write_at-clause-any_moment g c = λ only.
     let area = g.A.Area in
-    let laws = g.met.A.Area g.world.𝓛 g.world.𝓜 g.world.𝓡 ((λ s x. x), (λ x. x), (λ x. x), λ x. x) in
     let old = c.args.area.now in
     let mid = c.write_at.new.self in
     let n = length c.args.from.now in
     let IsTorn : List ℕ → Type 0 = Torn c.args.at n (area.octets old) in
-    let before = begin area laws.only_now old IsTorn (λ o left. subst (λ (d : List ℕ). IsTorn d) (sym (only o left)) (torn_same c.args.at n (area.octets old))) in
+    let before = begin area c.area_laws.ensures.only_now old IsTorn (λ o left. subst (λ (d : List ℕ). IsTorn d) (sym (only o left)) (torn_same c.args.at n (area.octets old))) in
     step area old old mid IsTorn before c.write_at.ensures.time (torn_write area old mid c.args.at n only c.write_at.ensures.crash)
 
 pub returns-clause-any_moment : goal.returns-clause-any_moment
 returns-clause-any_moment g c = λ only.
     let area = g.A.Area in
-    let laws = g.met.A.Area g.world.𝓛 g.world.𝓜 g.world.𝓡 ((λ s x. x), (λ x. x), (λ x. x), λ x. x) in
     let old = c.args.area.now in
     let mid = c.write_at.new.self in
     let n = length c.args.from.now in
     let IsTorn : List ℕ → Type 0 = Torn c.args.at n (area.octets old) in
     let torn = torn_write area old mid c.args.at n only c.write_at.ensures.crash in
-    let before = begin area laws.only_now old IsTorn (λ o left. subst (λ (d : List ℕ). IsTorn d) (sym (only o left)) (torn_same c.args.at n (area.octets old))) in
+    let before = begin area c.area_laws.ensures.only_now old IsTorn (λ o left. subst (λ (d : List ℕ). IsTorn d) (sym (only o left)) (torn_same c.args.at n (area.octets old))) in
     let written = step area old old mid IsTorn before c.write_at.ensures.time torn in
     step area old mid c.sync.new.self IsTorn written c.sync.ensures.time (λ o left. torn o (c.sync.ensures.crash o left))

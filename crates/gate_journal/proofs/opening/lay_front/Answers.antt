@@ -11,17 +11,15 @@ use Rattle.gate_journal.proofs.opening.lay_front.Goals as goal
 
 pub returns-then-blank-clause-laid : goal.returns-then-blank-clause-laid
 returns-then-blank-clause-laid g c = λ told.
-    let laws = g.met.A.Area g.world.𝓛 g.world.𝓜 g.world.𝓡 ((λ s x. x), (λ x. x), (λ x. x), λ x. x) in
     let h = c.args.header.now in
     let o = g.A.Area.octets c.args.area.now in
     let begun = subst (λ b. IsVerdict h o (Begins b)) c.if-blank.true (c.requires.begun told) in
     on_ok c.put.result _ _
-    (λ is. subst (λ (l : List ℕ). IsLaid h l) (sym (is ∙ ap (λ (l : List ℕ). overwritten o 1 l) c.front_octets-front.ensures)) (laid_blank h c.told-header c.requires.first o (omega (arith, laws.whole c.args.area.now told, c.requires.long)) begun))
+    (λ is. subst (λ (l : List ℕ). IsLaid h l) (sym (is ∙ ap (λ (l : List ℕ). overwritten o 1 l) c.front_octets-front.ensures)) (laid_blank h c.told-header c.requires.first o (omega (arith, c.area_laws.ensures.whole c.args.area.now told, c.requires.long)) begun))
     (c.put.ensures.written told)
 
 pub returns-then-blank-clause-any_moment : goal.returns-then-blank-clause-any_moment
 returns-then-blank-clause-any_moment g c = λ told only.
-    let laws = g.met.A.Area g.world.𝓛 g.world.𝓜 g.world.𝓡 ((λ s x. x), (λ x. x), (λ x. x), λ x. x) in
     let h = c.args.header.now in
     let o = g.A.Area.octets c.args.area.now in
     let begun = subst (λ b. IsVerdict h o (Begins b)) c.if-blank.true (c.requires.begun told) in
@@ -30,17 +28,15 @@ returns-then-blank-clause-any_moment g c = λ told only.
 
 pub returns-else-blank-clause-laid : goal.returns-else-blank-clause-laid
 returns-else-blank-clause-laid g c = λ told.
-    let laws = g.met.A.Area g.world.𝓛 g.world.𝓜 g.world.𝓡 ((λ s x. x), (λ x. x), (λ x. x), λ x. x) in
     let h = c.args.header.now in
     let o = g.A.Area.octets c.args.area.now in
     let begun = subst (λ b. IsVerdict h o (Begins b)) c.if-blank.false (c.requires.begun told) in
-    on_ok c.put-else-blank.result _ _ (λ is. subst (λ (l : List ℕ). IsLaid h l) (sym is) (laid_gate h c.told-header c.requires.first o (omega (arith, laws.whole c.args.area.now told, c.requires.long)) begun))
+    on_ok c.put-else-blank.result _ _ (λ is. subst (λ (l : List ℕ). IsLaid h l) (sym is) (laid_gate h c.told-header c.requires.first o (omega (arith, c.area_laws.ensures.whole c.args.area.now told, c.requires.long)) begun))
     (c.put-else-blank.ensures.written told)
 
 pub returns-else-blank-clause-any_moment : goal.returns-else-blank-clause-any_moment
 returns-else-blank-clause-any_moment g c = λ told only.
-    let laws = g.met.A.Area g.world.𝓛 g.world.𝓜 g.world.𝓡 ((λ s x. x), (λ x. x), (λ x. x), λ x. x) in
     let h = c.args.header.now in
     let o = g.A.Area.octets c.args.area.now in
     let begun = subst (λ b. IsVerdict h o (Begins b)) c.if-blank.false (c.requires.begun told) in
-    widen g.A.Area _ _ _ _ (λ d torn. torn_gate h c.told-header c.requires.first o (omega (arith, laws.whole c.args.area.now told, c.requires.long)) begun d torn) (c.put-else-blank.ensures.any_moment only)
+    widen g.A.Area _ _ _ _ (λ d torn. torn_gate h c.told-header c.requires.first o (omega (arith, c.area_laws.ensures.whole c.args.area.now told, c.requires.long)) begun d torn) (c.put-else-blank.ensures.any_moment only)

@@ -12,7 +12,6 @@ use Rattle.gate_journal.proofs.opening.list.Goals as goal
 
 pub over-requires-clause-listed : goal.over-requires-clause-listed
 over-requires-clause-listed g c = λ κ le told.
-    let laws = g.met.A.Area g.world.𝓛 g.world.𝓜 g.world.𝓡 ((λ s x. x), (λ x. x), (λ x. x), λ x. x) in
     let h = header (g.A.Area.size c.args.area) c.args.address c.args.generation in
     let o = g.A.Area.octets c.args.area in
     let kept = c.scan.ensures.kept in
@@ -24,36 +23,32 @@ over-requires-clause-listed g c = λ κ le told.
 
 pub returns-in-Ok-Broken-clause-broken : goal.returns-in-Ok-Broken-clause-broken
 returns-in-Ok-Broken-clause-broken g c = λ told at is.
-    let laws = g.met.A.Area g.world.𝓛 g.world.𝓜 g.world.𝓡 ((λ s x. x), (λ x. x), (λ x. x), λ x. x) in
     let h = header (g.A.Area.size c.args.area) c.args.address c.args.generation in
     let o = g.A.Area.octets c.args.area in
     let scanned = subst (λ s. IsScanned o s) c.in-Ok-Broken.field-0-is (c.in-Ok-Broken.ensures.reads told) in
     let inside = subst (λ s. LiesIn (g.A.Area.size c.args.area) s) c.in-Ok-Broken.field-0-is c.in-Ok-Broken.ensures.inside in
     let same : c.in-Ok-Broken.at ≡ at = cc in
     subst (λ n. IsBroken h o n) same
-    (scanned_broken h (length-header (g.A.Area.size c.args.area) c.args.address c.args.generation) c.in-Ok-Broken.at o (c.requires.same told) inside.0 scanned.0 (omega (arith, laws.whole c.args.area told, inside.1)) scanned.1 scanned.2)
+    (scanned_broken h (length-header (g.A.Area.size c.args.area) c.args.address c.args.generation) c.in-Ok-Broken.at o (c.requires.same told) inside.0 scanned.0 (omega (arith, c.area_laws.ensures.whole c.args.area told, inside.1)) scanned.1 scanned.2)
 
 pub returns-in_default-clause-foreign : goal.returns-in_default-clause-foreign
 returns-in_default-clause-foreign g c = λ told at broken.
-    let laws = g.met.A.Area g.world.𝓛 g.world.𝓜 g.world.𝓡 ((λ s x. x), (λ x. x), (λ x. x), λ x. x) in
     let h = header (g.A.Area.size c.args.area) c.args.address c.args.generation in
     let o = g.A.Area.octets c.args.area in
     let scanned = subst (λ s. IsScanned o s) c.in-Ok-End.field-0-is (c.in-Ok-End.ensures.reads told) in
     let inside = subst (λ s. LiesIn (g.A.Area.size c.args.area) s) c.in-Ok-End.field-0-is c.in-Ok-End.ensures.inside in
-    absurd (shut_or_broken h (length-header (g.A.Area.size c.args.area) c.args.address c.args.generation) c.in-Ok-End.gate o (c.requires.same told) inside.0 scanned.0 (omega (arith, laws.whole c.args.area told, inside.1)) scanned.1 at broken)
+    absurd (shut_or_broken h (length-header (g.A.Area.size c.args.area) c.args.address c.args.generation) c.in-Ok-End.gate o (c.requires.same told) inside.0 scanned.0 (omega (arith, c.area_laws.ensures.whole c.args.area told, inside.1)) scanned.1 at broken)
 
 pub returns-in-Ok-clause-foreign : goal.returns-in-Ok-clause-foreign
 returns-in-Ok-clause-foreign g c = λ told at broken.
-    let laws = g.met.A.Area g.world.𝓛 g.world.𝓜 g.world.𝓡 ((λ s x. x), (λ x. x), (λ x. x), λ x. x) in
     let h = header (g.A.Area.size c.args.area) c.args.address c.args.generation in
     let o = g.A.Area.octets c.args.area in
     let scanned = subst (λ s. IsScanned o s) c.in-Ok-End.field-0-is (c.in-Ok-End.ensures.reads told) in
     let inside = subst (λ s. LiesIn (g.A.Area.size c.args.area) s) c.in-Ok-End.field-0-is c.in-Ok-End.ensures.inside in
-    shut_or_broken h (length-header (g.A.Area.size c.args.area) c.args.address c.args.generation) c.in-Ok-End.gate o (c.requires.same told) inside.0 scanned.0 (omega (arith, laws.whole c.args.area told, inside.1)) scanned.1 at broken
+    shut_or_broken h (length-header (g.A.Area.size c.args.area) c.args.address c.args.generation) c.in-Ok-End.gate o (c.requires.same told) inside.0 scanned.0 (omega (arith, c.area_laws.ensures.whole c.args.area told, inside.1)) scanned.1 at broken
 
 pub returns-in-Ok-Broken-clause-foreign : goal.returns-in-Ok-Broken-clause-foreign
 returns-in-Ok-Broken-clause-foreign g c = λ told at broken.
-    let laws = g.met.A.Area g.world.𝓛 g.world.𝓜 g.world.𝓡 ((λ s x. x), (λ x. x), (λ x. x), λ x. x) in
     let h = header (g.A.Area.size c.args.area) c.args.address c.args.generation in
     let o = g.A.Area.octets c.args.area in
     let here = returns-in-Ok-Broken-clause-broken g c told c.in-Ok-Broken.at refl in

@@ -13,9 +13,8 @@ returns-clause-length g c = λ told. (
 
 pub returns-clause-kept : goal.returns-clause-kept
 returns-clause-kept g c =
-    let laws = g.met.A.Area g.world.𝓛 g.world.𝓜 g.world.𝓡 ((λ s x. x), (λ x. x), (λ x. x), λ x. x) in
     let read = c.in_ok-read_at.ensures in
-    kept_read g.A.Area laws.only_now _ _ read.size read.octets read.crash read.time read.calls (λ told. read_on _ _ _ (read.planned told))
+    kept_read g.A.Area c.area_laws.ensures.only_now _ _ read.size read.octets read.crash read.time read.calls (λ told. read_on _ _ _ (read.planned told))
 
 pub returns-in_err-read_at-clause-runs : goal.returns-in_err-read_at-clause-runs
 returns-in_err-read_at-clause-runs g c = λ told runs. absurd (other_bool (read_runs _ _ _ (c.in_err-read_at.ensures.planned told) runs))

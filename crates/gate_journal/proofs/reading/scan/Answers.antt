@@ -11,18 +11,16 @@ use Rattle.gate_journal.proofs.reading.scan.Goals as goal
 
 pub batches-init : goal.batches-init
 batches-init g c =
-    let laws = g.met.A.Area g.world.𝓛 g.world.𝓜 g.world.𝓡 ((λ s x. x), (λ x. x), (λ x. x), λ x. x) in
     record {
       low = omega arith;
       high = omega arith;
       below = λ told. none_below (g.A.Area.octets c.args.area.now);
-      kept = kept_refl g.A.Area laws.only_now c.args.area.now;
+      kept = kept_refl g.A.Area c.area_laws.ensures.only_now c.args.area.now;
       faults = refl;
     }
 
 pub batches-preserved : goal.batches-preserved
 batches-preserved g c =
-    let laws = g.met.A.Area g.world.𝓛 g.world.𝓜 g.world.𝓡 ((λ s x. x), (λ x. x), (λ x. x), λ x. x) in
     let i = c.batches.invariant in
     let read = c.in_ok-read_gate.ensures in
     let fits = subst (λ b. Fits (g.A.Area.size c.batches.area) c.batches.at b) c.in-Whole.is read.fits in
@@ -32,7 +30,7 @@ batches-preserved g c =
       low = omega arith;
       high = omega (arith, i.kept.size, fits.1);
       below = λ told.
-          one_more c.batches.at c.from.result (g.A.Area.octets c.args.area.now) i.low (omega (arith, laws.whole c.args.area.now told, i.kept.size, fits.1)) (reads told).0
+          one_more c.batches.at c.from.result (g.A.Area.octets c.args.area.now) i.low (omega (arith, c.area_laws.ensures.whole c.args.area.now told, i.kept.size, fits.1)) (reads told).0
           ((reads told).2 ∙ ap (λ n. big_bytes 4 n) (sym c.from.ensures)) (omega (arith, fits.0)) (i.below told);
       kept = kept_trans g.A.Area _ c.batches.area _ i.kept read.kept;
       faults = read.cause.ok ∙ i.faults;

@@ -10,7 +10,7 @@ pub returns-in-Runs-clause-crash : goal.returns-in-Runs-clause-crash
 returns-in-Runs-clause-crash c = disk_follows_write c.args.self.now.disk c.write.new.self c.args.at c.args.from.now c.requires c.write.ensures.present c.write.ensures.unsynced
 
 pub returns-in-Runs-clause-time : goal.returns-in-Runs-clause-time
-returns-in-Runs-clause-time c = goes_written c.args.self.now _ c.args.at c.args.from.now c.write.ensures.past c.write.ensures.unsynced
+returns-in-Runs-clause-time c = goes_written c.args.self.now.disk c.write.new.self c.args.at c.args.from.now c.write.ensures.past c.write.ensures.unsynced
 
 pub returns-in-Runs-clause-planned : goal.returns-in-Runs-clause-planned
 returns-in-Runs-clause-planned c = λ told.
@@ -30,4 +30,4 @@ pub returns-in-Stops-clause-crash : goal.returns-in-Stops-clause-crash
 returns-in-Stops-clause-crash c = disk_follows_stop c.args.self.now.disk c.stop.new.self c.in-Stops.outcome c.args.at c.args.from.now c.requires c.stop.ensures.present c.stop.ensures.unsynced
 
 pub returns-in-Stops-clause-time : goal.returns-in-Stops-clause-time
-returns-in-Stops-clause-time c = goes_stopped_write c.args.self.now _ c.args.at c.args.from.now c.fail-in-Stops.result c.stop.ensures.past c.stop.ensures.unsynced (omega arith) c.fail-in-Stops.ensures.fails
+returns-in-Stops-clause-time c = goes_stopped_write c.args.self.now.disk c.stop.new.self c.args.at c.args.from.now c.fail-in-Stops.result c.stop.ensures.past c.stop.ensures.unsynced (omega arith) c.fail-in-Stops.ensures.fails

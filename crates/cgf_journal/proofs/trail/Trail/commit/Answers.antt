@@ -33,7 +33,6 @@ not_empty octets read same is none = let n : length read ≡ 0 = omega (arith, a
 pub returns-then-is_empty-clause-ok : goal.returns-then-is_empty-clause-ok
 unfolding firm_entries waiting
 returns-then-is_empty-clause-ok g c =
-    let laws = g.met.A.Area g.world.𝓛 g.world.𝓜 g.world.𝓡 ((λ s x. x), (λ x. x), (λ x. x), λ x. x) in
     let t = c.args.self.now in
     let none = none_of t.waiting.octets c.octets.result.now c.octets.ensures (sym c.is_empty.ensures ∙ c.if-is_empty.true) in
     let all = length_firm t none in
@@ -46,14 +45,13 @@ returns-then-is_empty-clause-ok g c =
       length = all;
       room = same_room _ _ refl refl;
       free = same_free _ _ refl refl;
-      settled = settled _ laws.whole laws.same_size laws.only_now (c.is_closed-is_closed.ensures.settled c.if-prove.false);
+      settled = settled _ c.area_laws.ensures (c.is_closed-is_closed.ensures.settled c.if-prove.false);
     }
 
 pub returns-then-is_empty-clause-any_moment : goal.returns-then-is_empty-clause-any_moment
 returns-then-is_empty-clause-any_moment g c = λ told.
-    let laws = g.met.A.Area g.world.𝓛 g.world.𝓜 g.world.𝓡 ((λ s x. x), (λ x. x), (λ x. x), λ x. x) in
     let t = c.args.self.now in
-    begin g.A.Area laws.only_now _ _ (λ d left. inl ((settled t laws.whole laws.same_size laws.only_now (c.is_closed-is_closed.ensures.settled c.if-prove.false)).crash told d left))
+    begin g.A.Area c.area_laws.ensures.only_now _ _ (λ d left. inl ((settled t c.area_laws.ensures (c.is_closed-is_closed.ensures.settled c.if-prove.false)).crash told d left))
 
 pub invariant_of-self-in-Ok : goal.invariant_of-self-in-Ok
 invariant_of-self-in-Ok g c =
@@ -83,7 +81,6 @@ unreachable-requires g c =
 pub returns-in-Ok-clause-ok : goal.returns-in-Ok-clause-ok
 unfolding firm_entries waiting
 returns-in-Ok-clause-ok g c =
-    let laws = g.met.A.Area g.world.𝓛 g.world.𝓜 g.world.𝓡 ((λ s x. x), (λ x. x), (λ x. x), λ x. x) in
     let t = c.args.self.now in
     let counted : length t.places.items ≡ c.len-self.result = sym (search rules) in
     let before : length_of t ≡ length t.places.items = ap (λ b. if b then t.firm else length t.places.items) c.requires.ready in
@@ -103,16 +100,15 @@ returns-in-Ok-clause-ok g c =
       length = ap (λ b. if b then c.len-self.result else length t.places.items) opened ∙ counted;
       room = same_room _ _ c.append.ensures.stays.size tallies;
       free = same_free _ _ c.append.ensures.stays.size tallies;
-      settled = settled _ laws.whole laws.same_size laws.only_now c.in-Ok.ensures.ok.settled;
+      settled = settled _ c.area_laws.ensures c.in-Ok.ensures.ok.settled;
     }
 
 pub returns-in-Ok-clause-any_moment : goal.returns-in-Ok-clause-any_moment
 returns-in-Ok-clause-any_moment g c = λ told.
-    let laws = g.met.A.Area g.world.𝓛 g.world.𝓜 g.world.𝓡 ((λ s x. x), (λ x. x), (λ x. x), λ x. x) in
     let t = c.args.self.now in
     let some : t.waiting.octets ≢ [] = λ e. not_none t.waiting.octets c.octets.result.now c.octets.ensures (sym c.is_empty.ensures ∙ c.if-is_empty.false) e in
     subst (λ (h : List HistoryEntry). Leaves g.A.Area (area_of t) (journal.area_of c.append.new.self) (StandsForOr (header_of t) (firm_entries t) h)) (sym (entries_open t c.requires.ready))
-    (leaves_either t _ _ told c.octets-2.ensures some laws.same_size laws.same_size_since c.append.ensures.stays.size (c.append.ensures.any_moment told))
+    (leaves_either t _ _ told c.octets-2.ensures some c.area_laws.ensures c.append.ensures.stays.size (c.append.ensures.any_moment told))
 
 pub returns-in-Err-Device-clause-err : goal.returns-in-Err-Device-clause-err
 unfolding firm_entries waiting
@@ -120,11 +116,10 @@ returns-in-Err-Device-clause-err g c = record { listed = λ told. ap entries_in 
 
 pub returns-in-Err-Device-clause-any_moment : goal.returns-in-Err-Device-clause-any_moment
 returns-in-Err-Device-clause-any_moment g c = λ told.
-    let laws = g.met.A.Area g.world.𝓛 g.world.𝓜 g.world.𝓡 ((λ s x. x), (λ x. x), (λ x. x), λ x. x) in
     let t = c.args.self.now in
     let some : t.waiting.octets ≢ [] = λ e. not_none t.waiting.octets c.octets.result.now c.octets.ensures (sym c.is_empty.ensures ∙ c.if-is_empty.false) e in
     subst (λ (h : List HistoryEntry). Leaves g.A.Area (area_of t) (journal.area_of c.append.new.self) (StandsForOr (header_of t) (firm_entries t) h)) (sym (entries_open t c.requires.ready))
-    (leaves_either t _ _ told c.octets-2.ensures some laws.same_size laws.same_size_since c.append.ensures.stays.size (c.append.ensures.any_moment told))
+    (leaves_either t _ _ told c.octets-2.ensures some c.area_laws.ensures c.append.ensures.stays.size (c.append.ensures.any_moment told))
 
 pub returns-then-is_empty-clause-planned : goal.returns-then-is_empty-clause-planned
 returns-then-is_empty-clause-planned g c =

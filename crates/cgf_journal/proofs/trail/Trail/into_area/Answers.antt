@@ -5,11 +5,9 @@ use Rattle.cgf_journal.proofs.trail.Trail.into_area.Goals as goal
 
 pub returns-clause-rests : goal.returns-clause-rests
 returns-clause-rests g c =
-    let laws = g.met.A.Area g.world.𝓛 g.world.𝓜 g.world.𝓡 ((λ s x. x), (λ x. x), (λ x. x), λ x. x) in
-    at_rest c.args.self laws.whole laws.same_size laws.only_now (λ e. c.is_closed-closed.ensures.settled (c.is_closed-closed.ensures.closed ∙ e)) c.is_closed-closed.ensures.rests
+    at_rest c.args.self c.area_laws.ensures (λ e. c.is_closed-closed.ensures.settled (c.is_closed-closed.ensures.closed ∙ e)) c.is_closed-closed.ensures.rests
 
 pub returns-clause-stop : goal.returns-clause-stop
 returns-clause-stop g c = λ fate told outcome.
-    let laws = g.met.A.Area g.world.𝓛 g.world.𝓜 g.world.𝓡 ((λ s x. x), (λ x. x), (λ x. x), λ x. x) in
     let t = c.args.self in
-    stop_is t told (λ e. (c.is_closed-closed.ensures.none_torn (c.is_closed-closed.ensures.closed ∙ e)).stops) _ (laws.same_size (area_of t) _ told.1 (laws.may_stop (area_of t) outcome fate)) outcome (c.is_closed-closed.ensures.stop fate told outcome)
+    stop_is t told (λ e. (c.is_closed-closed.ensures.none_torn (c.is_closed-closed.ensures.closed ∙ e)).stops) _ (c.area_laws.ensures.same_size (area_of t) _ told.1 (c.area_laws.ensures.may_stop (area_of t) outcome fate)) outcome (c.is_closed-closed.ensures.stop fate told outcome)

@@ -5,16 +5,13 @@ use Rattle.cgf_journal.proofs.trail.Trail.is_closed.Goals as goal
 
 pub returns-clause-settled : goal.returns-clause-settled
 returns-clause-settled g c = λ told is.
-    let laws = g.met.A.Area g.world.𝓛 g.world.𝓜 g.world.𝓡 ((λ s x. x), (λ x. x), (λ x. x), λ x. x) in
-    settled c.args.self.now laws.whole laws.same_size laws.only_now (c.is_closed.ensures.settled is)
+    settled c.args.self.now c.area_laws.ensures (c.is_closed.ensures.settled is)
 
 pub returns-clause-rests : goal.returns-clause-rests
 returns-clause-rests g c =
-    let laws = g.met.A.Area g.world.𝓛 g.world.𝓜 g.world.𝓡 ((λ s x. x), (λ x. x), (λ x. x), λ x. x) in
-    at_rest c.args.self.now laws.whole laws.same_size laws.only_now (λ e. c.is_closed.ensures.settled (c.is_closed.ensures.closed ∙ e)) c.is_closed.ensures.rests
+    at_rest c.args.self.now c.area_laws.ensures (λ e. c.is_closed.ensures.settled (c.is_closed.ensures.closed ∙ e)) c.is_closed.ensures.rests
 
 pub returns-clause-stop : goal.returns-clause-stop
 returns-clause-stop g c = λ fate told outcome.
-    let laws = g.met.A.Area g.world.𝓛 g.world.𝓜 g.world.𝓡 ((λ s x. x), (λ x. x), (λ x. x), λ x. x) in
     let t = c.args.self.now in
-    stop_is t told (λ e. (c.is_closed.ensures.none_torn (c.is_closed.ensures.closed ∙ e)).stops) _ (laws.same_size (area_of t) _ told.1 (laws.may_stop (area_of t) outcome fate)) outcome (c.is_closed.ensures.stop fate told outcome)
+    stop_is t told (λ e. (c.is_closed.ensures.none_torn (c.is_closed.ensures.closed ∙ e)).stops) _ (c.area_laws.ensures.same_size (area_of t) _ told.1 (c.area_laws.ensures.may_stop (area_of t) outcome fate)) outcome (c.is_closed.ensures.stop fate told outcome)

@@ -31,7 +31,6 @@ returns-clause-entries g c = λ told. refl
 pub returns-clause-fresh : goal.returns-clause-fresh
 unfolding waiting
 returns-clause-fresh g c =
-    let laws = g.met.A.Area g.world.𝓛 g.world.𝓜 g.world.𝓡 ((λ s x. x), (λ x. x), (λ x. x), λ x. x) in
     let counted : length c.args.listing.places.items ≡ c.len.result = omega (arith, c.len.ensures) in
     let emptied : length c.args.waiting.octets ≡ 0 = ap (λ (w : Buffered). length w.octets) c.requires.waiting in
     record {
@@ -41,7 +40,7 @@ returns-clause-fresh g c =
       none_waits = ap (λ (w : Buffered). entries_of w.octets) c.requires.waiting ∙ entries_of-nil;
       emptied = emptied;
       length = ap (λ b. if b then c.len.result else length c.args.listing.places.items) c.requires.ready ∙ counted;
-      settled = settled _ laws.whole laws.same_size laws.only_now c.requires.settled;
+      settled = settled _ c.area_laws.ensures c.requires.settled;
     }
 
 pub returns-clause-are_fit : goal.returns-clause-are_fit

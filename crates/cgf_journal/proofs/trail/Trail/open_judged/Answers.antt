@@ -32,7 +32,6 @@ no_start header long begins octets at (inr broken) starts = broken_or_starts hea
 
 pub returns-in-Ok-open-clause-ok : goal.returns-in-Ok-open-clause-ok
 returns-in-Ok-open-clause-ok g c =
-    let laws = g.met.A.Area g.world.𝓛 g.world.𝓜 g.world.𝓡 ((λ s x. x), (λ x. x), (λ x. x), λ x. x) in
     let a = c.args.area in
     let o = g.A.Area.octets c.args.area in
     let h = header (g.A.Area.size c.args.area) c.args.address c.args.generation in
@@ -42,16 +41,14 @@ returns-in-Ok-open-clause-ok g c =
     let j = c.in-Ok-open.journal in
     let opened = c.in-Ok-open.ensures.ok in
     let counted = c.in-Ok-open.ensures.counted in
-    let leaves = c.in-Ok-open.ensures.any_moment in
     ok_is a (gates.area_of j) counted.cause.faults h (gates.header_of j) opened.header (StandsFit fits h) c.over.result
     (λ told.
-    found_is fits h long begins o j c.length-size.result (laws.whole c.args.area told.0 ∙ sym c.length-size.ensures) (stands_or_anew fits h long begins o j told (opened.found told) opened.front opened.settled opened.header)
+    found_is fits h long begins o j c.length-size.result (c.area_laws.ensures.whole c.args.area told.0 ∙ sym c.length-size.ensures) (stands_or_anew fits h long begins o j told (opened.found told) opened.front opened.settled opened.header)
     (opened.anew told) c.over.result (c.over.ensures.are_fit told) (c.over.ensures.entries told))
     c.over.ensures.fresh c.over.ensures.cause.faults
 
 pub returns-in-Ok-open-clause-err : goal.returns-in-Ok-open-clause-err
 returns-in-Ok-open-clause-err g c =
-    let laws = g.met.A.Area g.world.𝓛 g.world.𝓜 g.world.𝓡 ((λ s x. x), (λ x. x), (λ x. x), λ x. x) in
     let a = c.args.area in
     let o = g.A.Area.octets c.args.area in
     let h = header (g.A.Area.size c.args.area) c.args.address c.args.generation in
@@ -61,17 +58,15 @@ returns-in-Ok-open-clause-err g c =
     let j = c.in-Ok-open.journal in
     let opened = c.in-Ok-open.ensures.ok in
     let counted = c.in-Ok-open.ensures.counted in
-    let leaves = c.in-Ok-open.ensures.any_moment in
     err_is a (gates.area_of j) counted.cause.faults (IsUnfitTo fits h) c.over.result
     (λ told.
-    places_are fits h long begins o j c.length-size.result (laws.whole c.args.area told.0 ∙ sym c.length-size.ensures) (stands_or_anew fits h long begins o j told (opened.found told) opened.front opened.settled opened.header)
+    places_are fits h long begins o j c.length-size.result (c.area_laws.ensures.whole c.args.area told.0 ∙ sym c.length-size.ensures) (stands_or_anew fits h long begins o j told (opened.found told) opened.front opened.settled opened.header)
     (opened.anew told) c.over.result (c.over.ensures.breaks told) (c.over.ensures.some told))
     c.over.ensures.cause.device c.over.ensures.cause.faults_err c.over.ensures.cause.still
     (λ told. unwritten_is o h j c.over.result (opened.found told) (opened.anew told) (c.over.ensures.some told) c.over.ensures.kept)
 
 pub returns-in-Ok-open-clause-reads : goal.returns-in-Ok-open-clause-reads
 returns-in-Ok-open-clause-reads g c = λ told history stands.
-    let laws = g.met.A.Area g.world.𝓛 g.world.𝓜 g.world.𝓡 ((λ s x. x), (λ x. x), (λ x. x), λ x. x) in
     let a = c.args.area in
     let o = g.A.Area.octets c.args.area in
     let h = header (g.A.Area.size c.args.area) c.args.address c.args.generation in
@@ -91,13 +86,8 @@ returns-in-Ok-open-clause-reads g c = λ told history stands.
 
 pub returns-in-Ok-open-clause-anew : goal.returns-in-Ok-open-clause-anew
 returns-in-Ok-open-clause-anew g c = λ told starts.
-    let laws = g.met.A.Area g.world.𝓛 g.world.𝓜 g.world.𝓡 ((λ s x. x), (λ x. x), (λ x. x), λ x. x) in
     let a = c.args.area in
-    let o = g.A.Area.octets c.args.area in
     let h = header (g.A.Area.size c.args.area) c.args.address c.args.generation in
-    let long = length-header (g.A.Area.size c.args.area) c.args.address c.args.generation in
-    let begins = first-header (g.A.Area.size c.args.area) c.args.address c.args.generation in
-    let fits = g.J.Judge.fits in
     let j = c.in-Ok-open.journal in
     let opened = c.in-Ok-open.ensures.ok in
     let counted = c.in-Ok-open.ensures.counted in
@@ -110,7 +100,6 @@ returns-in-Ok-open-clause-anew g c = λ told starts.
 
 pub returns-in-Ok-open-clause-foreign : goal.returns-in-Ok-open-clause-foreign
 returns-in-Ok-open-clause-foreign g c = λ told at foreign.
-    let laws = g.met.A.Area g.world.𝓛 g.world.𝓜 g.world.𝓡 ((λ s x. x), (λ x. x), (λ x. x), λ x. x) in
     let a = c.args.area in
     let o = g.A.Area.octets c.args.area in
     let h = header (g.A.Area.size c.args.area) c.args.address c.args.generation in
@@ -119,10 +108,9 @@ returns-in-Ok-open-clause-foreign g c = λ told at foreign.
     let fits = g.J.Judge.fits in
     let j = c.in-Ok-open.journal in
     let opened = c.in-Ok-open.ensures.ok in
-    let counted = c.in-Ok-open.ensures.counted in
     let leaves = c.in-Ok-open.ensures.any_moment in
     let is = stands_or_anew fits h long begins o j told (opened.found told) opened.front opened.settled opened.header in
-    let sized = laws.whole c.args.area told.0 ∙ sym c.length-size.ensures in
+    let sized = c.area_laws.ensures.whole c.args.area told.0 ∙ sym c.length-size.ensures in
     record {
       place =
           refused fits h long begins o j c.entries_are_read_back.ensures c.over.result (found_is fits h long begins o j c.length-size.result sized is (opened.anew told) c.over.result (c.over.ensures.are_fit told) (c.over.ensures.entries told))
@@ -137,7 +125,6 @@ fault_before-fault-requires-clause-taken g c = λ κs within. c.in-Ok-new.ensure
 
 pub returns-in-Err-NotOurs-default-clause-err : goal.returns-in-Err-NotOurs-default-clause-err
 returns-in-Err-NotOurs-default-clause-err g c =
-    let laws = g.met.A.Area g.world.𝓛 g.world.𝓜 g.world.𝓡 ((λ s x. x), (λ x. x), (λ x. x), λ x. x) in
     let a = c.args.area in
     let o = g.A.Area.octets c.args.area in
     let h = header (g.A.Area.size c.args.area) c.args.address c.args.generation in
@@ -146,7 +133,6 @@ returns-in-Err-NotOurs-default-clause-err g c =
     let fits = g.J.Judge.fits in
     let mid = c.in-Err-NotOurs-default.area in
     let opened = c.in-Err-NotOurs-default.ensures in
-    let leaves = opened.any_moment in
     let kept = c.fault_before-fault.ensures.kept in
     let at0 = c.in-Err-NotOurs-default.at in
     let here = subst (λ n. n ≤ 32 → c.fault_before-fault.result ≡ NotOurs n) c.in-Err-NotOurs-default.at-is c.fault_before-fault.ensures.here in
@@ -157,7 +143,7 @@ returns-in-Err-NotOurs-default-clause-err g c =
     let same = λ (unwritten : (c.in-Err-NotOurs-default.field-0-0 ≡ Device) ⊎ (g.A.Area.octets mid ≡ o)). ⊎_elim (λ (e : ◌≡◌ {A = OpenFault} c.in-Err-NotOurs-default.field-0-0 Device). absurd (other_fault (sym c.in-Err-NotOurs-default.field-0-0-is ∙ e))) (λ (e : g.A.Area.octets mid ≡ o). e) unwritten in
     record {
       place = λ told at is.
-          place_is fits h long begins o g.A.Area.tells_octets told.0 c.length-size.result (laws.whole c.args.area told.0 ∙ sym c.length-size.ensures) at0 at c.fault_before-fault.result
+          place_is fits h long begins o g.A.Area.tells_octets told.0 c.length-size.result (c.area_laws.ensures.whole c.args.area told.0 ∙ sym c.length-size.ensures) at0 at c.fault_before-fault.result
           (opened.err.not_ours told at0 c.in-Err-NotOurs-default.field-0-0-is) here
           (λ all listed. first all (subst (λ (l : List ℕ). AreListedBefore g.A.Area.tells_octets l c.in-Err-NotOurs-default.at all) (sym (same (opened.err.unwritten told))) listed)) is;
       cause = λ e. rises (g.A.Area.faults a) (g.A.Area.faults mid) _ opened.counted.cause.faults_err (c.fault_before-fault.ensures.device e);
@@ -168,13 +154,8 @@ returns-in-Err-NotOurs-default-clause-err g c =
 
 pub returns-in-Err-NotOurs-default-clause-anew : goal.returns-in-Err-NotOurs-default-clause-anew
 returns-in-Err-NotOurs-default-clause-anew g c = λ told starts.
-    let laws = g.met.A.Area g.world.𝓛 g.world.𝓜 g.world.𝓡 ((λ s x. x), (λ x. x), (λ x. x), λ x. x) in
     let a = c.args.area in
-    let o = g.A.Area.octets c.args.area in
     let h = header (g.A.Area.size c.args.area) c.args.address c.args.generation in
-    let long = length-header (g.A.Area.size c.args.area) c.args.address c.args.generation in
-    let begins = first-header (g.A.Area.size c.args.area) c.args.address c.args.generation in
-    let fits = g.J.Judge.fits in
     let mid = c.in-Err-NotOurs-default.area in
     let opened = c.in-Err-NotOurs-default.ensures in
     let leaves = opened.any_moment in
@@ -186,7 +167,6 @@ returns-in-Err-NotOurs-default-clause-anew g c = λ told starts.
 
 pub returns-in-Err-NotOurs-default-clause-foreign : goal.returns-in-Err-NotOurs-default-clause-foreign
 returns-in-Err-NotOurs-default-clause-foreign g c = λ told at foreign.
-    let laws = g.met.A.Area g.world.𝓛 g.world.𝓜 g.world.𝓡 ((λ s x. x), (λ x. x), (λ x. x), λ x. x) in
     let a = c.args.area in
     let o = g.A.Area.octets c.args.area in
     let h = header (g.A.Area.size c.args.area) c.args.address c.args.generation in
@@ -206,19 +186,12 @@ returns-in-Err-NotOurs-default-clause-foreign g c = λ told at foreign.
 
 pub returns-in-Err-Device-default-clause-anew : goal.returns-in-Err-Device-default-clause-anew
 returns-in-Err-Device-default-clause-anew g c = λ told starts.
-    let laws = g.met.A.Area g.world.𝓛 g.world.𝓜 g.world.𝓡 ((λ s x. x), (λ x. x), (λ x. x), λ x. x) in
     let a = c.args.area in
-    let o = g.A.Area.octets c.args.area in
     let h = header (g.A.Area.size c.args.area) c.args.address c.args.generation in
-    let long = length-header (g.A.Area.size c.args.area) c.args.address c.args.generation in
-    let begins = first-header (g.A.Area.size c.args.area) c.args.address c.args.generation in
-    let fits = g.J.Judge.fits in
     record { listed = tt; moments = widen_making a c.in-Err-Device-default.area h (c.in-Err-Device-default.ensures.any_moment.anew told starts); calls = λ tells. tt }
 
 pub returns-in-Err-Device-default-clause-foreign : goal.returns-in-Err-Device-default-clause-foreign
 returns-in-Err-Device-default-clause-foreign g c = λ told at foreign.
-    let laws = g.met.A.Area g.world.𝓛 g.world.𝓜 g.world.𝓡 ((λ s x. x), (λ x. x), (λ x. x), λ x. x) in
-    let a = c.args.area in
     let o = g.A.Area.octets c.args.area in
     let h = header (g.A.Area.size c.args.area) c.args.address c.args.generation in
     let long = length-header (g.A.Area.size c.args.area) c.args.address c.args.generation in
@@ -228,19 +201,12 @@ returns-in-Err-Device-default-clause-foreign g c = λ told at foreign.
 
 pub returns-clause-anew : goal.returns-clause-anew
 returns-clause-anew g c = λ told starts.
-    let laws = g.met.A.Area g.world.𝓛 g.world.𝓜 g.world.𝓡 ((λ s x. x), (λ x. x), (λ x. x), λ x. x) in
     let a = c.args.area in
-    let o = g.A.Area.octets c.args.area in
     let h = header (g.A.Area.size c.args.area) c.args.address c.args.generation in
-    let long = length-header (g.A.Area.size c.args.area) c.args.address c.args.generation in
-    let begins = first-header (g.A.Area.size c.args.area) c.args.address c.args.generation in
-    let fits = g.J.Judge.fits in
     record { listed = tt; moments = widen_making a c.in-Err-NoMemory-default.area h (c.in-Err-NoMemory-default.ensures.any_moment.anew told starts); calls = λ tells. tt }
 
 pub returns-clause-foreign : goal.returns-clause-foreign
 returns-clause-foreign g c = λ told at foreign.
-    let laws = g.met.A.Area g.world.𝓛 g.world.𝓜 g.world.𝓡 ((λ s x. x), (λ x. x), (λ x. x), λ x. x) in
-    let a = c.args.area in
     let o = g.A.Area.octets c.args.area in
     let h = header (g.A.Area.size c.args.area) c.args.address c.args.generation in
     let long = length-header (g.A.Area.size c.args.area) c.args.address c.args.generation in
@@ -250,8 +216,6 @@ returns-clause-foreign g c = λ told at foreign.
 
 pub returns-in-Err-Device-default-clause-reads : goal.returns-in-Err-Device-default-clause-reads
 returns-in-Err-Device-default-clause-reads g c = λ told history stands.
-    let laws = g.met.A.Area g.world.𝓛 g.world.𝓜 g.world.𝓡 ((λ s x. x), (λ x. x), (λ x. x), λ x. x) in
-    let a = c.args.area in
     let o = g.A.Area.octets c.args.area in
     let h = header (g.A.Area.size c.args.area) c.args.address c.args.generation in
     let long = length-header (g.A.Area.size c.args.area) c.args.address c.args.generation in
@@ -261,8 +225,6 @@ returns-in-Err-Device-default-clause-reads g c = λ told history stands.
 
 pub returns-clause-reads : goal.returns-clause-reads
 returns-clause-reads g c = λ told history stands.
-    let laws = g.met.A.Area g.world.𝓛 g.world.𝓜 g.world.𝓡 ((λ s x. x), (λ x. x), (λ x. x), λ x. x) in
-    let a = c.args.area in
     let o = g.A.Area.octets c.args.area in
     let h = header (g.A.Area.size c.args.area) c.args.address c.args.generation in
     let long = length-header (g.A.Area.size c.args.area) c.args.address c.args.generation in
@@ -272,7 +234,6 @@ returns-clause-reads g c = λ told history stands.
 
 pub returns-in-Err-NotOurs-default-clause-reads : goal.returns-in-Err-NotOurs-default-clause-reads
 returns-in-Err-NotOurs-default-clause-reads g c = λ told history stands.
-    let laws = g.met.A.Area g.world.𝓛 g.world.𝓜 g.world.𝓡 ((λ s x. x), (λ x. x), (λ x. x), λ x. x) in
     let a = c.args.area in
     let o = g.A.Area.octets c.args.area in
     let h = header (g.A.Area.size c.args.area) c.args.address c.args.generation in

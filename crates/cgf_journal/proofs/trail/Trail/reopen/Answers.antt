@@ -25,10 +25,8 @@ returns-in_err-reopen-clause-err g c =
 
 pub returns-in_err-reopen-clause-any_moment : goal.returns-in_err-reopen-clause-any_moment
 returns-in_err-reopen-clause-any_moment g c = λ told.
-    let laws = g.met.A.Area g.world.𝓛 g.world.𝓜 g.world.𝓡 ((λ s x. x), (λ x. x), (λ x. x), λ x. x) in
     let t = c.args.self.now in
-    let j = c.reopen.new.self in
-    leaves_either t _ _ told (t.sound.torn_waits c.requires.closed) (t.sound.some_torn c.requires.closed) laws.same_size laws.same_size_since c.reopen.ensures.stays.size (c.reopen.ensures.any_moment.any told)
+    leaves_either t _ _ told (t.sound.torn_waits c.requires.closed) (t.sound.some_torn c.requires.closed) c.area_laws.ensures c.reopen.ensures.stays.size (c.reopen.ensures.any_moment.any told)
 
 pub invariant_of-self-then-end : goal.invariant_of-self-then-end
 invariant_of-self-then-end g c =
@@ -49,7 +47,6 @@ invariant_of-self-then-end g c =
 pub returns-then-end-clause-ok : goal.returns-then-end-clause-ok
 unfolding waiting
 returns-then-end-clause-ok g c =
-    let laws = g.met.A.Area g.world.𝓛 g.world.𝓜 g.world.𝓡 ((λ s x. x), (λ x. x), (λ x. x), λ x. x) in
     let t = c.args.self.now in
     let j = c.reopen.new.self in
     let same_end : journal.end j ≡ journal.end t.journal = sym c.end.ensures.place ∙ c.if-end.true ∙ c.end-end.ensures.place in
@@ -60,7 +57,7 @@ returns-then-end-clause-ok g c =
       emptied = ap (λ (w : Buffered). length w.octets) c.clear.ensures;
       opened = c.in_ok-reopen.ensures.ok.ready;
       length = ap (λ b. if b then t.firm else length c.truncate.new.self.items) c.in_ok-reopen.ensures.ok.ready ∙ left;
-      settled = settled _ laws.whole laws.same_size laws.only_now c.in_ok-reopen.ensures.ok.settled;
+      settled = settled _ c.area_laws.ensures c.in_ok-reopen.ensures.ok.settled;
     }
 
 pub returns-then-end-clause-dropped : goal.returns-then-end-clause-dropped
@@ -81,10 +78,8 @@ returns-then-end-clause-dropped g c = λ is.
 
 pub returns-then-end-clause-any_moment : goal.returns-then-end-clause-any_moment
 returns-then-end-clause-any_moment g c = λ told.
-    let laws = g.met.A.Area g.world.𝓛 g.world.𝓜 g.world.𝓡 ((λ s x. x), (λ x. x), (λ x. x), λ x. x) in
     let t = c.args.self.now in
-    let j = c.reopen.new.self in
-    leaves_either t _ _ told (t.sound.torn_waits c.requires.closed) (t.sound.some_torn c.requires.closed) laws.same_size laws.same_size_since c.reopen.ensures.stays.size (c.reopen.ensures.any_moment.any told)
+    leaves_either t _ _ told (t.sound.torn_waits c.requires.closed) (t.sound.some_torn c.requires.closed) c.area_laws.ensures c.reopen.ensures.stays.size (c.reopen.ensures.any_moment.any told)
 
 pub returns-then-end-clause-stays : goal.returns-then-end-clause-stays
 returns-then-end-clause-stays g c = record {
@@ -114,7 +109,6 @@ invariant_of-self-2 g c =
 pub returns-clause-ok : goal.returns-clause-ok
 unfolding waiting
 returns-clause-ok g c =
-    let laws = g.met.A.Area g.world.𝓛 g.world.𝓜 g.world.𝓡 ((λ s x. x), (λ x. x), (λ x. x), λ x. x) in
     let t = c.args.self.now in
     let j = c.reopen.new.self in
     let other : journal.end j ≡ journal.end t.journal → ⊥ = λ e. c.if-end.false (c.end.ensures.place ∙ e ∙ sym c.end-end.ensures.place) in
@@ -125,7 +119,7 @@ returns-clause-ok g c =
       emptied = ap (λ (w : Buffered). length w.octets) c.clear-2.ensures;
       opened = c.in_ok-reopen.ensures.ok.ready;
       length = ap (λ b. if b then c.len-self.result else length t.places.items) c.in_ok-reopen.ensures.ok.ready ∙ counted;
-      settled = settled _ laws.whole laws.same_size laws.only_now c.in_ok-reopen.ensures.ok.settled;
+      settled = settled _ c.area_laws.ensures c.in_ok-reopen.ensures.ok.settled;
     }
 
 pub returns-clause-taken_in : goal.returns-clause-taken_in
@@ -153,10 +147,8 @@ returns-clause-stays g c =
 
 pub returns-clause-any_moment : goal.returns-clause-any_moment
 returns-clause-any_moment g c = λ told.
-    let laws = g.met.A.Area g.world.𝓛 g.world.𝓜 g.world.𝓡 ((λ s x. x), (λ x. x), (λ x. x), λ x. x) in
     let t = c.args.self.now in
-    let j = c.reopen.new.self in
-    leaves_either t _ _ told (t.sound.torn_waits c.requires.closed) (t.sound.some_torn c.requires.closed) laws.same_size laws.same_size_since c.reopen.ensures.stays.size (c.reopen.ensures.any_moment.any told)
+    leaves_either t _ _ told (t.sound.torn_waits c.requires.closed) (t.sound.some_torn c.requires.closed) c.area_laws.ensures c.reopen.ensures.stays.size (c.reopen.ensures.any_moment.any told)
 
 pub returns-in_err-reopen-clause-planned : goal.returns-in_err-reopen-clause-planned
 returns-in_err-reopen-clause-planned g c =

@@ -5,7 +5,6 @@ use Rattle.gate_journal.proofs.journal.Journal.arm.Goals as goal
 
 pub returns-clause-same : goal.returns-clause-same
 returns-clause-same g c =
-    let laws = g.met.A.Area g.world.𝓛 g.world.𝓜 g.world.𝓡 ((λ s x. x), (λ x. x), (λ x. x), λ x. x) in
     let drill = g.met.A.DrillArea g.world.𝓛 g.world.𝓜 g.world.𝓡 ((λ s x. x), (λ x. x), (λ x. x), λ x. x) in
     let j = c.args.self.now in
     let new = c.arm.new.self in
@@ -13,7 +12,7 @@ returns-clause-same g c =
     let size = drill.kept_size j.area new kept in
     let octets = drill.kept_octets j.area new kept in
     record {
-      crash = step g.A.Area j.area j.area new (g.A.Area.may_leave j.area) (begin g.A.Area laws.only_now j.area (g.A.Area.may_leave j.area) (λ d left. left)) (drill.kept_time j.area new kept) (drill.kept_crash j.area new kept);
+      crash = step g.A.Area j.area j.area new (g.A.Area.may_leave j.area) (begin g.A.Area c.area_laws.ensures.only_now j.area (g.A.Area.may_leave j.area) (λ d left. left)) (drill.kept_time j.area new kept) (drill.kept_crash j.area new kept);
       faults = drill.kept_faults j.area new kept;
       size = size;
       same = as_before _ _ (record { buffer = refl; gate = refl; torn_length = refl; is_torn = refl; front = refl; address = refl; generation = refl }) size octets (λ told outcome. drill.kept_leaves j.area new outcome kept);

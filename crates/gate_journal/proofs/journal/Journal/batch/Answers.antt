@@ -16,21 +16,19 @@ use Rattle.gate_journal.proofs.journal.Journal.batch.Goals as goal
 pub returns-then-gate-self-clause-found : goal.returns-then-gate-self-clause-found
 unfolding batches
 returns-then-gate-self-clause-found g c = λ told some batch more is at.
-    let laws = g.met.A.Area g.world.𝓛 g.world.𝓜 g.world.𝓡 ((λ s x. x), (λ x. x), (λ x. x), λ x. x) in
     let j = c.args.self.now in
-    let place = (settled g.A.Area laws.holds laws.whole laws.same_size j c.requires.ready).place told in
+    let place = (settled g.A.Area c.area_laws.ensures j c.requires.ready).place told in
     absurd (omega (arith, place, at, before_end (batches_below j.gate (g.A.Area.octets j.area)) some batch more is))
 
 pub returns-in-Ok-clause-found : goal.returns-in-Ok-clause-found
 unfolding batches
 returns-in-Ok-clause-found g c = λ told.
-    let laws = g.met.A.Area g.world.𝓛 g.world.𝓜 g.world.𝓡 ((λ s x. x), (λ x. x), (λ x. x), λ x. x) in
     let j = c.args.self.now in
     let found = λ (some : List (List ℕ)) (batch : List ℕ) (more : List (List ℕ)) (is : batches_below j.gate (g.A.Area.octets j.area) ≡ some ++ batch ∷ more) (at : c.args.gate ≡ end_of some).
     c.content_behind.ensures
     ∙ subst (λ n. content_at c.in-Ok.behind n j.gate ≡ Some (n + 5, length batch)) (sym at)
-    (content_found (header (g.A.Area.size j.area) j.address j.generation) (length-header (g.A.Area.size j.area) j.address j.generation) j.gate (g.A.Area.octets j.area) some batch more (omega (arith, laws.whole j.area told.0, j.sound.high))
-    ((j.sound.content told (g.A.Area.octets j.area) (laws.holds j.area)).listed ∙ ap (λ (bs : List (List ℕ)). drop 1 (header (g.A.Area.size j.area) j.address j.generation) ++ spelled bs) is)
+    (content_found (header (g.A.Area.size j.area) j.address j.generation) (length-header (g.A.Area.size j.area) j.address j.generation) j.gate (g.A.Area.octets j.area) some batch more (omega (arith, c.area_laws.ensures.whole j.area told.0, j.sound.high))
+    ((j.sound.content told (g.A.Area.octets j.area) (c.area_laws.ensures.holds j.area)).listed ∙ ap (λ (bs : List (List ℕ)). drop 1 (header (g.A.Area.size j.area) j.address j.generation) ++ spelled bs) is)
     (small_among (batches_below j.gate (g.A.Area.octets j.area)) some batch more is (j.sound.small told)) c.in-Ok.behind
     (subst (λ n. IsBehind (g.A.Area.octets j.area) n c.in-Ok.behind) at (c.in-Ok.ensures.reads told.0))) in
     found
@@ -42,16 +40,15 @@ returns-in-Ok-clause-some g c =
     (content_inside (g.A.Area.size c.args.self.now.area) c.in-Ok.behind c.args.gate c.args.self.now.gate c.in-Ok.ensures.fits) in
     if_some c.content_behind.result (λ content. (content.0 ≡ c.args.gate + 5) × (content.0 + content.1 ≤ c.args.self.now.gate) × (content.1 ≤ longest_batch)) _ inside (λ x answer p. record {
       batch = λ told.
-          let laws = g.met.A.Area g.world.𝓛 g.world.𝓜 g.world.𝓡 ((λ s x. x), (λ x. x), (λ x. x), λ x. x) in
           let j = c.args.self.now in
           let found = λ (some : List (List ℕ)) (batch : List ℕ) (more : List (List ℕ)) (is : batches_below j.gate (g.A.Area.octets j.area) ≡ some ++ batch ∷ more) (at : c.args.gate ≡ end_of some).
           c.content_behind.ensures
           ∙ subst (λ n. content_at c.in-Ok.behind n j.gate ≡ Some (n + 5, length batch)) (sym at)
-          (content_found (header (g.A.Area.size j.area) j.address j.generation) (length-header (g.A.Area.size j.area) j.address j.generation) j.gate (g.A.Area.octets j.area) some batch more (omega (arith, laws.whole j.area told.0, j.sound.high))
-          ((j.sound.content told (g.A.Area.octets j.area) (laws.holds j.area)).listed ∙ ap (λ (bs : List (List ℕ)). drop 1 (header (g.A.Area.size j.area) j.address j.generation) ++ spelled bs) is)
+          (content_found (header (g.A.Area.size j.area) j.address j.generation) (length-header (g.A.Area.size j.area) j.address j.generation) j.gate (g.A.Area.octets j.area) some batch more (omega (arith, c.area_laws.ensures.whole j.area told.0, j.sound.high))
+          ((j.sound.content told (g.A.Area.octets j.area) (c.area_laws.ensures.holds j.area)).listed ∙ ap (λ (bs : List (List ℕ)). drop 1 (header (g.A.Area.size j.area) j.address j.generation) ++ spelled bs) is)
           (small_among (batches_below j.gate (g.A.Area.octets j.area)) some batch more is (j.sound.small told)) c.in-Ok.behind
           (subst (λ n. IsBehind (g.A.Area.octets j.area) n c.in-Ok.behind) at (c.in-Ok.ensures.reads told.0))) in
-          let place = (settled g.A.Area laws.holds laws.whole laws.same_size j c.requires.ready).place told in
+          let place = (settled g.A.Area c.area_laws.ensures j c.requires.ready).place told in
           let behind = c.requires.gate.behind told in
           let next = behind_some (batches_below j.gate (g.A.Area.octets j.area)) behind.0 behind.1 behind.2 (omega (arith, place, behind.3)) in
           let is = found behind.0 next.0 next.1 next.2 behind.3 in
@@ -64,16 +61,15 @@ returns-in-Ok-clause-some g c =
         low = omega (arith, p.0, c.requires.gate.low);
         high = p.1;
         behind = λ told.
-            let laws = g.met.A.Area g.world.𝓛 g.world.𝓜 g.world.𝓡 ((λ s x. x), (λ x. x), (λ x. x), λ x. x) in
             let j = c.args.self.now in
             let found = λ (some : List (List ℕ)) (batch : List ℕ) (more : List (List ℕ)) (is : batches_below j.gate (g.A.Area.octets j.area) ≡ some ++ batch ∷ more) (at : c.args.gate ≡ end_of some).
             c.content_behind.ensures
             ∙ subst (λ n. content_at c.in-Ok.behind n j.gate ≡ Some (n + 5, length batch)) (sym at)
-            (content_found (header (g.A.Area.size j.area) j.address j.generation) (length-header (g.A.Area.size j.area) j.address j.generation) j.gate (g.A.Area.octets j.area) some batch more (omega (arith, laws.whole j.area told.0, j.sound.high))
-            ((j.sound.content told (g.A.Area.octets j.area) (laws.holds j.area)).listed ∙ ap (λ (bs : List (List ℕ)). drop 1 (header (g.A.Area.size j.area) j.address j.generation) ++ spelled bs) is)
+            (content_found (header (g.A.Area.size j.area) j.address j.generation) (length-header (g.A.Area.size j.area) j.address j.generation) j.gate (g.A.Area.octets j.area) some batch more (omega (arith, c.area_laws.ensures.whole j.area told.0, j.sound.high))
+            ((j.sound.content told (g.A.Area.octets j.area) (c.area_laws.ensures.holds j.area)).listed ∙ ap (λ (bs : List (List ℕ)). drop 1 (header (g.A.Area.size j.area) j.address j.generation) ++ spelled bs) is)
             (small_among (batches_below j.gate (g.A.Area.octets j.area)) some batch more is (j.sound.small told)) c.in-Ok.behind
             (subst (λ n. IsBehind (g.A.Area.octets j.area) n c.in-Ok.behind) at (c.in-Ok.ensures.reads told.0))) in
-            let place = (settled g.A.Area laws.holds laws.whole laws.same_size j c.requires.ready).place told in
+            let place = (settled g.A.Area c.area_laws.ensures j c.requires.ready).place told in
             let behind = c.requires.gate.behind told in
             let next = behind_some (batches_below j.gate (g.A.Area.octets j.area)) behind.0 behind.1 behind.2 (omega (arith, place, behind.3)) in
             let is = found behind.0 next.0 next.1 next.2 behind.3 in
@@ -86,16 +82,15 @@ returns-in-Ok-clause-some g c =
 pub returns-in-Ok-clause-none : goal.returns-in-Ok-clause-none
 unfolding batches
 returns-in-Ok-clause-none g c = λ told.
-    let laws = g.met.A.Area g.world.𝓛 g.world.𝓜 g.world.𝓡 ((λ s x. x), (λ x. x), (λ x. x), λ x. x) in
     let j = c.args.self.now in
     let found = λ (some : List (List ℕ)) (batch : List ℕ) (more : List (List ℕ)) (is : batches_below j.gate (g.A.Area.octets j.area) ≡ some ++ batch ∷ more) (at : c.args.gate ≡ end_of some).
     c.content_behind.ensures
     ∙ subst (λ n. content_at c.in-Ok.behind n j.gate ≡ Some (n + 5, length batch)) (sym at)
-    (content_found (header (g.A.Area.size j.area) j.address j.generation) (length-header (g.A.Area.size j.area) j.address j.generation) j.gate (g.A.Area.octets j.area) some batch more (omega (arith, laws.whole j.area told.0, j.sound.high))
-    ((j.sound.content told (g.A.Area.octets j.area) (laws.holds j.area)).listed ∙ ap (λ (bs : List (List ℕ)). drop 1 (header (g.A.Area.size j.area) j.address j.generation) ++ spelled bs) is)
+    (content_found (header (g.A.Area.size j.area) j.address j.generation) (length-header (g.A.Area.size j.area) j.address j.generation) j.gate (g.A.Area.octets j.area) some batch more (omega (arith, c.area_laws.ensures.whole j.area told.0, j.sound.high))
+    ((j.sound.content told (g.A.Area.octets j.area) (c.area_laws.ensures.holds j.area)).listed ∙ ap (λ (bs : List (List ℕ)). drop 1 (header (g.A.Area.size j.area) j.address j.generation) ++ spelled bs) is)
     (small_among (batches_below j.gate (g.A.Area.octets j.area)) some batch more is (j.sound.small told)) c.in-Ok.behind
     (subst (λ n. IsBehind (g.A.Area.octets j.area) n c.in-Ok.behind) at (c.in-Ok.ensures.reads told.0))) in
-    let place = (settled g.A.Area laws.holds laws.whole laws.same_size j c.requires.ready).place told in
+    let place = (settled g.A.Area c.area_laws.ensures j c.requires.ready).place told in
     let behind = c.requires.gate.behind told in
     let next = behind_some (batches_below j.gate (g.A.Area.octets j.area)) behind.0 behind.1 behind.2 (omega (arith, place, behind.3)) in
     let is = found behind.0 next.0 next.1 next.2 behind.3 in

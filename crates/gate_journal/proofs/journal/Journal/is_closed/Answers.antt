@@ -8,33 +8,29 @@ use Rattle.gate_journal.proofs.journal.Journal.is_closed.Goals as goal
 pub returns-in-Founded : goal.returns-in-Founded
 unfolding stop_stands torn_stands
 returns-in-Founded g c =
-    let laws = g.met.A.Area g.world.𝓛 g.world.𝓜 g.world.𝓡 ((λ s x. x), (λ x. x), (λ x. x), λ x. x) in
     let j = c.args.self.now in
     let closed = closed_as_torn j.front j.is_torn c.in-Founded.is in
     record {
       closed = closed;
-      settled = λ e. settled g.A.Area laws.holds laws.whole laws.same_size j (sym closed ∙ e);
+      settled = λ e. settled g.A.Area c.area_laws.ensures j (sym closed ∙ e);
       none_torn = λ e. record {
         reads = ap (λ t. t && (gate_at (g.A.Area.octets j.area) j.gate == open_gate)) e;
         stops = λ outcome. ap (λ t. t && (gate_at ((g.A.Area.fate j.area).leaves outcome) j.gate == open_gate)) e;
       };
-      rests = rests g.A.Area laws.holds laws.whole laws.same_size j;
-      torn = λ fate. stands_as_new g.A.Area laws.holds laws.whole laws.same_size j (laws.stops_new j.area fate);
-      stop = λ fate told outcome. keeps_by_gate g.A.Area laws.holds laws.whole laws.same_size j told _ (laws.may_stop j.area outcome fate);
+      rests = rests g.A.Area c.area_laws.ensures j;
+      torn = λ fate. stands_as_new g.A.Area c.area_laws.ensures j (c.area_laws.ensures.stops_new j.area fate);
+      stop = λ fate told outcome. keeps_by_gate g.A.Area c.area_laws.ensures j told _ (c.area_laws.ensures.may_stop j.area outcome fate);
     }
 
 pub returns-in-Founding-clause-rests : goal.returns-in-Founding-clause-rests
 returns-in-Founding-clause-rests g c =
-    let laws = g.met.A.Area g.world.𝓛 g.world.𝓜 g.world.𝓡 ((λ s x. x), (λ x. x), (λ x. x), λ x. x) in
-    rests g.A.Area laws.holds laws.whole laws.same_size c.args.self.now
+    rests g.A.Area c.area_laws.ensures c.args.self.now
 
 pub returns-in-Founding-clause-torn : goal.returns-in-Founding-clause-torn
 returns-in-Founding-clause-torn g c = λ fate.
-    let laws = g.met.A.Area g.world.𝓛 g.world.𝓜 g.world.𝓡 ((λ s x. x), (λ x. x), (λ x. x), λ x. x) in
-    stands_as_new g.A.Area laws.holds laws.whole laws.same_size c.args.self.now (laws.stops_new c.args.self.now.area fate)
+    stands_as_new g.A.Area c.area_laws.ensures c.args.self.now (c.area_laws.ensures.stops_new c.args.self.now.area fate)
 
 pub returns-in-Founding-clause-stop : goal.returns-in-Founding-clause-stop
 unfolding stop_stands
 returns-in-Founding-clause-stop g c = λ fate told outcome.
-    let laws = g.met.A.Area g.world.𝓛 g.world.𝓜 g.world.𝓡 ((λ s x. x), (λ x. x), (λ x. x), λ x. x) in
-    keeps_by_gate g.A.Area laws.holds laws.whole laws.same_size c.args.self.now told _ (laws.may_stop c.args.self.now.area outcome fate)
+    keeps_by_gate g.A.Area c.area_laws.ensures c.args.self.now told _ (c.area_laws.ensures.may_stop c.args.self.now.area outcome fate)

@@ -9,5 +9,4 @@ returns-clause-batches g c = refl
 
 pub returns-clause-settled : goal.returns-clause-settled
 returns-clause-settled g c =
-    let laws = g.met.A.Area g.world.𝓛 g.world.𝓜 g.world.𝓡 ((λ s x. x), (λ x. x), (λ x. x), λ x. x) in
-    settled g.A.Area laws.holds laws.whole laws.same_size _ (closed_when_ready _ _ (record { whole = refl; founded = c.requires.front }))
+    settled g.A.Area c.area_laws.ensures _ (closed_when_ready _ _ (record { whole = refl; founded = c.requires.front }))

@@ -10,33 +10,30 @@ use Rattle.gate_journal.proofs.journal.Journal.reopen.Goals as goal
 
 pub invariant_of-self : goal.invariant_of-self
 invariant_of-self g c =
-    let laws = g.met.A.Area g.world.𝓛 g.world.𝓜 g.world.𝓡 ((λ s x. x), (λ x. x), (λ x. x), λ x. x) in
     let j = c.args.self.now in
     record {
       sound =
           subst (λ n. IsSound g.A.Area c.see.new.area j.buffer.items n j.torn_length false c.next_front-self.result j.address j.generation) (sym c.next_gate-self.ensures)
-          (subst (λ f. IsSound g.A.Area c.see.new.area j.buffer.items (gate_after j.is_torn j.gate j.torn_length c.in-Ok.ends.gate) j.torn_length false f j.address j.generation) (sym c.next_front-self.ensures) (reopened_sound g.A.Area laws.holds laws.whole laws.same_size j.area c.see.new.area j.buffer.items j.gate j.torn_length j.is_torn j.front j.address j.generation j.sound c.see.ensures.size (λ told. c.in-Ok.ensures.octets told) (λ told. c.in-Ok.ensures.durable told) c.in-Ok.ends.first c.in-Ok.ends.gate (λ told. (c.in-Ok.ensures.seen told).0) (λ told. (c.in-Ok.ensures.seen told).1)));
+          (subst (λ f. IsSound g.A.Area c.see.new.area j.buffer.items (gate_after j.is_torn j.gate j.torn_length c.in-Ok.ends.gate) j.torn_length false f j.address j.generation) (sym c.next_front-self.ensures) (reopened_sound g.A.Area c.area_laws.ensures j.area c.see.new.area j.buffer.items j.gate j.torn_length j.is_torn j.front j.address j.generation j.sound c.see.ensures.size (λ told. c.in-Ok.ensures.octets told) (λ told. c.in-Ok.ensures.durable told) c.in-Ok.ends.first c.in-Ok.ends.gate (λ told. (c.in-Ok.ensures.seen told).0) (λ told. (c.in-Ok.ensures.seen told).1)));
     }
 
 pub invariant_of-self-in-Err : goal.invariant_of-self-in-Err
 invariant_of-self-in-Err g c =
-    let laws = g.met.A.Area g.world.𝓛 g.world.𝓜 g.world.𝓡 ((λ s x. x), (λ x. x), (λ x. x), λ x. x) in
     let j = c.args.self.now in
-    record { sound = kept_sound g.A.Area laws.holds laws.whole laws.same_size j.area c.see.new.area j.buffer.items j.gate j.torn_length j.is_torn j.front j.address j.generation j.sound c.see.ensures.size c.see.ensures.any_moment.now }
+    record { sound = kept_sound g.A.Area c.area_laws.ensures j.area c.see.new.area j.buffer.items j.gate j.torn_length j.is_torn j.front j.address j.generation j.sound c.see.ensures.size c.see.ensures.any_moment.now }
 
 pub returns-in-Ok-clause-ok : goal.returns-in-Ok-clause-ok
 unfolding batches torn torn_stands
 returns-in-Ok-clause-ok g c =
-    let laws = g.met.A.Area g.world.𝓛 g.world.𝓜 g.world.𝓡 ((λ s x. x), (λ x. x), (λ x. x), λ x. x) in
     let j = c.args.self.now in
     let ready = ap (λ f. closed_by f false) c.next_front-self.ensures ∙ open_after j.front c.in-Ok.ends.first in
     record {
       ready = ready;
-      settled = settled g.A.Area laws.holds laws.whole laws.same_size _ ready;
+      settled = settled g.A.Area c.area_laws.ensures _ ready;
       front = λ told. c.next_front-self.ensures ∙ ap (λ n. front_after j.front n) (c.in-Ok.ensures.seen told.0).0;
       batches = λ told.
           ap (λ n. batches_below n (g.A.Area.octets c.see.new.area)) c.next_gate-self.ensures
-          ∙ reopened_batches g.A.Area laws.holds laws.whole laws.same_size j.area c.see.new.area j.buffer.items j.gate j.torn_length j.is_torn j.front j.address j.generation j.sound c.see.ensures.size (λ told. c.in-Ok.ensures.octets told) (λ told. c.in-Ok.ensures.durable told) c.in-Ok.ends.first c.in-Ok.ends.gate (λ told. (c.in-Ok.ensures.seen told).0) (λ told. (c.in-Ok.ensures.seen told).1) told
+          ∙ reopened_batches g.A.Area c.area_laws.ensures j.area c.see.new.area j.buffer.items j.gate j.torn_length j.is_torn j.front j.address j.generation j.sound c.see.ensures.size (λ told. c.in-Ok.ensures.octets told) (λ told. c.in-Ok.ensures.durable told) c.in-Ok.ends.first c.in-Ok.ends.gate (λ told. (c.in-Ok.ensures.seen told).0) (λ told. (c.in-Ok.ensures.seen told).1) told
           ∙ ap (λ o. if j.is_torn && (o == open_gate) then batches_below j.gate (g.A.Area.octets j.area) ++ take j.torn_length (drop 4 j.buffer.items) ∷ [] else batches_below j.gate (g.A.Area.octets j.area)) (c.in-Ok.ensures.seen told.0).1;
       place = λ told.
           c.next_gate-self.ensures
@@ -52,20 +49,18 @@ returns-in-Ok-clause-ok g c =
 
 pub returns-in-Ok-clause-any_moment : goal.returns-in-Ok-clause-any_moment
 returns-in-Ok-clause-any_moment g c =
-    let laws = g.met.A.Area g.world.𝓛 g.world.𝓜 g.world.𝓡 ((λ s x. x), (λ x. x), (λ x. x), λ x. x) in
     let j = c.args.self.now in
     record {
-      any = λ told. widen g.A.Area _ _ _ _ (keeps_any g.A.Area laws.holds laws.whole laws.same_size j told) c.see.ensures.any_moment;
-      ready = λ told open'. widen g.A.Area _ _ _ _ (λ d. (settled g.A.Area laws.holds laws.whole laws.same_size j open').crash told d) c.see.ensures.any_moment;
+      any = λ told. widen g.A.Area _ _ _ _ (keeps_any g.A.Area c.area_laws.ensures j told) c.see.ensures.any_moment;
+      ready = λ told open'. widen g.A.Area _ _ _ _ (λ d. (settled g.A.Area c.area_laws.ensures j open').crash told d) c.see.ensures.any_moment;
     }
 
 pub returns-in-Err-clause-any_moment : goal.returns-in-Err-clause-any_moment
 returns-in-Err-clause-any_moment g c =
-    let laws = g.met.A.Area g.world.𝓛 g.world.𝓜 g.world.𝓡 ((λ s x. x), (λ x. x), (λ x. x), λ x. x) in
     let j = c.args.self.now in
     record {
-      any = λ told. widen g.A.Area _ _ _ _ (keeps_any g.A.Area laws.holds laws.whole laws.same_size j told) c.see.ensures.any_moment;
-      ready = λ told open'. widen g.A.Area _ _ _ _ (λ d. (settled g.A.Area laws.holds laws.whole laws.same_size j open').crash told d) c.see.ensures.any_moment;
+      any = λ told. widen g.A.Area _ _ _ _ (keeps_any g.A.Area c.area_laws.ensures j told) c.see.ensures.any_moment;
+      ready = λ told open'. widen g.A.Area _ _ _ _ (λ d. (settled g.A.Area c.area_laws.ensures j open').crash told d) c.see.ensures.any_moment;
     }
 
 pub returns-in-Ok-clause-stays : goal.returns-in-Ok-clause-stays
@@ -82,12 +77,11 @@ returns-in-Ok-clause-stays g c =
 pub returns-in-Err-clause-err : goal.returns-in-Err-clause-err
 unfolding batches torn
 returns-in-Err-clause-err g c =
-    let laws = g.met.A.Area g.world.𝓛 g.world.𝓜 g.world.𝓡 ((λ s x. x), (λ x. x), (λ x. x), λ x. x) in
     let j = c.args.self.now in
     record {
       front = refl;
       batches = λ told.
-          kept_batches g.A.Area laws.holds laws.whole laws.same_size j.area c.see.new.area j.buffer.items j.gate j.torn_length j.is_torn j.front j.address j.generation j.sound c.see.ensures.size c.see.ensures.any_moment.now told;
+          kept_batches g.A.Area c.area_laws.ensures j.area c.see.new.area j.buffer.items j.gate j.torn_length j.is_torn j.front j.address j.generation j.sound c.see.ensures.size c.see.ensures.any_moment.now told;
       end = refl;
       closed = refl;
       torn = refl;

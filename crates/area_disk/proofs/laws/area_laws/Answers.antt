@@ -1,0 +1,14 @@
+use Rattle.area_disk.proofs.laws.area_laws.Goals as goal
+
+pub returns : goal.returns
+returns g c = let laws = g.met.A.Area g.world.𝓛 g.world.𝓜 g.world.𝓡 ((λ s x. x), (λ x. x), (λ x. x), λ x. x) in record {
+  holds = laws.holds;
+  whole = laws.whole;
+  same_size = laws.same_size;
+  same_size_since = laws.same_size_since;
+  counts_now = laws.counts_now;
+  only_now = laws.only_now;
+  may_stop = laws.may_stop;
+  stops_new = laws.stops_new;
+  counts_calls = laws.counts_calls;
+}
