@@ -1,0 +1,45 @@
+-- What contracts see of a pass that took a turn, and of the passes that a cell is ended with.
+use Rattle.std.specs.Prelude.{◌≡◌, ℕ, Bool, List, length, All, Option, Some, None, ⊤}
+use Rattle.gw_base.specs.Facts.{AreSound, Facts, WhereTold}
+use Rattle.gw_base.specs.declared.history.HistoryEntry.{HistoryEntry}
+use Rattle.turn_cell.specs.Knowing.{IsLegal, after_turn}
+use Rattle.gw_base.specs.Owes.{Adds, Owes}
+use Rattle.turn_cell.specs.Placed.{HasNumber, Owns, Stands}
+use Rattle.turn_cell.specs.declared.knowing.Knowledge.{Knowledge}
+
+-- a session that a turn names is the number of the pass
+abbrev pub IsOwnSession : Option ℕ → Knowledge → Type 0
+IsOwnSession None k = ⊤
+IsOwnSession (Some session) k = session ≡ k.number
+
+-- A turn was taken: some value was found that could come to it, and another left, and the pass keeps it.
+pub record Took {V A : Type 0} (told : Bool) (facts : V → Facts) (session : Option ℕ)
+    (does : V → V → A → Bool → List HistoryEntry → Type 0) (before : Knowledge) (answer : A) (after : Knowledge)
+    : Type 0 where
+  pub found : V
+  pub left : V
+  pub drops : Bool
+  pub added : List HistoryEntry
+  pub legal : IsLegal told before (facts found)
+  pub sound : AreSound told (facts found) × AreSound told (facts left)
+  pub owes : Owes told (facts found) (facts left)
+  pub adds : WhereTold told (Adds session (facts found) (facts left) drops added)
+  pub does_so : does found left answer drops added
+  pub kept : after ≡ after_turn before (facts found) (facts left) drops added
+
+-- these entries, which a value has past those that it began with, were added by these passes
+pub record AreOwned (start now : Facts) (passes : List Knowledge) : Type 0 where
+  pub stood : List HistoryEntry
+  pub tail : List HistoryEntry
+  pub stands : Stands (length passes) start now stood tail
+  -- each bears the number of a pass; those of a pass are among those that it keeps, in order, each behind the same
+  pub numbers : All (λ e. HasNumber e.caller.session passes) tail
+  pub owns : All (Owns stood tail) passes
+
+-- The value that is handed back, behind all turns of these passes.
+pub record Ended (told : Bool) (start now : Facts) (passes : List Knowledge) : Type 0 where
+  pub sound : AreSound told now
+  pub size : now.size ≡ start.size
+  -- it could come to a turn of each pass: its firm part begins with what the pass knows
+  pub legal : All (λ k. IsLegal told k now) passes
+  pub entries : WhereTold told (AreOwned start now passes)
