@@ -1,6 +1,7 @@
 pub mod AddingLemmas
 pub mod BookLemmas
 pub mod CallerLemmas
+pub mod Causing
 pub mod Committing
 pub mod Crashing
 pub mod CursorLemmas
@@ -30,3 +31,5 @@ pub mod TakingLemmas
 pub mod Telling
 pub mod TellingEntries
 pub mod Tellings
+pub mod TurnLemmas
+pub mod WindowLemmas

@@ -1,10 +1,11 @@
 -- How a mark is added to a book.
-use Rattle.std.proofs.Common.{◌≡◌, ℕ, Bool, true, false, if◌then◌else◌, List, Result, Ok, Err, sym, ap, ◌∙◌}
+use Rattle.std.proofs.Common.{◌≡◌, ℕ, ◌≤◌, Bool, true, false, if◌then◌else◌, List, Result, Ok, Err, refl, sym, ap, ◌∙◌, arith}
 use Rattle.std.specs.Prelude.{OnOk, OnErr}
 use Rattle.area_disk.specs.declared.area.Area.{Ghosts}
 use Rattle.entry_codec.specs.Room.{has_room}
 use Rattle.gate_journal.specs.Moments.{Told}
-use Rattle.cgf_journal.specs.Trail.{area_of, entries, firm_entries, is_closed}
+use Rattle.cgf_journal.specs.Outcomes.{FirmStays}
+use Rattle.cgf_journal.specs.Trail.{area_of, entries, firm_entries, is_closed, length_of}
 use Rattle.cgf_journal.specs.declared.trail.Trail.{Trail}
 use Rattle.gw_base.specs.History.{is_close_due, moment_after}
 use Rattle.gw_base.specs.declared.history.Caller.{Caller}
@@ -16,9 +17,10 @@ use Rattle.gateway_book.specs.Answered.{room_for}
 use Rattle.gateway_book.specs.Fit.{IsFit}
 use Rattle.gateway_book.specs.FitLaws.{room_is_for_each}
 use Rattle.gateway_book.specs.Followed.{IsFollowed, all_entries}
-use Rattle.gateway_book.specs.Marking.{with_entry}
+use Rattle.gateway_book.specs.Marking.{OnlyAdds, with_entry}
 use Rattle.gateway_book.specs.Marks.{Mark, NotDue, NoRoom, Makes, close_mark, made_if}
 use Rattle.gateway_book.specs.Value.{BookValue, history_of, recorded}
+use Rattle.gateway_book.specs.declared.book.Book.{Book}
 use Rattle.gateway_book.specs.declared.index.Index.{Index}
 use Rattle.gateway_book.proofs.TakingLemmas.{followed_added, followed_kept}
 
@@ -34,6 +36,23 @@ module _ {A : Type 0} {tells : Ghosts A} {F : Type 0} (old new : Trail A tells) 
   pub followed_put : (r : Result (Unit {0}) F) → IsFollowed old before → OnOk r (IsAdded old new before after e) → OnErr r (AreKept old new before after) → (Told tells → IsFit (tells.size (area_of old)) (all_entries old) e) → IsFollowed new after
   followed_put (Ok x) followed ok err fits = followed_added old new before after e followed ok fits
   followed_put (Err f) followed ok err fits = followed_kept old new before after followed err
+
+  pub firm_put : (r : Result (Unit {0}) F) → OnOk r (IsAdded old new before after e) → OnErr r (AreKept old new before after) → FirmStays old new
+  firm_put (Ok x) ok err = ok.stays
+  firm_put (Err f) ok err = err.stays
+
+  pub more_put : (r : Result (Unit {0}) F) → OnOk r (IsAdded old new before after e) → OnErr r (AreKept old new before after) → length_of old ≤ length_of new
+  more_put (Ok x) ok err = let count = ok.pushed.count in omega (arith, count)
+  more_put (Err f) ok err = let count = err.kept.length in omega (arith, count)
+
+-- nothing was done
+pub adds_nothing : {A : Type 0} {tells : Ghosts A} (book : Book A tells) → OnlyAdds book book
+adds_nothing book = record {
+  stays = record { listed = refl; count = refl; places = λ k place is. is; opened = refl; area = refl; header = refl };
+  entries = omega arith;
+  uncut = refl;
+  kept = refl;
+}
 
 -- the entry of a mark is the one that is recorded
 pub put_is_recorded : (v : BookValue) (h : List HistoryEntry) (now moment : ℕ) (who : Caller) (act : HistoryAct) → history_of v ≡ h → moment ≡ moment_after h now → with_entry v (entry_of moment who act) ≡ recorded v now who act

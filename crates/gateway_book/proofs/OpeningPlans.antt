@@ -150,9 +150,8 @@ device_fault_is opening.NoMemory = refl
 
 module _ {A : Type 0} {tells : Ghosts A} (header : List ℕ) (area : A) where
   -- where the trail was opened
-  pub opened_as_planned : (t : Trail A tells) (open_time : ℕ) (r : Result (Book A tells) (BookFault × A)) → IfOk r (λ book. IsBegun t open_time book) → IfErr r (λ fault. fault ≡ (NoMemory, area_of t)) → is_memory r ≡ false
-      → trails.OpenFollows tells area (Ok t) header → OpensAsPlanned area r header
-  opened_as_planned t open_time (Ok book) begun err some follows = record {
+  pub opened_as_planned : (t : Trail A tells) (open_time : ℕ) (book : Book A tells) → IsBegun t open_time book → trails.OpenFollows tells area (Ok t) header → OpensAsPlanned area (Ok book) header
+  opened_as_planned t open_time book begun follows = record {
     unmade = λ told unmade. subst (λ (x : A). SyncPlanned (tells.fate area) false (tells.fate x)) (sym begun.area) (follows.unmade told unmade);
     found = λ told unmade a b armed ran. record {
       runs = refl;
@@ -164,7 +163,6 @@ module _ {A : Type 0} {tells : Ghosts A} (header : List ℕ) (area : A) where
           (read_tied tells area a b armed ran (tells.fate (area_of t)) (follows.anew told starts (calm tells area a b armed ran) (making_runs tells area a b armed ran)).after);
     };
   }
-  opened_as_planned t open_time (Err fault) begun err some follows = absurd (true≢false (sym (ap (λ (f : BookFault × A). is_memory_fault f.0) err) ∙ some))
 
   -- and where it wasn't
   pub refused_as_planned : (fault : OpenFault) (now : A) (told : BookFault) → told ≡ book_fault fault → is_memory {T = Book A tells} (Err (told, now)) ≡ false

@@ -1,5 +1,5 @@
 -- A book that is opened: what its index follows, and the Start that it adds.
-use Rattle.std.proofs.Common.{◌≡◌, ◌⊎◌, inl, inr, ℕ, ◌*◌, ◌≤◌, true, false, if◌then◌else◌, max, List, [], ◌∷◌, ◌++◌, Result, Ok, Err, length, refl, sym, ap, subst, ◌∙◌, arith}
+use Rattle.std.proofs.Common.{◌≡◌, ◌≢◌, ◌⊎◌, inl, inr, ℕ, ◌*◌, ◌≤◌, true, false, if◌then◌else◌, max, List, [], ◌∷◌, ◌++◌, Result, Ok, Err, length, refl, sym, ap, subst, ◌∙◌, arith}
 use Rattle.std.specs.Prelude.{IfErr, IfOk}
 use Rattle.area_disk.specs.declared.area.Area.{Ghosts}
 use Rattle.gate_journal.specs.Format.{most_octets}
@@ -87,60 +87,30 @@ device_is opening.Device e = refl
 device_is (opening.NotOurs k) e = cc
 device_is opening.NoMemory e = cc
 
-apart_not_ours : (at : ℕ) → NoMemory ≡ NotOurs at → ⊥
-apart_not_ours at e = cc
-
-apart_device : ◌≡◌ {A = BookFault} NoMemory Device → ⊥
-apart_device e = cc
-
-module _ {A : Type 0} {tells : Ghosts A} (header : List ℕ) (area : A) (t : Trail A tells) (open_time : ℕ) where
+module _ {A : Type 0} {tells : Ghosts A} (header : List ℕ) (area : A) (t : Trail A tells) (open_time : ℕ) (book : Book A tells) (begun : IsBegun t open_time book) where
   -- what the trail's area is, the book's is
-  pub on_area : (P : A → Type 0) (r : Result (Book A tells) (BookFault × A)) → IfOk r (λ book. IsBegun t open_time book) → IfErr r (λ fault. fault ≡ (NoMemory, area_of t)) → P (area_of t) → OnArea r P
-  on_area P (Ok book) ok err p = subst P (sym ok.area) p
-  on_area P (Err fault) ok err p = subst P (sym (ap (λ (f : BookFault × A). f.1) err)) p
-
-  pub if_ok_area : (P : A → Type 0) (r : Result (Book A tells) (BookFault × A)) → IfOk r (λ book. IsBegun t open_time book) → P (area_of t) → IfOk r (λ book. P (book_area book))
-  if_ok_area P (Ok book) ok p = subst P (sym ok.area) p
-  if_ok_area P (Err fault) ok p = tt
+  pub on_area : (P : A → Type 0) → P (area_of t) → P (book_area book)
+  on_area P p = subst P (sym begun.area) p
 
   module _ (size : tells.size (area_of t) ≡ tells.size area) where
-    value_is : (book : Book A tells) (h : List HistoryEntry) → IsBegun t open_time book → Told tells → firm_entries t ≡ h → value_of book ≡ opened (tells.size area) h
-    value_is book h begun told listed = begun.value told ∙ (λ i. opened (size i) (listed i))
+    pub value_is : (h : List HistoryEntry) → Told tells → firm_entries t ≡ h → value_of book ≡ opened (tells.size area) h
+    value_is h told listed = begun.value told ∙ (λ i. opened (size i) (listed i))
 
-    pub ok_is : (r : Result (Book A tells) (BookFault × A)) → IfOk r (λ book. IsBegun t open_time book) → trails.IsOpened tells header area (StandsFit IsFit header) t → IfOk r (λ book. IsOpened header area open_time book)
-    ok_is (Ok book) begun found = record {
-      found = λ told. (firm_entries t, found.found told, value_is book (firm_entries t) begun told refl);
+    pub ok_is : trails.IsOpened tells header area (StandsFit IsFit header) t → IsOpened header area open_time book
+    ok_is found = record {
+      found = λ told. (firm_entries t, found.found told, value_is (firm_entries t) told refl);
       whole = begun.whole;
+      firm = begun.firm;
       uncut = begun.uncut;
       named = begun.named ∙ found.fresh.named;
       set = begun.set;
       faults = ap (λ (a : A). tells.faults a) begun.area ∙ found.faults;
     }
-    ok_is (Err fault) begun found = tt
-
-    pub listed_as : (r : Result (Book A tells) (BookFault × A)) (h : List HistoryEntry) → IfOk r (λ book. IsBegun t open_time book) → Told tells → firm_entries t ≡ h → IfOk r (λ book. value_of book ≡ opened (tells.size area) h)
-    listed_as (Ok book) h begun told listed = value_is book h begun told listed
-    listed_as (Err fault) h begun told listed = tt
-
-  pub err_is : (r : Result (Book A tells) (BookFault × A)) → IfErr r (λ fault. fault ≡ (NoMemory, area_of t)) → tells.faults (area_of t) ≡ tells.faults area → IfErr r (λ fault. IsRefused tells area header fault)
-  err_is (Ok book) err faults = tt
-  err_is (Err fault) err faults =
-      let kind : fault.0 ≡ NoMemory = ap (λ (f : BookFault × A). f.0) err in
-      record {
-        place = λ told at e. absurd (apart_not_ours at (sym kind ∙ e));
-        unwritten = λ told at e. absurd (apart_not_ours at (sym kind ∙ e));
-        cause = λ e. absurd (apart_device (sym kind ∙ e));
-        still = λ other. ap (λ (f : BookFault × A). tells.faults f.1) err ∙ faults;
-        faults = omega (arith, faults, ap (λ (f : BookFault × A). tells.faults f.1) err);
-      }
 
 -- a fault that isn't the device's left the octets as they were
-pub unwritten_is : {P : Type 0} (fault : OpenFault) (at : ℕ) → fault ≡ opening.NotOurs at → (fault ≡ opening.Device) ⊎ P → P
-unwritten_is fault at is (inl device) = absurd (apart (sym is ∙ device))
-  where
-    apart : ◌≡◌ {A = OpenFault} (opening.NotOurs at) opening.Device → ⊥
-    apart e = cc
-unwritten_is fault at is (inr p) = p
+pub unwritten_is : {P : Type 0} (fault : OpenFault) → fault ≢ opening.Device → (fault ≡ opening.Device) ⊎ P → P
+unwritten_is fault other (inl device) = absurd (other device)
+unwritten_is fault other (inr p) = p
 
 pub foreign_is : (fault : OpenFault) (at : ℕ) (told : BookFault) → told ≡ book_fault fault → (fault ≡ opening.NotOurs at) ⊎ ((fault ≡ opening.Device) ⊎ (fault ≡ opening.NoMemory))
     → (told ≡ NotOurs at) ⊎ ((told ≡ Device) ⊎ (told ≡ NoMemory))

@@ -1,7 +1,8 @@
 -- A book's cursor, as firm entries come after the others.
-use Rattle.std.proofs.Common.{◌≡◌, ℕ, zero, suc, ◌+◌, ◌-◌, ◌<◌, ◌≤◌, ◌^◌, true, false, if◌then◌else◌, Bool, List, [], ◌∷◌, ◌++◌, length, drop, take, Result, Ok, Err, refl, sym, ap, subst, ◌∙◌, arith, length-append}
-use Rattle.std.specs.Prelude.{OnOk, OnErr, min}
+use Rattle.std.proofs.Common.{◌≡◌, ℕ, zero, suc, ◌+◌, ◌-◌, ◌<◌, ◌≤◌, ◌==◌, ◌^◌, true, false, if◌then◌else◌, Bool, List, [], ◌∷◌, ◌++◌, length, drop, take, Result, Ok, Err, refl, sym, ap, subst, ◌∙◌, arith, length-append}
+use Rattle.std.specs.Prelude.{min}
 use Rattle.std.proofs.lemmas.List.{append-nil, take-append-drop}
+use Rattle.area_disk.specs.Disk.{Rose, counted}
 use Rattle.area_disk.specs.declared.area.Area.{Ghosts}
 use Rattle.gate_journal.specs.Moments.{Told}
 use Rattle.cgf_journal.specs.Outcomes.{AllFirm, AreTorn, FirmStays, IsKept, TornDropped, TornStand}
@@ -9,7 +10,7 @@ use Rattle.cgf_journal.specs.Trail.{area_of, firm_entries, firm_length, is_close
 use Rattle.cgf_journal.specs.declared.trail.Trail.{Trail}
 use Rattle.gw_base.specs.declared.history.HistoryEntry.{HistoryEntry}
 use Rattle.gw_base.specs.declared.item.Item.{Item}
-use Rattle.gateway_book.specs.Adding.{AreKept, IsAdded}
+use Rattle.gateway_book.specs.Calls.{length_at}
 use Rattle.gateway_book.specs.Cursor.{IsAt, IsBegun, IsWithin, StandsIn, gathered_at_last, items_from}
 use Rattle.gateway_book.specs.FiledLaws.{along-append}
 use Rattle.gateway_book.specs.FitHistory.{AllFit}
@@ -17,9 +18,8 @@ use Rattle.gateway_book.specs.Followed.{all_entries}
 use Rattle.gateway_book.specs.Gathering.{Gathered}
 use Rattle.gateway_book.specs.HeldCopies.{HoldCopies, places_of}
 use Rattle.gateway_book.specs.Items.{items_between, items_by, items_of}
-use Rattle.gateway_book.specs.Standing.{HasCursor}
+use Rattle.gateway_book.specs.Standing.{HasCursor, IsCounting}
 use Rattle.gateway_book.specs.declared.cursor.Cursor.{Cursor}
-use Rattle.gateway_book.specs.declared.index.Index.{Index}
 use Rattle.gateway_book.proofs.BookLemmas.{fit_front}
 use Rattle.gateway_book.proofs.CursorLemmas.{begun_at, begun_within}
 use Rattle.gateway_book.proofs.GatheringLemmas.{drop_over}
@@ -82,11 +82,6 @@ module _ {A : Type 0} {tells : Ghosts A} (old new : Trail A tells) (cursor : Cur
   pub stands_kept : IsKept old new → HasCursor new cursor
   stands_kept kept = stands_same kept.firm_length kept.firm_entries
 
-  -- an entry was put, or a Start was added
-  pub stands_put : {F : Type 0} (before after : Index) (e : HistoryEntry) (r : Result (Unit {0}) F) → OnOk r (IsAdded old new before after e) → OnErr r (AreKept old new before after) → HasCursor new cursor
-  stands_put before after e (Ok x) ok err = stands_firm ok.stays
-  stands_put before after e (Err f) ok err = stands_firm err.stays
-
   -- a commit
   pub stands_all : (n : ℕ) → is_closed old ≡ false → firm_length old ≤ length_of old → AllFirm old new n → HasCursor new cursor
   stands_all n open_now longer all =
@@ -127,3 +122,32 @@ items_after h cursor from room skip into at before small left is =
 
     whole : items_of h ≡ front ++ items_from cursor.entry h
     whole = ap items_of (sym (take-append-drop cursor.entry h)) ∙ along-append items_by [] (take cursor.entry h) (drop cursor.entry h)
+
+-- ---- what is counted
+
+-- no more than the firm entries
+pub at_most : (cuts firm kept : ℕ) → kept ≤ firm → length_at cuts firm kept ≤ firm
+at_most cuts firm kept le = by_test (cuts == 0)
+  where
+    by_test : (b : Bool) → (if b then firm else kept) ≤ firm
+    by_test true = omega arith
+    by_test false = le
+
+module _ {A : Type 0} {tells : Ghosts A} (old new : Trail A tells) (cuts kept : ℕ) (counting : IsCounting old cuts kept) where
+  -- a call that didn't fail
+  pub counting_on : tells.faults (area_of old) ≤ tells.faults (area_of new) → firm_length old ≤ firm_length new → IsCounting new cuts kept
+  counting_on later longer = let fewer = counting.fewer in let within = counting.within in record { fewer = omega (arith, fewer, later); within = omega (arith, within, longer) }
+
+  pub counting_firm : FirmStays old new → IsCounting new cuts kept
+  counting_firm stays =
+      let same : tells.faults (area_of new) ≡ tells.faults (area_of old) = ap (λ (a : A). tells.faults a) stays.area in
+      let count = stays.count in
+      counting_on (omega (arith, same)) (omega (arith, count))
+
+  -- a commit or an opening again that failed
+  pub counting_failed : (now after : ℕ) → Rose (tells.faults (area_of old)) (tells.faults (area_of new)) → firm_length new ≡ firm_length old → now ≡ counted 1 cuts → after ≡ length_at cuts (firm_length new) kept → IsCounting new now after
+  counting_failed now after rose count cut at =
+      let fewer = counting.fewer in
+      let within = counting.within in
+      let most : length_at cuts (firm_length new) kept ≤ firm_length new = at_most cuts (firm_length new) kept (omega (arith, within, count)) in
+      record { fewer = omega (arith, fewer, rose, cut); within = omega (arith, most, at) }

@@ -1,10 +1,10 @@
 -- What an answer leaves of a book.
-use Rattle.std.proofs.Common.{◌≡◌, ◌≢◌, ℕ, ◌≤◌, true, false, if◌then◌else◌, List, [], ◌∷◌, ◌++◌, Option, Some, None, refl, sym, ap, subst, ◌∙◌, append_assoc}
+use Rattle.std.proofs.Common.{◌≡◌, ◌≢◌, ℕ, ◌≤◌, true, false, if◌then◌else◌, List, [], ◌∷◌, ◌++◌, Option, Some, None, refl, sym, ap, subst, ◌∙◌, append_assoc, arith}
 use Rattle.area_disk.specs.declared.area.Area.{Ghosts}
 use Rattle.gate_journal.specs.Format.{most_octets}
 use Rattle.gate_journal.specs.Moments.{Told}
 use Rattle.cgf_journal.specs.Outcomes.{FirmStays}
-use Rattle.cgf_journal.specs.Trail.{area_of, entries, firm_entries, is_closed, waiting}
+use Rattle.cgf_journal.specs.Trail.{area_of, entries, firm_entries, is_closed, length_of, waiting}
 use Rattle.cgf_journal.specs.declared.trail.Trail.{Trail}
 use Rattle.entry_codec.specs.Room.{has_room}
 use Rattle.gtpp_message.specs.declared.reading.Why.{Why}
@@ -147,6 +147,19 @@ module _ {A : Type 0} {tells : Ghosts A} (old new : Trail A tells) (before after
   firm_stays (done.Silent why) silent said no_memory = firm_same (silent why refl).1.trail
   firm_stays (done.Said reply) silent said no_memory = firm_if (said reply refl).0 (said reply refl).2
   firm_stays done.NoMemory silent said no_memory = (no_memory refl).stays
+
+  -- and no entry is lost
+  more_if : (a : Option HistoryAct) → AddsIf old new before after moment who a → length_of old ≤ length_of new
+  more_if None same = omega (arith, ap (λ (t : Trail A tells). length_of t) same.trail)
+  more_if (Some a) added = let count = added.pushed.count in omega (arith, count)
+
+  pub none_is_lost : (finished : Done)
+      → ((why : Why) → finished ≡ done.Silent why → (decision ≡ Silent why) × IsSame old new before after)
+      → ((reply : List ℕ) → finished ≡ done.Said reply → (a : Option HistoryAct) × (decision ≡ Says reply a) × AddsIf old new before after moment who a)
+      → (finished ≡ done.NoMemory → AreKept old new before after) → length_of old ≤ length_of new
+  none_is_lost (done.Silent why) silent said no_memory = omega (arith, ap (λ (t : Trail A tells). length_of t) (silent why refl).1.trail)
+  none_is_lost (done.Said reply) silent said no_memory = more_if (said reply refl).0 (said reply refl).2
+  none_is_lost done.NoMemory silent said no_memory = let count = (no_memory refl).kept.length in omega (arith, count)
 
   -- what was done is what was decided
   pub done_is : (now cuts : ℕ) (told_decision : Decided) (finished : Done) → is_closed old ≡ false → moment ≡ moment_after (all_entries old) now

@@ -166,3 +166,12 @@ pub data Decided : Type 0 where
 abbrev pub decided : Given → Decided
 decided (Drops why) = Silent why
 decided (Replies number message act) = Says (written number message) act
+
+-- the octets that go back, where any do
+abbrev pub reply_in : Decided → Option (List ℕ)
+reply_in (Silent why) = None
+reply_in (Says octets act) = Some octets
+
+-- what goes back where the device fails
+abbrev pub failure_reply : PreparedValue → Option (List ℕ)
+failure_reply datagram = reply_in (decided (failure_answer datagram))

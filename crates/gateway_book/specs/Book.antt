@@ -4,8 +4,8 @@ use Rattle.area_disk.specs.Disk.{Rose, counted}
 use Rattle.area_disk.specs.declared.area.Area.{Ghosts}
 use Rattle.gate_journal.specs.Moments.{Leaves, Told}
 use Rattle.cgf_journal.specs.Trail as trail
-use Rattle.gateway_book.specs.Calls.{Left}
-use Rattle.gateway_book.specs.FitHistory.{StandsFitForOr}
+use Rattle.gateway_book.specs.Calls.{Left, length_at}
+use Rattle.gateway_book.specs.FitHistory.{StandsFitFor, StandsFitForOr}
 use Rattle.gateway_book.specs.Value.{BookValue, Fortune, Reopening, Whole, Gone, Refused}
 use Rattle.gateway_book.specs.declared.book.Book.{Book}
 
@@ -30,6 +30,15 @@ header_of book = trail.header_of book.trail
 
 abbrev pub open_time_of : {A : Type 0} {tells : Ghosts A} → Book A tells → ℕ
 open_time_of book = book.open_time
+
+-- the length that never falls
+abbrev pub length_of : {A : Type 0} {tells : Ghosts A} → Book A tells → ℕ
+length_of book = length_at book.cuts (trail.firm_length book.trail) book.kept
+
+-- Each crash leaves the firm entries, all of them fit.
+pub record IsFirm {A : Type 0} {tells : Ghosts A} (book : Book A tells) : Type 0 where
+  pub crash : Told tells → (c : List ℕ) → tells.may_leave (area_of book) c
+      → StandsFitFor (header_of book) c (value_of book).firm
 
 -- what an opening again finds, by whether it fails, and by whether the torn entries stand
 abbrev pub reopening_of : Bool → Bool → Reopening
@@ -57,14 +66,19 @@ module _ {A : Type 0} {tells : Ghosts A} (old new : Book A tells) where
     pub header : header_of new ≡ header_of old
     pub open_time : open_time_of new ≡ open_time_of old
 
-  -- The count of faults rose in the call where the book is broken afterwards and nowhere else, and so did that of the
-  -- commits and openings again that failed, by one.
+  -- What a call counts. The count of faults rose in the call where the book is broken afterwards and nowhere else, and
+  -- so did that of the commits and openings again that failed, by one. No firm entry is lost, and none at all where the
+  -- book goes on. The length that never falls is that of the firm part, while nothing had failed before the call.
   pub record HasCause : Type 0 where
     pub later : tells.faults (area_of old) ≤ tells.faults (area_of new)
     pub broken : trail.is_closed new.trail ≡ true → Rose (tells.faults (area_of old)) (tells.faults (area_of new))
     pub still : trail.is_closed new.trail ≡ false → tells.faults (area_of new) ≡ tells.faults (area_of old)
     pub cut : trail.is_closed new.trail ≡ true → new.cuts ≡ counted 1 old.cuts
     pub uncut : trail.is_closed new.trail ≡ false → new.cuts ≡ old.cuts
+    pub more : old.cuts ≤ new.cuts
+    pub firm : trail.firm_length old.trail ≤ trail.firm_length new.trail
+    pub entries : trail.is_closed new.trail ≡ false → trail.length_of old.trail ≤ trail.length_of new.trail
+    pub length : length_of new ≡ length_at old.cuts (trail.firm_length new.trail) old.kept
 
   -- A crash at any moment of the call leaves the firm entries, or these with those behind them, all of them fit.
   abbrev pub CrashLeaves : Type 0

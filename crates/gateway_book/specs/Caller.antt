@@ -12,6 +12,7 @@ use Rattle.gw_base.specs.declared.history.HistoryAct.{HistoryAct}
 use Rattle.gw_base.specs.declared.history.HistoryEntry.{HistoryEntry}
 use Rattle.gateway_book.specs.Answer.{Decided, Says, Silent, answer_within, decided, failure_answer, node_of}
 use Rattle.gateway_book.specs.Answered.{room_for}
+use Rattle.gateway_book.specs.Calls.{cause_in}
 use Rattle.gateway_book.specs.Preparing.{PreparedValue, Request}
 use Rattle.gateway_book.specs.Recording.{HasRoomFor, IsWithinLimits}
 use Rattle.gateway_book.specs.declared.book.Book.{Book}
@@ -52,7 +53,7 @@ IsFailure datagram NoMemory = ⊥
 module _ {A : Type 0} {tells : Ghosts A} (new : Book A tells) where
   -- an answer with these octets, made now
   abbrev pub receipt_of : List ℕ → Outcome
-  receipt_of octets = Answer (record { reply = octets; front = length_of new.trail; faults = new.cuts })
+  receipt_of octets = Answer (record { reply = octets; cause = cause_in octets; front = length_of new.trail; faults = new.cuts })
 
   -- a receipt tells the length of the history, and how many commits and openings again have failed
   abbrev pub IsCounted : Outcome → Type 0

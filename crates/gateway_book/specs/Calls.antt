@@ -1,6 +1,9 @@
 -- What the calls of a book make of the value that it stands for, and what they answer.
-use Rattle.std.specs.Prelude.{ℕ, ◌+◌, ◌-◌, nat_lt, if◌then◌else◌, length, Result, Ok, Err}
+use Rattle.std.specs.Prelude.{ℕ, ◌+◌, ◌-◌, ◌==◌, ◌||◌, nat_lt, Bool, if◌then◌else◌, List, length, slice_get, Option, Some, None, Result, Ok, Err}
+use Rattle.area_disk.specs.Disk.{last_count}
 use Rattle.entry_codec.specs.Room.{capacity_of, costs_of}
+use Rattle.gtpp_message.specs.Message.{MessageValue, TransferResponse}
+use Rattle.gtpp_message.specs.declared.message_types.TheConstants.{TRANSFER_RESPONSE}
 use Rattle.gw_base.specs.HeldKeys.{promised_octets}
 use Rattle.gw_base.specs.History.{copies_of}
 use Rattle.gw_base.specs.declared.address.Addr.{Addr}
@@ -26,12 +29,26 @@ abbrev pub given_at : BookValue → Addr → PreparedValue → ℕ → Given
 given_at ready from datagram size =
     if ready.is_broken then failure_answer datagram else answer_to (history_of ready) from datagram size
 
--- what the caller is told of an answer: its octets, the length of the history that they rest on, and how many commits
+-- the cause in a reply that is a Data Record Transfer Response: the value of its first element, which stands behind the
+-- six octets of the header and one of the element's type (3GPP TS 32.295, clauses 6.1 and 6.2.4)
+abbrev pub cause_behind : Option ℕ → Option ℕ → Option ℕ
+cause_behind None value = None
+cause_behind (Some kind) value = if kind == TRANSFER_RESPONSE then value else None
+
+abbrev pub cause_in : List ℕ → Option ℕ
+cause_in octets = cause_behind (slice_get octets 1) (slice_get octets 7)
+
+-- the cause of a message that is one
+abbrev pub cause_of : MessageValue → Option ℕ
+cause_of (TransferResponse cause responded) = Some cause
+cause_of _ = None
+
+-- what the caller is told of an answer: its octets and their cause, the length of the history that they rest on, and how many commits
 -- and openings again have failed
 abbrev pub outcome_at : BookValue → Decided → Outcome
 outcome_at after (Silent why) = outcome.Drop why
 outcome_at after (Says octets act) =
-    outcome.Answer (record { reply = octets; front = length (history_of after); faults = after.cuts })
+    outcome.Answer (record { reply = octets; cause = cause_in octets; front = length (history_of after); faults = after.cuts })
 
 -- the book as a call left it, and what the call answered
 pub record Left (A : Type 0) : Type 0 where
@@ -79,11 +96,20 @@ commit_answer after = if after.is_broken then Err (record { faults = after.cuts 
 abbrev pub commit_left : Fortune → BookValue → Left (Result ℕ Broken)
 commit_left f v = let after = after_commit f v in record { value = after; answer = commit_answer after }
 
+-- The length that never falls: how many entries are firm, or from the first commit or opening again that failed on, how
+-- many were firm then.
+abbrev pub length_at : ℕ → ℕ → ℕ → ℕ
+length_at cuts firm kept = if cuts == 0 then firm else kept
+
+-- whether a count is above another; one that stands at its last value counts as above any
+abbrev pub is_above : ℕ → ℕ → Bool
+is_above count other = (count == last_count) || nat_lt other count
+
 -- what has become of an answer that rests on a front of the history, made when so many commits had failed, where so
 -- many have failed now and so many entries are firm
 abbrev pub settled_by : ℕ → ℕ → ℕ → ℕ → Settled
 settled_by cuts firm front faults =
-    if nat_lt faults cuts then settled.Lost cuts else (if nat_lt firm front then settled.NotYet firm else settled.Firm)
+    if is_above cuts faults then settled.Lost cuts else (if nat_lt firm front then settled.NotYet firm else settled.Firm)
 
 abbrev pub settled_of : BookValue → ℕ → ℕ → Settled
 settled_of v front faults = settled_by v.cuts (length v.firm) front faults

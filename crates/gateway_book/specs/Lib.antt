@@ -26,8 +26,10 @@ pub mod Recording
 pub mod Sides
 pub mod States
 pub mod Told
+pub mod Turning
 pub mod Up
 pub mod Value
+pub mod Windows
 -- Laws of these, with their proofs.
 pub mod AnswerLaws
 pub mod EachAnswer

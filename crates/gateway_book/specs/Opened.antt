@@ -8,7 +8,7 @@ use Rattle.cgf_journal.specs.Fit.{IsUnfitTo}
 use Rattle.cgf_journal.specs.Format.{StandsFor}
 use Rattle.cgf_journal.specs.Trail.{is_closed}
 use Rattle.gw_base.specs.declared.history.HistoryEntry.{HistoryEntry}
-use Rattle.gateway_book.specs.Book.{area_of, header_of, open_time_of, value_of}
+use Rattle.gateway_book.specs.Book.{IsFirm, area_of, header_of, open_time_of, value_of}
 use Rattle.gateway_book.specs.Fit.{IsFit}
 pub use Rattle.gateway_book.specs.FitHistory.{StandsFitFor}
 use Rattle.gateway_book.specs.Value.{opened}
@@ -31,21 +31,23 @@ abbrev pub IsNotOurs : List ℕ → List ℕ → ℕ → Type 0
 IsNotOurs header octets at = IsUnfitTo IsFit header octets at
 
 module _ {A : Type 0} {tells : Ghosts A} (header : List ℕ) (area : A) where
-  -- The book has the history that the area stands for, and a Start where there was room for one; no commit failed yet.
+  -- The book has the history that the area stands for, which each crash leaves, and a Start where there was room for
+  -- one; no commit failed yet.
   pub record IsOpened (open_time : ℕ) (book : Book A tells) : Type 0 where
     pub found : Told tells → (h : List HistoryEntry) × StandsOrStarts header (tells.octets area) h × (value_of book ≡ opened (tells.size area) h)
     pub whole : is_closed book.trail ≡ false
+    pub firm : IsFirm book
     pub uncut : book.cuts ≡ 0
     pub named : header_of book ≡ header
     pub set : open_time_of book ≡ open_time
     pub faults : tells.faults (area_of book) ≡ tells.faults area
 
 module _ {A : Type 0} (tells : Ghosts A) (area : A) where
-  -- The opening failed, and hands the area back; it isn't ours at the place that `NotOurs` names, and then nothing was
-  -- written.
+  -- The opening failed, and hands the area back; it isn't ours at the place that `NotOurs` names. Nothing was written
+  -- where the device didn't fail.
   pub record IsRefused (header : List ℕ) (fault : BookFault × A) : Type 0 where
     pub place : Told tells → (at : ℕ) → fault.0 ≡ NotOurs at → IsNotOurs header (tells.octets area) at
-    pub unwritten : Told tells → (at : ℕ) → fault.0 ≡ NotOurs at → tells.octets fault.1 ≡ tells.octets area
+    pub unwritten : Told tells → fault.0 ≢ Device → tells.octets fault.1 ≡ tells.octets area
     pub cause : fault.0 ≡ Device → Rose (tells.faults area) (tells.faults fault.1)
     pub still : fault.0 ≢ Device → tells.faults fault.1 ≡ tells.faults area
     pub faults : tells.faults area ≤ tells.faults fault.1

@@ -44,6 +44,7 @@ module _ {A : Type 0} {tells : Ghosts A} (old new : Book A tells) where
     pub value : Told tells → value_of new ≡ value_of old
     pub broken : trail.is_closed new.trail ≡ trail.is_closed old.trail
     pub cuts : new.cuts ≡ old.cuts
+    pub kept : new.kept ≡ old.kept
     pub entries : trail.length_of new.trail ≡ trail.length_of old.trail
     pub firm : trail.firm_length new.trail ≡ trail.firm_length old.trail
     pub free : trail.free_of new.trail ≡ trail.free_of old.trail

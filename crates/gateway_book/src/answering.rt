@@ -3,18 +3,20 @@ ghost use Rattle.std.specs.Option.{option_map};
 ghost use Rattle.gtpp_message.specs.Values.{message_value, packet_value, transfer_value};
 ghost use Rattle.gtpp_message.specs.Writing.{written};
 ghost use Rattle.gw_base.specs.Entry.{act_view};
-ghost use Rattle.gateway_book.specs.Answer.{Replies, act_of, answer_within, asked_by, decided, failure_answer, heard, may_record, node_of, path_given, recorded_as, recording, replying, responding, sending, sending_again, sent, tabled};
+ghost use Rattle.gateway_book.specs.Answer.{Replies, act_of, answer_within, asked_by, decided, failure_answer, failure_reply, heard, may_record, node_of, path_given, recorded_as, recording, replying, responding, sending, sending_again, sent, tabled};
 ghost use Rattle.gateway_book.specs.Cases.{case_value};
 ghost use Rattle.gateway_book.specs.Decisions.{decision_view};
 ghost use Rattle.gateway_book.specs.Limits.{is_in_range, within_limits};
+ghost use Rattle.gateway_book.specs.Preparing.{prepared_of};
 
 use crate::case::Case;
 use crate::decision::Decision;
 use crate::listing::{Scratch, listed};
 use crate::observe::Observe;
+use crate::preparing::Prepared;
 use gtpp_elements::Numbers;
 use gtpp_message::{Message, Packet, Transfer, Why};
-use gw_base::{Absolute, Act, Addr, KeyState, NoMemory, NodeId, cause, nearest_number};
+use gw_base::{Absolute, Act, Addr, KeyState, NoMemory, NodeId, Short, cause, nearest_number};
 use path_mgmt::{GatewayPath, PathAnswer, PathEvent};
 use transfer_cmd::{Ask, decide};
 
@@ -238,6 +240,17 @@ pub(crate) fn failure_answer(case: &Case<'_>) -> Decision<'static>
             responding(*number, cause::SYSTEM_FAILURE, None)
         }
         Case::Drop(_) | Case::OtherVersion { .. } | Case::Path(_) => Decision::Drop(Why::Device),
+    }
+}
+
+/// What goes back where the device fails: to a request the response by the cause system failure, and to anything else
+/// nothing. It takes no memory.
+pub fn failure(request: &Prepared<'_>) -> Option<Short>
+    ensures { result ≡ failure_reply (prepared_of request.now) }
+{
+    match failure_answer(request.case()) {
+        Decision::Reply { reply, act: _ } => Some(reply),
+        Decision::Drop(_) => None,
     }
 }
 

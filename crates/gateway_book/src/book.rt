@@ -1,7 +1,7 @@
 // A gateway's book.
 ghost use Rattle.std.proofs.Props.{props};
 ghost use Rattle.gateway_book.specs.Followed.{IsFollowed};
-ghost use Rattle.gateway_book.specs.Standing.{HasCursor};
+ghost use Rattle.gateway_book.specs.Standing.{HasCursor, IsCounting};
 ghost use Rattle.gateway_book.specs.FollowedProps.{AllFit-prop, Follows-prop};
 
 use crate::cursor::Cursor;
@@ -24,8 +24,11 @@ pub struct Book<A: Area> {
     pub(crate) open_time: u64,
     /// How many commits and openings again have failed.
     pub(crate) cuts: u64,
+    /// How many entries were firm when the first of them failed.
+    pub(crate) kept: u64,
     /// How far its items were told.
     pub(crate) cursor: Cursor,
     ghost followed: { IsFollowed trail index } by { Prim.hlevel (AllFit-prop, Follows-prop, props) },
     ghost stands: { HasCursor trail cursor },
+    ghost counts: { IsCounting trail cuts kept },
 }

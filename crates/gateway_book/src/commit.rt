@@ -1,12 +1,13 @@
 //! How a book's history is made firm, what has become of its answers, and how it ends.
-ghost use Rattle.std.specs.Prelude.{◌≡◌, ◌≤◌, ◌++◌, IsTrue, OnOk, is_err};
+ghost use Rattle.std.specs.Prelude.{◌≡◌, ◌≤◌, ◌++◌, length, IsTrue, OnOk, is_err};
 ghost use Rattle.area_disk.specs.declared.plan.Outcome3.{Outcome3};
+ghost use Rattle.entry_codec.specs.Content.{AreEntries, spelled};
 ghost use Rattle.gate_journal.specs.Format.{fewest_octets, most_octets};
 ghost use Rattle.gate_journal.specs.Moments.{Told};
 ghost use Rattle.cgf_journal.specs.Format.{StandsFor};
 ghost use Rattle.cgf_journal.specs.Trail.{IsAtRest, firm_length, is_closed, left_by_stop, waiting_octets};
 ghost use Rattle.gateway_book.specs.Caller.{IsCommitTold};
-ghost use Rattle.gateway_book.specs.Calls.{commit_left, counts_of, settled_by, settled_of};
+ghost use Rattle.gateway_book.specs.Calls.{commit_left, counts_of, is_above, settled_by, settled_of};
 ghost use Rattle.gateway_book.specs.Comes.{asked_to_commit};
 ghost use Rattle.gateway_book.specs.FitHistory.{AllFit};
 ghost use Rattle.gateway_book.specs.Value.{after_commit};
@@ -15,11 +16,11 @@ use crate::book::Book;
 use crate::observed::an_index_tells_its_history;
 use crate::{Broken, Counts, Settled};
 use area_disk::Area;
-use cgf_journal::Device;
+use cgf_journal::{Device, Waiting};
 use gw_base::scan::held_keys_are_as_many_as_held_copies;
 
 impl<A: Area> Book<A> {
-    ghost use Rattle.gateway_book.specs.Book.{CrashLeaves, HasCause, IsLeft, Stays, area_of, fortune_of, header_of, size_of, value_of};
+    ghost use Rattle.gateway_book.specs.Book.{CrashLeaves, HasCause, IsFirm, IsLeft, Stays, area_of, fortune_of, header_of, size_of, value_of};
     ghost use Rattle.gateway_book.specs.Comes.{AsPlanned, LeavesFit};
     ghost use Rattle.gateway_book.specs.Told.{AreCounted};
 
@@ -31,6 +32,8 @@ impl<A: Area> Book<A> {
         ensures left { Told A.Area → IsLeft self.old self.new (commit_left (fortune_of self.old self.new)
             (value_of self.old)) result }
         ensures broken { is_closed self.new.trail ≡ is_err result }
+        // The history is firm then, as each crash leaves it.
+        ensures firm { OnOk result (IsFirm self.new) }
         // A crash at any moment of the call leaves the firm entries, or these with those behind them.
         ensures any_moment { CrashLeaves self.old self.new }
         ensures stays { Stays self.old self.new }
@@ -41,8 +44,9 @@ impl<A: Area> Book<A> {
     {
         match self.firm_up() {
             Ok(()) => {
-                // The clause of `waiting` says that where no entry waits, all are firm.
+                // The clauses of these two say that where no entry waits, all are firm, and what a crash leaves.
                 let _waiting = self.trail.waiting();
+                let _broken = self.is_broken();
                 Ok(self.trail.firm())
             }
             Err(Device) => Err(Broken { faults: self.cuts }),
@@ -69,17 +73,27 @@ impl<A: Area> Book<A> {
         self.make_firm()
     }
 
+    /// The entries behind the firm ones as octets, one after the other, and how many octets spell the firm ones. Those
+    /// of a broken book are torn. It takes no memory.
+    pub fn waiting(&self) -> Waiting<'_>
+        ensures entries { AreEntries result.octets.now (value_of self.now).rest }
+        ensures counted { length result.octets.now ≡ waiting_octets self.now.trail }
+        ensures at { Told A.Area → result.at ≡ length (spelled (value_of self.now).firm) }
+    {
+        self.trail.waiting()
+    }
+
     /// What has become of an answer with this front, given when so many commits and openings again had failed: both
     /// numbers are those of its `Receipt`, or of the mark that was made.
     ///
-    /// The count of those that failed stands still at 2^64 - 1: an answer that was given at that count is never told to
-    /// be lost.
+    /// The count of those that failed stands still at 2^64 - 1, which counts as above any: from then on each answer is
+    /// told to be lost.
     pub fn settled(&self, front: u64, faults: u64) -> Settled
         ensures told { Told A.Area → result ≡ settled_of (value_of self.now) front faults }
         ensures counted { result ≡ settled_by self.now.cuts (firm_length self.now.trail) front faults }
     {
         let firm = self.trail.firm();
-        if self.cuts > faults {
+        if is_above(self.cuts, faults) {
             return Settled::Lost { faults: self.cuts };
         }
         if firm < front {
@@ -118,15 +132,23 @@ impl<A: Area> Book<A> {
             StandsFor (header_of self) ((A.fate (area_of self)).leaves outcome) (left_by_stop outcome self.trail) }
         ensures leaves { LeavesFit self }
     {
-        let _closed = self.trail.is_closed();
+        let _broken = self.is_broken();
         let Book {
             trail,
             index: _,
             scratch: _,
             open_time: _,
             cuts: _,
+            kept: _,
             cursor: _,
         } = self;
         trail.into_area()
     }
+}
+
+// Whether a count is above another. One that stands at its last value counts as above any.
+fn is_above(count: u64, other: u64) -> bool
+    ensures { result ≡ is_above count other }
+{
+    count == u64::MAX || count > other
 }

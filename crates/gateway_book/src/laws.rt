@@ -1,6 +1,6 @@
 //! Laws of the definitions that the book's calls cite. Each stands on a function that does nothing.
 
-ghost use Rattle.std.specs.Prelude.{◌≡◌, ◌≢◌, ◌≤◌, [], ◌∷◌, ◌++◌, ℕ, IsTrue, Bool, true, false, ◌&&◌, if◌then◌else◌, List, Option, None, Result, length};
+ghost use Rattle.std.specs.Prelude.{◌≡◌, ◌≢◌, ◌≤◌, [], ◌∷◌, ◌++◌, ℕ, IsTrue, Bool, true, false, ◌&&◌, if◌then◌else◌, List, Option, Some, None, Result, length};
 ghost use Rattle.area_disk.specs.Armed.{Armed, ReadsRun};
 ghost use Rattle.area_disk.specs.Course.{IsTied};
 ghost use Rattle.area_disk.specs.declared.plan.Outcome3.{Outcome3};
@@ -9,7 +9,8 @@ ghost use Rattle.gate_journal.specs.Format.{Starts, header};
 ghost use Rattle.cgf_journal.specs.Trail.{stop_stands};
 ghost use Rattle.gate_journal.specs.Moments.{Kept, Told};
 ghost use Rattle.gate_journal.specs.Planned.{is_new};
-ghost use Rattle.gtpp_message.specs.Message.{Cancel, Release, TransferResponse, TransferValue};
+ghost use Rattle.gtpp_message.specs.Message.{Cancel, MessageValue, Release, TransferResponse, TransferValue};
+ghost use Rattle.gtpp_message.specs.Writing.{written};
 ghost use Rattle.gw_base.specs.History.{is_close_due, last_moment};
 ghost use Rattle.gw_base.specs.Known.{known_nodes};
 ghost use Rattle.gw_base.specs.Observed.{Observed, observed};
@@ -22,23 +23,26 @@ ghost use Rattle.gw_base.specs.declared.history.HistoryAct.TheVariants.{Close, S
 ghost use Rattle.gw_base.specs.declared.history.HistoryEntry.{HistoryEntry};
 ghost use Rattle.gw_base.specs.declared.history.PacketKey.{PacketKey};
 ghost use Rattle.gw_base.specs.declared.key_state.KeyState.TheVariants.{Fresh};
-ghost use Rattle.gateway_book.specs.Answer.{Replies, answer_by, answer_within};
-ghost use Rattle.gateway_book.specs.Answered.{answer_to, entry_by, room_for};
-ghost use Rattle.gateway_book.specs.Book.{IsLeft, Stays, area_of, fortune_of, value_of};
-ghost use Rattle.gateway_book.specs.Calls.{closed, commit_left, given_at, taken, ticked};
+ghost use Rattle.gateway_book.specs.Answer.{Replies, answer_by, answer_within, decided};
+ghost use Rattle.gateway_book.specs.Answered.{act_decided, answer_to, entry_by, room_for};
+ghost use Rattle.gateway_book.specs.Book.{HasCause, IsLeft, Stays, area_of, fortune_of, value_of};
+ghost use Rattle.gateway_book.specs.Calls.{cause_in, cause_of, closed, commit_left, given_at, taken, ticked};
 ghost use Rattle.gateway_book.specs.Comes.{AsPlanned, LeavesFit, asked_to_commit, asked_to_ready, plan_of};
 ghost use Rattle.gateway_book.specs.Filed.{along, filed, filed_by};
-ghost use Rattle.gateway_book.specs.Fit.{IsFit, latest_moment};
+ghost use Rattle.gateway_book.specs.Fit.{IsFit, is_act_fit, latest_moment};
 ghost use Rattle.gateway_book.specs.FitHistory.{AllFit};
 ghost use Rattle.gateway_book.specs.Items.{items_by, items_of};
 ghost use Rattle.gateway_book.specs.Limits.{most_nodes};
+ghost use Rattle.gateway_book.specs.Marks.{close_mark, tick_mark};
 ghost use Rattle.gateway_book.specs.Once.{times_filed};
 ghost use Rattle.gateway_book.specs.Opened.{IsNotOurs, IsOpened, StandsFitFor};
 ghost use Rattle.gateway_book.specs.Preparing.{IsWhole, PreparedValue, Request, prepared_of};
 ghost use Rattle.gateway_book.specs.Read.{IsUnchanged};
 ghost use Rattle.gateway_book.specs.Recording.{Accepts, HasRoomFor, IfRecords, IsWithinLimits, is_without_resources, tells_a_fault};
+ghost use Rattle.gateway_book.specs.Turning.{IsTurn, act_in, added_to};
 ghost use Rattle.gateway_book.specs.Up.{HasLeft, HoldsHistory, IsCut, IsUp, commit_sequel_of, fortune_by, ready_sequel_of};
-ghost use Rattle.gateway_book.specs.Value.{BookValue};
+ghost use Rattle.gateway_book.specs.Value.{BookValue, history_of, readied};
+ghost use Rattle.gateway_book.specs.Windows.{AgreeWhereMeant, narrowed};
 ghost use Rattle.gateway_book.specs.declared.book.Book.{Book};
 ghost use Rattle.gateway_book.specs.declared.outcome.Broken.{Broken};
 ghost use Rattle.gateway_book.specs.declared.outcome.Marked.{Marked};
@@ -171,6 +175,50 @@ pub fn a_gateway_goes_as_armed<A: Area>()
         IsLeft old new (closed (fortune_of old new) now who (value_of old)) result → Stays old new →
         AsPlanned old new (asked_to_ready (value_of old)) → let sequel = ready_sequel_of armed at_last v in
         HasLeft header sequel (closed (fortune_by at_last sequel) now who v) new result }
+{}
+
+/// What each call of a book does, as its own clauses say it, is a turn of a value that many use: what it owes then, and
+/// which entries it added behind which. A call that had no memory left the book ready.
+pub fn a_turn_owes<A: Area>()
+    ensures ready { (old new : Book A A.Area) (session : Option ℕ) → Stays old new → HasCause old new →
+        (Told A.Area → value_of new ≡ readied (fortune_of old new) (value_of old)) → IsTurn old new session [] }
+    ensures commit { (old new : Book A A.Area) (result : Result ℕ Broken) (session : Option ℕ) →
+        Stays old new → HasCause old new →
+        (Told A.Area → IsLeft old new (commit_left (fortune_of old new) (value_of old)) result) →
+        IsTurn old new session [] }
+    ensures take { (old new : Book A A.Area) (result : Outcome) (from : Addr) (datagram : PreparedValue)
+        (size now : ℕ) (who : Caller) → Stays old new → HasCause old new → (Told A.Area →
+        IsLeft old new (taken (fortune_of old new) from datagram size now who (value_of old)) result) →
+        let ready = readied (fortune_of old new) (value_of old) in IsTurn old new (Some who.session)
+        (added_to ready now who (act_decided (decided (given_at ready from datagram size)))) }
+    ensures tick { (old new : Book A A.Area) (result : Marked) (open_time size now : ℕ) (who : Caller) →
+        Stays old new → HasCause old new → (Told A.Area →
+        IsLeft old new (ticked (fortune_of old new) open_time size now who (value_of old)) result) →
+        let ready = readied (fortune_of old new) (value_of old) in IsTurn old new (Some who.session)
+        (added_to ready now who (act_in ready (tick_mark open_time now (history_of ready) size))) }
+    ensures close { (old new : Book A A.Area) (result : Marked) (now : ℕ) (who : Caller) →
+        Stays old new → HasCause old new → (Told A.Area →
+        IsLeft old new (closed (fortune_of old new) now who (value_of old)) result) →
+        let ready = readied (fortune_of old new) (value_of old) in IsTurn old new (Some who.session)
+        (added_to ready now who (act_in ready (close_mark (history_of ready)))) }
+    ensures items { (old new : Book A A.Area) (session : Option ℕ) → IsUnchanged old new →
+        A.faults (area_of old) ≤ A.faults (area_of new) → IsTurn old new session [] }
+{}
+
+/// An answer asks the state of such numbers alone as one on the wire may mean. So of the numbers more than 32,768 below
+/// the greatest one it is enough to know whether they are held, for answers and for which acts are fit.
+pub fn a_window_is_enough()
+    ensures meant { (o p : Observed) (from : Addr) (datagram : PreparedValue) (room : HistoryAct → Bool) →
+        AgreeWhereMeant o p → answer_within o from datagram room ≡ answer_within p from datagram room }
+    ensures answers { (o : Observed) (from : Addr) (datagram : PreparedValue) (room : HistoryAct → Bool) →
+        answer_within (narrowed o) from datagram room ≡ answer_within o from datagram room }
+    ensures fits { (of : NodeId → Observed) (act : HistoryAct) →
+        is_act_fit (λ node. narrowed (of node)) act ≡ is_act_fit of act }
+{}
+
+/// The cause in a reply is that of its message, where that is a Data Record Transfer Response.
+pub fn a_reply_has_its_cause()
+    ensures { (number : ℕ) (message : MessageValue) → cause_in (written number message) ≡ cause_of message }
 {}
 
 /// No read fails of a gateway that is up, and it is up as before after its items are read.

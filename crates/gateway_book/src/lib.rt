@@ -51,7 +51,9 @@ mod told;
 mod totals;
 mod wire_marks;
 
+pub use answering::failure;
 pub use book::Book;
+pub use cgf_journal::Waiting;
 pub use costs::costs_of;
 pub use filing::{FiledRecord, filed};
 pub use outcome::{BookFault, Broken, ItemsFault, Marked, Outcome, Receipt, Settled, Setup};

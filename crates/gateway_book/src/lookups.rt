@@ -50,11 +50,14 @@ impl Index {
 
 impl<A: Area> Book<A> {
     ghost use Rattle.gateway_book.specs.Book.{value_of};
+    ghost use Rattle.gateway_book.specs.Comes.{LeavesFit};
 
     /// Whether the last commit or opening again failed, so that the next call that changes the book first opens its
     /// journal again.
     pub fn is_broken(&self) -> bool
-        ensures { result ≡ (value_of self.now).is_broken }
+        ensures broken { result ≡ (value_of self.now).is_broken }
+        // What a crash leaves between two calls.
+        ensures leaves { LeavesFit self.now }
     {
         self.trail.is_closed()
     }

@@ -3,7 +3,6 @@ ghost use Rattle.std.specs.Prelude.{◌≡◌, ◌≢◌, ◌≤◌, ◌+◌, On
 ghost use Rattle.gate_journal.specs.Format.{longest_batch};
 ghost use Rattle.gate_journal.specs.Moments.{Told};
 ghost use Rattle.entry_codec.specs.Spelling.{entry_length};
-ghost use Rattle.cgf_journal.specs.Outcomes.{FirmStays};
 ghost use Rattle.cgf_journal.specs.Trail.{has_room_of, is_closed, waiting_octets};
 ghost use Rattle.gw_base.specs.Entry.{act_view, entry_view};
 ghost use Rattle.gw_base.specs.History.{is_close_due};
@@ -15,7 +14,7 @@ ghost use Rattle.gateway_book.specs.Comes.{asked_to_ready};
 ghost use Rattle.gateway_book.specs.Fit.{IsFit};
 ghost use Rattle.gateway_book.specs.Followed.{all_entries};
 ghost use Rattle.gateway_book.specs.Index.{MayCome};
-ghost use Rattle.gateway_book.specs.Marking.{IsMark, IsQuiet, with_entry};
+ghost use Rattle.gateway_book.specs.Marking.{IsMark, IsQuiet, OnlyAdds, with_entry};
 ghost use Rattle.gateway_book.specs.Marks.{close_mark, made_if, tick_mark};
 ghost use Rattle.gateway_book.specs.Value.{history_of, most_for_one, readied};
 
@@ -72,7 +71,7 @@ impl<A: Area> Book<A> {
         ensures stays { Stays self.old self.new }
         ensures cause { HasCause self.old self.new }
         // Over every area, also one that tells nothing.
-        ensures told { IsMarkTold self.new result }
+        ensures told { IsMarkTold self.new result × (result ≢ Marked.NoRoom) }
         ensures planned { AsPlanned self.old self.new (asked_to_ready (value_of self.old)) }
     {
         match self.ready() {
@@ -112,9 +111,9 @@ impl<A: Area> Book<A> {
             (marked_at (value_of self.old) now who (tick_mark (open_time_of self.old) now
             (history_of (value_of self.old)) (size_of self.old))) result }
         ensures no_memory { Told A.Area → result ≡ Marked.NoMemory → value_of self.new ≡ value_of self.old }
-        ensures firm { FirmStays self.old.trail self.new.trail }
+        ensures adds { OnlyAdds self.old self.new }
         ensures stays { Stays self.old self.new }
-        ensures quiet { IsQuiet self.old self.new result }
+        ensures quiet { IsQuiet self.new result }
     {
         if !self.is_tick_due(now) {
             return Marked::NotDue;
@@ -129,15 +128,20 @@ impl<A: Area> Book<A> {
         ensures left { Told A.Area → result ≢ Marked.NoMemory → IsLeft self.old self.new
             (marked_at (value_of self.old) now who (close_mark (history_of (value_of self.old)))) result }
         ensures no_memory { Told A.Area → result ≡ Marked.NoMemory → value_of self.new ≡ value_of self.old }
-        ensures firm { FirmStays self.old.trail self.new.trail }
+        ensures adds { OnlyAdds self.old self.new }
         ensures stays { Stays self.old self.new }
-        ensures quiet { IsQuiet self.old self.new result }
+        ensures quiet { IsQuiet self.new result }
+        ensures has_room { result ≢ Marked.NoRoom }
     {
         a_due_close_has_room();
         if !self.is_close_due() {
             return Marked::NotDue;
         }
-        self.mark(Act::Close, now, who)
+        match self.mark(Act::Close, now, who) {
+            // That can't be where the area tells what it holds.
+            Marked::NoRoom => Marked::NotDue,
+            marked => marked,
+        }
     }
 
     // Records a mark of a book that is ready, where there is room for it.
@@ -150,9 +154,9 @@ impl<A: Area> Book<A> {
             (room_for (all_entries self.old.trail) (size_of self.old) (act_view act.entry)) (act_view act.entry)))
             result }
         ensures no_memory { Told A.Area → result ≡ Marked.NoMemory → value_of self.new ≡ value_of self.old }
-        ensures firm { FirmStays self.old.trail self.new.trail }
+        ensures adds { OnlyAdds self.old self.new }
         ensures stays { Stays self.old self.new }
-        ensures quiet { IsQuiet self.old self.new result }
+        ensures quiet { IsQuiet self.new result }
     {
         let moment = self.moment_after(now);
         let entry = Entry {
@@ -181,9 +185,8 @@ impl<A: Area> Book<A> {
         requires fit { Told A.Area → IsFit (size_of self.old) (all_entries self.old.trail) (entry_view entry.now) }
         ensures ok { OnOk result (value_of self.new ≡ with_entry (value_of self.old) (entry_view entry.now)) }
         ensures err { OnErr result (value_of self.new ≡ value_of self.old) }
-        ensures firm { FirmStays self.old.trail self.new.trail }
+        ensures adds { OnlyAdds self.old self.new }
         ensures stays { Stays self.old self.new }
-        ensures uncut { self.new.cuts ≡ self.old.cuts }
     {
         let (trail, index) = (&mut self.trail, &mut self.index);
         record(trail, index, entry)

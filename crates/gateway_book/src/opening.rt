@@ -1,5 +1,5 @@
 //! How a book is opened.
-ghost use Rattle.std.specs.Prelude.{◌≡◌, ◌≤◌, ℕ, IsTrue, false, [], List, IfErr, IfOk, OnOk, OnErr};
+ghost use Rattle.std.specs.Prelude.{◌≡◌, ◌≤◌, ℕ, IsTrue, false, [], List, IfErr, IfOk};
 ghost use Rattle.gate_journal.specs.Format.{Starts, fewest_octets, header, most_octets};
 ghost use Rattle.gate_journal.specs.Moments.{Told};
 ghost use Rattle.cgf_journal.specs.Trail.{area_of as trail_area, firm_entries, is_closed, waiting, waiting_octets};
@@ -11,7 +11,7 @@ ghost use Rattle.gateway_book.specs.Judging.{IsJudging};
 ghost use Rattle.gateway_book.specs.OpenPlan.{OpensAsPlanned, is_memory};
 ghost use Rattle.gateway_book.specs.Opened.{FindsHistory, IsMadeAnew, IsNotOurs, IsOpened, IsRefused, OnArea, RefusesForeign, StandsFitFor};
 
-use crate::adding::record;
+use crate::adding::append;
 use crate::book::Book;
 use crate::cursor::Cursor;
 use crate::judge::FitJudge;
@@ -20,7 +20,7 @@ use crate::observed::an_index_tells_its_history;
 use crate::{BookFault, Setup};
 use area_disk::Area;
 use cgf_journal::{OpenFault, Trail};
-use gw_base::{Act, Caller, Entry, NoMemory};
+use gw_base::{Act, Caller, Entry};
 use std::alloc::Global;
 
 /// The caller of an entry that no session made.
@@ -30,15 +30,13 @@ const NO_CALLER: Caller = Caller {
 };
 
 impl<A: Area> Book<A> {
-    ghost use Rattle.gateway_book.specs.Book.{area_of};
-
     /// Opens a gateway's history on an area, for its address, and adds a Start where there is room for one, which isn't
     /// firm yet. It makes one sync and reads; an area whose making began, or whose octet 0 is 0, is made anew with four
     /// calls of the device more, and has no entry. The area has from 100 to 268,435,456 octets.
     ///
     /// It refuses an area that stands for no history of fit entries with `NotOurs` and the place that shows it: the
     /// first octet of the header that differs, or the first open gate whose batch isn't whole or holds an entry that
-    /// isn't fit; nothing was written then. It hands the area back where it fails.
+    /// isn't fit. It hands the area back where it fails; after `NotOurs` and `NoMemory` nothing was written.
     pub fn open(alloc: Global, area: A, setup: Setup) -> Result<Book<A>, (BookFault, A)>
         requires long { fewest_octets ≤ A.size area }
         requires short { A.size area ≤ most_octets }
@@ -64,7 +62,10 @@ impl<A: Area> Book<A> {
             return Err((BookFault::NoMemory, area));
         };
         match Trail::open_judged(alloc, area, setup.address, 0, &mut judge) {
-            Ok(trail) => Book::begin(alloc, trail, judge, scratch, setup.open_time),
+            Ok(trail) => {
+                let book = Book::begin(alloc, trail, judge, scratch, setup.open_time);
+                Ok(book)
+            }
             Err((fault, area)) => Err((fault_of(fault), area)),
         }
     }
@@ -76,7 +77,7 @@ impl<A: Area> Book<A> {
         judge: FitJudge,
         scratch: Scratch,
         open_time: u64,
-    ) -> Result<Book<A>, (BookFault, A)>
+    ) -> Book<A>
         requires short { A.size (trail_area trail) ≤ most_octets }
         requires ready { is_closed trail ≡ false }
         requires none { waiting trail ≡ [] }
@@ -84,8 +85,7 @@ impl<A: Area> Book<A> {
         requires fit { Told A.Area → AllFit (A.size (trail_area trail)) (firm_entries trail) }
         requires follows { Told A.Area → IsJudging judge (firm_entries trail) }
 
-        ensures ok { IfOk result (IsBegun trail open_time) }
-        ensures err { IfErr result (λ fault. fault ≡ (BookFault.NoMemory, trail_area trail)) }
+        ensures { IsBegun trail open_time result }
     {
         let FitJudge {
             mut index,
@@ -98,20 +98,20 @@ impl<A: Area> Book<A> {
             scratch,
             open_time,
             cuts: 0,
+            kept: 0,
             cursor: Cursor::new(alloc),
         };
-        match book.start() {
-            Ok(()) => Ok(book),
-            Err(NoMemory) => Err((BookFault::NoMemory, book.into_area())),
-        }
+        book.start();
+        // Its clause says what a crash leaves.
+        let _broken = book.is_broken();
+        book
     }
 
     // Adds a Start where there is room for one.
-    fn start(&mut self) -> Result<(), NoMemory>
+    fn start(&mut self)
         requires ready { is_closed self.old.trail ≡ false }
         requires emptied { waiting_octets self.old.trail ≡ 0 }
-        ensures ok { OnOk result (IsStarted self.old self.new) }
-        ensures err { OnErr result (area_of self.new ≡ area_of self.old) }
+        ensures { IsStarted self.old self.new }
     {
         an_index_tells_its_history();
         let entry = Entry {
@@ -119,10 +119,10 @@ impl<A: Area> Book<A> {
             caller: NO_CALLER,
             act: Act::Start,
         };
-        if self.trail.room(&entry) {
-            record(&mut self.trail, &mut self.index, &entry)?;
+        if !self.trail.room(&entry) {
+            return;
         }
-        Ok(())
+        append(&mut self.trail, &mut self.index, &entry);
     }
 }
 

@@ -21,7 +21,7 @@ pub enum BookFault {
         /// whole or holds an entry that isn't fit.
         at: u64,
     },
-    /// There was no memory. An area that is to be made anew may have been made so by then.
+    /// There was no memory, and nothing was written.
     NoMemory,
 }
 
@@ -41,6 +41,8 @@ pub enum Outcome {
 pub struct Receipt {
     /// The octets of the message that goes back to the sender.
     pub reply: Short,
+    /// Its cause, where that is a Data Record Transfer Response.
+    pub cause: Option<u8>,
     /// The length of the history after the answer, which the firm part has to reach first.
     pub front: u64,
     /// How many commits and openings again had failed by then.

@@ -1,9 +1,11 @@
 // What comes before a datagram is answered or a mark is made.
 ghost use Rattle.std.specs.Prelude.{◌≡◌, ◌≢◌, ◌≤◌, ◌+◌, IsTrue, true, false, if◌then◌else◌, OnOk, is_err};
+ghost use Rattle.area_disk.specs.Disk.{counted};
 ghost use Rattle.area_disk.specs.declared.plan.Outcome3.TheVariants.{New};
 ghost use Rattle.gate_journal.specs.Moments.{Told};
 ghost use Rattle.gate_journal.specs.Format.{longest_batch};
 ghost use Rattle.cgf_journal.specs.Trail.{is_closed, stop_stands, torn_stands, waiting_octets};
+ghost use Rattle.gateway_book.specs.Calls.{length_at};
 ghost use Rattle.gateway_book.specs.Comes.{asked_to_ready};
 ghost use Rattle.gateway_book.specs.Value.{committed, faulted, is_batch_full, most_for_one, readied, reopened};
 
@@ -14,6 +16,21 @@ use gate_journal::LONGEST_BATCH;
 
 /// The octets of a batch that the answer to one more datagram may need.
 const MOST_FOR_ONE: usize = 270_000;
+
+/// The length that never falls, by the count of failures, the firm length, and that of the first failure.
+pub(crate) fn length_at(cuts: u64, firm: u64, kept: u64) -> u64
+    ensures { result ≡ length_at cuts firm kept }
+{
+    if cuts == 0 { firm } else { kept }
+}
+
+/// A count after one more. It stands still at its last value.
+fn one_more(count: u64) -> u64
+    ensures value { result ≡ counted 1 count }
+    ensures more { count ≤ result }
+{
+    count.saturating_add(1)
+}
 
 impl<A: Area> Book<A> {
     ghost use Rattle.gateway_book.specs.Book.{CrashLeaves, HasCause, Stays, fortune_of, reopening_of, value_of};
@@ -40,7 +57,8 @@ impl<A: Area> Book<A> {
                 Ok(())
             }
             Err(fault) => {
-                self.cuts = self.cuts.saturating_add(1);
+                self.kept = length_at(self.cuts, self.trail.firm(), self.kept);
+                self.cuts = one_more(self.cuts);
                 Err(fault)
             }
         }
@@ -67,7 +85,8 @@ impl<A: Area> Book<A> {
                 Ok(())
             }
             Err(fault) => {
-                self.cuts = self.cuts.saturating_add(1);
+                self.kept = length_at(self.cuts, self.trail.firm(), self.kept);
+                self.cuts = one_more(self.cuts);
                 Err(fault)
             }
         }

@@ -2,18 +2,18 @@
 ghost use Rattle.std.specs.Prelude.{◌≡◌, ◌≢◌, ◌≤◌, ◌+◌, Option, false};
 ghost use Rattle.gate_journal.specs.Format.{longest_batch};
 ghost use Rattle.gate_journal.specs.Moments.{Told};
-ghost use Rattle.cgf_journal.specs.Outcomes.{FirmStays};
 ghost use Rattle.cgf_journal.specs.Trail.{is_closed, waiting_octets};
 ghost use Rattle.gw_base.specs.History.{moment_after};
 ghost use Rattle.gw_base.specs.declared.history.HistoryAct.{HistoryAct};
 ghost use Rattle.gateway_book.specs.Answer.{Says, decided, failure_answer};
 ghost use Rattle.gateway_book.specs.Answered.{answer_to};
 ghost use Rattle.gateway_book.specs.Caller.{HasStorage, IsAnswered, IsCounted, IsFailure, IsTold, receipt_of};
-ghost use Rattle.gateway_book.specs.Calls.{left_by, outcome_at, taken};
+ghost use Rattle.gateway_book.specs.Calls.{cause_in, left_by, outcome_at, taken};
 ghost use Rattle.gateway_book.specs.Cases.{case_value};
 ghost use Rattle.gateway_book.specs.Comes.{asked_to_ready};
 ghost use Rattle.gateway_book.specs.Fit.{latest_moment};
 ghost use Rattle.gateway_book.specs.Followed.{all_entries};
+ghost use Rattle.gateway_book.specs.Marking.{OnlyAdds};
 ghost use Rattle.gateway_book.specs.Preparing.{IsShort, IsWhole, prepared_of};
 ghost use Rattle.gateway_book.specs.Taking.{IsDone, IsDoneBy};
 ghost use Rattle.gateway_book.specs.Value.{history_of, most_for_one, readied};
@@ -29,7 +29,18 @@ use crate::observed::an_index_tells_its_history;
 use crate::preparing::Prepared;
 use crate::{Outcome, Receipt};
 use area_disk::Area;
+use gtpp_message::message_types::TRANSFER_RESPONSE;
 use gw_base::{Addr, Caller, Moment, Short};
+
+/// The cause in a reply that is a Data Record Transfer Response.
+fn cause_in(reply: &[u8]) -> Option<u8>
+    ensures { result ≡ cause_in reply.now }
+{
+    match reply.get(1) {
+        Some(&TRANSFER_RESPONSE) => reply.get(7).copied(),
+        _ => None,
+    }
+}
 
 impl<A: Area> Book<A> {
     ghost use Rattle.gateway_book.specs.Book.{CrashLeaves, HasCause, IsLeft, Stays, fortune_of, size_of, value_of};
@@ -74,8 +85,10 @@ impl<A: Area> Book<A> {
             result ≡ outcome_at (value_of self.now) (Says reply act) }
         ensures said { result ≡ receipt_of self.now reply }
     {
+        let cause = cause_in(reply.octets());
         Outcome::Answer(Receipt {
             reply,
+            cause,
             front: self.trail.length(),
             faults: self.cuts,
         })
@@ -113,9 +126,8 @@ impl<A: Area> Book<A> {
         ensures moved { Told A.Area → IsDone result (value_of self.old) (value_of self.new) now who
             (decided (answer_to (history_of (value_of self.old)) from (case_value case.now) (size_of self.old))) }
         ensures decided { IsDoneBy from (case_value case.now) result }
-        ensures firm { FirmStays self.old.trail self.new.trail }
+        ensures adds { OnlyAdds self.old self.new }
         ensures stays { Stays self.old self.new }
-        ensures uncut { self.new.cuts ≡ self.old.cuts }
     {
         an_index_tells_its_history();
         let moment = self.moment_after(now);
@@ -133,7 +145,7 @@ impl<A: Area> Book<A> {
             (answer_to (history_of (value_of self.old)) from (case_value case.now) (size_of self.old)))) result }
         ensures no_memory { Told A.Area → result ≡ NoMemory → value_of self.new ≡ value_of self.old }
         ensures told { IsAnswered from (case_value case.now) result × IsCounted self.new result }
-        ensures quiet { FirmStays self.old.trail self.new.trail × (self.new.cuts ≡ self.old.cuts) }
+        ensures adds { OnlyAdds self.old self.new }
         ensures stays { Stays self.old self.new }
     {
         match self.add_answer(from, case, now, who) {

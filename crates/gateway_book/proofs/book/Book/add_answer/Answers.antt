@@ -1,4 +1,4 @@
-use Rattle.std.proofs.Common.{false, List, sym, ap, ◌∙◌}
+use Rattle.std.proofs.Common.{false, List, refl, sym, ap, ◌∙◌}
 use Rattle.gw_base.specs.declared.history.HistoryEntry.{HistoryEntry}
 use Rattle.gateway_book.specs.Adding.{room_in}
 use Rattle.gateway_book.specs.Answer.{answer_within, decided, node_of}
@@ -9,8 +9,8 @@ use Rattle.gateway_book.specs.Followed.{all_entries}
 use Rattle.gateway_book.specs.Index.{observed_by}
 use Rattle.gateway_book.specs.Value.{history_of}
 use Rattle.gateway_book.proofs.CallerLemmas.{done_by}
-use Rattle.gateway_book.proofs.StandingLemmas.{stands_firm}
-use Rattle.gateway_book.proofs.TakingLemmas.{answered_is, done_is, firm_stays, followed_answer, history_is, recorded_is_fit, said_is_some}
+use Rattle.gateway_book.proofs.StandingLemmas.{counting_firm, stands_firm}
+use Rattle.gateway_book.proofs.TakingLemmas.{answered_is, done_is, firm_stays, followed_answer, history_is, none_is_lost, recorded_is_fit, said_is_some}
 use Rattle.gateway_book.proofs.book.Book.add_answer.Goals as goal
 
 pub invariant_of-self : goal.invariant_of-self
@@ -28,6 +28,8 @@ invariant_of-self g c =
           recorded_is_fit (size_of book) (all_entries book.trail) from datagram c.args.now moment c.args.who decision reply a (book.followed.fit told) c.requires.prepared.0 c.moment_after-moment.ensures.within at
           (c.answer.ensures.told told (said_is_some c.answer.result reply is) ∙ answered_is book.trail book.index from datagram c.args.now moment c.args.who c.requires.open at seen) says);
       stands = stands_firm book.trail c.answer.new.trail book.cursor book.stands
+          (firm_stays book.trail c.answer.new.trail book.index c.answer.new.index moment c.args.who decision c.answer.result c.answer.ensures.silent c.answer.ensures.said c.answer.ensures.no_memory);
+      counts = counting_firm book.trail c.answer.new.trail book.cuts book.kept book.counts
           (firm_stays book.trail c.answer.new.trail book.index c.answer.new.index moment c.args.who decision c.answer.result c.answer.ensures.silent c.answer.ensures.said c.answer.ensures.no_memory);
     }
 
@@ -47,12 +49,17 @@ returns-clause-moved g c = λ told.
     ∙ ap (λ (h : List HistoryEntry). decided (answer_to h from datagram (size_of book))) (sym (history_is book.trail book.cuts c.requires.open)))
     c.answer.ensures.silent c.answer.ensures.said c.answer.ensures.no_memory
 
-pub returns-clause-firm : goal.returns-clause-firm
-returns-clause-firm g c =
+pub returns-clause-adds : goal.returns-clause-adds
+returns-clause-adds g c =
     let book = c.args.self.now in
     let moment = c.moment_after-moment.result in
     let decision = decided (answer_within (observed_by false book.index (node_of c.args.from)) c.args.from (case_value c.args.case.now) (room_in book.trail moment c.args.who)) in
-    firm_stays book.trail c.answer.new.trail book.index c.answer.new.index moment c.args.who decision c.answer.result c.answer.ensures.silent c.answer.ensures.said c.answer.ensures.no_memory
+    record {
+      stays = firm_stays book.trail c.answer.new.trail book.index c.answer.new.index moment c.args.who decision c.answer.result c.answer.ensures.silent c.answer.ensures.said c.answer.ensures.no_memory;
+      entries = none_is_lost book.trail c.answer.new.trail book.index c.answer.new.index moment c.args.who decision c.answer.result c.answer.ensures.silent c.answer.ensures.said c.answer.ensures.no_memory;
+      uncut = refl;
+      kept = refl;
+    }
 
 pub returns-clause-decided : goal.returns-clause-decided
 returns-clause-decided g c =

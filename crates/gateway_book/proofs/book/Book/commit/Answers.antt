@@ -22,3 +22,6 @@ returns-in-Err-clause-left g c = λ told.
       value = moved;
       answer = answer_broken (value_of new) (after_commit (fortune_of c.args.self.now new) (value_of c.args.self.now)) moved (c.firm_up.ensures.closed ∙ ap is_err c.in-Err.is);
     }
+
+pub returns-in-Ok-clause-firm : goal.returns-in-Ok-clause-firm
+returns-in-Ok-clause-firm g c = record { crash = λ told o may. c.is_broken-broken.ensures.leaves.whole told (c.firm_up.ensures.closed ∙ ap is_err c.in-Ok.is) o may }

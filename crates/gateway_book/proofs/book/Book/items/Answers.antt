@@ -1,5 +1,6 @@
+use Rattle.std.proofs.Common.{arith}
 use Rattle.cgf_journal.specs.Trail.{firm_entries}
-use Rattle.gateway_book.proofs.StandingLemmas.{stands_in, stands_read}
+use Rattle.gateway_book.proofs.StandingLemmas.{counting_on, stands_in, stands_read}
 use Rattle.gateway_book.proofs.book.Book.items.Goals as goal
 
 pub invariant_of-self-clause-stands : goal.invariant_of-self-clause-stands
@@ -13,3 +14,9 @@ pub returns-clause-items : goal.returns-clause-items
 returns-clause-items g c = λ told.
     let book = c.args.self.now in
     c.items_from.ensures.items told (firm_entries book.trail) (stands_in book.trail book.cursor book.stands told (book.followed.fit told))
+
+pub invariant_of-self-clause-counts : goal.invariant_of-self-clause-counts
+invariant_of-self-clause-counts g c =
+    let book = c.args.self.now in
+    let now = c.items_from.ensures in
+    counting_on book.trail c.items_from.new.trail book.cuts book.kept book.counts now.cause.later (omega (arith, now.read.kept.firm_length))

@@ -6,9 +6,9 @@ use Rattle.cgf_journal.specs.Trail.{area_of, firm_entries}
 use Rattle.gateway_book.specs.Book.{value_of}
 use Rattle.gateway_book.specs.Followed.{all_entries}
 use Rattle.gateway_book.specs.declared.totals.Totals.{Totals}
-use Rattle.gateway_book.proofs.MarkingLemmas.{followed_put}
 use Rattle.gateway_book.proofs.Openings.{start_added, start_is_fit, start_left_out}
-use Rattle.gateway_book.proofs.StandingLemmas.{stands_put}
+use Rattle.gateway_book.proofs.StandingLemmas.{counting_firm, stands_firm}
+use Rattle.gateway_book.proofs.TakingLemmas.{followed_added}
 use Rattle.gateway_book.proofs.book.Book.start.Goals as goal
 
 pub invariant_of-self : goal.invariant_of-self
@@ -17,24 +17,25 @@ invariant_of-self g c =
     let size = g.A.Area.size (area_of old.trail) in
     let e : HistoryEntry = record { moment = c.totals.result.moment; caller = record { session = 0; serial = 0 }; act = Start } in
     record {
-      followed = followed_put old.trail c.record.new.trail old.index c.record.new.index e c.record.result old.followed c.record.ensures.ok c.record.ensures.err
+      followed = followed_added old.trail c.append.new.trail old.index c.append.new.index e old.followed c.append.ensures
           (λ told.
           start_is_fit size (all_entries old.trail) e (old.followed.fit told)
           (ap (λ (t : Totals). t.moment) (c.totals.ensures ∙ c.an_index_tells_its_history.ensures.totals false old.index (all_entries old.trail) (old.followed.live told))) refl
-          (ap (λ b. has_room (if b then firm_entries old.trail else all_entries old.trail) e size) (sym c.requires.ready) ∙ sym (c.room.ensures.room told) ∙ c.if-room.true));
-      stands = stands_put old.trail c.record.new.trail old.cursor old.stands old.index c.record.new.index e c.record.result c.record.ensures.ok c.record.ensures.err;
+          (ap (λ b. has_room (if b then firm_entries old.trail else all_entries old.trail) e size) (sym c.requires.ready) ∙ sym (c.room.ensures.room told) ∙ c.if-not-room.false));
+      stands = stands_firm old.trail c.append.new.trail old.cursor old.stands c.append.ensures.stays;
+      counts = counting_firm old.trail c.append.new.trail old.cuts old.kept old.counts c.append.ensures.stays;
     }
 
-pub record-requires-clause-may_come : goal.record-requires-clause-may_come
-record-requires-clause-may_come g c κs within = record { place = refl; low = tt }
+pub append-requires-clause-ready : goal.append-requires-clause-ready
+append-requires-clause-ready g c κs within = record { may_come = record { place = refl; low = tt }; places = tt }
 
-pub record-requires-clause-free : goal.record-requires-clause-free
-record-requires-clause-free g c κs within = omega (arith, c.requires.emptied)
+pub append-requires-clause-free : goal.append-requires-clause-free
+append-requires-clause-free g c κs within = omega (arith, c.requires.emptied)
 
-pub returns-in_ok-record-clause-ok : goal.returns-in_ok-record-clause-ok
-returns-in_ok-record-clause-ok g c =
+pub returns : goal.returns
+returns g c =
     let old = c.args.self.now in
-    let added = c.in_ok-record.ensures.ok in
+    let added = c.append.ensures in
     let size = g.A.Area.size (area_of old.trail) in
     let e : HistoryEntry = record { moment = c.totals.result.moment; caller = record { session = 0; serial = 0 }; act = Start } in
     record {
@@ -42,7 +43,7 @@ returns-in_ok-record-clause-ok g c =
           (λ i. record { firm = added.stays.listed i; rest = added.pushed.waits i; cuts = old.cuts; is_broken = added.stays.opened i })
           ∙ start_added (value_of old) size e c.requires.ready
           (ap (λ (t : Totals). t.moment) (c.totals.ensures ∙ c.an_index_tells_its_history.ensures.totals false old.index (all_entries old.trail) (old.followed.live told))) refl refl
-          (ap (λ b. has_room (if b then firm_entries old.trail else all_entries old.trail) e size) (sym c.requires.ready) ∙ sym (c.room.ensures.room told) ∙ c.if-room.true);
+          (ap (λ b. has_room (if b then firm_entries old.trail else all_entries old.trail) e size) (sym c.requires.ready) ∙ sym (c.room.ensures.room told) ∙ c.if-not-room.false);
       whole = added.stays.opened ∙ c.requires.ready;
       uncut = refl;
       area = added.stays.area;
@@ -50,8 +51,8 @@ returns-in_ok-record-clause-ok g c =
       set = refl;
     }
 
-pub returns-else-room-clause-ok : goal.returns-else-room-clause-ok
-returns-else-room-clause-ok g c =
+pub returns-then-not-room : goal.returns-then-not-room
+returns-then-not-room g c =
     let old = c.args.self.now in
     let size = g.A.Area.size (area_of old.trail) in
     let e : HistoryEntry = record { moment = c.totals.result.moment; caller = record { session = 0; serial = 0 }; act = Start } in
@@ -59,7 +60,7 @@ returns-else-room-clause-ok g c =
       value = λ told.
           start_left_out (value_of old) size e c.requires.ready
           (ap (λ (t : Totals). t.moment) (c.totals.ensures ∙ c.an_index_tells_its_history.ensures.totals false old.index (all_entries old.trail) (old.followed.live told))) refl refl
-          (ap (λ b. has_room (if b then firm_entries old.trail else all_entries old.trail) e size) (sym c.requires.ready) ∙ sym (c.room.ensures.room told) ∙ c.if-room.false);
+          (ap (λ b. has_room (if b then firm_entries old.trail else all_entries old.trail) e size) (sym c.requires.ready) ∙ sym (c.room.ensures.room told) ∙ c.if-not-room.true);
       whole = c.requires.ready;
       uncut = refl;
       area = refl;

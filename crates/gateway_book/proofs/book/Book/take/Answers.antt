@@ -14,6 +14,7 @@ use Rattle.gateway_book.specs.Followed.{all_entries}
 use Rattle.gateway_book.specs.Preparing.{PreparedValue, prepared_of}
 use Rattle.gateway_book.specs.Value.{history_of, readied, recorded_if}
 use Rattle.gateway_book.proofs.CallerLemmas.{has_storage, running_is_sound}
+use Rattle.gateway_book.proofs.Causing.{cause_then}
 use Rattle.gateway_book.proofs.TakingLemmas.{history_is}
 use Rattle.gateway_book.proofs.book.Book.take.Goals as goal
 
@@ -21,7 +22,7 @@ pub returns-in-Ok-clause-told : goal.returns-in-Ok-clause-told
 returns-in-Ok-clause-told g c =
     let answered = subst (λ (d : PreparedValue). IsAnswered c.args.from d c.respond.result) c.case-case.ensures.value c.respond.ensures.told.0 in
     let goes : is_closed c.respond.new.self.trail ≡ false =
-    c.respond.ensures.quiet.0.opened ∙ c.ready.ensures.closed ∙ ap is_err c.in-Ok.is in
+    c.respond.ensures.adds.stays.opened ∙ c.ready.ensures.closed ∙ ap is_err c.in-Ok.is in
     record {
       answered = λ runs. answered;
       failed = λ broken. absurd (false≢true (sym goes ∙ broken));
@@ -48,7 +49,7 @@ returns-in-Ok-clause-storage g c = λ told runs.
     let from = c.args.from in
     let v = value_of ready in
     let size = size_of ready in
-    let opened = c.respond.ensures.quiet.0.opened in
+    let opened = c.respond.ensures.adds.stays.opened in
     let goes : is_closed ready.trail ≡ false = c.ready.ensures.closed ∙ ap is_err c.in-Ok.is in
     let same : v ≡ readied (record { fails = is_closed ready.trail; reopening = reopening_of (is_closed ready.trail) (torn_stands old.trail) }) (value_of old) = c.ready.ensures.moved told in
     let is_history : history_of v ≡ all_entries ready.trail = history_is ready.trail ready.cuts goes in
@@ -64,3 +65,6 @@ returns-in-Ok-clause-storage g c = λ told runs.
 
 pub returns-in-Err-clause-storage : goal.returns-in-Err-clause-storage
 returns-in-Err-clause-storage g c = λ told runs. absurd (false≢true (sym runs ∙ (c.ready.ensures.closed ∙ ap is_err c.in-Err.is)))
+
+pub returns-in-Ok-clause-cause : goal.returns-in-Ok-clause-cause
+returns-in-Ok-clause-cause g c = cause_then c.args.self.now c.ready.new.self c.respond.new.self c.ready.ensures.cause c.respond.ensures.adds

@@ -9,4 +9,4 @@ returns c = λ setup place g m stands runs.
     let at = rw c.in-Some-Up.is at c.in-Some-Up.field-0-is in
     let up = subst (λ (x : Option Site). SiteStands setup place g m x)
     (c.in-Some-Up.is ∙ ap (λ (y : Site). Some y) at) stands.site in
-    c.is_broken.ensures ∙ ap (λ (v : BookValue). v.is_broken) up.up.value
+    c.is_broken.ensures.broken ∙ ap (λ (v : BookValue). v.is_broken) up.up.value

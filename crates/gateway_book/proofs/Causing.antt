@@ -1,0 +1,88 @@
+-- What a call of a book counts.
+use Rattle.std.proofs.Common.{◌≡◌, ℕ, zero, suc, ◌≤◌, ◌==◌, Bool, true, false, if◌then◌else◌, List, length, refl, sym, ap, subst, ◌∙◌, arith}
+use Rattle.std.proofs.Math.Dec.{eqb-suc-zero}
+use Rattle.std.proofs.lemmas.Bool.{false≢true}
+use Rattle.area_disk.specs.Disk.{Rose, counted}
+use Rattle.area_disk.specs.declared.area.Area.{Ghosts}
+use Rattle.cgf_journal.specs.Outcomes.{TornDropped, TornStand}
+use Rattle.cgf_journal.specs.Trail.{firm_length, is_closed, length_of}
+use Rattle.cgf_journal.specs.declared.trail.Trail.{Trail}
+use Rattle.gateway_book.specs.Book.{HasCause, area_of}
+use Rattle.gateway_book.specs.Calls.{length_at}
+use Rattle.gateway_book.specs.Marking.{OnlyAdds}
+use Rattle.gateway_book.specs.declared.book.Book.{Book}
+
+pub not_zero : (n : ℕ) → 1 ≤ n → (n == 0) ≡ false
+not_zero zero le = absurd (omega (arith, le))
+not_zero (suc n) le = eqb-suc-zero n
+
+-- after a failure the length is the one that is kept
+kept_on : (cuts now firm kept after : ℕ) → now ≡ counted 1 cuts → after ≡ length_at cuts firm kept → length_at now firm after ≡ length_at cuts firm kept
+kept_on cuts now firm kept after cut at = ap (λ b. if b then firm else after) (not_zero now (omega (arith, cut))) ∙ at
+
+-- the torn entries stand again or are dropped
+pub not_fewer : {A : Type 0} {tells : Ghosts A} (old new : Trail A tells) (stands : Bool) → (stands ≡ true → TornStand old new) → (stands ≡ false → TornDropped old new) → firm_length old ≤ firm_length new
+not_fewer old new true stand dropped = let count = (stand refl).count in omega (arith, count)
+not_fewer old new false stand dropped = let count = (dropped refl).count in omega (arith, count)
+
+-- a closed trail has its firm entries alone
+pub closed_length : {A : Type 0} {tells : Ghosts A} (t : Trail A tells) → is_closed t ≡ true → length_of t ≡ firm_length t
+closed_length t closed = rw closed
+
+module _ {A : Type 0} {tells : Ghosts A} where
+  -- a book that goes on
+  pub cause_done : (old new : Book A tells) → is_closed new.trail ≡ false → tells.faults (area_of new) ≡ tells.faults (area_of old) → firm_length old.trail ≤ firm_length new.trail → length_of old.trail ≤ length_of new.trail
+      → new.cuts ≡ old.cuts → new.kept ≡ old.kept → HasCause old new
+  cause_done old new goes faults firm entries cuts kept = record {
+    later = omega (arith, faults);
+    broken = λ closed. absurd (false≢true (sym goes ∙ closed));
+    still = λ is. faults;
+    cut = λ closed. absurd (false≢true (sym goes ∙ closed));
+    uncut = λ is. cuts;
+    more = omega (arith, cuts);
+    firm = firm;
+    entries = λ is. entries;
+    length = λ i. length_at (cuts i) (firm_length new.trail) (kept i);
+  }
+
+  -- a commit or an opening again that failed
+  pub cause_failed : (old new : Book A tells) → is_closed new.trail ≡ true → tells.faults (area_of old) ≤ tells.faults (area_of new) → Rose (tells.faults (area_of old)) (tells.faults (area_of new))
+      → firm_length new.trail ≡ firm_length old.trail → old.cuts ≤ new.cuts → new.cuts ≡ counted 1 old.cuts → new.kept ≡ length_at old.cuts (firm_length new.trail) old.kept → HasCause old new
+  cause_failed old new closed later rose count more cut kept = record {
+    later = later;
+    broken = λ is. rose;
+    still = λ goes. absurd (false≢true (sym goes ∙ closed));
+    cut = λ is. cut;
+    uncut = λ goes. absurd (false≢true (sym goes ∙ closed));
+    more = more;
+    firm = omega (arith, count);
+    entries = λ goes. absurd (false≢true (sym goes ∙ closed));
+    length = kept_on old.cuts new.cuts (firm_length new.trail) old.kept new.kept cut kept;
+  }
+
+  -- the device wasn't asked
+  pub cause_same : (book : Book A tells) → is_closed book.trail ≡ false → HasCause book book
+  cause_same book goes = cause_done book book goes refl (omega arith) (omega arith) refl refl
+
+  -- then entries were added
+  pub cause_then : (old mid new : Book A tells) → HasCause old mid → OnlyAdds mid new → HasCause old new
+  cause_then old mid new cause adds =
+      let faults : tells.faults (area_of new) ≡ tells.faults (area_of mid) = ap (λ (a : A). tells.faults a) adds.stays.area in
+      let opened = adds.stays.opened in
+      let count = adds.stays.count in
+      let later = cause.later in
+      let more = cause.more in
+      let firm = cause.firm in
+      let entries = adds.entries in
+      let cuts = adds.uncut in
+      record {
+        later = omega (arith, later, faults);
+        broken = λ closed. let rose = cause.broken (sym opened ∙ closed) in omega (arith, rose, faults);
+        still = λ goes. faults ∙ cause.still (sym opened ∙ goes);
+        cut = λ closed. cuts ∙ cause.cut (sym opened ∙ closed);
+        uncut = λ goes. cuts ∙ cause.uncut (sym opened ∙ goes);
+        more = omega (arith, more, cuts);
+        firm = omega (arith, firm, count);
+        entries = λ goes. let before = cause.entries (sym opened ∙ goes) in omega (arith, before, entries);
+        length = (λ i. length_at (cuts i) (count i) (adds.kept i)) ∙ cause.length ∙ (λ i. length_at old.cuts (sym count i) old.kept);
+      }

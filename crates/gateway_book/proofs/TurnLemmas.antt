@@ -1,0 +1,343 @@
+-- What each call of a book owes and adds as a turn.
+use Rattle.std.proofs.Common.{◌≡◌, ◌⊎◌, ⊎_elim, inl, inr, ℕ, zero, suc, ◌<◌, ◌≤◌, ◌==◌, ◌&&◌, Bool, true, false, if◌then◌else◌, List, [], ◌∷◌, ◌++◌, length, take, Option, Some, None, refl, sym, ap, subst, ◌∙◌, append_assoc, arith}
+use Rattle.std.proofs.lemmas.Bool.{and_parts, false≢true}
+use Rattle.std.specs.Prelude.{All}
+use Rattle.std.proofs.lemmas.List.{append-nil}
+use Rattle.std.proofs.lemmas.List.Elements.{All-cons}
+use Rattle.area_disk.specs.Disk.{counted}
+use Rattle.area_disk.specs.declared.area.Area.{Ghosts}
+use Rattle.gate_journal.specs.Moments.{Told}
+use Rattle.cgf_journal.specs.Trail.{firm_length, is_closed, torn_stands}
+use Rattle.gw_base.specs.Facts.{joined}
+use Rattle.gw_base.specs.Faults.{Stood}
+use Rattle.gw_base.specs.Owes.{AreAligned, AreBy, Begins, base}
+use Rattle.gw_base.specs.declared.history.Caller.{Caller}
+use Rattle.gw_base.specs.declared.history.HistoryAct.{HistoryAct}
+use Rattle.gw_base.specs.declared.history.HistoryEntry.{HistoryEntry}
+use Rattle.gw_base.specs.declared.address.Addr.{Addr}
+use Rattle.gateway_book.specs.Answer.{decided, failure_answer}
+use Rattle.gateway_book.specs.Answered.{act_decided, answer_to, entry_by}
+use Rattle.gateway_book.specs.Book.{HasCause, Stays, area_of, fortune_of, reopening_of, value_of}
+use Rattle.gateway_book.specs.Calls.{Left, given_at, length_at, marked_at, marked_if_ready, taken}
+use Rattle.gateway_book.specs.Marks.{Mark, Makes, NoRoom, NotDue}
+use Rattle.gateway_book.specs.Preparing.{PreparedValue, Drop, OtherVersion, Path, Refused as Refuses, Request}
+use Rattle.gateway_book.specs.Read.{IsUnchanged}
+use Rattle.gateway_book.specs.Turning.{IsTurn, act_in, act_marked, added_to, drops_of, facts_of, is_gone, tells_lists}
+use Rattle.gateway_book.specs.Value.{BookValue, Fortune, Gone, Refused, Reopening, Whole, after_commit, faulted, history_of, is_batch_full, readied, recorded_if, reopened, torn_of, tried, tried_with}
+use Rattle.gateway_book.specs.declared.book.Book.{Book}
+use Rattle.gateway_book.specs.declared.outcome.Marked.{Marked}
+use Rattle.gateway_book.specs.declared.outcome.Marked.TheVariants as marked
+use Rattle.gateway_book.proofs.Causing.{not_zero}
+
+-- ---- lists
+
+begins_same : (h : List HistoryEntry) → Begins h h
+begins_same h = ([], sym (append-nil h))
+
+begins_more : (h g : List HistoryEntry) → Begins h (h ++ g)
+begins_more h g = (g, refl)
+
+aligned_front : (n : ℕ) (ys rest : List HistoryEntry) → AreAligned (take n (ys ++ rest)) ys
+aligned_front zero ys rest = inl (ys, refl)
+aligned_front (suc n) [] rest = inr (take (suc n) rest, refl)
+aligned_front (suc n) (y ∷ ys) rest = ⊎_elim
+    (λ (is : Begins (take n (ys ++ rest)) ys). inl (is.0, ap (λ (h : List HistoryEntry). y ∷ h) is.1))
+    (λ (is : Begins ys (take n (ys ++ rest))). inr (is.0, ap (λ (h : List HistoryEntry). y ∷ h) is.1))
+    (aligned_front n ys rest)
+
+take_begins : (n : ℕ) (h : List HistoryEntry) → Begins (take n h) h
+take_begins zero h = (h, refl)
+take_begins (suc n) [] = ([], refl)
+take_begins (suc n) (x ∷ h) = let rest = take_begins n h in (rest.0, ap (λ (g : List HistoryEntry). x ∷ g) rest.1)
+
+aligned_take : (n : ℕ) (xs ys : List HistoryEntry) → AreAligned xs ys → AreAligned (take n xs) ys
+aligned_take n xs ys aligned = ⊎_elim
+    (λ (is : Begins xs ys). let front = take_begins n xs in
+    inl (front.0 ++ is.0, is.1 ∙ ap (λ (h : List HistoryEntry). h ++ is.0) front.1 ∙ append_assoc (take n xs) front.0 is.0))
+    (λ (is : Begins ys xs). subst (λ (h : List HistoryEntry). AreAligned (take n h) ys) (sym is.1) (aligned_front n ys is.0))
+    aligned
+
+-- ---- values
+
+-- From one value to another: what is firm stays, where the book goes on its history does, and the entries added stand
+-- behind all others, or behind the firm ones where the torn ones are dropped.
+pub record Moves (f : Fortune) (v w : BookValue) (added : List HistoryEntry) : Type 0 where
+  pub firm : Begins v.firm w.firm
+  pub list : w.is_broken ≡ false → Begins (history_of v) (history_of w)
+  pub aligned : AreAligned w.firm (history_of v)
+  pub stands : w.firm ++ w.rest ≡ (if drops_of f v then v.firm else v.firm ++ v.rest) ++ added
+
+-- the history of a value by whether it is broken
+history_by : (v : BookValue) (b : Bool) → v.is_broken ≡ b → history_of v ≡ (if b then v.firm else v.firm ++ v.rest)
+history_by v b is = ap (λ c. if c then v.firm else v.firm ++ v.rest) is
+
+-- the firm part is a front of it
+firm_aligned : (v : BookValue) → AreAligned v.firm (history_of v)
+firm_aligned v = by_state v.is_broken
+  where
+    by_state : (b : Bool) → AreAligned v.firm (if b then v.firm else v.firm ++ v.rest)
+    by_state true = inl (begins_same v.firm)
+    by_state false = inl (begins_more v.firm v.rest)
+
+drops_by : (f : Fortune) (v : BookValue) (b gone : Bool) → v.is_broken ≡ b → is_gone f.reopening ≡ gone → drops_of f v ≡ b && gone
+drops_by f v b gone is found = λ i. is i && found i
+
+module _ (f : Fortune) (v : BookValue) where
+  -- the value stays, but that the book may be broken then
+  stayed : (w : BookValue) → drops_of f v ≡ false → w.firm ≡ v.firm → w.rest ≡ v.rest → (w.is_broken ≡ false → v.is_broken ≡ false) → Moves f v w []
+  stayed w kept firm rest goes = record {
+    firm = subst (λ (h : List HistoryEntry). Begins v.firm h) (sym firm) (begins_same v.firm);
+    list = λ runs. subst (λ (h : List HistoryEntry). Begins (history_of v) h)
+        (history_by v false (goes runs) ∙ (λ i. sym firm i ++ sym rest i) ∙ sym (history_by w false runs)) (begins_same (history_of v));
+    aligned = subst (λ (h : List HistoryEntry). AreAligned h (history_of v)) (sym firm) (firm_aligned v);
+    stands = (λ i. firm i ++ rest i) ∙ sym (append-nil (v.firm ++ v.rest)) ∙ ap (λ c. (if c then v.firm else v.firm ++ v.rest) ++ []) (sym kept);
+  }
+
+  -- all is firm
+  firm_all : drops_of f v ≡ false → Moves f v (record v { firm = v.firm ++ v.rest; rest = []; is_broken = false }) []
+  firm_all kept = record {
+    firm = begins_more v.firm v.rest;
+    list = λ runs. subst (λ (h : List HistoryEntry). Begins (history_of v) h) (sym (append-nil (v.firm ++ v.rest))) (by_state v.is_broken refl);
+    aligned = aligned_by v.is_broken refl;
+    stands = ap (λ c. (if c then v.firm else v.firm ++ v.rest) ++ []) (sym kept);
+  }
+    where
+      by_state : (b : Bool) → v.is_broken ≡ b → Begins (history_of v) (v.firm ++ v.rest)
+      by_state true is = subst (λ (h : List HistoryEntry). Begins h (v.firm ++ v.rest)) (sym (history_by v true is)) (begins_more v.firm v.rest)
+      by_state false is = subst (λ (h : List HistoryEntry). Begins h (v.firm ++ v.rest)) (sym (history_by v false is)) (begins_same (v.firm ++ v.rest))
+
+      aligned_by : (b : Bool) → v.is_broken ≡ b → AreAligned (v.firm ++ v.rest) (history_of v)
+      aligned_by true is = subst (λ (h : List HistoryEntry). AreAligned (v.firm ++ v.rest) h) (sym (history_by v true is)) (inr (begins_more v.firm v.rest))
+      aligned_by false is = subst (λ (h : List HistoryEntry). AreAligned (v.firm ++ v.rest) h) (sym (history_by v false is)) (inl (begins_same (v.firm ++ v.rest)))
+
+  -- the torn entries are dropped
+  dropped_torn : v.is_broken ≡ true → drops_of f v ≡ true → Moves f v (record v { rest = []; is_broken = false }) []
+  dropped_torn broken drops = record {
+    firm = begins_same v.firm;
+    list = λ runs. subst (λ (h : List HistoryEntry). Begins h (v.firm ++ [])) (sym (history_by v true broken)) (begins_more v.firm []);
+    aligned = subst (λ (h : List HistoryEntry). AreAligned v.firm h) (sym (history_by v true broken)) (inl (begins_same v.firm));
+    stands = ap (λ c. (if c then v.firm else v.firm ++ v.rest) ++ []) (sym drops);
+  }
+
+  kept_open : v.is_broken ≡ false → drops_of f v ≡ false
+  kept_open goes = drops_by f v false (is_gone f.reopening) goes refl
+
+  -- an opening again
+  opened_again : v.is_broken ≡ true → (r : Reopening) → f.reopening ≡ r → Moves f v (reopened v r) []
+  opened_again broken Whole is = firm_all (drops_by f v true false broken (ap is_gone is))
+  opened_again broken Gone is = dropped_torn broken (drops_by f v true true broken (ap is_gone is))
+  opened_again broken Refused is = stayed (faulted v) (drops_by f v true false broken (ap is_gone is)) refl refl (λ goes. absurd (false≢true (sym goes)))
+
+  -- a commit that the device is asked for
+  asked_again : v.is_broken ≡ false → (b : Bool) → f.fails ≡ b → Moves f v (tried f v) []
+  asked_again goes true is = subst (λ (w : BookValue). Moves f v w []) (sym (ap (λ b. let w : BookValue = if b then faulted v else record v { firm = v.firm ++ v.rest; rest = [] } in w) is))
+      (stayed (faulted v) (kept_open goes) refl refl (λ runs. absurd (false≢true (sym runs))))
+  asked_again goes false is = subst (λ (w : BookValue). Moves f v w []) (sym (ap (λ b. let w : BookValue = if b then faulted v else record v { firm = v.firm ++ v.rest; rest = [] } in w) is))
+      (subst (λ (b : Bool). Moves f v (record v { firm = v.firm ++ v.rest; rest = []; is_broken = b }) []) (sym goes) (firm_all (kept_open goes)))
+
+  left_so : v.is_broken ≡ false → Moves f v v []
+  left_so goes = stayed v (kept_open goes) refl refl (λ runs. goes)
+
+  asked_with : v.is_broken ≡ false → (rest : List HistoryEntry) → Moves f v (tried_with f v rest) []
+  asked_with goes [] = left_so goes
+  asked_with goes (e ∷ rest) = asked_again goes f.fails refl
+
+  moves_by : (b : Bool) → v.is_broken ≡ b → (w : BookValue) → (v.is_broken ≡ false → Moves f v w []) → Moves f v (if b then reopened v f.reopening else w) []
+  moves_by true is w other = opened_again is f.reopening refl
+  moves_by false is w other = other is
+
+  if_full : v.is_broken ≡ false → (b : Bool) → Moves f v (if b then tried f v else v) []
+  if_full goes true = asked_again goes f.fails refl
+  if_full goes false = left_so goes
+
+  moves_readied : Moves f v (readied f v) []
+  moves_readied = moves_by v.is_broken refl (if is_batch_full v then tried f v else v) (λ goes. if_full goes (is_batch_full v))
+
+  moves_committed : Moves f v (after_commit f v) []
+  moves_committed = moves_by v.is_broken refl (tried_with f v v.rest) (λ goes. asked_with goes v.rest)
+
+  -- then an act is recorded, by a book that goes on
+  recorded_then : (m : BookValue) (now : ℕ) (who : Caller) (act : Option HistoryAct) → ((a : HistoryAct) → act ≡ Some a → m.is_broken ≡ false) → Moves f v m [] → Moves f v (recorded_if m now who act) (added_to m now who act)
+  recorded_then m now who None goes moves = moves
+  recorded_then m now who (Some a) goes moves =
+      let e = entry_by (history_of m) now who a in
+      let runs = goes a refl in
+      let behind : m.firm ++ (m.rest ++ e ∷ []) ≡ (m.firm ++ m.rest) ++ e ∷ [] = sym (append_assoc m.firm m.rest (e ∷ [])) in
+      let begun = moves.list runs in
+      let w : BookValue = recorded_if m now who (Some a) in
+      record {
+        firm = moves.firm;
+        list = λ is. subst (λ (h : List HistoryEntry). Begins (history_of v) h) (sym (history_by w false runs ∙ behind))
+            (begun.0 ++ e ∷ [], ap (λ (h : List HistoryEntry). h ++ e ∷ []) (sym (history_by m false runs) ∙ begun.1) ∙ append_assoc (history_of v) begun.0 (e ∷ []));
+        aligned = moves.aligned;
+        stands = behind ∙ ap (λ (h : List HistoryEntry). h ++ e ∷ []) (moves.stands ∙ append-nil (if drops_of f v then v.firm else v.firm ++ v.rest));
+      }
+
+-- ---- facts
+
+joined_is : (v : BookValue) → history_of v ++ torn_of v ≡ v.firm ++ v.rest
+joined_is v = by_state v.is_broken
+  where
+    by_state : (b : Bool) → (if b then v.firm else v.firm ++ v.rest) ++ (if b then v.rest else []) ≡ v.firm ++ v.rest
+    by_state true = refl
+    by_state false = append-nil (v.firm ++ v.rest)
+
+-- the length that never falls, as more entries are firm
+still_at : (cuts a b kept : ℕ) → 0 < cuts → length_at cuts a kept ≡ length_at cuts b kept
+still_at cuts a b kept some =
+    let is = not_zero cuts (omega (arith, some)) in ap (λ t. if t then a else kept) is ∙ sym (ap (λ t. if t then b else kept) is)
+
+grown_at : (cuts a b kept : ℕ) → a ≤ b → length_at cuts a kept ≤ length_at cuts b kept
+grown_at cuts a b kept le = by_test (cuts == 0)
+  where
+    by_test : (t : Bool) → (if t then a else kept) ≤ (if t then b else kept)
+    by_test true = le
+    by_test false = omega arith
+
+is_told : {A : Type 0} (tells : Ghosts A) → tells_lists tells ≡ true → Told tells
+is_told tells told = and_parts tells.tells_octets tells.tells_crash told
+
+module _ {A : Type 0} {tells : Ghosts A} where
+  joined_at : (book : Book A tells) → joined (facts_of book) ≡ (value_of book).firm ++ (value_of book).rest
+  joined_at book = joined_is (value_of book)
+
+  base_at : (book : Book A tells) (drops : Bool) → base drops (facts_of book) ≡ (if drops then (value_of book).firm else (value_of book).firm ++ (value_of book).rest)
+  base_at book true = refl
+  base_at book false = joined_at book
+
+  module _ (old new : Book A tells) (cause : HasCause old new) where
+    -- a count that stood tells that the book goes on
+    goes_on : Stood old.cuts new.cuts → is_closed new.trail ≡ false
+    goes_on stood = by_state (is_closed new.trail) refl
+      where
+        by_state : (b : Bool) → is_closed new.trail ≡ b → is_closed new.trail ≡ false
+        by_state true closed = let cut = cause.cut closed in let same = stood.0 in let below = stood.1 in absurd (omega (arith, cut, same, below))
+        by_state false goes = goes
+
+    uncut : Stood (tells.faults (area_of old)) (tells.faults (area_of new)) → new.cuts ≡ old.cuts
+    uncut stood = by_state (is_closed new.trail) refl
+      where
+        by_state : (b : Bool) → is_closed new.trail ≡ b → new.cuts ≡ old.cuts
+        by_state true closed = let rose = cause.broken closed in let same = stood.0 in let below = stood.1 in absurd (omega (arith, rose, same, below))
+        by_state false goes = cause.uncut goes
+
+    pub turn_of : (session : Option ℕ) (added : List HistoryEntry) → Stays old new → (Told tells → Moves (fortune_of old new) (value_of old) (value_of new) added) → AreBy session added → IsTurn old new session added
+    turn_of session added stays moves by = record {
+      owes = record {
+        size = stays.size;
+        faults = cause.later;
+        cuts = cause.more;
+        cause = uncut;
+        firm = λ told. (moves (is_told tells told)).firm;
+        list = λ told stood. (moves (is_told tells told)).list (goes_on stood);
+        entries = λ stood. cause.entries (goes_on stood);
+        still = λ some. cause.length ∙ still_at old.cuts (firm_length new.trail) (firm_length old.trail) old.kept some;
+        grows = let grown = grown_at old.cuts (firm_length old.trail) (firm_length new.trail) old.kept cause.firm in let is = cause.length in omega (arith, grown, is);
+        aligned = λ told none. aligned_take (facts_of new).length (value_of new).firm (history_of (value_of old)) (moves (is_told tells told)).aligned;
+      };
+      adds = λ told. record {
+        stands = joined_at new ∙ (moves (is_told tells told)).stands ∙ ap (λ (h : List HistoryEntry). h ++ added) (sym (base_at old (drops_of (fortune_of old new) (value_of old))));
+        owned = by;
+      };
+    }
+
+    moved_to : (w : BookValue) (added : List HistoryEntry) → value_of new ≡ w → Moves (fortune_of old new) (value_of old) w added → Moves (fortune_of old new) (value_of old) (value_of new) added
+    moved_to w added is moves = subst (λ (x : BookValue). Moves (fortune_of old new) (value_of old) x added) (sym is) moves
+
+none_by : (session : ℕ) → All {X = HistoryEntry} (λ (e : HistoryEntry). e.caller.session ≡ session) []
+none_by session = λ k d le. absurd (omega (arith, le))
+
+by_none : (session : Option ℕ) → AreBy session []
+by_none None = refl
+by_none (Some session) = none_by session
+
+by_caller : (m : BookValue) (now : ℕ) (who : Caller) (act : Option HistoryAct) → AreBy (Some who.session) (added_to m now who act)
+by_caller m now who None = none_by who.session
+by_caller m now who (Some a) = All-cons (λ (e : HistoryEntry). e.caller.session ≡ who.session) (entry_by (history_of m) now who a) [] refl (none_by who.session)
+
+failure_has_none : (datagram : PreparedValue) → act_decided (decided (failure_answer datagram)) ≡ None
+failure_has_none (Drop why) = refl
+failure_has_none (OtherVersion number) = refl
+failure_has_none (Refuses cause number) = refl
+failure_has_none (Path event) = refl
+failure_has_none (Request number body) = refl
+
+-- what a book records goes on
+records_open : (m : BookValue) (from : Addr) (datagram : PreparedValue) (size : ℕ) (a : HistoryAct) → act_decided (decided (given_at m from datagram size)) ≡ Some a → m.is_broken ≡ false
+records_open m from datagram size a is = by_state m.is_broken refl
+  where
+    by_state : (b : Bool) → m.is_broken ≡ b → m.is_broken ≡ false
+    by_state true broken = let both : ◌≡◌ {A = Option HistoryAct} None (Some a) = sym (failure_has_none datagram) ∙ ap (λ b. act_decided (decided (if b then failure_answer datagram else answer_to (history_of m) from datagram size))) (sym broken) ∙ is in absurd (cc both)
+    by_state false goes = goes
+
+marked_is : (m : BookValue) (now : ℕ) (who : Caller) (mark : Mark) (b : Bool) → m.is_broken ≡ b
+    → (marked_if_ready m now who mark).value ≡ recorded_if m now who (act_in m mark)
+marked_is m now who mark true is = ap (λ b. (let left : Left Marked = if b then record { value = m; answer = marked.Device } else marked_at m now who mark in left).value) is ∙ ap (λ b. recorded_if m now who (if b then None else act_marked mark)) (sym is)
+marked_is m now who NotDue false is = ap (λ b. (let left : Left Marked = if b then record { value = m; answer = marked.Device } else marked_at m now who NotDue in left).value) is ∙ ap (λ b. recorded_if m now who (if b then None else act_marked NotDue)) (sym is)
+marked_is m now who NoRoom false is = ap (λ b. (let left : Left Marked = if b then record { value = m; answer = marked.Device } else marked_at m now who NoRoom in left).value) is ∙ ap (λ b. recorded_if m now who (if b then None else act_marked NoRoom)) (sym is)
+marked_is m now who (Makes act) false is = ap (λ b. (let left : Left Marked = if b then record { value = m; answer = marked.Device } else marked_at m now who (Makes act) in left).value) is ∙ ap (λ b. recorded_if m now who (if b then None else act_marked (Makes act))) (sym is)
+
+marks_open : (m : BookValue) (mark : Mark) (a : HistoryAct) → act_in m mark ≡ Some a → m.is_broken ≡ false
+marks_open m mark a is = by_state m.is_broken refl
+  where
+    by_state : (b : Bool) → m.is_broken ≡ b → m.is_broken ≡ false
+    by_state true broken = let both : ◌≡◌ {A = Option HistoryAct} None (Some a) = ap (λ b. let act : Option HistoryAct = if b then None else act_marked mark in act) (sym broken) ∙ is in absurd (cc both)
+    by_state false goes = goes
+
+module _ {A : Type 0} {tells : Ghosts A} (old new : Book A tells) (stays : Stays old new) (cause : HasCause old new) where
+  pub readied_turn : (session : Option ℕ) → (Told tells → value_of new ≡ readied (fortune_of old new) (value_of old)) → IsTurn old new session []
+  readied_turn session moved = turn_of old new cause session [] stays (λ told. moved_to old new cause _ [] (moved told) (moves_readied (fortune_of old new) (value_of old))) (by_none session)
+
+  pub committed_turn : (session : Option ℕ) → (Told tells → value_of new ≡ after_commit (fortune_of old new) (value_of old)) → IsTurn old new session []
+  committed_turn session moved = turn_of old new cause session [] stays (λ told. moved_to old new cause _ [] (moved told) (moves_committed (fortune_of old new) (value_of old))) (by_none session)
+
+  pub recorded_turn : (now : ℕ) (who : Caller) (act : Option HistoryAct) → ((a : HistoryAct) → act ≡ Some a → (readied (fortune_of old new) (value_of old)).is_broken ≡ false)
+      → (Told tells → value_of new ≡ recorded_if (readied (fortune_of old new) (value_of old)) now who act)
+      → IsTurn old new (Some who.session) (added_to (readied (fortune_of old new) (value_of old)) now who act)
+  recorded_turn now who act goes moved =
+      let m = readied (fortune_of old new) (value_of old) in
+      turn_of old new cause (Some who.session) (added_to m now who act) stays
+      (λ told. moved_to old new cause _ (added_to m now who act) (moved told) (recorded_then (fortune_of old new) (value_of old) m now who act goes (moves_readied (fortune_of old new) (value_of old))))
+      (by_caller m now who act)
+
+  pub marked_turn : (now : ℕ) (who : Caller) (mark : Mark) → (Told tells → value_of new ≡ (marked_if_ready (readied (fortune_of old new) (value_of old)) now who mark).value)
+      → IsTurn old new (Some who.session) (added_to (readied (fortune_of old new) (value_of old)) now who (act_in (readied (fortune_of old new) (value_of old)) mark))
+  marked_turn now who mark moved =
+      let m = readied (fortune_of old new) (value_of old) in
+      recorded_turn now who (act_in m mark) (λ a is. marks_open m mark a is) (λ told. moved told ∙ marked_is m now who mark m.is_broken refl)
+
+  pub taken_turn : (from : Addr) (datagram : PreparedValue) (size now : ℕ) (who : Caller) → (Told tells → value_of new ≡ (taken (fortune_of old new) from datagram size now who (value_of old)).value)
+      → IsTurn old new (Some who.session) (added_to (readied (fortune_of old new) (value_of old)) now who (act_decided (decided (given_at (readied (fortune_of old new) (value_of old)) from datagram size))))
+  taken_turn from datagram size now who moved =
+      let m = readied (fortune_of old new) (value_of old) in
+      recorded_turn now who (act_decided (decided (given_at m from datagram size))) (λ a is. records_open m from datagram size a is) moved
+
+-- a reading
+pub read_turn : {A : Type 0} {tells : Ghosts A} (old new : Book A tells) (session : Option ℕ) → IsUnchanged old new → tells.faults (area_of old) ≤ tells.faults (area_of new) → IsTurn old new session []
+read_turn {tells = tells} old new session same later = record {
+  owes = record {
+    size = same.stays.size;
+    faults = later;
+    cuts = let cuts = same.cuts in omega (arith, cuts);
+    cause = λ stood. same.cuts;
+    firm = λ told. subst (λ (v : BookValue). Begins (value_of old).firm v.firm) (sym (same.value (is_told tells told))) (begins_same (value_of old).firm);
+    list = λ told stood. subst (λ (v : BookValue). Begins (history_of (value_of old)) (history_of v)) (sym (same.value (is_told tells told))) (begins_same (history_of (value_of old)));
+    entries = λ stood. let count = same.entries in omega (arith, count);
+    still = λ some. same_length;
+    grows = let is = same_length in omega (arith, is);
+    aligned = λ told none. aligned_take (facts_of new).length (value_of new).firm (history_of (value_of old))
+        (subst (λ (v : BookValue). AreAligned v.firm (history_of (value_of old))) (sym (same.value (is_told tells told))) (firm_aligned (value_of old)));
+  };
+  adds = λ told. record {
+    stands = joined_at new ∙ ap (λ (v : BookValue). v.firm ++ v.rest) (same.value (is_told tells told)) ∙ sym (joined_at old) ∙ sym (append-nil (joined (facts_of old)))
+        ∙ ap (λ d. base d (facts_of old) ++ []) (sym (kept_by (is_closed old.trail) refl));
+    owned = by_none session;
+  };
+}
+  where
+    same_length : (facts_of new).length ≡ (facts_of old).length
+    same_length = λ i. length_at (same.cuts i) (same.firm i) (same.kept i)
+
+    kept_by : (b : Bool) → is_closed old.trail ≡ b → drops_of (fortune_of old new) (value_of old) ≡ false
+    kept_by true is = λ i. is i && is_gone (reopening_of ((same.broken ∙ is) i) (torn_stands old.trail))
+    kept_by false is = ap (λ b. b && is_gone (reopening_of (is_closed new.trail) (torn_stands old.trail))) is
