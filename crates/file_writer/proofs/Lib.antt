@@ -15,3 +15,4 @@ pub mod OccupiedLemmas
 pub mod ReadingLemmas
 pub mod FirstFilesLemmas
 pub mod OfStreamsLemmas
+pub mod PuttingLemmas
