@@ -113,19 +113,21 @@ fn one_cdr_file(
     Ok(file)
 }
 
-/// A moment and an offset, and the words behind them.
-fn time_of(words: &str) -> io::Result<(Moment, Offset16, &str)> {
-    let (seconds, words) = first_word(words);
-    let (minutes, words) = first_word(words);
-    let moment = Moment::of(number(seconds, u64::MAX)?).ok_or(bad())?;
-    let minutes = minutes.parse::<i16>().map_err(|_| bad())?;
-    let offset = Offset16::of(minutes).ok_or(bad())?;
-    Ok((moment, offset, words))
+fn moment_of(word: &str) -> io::Result<Moment> {
+    Moment::of(number(word, u64::MAX)?).ok_or(bad())
+}
+
+/// An offset from UTC in minutes.
+fn offset_of(word: &str) -> io::Result<Offset16> {
+    let minutes = word.parse::<i16>().map_err(|_| bad())?;
+    Offset16::of(minutes).ok_or(bad())
 }
 
 pub(crate) fn stamped(rt: &HostRuntime, words: &str) -> io::Result<()> {
     timestamps_by_definition();
-    let (moment, offset, _) = time_of(words)?;
+    let (seconds, minutes) = first_word(words);
+    let moment = moment_of(seconds)?;
+    let offset = offset_of(minutes)?;
     print_octets(rt, &stamp(moment, offset).to_be_bytes())
 }
 
@@ -139,7 +141,10 @@ pub(crate) fn fields(rt: &HostRuntime, words: &str) -> io::Result<()> {
 
 pub(crate) fn file(rt: &HostRuntime, words: &str) -> io::Result<()> {
     one_cdr_by_definition();
-    let (filed, offset, words) = time_of(words)?;
+    let (seconds, words) = first_word(words);
+    let (minutes, words) = first_word(words);
+    let filed = moment_of(seconds)?;
+    let offset = offset_of(minutes)?;
     let (address, record) = first_word(words);
     let address = number(address, 4_294_967_295)? as u32;
     let record = octets(rt.alloc(), record)?;
@@ -254,7 +259,10 @@ fn print_lines(rt: &HostRuntime, text: &[u8]) -> io::Result<()> {
 }
 
 pub(crate) fn long(rt: &HostRuntime, words: &str) -> io::Result<()> {
-    let (filed, offset, words) = time_of(words)?;
+    let (seconds, words) = first_word(words);
+    let (minutes, words) = first_word(words);
+    let filed = moment_of(seconds)?;
+    let offset = offset_of(minutes)?;
     let length = number(words, 65_535)? as usize;
     let kind = CdrKind {
         release: 7,

@@ -134,12 +134,7 @@ fn answer_of_node(rt: &HostRuntime, scene: &mut Scene, form: &str, words: &str) 
 }
 
 /// Prints what a line on the outside in memory, a CDR file or a table of cases is answered.
-fn answer_outside(
-    rt: &HostRuntime,
-    scene: &mut Scene,
-    form: &str,
-    words: &str,
-) -> io::Result<()> {
+fn answer_outside(rt: &HostRuntime, scene: &mut Scene, form: &str, words: &str) -> io::Result<()> {
     match form {
         "source" => outside::source(rt, &mut scene.source, words),
         "pull" => outside::pull(rt, &mut scene.source, words),

@@ -158,7 +158,10 @@ pub(crate) fn hears(rt: &HostRuntime, node: &mut Option<Node>, words: &str) -> i
         None => print!(rt; "no reply")?,
     }
     let (resolved, done) = (number_of(heeded.resolved), number_of(heeded.done));
-    print!(rt; ", dropped {:?}, resolved {resolved:?}, done {done:?}", heeded.drop)
+    print!(rt;
+        ", dropped {:?}, resolved {resolved:?}, done {done:?}",
+        heeded.drop
+    )
 }
 
 pub(crate) fn restart(rt: &HostRuntime, node: &mut Option<Node>) -> io::Result<()> {
@@ -179,7 +182,12 @@ pub(crate) fn packets(rt: &HostRuntime, node: &Option<Node>) -> io::Result<()> {
         return Err(bad());
     };
     print!(rt; "{:?}, ", node.counts())?;
-    print!(rt; "{:?}, {:?}, {}", node.phase(1), node.copy(1, 1), node.last_number(1))
+    print!(rt;
+        "{:?}, {:?}, {}",
+        node.phase(1),
+        node.copy(1, 1),
+        node.last_number(1)
+    )
 }
 
 pub(crate) fn begin_draft(rt: &HostRuntime, draft: &mut Draft, words: &str) -> io::Result<()> {
