@@ -1,6 +1,5 @@
 -- A network that is run line by line, and its report.
 use Rattle.std.proofs.Common.{◌≡◌, ◌∙◌, refl, sym, ap, subst, ℕ, suc, ◌+◌, ◌<◌, ◌≤◌, true, List, [], ◌∷◌, ◌++◌, drop, length, Option, Some, None, slice_get, Result, Ok, Err, append_assoc, append-nil, arith}
-use Rattle.once_core.specs.Once.{Once}
 use Rattle.once_core.specs.StandsOnce.{StandsOnce}
 use Rattle.once_core.specs.declared.event.WorldKind.{WorldKind}
 use Rattle.replay_world.specs.Does.{LineRan}
@@ -131,21 +130,21 @@ run_first lines replay printed stands gateways none = record {
 -- What is handed back.
 
 pub ran_network : (lines : List Line) (played : Option Played) → PlayedOf (replayed lines) played →
-    AreWritten (replayed lines) → EndsByReport lines → Once (replayed lines).world →
-    StandsOnce (files_in (setup_of lines)) (replayed lines).world → HandsBackAt (network_end None) (Some lines) played
-ran_network lines None is written told once places = absurd is
-ran_network lines (Some played) is written told once places =
-    record { stands = is.0; written = written; sealed = is.1 written; told = told; filed = once; places = places }
+    AreWritten (replayed lines) → EndsByReport lines → StandsOnce (files_in (setup_of lines)) (replayed lines).world →
+    HandsBackAt (network_end None) (Some lines) played
+ran_network lines None is written told places = absurd is
+ran_network lines (Some played) is written told places =
+    record { stands = is.0; written = written; sealed = is.1 written; told = told; places = places }
 
 pub replayed_whole : (lines : List Line) (report : Report) → refusal_of_lines lines ≡ None →
     report.printed.items ≡ report_of_lines lines → report.refused ≡ None → PlayedOf (replayed lines) report.played →
-    AreWritten (replayed lines) → EndsByReport lines → Once (replayed lines).world →
-    StandsOnce (files_in (setup_of lines)) (replayed lines).world → IsReplayed lines report
-replayed_whole lines report none printed refused played written told once places = record {
+    AreWritten (replayed lines) → EndsByReport lines → StandsOnce (files_in (setup_of lines)) (replayed lines).world →
+    IsReplayed lines report
+replayed_whole lines report none printed refused played written told places = record {
   printed = printed;
   refused = refused ∙ sym (ap refusal_at_line none);
   played = subst (λ (o : Option WorldRefusal). HandsBackAt (network_end o) (Some lines) report.played) (sym none)
-      (ran_network lines report.played played written told once places);
+      (ran_network lines report.played played written told places);
 }
 
 pub replayed_front : (lines : List Line) (report : Report) (refusal : WorldRefusal) →

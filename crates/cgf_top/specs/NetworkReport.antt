@@ -1,6 +1,5 @@
 -- What `replay`, `sample` and `drill` print, and what a network that was run hands back.
 use Rattle.std.specs.Prelude.{ℕ, ◌≡◌, ◌++◌, List, [], Option, Some, None, Result, Ok, Err}
-use Rattle.once_core.specs.Once.{Once}
 use Rattle.once_core.specs.StandsOnce.{StandsOnce}
 use Rattle.replay_world.specs.Played.{AreAllSealed, HasPlayed}
 use Rattle.replay_world.specs.Report.{refusal_of_lines, replayed, report_of, report_of_lines}
@@ -66,7 +65,6 @@ pub record RanNetwork (lines : List Line) (played : Played) : Type 0 where
   pub written : AreWritten (replayed lines)
   pub sealed : AreAllSealed played.shelves.items
   pub told : EndsByReport lines
-  pub filed : Once (replayed lines).world
   pub places : StandsOnce (files_in (setup_of lines)) (replayed lines).world
 
 -- the lines of the network that a command runs

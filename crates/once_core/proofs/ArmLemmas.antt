@@ -103,7 +103,7 @@ turn_stays k (event.Tick node) =
     node_stays k (node - 1) (λ n. with_entries (tick_entries n.node) n) (due_messages (node - 1)) (slice_get k.nodes (node - 1))
 turn_stays k (event.Deliver message) = delivering_stays k (slice_get k.messages (message - 1))
 turn_stays k (event.Commit gateway) = gateway_stays k (gateway - 1) (committing quiet) (slice_get k.gateways (gateway - 1))
-turn_stays k (event.Cut gateway keep) = gateway_kept_by k (gateway - 1) (cut keep false) (slice_get k.gateways (gateway - 1))
+turn_stays k (event.Cut gateway keep) = gateway_kept_by k (gateway - 1) (cut keep) (slice_get k.gateways (gateway - 1))
 turn_stays k (event.Open gateway) = gateway_kept_by k (gateway - 1) (opened default_rules) (slice_get k.gateways (gateway - 1))
 turn_stays k (event.Halt node) = node_kept_by k (node - 1) (with_entries (Log.Halted ∷ [])) (slice_get k.nodes (node - 1))
 turn_stays k (event.Start node) = node_kept_by k (node - 1) started_again (slice_get k.nodes (node - 1))

@@ -197,10 +197,5 @@ module _ (gateway : ℕ) (scene : Scene) (g : Gateway) (stands : Stands gateway 
     rightly = record { fronts = λ w is. absurd (in_none w is); said = λ w is. absurd (in_none w is); broken = λ e. refl };
   }
 
-  pub cut_plays : (keep : ℕ) (keeps_torn : Bool) → Plays gateway scene (still (cut keep keeps_torn g))
-  cut_plays keep keeps_torn = by_test g.book.is_broken keeps_torn
-    where
-      by_test : (broken torn : Bool) → Plays gateway scene (still (left_with g (if broken then (if torn then g.book.rest else []) else take (keep - length g.book.firm) g.book.rest)))
-      by_test true true = kept_plays (length g.book.rest) g.book.rest (take_all (length g.book.rest) g.book.rest (omega arith))
-      by_test true false = kept_plays 0 [] refl
-      by_test false torn = kept_plays (keep - length g.book.firm) (take (keep - length g.book.firm) g.book.rest) refl
+  pub cut_plays : (keep : ℕ) → Plays gateway scene (still (cut keep g))
+  cut_plays keep = kept_plays (keep - length g.book.firm) (take (keep - length g.book.firm) g.book.rest) refl

@@ -1,5 +1,5 @@
 -- What a gateway makes of a message that reaches it, of a mark and of an opening, is what happens in a scene.
-use Rattle.std.proofs.Common.{◌≡◌, ℕ, ◌%◌, ◌&&◌, ◌||◌, inl, inr, not, Bool, true, false, if◌then◌else◌, List, [], ◌∷◌, ◌++◌, length, Contains, refl, sym, ap, subst, ◌∙◌, arith, append-nil}
+use Rattle.std.proofs.Common.{◌≡◌, ℕ, ◌%◌, ◌&&◌, ◌||◌, inl, inr, not, Bool, true, false, if◌then◌else◌, List, [], ◌∷◌, ◌++◌, length, Option, Some, None, Contains, refl, sym, ap, subst, ◌∙◌, arith, append-nil}
 use Rattle.std.proofs.lemmas.Bool.{false≢true}
 use Rattle.std.proofs.lemmas.List.{take_all}
 use Rattle.std.proofs.lemmas.List.Elements.{Contains-append_right}
@@ -21,7 +21,7 @@ use Rattle.gateway_book.specs.PreparingLaws.{RolesRead}
 use Rattle.gateway_book.specs.Value.{BookValue, Fortune, committed, faulted, history_of, recorded, reopened, standing_for, tried}
 use Rattle.once_core.specs.Answers.{answered, closing, delivered, delivered_broken, delivered_running, failed, failed_by, if_broken, making_close, making_tick, marked, recorded_where, unless_expired}
 use Rattle.once_core.specs.Expired.{is_expired}
-use Rattle.once_core.specs.Gateway.{Gateway, Moved, Rules, committing, followed, giving_up, opened, readying, settling, still, with_book}
+use Rattle.once_core.specs.Gateway.{Gateway, Moved, Rules, committing, cut, followed, giving_up, opened, opened_holding, readying, settling, still, with_book}
 use Rattle.once_core.specs.Happenings.{Answers, Closes, Firms, Keeps, Letter, Note, Notes, Post, Scene, Starts, Ticks, act_noted}
 use Rattle.once_core.specs.Happenings as did
 use Rattle.once_core.specs.Meaning.{is_spoken, letter_of, meaning_of, speaks}
@@ -29,7 +29,7 @@ use Rattle.once_core.specs.Messages.{answering}
 use Rattle.once_core.specs.Scenes.{firming, is_idle, keeping, with_post, with_settled}
 use Rattle.once_core.specs.Shown.{post_of}
 use Rattle.once_core.specs.declared.message.Message as world
-use Rattle.once_core.proofs.CommitPlays.{readying_plays}
+use Rattle.once_core.proofs.CommitPlays.{cut_plays, readying_plays}
 use Rattle.once_core.proofs.ListLemmas.{in_cons, in_head, in_none}
 use Rattle.once_core.proofs.MeaningLemmas.{FromNode, IsWritten, NodeSaid, ReadsBack, Responds, Said, meaning_is, responds_means, responds_said, role_read_of, said_by_gateway}
 use Rattle.once_core.proofs.PathPlays.{Other, other_plays}
@@ -157,6 +157,15 @@ module _ (gateway : ℕ) (scene : Scene) (g : Gateway) (stands : Stands gateway 
           (λ a. still (record a { book = recorded a.book 0 no_caller act.Start })) stood_plays
           (noted_plays gateway stood_plays.after (standing (history_of g.book)) (stands_after gateway scene (still (standing (history_of g.book))) stood_plays) refl 0 act.Start
           (Notes gateway Starts 0 no_caller) refl)
+
+-- one that opens holds what it stopped with, or so many of these entries
+pub opened_holding_plays : (gateway : ℕ) (scene : Scene) (g : Gateway) → Stands gateway scene g → (rules : Rules) (held : Option ℕ)
+    → Plays gateway scene (still (opened_holding held rules g))
+opened_holding_plays gateway scene g stands rules None = opened_plays gateway scene g stands rules
+opened_holding_plays gateway scene g stands rules (Some keep) =
+    let cuts : Plays gateway scene (still (cut keep g)) = cut_plays gateway scene g stands keep in
+    followed_plays gateway scene (still (cut keep g)) (λ a. still (opened rules a)) cuts
+    (opened_plays gateway cuts.after (cut keep g) (stands_after gateway scene (still (cut keep g)) cuts) rules)
 
 -- ---- messages
 

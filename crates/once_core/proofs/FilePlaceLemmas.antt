@@ -1,297 +1,270 @@
--- Each record that a history files stands at one place of its files, and what stands there is the record.
-use Rattle.std.proofs.Common.{◌≡◌, ⊎_elim, ℕ, zero, suc, ◌+◌, Bool, true, false, cond, List, [], ◌∷◌, ◌++◌, length, map, Option, Some, None, Contains, refl, sym, ap, subst, ◌∙◌, arith}
-use Rattle.std.proofs.lemmas.Bool.{false≢true}
+-- What stands at a place in the files of a history was filed, and is what the files have there.
+use Rattle.std.proofs.Common.{◌≡◌, ⊎_elim, ℕ, zero, suc, ◌+◌, ◌==◌, Bool, true, false, cond, List, [], ◌∷◌, ◌++◌, length, map, filter, Option, Some, None, Contains, slice_get, refl, sym, ap, subst, ◌∙◌, arith}
+use Rattle.std.proofs.lemmas.Bool.{eqb-true}
 use Rattle.std.proofs.lemmas.List.Elements.{Contains-append_cases, Contains-append_left, Contains-append_right}
-use Rattle.std.proofs.lemmas.List.Sums.{sum_by-append, sum_by-cons}
-use Rattle.std.specs.Prelude.{count_by, is_some, slice_get}
-use Rattle.std.specs.List.{cons_option, enumerate_from, filter_map}
-use Rattle.std.specs.Option.{option_map_or}
-use Rattle.file_writer.specs.Places.{FilePlace, HasPlace, place_in}
-use Rattle.file_writer.specs.Streams.{Settings}
+use Rattle.std.proofs.lemmas.Option.{same_Some, slice_get-map}
+use Rattle.std.specs.Prelude.{option_map}
+use Rattle.std.specs.List.{enumerate_from, flat_map}
+use Rattle.file_rotate.specs.Items.{Filed, Item, Record, Tick, Close, records_of}
+use Rattle.file_writer.specs.Places.{FilePlace, in_run, record_at, run_with}
+use Rattle.file_writer.specs.Streams.{Settings, stream_record}
 use Rattle.gateway_book.specs.Filed.{along, filed, filed_by, filed_by_act}
-use Rattle.gateway_book.specs.Items.{items_by, items_by_act, items_of, part_of}
-use Rattle.gateway_book.specs.Once.{is_record_of, times_filed}
+use Rattle.gateway_book.specs.Items.{items_of}
 use Rattle.gateway_book.specs.declared.filing.FiledRecord.{FiledRecord}
 use Rattle.gw_base.specs.declared.history.HistoryAct.{HistoryAct}
 use Rattle.gw_base.specs.declared.history.HistoryAct.TheVariants as act
 use Rattle.gw_base.specs.declared.history.HistoryEntry.{HistoryEntry}
-use Rattle.gw_base.specs.declared.history.PacketKey.{PacketKey}
-use Rattle.gw_base.specs.declared.item.Item.{Item}
-use Rattle.gw_base.specs.declared.item.Item.TheVariants as item
-use Rattle.gw_base.specs.declared.kind.CdrKind.{CdrKind}
-use Rattle.gw_base.specs.declared.tag.Tag.{Tag}
-use Rattle.once_core.specs.FilePlaces.{IsRecordAt, StandsAt, file_places, is_source, place_where, sources_by, sources_by_act, sources_of}
-use Rattle.once_core.proofs.ApartLemmas.{key_of}
-use Rattle.once_core.proofs.ListLemmas.{get_contains, in_cons, in_none}
-use Rattle.once_core.proofs.WaitingLemmas.{of_map}
+use Rattle.route_filter.specs.Rules.{stream_of}
+use Rattle.once_core.specs.FilePlaces.{at_place, filed_item, filed_items, filed_items_by, filed_runs, goes_to, placed, streams_of}
+use Rattle.once_core.proofs.FileCountLemmas.{Divides, counted_there, in_runs, one_stream, records_append}
+use Rattle.once_core.proofs.FileRunLemmas.{plain, same_runs}
+use Rattle.once_core.proofs.ListLemmas.{get_contains, in_cons, in_head, in_none, in_tail}
+use Rattle.once_core.proofs.WaitingLemmas.{in_map, of_map}
 
--- ---- each item has its source
+-- ---- lists
 
-abbrev pub IsMark : Item → Type 0
-IsMark (item.Part kind tag octets moment) = ⊥
-IsMark (item.Tick moment) = Unit {0}
-IsMark (item.Close moment) = Unit {0}
+of_flat_map : {A B : Type 0} (f : A → List B) (xs : List A) (y : B) → Contains (flat_map f xs) y → (x : A) × Contains xs x × Contains (f x) y
+of_flat_map f [] y is = absurd (in_none y is)
+of_flat_map f (x ∷ xs) y is = ⊎_elim
+    (λ here. (x, in_head x xs, here))
+    (λ later. let there = of_flat_map f xs y later in (there.0, in_tail x there.0 xs there.1, there.2))
+    (Contains-append_cases (f x) (flat_map f xs) y is)
 
-abbrev pub IsOf : Option FiledRecord → Item → Type 0
-IsOf None i = IsMark i
-IsOf (Some r) i = i ≡ part_of r
+in_flat_map : {A B : Type 0} (f : A → List B) (xs : List A) (x : A) (y : B) → Contains xs x → Contains (f x) y → Contains (flat_map f xs) y
+in_flat_map f [] x y is there = absurd (in_none x is)
+in_flat_map {A} {B} f (z ∷ xs) x y is there = ⊎_elim
+    (λ e. Contains-append_left (f z) (flat_map f xs) y (subst (λ (a : A). Contains (f a) y) (sym e) there))
+    (λ later. Contains-append_right (f z) (flat_map f xs) y (in_flat_map f xs x y later there))
+    (in_cons z x xs is)
 
-abbrev pub AreOf : List (Option FiledRecord) → List Item → Type 0
-AreOf [] [] = Unit {0}
-AreOf [] (i ∷ is) = ⊥
-AreOf (s ∷ ss) [] = ⊥
-AreOf (s ∷ ss) (i ∷ is) = IsOf s i × AreOf ss is
+of_numbered : {A : Type 0} (n : ℕ) (xs : List A) (x : ℕ × A) → Contains (enumerate_from n xs) x → (k : ℕ) × (x.0 ≡ n + k) × (slice_get xs k ≡ Some x.1)
+of_numbered n [] x is = absurd (in_none x is)
+of_numbered {A} n (y ∷ xs) x is = ⊎_elim
+    (λ e. let number : x.0 ≡ n = ap (λ (p : ℕ × A). p.0) (sym e) in (0, omega (arith, number), ap (λ (p : ℕ × A). Some p.1) e))
+    (λ later. let there = of_numbered (n + 1) xs x later in let number = there.1 in (suc there.0, omega (arith, number), there.2))
+    (in_cons (n, y) x (enumerate_from (n + 1) xs) is)
 
-of_append : (ss : List (Option FiledRecord)) (is : List Item) (more : List (Option FiledRecord)) (others : List Item)
-    → AreOf ss is → AreOf more others → AreOf (ss ++ more) (is ++ others)
-of_append [] [] more others a b = b
-of_append [] (i ∷ is) more others a b = absurd a
-of_append (s ∷ ss) [] more others a b = absurd a
-of_append (s ∷ ss) (i ∷ is) more others a b = (a.0, of_append ss is more others a.1 b)
+in_numbered : {A : Type 0} (n : ℕ) (xs : List A) (k : ℕ) (x : A) → slice_get xs k ≡ Some x → Contains (enumerate_from n xs) (n + k, x)
+in_numbered n [] k x e = absurd (cc)
+in_numbered {A} n (y ∷ xs) zero x e =
+    let same : y ≡ x = cc in
+    let number : n ≡ n + 0 = omega arith in
+    subst (λ (p : ℕ × A). Contains ((n, y) ∷ enumerate_from (n + 1) xs) p) (λ i. (number i, same i)) (in_head (n, y) (enumerate_from (n + 1) xs))
+in_numbered {A} n (y ∷ xs) (suc k) x e =
+    let number : n + 1 + k ≡ n + suc k = omega arith in
+    in_tail (n, y) (n + suc k, x) (enumerate_from (n + 1) xs)
+    (subst (λ (m : ℕ). Contains (enumerate_from (n + 1) xs) (m, x)) number (in_numbered (n + 1) xs k x e))
 
-of_records : (rs : List FiledRecord) → AreOf (map Some rs) (map part_of rs)
-of_records [] = tt
-of_records (r ∷ rs) = (refl, of_records rs)
+get_of_map : {A B : Type 0} (f : A → B) (xs : List A) (k : ℕ) (y : B) → slice_get (map f xs) k ≡ Some y → (x : A) × (slice_get xs k ≡ Some x) × (f x ≡ y)
+get_of_map {A} {B} f xs k y e = by (slice_get xs k) refl (sym (slice_get-map f xs k) ∙ e)
+  where
+    by : (o : Option A) → slice_get xs k ≡ o → option_map f o ≡ Some y → (x : A) × (slice_get xs k ≡ Some x) × (f x ≡ y)
+    by None here there = absurd (cc)
+    by (Some x) here there = (x, here, same_Some (f x) y there)
 
-of_act : (before : List HistoryEntry) (moment : ℕ) (a : HistoryAct) → AreOf (sources_by_act before moment a) (items_by_act before moment a)
-of_act before moment act.Start = tt
-of_act before moment (act.Path n port counter) = tt
-of_act before moment (act.File n x packet) = of_records (filed_by_act before moment (act.File n x packet))
-of_act before moment (act.Hold n x packet) = tt
-of_act before moment (act.Seal n x) = tt
-of_act before moment (act.Release n xs) = of_records (filed_by_act before moment (act.Release n xs))
-of_act before moment (act.Cancel n xs) = tt
-of_act before moment act.Tick = (tt, tt)
-of_act before moment act.Close = (tt, tt)
+get_map : {A B : Type 0} (f : A → B) (xs : List A) (k : ℕ) (x : A) → slice_get xs k ≡ Some x → slice_get (map f xs) k ≡ Some (f x)
+get_map {A} {B} f xs k x e = slice_get-map f xs k ∙ ap (λ (o : Option A). option_map f o) e
 
-pub of_history : (before h : List HistoryEntry) → AreOf (along sources_by before h) (along items_by before h)
-of_history before [] = tt
-of_history before (e ∷ h) =
-    of_append (sources_by before e) (items_by before e) (along sources_by (before ++ e ∷ []) h) (along items_by (before ++ e ∷ []) h)
-    (of_act before e.moment e.act) (of_history (before ++ e ∷ []) h)
+-- ---- what goes to a stream was filed
 
-source_is : (s : Option FiledRecord) (i : Item) (r : FiledRecord) → IsOf s i → s ≡ Some r → i ≡ part_of r
-source_is None i r is e = absurd (false≢true (ap is_some e))
-source_is (Some q) i r is e = is ∙ ap (λ (o : Option FiledRecord). option_map_or part_of o (part_of r)) e
+-- a record as it is filed
+abbrev as_filed : FiledRecord → Filed FiledRecord
+as_filed r = record { kind = r.kind; octets = length r.octets; moment = r.moment; payload = r }
 
-item_at : (ss : List (Option FiledRecord)) (is : List Item) → AreOf ss is → (k : ℕ) (r : FiledRecord) → slice_get ss k ≡ Some (Some r)
-    → slice_get is k ≡ Some (part_of r)
-item_at [] is all k r e = absurd (false≢true (ap is_some e))
-item_at (s ∷ ss) [] all k r e = absurd all
-item_at (s ∷ ss) (i ∷ is) all zero r e =
-    ap (λ (j : Item). Some j) (source_is s i r all.0 (ap (λ (o : Option (Option FiledRecord)). option_map_or (λ x. x) o (Some r)) e))
-item_at (s ∷ ss) (i ∷ is) all (suc k) r e = item_at ss is all.1 k r e
+stream_kept : (settings : Settings) (s : ℕ) (items : List (Item FiledRecord)) (r : Filed FiledRecord)
+    → Contains (records_of (filter (goes_to settings s) items)) r
+    → Contains (records_of items) r × (stream_of settings.rules r.payload.tag r.kind.format ≡ s)
+stream_kept settings s [] r is = absurd (in_none r is)
+stream_kept settings s (Tick moment ∷ items) r is = stream_kept settings s items r is
+stream_kept settings s (Close moment ∷ items) r is = stream_kept settings s items r is
+stream_kept settings s (Record x ∷ items) r is =
+    by (stream_of settings.rules x.payload.tag x.kind.format == s) refl is (λ there. stream_kept settings s items r there)
+  where
+    rest : List (Item FiledRecord)
+    rest = filter (goes_to settings s) items
 
--- ---- counting
+    by : (b : Bool) → (stream_of settings.rules x.payload.tag x.kind.format == s) ≡ b → Contains (records_of (cond b (Record x ∷ rest) rest)) r
+        → (Contains (records_of rest) r → Contains (records_of items) r × (stream_of settings.rules r.payload.tag r.kind.format ≡ s))
+        → Contains (x ∷ records_of items) r × (stream_of settings.rules r.payload.tag r.kind.format ≡ s)
+    by false e there later = let kept = later there in (in_tail x r (records_of items) kept.0, kept.1)
+    by true e there later = ⊎_elim
+        (λ same. (
+          subst (Contains (x ∷ records_of items)) same (in_head x (records_of items)),
+          ap (λ (y : Filed FiledRecord). stream_of settings.rules y.payload.tag y.kind.format) (sym same)
+              ∙ eqb-true (stream_of settings.rules x.payload.tag x.kind.format) s e,
+        ))
+        (λ others. let kept = later others in (in_tail x r (records_of items) kept.0, kept.1))
+        (in_cons x r (records_of rest) there)
 
-module _ (key : PacketKey) (index : ℕ) where
-  abbrev sources_of_record : List (Option FiledRecord) → ℕ
-  sources_of_record ss = count_by (is_source key index) ss
+of_records : (rs : List FiledRecord) (r : Filed FiledRecord) → Contains (records_of (map filed_item rs)) r → Contains rs r.payload × (r ≡ as_filed r.payload)
+of_records [] r is = absurd (in_none r is)
+of_records (x ∷ rs) r is = ⊎_elim
+    (λ same. (
+      subst (λ (y : Filed FiledRecord). Contains (x ∷ rs) y.payload) same (in_head x rs),
+      subst (λ (y : Filed FiledRecord). y ≡ as_filed y.payload) same refl,
+    ))
+    (λ later. let there = of_records rs r later in (in_tail x r.payload rs there.0, there.1))
+    (in_cons (as_filed x) r (records_of (map filed_item rs)) is)
 
-  one_more : (s : Option FiledRecord) (ss : List (Option FiledRecord)) → sources_of_record (s ∷ ss) ≡ cond (is_source key index s) 1 0 + sources_of_record ss
-  one_more s ss = sum_by-cons (λ (x : Option FiledRecord). cond (is_source key index x) 1 0) s ss
+of_act : (before : List HistoryEntry) (moment : ℕ) (a : HistoryAct) (r : Filed FiledRecord) → Contains (records_of (filed_items_by before moment a)) r
+    → Contains (filed_by_act before moment a) r.payload × (r ≡ as_filed r.payload)
+of_act before moment act.Start r is = absurd (in_none r is)
+of_act before moment (act.Path n port counter) r is = absurd (in_none r is)
+of_act before moment (act.File n x packet) r is = of_records (filed_by_act before moment (act.File n x packet)) r is
+of_act before moment (act.Hold n x packet) r is = absurd (in_none r is)
+of_act before moment (act.Seal n x) r is = absurd (in_none r is)
+of_act before moment (act.Release n xs) r is = of_records (filed_by_act before moment (act.Release n xs)) r is
+of_act before moment (act.Cancel n xs) r is = absurd (in_none r is)
+of_act before moment act.Tick r is = absurd (in_none r is)
+of_act before moment act.Close r is = absurd (in_none r is)
 
-  counted_records : (rs : List FiledRecord) → sources_of_record (map Some rs) ≡ times_filed key index rs
-  counted_records [] = refl
-  counted_records (r ∷ rs) =
-      one_more (Some r) (map Some rs) ∙ ap (λ (n : ℕ). cond (is_record_of key index r) 1 0 + n) (counted_records rs)
-      ∙ sym (sum_by-cons (λ (x : FiledRecord). cond (is_record_of key index x) 1 0) r rs)
+abbrev items_at : List HistoryEntry → HistoryEntry → List (Item FiledRecord)
+items_at before e = filed_items_by before e.moment e.act
 
-  counted_act : (before : List HistoryEntry) (moment : ℕ) (a : HistoryAct)
-      → sources_of_record (sources_by_act before moment a) ≡ times_filed key index (filed_by_act before moment a)
-  counted_act before moment act.Start = refl
-  counted_act before moment (act.Path n port counter) = refl
-  counted_act before moment (act.File n x packet) = counted_records (filed_by_act before moment (act.File n x packet))
-  counted_act before moment (act.Hold n x packet) = refl
-  counted_act before moment (act.Seal n x) = refl
-  counted_act before moment (act.Release n xs) = counted_records (filed_by_act before moment (act.Release n xs))
-  counted_act before moment (act.Cancel n xs) = refl
-  counted_act before moment act.Tick = refl
-  counted_act before moment act.Close = refl
-
-  counted_history : (before h : List HistoryEntry) → sources_of_record (along sources_by before h) ≡ times_filed key index (along filed_by before h)
-  counted_history before [] = refl
-  counted_history before (e ∷ h) =
-      let front = sum_by-append (λ (x : Option FiledRecord). cond (is_source key index x) 1 0) (sources_by before e) (along sources_by (before ++ e ∷ []) h) in
-      let filing = sum_by-append (λ (x : FiledRecord). cond (is_record_of key index x) 1 0) (filed_by before e) (along filed_by (before ++ e ∷ []) h) in
-      let here = counted_act before e.moment e.act in
-      let rest = counted_history (before ++ e ∷ []) h in
-      omega (arith, front, filing, here, rest)
-
-  module _ (settings : Settings) (h : List HistoryEntry) where
-    abbrev place_at : ℕ × Option FiledRecord → Option FilePlace
-    place_at item = place_where (is_source key index item.1) settings h item.0
-
-    one_place : (o : Option FilePlace) (rest : List FilePlace) → is_some o ≡ true → length (cons_option o rest) ≡ 1 + length rest
-    one_place None rest e = absurd (false≢true e)
-    one_place (Some place) rest e = omega arith
-
-    placed : (n : ℕ) (ss : List (Option FiledRecord))
-        → ((k : ℕ) (r : FiledRecord) → slice_get ss k ≡ Some (Some r) → is_some (place_in settings (items_of h) (n + k)) ≡ true)
-        → length (filter_map place_at (enumerate_from n ss)) ≡ sources_of_record ss
-    placed n [] has = refl
-    placed n (s ∷ ss) has =
-        by_source s (λ r e. has 0 r (ap (λ (o : Option FiledRecord). Some o) e))
-        (placed (n + 1) ss (λ k r e. subst (λ (m : ℕ). is_some (place_in settings (items_of h) m) ≡ true) (shift k) (has (suc k) r e)))
-        ∙ sym (one_more s ss)
-      where
-        shift : (k : ℕ) → n + suc k ≡ n + 1 + k
-        shift k = omega arith
-
-        none_more : (m : ℕ) → m + 0 ≡ m
-        none_more m = omega arith
-
-        by_test : (b : Bool) → is_some (place_in settings (items_of h) (n + 0)) ≡ true
-            → length (filter_map place_at (enumerate_from (n + 1) ss)) ≡ sources_of_record ss
-            → length (cons_option (place_where b settings h n) (filter_map place_at (enumerate_from (n + 1) ss))) ≡ cond b 1 0 + sources_of_record ss
-        by_test true is rest =
-            one_place (place_in settings (items_of h) n) (filter_map place_at (enumerate_from (n + 1) ss))
-            (subst (λ (m : ℕ). is_some (place_in settings (items_of h) m) ≡ true) (none_more n) is)
-            ∙ ap (λ (m : ℕ). 1 + m) rest
-        by_test false is rest = omega (arith, rest)
-
-        by_source : (o : Option FiledRecord) → ((r : FiledRecord) → o ≡ Some r → is_some (place_in settings (items_of h) (n + 0)) ≡ true)
-            → length (filter_map place_at (enumerate_from (n + 1) ss)) ≡ sources_of_record ss
-            → length (cons_option (place_where (is_source key index o) settings h n) (filter_map place_at (enumerate_from (n + 1) ss)))
-            ≡ cond (is_source key index o) 1 0 + sources_of_record ss
-        by_source None has rest = omega (arith, rest)
-        by_source (Some r) has rest = by_test (is_record_of key index r) (has r refl) rest
-
-    -- every record item has a place
-    pub one_for_each : ((items : List Item) (k : ℕ) (kind : CdrKind) (tag : Option Tag) (octets : List ℕ) (moment : ℕ)
-        → slice_get items k ≡ Some (item.Part kind tag octets moment) → HasPlace settings items k kind tag octets moment)
-        → length (file_places settings key index h) ≡ times_filed key index (filed h)
-    one_for_each has =
-        placed 0 (sources_of h)
-        (λ k r e. subst (λ (m : ℕ). is_some (place_in settings (items_of h) m) ≡ true) (none_before k)
-        (ap is_some (has (items_of h) k r.kind r.tag r.octets r.moment (item_at (sources_of h) (items_of h) (of_history [] h) k r e)).found))
-        ∙ counted_history [] h
-      where
-        none_before : (k : ℕ) → k ≡ 0 + k
-        none_before k = omega arith
+of_history : (before h : List HistoryEntry) (r : Filed FiledRecord) → Contains (records_of (along items_at before h)) r
+    → Contains (along filed_by before h) r.payload × (r ≡ as_filed r.payload)
+of_history before [] r is = absurd (in_none r is)
+of_history before (e ∷ h) r is =
+    let later : List HistoryEntry = before ++ e ∷ [] in ⊎_elim
+    (λ here.
+    let there = of_act before e.moment e.act r here in
+    (Contains-append_left (filed_by before e) (along filed_by later h) r.payload there.0, there.1))
+    (λ rest.
+    let there = of_history later h r rest in
+    (Contains-append_right (filed_by before e) (along filed_by later h) r.payload there.0, there.1))
+    (Contains-append_cases (records_of (items_at before e)) (records_of (along items_at later h)) r
+    (subst (λ (rs : List (Filed FiledRecord)). Contains rs r) (records_append (items_at before e) (along items_at later h)) is))
 
 -- ---- what stands at a place
 
--- the item with a number is of the record that its source is
-pub same_item : (h : List HistoryEntry) (k : ℕ) (r : FiledRecord) → slice_get (sources_of h) k ≡ Some (Some r) → slice_get (items_of h) k ≡ Some (part_of r)
-same_item h k r e = item_at (sources_of h) (items_of h) (of_history [] h) k r e
+-- a file of a stream has this record so far behind its first
+record IsAt (settings : Settings) (h : List HistoryEntry) (place : FilePlace) (filing : FiledRecord) : Type 0 where
+  before : ℕ
+  run : List (Filed FiledRecord)
+  found : Filed FiledRecord
+  sequence : place.sequence ≡ suc before
+  run_is : slice_get (filed_runs settings place.stream h) before ≡ Some run
+  found_is : slice_get run place.index ≡ Some found
+  filing_is : found.payload ≡ filing
 
--- each source is a filed record
-of_some : (rs : List FiledRecord) (r : FiledRecord) → Contains (map Some rs) (Some r) → Contains rs r
-of_some rs r is =
-    let there = of_map (λ (x : FiledRecord). Some x) rs (Some r) is in
-    subst (Contains rs) (ap (λ (o : Option FiledRecord). option_map_or (λ x. x) o r) there.2) there.1
+-- a record of a file with a number, behind so many others
+at_from : (settings : Settings) (h : List HistoryEntry) (place : FilePlace) (filing : FiledRecord) (s : ℕ) (file : ℕ × List (Filed FiledRecord)) (x : ℕ × Filed FiledRecord)
+    → at_place s file.0 x ≡ (place, filing)
+    → (k : ℕ) → file.0 ≡ 1 + k → slice_get (filed_runs settings s h) k ≡ Some file.1
+    → (i : ℕ) → x.0 ≡ 0 + i → slice_get file.1 i ≡ Some x.1 → IsAt settings h place filing
+at_from settings h place filing s file x is k number run_is i index found_is =
+    let stream : s ≡ place.stream = ap (λ (p : FilePlace × FiledRecord). p.0.stream) is in
+    let q : file.0 ≡ place.sequence = ap (λ (p : FilePlace × FiledRecord). p.0.sequence) is in
+    let j : x.0 ≡ place.index = ap (λ (p : FilePlace × FiledRecord). p.0.index) is in
+    let here : i ≡ place.index = omega (arith, j, index) in
+    record {
+      before = k;
+      run = file.1;
+      found = x.1;
+      sequence = omega (arith, q, number);
+      run_is = subst (λ (t : ℕ). slice_get (filed_runs settings t h) k ≡ Some file.1) stream run_is;
+      found_is = subst (λ (n : ℕ). slice_get file.1 n ≡ Some x.1) here found_is;
+      filing_is = ap (λ (p : FilePlace × FiledRecord). p.1) is;
+    }
 
-no_mark : (r : FiledRecord) → Contains (None ∷ []) (Some r) → ⊥
-no_mark r is = ⊎_elim (λ e. absurd (false≢true (ap is_some e))) (λ none. in_none (Some r) none) (in_cons None (Some r) [] is)
+is_at : (settings : Settings) (h : List HistoryEntry) (place : FilePlace) (filing : FiledRecord) → Contains (placed settings h) (place, filing)
+    → IsAt settings h place filing
+is_at settings h place filing is =
+    let runs : ℕ → List (ℕ × List (Filed FiledRecord)) = λ s. enumerate_from 1 (filed_runs settings s h) in
+    let records : ℕ → ℕ × List (Filed FiledRecord) → List (FilePlace × FiledRecord) = λ s file. map (at_place s file.0) (enumerate_from 0 file.1) in
+    let stream = of_flat_map (λ s. flat_map (records s) (runs s)) (streams_of settings) (place, filing) is in
+    let file = of_flat_map (records stream.0) (runs stream.0) (place, filing) stream.2 in
+    let found = of_map (at_place stream.0 file.0.0) (enumerate_from 0 file.0.1) (place, filing) file.2 in
+    let number = of_numbered 1 (filed_runs settings stream.0 h) file.0 file.1 in
+    let index = of_numbered 0 file.0.1 found.0 found.1 in
+    at_from settings h place filing stream.0 file.0 found.0 found.2 number.0 number.1 number.2 index.0 index.1 index.2
 
-filed_act : (before : List HistoryEntry) (moment : ℕ) (a : HistoryAct) (r : FiledRecord) → Contains (sources_by_act before moment a) (Some r)
-    → Contains (filed_by_act before moment a) r
-filed_act before moment act.Start r is = absurd (in_none (Some r) is)
-filed_act before moment (act.Path n port counter) r is = absurd (in_none (Some r) is)
-filed_act before moment (act.File n x packet) r is = of_some (filed_by_act before moment (act.File n x packet)) r is
-filed_act before moment (act.Hold n x packet) r is = absurd (in_none (Some r) is)
-filed_act before moment (act.Seal n x) r is = absurd (in_none (Some r) is)
-filed_act before moment (act.Release n xs) r is = of_some (filed_by_act before moment (act.Release n xs)) r is
-filed_act before moment (act.Cancel n xs) r is = absurd (in_none (Some r) is)
-filed_act before moment act.Tick r is = absurd (no_mark r is)
-filed_act before moment act.Close r is = absurd (no_mark r is)
+-- it went to the stream, and was filed
+in_stream : Divides → (settings : Settings) (s : ℕ) (h : List HistoryEntry) (k : ℕ) (run : List (Filed FiledRecord)) (i : ℕ) (r : Filed FiledRecord)
+    → slice_get (filed_runs settings s h) k ≡ Some run → slice_get run i ≡ Some r
+    → (Contains (filed h) r.payload × (r ≡ as_filed r.payload)) × (stream_of settings.rules r.payload.tag r.kind.format ≡ s)
+in_stream divides settings s h k run i r run_is is =
+    let all : Contains (flat_map (λ (x : List (Filed FiledRecord)). x) (filed_runs settings s h)) r =
+    in_flat_map (λ (x : List (Filed FiledRecord)). x) (filed_runs settings s h) run r (get_contains (filed_runs settings s h) k run run_is) (get_contains run i r is) in
+    let kept = stream_kept settings s (filed_items h) r (subst (λ (rs : List (Filed FiledRecord)). Contains rs r) (in_runs divides settings s h) all) in
+    (of_history [] h r kept.0, kept.1)
 
-pub filed_along : (before h : List HistoryEntry) (r : FiledRecord) → Contains (along sources_by before h) (Some r)
-    → Contains (along filed_by before h) r
-filed_along before [] r is = absurd (in_none (Some r) is)
-filed_along before (e ∷ h) r is = ⊎_elim
-    (λ here. Contains-append_left (filed_by before e) (along filed_by (before ++ e ∷ []) h) r (filed_act before e.moment e.act r here))
-    (λ later. Contains-append_right (filed_by before e) (along filed_by (before ++ e ∷ []) h) r (filed_along (before ++ e ∷ []) h r later))
-    (Contains-append_cases (sources_by before e) (along sources_by (before ++ e ∷ []) h) (Some r) is)
+pub was_filed : Divides → (settings : Settings) (h : List HistoryEntry) (place : FilePlace) (filing : FiledRecord) → Contains (placed settings h) (place, filing)
+    → Contains (filed h) filing
+was_filed divides settings h place filing is =
+    let at = is_at settings h place filing is in
+    let was = in_stream divides settings place.stream h at.before at.run place.index at.found at.run_is at.found_is in
+    subst (Contains (filed h)) at.filing_is was.0.0
 
-module _ (key : PacketKey) (index : ℕ) (settings : Settings) (h : List HistoryEntry) where
-  abbrev found_at : ℕ × Option FiledRecord → Option FilePlace
-  found_at item = place_where (is_source key index item.1) settings h item.0
+-- no other record stands there
+same_at : (settings : Settings) (h : List HistoryEntry) (place : FilePlace) (one other : FiledRecord) → IsAt settings h place one → IsAt settings h place other → one ≡ other
+same_at settings h place one other a b =
+    let numbers : a.before ≡ b.before = let x = a.sequence in let y = b.sequence in omega (arith, x, y) in
+    let runs : a.run ≡ b.run =
+    same_Some a.run b.run (sym a.run_is ∙ ap (slice_get (filed_runs settings place.stream h)) numbers ∙ b.run_is) in
+    let found : a.found ≡ b.found =
+    same_Some a.found b.found (sym a.found_is ∙ ap (λ (run : List (Filed FiledRecord)). slice_get run place.index) runs ∙ b.found_is) in
+    sym a.filing_is ∙ ap (λ (r : Filed FiledRecord). r.payload) found ∙ b.filing_is
 
-  -- a place of theirs is that of one of these sources, which stand from a number on
-  record IsFrom (n : ℕ) (ss : List (Option FiledRecord)) (place : FilePlace) : Type 0 where
-    k : ℕ
-    filing : FiledRecord
-    source : slice_get ss k ≡ Some (Some filing)
-    is : is_record_of key index filing ≡ true
-    place_is : place_in settings (items_of h) (n + k) ≡ Some place
+pub one_there : (settings : Settings) (h : List HistoryEntry) (place : FilePlace) (one other : FiledRecord)
+    → Contains (placed settings h) (place, one) → Contains (placed settings h) (place, other) → one ≡ other
+one_there settings h place one other is are = same_at settings h place one other (is_at settings h place one is) (is_at settings h place other are)
 
-  is_later : (n : ℕ) (s : Option FiledRecord) (ss : List (Option FiledRecord)) (place : FilePlace) → IsFrom (n + 1) ss place → IsFrom n (s ∷ ss) place
-  is_later n s ss place rest =
-      let shift : n + 1 + rest.k ≡ n + suc rest.k = omega arith in
-      record {
-        k = suc rest.k;
-        filing = rest.filing;
-        source = rest.source;
-        is = rest.is;
-        place_is = subst (λ (m : ℕ). place_in settings (items_of h) m ≡ Some place) shift rest.place_is;
-      }
+-- the files of the history's items have it there
+stands_at : Divides → (settings : Settings) (h : List HistoryEntry) (place : FilePlace) (filing : FiledRecord) → IsAt settings h place filing
+    → record_at settings (items_of h) place ≡ Some (stream_record filing.kind filing.octets filing.moment)
+stands_at divides settings h place filing at =
+    let was = in_stream divides settings place.stream h at.before at.run place.index at.found at.run_is at.found_is in
+    let runs : List (List (Filed (List ℕ))) = map (map plain) (filed_runs settings place.stream h) in
+    ap (λ (rs : List (List (Filed (List ℕ)))). in_run place.index (run_with place.sequence rs)) (same_runs settings place.stream h)
+    ∙ ap (λ (q : ℕ). in_run place.index (run_with q runs)) at.sequence
+    ∙ ap (λ (o : Option (List (Filed (List ℕ)))). in_run place.index o) (get_map (map plain) (filed_runs settings place.stream h) at.before at.run at.run_is)
+    ∙ get_map plain at.run place.index at.found at.found_is
+    ∙ ap (λ (r : Filed FiledRecord). Some (plain r)) was.0.1
+    ∙ ap (λ (r : FiledRecord). Some (plain (as_filed r))) at.filing_is
 
-  is_here : (n : ℕ) (r : FiledRecord) (ss : List (Option FiledRecord)) (place : FilePlace) → is_record_of key index r ≡ true → place_in settings (items_of h) n ≡ Some place
-      → IsFrom n (Some r ∷ ss) place
-  is_here n r ss place test found =
-      let none_before : n ≡ n + 0 = omega arith in
-      record {
-        k = 0;
-        filing = r;
-        source = refl;
-        is = test;
-        place_is = subst (λ (m : ℕ). place_in settings (items_of h) m ≡ Some place) none_before found;
-      }
+pub stands_there : Divides → (settings : Settings) (h : List HistoryEntry) (place : FilePlace) (filing : FiledRecord) → Contains (placed settings h) (place, filing)
+    → record_at settings (items_of h) place ≡ Some (stream_record filing.kind filing.octets filing.moment)
+stands_there divides settings h place filing is = stands_at divides settings h place filing (is_at settings h place filing is)
 
-  is_from : (n : ℕ) (ss : List (Option FiledRecord)) (place : FilePlace) → Contains (filter_map found_at (enumerate_from n ss)) place → IsFrom n ss place
-  is_from n [] place is = absurd (in_none place is)
-  is_from n (None ∷ ss) place is = is_later n None ss place (is_from (n + 1) ss place is)
-  is_from n (Some r ∷ ss) place is =
-      by_test (is_record_of key index r) refl is (λ later. is_later n (Some r) ss place (is_from (n + 1) ss place later))
-    where
-      by_place : is_record_of key index r ≡ true → (o : Option FilePlace) → place_in settings (items_of h) n ≡ o
-          → Contains (cons_option o (filter_map found_at (enumerate_from (n + 1) ss))) place
-          → (Contains (filter_map found_at (enumerate_from (n + 1) ss)) place → IsFrom n (Some r ∷ ss) place) → IsFrom n (Some r ∷ ss) place
-      by_place test None e is later = later is
-      by_place test (Some p) e is later = ⊎_elim
-          (λ here. is_here n r ss place test (e ∙ ap (λ (q : FilePlace). Some q) here))
-          later
-          (in_cons p place (filter_map found_at (enumerate_from (n + 1) ss)) is)
+-- and they have a record nowhere else
 
-      by_test : (b : Bool) → is_record_of key index r ≡ b
-          → Contains (cons_option (place_where b settings h n) (filter_map found_at (enumerate_from (n + 1) ss))) place
-          → (Contains (filter_map found_at (enumerate_from (n + 1) ss)) place → IsFrom n (Some r ∷ ss) place) → IsFrom n (Some r ∷ ss) place
-      by_test true test is later = by_place test (place_in settings (items_of h) n) refl is later
-      by_test false test is later = later is
+module _ (divides : Divides) (settings : Settings) (h : List HistoryEntry) (place : FilePlace) where
+  abbrev mine : List (List (Filed FiledRecord))
+  mine = filed_runs settings place.stream h
 
-  -- what stands at each of the places of a record is the record, as it was filed
-  pub record_there : ((items : List Item) (k : ℕ) (kind : CdrKind) (tag : Option Tag) (octets : List ℕ) (moment : ℕ)
-      → slice_get items k ≡ Some (item.Part kind tag octets moment) → HasPlace settings items k kind tag octets moment)
-      → (place : FilePlace) → Contains (file_places settings key index h) place → IsRecordAt settings key index h place
-  record_there has place is =
-      let from = is_from 0 (sources_of h) place is in
-      let r = from.filing in
-      let place_has = has (items_of h) from.k r.kind r.tag r.octets r.moment (same_item h from.k r from.source) in
-      let shift : from.k ≡ 0 + from.k = omega arith in
-      let both : Some place_has.place ≡ Some place = sym place_has.found ∙ ap (place_in settings (items_of h)) shift ∙ from.place_is in
-      let same : place_has.place ≡ place = ap (λ (o : Option FilePlace). option_map_or (λ p. p) o place) both in
-      record {
-        filing = r;
-        kept = filed_along [] h r (get_contains (sources_of h) from.k (Some r) from.source);
-        is = from.is;
-        there = subst (λ (p : FilePlace). StandsAt settings h p r) same place_has.there;
-      }
+  abbrev record_places : ℕ → ℕ × List (Filed FiledRecord) → List (FilePlace × FiledRecord)
+  record_places t file = map (at_place t file.0) (enumerate_from 0 file.1)
 
--- no place is that of two records: the item that has it is one
-pub one_record : (settings : Settings) (h : List HistoryEntry)
-    → ((items : List Item) (k l : ℕ) (place : FilePlace) → place_in settings items k ≡ Some place → place_in settings items l ≡ Some place → k ≡ l)
-    → (key other : PacketKey) (index j : ℕ) (place : FilePlace) → Contains (file_places settings key index h) place → Contains (file_places settings other j h) place
-    → (key ≡ other) × (index ≡ j)
-one_record settings h only key other index j place is are =
-    let one = is_from key index settings h 0 (sources_of h) place is in
-    let two = is_from other j settings h 0 (sources_of h) place are in
-    let same : one.k ≡ two.k = omega (arith, only (items_of h) (0 + one.k) (0 + two.k) place one.place_is two.place_is) in
-    let both : Some (Some one.filing) ≡ Some (Some two.filing) = sym one.source ∙ ap (slice_get (sources_of h)) same ∙ two.source in
-    let filing : one.filing ≡ two.filing = cc in
-    let mine = key_of key index one.filing one.is in
-    let theirs = key_of other j two.filing two.is in (
-      sym mine.0 ∙ ap (λ (r : FiledRecord). r.key) filing ∙ theirs.0,
-      sym mine.1 ∙ ap (λ (r : FiledRecord). r.index) filing ∙ theirs.1,
-    )
+  here : (k : ℕ) → place.sequence ≡ suc k → (run : List (Filed FiledRecord)) → slice_get mine k ≡ Some run
+      → (r : Filed FiledRecord) → slice_get run place.index ≡ Some r → Contains (placed settings h) (place, r.payload)
+  here k number run run_is r r_is =
+      let was = in_stream divides settings place.stream h k run place.index r run_is r_is in
+      let streams : Contains (streams_of settings) place.stream =
+      subst (Contains (streams_of settings)) was.1 (counted_there (stream_of settings.rules r.payload.tag r.kind.format) (streams_of settings)
+      (one_stream settings r.payload.tag r.kind.format)) in
+      let sequence : 1 + k ≡ place.sequence = omega (arith, number) in
+      let none_before : 0 + place.index ≡ place.index = omega arith in
+      in_flat_map (λ t. flat_map (record_places t) (enumerate_from 1 (filed_runs settings t h))) (streams_of settings) place.stream (place, r.payload) streams
+      (in_flat_map (record_places place.stream) (enumerate_from 1 mine) (place.sequence, run) (place, r.payload)
+      (subst (λ (n : ℕ). Contains (enumerate_from 1 mine) (n, run)) sequence (in_numbered 1 mine k run run_is))
+      (in_map (at_place place.stream place.sequence) (enumerate_from 0 run) (place.index, r)
+      (subst (λ (n : ℕ). Contains (enumerate_from 0 run) (n, r)) none_before (in_numbered 0 run place.index r r_is))))
+
+  by_run : (found : Filed (List ℕ)) (k : ℕ) → place.sequence ≡ suc k → (o : Option (List (Filed (List ℕ)))) → slice_get (map (map plain) mine) k ≡ o
+      → in_run place.index o ≡ Some found → (filing : FiledRecord) × Contains (placed settings h) (place, filing)
+  by_run found k number None e there = absurd (cc)
+  by_run found k number (Some run) e there =
+      let run_there = get_of_map (map plain) mine k run e in
+      let r_there = get_of_map plain run_there.0 place.index found
+      (ap (λ (rs : List (Filed (List ℕ))). slice_get rs place.index) run_there.2 ∙ there) in
+      (r_there.0.payload, here k number run_there.0 run_there.1 r_there.0 r_there.1)
+
+  by_number : (found : Filed (List ℕ)) (q : ℕ) → place.sequence ≡ q → in_run place.index (run_with q (map (map plain) mine)) ≡ Some found
+      → (filing : FiledRecord) × Contains (placed settings h) (place, filing)
+  by_number found zero e there = absurd (cc)
+  by_number found (suc k) e there = by_run found k e (slice_get (map (map plain) mine) k) refl there
+
+  pub all_stand : (found : Filed (List ℕ)) → record_at settings (items_of h) place ≡ Some found → (filing : FiledRecord) × Contains (placed settings h) (place, filing)
+  all_stand found is = by_number found place.sequence refl
+      (ap (λ (rs : List (List (Filed (List ℕ)))). in_run place.index (run_with place.sequence rs)) (sym (same_runs settings place.stream h)) ∙ is)

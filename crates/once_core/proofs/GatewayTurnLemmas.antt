@@ -153,7 +153,7 @@ are_left h firm keep left le is =
 
 pub cuts : (h new : List HistoryEntry) (firm keep left : ℕ) (wait waiting : List Waiting) (down : Bool) (redirects : ℕ)
     → new ≡ take left h → wait ≡ [] → AreLeft h firm keep left
-    → gateway_of firm new wait true redirects ≡ cut keep false (gateway_of firm h waiting down redirects)
+    → gateway_of firm new wait true redirects ≡ cut keep (gateway_of firm h waiting down redirects)
 cuts h new firm keep left wait waiting down redirects is none left_is =
     let front : take firm new ≡ take firm h = ap (take firm) is ∙ left_is.front in
     let rest : drop firm new ≡ take (keep - length (take firm h)) (drop firm h) = ap (drop firm) is ∙ left_is.rest in

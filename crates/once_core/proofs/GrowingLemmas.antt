@@ -19,10 +19,10 @@ use Rattle.node_core.specs.Reached.{Halt}
 use Rattle.node_core.specs.Reached as call
 use Rattle.once_core.specs.Answers.{acting, answer_at, answered, closing, delivered, delivered_broken, delivered_running, failed, failed_by, if_broken, making_close, making_tick, marked, recorded_where, redirected, unless_expired}
 use Rattle.once_core.specs.Expired.{is_expired}
-use Rattle.once_core.specs.Gateway.{Gateway, Moved, Rules, book_committing, committing, cut, followed, giving_up, opened, readying, settling, still, with_book, with_start}
+use Rattle.once_core.specs.Gateway.{Gateway, Moved, Rules, book_committing, committing, cut, followed, giving_up, opened, opened_holding, readying, settling, still, with_book, with_start}
 use Rattle.once_core.specs.Growing.{GrowsTo}
 use Rattle.once_core.specs.Once.{firm_in}
-use Rattle.once_core.specs.Turn.{RuledTurn, Turn, at_gateway, at_node, delivering, gateway_moved, node_called, refusal_of, ruled_turns, turn, turn_by, unless_refused}
+use Rattle.once_core.specs.Turn.{RuledTurn, Turn, at_gateway, at_node, delivering, gateway_moved, lost_if, node_called, refusal_of, ruled_turns, turn, turn_by, unless_refused}
 use Rattle.once_core.specs.World.{Called, World, called, delivered_to_node, submitting, ticking}
 use Rattle.once_core.specs.declared.event.Event.{Event}
 use Rattle.once_core.specs.declared.event.Event.TheVariants as event
@@ -118,6 +118,9 @@ expired_grows m deliver grows g = by_test (is_expired (history_of g.book) m)
     by_test true = still_grows g
     by_test false = grows g
 
+cut_grows : (keep : ℕ) → Grows (λ g. still (cut keep g))
+cut_grows keep g = on g.book.firm
+
 running_grows : (rules : Rules) (now : ℕ) (f : Fortune) (m : Message) → Grows (delivered_running rules now f m)
 running_grows rules now f m =
     expired_grows m (λ g. followed (readying rules f g) (if_broken (failed m) (answered rules now m)))
@@ -166,6 +169,10 @@ opened_grows rules g =
         (if b then recorded (standing_for (history_of g.book)) 0 no_caller Start else standing_for (history_of g.book)).firm
     by_room true = on (history_of g.book)
     by_room false = on (history_of g.book)
+
+opened_holding_grows : (rules : Rules) (held : Option ℕ) → Grows (λ g. still (opened_holding held rules g))
+opened_holding_grows rules None g = opened_grows rules g
+opened_holding_grows rules (Some keep) g = opened_grows rules (cut keep g)
 
 -- ---- turns
 
@@ -220,8 +227,8 @@ event_grows rules w t (event.Deliver message) q = by_message (slice_get w.messag
     by_message None = on (firm_in w q)
     by_message (Some m) = delivering_grows rules t.fortune w q m
 event_grows rules w t (event.Commit gateway) q = gateway_grows w (gateway - 1) (committing t.fortune) (committing_grows t.fortune) q
-event_grows rules w t (event.Cut gateway keep) q = gateway_grows w (gateway - 1) (λ g. still (cut keep t.keeps_torn g)) (λ g. on g.book.firm) q
-event_grows rules w t (event.Open gateway) q = gateway_grows w (gateway - 1) (λ g. still (opened rules g)) (opened_grows rules) q
+event_grows rules w t (event.Cut gateway keep) q = gateway_grows w (gateway - 1) (λ g. still (cut keep g)) (cut_grows keep) q
+event_grows rules w t (event.Open gateway) q = gateway_grows w (gateway - 1) (λ g. still (opened_holding t.held rules g)) (opened_holding_grows rules t.held) q
 event_grows rules w t (event.Halt node) q = node_grows w (node - 1) (called (length w.gateways) (node - 1) Halt) q
 event_grows rules w t (event.Start node) q = node_grows w (node - 1) (called (length w.gateways) (node - 1) call.Start) q
 event_grows rules w t (event.Redirect gateway cause to) q =
@@ -238,8 +245,12 @@ event_grows rules w t (event.Close gateway) q =
 turn_grows : (rules : Rules) (w : World) (t : Turn) (q : ℕ) → GrowsTo (firm_in w q) (firm_in (turn rules w t) q)
 turn_grows rules w t q = by_refusal (refusal_of w t.event)
   where
-    by_refusal : (o : Option WorldKind) → GrowsTo (firm_in w q) (firm_in (unless_refused o w (turn_by rules w t t.event)) q)
-    by_refusal None = event_grows rules w t t.event q
+    by_loss : (b : Bool) → GrowsTo (firm_in w q) (firm_in (lost_if b w (turn_by rules w t t.event)) q)
+    by_loss true = event_grows rules w t t.event q
+    by_loss false = event_grows rules w t t.event q
+
+    by_refusal : (o : Option WorldKind) → GrowsTo (firm_in w q) (firm_in (unless_refused o w (lost_if t.is_lost w (turn_by rules w t t.event))) q)
+    by_refusal None = by_loss t.is_lost
     by_refusal (Some kind) = on (firm_in w q)
 
 pub turns_grow : (w : World) (later : List RuledTurn) (q : ℕ) → GrowsTo (firm_in w q) (firm_in (ruled_turns w later) q)

@@ -127,8 +127,8 @@ pub keeps_marking_close : (rules : Rules) (f : Fortune) (now : ℕ) → Keeps (m
 keeps_marking_close rules f now = keeps_followed (readying rules f) (if_broken still (making_close now)) (keeps_readying rules f)
     (keeps_broken still (making_close now) keeps_still (λ r g. keeps_where (is_close_due (history_of g.book)) now Close r g))
 
-pub keeps_cut : (keep : ℕ) (torn : Bool) → Keeps (λ g. still (cut keep torn g))
-keeps_cut keep torn r g = refl
+pub keeps_cut : (keep : ℕ) → Keeps (λ g. still (cut keep g))
+keeps_cut keep r g = refl
 
 -- ---- what is kept
 

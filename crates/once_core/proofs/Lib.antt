@@ -11,8 +11,9 @@ pub mod StateLemmas
 pub mod AdmittedLemmas
 pub mod TableLemmas
 pub mod ApartLemmas
+pub mod FileCountLemmas
 pub mod FilePlaceLemmas
-pub mod OccupiedLemmas
+pub mod FileRunLemmas
 pub mod ForwardLemmas
 pub mod AnswerLemmas
 pub mod SceneLemmas
@@ -48,6 +49,7 @@ pub mod TurnPlays
 pub mod FirstPlays
 pub mod SubmittedLemmas
 pub mod WorldOnceLemmas
+pub mod ReachedLemmas
 pub mod TopLemmas
 pub mod SettledLemmas
 pub mod NearestLemmas

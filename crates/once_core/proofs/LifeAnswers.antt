@@ -42,12 +42,12 @@ use Rattle.gateway_book.specs.Value.{Fortune, history_of, recorded, standing_for
 use Rattle.once_core.specs.Addresses.{node_address, node_id, node_ip, port_number}
 use Rattle.once_core.specs.Answers.{acting, answered, closing, delivered, delivered_broken, delivered_running, failed, failed_by, if_broken, making_close, making_tick, marked, recorded_where, redirected, redirecting, replying, unless_expired}
 use Rattle.once_core.specs.Expired.{is_expired}
-use Rattle.once_core.specs.Gateway.{Gateway, Moved, Rules, followed, opened, readying, still}
+use Rattle.once_core.specs.Gateway.{Gateway, Moved, Rules, cut, followed, opened, opened_holding, readying, still}
 use Rattle.once_core.specs.Messages.{answering, has_type}
 use Rattle.once_core.specs.declared.message.Message as world
 use Rattle.once_core.proofs.DeliverPlays.{ready_history}
 use Rattle.once_core.proofs.GrowingLemmas.{on, on_with}
-use Rattle.once_core.proofs.LifeMoves.{Truly, TrulyMoved, followed_truly, lost_truly, no_path_truly, path_truly, readying_truly, replying_truly, still_truly, tells_alive}
+use Rattle.once_core.proofs.LifeMoves.{Truly, TrulyMoved, cut_truly, followed_truly, lost_truly, no_path_truly, path_truly, readying_truly, replying_truly, still_truly, tells_alive}
 use Rattle.once_core.proofs.ListLemmas.{in_cons, in_none}
 use Rattle.once_core.proofs.MeaningLemmas.{FromNode, NodeSaid, ReadsBack, role_read_of}
 use Rattle.once_core.proofs.PathPlays.{fresh_start, rises}
@@ -294,6 +294,14 @@ module _ (place : ℕ) (bound : ℕ → ℕ) (g : Gateway) (truly : Truly place 
         let there = of_map (redirecting place cause other g) (paths_of (history_of g.book)) m is in
         absurd (false≢true (ap tells_alive there.2 ∙ alive));
   }
+
+-- one that opens holds what it stopped with, or so many of these entries
+pub opened_holding_truly : (place : ℕ) (bound : ℕ → ℕ) (g : Gateway) → Truly place bound g → (rules : Rules) (held : Option ℕ)
+    → TrulyMoved place bound g (still (opened_holding held rules g))
+opened_holding_truly place bound g truly rules None = opened_truly place bound g truly rules
+opened_holding_truly place bound g truly rules (Some keep) =
+    let cuts : TrulyMoved place bound g (still (cut keep g)) = cut_truly place bound g truly keep in
+    followed_truly place bound g (still (cut keep g)) (λ a. still (opened rules a)) cuts (opened_truly place bound (cut keep g) cuts.truly rules)
 
 -- ---- messages
 

@@ -173,22 +173,12 @@ module _ (place : ℕ) (bound : ℕ → ℕ) where
         by true = committing_truly f
         by false = still_truly g truly
 
-    pub cut_truly : (keep : ℕ) (keeps_torn : Bool) → TrulyMoved place bound g (still (cut keep keeps_torn g))
-    cut_truly keep keeps_torn = by g.book.is_broken keeps_torn
-      where
-        left : (rest more : List HistoryEntry) → rest ++ more ≡ g.book.rest → TrulyMoved place bound g (still (record { book = record g.book { rest = rest; is_broken = false }; waiting = []; is_down = true; redirects = g.redirects }))
-        left rest more is = lost_truly (record g.book { rest = rest; is_broken = false }) true g.redirects more
-            (ap (λ (r : List HistoryEntry). g.book.firm ++ r) (sym is) ∙ sym (append_assoc g.book.firm rest more)) (on g.book.firm)
-
-        by : (broken torn : Bool) → TrulyMoved place bound g (still (record {
-          book = record g.book { rest = if broken then (if torn then g.book.rest else []) else take (keep - length g.book.firm) g.book.rest; is_broken = false };
-          waiting = [];
-          is_down = true;
-          redirects = g.redirects;
-        }))
-        by true true = left g.book.rest [] (append-nil g.book.rest)
-        by true false = left [] g.book.rest refl
-        by false torn = left (take (keep - length g.book.firm) g.book.rest) (drop (keep - length g.book.firm) g.book.rest) (take-append-drop (keep - length g.book.firm) g.book.rest)
+    pub cut_truly : (keep : ℕ) → TrulyMoved place bound g (still (cut keep g))
+    cut_truly keep =
+        let count : ℕ = keep - length g.book.firm in
+        lost_truly (cut keep g).book true g.redirects (drop count g.book.rest)
+        (ap (λ (r : List HistoryEntry). g.book.firm ++ r) (sym (take-append-drop count g.book.rest))
+        ∙ sym (append_assoc g.book.firm (take count g.book.rest) (drop count g.book.rest))) (on g.book.firm)
 
     -- one entry more
     noted_truly : g.book.is_broken ≡ false → (now : ℕ) (a : HistoryAct) → RisesBy (g.book.firm ++ g.book.rest) a

@@ -1,6 +1,6 @@
 -- A gateway tells a node that it is alive only once the node's start is firm, and knows of no start that wasn't made: in
 -- each world.
-use Rattle.std.proofs.Common.{◌≡◌, ⊎_elim, ℕ, ◌-◌, ◌≤◌, ◌==◌, Bool, true, false, if◌then◌else◌, List, [], ◌∷◌, length, Option, Some, None, Contains, slice_get, slice_set, refl, sym, ap, subst, ◌∙◌, arith}
+use Rattle.std.proofs.Common.{◌≡◌, ⊎_elim, ℕ, ◌-◌, ◌≤◌, ◌==◌, Bool, true, false, if◌then◌else◌, List, [], ◌∷◌, length, take, Option, Some, None, Contains, slice_get, slice_set, refl, sym, ap, subst, ◌∙◌, arith}
 use Rattle.std.specs.Prelude.{option_map}
 use Rattle.std.specs.Option.{option_map_or}
 use Rattle.std.proofs.lemmas.Bool.{eqb-true, eqb-false, false≢true}
@@ -17,10 +17,10 @@ use Rattle.once_core.specs.Addresses.{first_node_ip, node_ip}
 use Rattle.once_core.specs.Answers.{closing, delivered, making_tick, marked, redirected}
 use Rattle.once_core.specs.Beginning.{first_gateway, first_world, times_of}
 use Rattle.once_core.specs.Expired.{starts_in}
-use Rattle.once_core.specs.Gateway.{Gateway, Moved, Rules, committing, cut, opened, settling, still}
+use Rattle.once_core.specs.Gateway.{Gateway, Moved, Rules, committing, cut, opened_holding, settling, still}
 use Rattle.once_core.specs.Once.{firm_in}
 use Rattle.once_core.specs.Shown.{forms_ever, values_of}
-use Rattle.once_core.specs.Turn.{RuledTurn, Turn, at_gateway, at_node, delivering, gateway_moved, node_called, refusal_of, ruled_turns, turn, turn_by, unless_refused}
+use Rattle.once_core.specs.Turn.{RuledTurn, Turn, at_gateway, at_node, delivering, gateway_moved, lost_if, node_called, refusal_of, ruled_turns, turn, turn_by, unless_refused}
 use Rattle.once_core.specs.World.{Called, World, called, delivered_to_node, log_at, submitting, ticking}
 use Rattle.once_core.specs.declared.event.Event.{Event}
 use Rattle.once_core.specs.declared.event.Event.TheVariants as event
@@ -29,10 +29,10 @@ use Rattle.once_core.specs.declared.message.Message.{Message}
 use Rattle.once_core.proofs.AliveLemmas.{none_alive}
 use Rattle.once_core.proofs.CommitPlays.{whole_book}
 use Rattle.once_core.proofs.FirstPlays.{first_made, gateways_each, times_each}
-use Rattle.once_core.proofs.LifeAnswers.{closed_truly, delivered_truly, opened_truly, redirected_truly, ticked_truly}
+use Rattle.once_core.proofs.LifeAnswers.{closed_truly, delivered_truly, opened_holding_truly, redirected_truly, ticked_truly}
 use Rattle.once_core.proofs.LifeMoves.{Truly, TrulyMoved, committing_truly, cut_truly, firm_truly, followed_truly, no_path_truly, none_truly, tells_alive}
 use Rattle.once_core.proofs.LifeNodes.{LifeCalled, LifeIn, halt_life, hear_life, start_life, submit_life, tick_life}
-use Rattle.once_core.proofs.ListLemmas.{get_contains, in_none}
+use Rattle.once_core.proofs.ListLemmas.{get_contains, in_front, in_none}
 use Rattle.once_core.proofs.NumberLemmas.{Values, values_are, values_before}
 use Rattle.once_core.proofs.ReplyPlays.{noted}
 use Rattle.once_core.proofs.StartLemmas.{front_low}
@@ -55,6 +55,15 @@ pub record Lives (w : World) : Type 0 where
   pub told : (m : Message) → Contains w.messages m → m.to_gateway ≡ false → tells_alive m ≡ true → m.start ≤ known_at w m.node m.gateway
   pub began : (m : Message) → Contains w.messages m → m.to_gateway ≡ true → m.start ≤ starts_in (log_at w m.node)
   pub alive : (place : ℕ) → LifeIn (known_at w place) (log_at w place)
+
+-- fewer messages tell no more
+lost_lives : (w : World) (count : ℕ) → Lives w → Lives (record w { messages = take count w.messages })
+lost_lives w count lives = record {
+  gateways = lives.gateways;
+  told = λ m is. lives.told m (in_front count w.messages m is);
+  began = λ m is. lives.began m (in_front count w.messages m is);
+  alive = lives.alive;
+}
 
 -- the bound may be greater
 more_truly : (place : ℕ) (bound more : ℕ → ℕ) (g : Gateway) → ((ip : ℕ) → bound ip ≤ more ip) → Truly place bound g → Truly place more g
@@ -202,8 +211,8 @@ module _ (laws : Laws) (rules : Rules) (values : ℕ → ℕ → List ℕ) (w : 
       by None e = lives
       by (Some m) e = deliver_lives t.fortune m (get_contains w.messages (message - 1) m e)
   event_lives t (event.Commit gateway) = gateway_lives w lives (gateway - 1) (committing t.fortune) (λ g truly. committing_truly (gateway - 1) (starts_at w) g truly t.fortune)
-  event_lives t (event.Cut gateway keep) = gateway_lives w lives (gateway - 1) (λ g. still (cut keep t.keeps_torn g)) (λ g truly. cut_truly (gateway - 1) (starts_at w) g truly keep t.keeps_torn)
-  event_lives t (event.Open gateway) = gateway_lives w lives (gateway - 1) (λ g. still (opened rules g)) (λ g truly. opened_truly (gateway - 1) (starts_at w) g truly rules)
+  event_lives t (event.Cut gateway keep) = gateway_lives w lives (gateway - 1) (λ g. still (cut keep g)) (λ g truly. cut_truly (gateway - 1) (starts_at w) g truly keep)
+  event_lives t (event.Open gateway) = gateway_lives w lives (gateway - 1) (λ g. still (opened_holding t.held rules g)) (λ g truly. opened_holding_truly (gateway - 1) (starts_at w) g truly rules t.held)
   event_lives t (event.Halt node) = node_lives w lives (node - 1) (called (length w.gateways) (node - 1) call.Halt)
       (λ log here life. halt_life (known_at w (node - 1)) (node - 1) log life (length w.gateways))
   event_lives t (event.Start node) = node_lives w lives (node - 1) (called (length w.gateways) (node - 1) call.Start)
@@ -219,8 +228,12 @@ module _ (laws : Laws) (rules : Rules) (values : ℕ → ℕ → List ℕ) (w : 
   turn_lives : (t : Turn) → Lives (turn rules w t)
   turn_lives t = by (refusal_of w t.event)
     where
-      by : (o : Option WorldKind) → Lives (unless_refused o w (turn_by rules w t t.event))
-      by None = event_lives t t.event
+      by_loss : (b : Bool) → Lives (lost_if b w (turn_by rules w t t.event))
+      by_loss false = event_lives t t.event
+      by_loss true = lost_lives (turn_by rules w t t.event) (length w.messages) (event_lives t t.event)
+
+      by : (o : Option WorldKind) → Lives (unless_refused o w (lost_if t.is_lost w (turn_by rules w t t.event)))
+      by None = by_loss t.is_lost
       by (Some kind) = lives
 
 -- ---- how a world begins

@@ -1,5 +1,7 @@
 -- Elements of lists.
-use Rattle.std.proofs.Common.{◌≡◌, ◌⊎◌, inl, inr, ⊎_elim, ℕ, zero, suc, ◌<◌, Bool, true, false, cond, List, [], ◌∷◌, length, filter, slice_get, slice_index_or, Some, Contains, refl, subst, arith}
+use Rattle.std.proofs.Common.{◌≡◌, ◌⊎◌, inl, inr, ⊎_elim, ℕ, zero, suc, ◌<◌, Bool, true, false, cond, List, [], ◌∷◌, length, filter, take, drop, take-append-drop, slice_get, slice_index_or, Some, Contains, refl, sym, subst, arith}
+use Rattle.std.proofs.lemmas.List.Elements.{Contains-append_left}
+use Rattle.std.proofs.lemmas.Option.{slice_get_read}
 
 pub in_head : {A : Type 0} (x : A) (xs : List A) → Contains (x ∷ xs) x
 in_head x xs = (0, omega arith, refl)
@@ -21,6 +23,12 @@ pub get_contains : {A : Type 0} (xs : List A) (k : ℕ) (x : A) → slice_get xs
 get_contains [] k x e = absurd (cc)
 get_contains (y ∷ xs) zero x e = let same : y ≡ x = cc in (0, omega arith, same)
 get_contains (y ∷ xs) (suc k) x e = in_tail y x xs (get_contains xs k x e)
+
+pub in_front : {A : Type 0} (n : ℕ) (xs : List A) (x : A) → Contains (take n xs) x → Contains xs x
+in_front {A} n xs x is = subst (λ (ys : List A). Contains ys x) (take-append-drop n xs) (Contains-append_left (take n xs) (drop n xs) x is)
+
+pub number_of : {A : Type 0} (xs : List A) (x : A) → Contains xs x → (k : ℕ) × (slice_get xs k ≡ Some x)
+number_of xs x is = (is.0, slice_get_read xs (length xs) is.0 x refl is.1 (sym is.2))
 
 pub filtered : {A : Type 0} (p : A → Bool) (xs : List A) (x : A) → Contains (filter p xs) x → Contains xs x
 filtered p [] x is = is

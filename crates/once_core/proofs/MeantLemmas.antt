@@ -92,7 +92,7 @@ module _ (laws : Numbers) (setup : NodeSetup) (calls : List NodeCall) (some : 1 
     }
 
     pub meant : (happenings : List Happening) (node number : ℕ) (values : ℕ → List ℕ) (h : List HistoryEntry) → (scene_after happenings).deeds node ≡ deeds_of node values (log_of setup calls)
-        → IsBetween ((scene_after happenings).posts gateway) h → start_of node h ≡ starts_in (log_of setup calls) → HasOpenCopy (reached setup calls).packets gateway number
+        → IsBetween ((scene_after happenings).posts gateway).firm ((scene_after happenings).posts gateway).rest h → start_of node h ≡ starts_in (log_of setup calls) → HasOpenCopy (reached setup calls).packets gateway number
         → nearest (top_of node h) (number % 65536) ≡ number
     meant happenings node number values h deeds between present is =
         read_as_meant laws.nearest_one (scene_after happenings) (holds_always happenings) node (starts_in (log_of setup calls)) values (reached setup calls).packets

@@ -1,6 +1,7 @@
 -- What a node sends in a tick isn't expired: a gateway to which it sends a request knows its start as the present one,
 -- and no gateway knows of a later one.
-use Rattle.std.proofs.Common.{◌≡◌, ℕ, zero, suc, ◌-◌, ◌<◌, ◌≤◌, ◌==◌, ◌&&◌, nat_le, nat_lt, not, Bool, true, false, if◌then◌else◌, List, [], ◌∷◌, ◌++◌, ◌||◌, length, Option, Some, None, Contains, slice_get, refl, sym, ap, subst, ◌∙◌, arith, append-nil}
+use Rattle.std.proofs.Common.{◌≡◌, ℕ, zero, suc, ◌-◌, ◌<◌, ◌≤◌, ◌==◌, ◌&&◌, nat_le, nat_lt, not, Bool, true, false, if◌then◌else◌, List, [], ◌∷◌, ◌++◌, ◌||◌, length, Option, Some, None, Contains, slice_get, take, refl, sym, ap, subst, ◌∙◌, arith, append-nil}
+use Rattle.std.proofs.lemmas.List.{length-take}
 use Rattle.std.specs.Option.{option_map_or}
 use Rattle.std.proofs.lemmas.Bool.{and_from, false≢true, le-leb, le-ltb, lt-ltb}
 use Rattle.std.proofs.lemmas.Option.{slice_get_within}
@@ -27,8 +28,8 @@ use Rattle.once_core.specs.Gateway.{Gateway, Moved, Rules, committing, followed,
 use Rattle.once_core.specs.Growing.{IsBetween}
 use Rattle.once_core.specs.Messages.{about, is_request}
 use Rattle.once_core.specs.Once.{firm_in}
-use Rattle.once_core.specs.Shown.{post_of, values_of}
-use Rattle.once_core.specs.Turn.{RuledTurn, Turn, at_gateway, at_node, delivering, gateway_moved, node_called, refusal_of, refusing, ruled_turns, turn, turn_by, unless_refused}
+use Rattle.once_core.specs.Shown.{values_of}
+use Rattle.once_core.specs.Turn.{RuledTurn, Turn, at_gateway, at_node, delivering, gateway_moved, lost_if, node_called, refusal_of, refusing, ruled_turns, turn, turn_by, unless_refused}
 use Rattle.once_core.specs.World.{World, delivered_to_node, log_at, message_of, node_value, ticking}
 use Rattle.once_core.specs.declared.event.Event.{Event}
 use Rattle.once_core.specs.declared.event.Event.TheVariants as event
@@ -87,7 +88,7 @@ module _ (laws : Laws) (sent : RequestsSent) (w : World) (values : ℕ → ℕ �
   running = ap runs (sym rightly.is) ∙ ap runs (sym log_there) ∙ it_runs w node allowed
 
   -- a gateway that is alive knows the node's start as the present one, firmly and with entries that follow
-  alive_present : (gateway : ℕ) (g : Gateway) (h : List HistoryEntry) → is_alive (paths_of 1 log) gateway ≡ true → slice_get w.gateways gateway ≡ Some g → IsBetween (post_of g) h
+  alive_present : (gateway : ℕ) (g : Gateway) (h : List HistoryEntry) → is_alive (paths_of 1 log) gateway ≡ true → slice_get w.gateways gateway ≡ Some g → IsBetween g.book.firm g.book.rest h
       → start_of ip h ≡ starts_in log
   alive_present gateway g h alive here between =
       let truly = lives.gateways gateway g here in
@@ -110,7 +111,7 @@ module _ (laws : Laws) (sent : RequestsSent) (w : World) (values : ℕ → ℕ �
   of_open : (gateway number : ℕ) (m : Message) (g : Gateway) (h : List HistoryEntry)
       → HasOpenCopy (packets_of (behind sent laws.one_each setup rightly.calls some_gateways running)) gateway number → m.node ≡ node - 1
       → m.gateway ≡ gateway_at (address_at (peers_of (addresses_from 0 (length w.gateways)) log) gateway) → m.start ≡ starts_in log
-      → slice_get w.gateways m.gateway ≡ Some g → IsBetween (post_of g) h → present_start h m ≡ m.start
+      → slice_get w.gateways m.gateway ≡ Some g → IsBetween g.book.firm g.book.rest h → present_start h m ≡ m.start
   of_open gateway number m g h is of_node goes_to of_start here between =
       let range = open_in_range sent laws.one_each setup rightly.calls some_gateways running gateway number is in
       let many = size (length w.gateways) (behind sent laws.one_each setup rightly.calls some_gateways running) in
@@ -119,7 +120,7 @@ module _ (laws : Laws) (sent : RequestsSent) (w : World) (values : ℕ → ℕ �
       ap (λ (n : ℕ). start_of (node_ip n) h) of_node ∙ alive_present gateway g h alive (ap (slice_get w.gateways) (sym to) ∙ here) between ∙ sym of_start
 
   each_present : (s : Sending) → IsAboutOpen sent laws.one_each setup rightly.calls some_gateways running s → is_request (sent_by s) ≡ true
-      → (g : Gateway) (h : List HistoryEntry) → slice_get w.gateways (sent_by s).gateway ≡ Some g → IsBetween (post_of g) h → present_start h (sent_by s) ≡ (sent_by s).start
+      → (g : Gateway) (h : List HistoryEntry) → slice_get w.gateways (sent_by s).gateway ≡ Some g → IsBetween g.book.firm g.book.rest h → present_start h (sent_by s) ≡ (sent_by s).start
   each_present (send.Probe gateway number) is request g h here between = absurd (false≢true request)
   each_present (send.Data packet gateway number is_plain is_new) is request g h here between =
       of_open gateway number (sent_by (send.Data packet gateway number is_plain is_new)) g h is refl refl refl here between
@@ -128,7 +129,7 @@ module _ (laws : Laws) (sent : RequestsSent) (w : World) (values : ℕ → ℕ �
       of_open gateway named (sent_by (send.Command packet gateway named number o is_new)) g h is refl refl refl here between
 
   pub sent_present : (m : Message) (g : Gateway) (h : List HistoryEntry) → Contains (ticking (length w.gateways) (node - 1) log).sends m → is_request m ≡ true
-      → slice_get w.gateways m.gateway ≡ Some g → IsBetween (post_of g) h → present_start h m ≡ m.start
+      → slice_get w.gateways m.gateway ≡ Some g → IsBetween g.book.firm g.book.rest h → present_start h m ≡ m.start
   sent_present m g h is request here between =
       let s = of_map sent_by (due (node_value (length w.gateways) (node - 1) log)) m is in
       let asked = about_open sent laws.one_each setup rightly.calls some_gateways running s.0
@@ -138,7 +139,7 @@ module _ (laws : Laws) (sent : RequestsSent) (w : World) (values : ℕ → ℕ �
 
   -- no gateway knows of a later start of the node
   pub sent_low : (m : Message) (g : Gateway) (h : List HistoryEntry) → Contains (ticking (length w.gateways) (node - 1) log).sends m
-      → slice_get w.gateways m.gateway ≡ Some g → IsBetween (post_of g) h → present_start h m ≤ m.start
+      → slice_get w.gateways m.gateway ≡ Some g → IsBetween g.book.firm g.book.rest h → present_start h m ≤ m.start
   sent_low m g h is here between =
       let s = of_map sent_by (due (node_value (length w.gateways) (node - 1) log)) m is in
       let truly = lives.gateways m.gateway g here in
@@ -167,7 +168,7 @@ module _ (laws : Laws) (numbers : Numbers) (sent : RequestsSent) (rules : ℕ �
   values place = values_of (log_at (ruled_turns (first_world rules gateways nodes) all) place)
 
   pub sent_fresh : (m : Message) (g : Gateway) (h : List HistoryEntry) → refusal_of w (event.Tick node) ≡ None → Contains (ticking (length w.gateways) (node - 1) (log_at w (node - 1))).sends m
-      → slice_get w.gateways m.gateway ≡ Some g → IsBetween (post_of g) h → is_expired h m ≡ false
+      → slice_get w.gateways m.gateway ≡ Some g → IsBetween g.book.firm g.book.rest h → is_expired h m ≡ false
   sent_fresh m g h allowed is here between = by (slice_get w.nodes (node - 1)) refl
     where
       of_log : (log : List LogEntry) → slice_get w.nodes (node - 1) ≡ Some log → Contains (ticking (length w.gateways) (node - 1) log).sends m
@@ -225,30 +226,30 @@ fresh_taken rules now f m g fresh = by g.is_down
     by false = by_broken g.book.is_broken fresh
 
 -- that history lies between its firm part and all that it holds
-asked_between : (rules : Rules) (f : Fortune) (g : Gateway) → IsBetween (post_of g) (history_asked rules f g)
+asked_between : (rules : Rules) (f : Fortune) (g : Gateway) → IsBetween g.book.firm g.book.rest (history_asked rules f g)
 asked_between rules f g = by g.book.is_broken refl
   where
-    whole : IsBetween (post_of g) (g.book.firm ++ g.book.rest)
+    whole : IsBetween g.book.firm g.book.rest (g.book.firm ++ g.book.rest)
     whole = record { front = on_with g.book.firm g.book.rest; back = on (g.book.firm ++ g.book.rest) }
 
-    firm : IsBetween (post_of g) g.book.firm
+    firm : IsBetween g.book.firm g.book.rest g.book.firm
     firm = record { front = on g.book.firm; back = on_with g.book.firm g.book.rest }
 
-    by_finding : (found : Reopening) → IsBetween (post_of g) (history_of (reopened g.book found))
-    by_finding Whole = subst (IsBetween (post_of g)) (sym (append-nil (g.book.firm ++ g.book.rest))) whole
-    by_finding Gone = subst (IsBetween (post_of g)) (sym (append-nil g.book.firm)) firm
+    by_finding : (found : Reopening) → IsBetween g.book.firm g.book.rest (history_of (reopened g.book found))
+    by_finding Whole = subst (IsBetween g.book.firm g.book.rest) (sym (append-nil (g.book.firm ++ g.book.rest))) whole
+    by_finding Gone = subst (IsBetween g.book.firm g.book.rest) (sym (append-nil g.book.firm)) firm
     by_finding Refused = firm
 
-    by_broken : (b : Bool) → b ≡ true → IsBetween (post_of g) (history_of (with_book (if b then reopened g.book f.reopening else tried f g.book) g).gateway.book)
-    by_broken true e = subst (λ (v : BookValue). IsBetween (post_of g) (history_of v)) (sym (book_is (reopened g.book f.reopening) g)) (by_finding f.reopening)
+    by_broken : (b : Bool) → b ≡ true → IsBetween g.book.firm g.book.rest (history_of (with_book (if b then reopened g.book f.reopening else tried f g.book) g).gateway.book)
+    by_broken true e = subst (λ (v : BookValue). IsBetween g.book.firm g.book.rest (history_of v)) (sym (book_is (reopened g.book f.reopening) g)) (by_finding f.reopening)
     by_broken false e = absurd (false≢true e)
 
-    by_full : (b : Bool) → b ≡ true → g.book.is_broken ≡ true → IsBetween (post_of g) (history_of (if b || rules.is_full g.book then committing f g else still g).gateway.book)
+    by_full : (b : Bool) → b ≡ true → g.book.is_broken ≡ true → IsBetween g.book.firm g.book.rest (history_of (if b || rules.is_full g.book then committing f g else still g).gateway.book)
     by_full true e broken = by_broken g.book.is_broken broken
     by_full false e broken = absurd (false≢true e)
 
-    by : (b : Bool) → g.book.is_broken ≡ b → IsBetween (post_of g) (if b then history_of (readying rules f g).gateway.book else history_of g.book)
-    by false e = subst (IsBetween (post_of g)) (sym (ap (λ (b : Bool). if b then g.book.firm else g.book.firm ++ g.book.rest) e)) whole
+    by : (b : Bool) → g.book.is_broken ≡ b → IsBetween g.book.firm g.book.rest (if b then history_of (readying rules f g).gateway.book else history_of g.book)
+    by false e = subst (IsBetween g.book.firm g.book.rest) (sym (ap (λ (b : Bool). if b then g.book.firm else g.book.firm ++ g.book.rest) e)) whole
     by true e = by_full g.book.is_broken e e
 
 module _ (laws : Laws) (numbers : Numbers) (sent : RequestsSent) (rules : ℕ → Rules) (gateways nodes : ℕ) (all : List RuledTurn) (some : 1 ≤ gateways) (node : ℕ) where
@@ -278,24 +279,33 @@ module _ (laws : Laws) (numbers : Numbers) (sent : RequestsSent) (rules : ℕ �
     next_fresh : t.event ≡ event.Tick node → slice_get (turn ticking_rules before t).messages k ≡ Some m → IsFresh (turn ticking_rules before t)
     next_fresh ticks is = by (refusal_of before t.event) refl is
       where
-        by : (o : Option WorldKind) → refusal_of before t.event ≡ o → slice_get (unless_refused o before (turn_by ticking_rules before t t.event)).messages k ≡ Some m
-            → IsFresh (unless_refused o before (turn_by ticking_rules before t t.event))
-        by (Some kind) e is = absurd (none_behind before.messages k m within is)
-        by None e is =
+        by_loss : (b : Bool) → refusal_of before t.event ≡ None → slice_get (lost_if b before (turn_by ticking_rules before t t.event)).messages k ≡ Some m
+            → IsFresh (lost_if b before (turn_by ticking_rules before t t.event))
+        by_loss true e is =
+            let sent : List Message = (turn_by ticking_rules before t t.event).messages in
+            absurd (none_behind (take (length before.messages) sent) k m
+            (let few = length-take (length before.messages) sent in let far = within in omega (arith, few, far)) is)
+        by_loss false e is =
             subst (λ (v : Event). IsFresh (turn_by ticking_rules before t v)) (sym ticks)
             (ticked (slice_get before.nodes (node - 1)) refl (ap (refusal_of before) (sym ticks) ∙ e) (subst (λ (v : Event). slice_get (turn_by ticking_rules before t v).messages k ≡ Some m) ticks is))
+
+        by : (o : Option WorldKind) → refusal_of before t.event ≡ o
+            → slice_get (unless_refused o before (lost_if t.is_lost before (turn_by ticking_rules before t t.event))).messages k ≡ Some m
+            → IsFresh (unless_refused o before (lost_if t.is_lost before (turn_by ticking_rules before t t.event)))
+        by (Some kind) e is = absurd (none_behind before.messages k m within is)
+        by None e is = by_loss t.is_lost e is
 
   -- so the next event has the gateway take it in
   pub next_taken : (ticking_rules next_rules : Rules) (t next : Turn) (number : ℕ) (m : Message) → t.event ≡ event.Tick node → next.event ≡ event.Deliver number → length before.messages < number
       → slice_get (turn ticking_rules before t).messages (number - 1) ≡ Some m
-      → turn next_rules (turn ticking_rules before t) next ≡ at_gateway (turn ticking_rules before t) m.gateway (taken_in next_rules (turn ticking_rules before t).now next.fortune m)
+      → turn next_rules (turn ticking_rules before t) next
+      ≡ lost_if next.is_lost (turn ticking_rules before t) (at_gateway (turn ticking_rules before t) m.gateway (taken_in next_rules (turn ticking_rules before t).now next.fortune m))
   next_taken ticking_rules next_rules t next number m ticks delivers within is =
-      ap (λ (v : Event). unless_refused (refusal_of (turn ticking_rules before t) v) (turn ticking_rules before t) (turn_by next_rules (turn ticking_rules before t) next v)) delivers
-      ∙ ap (λ (b : Bool). unless_refused (refusing (not b) NoMessage) (turn ticking_rules before t) (turn_by next_rules (turn ticking_rules before t) next (event.Deliver number))) there
-      ∙ ap (λ (o : Option Message). option_map_or (delivering next_rules next.fortune (turn ticking_rules before t)) o (turn ticking_rules before t)) is
-      ∙ ap (λ (b : Bool). if b then at_gateway (turn ticking_rules before t) m.gateway (delivered next_rules (turn ticking_rules before t).now next.fortune m)
-      else at_node (turn ticking_rules before t) m.node (delivered_to_node (length (turn ticking_rules before t).gateways) m.node m)) fresh.to
-      ∙ by (slice_get (turn ticking_rules before t).gateways m.gateway) refl
+      ap (λ (v : Event). unless_refused (refusal_of (turn ticking_rules before t) v) (turn ticking_rules before t)
+      (lost_if next.is_lost (turn ticking_rules before t) (turn_by next_rules (turn ticking_rules before t) next v))) delivers
+      ∙ ap (λ (b : Bool). unless_refused (refusing (not b) NoMessage) (turn ticking_rules before t)
+      (lost_if next.is_lost (turn ticking_rules before t) (turn_by next_rules (turn ticking_rules before t) next (event.Deliver number)))) there
+      ∙ ap (lost_if next.is_lost (turn ticking_rules before t)) taken
     where
       fresh : IsFresh ticking_rules t (number - 1) m (omega (arith, within)) (turn ticking_rules before t)
       fresh = next_fresh ticking_rules t (number - 1) m (omega (arith, within)) ticks is
@@ -311,3 +321,10 @@ module _ (laws : Laws) (numbers : Numbers) (sent : RequestsSent) (rules : ℕ �
           ≡ option_map_or (λ g. gateway_moved (turn ticking_rules before t) m.gateway (taken_in next_rules (turn ticking_rules before t).now next.fortune m g)) o (turn ticking_rules before t)
       by None e = refl
       by (Some g) e = ap (gateway_moved (turn ticking_rules before t) m.gateway) (fresh_taken next_rules (turn ticking_rules before t).now next.fortune m g (fresh.fresh next_rules next.fortune g e))
+
+      taken : turn_by next_rules (turn ticking_rules before t) next (event.Deliver number) ≡ at_gateway (turn ticking_rules before t) m.gateway (taken_in next_rules (turn ticking_rules before t).now next.fortune m)
+      taken =
+          ap (λ (o : Option Message). option_map_or (delivering next_rules next.fortune (turn ticking_rules before t)) o (turn ticking_rules before t)) is
+          ∙ ap (λ (b : Bool). if b then at_gateway (turn ticking_rules before t) m.gateway (delivered next_rules (turn ticking_rules before t).now next.fortune m)
+          else at_node (turn ticking_rules before t) m.node (delivered_to_node (length (turn ticking_rules before t).gateways) m.node m)) fresh.to
+          ∙ by (slice_get (turn ticking_rules before t).gateways m.gateway) refl

@@ -91,8 +91,8 @@ module _ (law : NodeLaw) (w : World) (few : length w.gateways ≤ 256) where
   turned (event.Commit gateway) begun allowed =
       gateway_turns w (gateway - 1) (committing quiet) (committing quiet) (λ g. moves_kept (committing quiet) (keeps_committing quiet) g)
   turned (event.Cut gateway keep) begun allowed =
-      gateway_changes (world_kept w) (gateway - 1) (cut keep false)
-      ∙ gateway_turns w (gateway - 1) (λ g. still (cut keep false g)) (λ g. still (cut keep false g)) (λ g. moves_kept (λ x. still (cut keep false x)) (keeps_cut keep false) g)
+      gateway_changes (world_kept w) (gateway - 1) (cut keep)
+      ∙ gateway_turns w (gateway - 1) (λ g. still (cut keep g)) (λ g. still (cut keep g)) (λ g. moves_kept (λ x. still (cut keep x)) (keeps_cut keep) g)
   turned (event.Open gateway) begun allowed =
       gateway_changes (world_kept w) (gateway - 1) (opened default_rules)
       ∙ gateway_turns w (gateway - 1) (λ g. still (opened default_rules g)) (λ g. still (opened default_rules g)) (λ g. opened_kept default_rules g)

@@ -1,15 +1,15 @@
 -- What a step gives, by what is kept.
-use Rattle.std.proofs.Common.{◌≡◌, ℕ, ◌+◌, ◌-◌, ◌≤◌, true, length, Some, None, List, [], ◌∷◌, ◌++◌, refl, ap, sym, ◌∙◌, subst, arith}
+use Rattle.std.proofs.Common.{◌≡◌, ℕ, ◌+◌, ◌-◌, ◌≤◌, true, length, Some, None, ap, sym, ◌∙◌, subst, arith}
 use Rattle.once_core.proofs.ArmLemmas.{turn_stays}
 use Rattle.once_core.proofs.KeptTurnLemmas.{map_length, refusals_same, starts_same}
 use Rattle.once_core.proofs.NodeCallLemmas.{NodeLaw}
 use Rattle.once_core.proofs.StepLemmas.{turn_is}
-use Rattle.once_core.specs.Beginning.{default_rules, world_of}
+use Rattle.once_core.specs.Beginning.{default_rules}
 use Rattle.once_core.specs.Expired.{starts_in}
 use Rattle.once_core.specs.KeptTurn.{HasBegun, refusal_kept, starts_at, turn_kept}
 use Rattle.once_core.specs.Standing.{Stands, WorldKept, gateway_kept, world_kept}
-use Rattle.once_core.specs.Stepping.{IsPlayed, IsRefused, IsSpent, made}
-use Rattle.once_core.specs.Turn.{Turn, calm, log_in, refusal_of, turn, turns}
+use Rattle.once_core.specs.Stepping.{IsPlayed, IsRefused, IsSpent}
+use Rattle.once_core.specs.Turn.{calm, log_in, refusal_of, turn}
 use Rattle.once_core.specs.World.{World}
 use Rattle.once_core.specs.declared.event.Event.{Event}
 use Rattle.once_core.specs.declared.event.Event.TheVariants as event
@@ -51,13 +51,3 @@ module _ (w : World) (e : Event) (old new : WorldKept) (stands : Stands w old) w
         first_is = omega (arith, first_is, sent);
         count_is = omega (arith, all, count_is, grown, sent);
       }
-
-turns_then : (w : World) (all : List Turn) (t : Turn) → turn default_rules (turns default_rules w all) t ≡ turns default_rules w (all ++ t ∷ [])
-turns_then w [] t = refl
-turns_then w (first ∷ all) t = turns_then (turn default_rules w first) all t
-
--- what turns made goes on with one more
-pub made_then : (gateways nodes : ℕ) (all : List Turn) (e : Event) (new : WorldKept)
-    → Stands (turn default_rules (made gateways nodes all) (calm e)) new → Stands (made gateways nodes (all ++ calm e ∷ [])) new
-made_then gateways nodes all e new stands =
-    stands ∙ ap world_kept (turns_then (world_of default_rules gateways nodes) all (calm e))

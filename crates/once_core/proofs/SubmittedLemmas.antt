@@ -10,10 +10,10 @@ use Rattle.node_core.specs.Reached as call
 use Rattle.once_core.specs.Addresses.{gateway_address}
 use Rattle.once_core.specs.Answers.{closing, delivered, making_tick, marked, redirected}
 use Rattle.once_core.specs.Expired.{is_expired_at_node}
-use Rattle.once_core.specs.Gateway.{Gateway, Moved, Rules, committing, cut, opened, still}
+use Rattle.once_core.specs.Gateway.{Gateway, Moved, Rules, committing, cut, opened_holding, still}
 use Rattle.once_core.specs.Growing.{GrowsTo}
 use Rattle.once_core.specs.Shown.{forms_ever}
-use Rattle.once_core.specs.Turn.{RuledTurn, Turn, at_gateway, at_node, delivering, gateway_moved, node_called, refusal_of, ruled_turns, turn, turn_by, unless_refused}
+use Rattle.once_core.specs.Turn.{RuledTurn, Turn, at_gateway, at_node, delivering, gateway_moved, lost_if, node_called, refusal_of, ruled_turns, turn, turn_by, unless_refused}
 use Rattle.once_core.specs.World.{Called, World, called, delivered_to_node, draft_of, hearing, log_at, node_value, submitting, submitting_form, ticking}
 use Rattle.once_core.specs.declared.event.Event.{Event}
 use Rattle.once_core.specs.declared.event.Event.TheVariants as event
@@ -91,8 +91,8 @@ event_forms rules w t (event.Deliver message) q = by (slice_get w.messages (mess
     by None = on (forms_at w q)
     by (Some m) = deliver_forms rules t w q m
 event_forms rules w t (event.Commit gateway) q = gateway_forms w (gateway - 1) (committing t.fortune) q
-event_forms rules w t (event.Cut gateway keep) q = gateway_forms w (gateway - 1) (λ g. still (cut keep t.keeps_torn g)) q
-event_forms rules w t (event.Open gateway) q = gateway_forms w (gateway - 1) (λ g. still (opened rules g)) q
+event_forms rules w t (event.Cut gateway keep) q = gateway_forms w (gateway - 1) (λ g. still (cut keep g)) q
+event_forms rules w t (event.Open gateway) q = gateway_forms w (gateway - 1) (λ g. still (opened_holding t.held rules g)) q
 event_forms rules w t (event.Halt node) q = node_forms w (node - 1) (called (length w.gateways) (node - 1) call.Halt) (call_grows (length w.gateways) (node - 1) call.Halt) q
 event_forms rules w t (event.Start node) q = node_forms w (node - 1) (called (length w.gateways) (node - 1) call.Start) (call_grows (length w.gateways) (node - 1) call.Start) q
 event_forms rules w t (event.Redirect gateway cause to) q = gateway_forms w (gateway - 1) (redirected (gateway - 1) cause (option_map (λ number. number - 1) to)) q
@@ -103,8 +103,12 @@ event_forms rules w t (event.Close gateway) q = gateway_forms w (gateway - 1) (m
 turn_forms : (rules : Rules) (w : World) (t : Turn) (q : ℕ) → GrowsTo (forms_at w q) (forms_at (turn rules w t) q)
 turn_forms rules w t q = by (refusal_of w t.event)
   where
-    by : (o : Option WorldKind) → GrowsTo (forms_at w q) (forms_at (unless_refused o w (turn_by rules w t t.event)) q)
-    by None = event_forms rules w t t.event q
+    by_loss : (b : Bool) → GrowsTo (forms_at w q) (forms_at (lost_if b w (turn_by rules w t t.event)) q)
+    by_loss true = event_forms rules w t t.event q
+    by_loss false = event_forms rules w t t.event q
+
+    by : (o : Option WorldKind) → GrowsTo (forms_at w q) (forms_at (unless_refused o w (lost_if t.is_lost w (turn_by rules w t t.event))) q)
+    by None = by_loss t.is_lost
     by (Some kind) = on (forms_at w q)
 
 pub turns_forms : (w : World) (later : List RuledTurn) (q : ℕ) → GrowsTo (forms_at w q) (forms_at (ruled_turns w later) q)

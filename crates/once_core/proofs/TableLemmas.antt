@@ -26,8 +26,8 @@ use Rattle.once_core.specs.Answers.{acting, answered, closing, delivered, delive
 use Rattle.once_core.specs.Beginning.{first_gateway, first_world, gateways_by}
 use Rattle.once_core.specs.Epochs.{EachBehind}
 use Rattle.once_core.specs.Expired.{is_expired}
-use Rattle.once_core.specs.Gateway.{Gateway, Moved, Rules, book_committing, committing, cut, entries_left, followed, giving_up, opened, readying, settling, still, with_book, with_start}
-use Rattle.once_core.specs.Turn.{RuledTurn, Turn, at_gateway, at_node, delivering, gateway_moved, node_called, refusal_of, ruled_turns, turn, turn_by, unless_refused}
+use Rattle.once_core.specs.Gateway.{Gateway, Moved, Rules, book_committing, committing, cut, followed, giving_up, opened, opened_holding, readying, settling, still, with_book, with_start}
+use Rattle.once_core.specs.Turn.{RuledTurn, Turn, at_gateway, at_node, delivering, gateway_moved, lost_if, node_called, refusal_of, ruled_turns, turn, turn_by, unless_refused}
 use Rattle.once_core.specs.World.{Called, World, called, delivered_to_node, submitting, ticking}
 use Rattle.once_core.specs.declared.event.Event.{Event}
 use Rattle.once_core.specs.declared.event.Event.TheVariants as event
@@ -176,18 +176,11 @@ module _ (P : List HistoryEntry → HistoryAct → Type 0) (plain : IsPlain P) w
   marked_keeps rules f mark keep =
       followed_keeps (readying rules f) (if_broken still mark) (readying_keeps rules f) (broken_keeps still mark still_keeps keep)
 
-  left_keeps : (keep : ℕ) (keeps_torn : Bool) (v : BookValue) → Keeps v → AllRight (v.firm ++ entries_left keep keeps_torn v)
-  left_keeps keep keeps_torn v keeps = by_test v.is_broken keeps_torn
-    where
-      part : AllRight (v.firm ++ take (keep - length v.firm) v.rest)
-      part = each_front IsRight [] (v.firm ++ take (keep - length v.firm) v.rest) (drop (keep - length v.firm) v.rest)
-          (subst AllRight (sym (append_assoc v.firm (take (keep - length v.firm) v.rest) (drop (keep - length v.firm) v.rest)
-          ∙ ap (λ (xs : List HistoryEntry). v.firm ++ xs) (take-append-drop (keep - length v.firm) v.rest))) keeps)
-
-      by_test : (broken torn : Bool) → AllRight (v.firm ++ (if broken then (if torn then v.rest else []) else take (keep - length v.firm) v.rest))
-      by_test true true = keeps
-      by_test true false = alone v.firm (firm_keeps v keeps)
-      by_test false torn = part
+  cut_keeps : (keep : ℕ) → KeepsOn (λ g. still (cut keep g))
+  cut_keeps keep g keeps =
+      each_front IsRight [] (g.book.firm ++ take (keep - length g.book.firm) g.book.rest) (drop (keep - length g.book.firm) g.book.rest)
+      (subst AllRight (sym (append_assoc g.book.firm (take (keep - length g.book.firm) g.book.rest) (drop (keep - length g.book.firm) g.book.rest)
+      ∙ ap (λ (xs : List HistoryEntry). g.book.firm ++ xs) (take-append-drop (keep - length g.book.firm) g.book.rest))) keeps)
 
   begun_keeps : (rules : Rules) (h : List HistoryEntry) → AllRight h → Keeps (with_start rules (standing_for h))
   begun_keeps rules h all = by_room (rules.room (h ++ []) Start)
@@ -202,6 +195,10 @@ module _ (P : List HistoryEntry → HistoryAct → Type 0) (plain : IsPlain P) w
       by_test : (b : Bool) → AllRight (if b then g.book.firm else g.book.firm ++ g.book.rest)
       by_test true = firm_keeps g.book keeps
       by_test false = keeps
+
+  opened_holding_keeps : (rules : Rules) (held : Option ℕ) → KeepsOn (λ g. still (opened_holding held rules g))
+  opened_holding_keeps rules None g keeps = opened_keeps rules g keeps
+  opened_holding_keeps rules (Some keep) g keeps = opened_keeps rules (cut keep g) (cut_keeps keep g keeps)
 
   -- ---- turns
 
@@ -288,8 +285,8 @@ module _ (P : List HistoryEntry → HistoryAct → Type 0) (plain : IsPlain P) w
       by_message (Some m) = delivering_keeps rules records t.fortune w m all
   event_keeps rules records w t (event.Commit gateway) all = gateway_keeps w (gateway - 1) (committing t.fortune) (committing_keeps t.fortune) all
   event_keeps rules records w t (event.Cut gateway keep) all =
-      gateway_keeps w (gateway - 1) (λ g. still (cut keep t.keeps_torn g)) (λ g keeps. left_keeps keep t.keeps_torn g.book keeps) all
-  event_keeps rules records w t (event.Open gateway) all = gateway_keeps w (gateway - 1) (λ g. still (opened rules g)) (opened_keeps rules) all
+      gateway_keeps w (gateway - 1) (λ g. still (cut keep g)) (cut_keeps keep) all
+  event_keeps rules records w t (event.Open gateway) all = gateway_keeps w (gateway - 1) (λ g. still (opened_holding t.held rules g)) (opened_holding_keeps rules t.held) all
   event_keeps rules records w t (event.Halt node) all = node_keeps w (node - 1) (called (length w.gateways) (node - 1) Halt) all
   event_keeps rules records w t (event.Start node) all = node_keeps w (node - 1) (called (length w.gateways) (node - 1) call.Start) all
   event_keeps rules records w t (event.Redirect gateway cause to) all =
@@ -307,8 +304,12 @@ module _ (P : List HistoryEntry → HistoryAct → Type 0) (plain : IsPlain P) w
   turn_keeps : (rules : Rules) → Records P rules → (w : World) (t : Turn) → WorldKeeps w → WorldKeeps (turn rules w t)
   turn_keeps rules records w t all = by_refusal (refusal_of w t.event)
     where
-      by_refusal : (o : Option WorldKind) → WorldKeeps (unless_refused o w (turn_by rules w t t.event))
-      by_refusal None = event_keeps rules records w t t.event all
+      by_loss : (b : Bool) → WorldKeeps (lost_if b w (turn_by rules w t t.event))
+      by_loss true = event_keeps rules records w t t.event all
+      by_loss false = event_keeps rules records w t t.event all
+
+      by_refusal : (o : Option WorldKind) → WorldKeeps (unless_refused o w (lost_if t.is_lost w (turn_by rules w t t.event)))
+      by_refusal None = by_loss t.is_lost
       by_refusal (Some kind) = all
 
   pub turns_keep : (w : World) (later : List RuledTurn) → AllRecord P later → WorldKeeps w → WorldKeeps (ruled_turns w later)

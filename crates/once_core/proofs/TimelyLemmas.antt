@@ -231,11 +231,11 @@ module _ (laws : Laws) (numbers : Numbers) (sent : RequestsSent) (rules : ℕ �
         (get_set w.nodes (node - 1) (ticking (length w.gateways) (node - 1) log).log log there)
         ∙ ap (λ (l : List LogEntry). deeds_of ip (values (node - 1)) (log_after (length w.gateways) (node - 1) call.Tick l)) rightly.is
 
-    read : (gateway number : ℕ) (g : Gateway) (h : List HistoryEntry) → slice_get w.gateways gateway ≡ Some g → IsBetween (post_of g) h → start_of ip h ≡ starts_in log
+    read : (gateway number : ℕ) (g : Gateway) (h : List HistoryEntry) → slice_get w.gateways gateway ≡ Some g → IsBetween g.book.firm g.book.rest h → start_of ip h ≡ starts_in log
         → HasOpenCopy (packets_of (behind sent laws.one_each setup calls some_gateways running)) gateway number → nearest (top_of ip h) (number % 65536) ≡ number
     read gateway number g h here between present is =
         meant numbers setup (call.Tick ∷ calls) some_gateways (runs_after sent laws.one_each setup calls some_gateways running) gateway inside made_after.happenings ip number (values (node - 1)) h deeds_after
-        (subst (λ (p : Post). IsBetween p h) (sym post_is) between)
+        (subst (λ (p : Post). IsBetween p.firm p.rest h) (sym post_is) between)
         (present ∙ ap starts_in rightly.is ∙ sym (starts_after sent laws.one_each setup calls some_gateways running))
         (subst (λ (l : List LogEntry). HasOpenCopy (packets_of l) gateway number) (sym (after_is sent laws.one_each setup calls some_gateways running)) is)
       where
@@ -253,7 +253,7 @@ module _ (laws : Laws) (numbers : Numbers) (sent : RequestsSent) (rules : ℕ �
     -- a request about an open copy
     timely : (gateway number : ℕ) (m : Message) (g : Gateway) (h : List HistoryEntry) → HasOpenCopy (packets_of (behind sent laws.one_each setup calls some_gateways running)) gateway number
         → m.node ≡ node - 1 → m.gateway ≡ gateway_at (address_at (peers_of (addresses_from 0 (length w.gateways)) log) gateway) → m.start ≡ starts_in log → about m ≡ number
-        → slice_get w.gateways m.gateway ≡ Some g → IsBetween (post_of g) h → present_start h m ≡ m.start → is_expired h m ≡ false
+        → slice_get w.gateways m.gateway ≡ Some g → IsBetween g.book.firm g.book.rest h → present_start h m ≡ m.start → is_expired h m ≡ false
     timely gateway number m g h is of_node goes_to of_start about_is here between present =
         let range = open_in_range sent laws.one_each setup calls some_gateways running gateway number is in
         let many = size (length w.gateways) (behind sent laws.one_each setup calls some_gateways running) in
@@ -264,7 +264,7 @@ module _ (laws : Laws) (numbers : Numbers) (sent : RequestsSent) (rules : ℕ �
         (ap (λ (n : ℕ). nearest (top_of (node_ip n) h) (about m % 65536)) of_node ∙ ap (λ (n : ℕ). nearest (top_of ip h) (n % 65536)) about_is ∙ meant_here ∙ sym about_is)
 
     each_timely : (s : Sending) → IsAboutOpen sent laws.one_each setup calls some_gateways running s → is_request (sent_by s) ≡ true
-        → (g : Gateway) (h : List HistoryEntry) → slice_get w.gateways (sent_by s).gateway ≡ Some g → IsBetween (post_of g) h → present_start h (sent_by s) ≡ (sent_by s).start
+        → (g : Gateway) (h : List HistoryEntry) → slice_get w.gateways (sent_by s).gateway ≡ Some g → IsBetween g.book.firm g.book.rest h → present_start h (sent_by s) ≡ (sent_by s).start
         → is_expired h (sent_by s) ≡ false
     each_timely (send.Probe gateway number) is request g h here between present = absurd (false≢true request)
     each_timely (send.Data packet gateway number is_plain is_new) is request g h here between present =
@@ -274,7 +274,7 @@ module _ (laws : Laws) (numbers : Numbers) (sent : RequestsSent) (rules : ℕ �
         timely gateway named (sent_by (send.Command packet gateway named number o is_new)) g h is refl refl refl refl here between present
 
     pub not_expired : (m : Message) (g : Gateway) (h : List HistoryEntry) → Contains (ticking (length w.gateways) (node - 1) log).sends m → is_request m ≡ true
-        → slice_get w.gateways m.gateway ≡ Some g → IsBetween (post_of g) h → present_start h m ≡ m.start → is_expired h m ≡ false
+        → slice_get w.gateways m.gateway ≡ Some g → IsBetween g.book.firm g.book.rest h → present_start h m ≡ m.start → is_expired h m ≡ false
     not_expired m g h is request here between present =
         let s = of_map sent_by (due (node_value (length w.gateways) (node - 1) log)) m is in
         let asked = about_open sent laws.one_each setup calls some_gateways running s.0
@@ -285,7 +285,7 @@ module _ (laws : Laws) (numbers : Numbers) (sent : RequestsSent) (rules : ℕ �
 
   pub tick_is_timely : (m : Message) (g : Gateway) (h : List HistoryEntry) → refusal_of w (event.Tick node) ≡ None
       → Contains (ticking (length w.gateways) (node - 1) (log_at w (node - 1))).sends m → is_request m ≡ true → slice_get w.gateways m.gateway ≡ Some g
-      → IsBetween (post_of g) h → present_start h m ≡ m.start → is_expired h m ≡ false
+      → IsBetween g.book.firm g.book.rest h → present_start h m ≡ m.start → is_expired h m ≡ false
   tick_is_timely m g h allowed is request here between present = by (slice_get w.nodes (node - 1)) refl
     where
       by : (o : Option (List LogEntry)) → slice_get w.nodes (node - 1) ≡ o → is_expired h m ≡ false

@@ -9,9 +9,9 @@ use Rattle.node_core.specs.Log.{LogEntry, runs}
 use Rattle.node_core.specs.Reached as call
 use Rattle.once_core.specs.Answers.{closing, delivered, making_tick, marked, redirected}
 use Rattle.once_core.specs.Expired.{starts_in}
-use Rattle.once_core.specs.Gateway.{Rules, committing, cut, opened, still}
+use Rattle.once_core.specs.Gateway.{Rules, committing, cut, opened_holding, still}
 use Rattle.once_core.specs.Shown.{forms_ever}
-use Rattle.once_core.specs.Turn.{Turn, at_gateway, at_node, delivering, log_in, most_starts, no_node, refusal_of, refusing, turn, turn_by, unless_refused}
+use Rattle.once_core.specs.Turn.{Turn, at_gateway, at_node, delivering, log_in, lost_if, most_starts, no_node, refusal_of, refusing, turn, turn_by, unless_refused}
 use Rattle.once_core.specs.World.{World, called, delivered_to_node, log_at, submitting, ticking}
 use Rattle.once_core.specs.declared.event.Event.{Event}
 use Rattle.once_core.specs.declared.event.Event.TheVariants as event
@@ -19,7 +19,7 @@ use Rattle.once_core.specs.declared.event.WorldKind.{WorldKind}
 use Rattle.once_core.specs.declared.event.WorldKind.TheVariants.{Halted, Restarts, Running}
 use Rattle.once_core.specs.declared.message.Message.{Message}
 use Rattle.once_core.proofs.CommitPlays.{committing_plays, cut_plays}
-use Rattle.once_core.proofs.DeliverPlays.{closed_plays, delivered_plays, opened_plays, ticked_plays}
+use Rattle.once_core.proofs.DeliverPlays.{closed_plays, delivered_plays, opened_holding_plays, ticked_plays}
 use Rattle.once_core.proofs.FormLemmas.{RecordsSpelled}
 use Rattle.once_core.proofs.HearPlays.{hear_plays, hear_rightly}
 use Rattle.once_core.proofs.ListLemmas.{get_contains}
@@ -30,7 +30,7 @@ use Rattle.once_core.proofs.NumberLemmas.{Values}
 use Rattle.once_core.proofs.RedirectPlays.{redirected_plays}
 use Rattle.once_core.proofs.SentPlays.{NodesFollow, OneCopyEach}
 use Rattle.once_core.proofs.TickPlays.{tick_plays, tick_rightly}
-use Rattle.once_core.proofs.WorldPlays.{Made, gateway_made, log_is, node_made}
+use Rattle.once_core.proofs.WorldPlays.{Made, gateway_made, log_is, lost_made, node_made}
 
 -- what the laws of messages and of nodes say
 pub record Laws : Type 0 where
@@ -101,9 +101,9 @@ module _ (laws : Laws) (rules : Rules) (values : ℕ → ℕ → List ℕ) (w : 
   event_made t (event.Commit gateway) allowed =
       gateway_made values w made (gateway - 1) (committing t.fortune) (λ g stands. committing_plays (gateway - 1) made.scene g stands laws.back t.fortune)
   event_made t (event.Cut gateway keep) allowed =
-      gateway_made values w made (gateway - 1) (λ g. still (cut keep t.keeps_torn g)) (λ g stands. cut_plays (gateway - 1) made.scene g stands keep t.keeps_torn)
+      gateway_made values w made (gateway - 1) (λ g. still (cut keep g)) (λ g stands. cut_plays (gateway - 1) made.scene g stands keep)
   event_made t (event.Open gateway) allowed =
-      gateway_made values w made (gateway - 1) (λ g. still (opened rules g)) (λ g stands. opened_plays (gateway - 1) made.scene g stands rules)
+      gateway_made values w made (gateway - 1) (λ g. still (opened_holding t.held rules g)) (λ g stands. opened_holding_plays (gateway - 1) made.scene g stands rules t.held)
   event_made t (event.Halt node) allowed = node_made values w made (node - 1) (called (length w.gateways) (node - 1) call.Halt)
       (λ log here deeds. halt_plays (length w.gateways) (node - 1) log (made.sound.nodes (node - 1) log here) (values (node - 1)) made.scene deeds)
       (λ log here rightly. halt_rightly (length w.gateways) (node - 1) log rightly)
@@ -132,6 +132,10 @@ module _ (laws : Laws) (rules : Rules) (values : ℕ → ℕ → List ℕ) (w : 
   pub turn_made : (t : Turn) → Made values (turn rules w t)
   turn_made t = by (refusal_of w t.event) refl
     where
-      by : (o : Option WorldKind) → refusal_of w t.event ≡ o → Made values (unless_refused o w (turn_by rules w t t.event))
-      by None e = event_made t t.event e
+      by_loss : (b : Bool) → refusal_of w t.event ≡ None → Made values (lost_if b w (turn_by rules w t t.event))
+      by_loss false e = event_made t t.event e
+      by_loss true e = lost_made values (turn_by rules w t t.event) (event_made t t.event e) (length w.messages)
+
+      by : (o : Option WorldKind) → refusal_of w t.event ≡ o → Made values (unless_refused o w (lost_if t.is_lost w (turn_by rules w t t.event)))
+      by None e = by_loss t.is_lost e
       by (Some kind) e = made

@@ -239,7 +239,3 @@ pub same_worlds : (rules : Rules) (gateways nodes : ℕ) (all : List Turn)
 same_worlds rules gateways nodes all =
     ap (λ (w : World). ruled_turns w (map (ruled rules) all)) (same_world rules gateways nodes)
     ∙ same_turns rules (world_of rules gateways nodes) all
-
-pub each_plain_world_is_once : Laws → (rules : Rules) (gateways nodes : ℕ) (all : List Turn) → 1 ≤ gateways → Once (turns rules (world_of rules gateways nodes) all)
-each_plain_world_is_once laws rules gateways nodes all some =
-    subst Once (same_worlds rules gateways nodes all) (each_world_is_once laws (λ place. rules) gateways nodes (map (ruled rules) all) some)

@@ -1,5 +1,5 @@
 -- A world goes on with a gateway's move and with a node's call.
-use Rattle.std.proofs.Common.{◌≡◌, ◌≢◌, ⊎_elim, ℕ, zero, suc, ◌<◌, ◌≤◌, ◌==◌, Bool, true, false, List, [], ◌∷◌, ◌++◌, length, length-set, Option, Some, None, Contains, slice_get, slice_set, refl, sym, ap, subst, ◌∙◌, arith}
+use Rattle.std.proofs.Common.{◌≡◌, ◌≢◌, ⊎_elim, ℕ, zero, suc, ◌<◌, ◌≤◌, ◌==◌, Bool, true, false, List, [], ◌∷◌, ◌++◌, length, length-set, take, Option, Some, None, Contains, slice_get, slice_set, refl, sym, ap, subst, ◌∙◌, arith}
 use Rattle.std.specs.Option.{option_map_or}
 use Rattle.std.proofs.lemmas.Bool.{eqb-true, eqb-false, ne_eqb}
 use Rattle.std.proofs.lemmas.List.Elements.{Contains-append_cases}
@@ -14,6 +14,7 @@ use Rattle.once_core.specs.Shown.{Shows, post_at, post_of}
 use Rattle.once_core.specs.Turn.{at_gateway, at_node, gateway_moved, node_called}
 use Rattle.once_core.specs.World.{Called, World, log_at}
 use Rattle.once_core.specs.declared.message.Message.{Message}
+use Rattle.once_core.proofs.ListLemmas.{in_front}
 use Rattle.once_core.proofs.MeaningLemmas.{Said}
 use Rattle.once_core.proofs.NodePlays.{NodePlays, NodeRightly}
 use Rattle.once_core.proofs.PlayLemmas.{Plays, Rightly, Stands, happened_more}
@@ -52,6 +53,26 @@ pub record Made (values : ℕ → ℕ → List ℕ) (w : World) : Type 0 where
 
 abbrev no_post : Post
 no_post = record { firm = []; rest = []; waiting = [] }
+
+-- fewer messages show no more
+pub lost_made : (values : ℕ → ℕ → List ℕ) (w : World) → Made values w → (count : ℕ) → Made values (record w { messages = take count w.messages })
+lost_made values w made count = record {
+  happenings = made.happenings;
+  scene = made.scene;
+  is = made.is;
+  shows = record {
+    posts = made.shows.posts;
+    deeds = made.shows.deeds;
+    letters = λ m is. made.shows.letters m (in_front count w.messages m is);
+  };
+  strangers = made.strangers;
+  sound = record {
+    some = made.sound.some;
+    gateways = made.sound.gateways;
+    nodes = made.sound.nodes;
+    messages = λ m is. made.sound.messages m (in_front count w.messages m is);
+  };
+}
 
 module _ (values : ℕ → ℕ → List ℕ) (w : World) (made : Made values w) (place : ℕ) where
   -- the gateway in a place stands in the scene

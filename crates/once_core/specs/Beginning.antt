@@ -1,11 +1,12 @@
 -- How a world begins, and the settings of it by default.
-use Rattle.std.specs.Prelude.{ℕ, suc, zero, true, false, List, [], ◌∷◌}
+use Rattle.std.specs.Prelude.{◌≡◌, ℕ, suc, zero, ◌≤◌, true, false, List, [], ◌∷◌}
 use Rattle.gateway_book.specs.Answer.{may_record}
 use Rattle.gateway_book.specs.Answered.{room_for}
 use Rattle.gateway_book.specs.Value.{committed, is_batch_full, standing_for}
 use Rattle.gw_base.specs.Observed.{observed}
 use Rattle.node_core.specs.Log.{Began}
 use Rattle.once_core.specs.Gateway.{Gateway, Rules, with_start}
+use Rattle.once_core.specs.Turn.{RuledTurn, ruled_turns}
 use Rattle.once_core.specs.World.{World}
 
 -- the octets of a gateway's journal, and the seconds for which a file may be open
@@ -54,3 +55,12 @@ first_world rules gateways nodes = beginning (gateways_by rules gateways) nodes
 -- the same where all gateways were opened by the same rules
 abbrev pub world_of : Rules → ℕ → ℕ → World
 world_of rules gateways nodes = beginning (times_of gateways (first_gateway rules)) nodes
+
+-- A world that some turns, each by rules of its own, make of a first one of a gateway or more.
+pub record IsReached (w : World) : Type 0 where
+  pub rules : ℕ → Rules
+  pub gateways : ℕ
+  pub nodes : ℕ
+  pub all : List RuledTurn
+  pub some : 1 ≤ gateways
+  pub is : ruled_turns (first_world rules gateways nodes) all ≡ w

@@ -1,7 +1,7 @@
 -- What a node did, by its log, the oldest first.
 use Rattle.std.specs.Prelude.{ℕ, List, [], ◌∷◌, ◌++◌, map}
 use Rattle.std.specs.List.{flat_map}
-use Rattle.node_core.specs.Log.{LogEntry, Began, Halted, Submitted, Appointed, Ticked, Heard, Saying, Path, Redirects, Responds, Other}
+use Rattle.node_core.specs.Log.{LogEntry, Ticked, Heard, Saying, Responds}
 use Rattle.node_core.specs.declared.port.Port.{Port}
 use Rattle.node_core.specs.declared.port.Port.TheVariants.{First, Second}
 use Rattle.node_core.specs.declared.sending.Sending.{Sending}
@@ -26,18 +26,14 @@ asked_by node start values (send.Command packet gateway named number order is_ne
 
 -- what it heard, an answer for each number that a response speaks for
 abbrev pub told_by : ℕ → ℕ → Port → ℕ → Saying → List Letter
-told_by node start port gateway (Path event) = []
-told_by node start port gateway (Redirects to) = []
-told_by node start port gateway (Responds cause numbers) = map (λ number. letter_of node start gateway port number (Answers cause)) numbers
-told_by node start port gateway Other = []
+told_by node start port gateway (Responds cause numbers) =
+    map (λ number. letter_of node start gateway port number (Answers cause)) numbers
+told_by node start port gateway _ = []
 
 abbrev pub deeds_of : ℕ → (ℕ → List ℕ) → List LogEntry → List Deed
 deeds_of node values [] = []
-deeds_of node values (Began ∷ log) = deeds_of node values log
-deeds_of node values (Halted ∷ log) = deeds_of node values log
-deeds_of node values (Submitted form ∷ log) = deeds_of node values log
-deeds_of node values (Appointed gateway ∷ log) = deeds_of node values log
 deeds_of node values (Ticked sendings ∷ log) =
     deeds_of node values log ++ map (λ letter. did.Sent letter) (flat_map (asked_by node (starts_in log) values) sendings)
 deeds_of node values (Heard port gateway saying ∷ log) =
     deeds_of node values log ++ map (λ letter. did.Heard letter) (told_by node (starts_in log) port gateway saying)
+deeds_of node values (_ ∷ log) = deeds_of node values log

@@ -5,7 +5,7 @@ use Rattle.gw_base.specs.History.{top_of}
 use Rattle.gw_base.specs.Nearest.{nearest}
 use Rattle.gw_base.specs.Starts.{start_of}
 use Rattle.gw_base.specs.declared.history.HistoryEntry.{HistoryEntry}
-use Rattle.node_core.specs.Log.{LogEntry, Began, Halted, Submitted, Appointed, Ticked, Heard}
+use Rattle.node_core.specs.Log.{LogEntry, Began}
 use Rattle.node_core.specs.Peers.{last_number}
 use Rattle.node_core.specs.Value.{NodeValue}
 use Rattle.once_core.specs.Addresses.{node_ip}
@@ -34,11 +34,7 @@ is_expired h m = nat_lt m.start (present_start h m) || (is_request m && is_expir
 -- how many starts a node has made
 abbrev pub begins : LogEntry → Bool
 begins Began = true
-begins Halted = false
-begins (Submitted form) = false
-begins (Appointed gateway) = false
-begins (Ticked sendings) = false
-begins (Heard port gateway saying) = false
+begins _ = false
 
 abbrev pub starts_in : List LogEntry → ℕ
 starts_in log = count_by begins log

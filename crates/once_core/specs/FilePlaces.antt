@@ -1,63 +1,53 @@
--- Where the records of a copy stand in the files of its gateway.
-use Rattle.std.specs.Prelude.{◌≡◌, ℕ, Bool, true, false, List, [], ◌∷◌, map, Option, Some, None, Contains, is_some}
-use Rattle.std.specs.List.{enumerate_from, filter_map}
+-- The files of a gateway with the records as it filed them, so that the key of the record at each place can be told. What
+-- a division into files carries of its records is free: these are the files of the history's items, in which each record
+-- has all that it was filed with.
+use Rattle.std.specs.Prelude.{ℕ, ◌==◌, Bool, true, List, [], ◌∷◌, length, map, filter}
+use Rattle.std.specs.List.{enumerate_from, flat_map}
+use Rattle.file_rotate.specs.Division.{division_of}
+use Rattle.file_rotate.specs.Items.{Filed, Item, Record, Tick, Close}
+use Rattle.file_writer.specs.Places.{FilePlace, runs_of}
+use Rattle.file_writer.specs.Streams.{Settings}
+use Rattle.gateway_book.specs.Filed.{along, filed_by_act}
+use Rattle.gateway_book.specs.declared.filing.FiledRecord.{FiledRecord}
+use Rattle.gw_base.specs.Lists.{once}
 use Rattle.gw_base.specs.declared.history.HistoryAct.{HistoryAct}
 use Rattle.gw_base.specs.declared.history.HistoryAct.TheVariants as act
 use Rattle.gw_base.specs.declared.history.HistoryEntry.{HistoryEntry}
-use Rattle.gw_base.specs.declared.history.PacketKey.{PacketKey}
-use Rattle.file_writer.specs.Places.{FilePlace, place_in, record_at}
-use Rattle.file_writer.specs.Streams.{Settings, stream_record}
-use Rattle.gateway_book.specs.Filed.{along, filed, filed_by_act}
-use Rattle.gateway_book.specs.Items.{items_of}
-use Rattle.gateway_book.specs.Once.{is_record_of}
-use Rattle.gateway_book.specs.declared.filing.FiledRecord.{FiledRecord}
+use Rattle.route_filter.specs.Rules.{stream_of}
 
--- of which filed record each item is that an act makes: a mark is of none
-abbrev pub sources_by_act : List HistoryEntry → ℕ → HistoryAct → List (Option FiledRecord)
-sources_by_act before moment act.Tick = None ∷ []
-sources_by_act before moment act.Close = None ∷ []
-sources_by_act before moment a = map Some (filed_by_act before moment a)
+abbrev pub filed_item : FiledRecord → Item FiledRecord
+filed_item r = Record (record { kind = r.kind; octets = length r.octets; moment = r.moment; payload = r })
 
-abbrev pub sources_by : List HistoryEntry → HistoryEntry → List (Option FiledRecord)
-sources_by before e = sources_by_act before e.moment e.act
+-- what an act gives to the files: the records that it files, or a mark
+abbrev pub filed_items_by : List HistoryEntry → ℕ → HistoryAct → List (Item FiledRecord)
+filed_items_by before moment act.Tick = Tick moment ∷ []
+filed_items_by before moment act.Close = Close moment ∷ []
+filed_items_by before moment a = map filed_item (filed_by_act before moment a)
 
--- of which filed record each item of a history is
-abbrev pub sources_of : List HistoryEntry → List (Option FiledRecord)
-sources_of h = along sources_by [] h
+abbrev pub filed_items : List HistoryEntry → List (Item FiledRecord)
+filed_items h = along (λ before e. filed_items_by before e.moment e.act) [] h
 
--- the item is of the record with this index of the packet under a key
-abbrev pub is_source : PacketKey → ℕ → Option FiledRecord → Bool
-is_source key index None = false
-is_source key index (Some filing) = is_record_of key index filing
+-- a record goes to the stream that the rules choose, and a mark to each
+abbrev pub goes_to : Settings → ℕ → Item FiledRecord → Bool
+goes_to settings s (Record r) = stream_of settings.rules r.payload.tag r.kind.format == s
+goes_to settings s (Tick moment) = true
+goes_to settings s (Close moment) = true
 
-abbrev pub place_where : Bool → Settings → List HistoryEntry → ℕ → Option FilePlace
-place_where true settings h k = place_in settings (items_of h) k
-place_where false settings h k = None
+-- the files of a stream, each with its records in order, and last the one that is still open
+abbrev pub filed_runs : Settings → ℕ → List HistoryEntry → List (List (Filed FiledRecord))
+filed_runs settings s h = runs_of (division_of settings.limits (filter (goes_to settings s) (filed_items h)))
 
--- The places, each a stream, a file of it and an index there, at which that record stands in the files of a history.
-abbrev pub file_places : Settings → PacketKey → ℕ → List HistoryEntry → List FilePlace
-file_places settings key index h =
-    filter_map (λ item. place_where (is_source key index item.1) settings h item.0) (enumerate_from 0 (sources_of h))
+-- the streams that the rules may choose, each once
+abbrev pub streams_of : Settings → List ℕ
+streams_of settings = once (λ s t. s == t) (0 ∷ map (λ rule. rule.stream) settings.rules)
 
--- a filed record stands at a place in the files of a history
-abbrev pub StandsAt : Settings → List HistoryEntry → FilePlace → FiledRecord → Type 0
-StandsAt settings h place filing =
-    record_at settings (items_of h) place ≡ Some (stream_record filing.kind filing.octets filing.moment)
+-- a record of the file with this number in the sequence of a stream, at its place: so many records stand before it
+abbrev pub at_place : ℕ → ℕ → ℕ × Filed FiledRecord → FilePlace × FiledRecord
+at_place s sequence x = (record { stream = s; sequence = sequence; index = x.0 }, x.1.payload)
 
--- the record that was filed with this index of the packet under a key stands at a place
-pub record IsRecordAt (settings : Settings) (key : PacketKey) (index : ℕ) (h : List HistoryEntry)
-    (place : FilePlace) : Type 0 where
-  pub filing : FiledRecord
-  pub kept : Contains (filed h) filing
-  pub is : is_record_of key index filing ≡ true
-  pub there : StandsAt settings h place filing
-
--- the files of a history have a record at a place
-abbrev pub HasRecordAt : Settings → List HistoryEntry → FilePlace → Type 0
-HasRecordAt settings h place = is_some (record_at settings (items_of h) place) ≡ true
-
--- a place is one of those of a record that was filed
-pub record IsOfRecord (settings : Settings) (h : List HistoryEntry) (place : FilePlace) : Type 0 where
-  pub filing : FiledRecord
-  pub kept : Contains (filed h) filing
-  pub here : Contains (file_places settings filing.key filing.index h) place
+-- Each record in the files of a history, at its place: its stream, the number of its file there, which counts from 1, and
+-- how many records stand before it in the file.
+abbrev pub placed : Settings → List HistoryEntry → List (FilePlace × FiledRecord)
+placed settings h =
+    flat_map (λ s. flat_map (λ file. map (at_place s file.0) (enumerate_from 0 file.1)) (enumerate_from 1 (filed_runs settings s h)))
+    (streams_of settings)

@@ -1,7 +1,7 @@
 -- The packets that a node ever followed.
 use Rattle.std.specs.Prelude.{ℕ, ◌==◌, List, [], ◌∷◌, ◌++◌, filter, map, zip}
 use Rattle.gtpp_message.specs.Packet.{PacketForm}
-use Rattle.node_core.specs.Log.{LogEntry, Began, Halted, Submitted, Appointed, Ticked, Heard, forms_of, packets_of}
+use Rattle.node_core.specs.Log.{LogEntry, Began, Halted, forms_of, packets_of}
 use Rattle.node_core.specs.Packets.{PacketState}
 use Rattle.once_core.specs.Expired.{starts_in}
 
@@ -22,10 +22,7 @@ abbrev pub followed_before : List LogEntry → List Followed
 followed_before [] = []
 followed_before (Began ∷ log) = followed_before log ++ following log
 followed_before (Halted ∷ log) = followed_before log ++ following log
-followed_before (Submitted form ∷ log) = followed_before log
-followed_before (Appointed gateway ∷ log) = followed_before log
-followed_before (Ticked sendings ∷ log) = followed_before log
-followed_before (Heard port gateway saying ∷ log) = followed_before log
+followed_before (_ ∷ log) = followed_before log
 
 -- all of them, in order
 abbrev pub all_followed : List LogEntry → List Followed

@@ -1,5 +1,5 @@
 -- A gateway of a world, and how it moves: by commits and openings again, by stopping and opening.
-use Rattle.std.specs.Prelude.{ℕ, Bool, true, false, not, nat_le, ◌||◌, ◌-◌, if◌then◌else◌, List, [], ◌++◌, length, map, take, filter}
+use Rattle.std.specs.Prelude.{ℕ, Bool, true, false, not, nat_le, ◌||◌, ◌-◌, if◌then◌else◌, List, [], ◌++◌, length, map, take, filter, Option, Some, None}
 use Rattle.gw_base.specs.declared.address.NodeId.{NodeId}
 use Rattle.gw_base.specs.declared.history.HistoryAct.{HistoryAct}
 use Rattle.gw_base.specs.declared.history.HistoryAct.TheVariants.{Start}
@@ -81,14 +81,11 @@ readying rules f g = if g.book.is_broken || rules.is_full g.book then committing
 
 -- Stopping and opening.
 
--- the book whose first `keep` entries are left, and all firm ones; of a broken one the torn entries are left or not
-abbrev pub entries_left : ℕ → Bool → BookValue → List HistoryEntry
-entries_left keep keeps_torn book =
-    if book.is_broken then (if keeps_torn then book.rest else []) else take (keep - length book.firm) book.rest
-
-abbrev pub cut : ℕ → Bool → Gateway → Gateway
-cut keep keeps_torn g = record {
-  book = record g.book { rest = entries_left keep keeps_torn g.book; is_broken = false };
+-- a gateway that stopped: its first `keep` entries are left, and all firm ones in any case, of a broken one the torn
+-- entries behind them, too
+abbrev pub cut : ℕ → Gateway → Gateway
+cut keep g = record {
+  book = record g.book { rest = take (keep - length g.book.firm) g.book.rest; is_broken = false };
   waiting = [];
   is_down = true;
   redirects = g.redirects;
@@ -106,3 +103,8 @@ opened rules g = record {
   is_down = false;
   redirects = 0;
 }
+
+-- the same; where another machine opens in its place, that one holds its first `keep` entries, and all firm ones
+abbrev pub opened_holding : Option ℕ → Rules → Gateway → Gateway
+opened_holding None rules g = opened rules g
+opened_holding (Some keep) rules g = opened rules (cut keep g)

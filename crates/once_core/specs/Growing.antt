@@ -2,7 +2,6 @@
 use Rattle.std.specs.Prelude.{◌≡◌, List, ◌++◌}
 use Rattle.gateway_book.specs.Value.{BookValue}
 use Rattle.gw_base.specs.declared.history.HistoryEntry.{HistoryEntry}
-use Rattle.once_core.specs.Happenings.{Post, history}
 
 -- a list goes on with some more
 pub record GrowsTo {A : Type 0} (before after : List A) : Type 0 where
@@ -15,7 +14,7 @@ pub record HoldSame (a b : BookValue) : Type 0 where
   pub rest : a.rest ≡ b.rest
   pub broken : a.is_broken ≡ b.is_broken
 
--- a history that holds the firm part of a gateway's, and more of it or not
-pub record IsBetween (post : Post) (h : List HistoryEntry) : Type 0 where
-  pub front : GrowsTo post.firm h
-  pub back : GrowsTo h (history post)
+-- a history that holds the firm part of a gateway's, and none or some of the entries behind it
+pub record IsBetween (firm rest h : List HistoryEntry) : Type 0 where
+  pub front : GrowsTo firm h
+  pub back : GrowsTo h (firm ++ rest)

@@ -137,7 +137,7 @@ turn_kept k (event.Tick node) =
     with_node k (node - 1) (λ n. with_entries (tick_entries n.node) n) (due_messages (node - 1))
 turn_kept k (event.Deliver message) = option_map_or (reaching k) (slice_get k.messages (message - 1)) k
 turn_kept k (event.Commit gateway) = with_gateway k (gateway - 1) (committing quiet)
-turn_kept k (event.Cut gateway keep) = with_changed_gateway k (gateway - 1) (cut keep false)
+turn_kept k (event.Cut gateway keep) = with_changed_gateway k (gateway - 1) (cut keep)
 turn_kept k (event.Open gateway) = with_changed_gateway k (gateway - 1) (opened default_rules)
 turn_kept k (event.Halt node) = with_changed_node k (node - 1) (with_entries (log.Halted ∷ []))
 turn_kept k (event.Start node) = with_changed_node k (node - 1) started_again

@@ -5,7 +5,7 @@ use Rattle.std.specs.List.{flat_map}
 use Rattle.std.specs.Option.{option_map_or}
 use Rattle.gtpp_message.specs.Packet.{PacketForm}
 use Rattle.node_core.specs.Drafts.{value_octets}
-use Rattle.node_core.specs.Log.{LogEntry, Began, Halted, Submitted, Appointed, Ticked, Heard}
+use Rattle.node_core.specs.Log.{LogEntry, Submitted}
 use Rattle.once_core.specs.Addresses.{node_ip}
 use Rattle.once_core.specs.Deeds.{deeds_of}
 use Rattle.once_core.specs.Gateway.{Gateway}
@@ -35,12 +35,8 @@ post_at w place = option_map_or post_of (slice_get w.gateways place) (record { f
 -- all packets that were submitted to a node over all its starts, in order, and the octets of each by its number
 abbrev pub forms_ever : List LogEntry → List PacketForm
 forms_ever [] = []
-forms_ever (Began ∷ log) = forms_ever log
-forms_ever (Halted ∷ log) = forms_ever log
 forms_ever (Submitted form ∷ log) = forms_ever log ++ form ∷ []
-forms_ever (Appointed gateway ∷ log) = forms_ever log
-forms_ever (Ticked sendings ∷ log) = forms_ever log
-forms_ever (Heard port gateway saying ∷ log) = forms_ever log
+forms_ever (_ ∷ log) = forms_ever log
 
 abbrev pub values_of : List LogEntry → ℕ → List ℕ
 values_of log number = option_map_or value_octets (slice_get (forms_ever log) (number - 1)) []

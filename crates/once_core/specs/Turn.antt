@@ -1,12 +1,12 @@
 -- What an event makes of a world: whether the world allows it, and what happens then.
-use Rattle.std.specs.Prelude.{ℕ, ◌-◌, ◌&&◌, not, nat_le, nat_lt, Bool, true, false, if◌then◌else◌, List, [], ◌∷◌, ◌++◌, length, Option, Some, None, option_map, slice_get, slice_set}
+use Rattle.std.specs.Prelude.{ℕ, ◌-◌, ◌&&◌, not, nat_le, nat_lt, Bool, true, false, if◌then◌else◌, List, [], ◌∷◌, ◌++◌, length, Option, Some, None, option_map, take, slice_get, slice_set}
 use Rattle.std.specs.Option.{option_map_or, option_or}
 use Rattle.gateway_book.specs.Value.{Fortune, Whole}
 use Rattle.node_core.specs.Log.{LogEntry, runs}
 use Rattle.node_core.specs.Reached.{Halt, Start}
 use Rattle.once_core.specs.Answers.{closing, delivered, making_tick, marked, redirected}
 use Rattle.once_core.specs.Expired.{starts_in}
-use Rattle.once_core.specs.Gateway.{Gateway, Moved, Rules, committing, cut, opened, still}
+use Rattle.once_core.specs.Gateway.{Gateway, Moved, Rules, committing, cut, opened_holding, still}
 use Rattle.once_core.specs.World.{Called, World, called, delivered_to_node, log_at, submitting, ticking}
 use Rattle.once_core.specs.declared.event.Event.{Event}
 use Rattle.once_core.specs.declared.event.Event.TheVariants as event
@@ -75,12 +75,14 @@ refusal_of w (event.Close gateway) = no_running_gateway w gateway
 
 -- What happens.
 
--- a turn: an event; what the device does to the commit, or the opening again, that it needs; and whether a cut of a
--- broken gateway leaves its torn entries
+-- a turn: an event; what the device does to the commit, or the opening again, that it needs; whether all that it sends
+-- is lost, so that it never joins the messages; and of an Open, how many entries the machine holds that opens, where that
+-- is another one than stopped
 pub record Turn : Type 0 where
   pub event : Event
   pub fortune : Fortune
-  pub keeps_torn : Bool
+  pub is_lost : Bool
+  pub held : Option ℕ
 
 -- a gateway moves, and what it sends joins the messages
 abbrev pub gateway_moved : World → ℕ → Moved → World
@@ -106,8 +108,8 @@ turn_by rules w t (event.Submit node packet) = at_node w (node - 1) (submitting 
 turn_by rules w t (event.Tick node) = at_node w (node - 1) (ticking (length w.gateways) (node - 1))
 turn_by rules w t (event.Deliver message) = option_map_or (delivering rules t.fortune w) (slice_get w.messages (message - 1)) w
 turn_by rules w t (event.Commit gateway) = at_gateway w (gateway - 1) (committing t.fortune)
-turn_by rules w t (event.Cut gateway keep) = at_gateway w (gateway - 1) (λ g. still (cut keep t.keeps_torn g))
-turn_by rules w t (event.Open gateway) = at_gateway w (gateway - 1) (λ g. still (opened rules g))
+turn_by rules w t (event.Cut gateway keep) = at_gateway w (gateway - 1) (λ g. still (cut keep g))
+turn_by rules w t (event.Open gateway) = at_gateway w (gateway - 1) (λ g. still (opened_holding t.held rules g))
 turn_by rules w t (event.Halt node) = at_node w (node - 1) (called (length w.gateways) (node - 1) Halt)
 turn_by rules w t (event.Start node) = at_node w (node - 1) (called (length w.gateways) (node - 1) Start)
 turn_by rules w t (event.Redirect gateway cause to) =
@@ -116,13 +118,18 @@ turn_by rules w t (event.Moment now) = record w { now = now }
 turn_by rules w t (event.Mark gateway) = at_gateway w (gateway - 1) (marked rules t.fortune (making_tick rules w.now))
 turn_by rules w t (event.Close gateway) = at_gateway w (gateway - 1) (marked rules t.fortune (closing rules w.now))
 
+-- where all that a turn sends is lost, the messages are those that were there before
+abbrev pub lost_if : Bool → World → World → World
+lost_if true before after = record after { messages = take (length before.messages) after.messages }
+lost_if false before after = after
+
 -- the world after a turn: as it was, where it doesn't allow the event
 abbrev pub unless_refused : Option WorldKind → World → World → World
 unless_refused None before after = after
 unless_refused (Some kind) before after = before
 
 abbrev pub turn : Rules → World → Turn → World
-turn rules w t = unless_refused (refusal_of w t.event) w (turn_by rules w t t.event)
+turn rules w t = unless_refused (refusal_of w t.event) w (lost_if t.is_lost w (turn_by rules w t t.event))
 
 -- A turn by rules of its own, so that whatever a gateway asks its rules there is an arbitrary yes or no.
 pub record RuledTurn : Type 0 where
@@ -142,6 +149,6 @@ abbrev pub turns : Rules → World → List Turn → World
 turns rules w [] = w
 turns rules w (t ∷ later) = turns rules (turn rules w t) later
 
--- an event with which no device fails
+-- an event with which no device fails and nothing is lost
 abbrev pub calm : Event → Turn
-calm e = record { event = e; fortune = record { fails = false; reopening = Whole }; keeps_torn = false }
+calm e = record { event = e; fortune = record { fails = false; reopening = Whole }; is_lost = false; held = None }

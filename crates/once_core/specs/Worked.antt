@@ -1,10 +1,13 @@
 -- Worked values: what a world comes to by some events, and what is seen of it.
-use Rattle.std.specs.Prelude.{ℕ, Bool, true, List, [], ◌∷◌, ◌++◌, length, map, None}
+use Rattle.std.specs.Prelude.{ℕ, pos, Bool, true, List, [], ◌∷◌, ◌++◌, length, map, None}
+use Rattle.std.specs.List.{flat_map}
+use Rattle.file_writer.specs.Streams.{Settings}
 use Rattle.gateway_book.specs.Value.{Gone}
 use Rattle.node_core.specs.Packets.{is_resolved}
 use Rattle.once_core.specs.Addresses.{node_ip}
 use Rattle.once_core.specs.Beginning.{default_rules, world_of}
 use Rattle.once_core.specs.FiledOnce.{filing_count}
+use Rattle.once_core.specs.FilePlaces.{placed}
 use Rattle.once_core.specs.Followed.{Followed, all_followed}
 use Rattle.once_core.specs.Gateway.{Gateway}
 use Rattle.once_core.specs.Once.{firm_in}
@@ -31,6 +34,20 @@ entries w = map (λ (g : Gateway). (length g.book.firm, length g.book.rest)) w.g
 -- of each packet that the node ever followed: whether it is resolved, and how often its first record is filed
 abbrev pub packets : World → List (Bool × ℕ)
 packets w = map (λ (p : Followed). (is_resolved p.state.copies, filing_count (firm_in w) (node_ip 0) p.start p.state.copies 0)) (all_followed (log_at w 0))
+
+-- where records stand in the files of the first two gateways: the gateway, the stream, the number of the file there, and
+-- how many records stand before it
+abbrev pub some_files : Settings
+some_files = record {
+  rules = [];
+  limits = record { size = 4096; count = 1; open_time = 3600 };
+  file = record { offset = pos 0; address = 0 };
+}
+
+abbrev pub standing : World → List (ℕ × ℕ × ℕ × ℕ)
+standing w =
+    flat_map (λ gateway. map (λ x. (gateway, x.0.stream, x.0.sequence, x.0.index)) (placed some_files (firm_in w gateway)))
+    (0 ∷ 1 ∷ [])
 
 -- a packet of one record, of format 1 and version 0x0600
 abbrev pub a_packet : List ℕ

@@ -145,7 +145,7 @@ impl KeptGateway {
 
     /// Stops: so many entries are left, and the firm ones in any case.
     pub(crate) fn cut(&mut self, keep: u64)
-        ensures { self.new ≡ cut keep false self.old }
+        ensures { self.new ≡ cut keep self.old }
     {
         let all = self.history.len();
         let left = self.firm.max(keep.min(all as u64) as usize);

@@ -96,7 +96,8 @@ pub fn open_numbers_are_read_as_meant()
         (values : ℕ → List ℕ) (h : List HistoryEntry) → 1 ≤ length setup.gateways → gateway < length setup.gateways →
         runs (log_of setup calls) ≡ true →
         (scene_after happenings).deeds node ≡ deeds_of node values (log_of setup calls) →
-        IsBetween ((scene_after happenings).posts gateway) h → start_of node h ≡ starts_in (log_of setup calls) →
+        let post = (scene_after happenings).posts gateway in IsBetween post.firm post.rest h →
+        start_of node h ≡ starts_in (log_of setup calls) →
         HasOpenCopy (reached setup calls).packets gateway number →
         nearest (top_of node h) (number % 65536) ≡ number }
 {

@@ -1,15 +1,14 @@
 //! Laws of worlds by what their messages mean. Each holds for all settings, and stands on a function
 //! that does nothing.
 
-ghost use Rattle.std.specs.Prelude.{◌≡◌, ◌≤◌, ℕ, List, length};
+ghost use Rattle.std.specs.Prelude.{◌≡◌, ◌≤◌, ℕ, length};
 ghost use Rattle.gtpp_message.specs.Message.{MessageValue};
 ghost use Rattle.gtpp_message.specs.Writing.{IsSendableMessage, body_octets, written};
-ghost use Rattle.once_core.specs.Beginning.{first_world};
-ghost use Rattle.once_core.specs.Gateway.{Rules};
+ghost use Rattle.once_core.specs.Beginning.{IsReached};
 ghost use Rattle.once_core.specs.Meaning.{meaning_in, meaning_of};
 ghost use Rattle.once_core.specs.Messages.{about};
 ghost use Rattle.once_core.specs.Shown.{IsMade};
-ghost use Rattle.once_core.specs.Turn.{RuledTurn, ruled_turns};
+ghost use Rattle.once_core.specs.World.{World};
 ghost use Rattle.once_core.specs.declared.message.Message.{Message};
 
 use crate::once_laws::a_node_follows_the_procedure;
@@ -26,8 +25,7 @@ pub fn what_is_sent_is_meant()
 /// Whatever happens in a world of at least one gateway, some list of happenings makes it: the
 /// gateways are the same, the nodes did what their logs say, and each request and each answer was sent.
 pub fn each_world_is_made_by_happenings()
-    ensures { (first : ℕ → Rules) (gateways nodes : ℕ) (all : List RuledTurn) → 1 ≤ gateways →
-        IsMade (ruled_turns (first_world first gateways nodes) all) }
+    ensures { (w : World) → IsReached w → IsMade w }
 {
     gtpp_message::laws::written_is_read_back();
     gtpp_message::laws::a_role_reads_what_is_read();

@@ -10,7 +10,7 @@ use crate::message::Message;
 use crate::node_turn::KeptNode;
 use crate::refusing::place_of;
 use crate::room::first_moment;
-use crate::world_laws::{each_record_is_filed_once, each_record_stands_once};
+use crate::world_laws::{each_record_is_filed_once, each_record_stands_once, turns_reach_worlds};
 use gw_base::{Moment, NoMemory, Octets};
 use std::alloc::Global;
 use std::marker::Model;
@@ -41,7 +41,7 @@ impl Model for World {
 }
 
 impl World {
-    ghost use Rattle.once_core.specs.Beginning.{world_of};
+    ghost use Rattle.once_core.specs.Beginning.{IsReached, world_of};
     ghost use Rattle.once_core.specs.KeptTurn.{no_message, no_running_node, reaching, refusal_kept, refusal_to_start, turn_kept};
     ghost use Rattle.once_core.specs.Standing.{Stands};
     ghost use Rattle.once_core.specs.Stepping.{FilesOnce, StepGives};
@@ -88,11 +88,12 @@ impl World {
     /// once, each later step answers so, too.
     pub fn step(&mut self, alloc: Global, event: &Event) -> Stepped
         ensures gives { (w : of.World) → Stands w self.old → StepGives w event.now self.new result }
-        ensures once { FilesOnce event.now self.old self.new result }
+        ensures once { (w : of.World) → Stands w self.old → IsReached w → FilesOnce w event.now self.new result }
         ensures spent { self.old.is_spent ≡ true → result ≡ Stepped.NoMemory }
         ensures stays_spent { self.old.is_spent ≡ true → self.new.is_spent ≡ true }
     {
         node_core::a_node_stands_for_its_log();
+        turns_reach_worlds();
         each_record_is_filed_once();
         each_record_stands_once();
         if self.is_spent {

@@ -1,12 +1,13 @@
 //! Laws of worlds. Each holds for all settings, and whatever a gateway is told, each time it asks, of which acts may be
 //! recorded and whether its batch is full. Each stands on a function that does nothing.
 
-ghost use Rattle.std.specs.Prelude.{◌≡◌, ◌-◌, ◌<◌, ◌≤◌, ◌++◌, ℕ, Bool, true, false, Contains, List, None, Some, length, slice_get};
-ghost use Rattle.file_writer.specs.Places.{FilePlace, place_in};
-ghost use Rattle.file_writer.specs.Streams.{Settings};
+ghost use Rattle.std.specs.Prelude.{◌≡◌, ◌-◌, ◌<◌, ◌≤◌, ◌++◌, ℕ, Bool, true, false, Contains, List, None, Some, count_by, length, slice_get};
+ghost use Rattle.file_rotate.specs.Items.{Filed};
+ghost use Rattle.file_writer.specs.Places.{FilePlace, place_in, record_at};
+ghost use Rattle.file_writer.specs.Streams.{Settings, stream_record};
 ghost use Rattle.gateway_book.specs.Filed.{filed};
-ghost use Rattle.gateway_book.specs.Items.{items_of, part_of};
-ghost use Rattle.gateway_book.specs.Once.{times_filed};
+ghost use Rattle.gateway_book.specs.Items.{items_of};
+ghost use Rattle.gateway_book.specs.Once.{is_record_of, times_filed};
 ghost use Rattle.gateway_book.specs.Value.{BookValue, Gone, Refused, Whole, faulted, history_of, reopened, standing_for};
 ghost use Rattle.gateway_book.specs.declared.filing.FiledRecord.{FiledRecord};
 ghost use Rattle.gw_base.specs.History.{state_of};
@@ -14,22 +15,32 @@ ghost use Rattle.gw_base.specs.declared.history.HistoryEntry.{HistoryEntry};
 ghost use Rattle.gw_base.specs.declared.history.PacketKey.{PacketKey};
 ghost use Rattle.once_core.specs.Admitted.{AllAdmitted, AllKeepLimits, AllLimited, AllMarksDue, KeepLimits, moves_on};
 ghost use Rattle.once_core.specs.Answers.{taken_in};
-ghost use Rattle.once_core.specs.Beginning.{default_rules, first_world, world_of};
-ghost use Rattle.once_core.specs.FilePlaces.{HasRecordAt, IsOfRecord, IsRecordAt, file_places, sources_of};
+ghost use Rattle.once_core.specs.Beginning.{IsReached, default_rules, first_world, world_of};
+ghost use Rattle.once_core.specs.FilePlaces.{placed};
 ghost use Rattle.once_core.specs.Epochs.{StartsRise};
 ghost use Rattle.once_core.specs.Gateway.{Gateway, Rules, cut};
 ghost use Rattle.once_core.specs.Expired.{is_expired};
 ghost use Rattle.once_core.specs.Growing.{GrowsTo, HoldSame, IsBetween};
 ghost use Rattle.once_core.specs.Once.{Once, firm_in};
-ghost use Rattle.once_core.specs.Shown.{post_of};
 ghost use Rattle.once_core.specs.StandsOnce.{StandsOnce};
-ghost use Rattle.once_core.specs.Turn.{RuledTurn, Turn, at_gateway, log_in, refusal_of, ruled_turns, turn, turns};
+ghost use Rattle.once_core.specs.Turn.{RuledTurn, Turn, at_gateway, log_in, lost_if, refusal_of, ruled_turns, turn, turns};
 ghost use Rattle.once_core.specs.World.{World, ticking};
 ghost use Rattle.once_core.specs.declared.event.Event.TheVariants.{Deliver, Tick};
 ghost use Rattle.once_core.specs.declared.message.Message.{Message};
 
 use crate::once_laws::{a_node_follows_the_procedure, a_node_knows_what_it_was_told};
 use crate::told_laws::what_is_filed_was_submitted;
+use gateway_book::FiledRecord as Filing;
+
+/// What turns make of a first world of a gateway or more is reached, also where all gateways go by the
+/// same rules in every turn; and what turns make of a world that is reached is reached.
+pub fn turns_reach_worlds()
+    ensures each { (first : ℕ → Rules) (gateways nodes : ℕ) (all : List RuledTurn) → 1 ≤ gateways →
+        IsReached (ruled_turns (first_world first gateways nodes) all) }
+    ensures alike { (rules : Rules) (gateways nodes : ℕ) (all : List Turn) → 1 ≤ gateways →
+        IsReached (turns rules (world_of rules gateways nodes) all) }
+    ensures on { (w : World) (later : List RuledTurn) → IsReached w → IsReached (ruled_turns w later) }
+{}
 
 /// Whatever happens in a world of at least one gateway, each record of each packet that its node
 /// ever resolved is filed once by all gateways together, and each record of any other packet at most
@@ -37,10 +48,7 @@ use crate::told_laws::what_is_filed_was_submitted;
 /// for a copy is its packet's record, and nothing that is filed counts for two records. So it is, as a
 /// case of this, where all go by the same rules.
 pub fn each_record_is_filed_once()
-    ensures each { (first : ℕ → Rules) (gateways nodes : ℕ) (all : List RuledTurn) → 1 ≤ gateways →
-        Once (ruled_turns (first_world first gateways nodes) all) }
-    ensures alike { (rules : Rules) (gateways nodes : ℕ) (all : List Turn) → 1 ≤ gateways →
-        Once (turns rules (world_of rules gateways nodes) all) }
+    ensures { (w : World) → IsReached w → Once w }
 {
     gtpp_message::laws::written_is_read_back();
     gtpp_message::laws::a_role_reads_what_is_read();
@@ -55,20 +63,16 @@ pub fn each_record_is_filed_once()
 /// firm alone and with any entries that follow. So where the next event delivers it, the gateway does
 /// what it does to a message whose age nobody asks for.
 pub fn what_a_tick_sends_is_not_expired()
-    ensures sent { (first : ℕ → Rules) (gateways nodes : ℕ) (all : List RuledTurn) (node : ℕ) (m : Message)
-        (g : Gateway) (h : List HistoryEntry) → 1 ≤ gateways →
-        let w = ruled_turns (first_world first gateways nodes) all in
+    ensures sent { (w : World) (node : ℕ) (m : Message) (g : Gateway) (h : List HistoryEntry) → IsReached w →
         refusal_of w (Tick node) ≡ None →
         Contains (ticking (length w.gateways) (node - 1) (log_in w node)).sends m →
-        slice_get w.gateways m.gateway ≡ Some g → IsBetween (post_of g) h → is_expired h m ≡ false }
-    ensures delivered { (first : ℕ → Rules) (gateways nodes : ℕ) (all : List RuledTurn) (tick next : RuledTurn)
-        (node number : ℕ) (m : Message) → 1 ≤ gateways →
-        let before = ruled_turns (first_world first gateways nodes) all in
+        slice_get w.gateways m.gateway ≡ Some g → IsBetween g.book.firm g.book.rest h → is_expired h m ≡ false }
+    ensures delivered { (before : World) (tick next : RuledTurn) (node number : ℕ) (m : Message) → IsReached before →
         let after = turn tick.rules before tick.turn in
         tick.turn.event ≡ Tick node → next.turn.event ≡ Deliver number →
         length before.messages < number → slice_get after.messages (number - 1) ≡ Some m →
-        turn next.rules after next.turn
-        ≡ at_gateway after m.gateway (taken_in next.rules after.now next.turn.fortune m) }
+        turn next.rules after next.turn ≡ lost_if next.turn.is_lost after
+        (at_gateway after m.gateway (taken_in next.rules after.now next.turn.fortune m)) }
 {
     gw_base::nearest_is_the_one();
     gtpp_message::laws::written_is_read_back();
@@ -105,39 +109,34 @@ pub fn places_stay()
 /// record has one place. And no place is that of two records.
 pub fn each_filed_record_has_one_place()
     ensures count { (settings : Settings) (key : PacketKey) (index : ℕ) (h : List HistoryEntry) →
-        length (file_places settings key index h) ≡ times_filed key index (filed h) }
-    ensures only { (settings : Settings) (key other : PacketKey) (index j : ℕ) (h : List HistoryEntry)
-        (place : FilePlace) → Contains (file_places settings key index h) place →
-        Contains (file_places settings other j h) place → (key ≡ other) × (index ≡ j) }
+        count_by (λ x. is_record_of key index x.1) (placed settings h) ≡ times_filed key index (filed h) }
+    ensures only { (settings : Settings) (h : List HistoryEntry) (place : FilePlace) (one other : FiledRecord) →
+        Contains (placed settings h) (place, one) → Contains (placed settings h) (place, other) → one ≡ other }
 {
-    file_writer::places::each_record_has_one_place();
+    file_rotate::division_closes_where_files_end::<Filing>();
 }
 
-/// What stands at a place of a record is the record as it was filed, and the files of a history have a
-/// record nowhere but at the places of records that it filed. And the sources of a history's items, by
-/// which places are told, are those of the items one by one.
+/// What stands at a place was filed. The places are those of the history's items, whose records the
+/// writer of files is told: the files of these have the record there, and a record nowhere else.
 pub fn what_stands_at_a_place_was_filed()
-    ensures item { (h : List HistoryEntry) (k : ℕ) (filing : FiledRecord) →
-        slice_get (sources_of h) k ≡ Some (Some filing) → slice_get (items_of h) k ≡ Some (part_of filing) }
-    ensures there { (settings : Settings) (key : PacketKey) (index : ℕ) (h : List HistoryEntry) (place : FilePlace) →
-        Contains (file_places settings key index h) place → IsRecordAt settings key index h place }
-    ensures all { (settings : Settings) (h : List HistoryEntry) (place : FilePlace) →
-        HasRecordAt settings h place → IsOfRecord settings h place }
+    ensures filed { (settings : Settings) (h : List HistoryEntry) (place : FilePlace) (filing : FiledRecord) →
+        Contains (placed settings h) (place, filing) → Contains (filed h) filing }
+    ensures there { (settings : Settings) (h : List HistoryEntry) (place : FilePlace) (filing : FiledRecord) →
+        Contains (placed settings h) (place, filing) → record_at settings (items_of h) place
+        ≡ Some (stream_record filing.kind filing.octets filing.moment) }
+    ensures all { (settings : Settings) (h : List HistoryEntry) (place : FilePlace) (found : Filed (List ℕ)) →
+        record_at settings (items_of h) place ≡ Some found →
+        (filing : FiledRecord) × Contains (placed settings h) (place, filing) }
 {
-    file_writer::places::each_record_has_one_place();
-    file_writer::places::each_place_is_of_an_item();
+    file_rotate::division_closes_where_files_end::<Filing>();
 }
 
 /// Whatever happens in a world of at least one gateway, each record of each packet that its node ever
-/// resolved stands at one place of the files of all gateways, each record of any other packet at one
-/// at most, and what stands there is the record as it was submitted. No place counts for two records. A
-/// copy that is held or was cancelled has no place. Each gateway has settings of its files of its own. So
-/// it is, as a case of this, where all go by the same rules.
+/// resolved stands at one place of the files of all gateways, and each record of any other packet at
+/// one at most. A copy that is held or was cancelled has no place. What stands at a place is one record
+/// that a node was given, as it was submitted. Each gateway has settings of its files of its own.
 pub fn each_record_stands_once()
-    ensures each { (first : ℕ → Rules) (settings : ℕ → Settings) (gateways nodes : ℕ) (all : List RuledTurn) →
-        1 ≤ gateways → StandsOnce settings (ruled_turns (first_world first gateways nodes) all) }
-    ensures alike { (rules : Rules) (settings : ℕ → Settings) (gateways nodes : ℕ) (all : List Turn) →
-        1 ≤ gateways → StandsOnce settings (turns rules (world_of rules gateways nodes) all) }
+    ensures { (settings : ℕ → Settings) (w : World) → IsReached w → StandsOnce settings w }
 {
     each_record_is_filed_once();
     each_filed_record_has_one_place();
@@ -150,15 +149,12 @@ pub fn each_record_stands_once()
 /// within the limits, too, where no turn's rules allow an act beyond them, as those by default don't. And
 /// a mark stands only where a record was filed after the last Close.
 pub fn histories_keep_to_the_table()
-    ensures entries { (first : ℕ → Rules) (gateways nodes : ℕ) (all : List RuledTurn) (place : ℕ) →
-        AllAdmitted (firm_in (ruled_turns (first_world first gateways nodes) all) place) }
-    ensures limits { (first : ℕ → Rules) (gateways nodes : ℕ) (all : List RuledTurn) (place : ℕ) → AllKeepLimits all →
-        AllLimited (firm_in (ruled_turns (first_world first gateways nodes) all) place) }
+    ensures entries { (w : World) (place : ℕ) → IsReached w → AllAdmitted (firm_in w place) }
+    ensures limits { (w : World) (place : ℕ) (reached : IsReached w) → AllKeepLimits reached.all →
+        AllLimited (firm_in w place) }
     ensures by_default { KeepLimits default_rules }
-    ensures marks { (first : ℕ → Rules) (gateways nodes : ℕ) (all : List RuledTurn) (place : ℕ) →
-        AllMarksDue (firm_in (ruled_turns (first_world first gateways nodes) all) place) }
-    ensures states { (first : ℕ → Rules) (gateways nodes : ℕ) (all later : List RuledTurn) (place : ℕ)
-        (key : PacketKey) → let w = ruled_turns (first_world first gateways nodes) all in
+    ensures marks { (w : World) (place : ℕ) → IsReached w → AllMarksDue (firm_in w place) }
+    ensures states { (w : World) (later : List RuledTurn) (place : ℕ) (key : PacketKey) → IsReached w →
         moves_on (state_of key (firm_in w place)) (state_of key (firm_in (ruled_turns w later) place)) ≡ true }
 {
     gateway_book::laws::what_is_prepared_is_whole();
@@ -167,8 +163,7 @@ pub fn histories_keep_to_the_table()
 /// The starts of each node rise in what is firm at a gateway. So no two epochs of a node there begin
 /// with the same start, and the present one begins with the greatest.
 pub fn starts_only_rise()
-    ensures { (first : ℕ → Rules) (gateways nodes : ℕ) (all : List RuledTurn) (place : ℕ) → 1 ≤ gateways →
-        StartsRise (firm_in (ruled_turns (first_world first gateways nodes) all) place) }
+    ensures { (w : World) (place : ℕ) → IsReached w → StartsRise (firm_in w place) }
 {
     gtpp_message::laws::written_is_read_back();
     gtpp_message::laws::a_role_reads_what_is_read();
@@ -180,8 +175,8 @@ pub fn starts_only_rise()
 /// What a crash leaves of a gateway's history, by the clauses of its book the firm entries alone or
 /// these with all those behind them, waiting or torn, is what some stop leaves.
 pub fn each_crash_is_a_stop()
-    ensures firm { (g : Gateway) → history_of (cut 0 false g).book ≡ g.book.firm }
-    ensures whole { (g : Gateway) → history_of (cut (length (g.book.firm ++ g.book.rest)) true g).book
+    ensures firm { (g : Gateway) → history_of (cut 0 g).book ≡ g.book.firm }
+    ensures whole { (g : Gateway) → history_of (cut (length (g.book.firm ++ g.book.rest)) g).book
         ≡ g.book.firm ++ g.book.rest }
 {}
 
@@ -190,15 +185,15 @@ pub fn each_crash_is_a_stop()
 /// finds them gone keeps the firm ones alone. An opening again that fails leaves the same choice,
 /// and so does a stop in between.
 pub fn a_failed_commit_is_a_stop()
-    ensures whole { (g : Gateway) (keeps_torn : Bool) → g.book.is_broken ≡ false →
+    ensures whole { (g : Gateway) → g.book.is_broken ≡ false →
         HoldSame (reopened (faulted g.book) Whole)
-        (standing_for (history_of (cut (length (history_of g.book)) keeps_torn g).book)) }
-    ensures gone { (g : Gateway) (keeps_torn : Bool) → g.book.is_broken ≡ false →
+        (standing_for (history_of (cut (length (history_of g.book)) g).book)) }
+    ensures gone { (g : Gateway) → g.book.is_broken ≡ false →
         HoldSame (reopened (faulted g.book) Gone)
-        (standing_for (history_of (cut (length g.book.firm) keeps_torn g).book)) }
+        (standing_for (history_of (cut (length g.book.firm) g).book)) }
     ensures refused { (book : BookValue) → HoldSame (reopened (faulted book) Refused) (faulted book) }
-    ensures kept { (g : Gateway) (keep : ℕ) → g.book.is_broken ≡ true →
-        HoldSame (reopened g.book Whole) (standing_for (history_of (cut keep true g).book)) }
-    ensures dropped { (g : Gateway) (keep : ℕ) → g.book.is_broken ≡ true →
-        HoldSame (reopened g.book Gone) (standing_for (history_of (cut keep false g).book)) }
+    ensures kept { (g : Gateway) → HoldSame (reopened g.book Whole)
+        (standing_for (history_of (cut (length (g.book.firm ++ g.book.rest)) g).book)) }
+    ensures dropped { (g : Gateway) → HoldSame (reopened g.book Gone)
+        (standing_for (history_of (cut (length g.book.firm) g).book)) }
 {}

@@ -239,7 +239,7 @@ module _ (setup : Setup) (place : ℕ) (g : Gateway) (m : Machine) (now : ℕ) (
           subst (λ (moved : Moved). HasMoved setup place moved (machine_with m (Breaks last)) messages new)
           (sym (moves refl)) (broke last (sym (recorded_broken ready now act) ∙ tells) has done)
       by_sequel (Stops stands) tells moves has done = record {
-        stands = subst (λ (r : real.Machine). MachineStands setup place (cut (entries_kept stands g) stands g)
+        stands = subst (λ (r : real.Machine). MachineStands setup place (cut (entries_kept stands g) g)
             (disarmed m) r) (sym done.1) has.stands;
         sends = done.0 ∙ has.sends;
       }

@@ -71,7 +71,7 @@ module _ (v : ReplayValue) (number place : ℕ) (to : IsTo v number true place) 
       (le-leb number (length v.world.messages) (omega (arith, within, from_one))) in
       ap (λ (b : Bool). refusing b NoMessage) there
 
-  moves : (f : Fortune) → turn_by (rules_in v.setup) v.world (record { event = e; fortune = f; keeps_torn = false }) e
+  moves : (f : Fortune) → turn_by (rules_in v.setup) v.world (record { event = e; fortune = f; is_lost = false; held = None }) e
       ≡ at_gateway v.world (at - 1) (delivered (rules_in v.setup) v.world.now f m)
   moves f =
       ap (λ (o : Option Message). option_map_or (delivering (rules_in v.setup) f v.world) o v.world) to.sent

@@ -122,13 +122,10 @@ module _ (setup : Setup) (place : ℕ) (g : Gateway) (m : Machine) (value : Book
 
   -- The area stopped it: it is down.
 
-  left_by : (stands b : Bool) (v : BookValue) →
-      (if b then (if stands then v.rest else [])
-      else take ((if stands then length (v.firm ++ v.rest) else 0) - length v.firm) v.rest)
-      ≡ (if stands then v.rest else [])
-  left_by stands true v = refl
-  left_by true false v = take_all (length (v.firm ++ v.rest) - length v.firm) v.rest (omega (arith, length-append v.firm v.rest))
-  left_by false false v = take_none (0 - length v.firm) v.rest (omega arith)
+  left_by : (stands : Bool) (v : BookValue) →
+      take ((if stands then length (v.firm ++ v.rest) else 0) - length v.firm) v.rest ≡ (if stands then v.rest else [])
+  left_by true v = take_all (length (v.firm ++ v.rest) - length v.firm) v.rest (omega (arith, length-append v.firm v.rest))
+  left_by false v = take_none (0 - length v.firm) v.rest (omega arith)
     where
       take_none : (n : ℕ) (xs : List HistoryEntry) → n ≡ 0 → take n xs ≡ []
       take_none n xs is = ap (λ (k : ℕ). take k xs) is
@@ -140,9 +137,9 @@ module _ (setup : Setup) (place : ℕ) (g : Gateway) (m : Machine) (value : Book
 
   -- what the gateway stands for then is what the area leaves
   cut_leaves : (stands : Bool) → (value.firm ≡ g.book.firm) × (value.rest ≡ g.book.rest) →
-      history_of (cut (entries_kept stands g) stands g).book ≡ (if stands then value.firm ++ value.rest else value.firm)
+      history_of (cut (entries_kept stands g) g).book ≡ (if stands then value.firm ++ value.rest else value.firm)
   cut_leaves stands same =
-      ap (λ (rest : List HistoryEntry). g.book.firm ++ rest) (left_by stands g.book.is_broken g.book)
+      ap (λ (rest : List HistoryEntry). g.book.firm ++ rest) (left_by stands g.book)
       ∙ whole_or_firm stands g.book.firm g.book.rest
       ∙ ap (λ (firm : List HistoryEntry). if stands then firm ++ g.book.rest else firm) (sym same.0)
       ∙ ap (λ (rest : List HistoryEntry). if stands then value.firm ++ rest else value.firm) (sym same.1)
@@ -171,14 +168,14 @@ module _ (setup : Setup) (place : ℕ) (g : Gateway) (m : Machine) (value : Book
       ((h : List HistoryEntry) → SiteIsCut setup place h old.site →
       SiteIsDown setup place h new.site × (new.waiting.items ≡ [])) →
       new ≡ record old { site = new.site; waiting = new.waiting } → told ≡ [] →
-      HasMoved setup place (still (cut (entries_kept stands g) stands g)) (disarmed m) told new
+      HasMoved setup place (still (cut (entries_kept stands g) g)) (disarmed m) told new
   halted stands old new told called cuts rest none =
       let h : List HistoryEntry = if stands then value.firm ++ value.rest else value.firm in
       let same = called.cut refl in
       let down = cuts h (site_cut stands old.site called.site) in
       record {
         stands = record {
-          site = site_down h (cut (entries_kept stands g) stands g) new.site refl refl (cut_leaves stands same) down.0;
+          site = site_down h (cut (entries_kept stands g) g) new.site refl refl (cut_leaves stands same) down.0;
           waiting = down.1;
           unreached = λ k d h. absurd (omega (arith, h));
           redirects = ap (λ (r : real.Machine). r.redirects) rest ∙ called.redirects;
@@ -276,9 +273,9 @@ module _ (setup : Setup) (place : ℕ) (g : Gateway) (m : Machine) (value : Book
 pub stopped : (setup : Setup) (place : ℕ) (g : Gateway) (m : Machine) (old new : real.Machine) →
     MachineStands setup place g m old → SiteIsDown setup place g.book.firm new.site → new.waiting.items ≡ [] →
     new ≡ record old { site = new.site; waiting = new.waiting } →
-    MachineStands setup place (cut 0 false g) (disarmed m) new
+    MachineStands setup place (cut 0 g) (disarmed m) new
 stopped setup place g m old new stands down none rest = record {
-  site = site_down setup place g m g.book g.book.firm (cut 0 false g) new.site refl refl
+  site = site_down setup place g m g.book g.book.firm (cut 0 g) new.site refl refl
       (cut_leaves setup place g m g.book false (refl, refl)) down;
   waiting = none;
   unreached = λ k d h. absurd (omega (arith, h));

@@ -80,7 +80,7 @@ pub at_running : (v : ReplayValue) (e : Event) (number : ℕ) (move : Fortune �
     (here : StandsAt v.setup 0 v.world.gateways v.machines (number - 1) r) →
     place_asked v.world e ≡ Some (number - 1) → no_running_gateway v.world number ≡ None →
     refusal_of v.world e ≡ None →
-    ((f : Fortune) → turn_by (rules_in v.setup) v.world (record { event = e; fortune = f; keeps_torn = false }) e
+    ((f : Fortune) → turn_by (rules_in v.setup) v.world (record { event = e; fortune = f; is_lost = false; held = None }) e
     ≡ at_gateway v.world (number - 1) (move f)) →
     IsAt v e number here.gateway here.machine move
 at_running v e number move r here asks none allowed moves = record {

@@ -4,7 +4,7 @@ use Rattle.std.specs.Option.{option_map_or}
 use Rattle.node_core.specs.Log.{LogEntry}
 use Rattle.once_core.specs.Answers.{delivered}
 use Rattle.once_core.specs.Gateway.{Gateway, Moved, Rules}
-use Rattle.once_core.specs.Turn.{Turn, at_gateway, at_node, delivering, gateway_moved, node_called, refusal_of, turn_by, unless_refused}
+use Rattle.once_core.specs.Turn.{Turn, at_gateway, at_node, delivering, gateway_moved, lost_if, node_called, refusal_of, turn_by, unless_refused}
 use Rattle.once_core.specs.World.{Called, World, delivered_to_node}
 use Rattle.once_core.specs.declared.event.Event.{Event}
 use Rattle.once_core.specs.declared.event.Event.TheVariants as event
@@ -75,11 +75,16 @@ unless_same : (o : Option WorldKind) (w u : World) → count u ≡ count w → c
 unless_same None w u same = same
 unless_same (Some kind) w u same = refl
 
+lost_same : (b : Bool) (w u : World) → count (lost_if b w u) ≡ count u
+lost_same true w u = refl
+lost_same false w u = refl
+
 world_same : (v : ReplayValue) (step : Step) → count (world_after v step) ≡ count v.world
 world_same v (Plays e) =
     let t : Turn = turn_of v e in
-    unless_same (refusal_of v.world t.event) v.world (turn_by (rules_in v.setup) v.world t t.event)
-    (turn_same (rules_in v.setup) v.world t t.event)
+    let after : World = turn_by (rules_in v.setup) v.world t t.event in
+    unless_same (refusal_of v.world t.event) v.world (lost_if t.is_lost v.world after)
+    (lost_same t.is_lost v.world after ∙ turn_same (rules_in v.setup) v.world t t.event)
 world_same v (Loses message) = refl
 world_same v (Arms place armed) = refl
 world_same v (Writes place) = refl

@@ -4,7 +4,7 @@ use Rattle.std.specs.Option.{option_map_or}
 use Rattle.gateway_book.specs.Up.{Sequel, GoesOn, Breaks, Stops, fortune_by}
 use Rattle.gateway_book.specs.Value.{Fortune}
 use Rattle.once_core.specs.Gateway.{Gateway, Moved, cut, still}
-use Rattle.once_core.specs.Turn.{Turn, at_gateway, calm, gateway_moved, no_running_gateway, refusal_of, turn, turn_by, unless_refused}
+use Rattle.once_core.specs.Turn.{Turn, at_gateway, calm, gateway_moved, lost_if, no_running_gateway, refusal_of, turn, turn_by, unless_refused}
 use Rattle.once_core.specs.World.{World}
 use Rattle.once_core.specs.declared.event.Event.{Event}
 use Rattle.once_core.specs.declared.event.WorldKind.{WorldKind}
@@ -21,9 +21,10 @@ moved_there w k g move is = ap (λ (o : Option Gateway). option_map_or (λ g. ga
 
 -- a turn that the world allows
 pub allowed_turn : (v : ReplayValue) (t : Turn) → refusal_of v.world t.event ≡ None →
-    turn (rules_in v.setup) v.world t ≡ turn_by (rules_in v.setup) v.world t t.event
+    turn (rules_in v.setup) v.world t ≡ lost_if t.is_lost v.world (turn_by (rules_in v.setup) v.world t t.event)
 allowed_turn v t none =
-    ap (λ (o : Option WorldKind). unless_refused o v.world (turn_by (rules_in v.setup) v.world t t.event)) none
+    ap (λ (o : Option WorldKind). unless_refused o v.world
+    (lost_if t.is_lost v.world (turn_by (rules_in v.setup) v.world t t.event))) none
 
 module _ (v : ReplayValue) (e : Event) (number : ℕ) (g : Gateway) (m : Machine) where
   -- The event is at this gateway, and moves it so where the world allows it.
@@ -35,7 +36,7 @@ module _ (v : ReplayValue) (e : Event) (number : ℕ) (g : Gateway) (m : Machine
     pub allowed : refusal_of v.world e ≡ None
     pub runs : is_stop (sequel_on m (asked_of v.world g e)) ≡ true → no_running_gateway v.world number ≡ None
     pub moves : (f : Fortune) →
-        turn_by (rules_in v.setup) v.world (record { event = e; fortune = f; keeps_torn = false }) e
+        turn_by (rules_in v.setup) v.world (record { event = e; fortune = f; is_lost = false; held = None }) e
         ≡ at_gateway v.world (number - 1) (move f)
 
   module _ (move : Fortune → Gateway → Moved) (at : IsAt move) where
@@ -65,8 +66,8 @@ module _ (v : ReplayValue) (e : Event) (number : ℕ) (g : Gateway) (m : Machine
         let back : number - 1 + 1 - 1 ≡ number - 1 = omega arith in
         allowed_turn v (turn_with g (number - 1) e m.at_last (Stops stands))
         (ap (λ (n : ℕ). no_running_gateway v.world n) again ∙ runs refl)
-        ∙ ap (λ (k : ℕ). at_gateway v.world k (λ h. still (cut (entries_kept stands g) stands h))) back
-        ∙ moved_there v.world (number - 1) g (λ h. still (cut (entries_kept stands g) stands h)) at.has_gateway
+        ∙ ap (λ (k : ℕ). at_gateway v.world k (λ h. still (cut (entries_kept stands g) h))) back
+        ∙ moved_there v.world (number - 1) g (λ h. still (cut (entries_kept stands g) h)) at.has_gateway
 
     pub world_moved : world_after v (Plays e)
         ≡ gateway_moved v.world (number - 1) (moved_by (sequel_on m (asked_of v.world g e)) move m g)

@@ -1,9 +1,10 @@
 -- Steps that are made one after the other.
 use Rattle.std.proofs.Common.{◌≡◌, ◌∙◌, refl, sym, ap, subst, ℕ, ◌-◌, ◌≤◌, Bool, true, false, true≢false, not, if◌then◌else◌, List, [], ◌∷◌, ◌++◌, length, Option, Some, None, slice_get, arith, append_assoc, append-nil, length-append}
+use Rattle.std.proofs.lemmas.List.{length-take}
 use Rattle.std.specs.Option.{option_map_or}
 use Rattle.once_core.specs.Answers.{delivered}
 use Rattle.once_core.specs.Gateway.{Gateway, Moved, Rules}
-use Rattle.once_core.specs.Turn.{Turn, at_gateway, at_node, delivering, gateway_moved, node_called, refusal_of, turn_by, unless_refused}
+use Rattle.once_core.specs.Turn.{Turn, at_gateway, at_node, delivering, gateway_moved, lost_if, node_called, refusal_of, turn_by, unless_refused}
 use Rattle.once_core.specs.World.{Called, World, delivered_to_node}
 use Rattle.once_core.specs.declared.event.Event.{Event}
 use Rattle.once_core.specs.declared.event.Event.TheVariants as event
@@ -278,11 +279,16 @@ unless_more : (o : Option WorldKind) (w u : World) → count w ≤ count u → c
 unless_more None w u le = le
 unless_more (Some kind) w u le = omega arith
 
+lost_more : (b : Bool) (w u : World) → count w ≤ count u → count w ≤ count (lost_if b w u)
+lost_more true w u le = omega (arith, length-take (count w) u.messages, le)
+lost_more false w u le = le
+
 step_more : (v : ReplayValue) (step : Step) → count v.world ≤ count (world_after v step)
 step_more v (Plays e) =
     let t : Turn = turn_of v e in
-    unless_more (refusal_of v.world t.event) v.world (turn_by (rules_in v.setup) v.world t t.event)
-    (turn_by_more (rules_in v.setup) v.world t t.event)
+    let after : World = turn_by (rules_in v.setup) v.world t t.event in
+    unless_more (refusal_of v.world t.event) v.world (lost_if t.is_lost v.world after)
+    (lost_more t.is_lost v.world after (turn_by_more (rules_in v.setup) v.world t t.event))
 step_more v (Loses message) = omega arith
 step_more v (Arms place armed) = omega arith
 step_more v (Writes place) = omega arith

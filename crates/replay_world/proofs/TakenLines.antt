@@ -262,7 +262,7 @@ module _ (s : Scene) (messages : ℕ) where
       → down gateway ≡ false → Holds (facts s messages down) v
       → ((u : ReplayValue) → Holds (facts s messages (changed gateway true down)) u → Passes u later P) → Passes v (Plays (event.Cut gateway 0) ∷ later) P
   stops_passes down v gateway later P is up h rest =
-      let moves = changes s messages down v.world h.world gateway (λ g. still (cut 0 false g)) true is (λ g. refl) (λ g. refl) in
+      let moves = changes s messages down v.world h.world gateway (λ g. still (cut 0 g)) true is (λ g. refl) (λ g. refl) in
       calm_passes (facts s messages down) (facts s messages (changed gateway true down)) v (event.Cut gateway 0) later P refl
       (gateway_runs (facts s messages down) v.world h.world gateway is up)
       (with_unarmed v (gateway - 1) disarmed (λ m k. refl) h.unarmed) moves.0 moves.1 h rest

@@ -1,5 +1,6 @@
 -- What a turn leaves of a world: how many gateways and nodes there are, which of them run, and the moment.
 use Rattle.std.proofs.Common.{◌≡◌, ℕ, zero, suc, ◌≤◌, ◌-◌, ◌&&◌, ◌||◌, not, nat_lt, Bool, true, false, if◌then◌else◌, List, [], ◌∷◌, ◌++◌, length, Option, Some, None, slice_get, slice_set, refl, sym, ap, subst, ◌∙◌, arith, length-append, length-set}
+use Rattle.std.proofs.lemmas.List.{length-take}
 use Rattle.std.specs.Option.{option_map_or}
 use Rattle.gateway_book.specs.Answer.{Decided, Silent, Says, decided, failure_answer}
 use Rattle.gateway_book.specs.Preparing.{prepared_of}
@@ -26,7 +27,7 @@ use Rattle.once_core.specs.Addresses.{gateway_address}
 use Rattle.once_core.specs.Answers.{acting, answer_at, answered, closing, delivered, delivered_broken, delivered_running, failed, failed_by, if_broken, making_close, making_tick, marked, recorded_where, unless_expired}
 use Rattle.once_core.specs.Expired.{is_expired, is_expired_at_node}
 use Rattle.once_core.specs.Gateway.{Gateway, Moved, Rules, book_committing, committing, followed, giving_up, readying, settling, still}
-use Rattle.once_core.specs.Turn.{Turn, at_gateway, at_node, delivering, gateway_moved, is_down_in, log_in, node_called, refusal_of, turn, turn_by, unless_refused}
+use Rattle.once_core.specs.Turn.{Turn, at_gateway, at_node, delivering, gateway_moved, is_down_in, log_in, lost_if, node_called, refusal_of, turn, turn_by, unless_refused}
 use Rattle.once_core.specs.World.{Called, World, delivered_to_node, draft_of, hearing, node_value, submitting, submitting_form, ticking}
 use Rattle.once_core.specs.declared.event.Event.{Event}
 use Rattle.once_core.specs.declared.event.Event.TheVariants as event
@@ -307,6 +308,18 @@ event_same rules w t (event.Moment now) q = absurd (cc)
 pub turn_same : (rules : Rules) (w : World) (t : Turn) → is_quiet t.event ≡ true → Same w (turn rules w t)
 turn_same rules w t q = by (refusal_of w t.event)
   where
-    by : (o : Option WorldKind) → Same w (unless_refused o w (turn_by rules w t t.event))
-    by None = event_same rules w t t.event q
+    by_loss : (b : Bool) → Same w (turn_by rules w t t.event) → Same w (lost_if b w (turn_by rules w t t.event))
+    by_loss true same = record {
+      gateways = same.gateways;
+      nodes = same.nodes;
+      moment = same.moment;
+      down = same.down;
+      running = same.running;
+      messages = let sent : List Message = (turn_by rules w t t.event).messages in
+          omega (arith, length-take (length w.messages) sent, same.messages);
+    }
+    by_loss false same = same
+
+    by : (o : Option WorldKind) → Same w (unless_refused o w (lost_if t.is_lost w (turn_by rules w t t.event)))
+    by None = by_loss t.is_lost (event_same rules w t t.event q)
     by (Some kind) = same_world w

@@ -35,7 +35,7 @@ use Rattle.replay_world.specs.declared.machine.Site.TheVariants as site
 abbrev pub moved_after : Sequel → BookValue → Gateway → Moved
 moved_after (GoesOn armed) book g = settling (record g { book = book })
 moved_after (Breaks last) book g = giving_up (record g { book = book })
-moved_after (Stops stands) book g = still (cut (entries_kept stands g) stands g)
+moved_after (Stops stands) book g = still (cut (entries_kept stands g) g)
 
 -- Its book stands as a call left it of which this came.
 pub record BookStands {A : Type 0} {tells : Ghosts A} (setup : Setup) (place : ℕ) (value : BookValue)

@@ -60,13 +60,14 @@ entries_kept stands g = if stands then length (g.book.firm ++ g.book.rest) else 
 
 abbrev pub turn_with : Gateway → ℕ → Event → Bool → Sequel → Turn
 turn_with g place e at_last (GoesOn armed) =
-    record { event = e; fortune = fortune_by at_last (GoesOn armed); keeps_torn = false }
+    record { event = e; fortune = fortune_by at_last (GoesOn armed); is_lost = false; held = None }
 turn_with g place e at_last (Breaks last) =
-    record { event = e; fortune = fortune_by at_last (Breaks last); keeps_torn = false }
+    record { event = e; fortune = fortune_by at_last (Breaks last); is_lost = false; held = None }
 turn_with g place e at_last (Stops stands) = record {
   event = event.Cut (place + 1) (entries_kept stands g);
   fortune = fortune_by at_last (Stops stands);
-  keeps_torn = stands;
+  is_lost = false;
+  held = None;
 }
 
 -- What the gateway runs on then: a stop or a failure leaves nothing armed.

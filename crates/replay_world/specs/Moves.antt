@@ -27,7 +27,7 @@ came_of (Stops stands) = Halted
 abbrev pub moved_by : Sequel → (Fortune → Gateway → Moved) → Machine → Gateway → Moved
 moved_by (GoesOn armed) move m g = move (fortune_by m.at_last (GoesOn armed)) g
 moved_by (Breaks last) move m g = move (fortune_by m.at_last (Breaks last)) g
-moved_by (Stops stands) move m g = still (cut (entries_kept stands g) stands g)
+moved_by (Stops stands) move m g = still (cut (entries_kept stands g) g)
 
 -- what is told of a message that came to a gateway
 abbrev pub ending_notices : ℕ → Ending → List Notice

@@ -39,6 +39,7 @@ pub fn a_replay_files_each_record_once()
     ensures stands { (setup : Setup) (lines : List Line) → 1 ≤ setup.gateways →
         StandsOnce (files_in setup) (lines_after (begun setup) lines).world }
 {
+    once_core::world_laws::turns_reach_worlds();
     once_core::world_laws::each_record_is_filed_once();
     once_core::world_laws::each_record_stands_once();
     a_line_is_its_turns();

@@ -187,7 +187,7 @@ impl Machine {
         ensures { (setup : SetupValue) (place : ℕ) (g : Gateway) (m : MachineValue) →
             MachineStands setup place g m self.old →
             g.is_down ≡ false → MachineStands setup place
-            (cut 0 false g) (disarmed m) self.new }
+            (cut 0 g) (disarmed m) self.new }
     {
         what_a_gateway_leaves::<MemoryArea>();
         let Some(Site::Up(book)) = self.site.take() else {

@@ -6,7 +6,7 @@ pub returns-clause-whole : goal.returns-clause-whole
 returns-clause-whole c = kept_whole
 
 pub returns-clause-gone : goal.returns-clause-gone
-returns-clause-gone c = kept_firm
+returns-clause-gone c = λ g sound. kept_firm g
 
 pub returns-clause-refused : goal.returns-clause-refused
 returns-clause-refused c book = record { firm = refl; rest = refl; broken = refl }

@@ -1,8 +1,14 @@
-use Rattle.once_core.proofs.FilePlaceLemmas.{one_for_each, one_record}
+use Rattle.gateway_book.specs.Once.{is_record_of}
+use Rattle.once_core.proofs.FileCountLemmas.{placed_count}
+use Rattle.once_core.proofs.FilePlaceLemmas.{one_there}
 use Rattle.once_core.proofs.world_laws.each_filed_record_has_one_place.Goals as goal
+use Rattle.file_rotate.specs.Division.{division_of}
 
 pub returns-clause-count : goal.returns-clause-count
-returns-clause-count c = λ settings key index h. one_for_each key index settings h (c.each_record_has_one_place.ensures.has settings)
+returns-clause-count c = λ settings key index h.
+    placed_count (is_record_of key index)
+    (λ limits items. c.division_closes_where_files_end.ensures.records limits items (division_of limits items)
+    (c.division_closes_where_files_end.ensures.ends limits items)) settings h
 
 pub returns-clause-only : goal.returns-clause-only
-returns-clause-only c = λ settings key other index j h place. one_record settings h (c.each_record_has_one_place.ensures.only settings) key other index j place
+returns-clause-only c = λ settings h place one other. one_there settings h place one other

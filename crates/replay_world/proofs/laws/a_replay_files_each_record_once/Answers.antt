@@ -1,6 +1,7 @@
 use Rattle.std.proofs.Common.{sym, subst}
 use Rattle.once_core.specs.Once.{Once}
 use Rattle.once_core.specs.StandsOnce.{StandsOnce}
+use Rattle.once_core.specs.Turn.{turns}
 use Rattle.once_core.specs.World.{World}
 use Rattle.replay_world.specs.Report.{turns_from}
 use Rattle.replay_world.specs.Setup.{files_in, rules_in}
@@ -11,11 +12,11 @@ use Rattle.replay_world.proofs.laws.a_replay_files_each_record_once.Goals as goa
 pub returns-clause-filed : goal.returns-clause-filed
 returns-clause-filed c = λ setup lines some.
     subst Once (sym (lines_world (begun setup) lines))
-    (c.each_record_is_filed_once.ensures.alike (rules_in setup) setup.gateways setup.nodes (turns_from (begun setup) lines)
-    some)
+    (c.each_record_is_filed_once.ensures (turns (rules_in setup) (begun setup).world (turns_from (begun setup) lines))
+    (c.turns_reach_worlds.ensures.alike (rules_in setup) setup.gateways setup.nodes (turns_from (begun setup) lines) some))
 
 pub returns-clause-stands : goal.returns-clause-stands
 returns-clause-stands c = λ setup lines some.
     subst (λ (w : World). StandsOnce (files_in setup) w) (sym (lines_world (begun setup) lines))
-    (c.each_record_stands_once.ensures.alike (rules_in setup) (files_in setup) setup.gateways setup.nodes
-    (turns_from (begun setup) lines) some)
+    (c.each_record_stands_once.ensures (files_in setup) (turns (rules_in setup) (begun setup).world (turns_from (begun setup) lines))
+    (c.turns_reach_worlds.ensures.alike (rules_in setup) setup.gateways setup.nodes (turns_from (begun setup) lines) some))

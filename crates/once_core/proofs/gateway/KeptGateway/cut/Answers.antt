@@ -1,4 +1,4 @@
-use Rattle.std.proofs.Common.{ap, sym, subst, ◌∙◌, false, arith}
+use Rattle.std.proofs.Common.{ap, sym, subst, ◌∙◌, arith}
 use Rattle.std.proofs.lemmas.List.{length-take}
 use Rattle.once_core.proofs.GatewayTurnLemmas.{are_left, cuts}
 use Rattle.once_core.proofs.HistoryKeptLemmas.{kept_take}
@@ -18,4 +18,4 @@ returns c =
     c.self.inside.is_down c.self.inside.redirects c.truncate.ensures.items c.give_up.ensures
     (are_left c.self.inside.history.items c.self.inside.firm c.args.keep c.max-left.result c.self.invariant.firm
     (omega (arith, c.max-left.ensures, c.min.ensures, c.len-all.ensures, c.self.inside.history.ok)))
-    ∙ ap (λ (g : Gateway). cut c.args.keep false g) c.self.view_is
+    ∙ ap (λ (g : Gateway). cut c.args.keep g) c.self.view_is

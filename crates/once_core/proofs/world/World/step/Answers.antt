@@ -1,11 +1,10 @@
-use Rattle.std.proofs.Common.{◌≡◌, ◌+◌, ◌-◌, ◌≤◌, None, [], ◌∷◌, ◌++◌, ap, sym, ◌∙◌, refl, length, arith, rules}
+use Rattle.std.proofs.Common.{◌≡◌, ◌+◌, ◌-◌, ◌≤◌, None, [], ◌∷◌, ap, sym, ◌∙◌, refl, length, arith, rules}
 use Rattle.once_core.proofs.ArmLemmas.{turn_stays}
-use Rattle.once_core.proofs.SteppedLemmas.{made_then, step_played, step_refused, step_spent}
+use Rattle.once_core.proofs.SteppedLemmas.{step_played, step_refused, step_spent}
 use Rattle.once_core.specs.Beginning.{default_rules}
 use Rattle.once_core.specs.KeptTurn.{turn_kept}
 use Rattle.once_core.specs.Standing.{WorldKept}
-use Rattle.once_core.specs.Stepping.{made}
-use Rattle.once_core.specs.Turn.{calm}
+use Rattle.once_core.specs.Turn.{calm, ruled, turn}
 use Rattle.once_core.proofs.world.World.step.Goals as goal
 
 pub returns-in-Some-clause-gives : goal.returns-in-Some-clause-gives
@@ -44,10 +43,11 @@ returns-in-Err-clause-gives c = λ w stands.
     step_spent w c.args.event.now c.args.self.now _ stands (sym c.refusal_of.ensures.kind ∙ none) refl
 
 pub returns-in-Ok-clause-once : goal.returns-in-Ok-clause-once
-returns-in-Ok-clause-once c = λ gateways nodes all some stands.
+returns-in-Ok-clause-once c = λ w stands reached.
+    let after = c.turns_reach_worlds.ensures.on w (ruled default_rules (calm c.args.event.now) ∷ []) reached in
     record {
-      stands = made_then gateways nodes all c.args.event.now c.play.new.self
-          (returns-in-Ok-clause-gives c (made gateways nodes all) stands).turned;
-      once = c.each_record_is_filed_once.ensures.alike default_rules gateways nodes (all ++ calm c.args.event.now ∷ []) some;
-      places = λ settings. c.each_record_stands_once.ensures.alike default_rules settings gateways nodes (all ++ calm c.args.event.now ∷ []) some;
+      stands = (returns-in-Ok-clause-gives c w stands).turned;
+      reached = after;
+      once = c.each_record_is_filed_once.ensures (turn default_rules w (calm c.args.event.now)) after;
+      places = λ settings. c.each_record_stands_once.ensures settings (turn default_rules w (calm c.args.event.now)) after;
     }

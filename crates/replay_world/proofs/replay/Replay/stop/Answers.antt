@@ -25,11 +25,11 @@ returns c = λ v number stands is none.
     let there = called_stands v number c.index_mut.result.now here in
     let stood = c.stop.ensures v.setup (number - 1) here.gateway here.machine there
     (runs_there v.world number here.gateway here.has_gateway none) in
-    does_quietly v (Plays (event.Cut number 0)) (number - 1) (cut 0 false here.gateway) (disarmed here.machine)
+    does_quietly v (Plays (event.Cut number 0)) (number - 1) (cut 0 here.gateway) (disarmed here.machine)
     c.stop.new.self c.args.self.now _
     (plays v (number - 1) here.gateway here.machine here.has_gateway here.has_machine (event.Cut number 0)
-    (λ g. still (cut 0 false g)) refl none refl (disarmed here.machine)
+    (λ g. still (cut 0 g)) refl none refl (disarmed here.machine)
     (changed v (number - 1) here.gateway here.machine here.has_gateway here.has_machine disarmed))
     (told_sent v (number - 1) here.gateway here.machine here.has_gateway here.has_machine (event.Cut number 0)
-    (λ g. still (cut 0 false g)) refl none refl refl) stands stood refl
+    (λ g. still (cut 0 g)) refl none refl refl) stands stood refl
     (ap (λ (k : ℕ). set c.args.self.now.gateways.items k c.stop.new.self) (c.from-index.ensures ∙ sym is))
