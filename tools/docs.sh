@@ -19,7 +19,7 @@ docs() {
         stories_file $page | cmp -s - "$stories_folder/$page" ||
             echo "$stories_folder/$page: not as examples/ has the stories; ./do stories puts them there"
     done
-    tools/test
+    [ -n "${NO_TOOLS:-}" ] || tools/test
     # what the sources name, without comments
     {
         sources | xargs sed 's,//.*,,'
