@@ -74,8 +74,10 @@ impl<V: Counted> TurnCell<V> {
     )
         requires own { place.old.table_id ≡ self.now.table.shared.table_id }
         requires holds { place.old.me
-            ≡ (seat (Holding ticket (standing (found_at place.old.me.0.stage))) (known_at place.old ∷ []),
-                (0, None) ∷ []) }
+            ≡ (
+              seat (Holding ticket (standing (found_at place.old.me.0.stage))) (known_at place.old ∷ []),
+              (0, None) ∷ [],
+            ) }
         requires length { length ≡ (V.facts left).length }
         requires sound { AreSound V.told (V.facts left) }
         requires owes { Owes V.told (found_at place.old.me.0.stage) (V.facts left) }
