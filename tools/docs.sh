@@ -40,18 +40,19 @@ docs() {
     done
 }
 
-# The map has each crate, and each definition file once, and no other.
+# Each definition file has a first line that says what it holds, as ./do map prints it. The map and the inventory have
+# each crate, and the map names only definition files that their crate has.
 check_map() {
     local work=$1 page crate
-    specs | grep -v '/Lib\.antt$' | sed 's,^crates/,,; s,/specs/,\t,' | sort >"$work/there"
+    specs | grep -v '/Lib\.antt$' >"$work/files"
+    xargs awk 'FNR == 1 && !/^-- *[^ -]/ { print FILENAME ": the first line doesn\047t say what the file holds" }' \
+        <"$work/files"
+    sed 's,^crates/,,; s,/specs/,\t,' "$work/files" | sort >"$work/there"
     awk '/^#+ / { crate = ""; if (match($0, /`[a-z_0-9]+`/)) crate = substr($0, RSTART + 1, RLENGTH - 2) }
         crate != "" { line = $0; while (match(line, /`[A-Za-z0-9]+\.antt`/)) {
             print crate "\t" substr(line, RSTART + 1, RLENGTH - 2); line = substr(line, RSTART + RLENGTH) } }' \
-        docs/ARCHITECTURE.md | sort >"$work/listed"
-    sort -u "$work/listed" >"$work/mapped"
-    uniq -d "$work/listed" | sed 's,\t,/specs/,; s,^,docs/ARCHITECTURE.md: the map has twice ,'
-    comm -23 "$work/there" "$work/mapped" | sed 's,\t,/specs/,; s,^,docs/ARCHITECTURE.md: the map lacks ,'
-    comm -13 "$work/there" "$work/mapped" | sed 's,\t,/specs/,; s,^,docs/ARCHITECTURE.md: no such file ,'
+        docs/ARCHITECTURE.md | sort -u | comm -13 "$work/there" - |
+        sed 's,\t,/specs/,; s,^,docs/ARCHITECTURE.md: no such file ,'
     for page in docs/ARCHITECTURE.md docs/PROVED.md; do
         for crate in $(ls crates); do
             grep -qE "^#+ .*\`$crate\`" "$page" || echo "$page: no heading for the crate $crate"
