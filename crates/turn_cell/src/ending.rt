@@ -60,7 +60,8 @@ impl<V: Counted> TurnCell<V> {
     pub fn finish(self, passes: Vec<Pass>) -> Result<V, (Missing, TurnCell<V>, Vec<Pass>)>
         requires own { ArePassesOf self passes.items }
         ensures all { OnOk result (made_by self ≡ vec_len passes) }
-        ensures ended { IfOk result (λ value. Ended V.told (V.facts (begun self)) (V.facts value) (known_by passes.items)) }
+        ensures ended { IfOk result (λ value.
+            Ended V.told (V.facts (begun self)) (V.facts value) (known_by passes.items)) }
         ensures fewer { OnErr result (vec_len passes < made_by self) }
         ensures missing { IfErr result (λ back. (back.0.wanted ≡ made_by self) × (back.0.given ≡ vec_len passes)) }
         ensures back { IfErr result (λ back. (back.1 ≡ self) × (back.2 ≡ passes)) }

@@ -2,11 +2,11 @@
 //! asked for (a ticket lock).
 //!
 //! A value stands for a history (`Counted` of `gw_base`). What a turn owes for what it does to it is `Owes`, and what
-//! it may add `Adds` (`specs/Owes.antt`). Contracts see a pass as what it knows, `Knowledge`: the firm entries that it has
-//! learnt of, and each turn that it took, with what it found, left and added. A value may come to a turn of a pass only
-//! where it goes on from all of that (`IsLegal`, `specs/Knowing.antt`). `with` takes a turn (`Took`), `seen` tells a
-//! length without waiting (`Saw`), and `finish` hands the value back behind the turns of all passes (`Ended`,
-//! `specs/Passes.antt`), with which pass added which entry (`specs/Placed.antt`).
+//! it may add `Adds` (`gw_base/specs/Owes.antt`). Contracts see a pass as what it knows, `Knowledge`: the firm entries
+//! that it has learnt of, and each turn that it took, with what it found, left and added. A value may come to a turn of
+//! a pass only where it goes on from all of that (`IsLegal`, `specs/Knowing.antt`). `with` takes a turn (`Took`),
+//! `seen` tells a length without waiting (`Saw`), and `finish` hands the value back behind the turns of all passes
+//! (`Ended`, `specs/Passes.antt`), with which pass added which entry (`specs/Placed.antt`).
 //!
 //!     let (cell, passes) = TurnCell::new(alloc, value, 2)?; // a pass for each of two threads
 //!     let (answer, pass) = cell.with(rt, pass, turn);       // in a thread

@@ -74,13 +74,17 @@ impl<V: Counted> TurnCell<V> {
     )
         requires own { place.old.table_id ≡ self.now.table.shared.table_id }
         requires holds { place.old.me
-            ≡ (seat (Holding ticket (standing (found_at place.old.me.0.stage))) (known_at place.old ∷ []), (0, None) ∷ []) }
+            ≡ (
+              seat (Holding ticket (standing (found_at place.old.me.0.stage))) (known_at place.old ∷ []),
+              (0, None) ∷ [],
+            ) }
         requires length { length ≡ (V.facts left).length }
         requires sound { AreSound V.told (V.facts left) }
         requires owes { Owes V.told (found_at place.old.me.0.stage) (V.facts left) }
         requires session { (turn : T) → J.turn ≡ Some turn → IsOwnSession (T.session turn) (known_at place.old) }
         requires answer { J.answer ≡ Some answer.now }
-        requires did { Did V.facts V.told T.session T.does J.turn J.value J.answer (found_at place.old.me.0.stage) left }
+        requires did { Did V.facts V.told T.session T.does J.turn J.value J.answer
+            (found_at place.old.me.0.stage) left }
         ensures same { place.new.table_id ≡ place.old.table_id }
         ensures leaves { IsSettled V.facts V.told T.session T.does J.turn J.value J.answer
             ticket (found_at place.old.me.0.stage) (known_at place.old) left place.new.me }
@@ -124,7 +128,8 @@ impl<V: Counted> TurnCell<V> {
         requires comes { HasCome V.facts V.told ticket place.old.me }
         requires session { IsOwnSession (T.session turn) (known_at place.old) }
         ensures same { place.new.table_id ≡ place.old.table_id }
-        ensures took { Took V.told V.facts (T.session turn) (T.does turn) (known_at place.old) result (known_at place.new) }
+        ensures took { Took V.told V.facts (T.session turn) (T.does turn)
+            (known_at place.old) result (known_at place.new) }
         ensures leaves { (left : V) × IsLeaving V.facts V.told ticket left place.new.me }
     {
         let Some(value) = self.table.shared.exchange(place, 0, None) else {
@@ -149,7 +154,8 @@ impl<V: Counted> TurnCell<V> {
         requires own { IsPassOf self.now pass }
         requires session { IsOwnSession (T.session turn) (knowledge pass) }
         ensures own { IsPassOf self.now result.1 }
-        ensures took { Took V.told V.facts (T.session turn) (T.does turn) (knowledge pass) result.0 (knowledge result.1) }
+        ensures took { Took V.told V.facts (T.session turn) (T.does turn)
+            (knowledge pass) result.0 (knowledge result.1) }
     {
         let mut place = pass.into_place();
         let ticket = self.draw(rt, &mut place);

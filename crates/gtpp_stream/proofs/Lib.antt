@@ -1,0 +1,4 @@
+pub mod DeframerLemmas
+pub mod FrameLemmas
+pub mod LongestLemmas
+pub mod TakingLemmas

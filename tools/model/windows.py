@@ -1,0 +1,97 @@
+"""A window of request numbers, and the copies that are held, as functions of the list of calls since they began.
+
+Nothing is kept but the list of calls: each question scans it.
+"""
+
+HALF = 32_768
+MOST_COPIES = 65_536
+
+
+class Window:
+    """The request numbers of a node in its present epoch: those from HALF below the greatest one up to it."""
+
+    def __init__(self, half=HALF):
+        self.half, self.sets = half, []
+
+    def top(self):
+        """The greatest number that was set, if one was."""
+        return max((number for number, _ in self.sets), default=None)
+
+    def near(self, wire):
+        """The number that 16 bits mean: the nearest one, from 32,768 below the greatest to 32,767 above it."""
+        top = self.top()
+        if top is None:
+            return 65_536 + wire
+        return next(n for n in range(max(top - 32_768, 0), top + 32_768) if n % 65_536 == wire)
+
+    def holds(self, number):
+        """Whether the window holds a number."""
+        top = self.top()
+        return top is not None and top - self.half <= number <= top
+
+    def state(self, number):
+        """What the last call with a number gave it; Fresh where there is none, and outside the window."""
+        if not self.holds(number):
+            return "Fresh"
+        return next((state for n, state in reversed(self.sets) if n == number), "Fresh")
+
+    def set(self, number, state):
+        """Gives a state to a number that isn't below the window."""
+        self.sets.append((number, state))
+
+    def set_within(self, numbers, state):
+        """Gives a state to those of these numbers that the window holds."""
+        self.sets += [(number, state) for number in numbers if self.holds(number)]
+
+    def clear(self):
+        """Begins a new epoch."""
+        self.sets = []
+
+
+class Held:
+    """The copies that are held, as the list of (node, number, place)."""
+
+    def __init__(self):
+        self.copies = []
+
+    def find(self, node, number):
+        """Where a copy lies, if it is held."""
+        return next((place for n, k, place in self.copies if (n, k) == (node, number)), None)
+
+    def hold(self, node, number, place):
+        """Holds one more copy, which isn't held; False where as many are held as may be."""
+        if len(self.copies) == MOST_COPIES:
+            return False
+        self.copies.append((node, number, place))
+        return True
+
+    def take(self, node, number):
+        """Takes a copy out, if it is held, and tells where it lies."""
+        place = self.find(node, number)
+        self.copies = [copy for copy in self.copies if copy[:2] != (node, number)]
+        return place
+
+    def drop_node(self, node):
+        """Takes out a node's copies, and tells how many there were."""
+        before = len(self.copies)
+        self.copies = [copy for copy in self.copies if copy[0] != node]
+        return before - len(self.copies)
+
+
+def check():
+    """The worked values."""
+    window = Window()
+    assert window.near(0x7FFF) == 65_536 + 0x7FFF
+    window.set(65_536, "Filed")
+    assert (window.near(0x7FFF), window.near(0x8000)) == (98_303, 32_768)
+    small = Window(2)
+    for number, state in [(7, "Sealed"), (5, "Filed"), (9, "Filed")]:
+        small.set(number, state)
+    assert [small.state(n) for n in range(5, 11)] == ["Fresh", "Fresh", "Sealed", "Fresh", "Filed", "Fresh"]
+    held = Held()
+    assert held.hold(1, 70_000, 5) and held.hold(2, 70_000, 40) and held.hold(1, 70_001, 90)
+    assert (held.take(2, 70_001), held.take(1, 70_000), held.drop_node(1), held.find(2, 70_000)) == (None, 5, 1, 40)
+
+
+if __name__ == "__main__":
+    check()
