@@ -156,9 +156,9 @@ spans() {
     }' "$1"
 }
 
-# Paths that a page names and links that it has: they are there.
+# Paths that a page names and links that it has: they are there. A bare name behind a path is of that path's folder.
 check_paths() {
-    local page=$1 line target anchor file
+    local page=$1 line target anchor file folder=
     awk '/^\[[^]]+\]: / { print FNR "\t" $NF; next }
         { line = $0; while (match(line, /\]\([^)]+\)/)) {
             print FNR "\t" substr(line, RSTART + 2, RLENGTH - 3); line = substr(line, RSTART + RLENGTH) } }' "$page" |
@@ -178,8 +178,11 @@ check_paths() {
         while IFS=$'\t' read -r line target; do
             [[ $target =~ ^[A-Za-z0-9_./-]+$ && $target != /* ]] || continue
             [[ $target =~ ^[A-Za-z]+\.antt$ ]] && [ "$page" = docs/ARCHITECTURE.md ] && continue
+            [[ $target != */* && -n $folder && -e $folder/$target ]] && continue
             for file in "$target" "crates/$target" "docs/$target" "$(dirname "$page")/$target" crates/*/"$target"; do
-                [ -e "$file" ] && continue 2
+                [ -e "$file" ] || continue
+                folder=$(dirname "$file")
+                continue 2
             done
             echo "$page:$line: no such path $target"
         done
