@@ -5,7 +5,7 @@ use Rattle.area_disk.specs.Armed.{Armed}
 use Rattle.area_disk.specs.Armed.Armed.{Nothing}
 use Rattle.gateway_book.specs.Answer.{Decided, Silent, Says, decided, failure_answer}
 use Rattle.gateway_book.specs.Answered.{answer_to, no_caller}
-use Rattle.gateway_book.specs.Calls.{Left, left_by, outcome_at}
+use Rattle.gateway_book.specs.Calls.{Left, cause_in, left_by, outcome_at}
 use Rattle.gateway_book.specs.Comes.{Asked, AsksCommit, AsksNothing, AsksReopening, asked_to_ready}
 use Rattle.gateway_book.specs.Items.{items_of}
 use Rattle.gateway_book.specs.Preparing.{PreparedValue, Drop, OtherVersion, Path, Refused, Request, prepared_of}
@@ -60,7 +60,7 @@ pub said : (book : BookValue) (decision : Decided) (receipt : Receipt) →
     outcome_at book decision ≡ outcome.Answer receipt → Said decision book receipt
 said book (Silent why) receipt is = absurd (cc)
 said book (Says octets act) receipt is =
-    let same : record { reply = octets; front = length (history_of book); faults = book.cuts } ≡ receipt = cc in
+    let same : record { reply = octets; cause = cause_in octets; front = length (history_of book); faults = book.cuts } ≡ receipt = cc in
     record {
       octets = octets;
       act = act;

@@ -1,6 +1,6 @@
 // Worked values, computed by the definitions. Each function below does nothing: its contract is what is computed.
 ghost use Rattle.std.specs.Prelude.{◌≡◌, true, false, [], ◌∷◌, length};
-ghost use Rattle.once_core.specs.Worked.{after, after_turns, answer_lost, copy_late, entries, octets_sent, opened_by_a_copy, packets, standing, started_again};
+ghost use Rattle.once_core.specs.Worked.{after, after_turns, answer_lost, copy_late, entries, octets_sent, opened_by_a_copy, packets, started_again};
 ghost use Rattle.once_core.specs.declared.event.Event.TheVariants.{Tick};
 
 /// A node that has just started asks each gateway whether it is alive.
@@ -15,7 +15,6 @@ fn a_tick_asks_who_is_alive()
 fn a_lost_answer_files_once()
     ensures entries { entries (after 2 answer_lost) ≡ (3, 0) ∷ (4, 0) ∷ [] }
     ensures packets { packets (after 2 answer_lost) ≡ (true, 1) ∷ [] }
-    ensures place { standing (after 2 answer_lost) ≡ (0, 0, 1, 0) ∷ [] }
     ensures messages { length (octets_sent (after 2 answer_lost)) ≡ 18 }
 {}
 
@@ -23,7 +22,6 @@ fn a_lost_answer_files_once()
 fn a_late_copy_files_once()
     ensures entries { entries (after 2 copy_late) ≡ (3, 0) ∷ (4, 0) ∷ [] }
     ensures packets { packets (after 2 copy_late) ≡ (true, 1) ∷ [] }
-    ensures place { standing (after 2 copy_late) ≡ (1, 0, 1, 0) ∷ [] }
     ensures messages { length (octets_sent (after 2 copy_late)) ≡ 18 }
 {}
 
