@@ -51,7 +51,7 @@ impl From<AllocError> for NoMemory {
 ///
 /// What a read gives, what a crash may leave, the number of counted calls and what is planned for the calls to come
 /// is each told or not by a type: where it isn't told, no clause speaks of it. No call takes memory.
-pub trait Area: Send + Drop {
+pub trait Area: Drop {
     /// The number of its octets, which stays.
     ghost size: { Self → ℕ };
 

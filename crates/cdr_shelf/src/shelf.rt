@@ -68,7 +68,7 @@ impl From<Failed> for ShelfStop {
 /// What it holds, its counted calls, and what is planned for the calls to come is each told or not by a type: where
 /// it isn't told, no clause speaks of it. Counted calls are `begin`, `write_at`, `sync` and `seal`; `sealed` is a
 /// read.
-pub trait Shelf: Send + Drop {
+pub trait Shelf: Drop {
     /// Whether it tells what it holds.
     ghost tells_files: { Bool };
 

@@ -312,6 +312,20 @@ module _ {A : Type 0} {tells : Ghosts A} (old new : Book A tells) (stays : Stays
       let m = readied (fortune_of old new) (value_of old) in
       recorded_turn now who (act_decided (decided (given_at m from datagram size))) (λ a is. records_open m from datagram size a is) moved
 
+-- a book that was made ready stands for the list behind which entries are added
+pub readied_behind : {A : Type 0} {tells : Ghosts A} (old new : Book A tells) → (readied (fortune_of old new) (value_of old)).is_broken ≡ false
+    → history_of (readied (fortune_of old new) (value_of old)) ≡ base (drops_of (fortune_of old new) (value_of old)) (facts_of old)
+readied_behind old new runs =
+    let f = fortune_of old new in
+    let v : BookValue = value_of old in
+    history_by (readied f v) false runs ∙ (moves_readied f v).stands
+    ∙ append-nil (if drops_of f v then v.firm else v.firm ++ v.rest) ∙ sym (base_at old (drops_of f v))
+
+-- one that is broken then records nothing
+pub failed_none : (m : BookValue) (from : Addr) (datagram : PreparedValue) (size : ℕ) → m.is_broken ≡ true → act_decided (decided (given_at m from datagram size)) ≡ None
+failed_none m from datagram size broken =
+    ap (λ b. act_decided (decided (if b then failure_answer datagram else answer_to (history_of m) from datagram size))) broken ∙ failure_has_none datagram
+
 -- a reading
 pub read_turn : {A : Type 0} {tells : Ghosts A} (old new : Book A tells) (session : Option ℕ) → IsUnchanged old new → tells.faults (area_of old) ≤ tells.faults (area_of new) → IsTurn old new session []
 read_turn {tells = tells} old new session same later = record {

@@ -14,6 +14,7 @@ ghost use Rattle.gtpp_message.specs.Writing.{written};
 ghost use Rattle.gw_base.specs.History.{is_close_due, last_moment};
 ghost use Rattle.gw_base.specs.Known.{known_nodes};
 ghost use Rattle.gw_base.specs.Observed.{Observed, observed};
+ghost use Rattle.gw_base.specs.Owes.{base};
 ghost use Rattle.gw_base.specs.declared.address.Addr.{Addr};
 ghost use Rattle.gw_base.specs.declared.address.NodeId.{NodeId};
 ghost use Rattle.gw_base.specs.declared.cause.TheConstants.{ACCEPTED};
@@ -39,7 +40,7 @@ ghost use Rattle.gateway_book.specs.Opened.{IsNotOurs, IsOpened, StandsFitFor};
 ghost use Rattle.gateway_book.specs.Preparing.{IsWhole, PreparedValue, Request, prepared_of};
 ghost use Rattle.gateway_book.specs.Read.{IsUnchanged};
 ghost use Rattle.gateway_book.specs.Recording.{Accepts, HasRoomFor, IfRecords, IsWithinLimits, is_without_resources, tells_a_fault};
-ghost use Rattle.gateway_book.specs.Turning.{IsTurn, act_in, added_to};
+ghost use Rattle.gateway_book.specs.Turning.{IsTurn, act_in, added_to, drops_of, facts_of};
 ghost use Rattle.gateway_book.specs.Up.{HasLeft, HoldsHistory, IsCut, IsUp, commit_sequel_of, fortune_by, ready_sequel_of};
 ghost use Rattle.gateway_book.specs.Value.{BookValue, history_of, readied};
 ghost use Rattle.gateway_book.specs.Windows.{AgreeWhereMeant, narrowed};
@@ -178,7 +179,8 @@ pub fn a_gateway_goes_as_armed<A: Area>()
 {}
 
 /// What each call of a book does, as its own clauses say it, is a turn of a value that many use: what it owes then, and
-/// which entries it added behind which. A call that had no memory left the book ready.
+/// which entries it added behind which. A call that had no memory left the book ready. A book that was made ready stands
+/// for the list behind which entries are added; one that is broken then adds none.
 pub fn a_turn_owes<A: Area>()
     ensures ready { (old new : Book A A.Area) (session : Option ℕ) → Stays old new → HasCause old new →
         (Told A.Area → value_of new ≡ readied (fortune_of old new) (value_of old)) → IsTurn old new session [] }
@@ -203,6 +205,11 @@ pub fn a_turn_owes<A: Area>()
         (added_to ready now who (act_in ready (close_mark (history_of ready)))) }
     ensures items { (old new : Book A A.Area) (session : Option ℕ) → IsUnchanged old new →
         A.faults (area_of old) ≤ A.faults (area_of new) → IsTurn old new session [] }
+    ensures behind { (old new : Book A A.Area) → let ready = readied (fortune_of old new) (value_of old) in
+        ready.is_broken ≡ false →
+        history_of ready ≡ base (drops_of (fortune_of old new) (value_of old)) (facts_of old) }
+    ensures failed { (ready : BookValue) (from : Addr) (datagram : PreparedValue) (size : ℕ) →
+        ready.is_broken ≡ true → act_decided (decided (given_at ready from datagram size)) ≡ None }
 {}
 
 /// An answer asks the state of such numbers alone as one on the wire may mean. So of the numbers more than 32,768 below

@@ -18,6 +18,7 @@ mod book;
 mod case;
 mod commit;
 mod costs;
+mod counted;
 mod cursor;
 mod decision;
 mod drill;

@@ -1,7 +1,7 @@
 use Rattle.area_disk.proofs.laws.area_laws.Goals as goal
 
 pub returns : goal.returns
-returns g c = let laws = g.met.A.Area g.world.𝓛 g.world.𝓜 g.world.𝓡 ((λ s x. x), (λ x. x), (λ x. x), λ x. x) in record {
+returns g c = let laws = g.met.A.Area in record {
   holds = laws.holds;
   whole = laws.whole;
   same_size = laws.same_size;

@@ -12,7 +12,7 @@ returns-in_err-write-clause-makes g c =
     stopped_at g.F.Shelf (Writes ∷ []) (Writes ∷ []) _ _ _ _ c.from_residual.ensures c.in_err-write.ensures.makes
 
 pub write-requires-2-after_bounds : goal.write-requires-2-after_bounds
-write-requires-2-after_bounds g c κs within = λ told.
+write-requires-2-after_bounds g c within = λ told.
     let long : length c.write_cdr-header.result ≡ 4 = ap (λ (xs : List ℕ). length xs) c.write_cdr-header.ensures
     ∙ length-cdr_header_octets _ in
     takes_end _ _ (has_longer c.args.at c.cdr_header_length.result c.write_cdr-header.result

@@ -1,7 +1,7 @@
 use Rattle.gateway_book.specs.Marks.{close_mark, tick_mark}
 use Rattle.gateway_book.specs.Book.{fortune_of, size_of, value_of}
 use Rattle.gateway_book.specs.Value.{history_of, readied}
-use Rattle.gateway_book.proofs.TurnLemmas.{committed_turn, marked_turn, read_turn, readied_turn, taken_turn}
+use Rattle.gateway_book.proofs.TurnLemmas.{committed_turn, failed_none, marked_turn, read_turn, readied_behind, readied_turn, taken_turn}
 use Rattle.gateway_book.proofs.laws.a_turn_owes.Goals as goal
 
 pub returns-clause-ready : goal.returns-clause-ready
@@ -23,3 +23,9 @@ returns-clause-close g c = λ old new result now who stays cause left.
 
 pub returns-clause-items : goal.returns-clause-items
 returns-clause-items g c = λ old new session same later. read_turn old new session same later
+
+pub returns-clause-behind : goal.returns-clause-behind
+returns-clause-behind g c = λ old new runs. readied_behind old new runs
+
+pub returns-clause-failed : goal.returns-clause-failed
+returns-clause-failed g c = λ ready from datagram size broken. failed_none ready from datagram size broken

@@ -5,7 +5,7 @@ use Rattle.gate_journal.proofs.journal.Journal.arm.Goals as goal
 
 pub returns-clause-same : goal.returns-clause-same
 returns-clause-same g c =
-    let drill = g.met.A.DrillArea g.world.𝓛 g.world.𝓜 g.world.𝓡 ((λ s x. x), (λ x. x), (λ x. x), λ x. x) in
+    let drill = g.met.A.DrillArea in
     let j = c.args.self.now in
     let new = c.arm.new.self in
     let kept = c.arm.ensures.kept in

@@ -15,13 +15,13 @@ invariant_of-self-clause-stands g c =
 
 pub returns-in-Ok-clause-any_moment : goal.returns-in-Ok-clause-any_moment
 returns-in-Ok-clause-any_moment g c = λ told.
-    let laws = g.met.A.Area g.world.𝓛 g.world.𝓜 g.world.𝓡 ((λ s x. x), (λ x. x), (λ x. x), λ x. x) in
+    let laws = g.met.A.Area in
     let old = c.args.self.now in
     crash_fit_open laws.same_size laws.same_size_since old (area_of c.commit.new.self) c.requires told c.commit.ensures.stays.size (old.followed.fit told) (c.commit.ensures.any_moment told)
 
 pub returns-in-Err-clause-any_moment : goal.returns-in-Err-clause-any_moment
 returns-in-Err-clause-any_moment g c = λ told.
-    let laws = g.met.A.Area g.world.𝓛 g.world.𝓜 g.world.𝓡 ((λ s x. x), (λ x. x), (λ x. x), λ x. x) in
+    let laws = g.met.A.Area in
     let old = c.args.self.now in
     crash_fit_open laws.same_size laws.same_size_since old (area_of c.commit.new.self) c.requires told c.commit.ensures.stays.size (old.followed.fit told) (c.commit.ensures.any_moment told)
 

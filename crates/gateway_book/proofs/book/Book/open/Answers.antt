@@ -46,8 +46,8 @@ returns-in-Ok-open_judged-clause-size g c =
     c.in-Ok-open_judged.ensures.size
 
 pub begin-book-requires-clause-fit : goal.begin-book-requires-clause-fit
-begin-book-requires-clause-fit g c = λ κs le told.
-    let laws = g.met.A.Area g.world.𝓛 g.world.𝓜 g.world.𝓡 ((λ s x. x), (λ x. x), (λ x. x), λ x. x) in
+begin-book-requires-clause-fit g c = λ le told.
+    let laws = g.met.A.Area in
     found_fit (header (g.A.Area.size c.args.area) c.args.setup.address 0) (g.A.Area.octets c.args.area) (firm_entries c.in-Ok-open_judged.trail) (g.A.Area.size c.args.area) _ (laws.whole c.args.area told.0) c.in-Ok-open_judged.ensures.size
     (c.in-Ok-open_judged.ensures.ok.found told)
 

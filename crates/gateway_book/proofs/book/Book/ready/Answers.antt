@@ -6,7 +6,7 @@ use Rattle.gateway_book.proofs.book.Book.ready.Goals as goal
 
 pub returns-clause-any_moment : goal.returns-clause-any_moment
 returns-clause-any_moment g c = λ told.
-    let laws = g.met.A.Area g.world.𝓛 g.world.𝓜 g.world.𝓡 ((λ s x. x), (λ x. x), (λ x. x), λ x. x) in
+    let laws = g.met.A.Area in
     let old = c.args.self.now in
     crash_fit laws.same_size laws.same_size_since old (area_of old) told refl (old.followed.fit told) (c.is_closed.ensures.rests.still told)
 

@@ -5,7 +5,7 @@ use Rattle.replay_world.proofs.WriterLemmas.{same_count, went_on}
 use Rattle.replay_world.proofs.files.Files.go_on.Goals as goal
 
 pub advance-requires-clause-ready : goal.advance-requires-clause-ready
-advance-requires-clause-ready c = λ κs.
+advance-requires-clause-ready c =
     subst (λ (o : Option ℕ). IfSome o (λ n. is_broken c.args.self.now.writer ≡ false)) c.in-Some.is c.args.self.now.ready
 
 pub advance-requires-clause-few : goal.advance-requires-clause-few
