@@ -1,7 +1,7 @@
 #!/bin/bash
 # Compares the program with the plain models in tools/model on random scripts, outside the gate: a model is a second,
 # slow statement of the rules in another language, written from the formats alone. Run it at the top of the repository.
-# The words are the command (feed, replay, sample or drill), the first number and how many; without words it is 1,000
-# feeds. It ends with status 1 where one differs, and keeps the script with both outputs.
+# The words are the command (feed, replay, sample, drill or show), the first number and how many; without words it is
+# 1,000 feeds. It ends with status 1 where one differs, and keeps the script with both outputs.
 cd "$(dirname "$0")/.." || exit 1
 exec python3 -B tools/model/against.py "${1:-feed}" "${2:-1}" "${3:-1000}" ./cgf

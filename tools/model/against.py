@@ -1,10 +1,10 @@
 """Compares what the program writes with what the models write: standard output, standard error and the exit status.
 
-    python3 against.py feed|replay|sample|drill FIRST COUNT PROGRAM
+    python3 against.py feed|replay|sample|drill|show FIRST COUNT PROGRAM
 
-The scripts, or the words of a sample or a drill, are drawn from the numbers FIRST, FIRST + 1 and so on. Each case that
-differs is told by its number, and its script is kept in a folder that is named at the end. The exit status is 1 where
-one differs.
+The scripts, the files, or the words of a sample or a drill, are drawn from the numbers FIRST, FIRST + 1 and so on.
+Each case that differs is told by its number, and its script is kept in a folder that is named at the end. The exit
+status is 1 where one differs.
 """
 
 import random
@@ -18,6 +18,8 @@ import feed_scripts
 import replay_scripts
 import sample
 import script
+import show
+import show_files
 import world
 
 
@@ -29,6 +31,9 @@ def case(command, number):
     if command == "replay":
         text = replay_scripts.Replay(number).script()
         return ["replay", "-"], text, world.replay(text)
+    if command == "show":
+        octets = show_files.file(number)
+        return ["show", "-"], octets, show.show(octets)
     draw = random.Random(number)
     seed = draw.choice((number, draw.randrange(2**64)))
     nodes, gateways = draw.randint(1, 16), draw.randint(1, 8)

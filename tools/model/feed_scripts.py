@@ -23,7 +23,7 @@ REFUSED = """frob|in 10.0.1.1 00|in 10.0.1.1:1 0|in 10.0.1.256:1 00|in 10.0.1.1:
 at -1|at 4102444800|at 5 5|mark 1|end|reserve 500|limit foo 1| |\tmark|limit records 0|reserve 99|reserve 268435457| #
 submit 1
 offset 01:00|offset +16:00|offset +15:60|rule A0FF 1 5|rule A0 1|rule A0 1 16|rule * 256 1|rule A0 01 1|renew 1000
-profile 2|in 10.0.1.1:1|in 10.0.1.1:1 00 0G|mark\x7f|limit size 1000000001|gateways 2|settle|rule 1F 1 1"""
+profile 3|in 10.0.1.1:1|in 10.0.1.1:1 00 0G|mark\x7f|limit size 1000000001|gateways 2|settle|rule 1F 1 1"""
 NUMBERS = (0, 1, 2, 3, 7, 0x7FFE, 0x7FFF, 0x8000, 0x8001, 0xFFFE, 0xFFFF)
 
 
@@ -45,7 +45,7 @@ class Feed:
         return self.random.random() < share
 
     def setting(self):
-        kind = self.pick("reserve", "records", "size", "open", "offset", "rule", "rule", "rule")
+        kind = self.pick("reserve", "records", "size", "open", "offset", "profile", "rule", "rule", "rule")
         if kind == "reserve":
             return f"reserve {self.pick(100, 130, 200, 234, 300, 400, 600, 1000, self.random.randint(100, 2000))}"
         if kind == "records":
@@ -54,6 +54,8 @@ class Feed:
             return f"limit size {self.pick(1, 52, 61, 62, 70, 71, 100, 150, 1000000000)}"
         if kind == "open":
             return f"limit open {self.pick(1, 10, 60, 1000000)}"
+        if kind == "profile":
+            return f"profile {self.pick(1, 2, 2, 2)}"
         if kind == "offset":
             return f"offset {self.pick('+', '-')}{self.random.randint(0, 15):02}:{self.random.randint(0, 59):02}"
         tag = self.pick("*", "*", *IDENTIFIERS)

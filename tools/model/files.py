@@ -8,6 +8,7 @@ import ber
 import script
 
 HEADER, CDR_HEADER = 52, 4
+EXTENDED = 7
 SIZE, OPEN_TIME, COUNT, MANUAL, CHANGE = 1, 2, 3, 4, 5
 
 
@@ -16,10 +17,10 @@ class Settings:
 
     def __init__(self, lines):
         self.reserve, self.size, self.count, self.open_time, self.offset = 16_777_216, 1_048_576, 1_000, 3_600, 0
-        self.gateways = self.nodes = 1
+        self.gateways = self.nodes = self.profile = 1
         self.rules = []
         names = {"limit records": "count", "limit size": "size", "limit open": "open_time", "reserve": "reserve"}
-        names.update({"offset": "offset", "gateways": "gateways", "nodes": "nodes"})
+        names.update({"offset": "offset", "gateways": "gateways", "nodes": "nodes", "profile": "profile"})
         for form, *values in lines:
             if form in names:
                 setattr(self, names[form], values[0])
@@ -40,10 +41,21 @@ class Item(NamedTuple):
 
 
 def cdr_kind(format_, version):
-    """Release, version and format of a CDR, from the format and the version of its packet."""
+    """Release, version and format of a CDR, from the format and the version of its packet, and how far a release above
+    9 is above 10."""
     nibble = version >> 8 & 15
-    release = 0 if nibble <= 3 else nibble - 3 if nibble <= 9 else 7
-    return release, min(version & 255, 31), min(format_, 7)
+    release = 0 if nibble <= 3 else nibble - 3 if nibble <= 9 else EXTENDED
+    return release, min(version & 255, 31), min(format_, 7), max(nibble - 10, 0)
+
+
+def extension(kind, settings):
+    """The octet that profile 2 has more for a release above 9."""
+    return bytes([kind[3]]) if settings.profile == 2 and kind[0] == EXTENDED else b""
+
+
+def is_one_kind(kind, other, settings):
+    """Whether records of these kinds may stand in one file."""
+    return kind[:3] == other[:3] and extension(kind, settings) == extension(other, settings)
 
 
 def _records(packet, key, moment):
@@ -83,21 +95,27 @@ def stream_of(item, rules):
     return 0
 
 
-def length_of(run):
+def header_length(run, settings):
+    """The octets of a file's header: both its releases are that of the records."""
+    return HEADER + 2 * len(extension(run[0].kind, settings))
+
+
+def length_of(run, settings):
     """The octets of a file of these records."""
-    return HEADER + sum(CDR_HEADER + len(item.octets) for item in run)
+    more = len(extension(run[0].kind, settings))
+    return header_length(run, settings) + sum(CDR_HEADER + more + len(item.octets) for item in run)
 
 
 def _reason(run, following, settings):
     """Why a run ends where it stands, with the item that follows it or None; None where it goes on."""
-    if length_of(run) >= settings.size:
+    if length_of(run, settings) >= settings.size:
         return SIZE
     if len(run) >= settings.count:
         return COUNT
     if following is None:
         return None
     if following.mark is None:
-        return CHANGE if following.kind != run[-1].kind else None
+        return None if is_one_kind(following.kind, run[-1].kind, settings) else CHANGE
     if following.mark == "Tick":
         return OPEN_TIME if following.moment - run[0].moment >= settings.open_time else None
     return MANUAL
@@ -125,14 +143,17 @@ def stamp(moment, offset):
 
 def file_octets(run, sequence, reason, settings, address):
     """The octets of a file of a gateway."""
-    release, version, _ = run[0].kind
+    release, version, _, _ = run[0].kind
     kind = release << 5 | version
     times = stamp(run[0].moment, settings.offset), stamp(run[-1].moment, settings.offset)
-    head = struct.pack(">IIBBIIIIB", length_of(run), HEADER, kind, kind, *times, len(run), sequence, reason)
+    lengths = length_of(run, settings), header_length(run, settings)
+    head = struct.pack(">IIBBIIIIB", *lengths, kind, kind, *times, len(run), sequence, reason)
     head += bytes(10) + b"\xff\xff" + struct.pack(">I", address) + bytes(4) + bytes(5)
+    head += 2 * extension(run[0].kind, settings)
     for item in run:
-        release, version, format_ = item.kind
-        head += struct.pack(">HBB", len(item.octets), release << 5 | version, format_ << 5) + item.octets
+        release, version, format_, _ = item.kind
+        head += struct.pack(">HBB", len(item.octets), release << 5 | version, format_ << 5)
+        head += extension(item.kind, settings) + item.octets
     return head
 
 

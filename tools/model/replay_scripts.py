@@ -20,7 +20,7 @@ SHARES |= {"settle": 0.7, "blank": 1, "round": 6}
 MOMENTS = (0, 0, 1, 86_399, 1_709_164_800, script.LAST_MOMENT - 3_700)
 GREATEST = 2**64 - 1
 REFUSED = """frob|Flow| |\tflow| #|flow\x7f|in 10.0.1.1:1 00|mark\xe9|armshelf 1 1 old|failshelf 1 1|renew 1
-profile 1|store 1 999|nodestop|nodeopen 1|nodearm 1 1 old|nodefail 1 1|standby 1|ship 1|takeover x|arm 1 0 rot
+profile 0|store 1 999|nodestop|nodeopen 1|nodearm 1 1 old|nodefail 1 1|standby 1|ship 1|takeover x|arm 1 0 rot
 arm 1 1 rot x|reserve 500|limit foo 1|rule A0 1|gateways|nodes 1|offset -00:00|flow 1|tick|tick 1 1
 submit 1 1 0600|redirect 1|redirect 1 59 1 1|mix|settle 1|end 1|arm 1 1|fail 1|at|at 1 2|deliver|commit|mark
 close|write 1 1|stop|open|halt|start 1 1|tick 01|tick -1|tick +1|tick x|mix 18446744073709551616|redirect 1 58
@@ -76,8 +76,10 @@ class Replay:
             return "limit size", self.pick(1, 52, 61, 62, 70, 71, 100, 150, 1_000_000_000)
         if roll < 0.5:
             return "limit open", self.pick(1, 1, 10, 60, 1_000_000)
-        if roll < 0.6:
+        if roll < 0.55:
             return "offset", self.random.randint(-959, 959)
+        if roll < 0.6:
+            return "profile", self.pick(1, 2, 2)
         if roll < 0.7:
             return self.pick(("blank",), ("gateways", 3), ("nodes", 2), ("reserve", 900))
         tag, format_ = self.pick("*", "*", *IDENTIFIERS), self.pick("*", "*", *FORMATS)

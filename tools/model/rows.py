@@ -91,6 +91,14 @@ def closings():
         expect(f"size {size}", [line[25:33], line[33:79]], length, times + reason)
     change = fed(*AT, PLAIN, f"4EF0 0010 0001 7E01 FC000B {P.replace('0600', '0700')}")
     expect("change", [change[2][77:79], change[3][41:45], change[3][77:79]], "05", "8080", "04")
+    later = [f"4EF0 0010 000{n} 7E01 FC000B {P.replace('0600', version)}" for n, version in enumerate(("0A00", "0B00"))]
+    for profile, reasons in ((1, ["04"]), (2, ["05", "04"])):
+        lines = fed(f"profile {profile}", *AT, *later)[2:-1]
+        expect(f"profile {profile}", [line[77:79] for line in lines], *reasons)
+    extended = fed("profile 2", *AT, later[1])[1]
+    head = "00000040 00000036 E0 E0 2E800800 2E800800 00000001 00000001 04 00000000000000000000FFFF0A000001 00000000 00"
+    whole = (head + "0000 0000 01 01 0005 E0 20 01 A003800105").replace(" ", "")
+    expect("extended", [extended], "file 1 00-0000000001.cdr " + whole)
     late = fed("limit open 60", *AT, PLAIN, "at 1709164860", "mark")
     expect("open time", [late[1][77:79], late[-1]], "02", gateway(4, 1))
     for tag, name in (("A0", "05"), ("80", "02")):

@@ -92,6 +92,7 @@ SETTINGS = {
     b"reserve": [number(100, 268_435_456)],
     b"limit": [None, None],
     b"offset": [offset],
+    b"profile": [number(1, 2)],
     b"rule": [None, None, None],
 }
 COUNTS = {b"gateways": [number(1, 8)], b"nodes": [number(1, 16)]}
@@ -118,8 +119,8 @@ REPLAY = {
 }
 MANY, MAYBE = (b"in", b"submit"), (b"redirect",)
 LATER = {
-    "feed": (b"renew", b"profile"),
-    "replay": (b"armshelf", b"failshelf", b"renew", b"profile", b"store", b"nodestop", b"nodeopen", b"nodearm")
+    "feed": (b"renew",),
+    "replay": (b"armshelf", b"failshelf", b"renew", b"store", b"nodestop", b"nodeopen", b"nodearm")
     + (b"nodefail", b"standby", b"ship", b"takeover"),
 }
 FORMS = {"feed": {**SETTINGS, **BOTH, **FEED}, "replay": {**SETTINGS, **COUNTS, **BOTH, **REPLAY}}

@@ -2,8 +2,7 @@
 
     python3 stories.py
 
-Stories that differ are told with what a model writes. There is no model of `show`. The exit status is 1 where one
-differs.
+Stories that differ are told with what a model writes. The exit status is 1 where one differs.
 """
 
 import sys
@@ -12,6 +11,7 @@ from pathlib import Path
 import feed
 import sample
 import script
+import show
 import world
 
 FOLDER = Path(__file__).resolve().parents[2] / "crates" / "story_runs"
@@ -35,6 +35,8 @@ def model(command, numbers, text):
     ran."""
     if command == "feed":
         return *feed.feed(text), []
+    if command == "show":
+        return *show.show(text), []
     if command == "replay":
         out, status, error = world.replay(text)
         return out, status, error, [] if status else script.read(text, "replay")
@@ -45,11 +47,9 @@ def model(command, numbers, text):
 
 
 def told(text):
-    """What is to stand in `stdout` for a story, or nothing where there is no model of its command."""
+    """What is to stand in `stdout` for a story."""
     words, _, text = text.partition(b"\n")
     command, *numbers = words.decode().split(" ")
-    if command == "show":
-        return None
     if text.startswith(b"octets "):
         text = bytes.fromhex(text.split()[1].decode())
     out, status, error, lines = model(command, numbers, text)
@@ -61,7 +61,7 @@ def main():
     differ, stands = 0, stories("stdout")
     for name, text in stories("stdin").items():
         wanted = told(text)
-        if wanted is not None and stands.pop(name, b"") != wanted:
+        if stands.pop(name, b"") != wanted:
             differ += 1
             print(f"== {name.decode()}\n{wanted.decode()}")
     print(f"{differ} stories differ", file=sys.stderr)

@@ -8,6 +8,7 @@ import words  # noqa: F401  (which puts the models' folder on the path)
 import script
 
 FIXED = 50
+EXTENDED = 7
 
 
 class Header(NamedTuple):
@@ -30,7 +31,7 @@ class Record(NamedTuple):
     """A CDR of a file: its place there, what its header says, and its octets."""
 
     place: int
-    release: int
+    release: str
     version: int
     format: int
     octets: bytes
@@ -51,15 +52,25 @@ class File(NamedTuple):
         head = struct.unpack(">IIBBIIIIB20sB", self.octets[:48])
         return Header(*head)
 
+    @property
+    def is_extended(self):
+        """Whether releases above 9 have an octet more: one stands behind the private extension."""
+        place = FIXED
+        for _ in range(2):
+            place += int.from_bytes(self.octets[place - 2 : place], "big") + 2
+        return place - 2 < self.header.header_length
+
     def records(self):
         """The records, one after the other."""
-        at, octets = self.header.header_length, self.octets
+        at, octets, is_extended = self.header.header_length, self.octets, self.is_extended
         while at + 4 <= len(octets):
             length, kind, format_ = struct.unpack(">HBB", octets[at : at + 4])
-            if at + 4 + length > len(octets):
+            head = 4 + (is_extended and kind >> 5 == EXTENDED)
+            if at + head + length > len(octets):
                 raise words.Ended(f"{self.name}: the record at octet {at} is cut")
-            yield Record(at, kind >> 5, kind & 31, format_ >> 5, octets[at + 4 : at + 4 + length])
-            at += 4 + length
+            release = "+".join(map(str, [kind >> 5, *octets[at + 4 : at + head]]))
+            yield Record(at, release, kind & 31, format_ >> 5, octets[at + head : at + head + length])
+            at += head + length
         if at != len(octets):
             raise words.Ended(f"{self.name}: octets behind the last record")
 

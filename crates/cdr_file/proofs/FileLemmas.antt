@@ -2,13 +2,13 @@
 use Rattle.std.proofs.Common.{◌≡◌, ℕ, ◌+◌, ◌<◌, ◌^◌, ◌∙◌, sym, drop, List, [], ◌∷◌, ◌++◌, length, length-append, refl, ap, append_assoc, arith}
 use Rattle.std.proofs.lemmas.Grind.{flat_map-append}
 use Rattle.std.proofs.lemmas.List.{append-nil}
-use Rattle.std.proofs.lemmas.List.Sums.{sum_by_push}
 use Rattle.byteorder.specs.Endian.{big_bytes, big_number}
 use Rattle.byteorder.specs.Numbers.{big_number-reads_back}
 use Rattle.cdr_file.specs.declared.closure.ClosureReason.{ClosureReason}
 use Rattle.cdr_file.specs.declared.file_header.FileHeader.{FileHeader}
 use Rattle.cdr_file.specs.Laws.{length-run_octets}
-use Rattle.cdr_file.specs.FileHeader.{field_octets, header_octets, with_length}
+use Rattle.cdr_file.specs.FileHeader.{field_octets, header_octets, plain_header, release_octets, with_length}
+use Rattle.cdr_file.specs.Profile.{extension_octets}
 use Rattle.cdr_file.specs.SharedOctet.{shared_octet}
 use Rattle.cdr_file.specs.CdrFile.{FiledRecord, FileSettings, cdr_length, cdr_octets, file_header, file_length, file_octets, last_moment, node_address, run_octets}
 
@@ -18,14 +18,27 @@ unfolding field_octets
 length-field_octets header h =
     omega (arith, length-append header.address (header.lost ∷ []))
 
--- a file's header has 52
-pub length-header_octets : (header : FileHeader) → length header.address ≡ 20 → length (header_octets header) ≡ 52
+-- a file's header has 52, and those of its releases' extensions
+pub length-header_octets : (header : FileHeader) → length header.address ≡ 20 →
+    length (header_octets header) ≡ 52 + (length (extension_octets header.high_extension) + length (extension_octets header.low_extension))
 unfolding header_octets
 length-header_octets header h =
-    omega (arith, length-field_octets header h, length-append (field_octets header) (with_length [] ++ with_length []))
+    omega (
+      arith,
+      length-field_octets header h,
+      length-append (field_octets header) (with_length [] ++ with_length []),
+      length-append (plain_header header [] []) (release_octets header),
+      length-append (extension_octets header.high_extension) (extension_octets header.low_extension),
+    )
+
+-- a header is what each has, and then the extensions of its releases
+pub header_joined : (header : FileHeader) →
+    (plain_header header [] [] ++ extension_octets header.high_extension) ++ extension_octets header.low_extension ≡ header_octets header
+unfolding header_octets
+header_joined header = append_assoc (plain_header header [] []) (extension_octets header.high_extension) (extension_octets header.low_extension)
 
 -- the fields of a header that has neither filter nor extension, and four zeros
-pub header_octets-is : (header : FileHeader) → header_octets header
+pub plain_header-is : (header : FileHeader) → plain_header header [] []
     ≡ big_bytes 4 header.length
     ++ big_bytes 4 header.header_length
     ++ shared_octet header.high_release header.high_version ∷ []
@@ -37,8 +50,8 @@ pub header_octets-is : (header : FileHeader) → header_octets header
     ++ header.reason ∷ []
     ++ header.address
     ++ (header.lost ∷ 0 ∷ 0 ∷ 0 ∷ 0 ∷ [])
-unfolding header_octets field_octets
-header_octets-is header =
+unfolding field_octets
+plain_header-is header =
     ap (λ (rest : List ℕ). big_bytes 4 header.length
     ++ big_bytes 4 header.header_length
     ++ shared_octet header.high_release header.high_version ∷ []
@@ -73,10 +86,7 @@ first_octets run sequence reason settings small =
 pub run_octets-append : (run : List FiledRecord) (last : FiledRecord) → run_octets (run ++ last ∷ []) ≡ run_octets run ++ cdr_octets last
 run_octets-append run last = rw (flat_map-append, append-nil)
 
-pub file_length-append : (run : List FiledRecord) (last : FiledRecord) → file_length (run ++ last ∷ []) ≡ file_length run + cdr_length last
-file_length-append run last = omega (arith, sum_by_push cdr_length run last)
-
--- and the file was appended to at its moment
+-- and a file was appended to at the moment of its last record
 pub last_moment-append : (run : List FiledRecord) (last : FiledRecord) → last_moment (run ++ last ∷ []) ≡ last.moment
 last_moment-append [] last = refl
 last_moment-append (first ∷ []) last = refl

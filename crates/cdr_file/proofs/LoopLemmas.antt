@@ -1,5 +1,5 @@
 -- Reading CDRs one after the other.
-use Rattle.std.proofs.Common.{◌≡◌, ℕ, zero, suc, ◌+◌, ◌-◌, ◌<◌, ◌≤◌, true, false, List, [], ◌∷◌, ◌++◌, length, drop, Option, Some, None, Result, Ok, Err, refl, ap, sym, ◌∙◌, arith, append_assoc}
+use Rattle.std.proofs.Common.{◌≡◌, ℕ, zero, suc, ◌+◌, ◌-◌, ◌<◌, ◌≤◌, Bool, true, false, List, [], ◌∷◌, ◌++◌, length, drop, Option, Some, None, Result, Ok, Err, refl, ap, sym, ◌∙◌, arith, append_assoc}
 use Rattle.std.specs.Prelude.{◌==◌}
 use Rattle.std.proofs.lemmas.Bool.{eqb-true}
 use Rattle.std.proofs.lemmas.List.{append-nil, length-drop}
@@ -22,27 +22,27 @@ one_more cdrs cdr (Ok others) = ap (λ (all : List Cdr). Ok all) (append_assoc c
 one_more cdrs cdr (Err fault) = refl
 
 -- more CDRs than as many as octets need not be looked for
-enough : (m n place : ℕ) (octets : List ℕ) → length octets ≤ m → length octets ≤ n → cdrs_up_to m place octets ≡ cdrs_up_to n place octets
-enough m n place [] in_m in_n = none_is m place ∙ sym (none_is n place)
-enough zero n place (octet ∷ octets) in_m in_n = absurd (omega arith)
-enough (suc m) zero place (octet ∷ octets) in_m in_n = absurd (omega arith)
-enough (suc m) (suc n) place (octet ∷ octets) in_m in_n =
+enough : (extends : Bool) (m n place : ℕ) (octets : List ℕ) → length octets ≤ m → length octets ≤ n → cdrs_up_to extends m place octets ≡ cdrs_up_to extends n place octets
+enough extends m n place [] in_m in_n = none_is extends m place ∙ sym (none_is extends n place)
+enough extends zero n place (octet ∷ octets) in_m in_n = absurd (omega arith)
+enough extends (suc m) zero place (octet ∷ octets) in_m in_n = absurd (omega arith)
+enough extends (suc m) (suc n) place (octet ∷ octets) in_m in_n =
     let all : List ℕ = octet ∷ octets in
-    let less : length (drop (cdr_end all) all) ≤ length octets = omega (arith, length-drop (cdr_end all) all) in
-    step_is m place all (omega arith)
-    ∙ ap (λ (read : Result (List Cdr) FileFault). unless (cdr_fault place all) (in_front (cdr_in all) read))
-    (enough m n (place + cdr_end all) (drop (cdr_end all) all) (omega arith) (omega arith))
-    ∙ sym (step_is n place all (omega arith))
+    let less : length (drop (cdr_end extends all) all) ≤ length octets = omega (arith, length-drop (cdr_end extends all) all) in
+    step_is extends m place all (omega arith)
+    ∙ ap (λ (read : Result (List Cdr) FileFault). unless (cdr_fault extends place all) (in_front (cdr_in extends all) read))
+    (enough extends m n (place + cdr_end extends all) (drop (cdr_end extends all) all) (omega arith) (omega arith))
+    ∙ sym (step_is extends n place all (omega arith))
 
-from_step : (place : ℕ) (octets : List ℕ) → 0 < length octets →
-    cdrs_from place octets ≡ unless (cdr_fault place octets) (in_front (cdr_in octets) (cdrs_from (place + cdr_end octets) (drop (cdr_end octets) octets)))
-from_step place [] some = absurd (omega arith)
-from_step place (octet ∷ octets) some =
+from_step : (extends : Bool) (place : ℕ) (octets : List ℕ) → 0 < length octets →
+    cdrs_from extends place octets ≡ unless (cdr_fault extends place octets) (in_front (cdr_in extends octets) (cdrs_from extends (place + cdr_end extends octets) (drop (cdr_end extends octets) octets)))
+from_step extends place [] some = absurd (omega arith)
+from_step extends place (octet ∷ octets) some =
     let all : List ℕ = octet ∷ octets in
-    let less : length (drop (cdr_end all) all) ≤ length octets = omega (arith, length-drop (cdr_end all) all) in
-    step_is (length octets) place all (omega arith)
-    ∙ ap (λ (read : Result (List Cdr) FileFault). unless (cdr_fault place all) (in_front (cdr_in all) read))
-    (enough (length octets) (length (drop (cdr_end all) all)) (place + cdr_end all) (drop (cdr_end all) all) less (omega arith))
+    let less : length (drop (cdr_end extends all) all) ≤ length octets = omega (arith, length-drop (cdr_end extends all) all) in
+    step_is extends (length octets) place all (omega arith)
+    ∙ ap (λ (read : Result (List Cdr) FileFault). unless (cdr_fault extends place all) (in_front (cdr_in extends all) read))
+    (enough extends (length octets) (length (drop (cdr_end extends all) all)) (place + cdr_end extends all) (drop (cdr_end extends all) all) less (omega arith))
 
 -- whether octets are left
 pub some_left : (octets : List ℕ) → (length octets == 0) ≡ false → 0 < length octets
@@ -53,27 +53,27 @@ pub none_left : (octets : List ℕ) → (length octets == 0) ≡ true → length
 none_left octets e = eqb-true (length octets) 0 e
 
 -- where no octets are left, the CDRs so far are all
-pub all_read : (place : ℕ) (cdrs : List Cdr) (octets : List ℕ) → length octets ≡ 0 → all_in_front cdrs (cdrs_from place octets) ≡ Ok cdrs
-all_read place cdrs [] none = ap (all_in_front cdrs) (none_is 0 place) ∙ ap (λ (all : List Cdr). Ok all) (append-nil cdrs)
-all_read place cdrs (octet ∷ octets) none = absurd (omega arith)
+pub all_read : (extends : Bool) (place : ℕ) (cdrs : List Cdr) (octets : List ℕ) → length octets ≡ 0 → all_in_front cdrs (cdrs_from extends place octets) ≡ Ok cdrs
+all_read extends place cdrs [] none = ap (all_in_front cdrs) (none_is extends 0 place) ∙ ap (λ (all : List Cdr). Ok all) (append-nil cdrs)
+all_read extends place cdrs (octet ∷ octets) none = absurd (omega arith)
 
 -- a fault is that of the whole
-pub fault_read : (place : ℕ) (cdrs : List Cdr) (octets : List ℕ) (fault : FileFault) → 0 < length octets → cdr_fault place octets ≡ Some fault →
-    all_in_front cdrs (cdrs_from place octets) ≡ Err fault
-fault_read place cdrs octets fault some is =
-    ap (all_in_front cdrs) (from_step place octets some
-    ∙ ap (λ (f : Option FileFault). unless f (in_front (cdr_in octets) (cdrs_from (place + cdr_end octets) (drop (cdr_end octets) octets)))) is)
+pub fault_read : (extends : Bool) (place : ℕ) (cdrs : List Cdr) (octets : List ℕ) (fault : FileFault) → 0 < length octets → cdr_fault extends place octets ≡ Some fault →
+    all_in_front cdrs (cdrs_from extends place octets) ≡ Err fault
+fault_read extends place cdrs octets fault some is =
+    ap (all_in_front cdrs) (from_step extends place octets some
+    ∙ ap (λ (f : Option FileFault). unless f (in_front (cdr_in extends octets) (cdrs_from extends (place + cdr_end extends octets) (drop (cdr_end extends octets) octets)))) is)
 
 -- one more CDR was read
-pub cdr_read : (whole place next : ℕ) (octets after : List ℕ) (cdrs : List Cdr) (cdr : Cdr) → 0 < length octets → length octets ≤ whole →
-    place ≡ whole - length octets → cdr_fault place octets ≡ None → cdr_end octets ≤ length octets → cdr ≡ cdr_in octets → after ≡ drop (cdr_end octets) octets →
+pub cdr_read : (extends : Bool) (whole place next : ℕ) (octets after : List ℕ) (cdrs : List Cdr) (cdr : Cdr) → 0 < length octets → length octets ≤ whole →
+    place ≡ whole - length octets → cdr_fault extends place octets ≡ None → cdr_end extends octets ≤ length octets → cdr ≡ cdr_in extends octets → after ≡ drop (cdr_end extends octets) octets →
     next ≡ whole - length after →
-    all_in_front (cdrs ++ cdr ∷ []) (cdrs_from next after) ≡ all_in_front cdrs (cdrs_from place octets)
-cdr_read whole place next octets after cdrs cdr some within at no_fault end is rest then =
-    let reached : next ≡ place + cdr_end octets = omega (arith, ap length rest, length-drop (cdr_end octets) octets) in
-    one_more cdrs cdr (cdrs_from next after)
-    ∙ ap (λ (n : ℕ). all_in_front cdrs (in_front cdr (cdrs_from n after))) reached
-    ∙ ap (λ (o : List ℕ). all_in_front cdrs (in_front cdr (cdrs_from (place + cdr_end octets) o))) rest
-    ∙ ap (λ (c : Cdr). all_in_front cdrs (in_front c (cdrs_from (place + cdr_end octets) (drop (cdr_end octets) octets)))) is
-    ∙ ap (all_in_front cdrs) (sym (from_step place octets some
-    ∙ ap (λ (f : Option FileFault). unless f (in_front (cdr_in octets) (cdrs_from (place + cdr_end octets) (drop (cdr_end octets) octets)))) no_fault))
+    all_in_front (cdrs ++ cdr ∷ []) (cdrs_from extends next after) ≡ all_in_front cdrs (cdrs_from extends place octets)
+cdr_read extends whole place next octets after cdrs cdr some within at no_fault end is rest then =
+    let reached : next ≡ place + cdr_end extends octets = omega (arith, ap length rest, length-drop (cdr_end extends octets) octets) in
+    one_more cdrs cdr (cdrs_from extends next after)
+    ∙ ap (λ (n : ℕ). all_in_front cdrs (in_front cdr (cdrs_from extends n after))) reached
+    ∙ ap (λ (o : List ℕ). all_in_front cdrs (in_front cdr (cdrs_from extends (place + cdr_end extends octets) o))) rest
+    ∙ ap (λ (c : Cdr). all_in_front cdrs (in_front c (cdrs_from extends (place + cdr_end extends octets) (drop (cdr_end extends octets) octets)))) is
+    ∙ ap (all_in_front cdrs) (sym (from_step extends place octets some
+    ∙ ap (λ (f : Option FileFault). unless f (in_front (cdr_in extends octets) (cdrs_from extends (place + cdr_end extends octets) (drop (cdr_end extends octets) octets)))) no_fault))

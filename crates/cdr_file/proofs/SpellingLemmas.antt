@@ -1,19 +1,19 @@
 -- A file is read exactly where octets spell it.
-use Rattle.std.proofs.Common.{◌≡◌, ℕ, ◌+◌, Bool, true, false, not, List, ◌++◌, length, drop, Option, None, Result, Ok, Err, refl, ap, sym, subst, ◌∙◌, arith}
+use Rattle.std.proofs.Common.{◌≡◌, ℕ, ◌+◌, Bool, true, false, not, List, ◌++◌, length, drop, Option, None, Result, Ok, Err, refl, ap, sym, subst, ◌∙◌, arith, append_assoc}
 use Rattle.std.specs.List.{flat_map}
-use Rattle.std.specs.Prelude.{◌||◌}
+use Rattle.std.specs.Prelude.{◌==◌, ◌||◌}
 use Rattle.std.proofs.lemmas.Bool.{eq-eqb, eqb-true, ltb-false}
-use Rattle.std.proofs.lemmas.List.{length-append}
-use Rattle.cdr_file.specs.CdrHeader.{spelled_cdr}
-use Rattle.cdr_file.specs.FileHeader.{IsFileHeader, header_with}
-use Rattle.cdr_file.specs.Reading.{HasHeader, cdrs_from, cdrs_in, count_tests, extension_in, extension_length, extension_place, file_in, file_with, filter_in, filter_length, first_fault, header_end, header_fault, header_in, number_at, unless, with_cdrs}
+use Rattle.std.proofs.lemmas.List.{drop_at, length-append}
+use Rattle.cdr_file.specs.CdrHeader.{AreCdrs, spelled_cdr}
+use Rattle.cdr_file.specs.FileHeader.{IsFileHeader, extends, header_with, plain_header, release_octets}
+use Rattle.cdr_file.specs.Reading.{HasHeader, cdrs_from, cdrs_in, count_tests, extends_in, extension_end, extension_in, extension_length, extension_place, fields_in, file_in, file_with, filter_in, filter_length, first_fault, header_end, header_fault, header_in, number_at, unless, with_cdrs}
 use Rattle.cdr_file.specs.Spelling.{AreOctets, IsFile, Spells, spelled_file}
 use Rattle.cdr_file.specs.declared.fault.FileFault.{FileFault}
 use Rattle.cdr_file.specs.declared.file.Cdr.{Cdr}
 use Rattle.cdr_file.specs.declared.file.CdrFile.{CdrFile}
 use Rattle.cdr_file.specs.declared.file_header.FileHeader.{FileHeader}
 use Rattle.cdr_file.proofs.CdrLemmas.{cdrs_again, cdrs_are, no_fault, read_is}
-use Rattle.cdr_file.proofs.HeaderLemmas.{Parts, fields_fit, header_is, length-header_with, no_header_fault, parts_again}
+use Rattle.cdr_file.proofs.HeaderLemmas.{Extended, Parts, bare, extended_by, extends_is, header_fits, header_is, length-plain_header, no_header_fault, parts_again, releases_count}
 use Rattle.cdr_file.proofs.NumberLemmas.{AreOctets-drop, length_of_part, number_fits}
 
 not_false : (b : Bool) → not b ≡ false → b ≡ true
@@ -23,37 +23,52 @@ not_false false e = absurd cc
 -- What is spelled is read.
 
 pub file_again : (file : CdrFile) → IsFile file → file_in (spelled_file file) ≡ Ok file
-unfolding file_in header_in
+unfolding file_in header_in fields_in
 file_again file is =
+    let h : FileHeader = file.header in
     let octets : List ℕ = spelled_file file in
     let cdrs : List ℕ = flat_map spelled_cdr file.cdrs in
-    let parts : Parts octets file.header file.filter file.extension cdrs = parts_again file.header file.filter file.extension cdrs is.header is.filter is.extension in
-    let header : length (header_with file.header file.filter file.extension) ≡ 52 + length file.filter + length file.extension =
-    length-header_with file.header file.filter file.extension is.header.address in
-    let all : length octets ≡ length (header_with file.header file.filter file.extension) + length cdrs =
-    length-append (header_with file.header file.filter file.extension) cdrs in
+    let front : List ℕ = plain_header h file.filter file.extension in
+    let behind : List ℕ = release_octets h ++ cdrs in
+    let whole : octets ≡ front ++ behind = append_assoc front (release_octets h) cdrs in
+    let parts : Parts octets h file.filter file.extension behind =
+    subst (λ (o : List ℕ). Parts o h file.filter file.extension behind) (sym whole) (parts_again h file.filter file.extension behind is.header is.filter is.extension) in
+    let plain : length front ≡ 52 + length file.filter + length file.extension = length-plain_header h file.filter file.extension is.header.address in
+    let header : length (header_with h file.filter file.extension) ≡ length front + length (release_octets h) = length-append front (release_octets h) in
+    let all : length octets ≡ length (header_with h file.filter file.extension) + length cdrs =
+    length-append (header_with h file.filter file.extension) cdrs in
     let stated : number_at 4 0 octets ≡ length octets = ap (λ (h : FileHeader). h.length) (fields parts) ∙ is.file_length in
-    let end : header_end octets ≡ length (header_with file.header file.filter file.extension) = ap (λ (h : FileHeader). h.header_length) (fields parts) ∙ is.header_length in
+    let end : header_end octets ≡ length (header_with h file.filter file.extension) = ap (λ (h : FileHeader). h.header_length) (fields parts) ∙ is.header_length in
     let count : length file.cdrs ≡ number_at 4 18 octets = sym (ap (λ (h : FileHeader). h.count) (fields parts) ∙ is.count) in
-    let reached : extension_place octets + 2 + extension_length octets ≡ header_end octets = omega (arith, end, header, parts.filter_count, parts.extension_count) in
+    let at : extension_end octets ≡ length front = omega (arith, plain, parts.filter_count, parts.extension_count) in
+    let extended : Extended octets h =
+    extended_by octets h cdrs (length front) at (ap (λ (n : ℕ). drop n octets) (sym at) ∙ parts.past) (end ∙ header)
+    (ap (λ (h : FileHeader). h.high_release == 7) (fields parts)) (ap (λ (h : FileHeader). h.low_release == 7) (fields parts))
+    h.high_extension h.low_extension refl refl is.header in
     let has : HasHeader octets = record {
-      least = omega (arith, all, header);
+      least = omega (arith, all, header, plain);
       stated = stated;
-      from = omega (arith, end, header);
+      from = omega (arith, end, header, plain);
       within = omega (arith, end, all);
-      filter = omega (arith, end, header, parts.filter_count);
-      extension = reached;
+      filter = omega (arith, end, header, plain, parts.filter_count);
+      extension = omega (arith, at, extended.count, end, header);
     } in
-    let past : drop (header_end octets) octets ≡ cdrs = ap (λ (n : ℕ). drop n octets) (sym reached) ∙ parts.past in
+    let past : drop (header_end octets) octets ≡ cdrs = drop_at (header_with h file.filter file.extension) cdrs (header_end octets) (sym end) in
     let read : cdrs_in octets ≡ Ok file.cdrs =
-    ap (λ (o : List ℕ). cdrs_from (header_end octets) o) past ∙ cdrs_again (length cdrs) (header_end octets) file.cdrs is.cdrs (omega arith) in
+    (λ i. cdrs_from (extended.extends i) (header_end octets) (past i)) ∙ cdrs_again (extends h) (length cdrs) (header_end octets) file.cdrs is.cdrs (omega arith) in
     let counted : first_fault (count_tests octets file.cdrs) ≡ None = rw (eq-eqb (length file.cdrs) (number_at 4 18 octets) count) refl in
     ap (λ (fault : Option FileFault). unless fault (with_cdrs octets (cdrs_in octets))) (no_header_fault octets has)
     ∙ ap (with_cdrs octets) read
     ∙ ap (λ (fault : Option FileFault). unless fault (Ok (file_with octets file.cdrs))) counted
-    ∙ (λ i. Ok (record { header = (fields parts) i; filter = parts.is_filter i; extension = parts.is_extension i; cdrs = file.cdrs }))
+    ∙ (λ i. Ok (record {
+      header = record (fields parts i) { high_extension = extended.high i; low_extension = extended.low i };
+      filter = parts.is_filter i;
+      extension = parts.is_extension i;
+      cdrs = file.cdrs;
+    }))
   where
-    fields : Parts (spelled_file file) file.header file.filter file.extension (flat_map spelled_cdr file.cdrs) → header_in (spelled_file file) ≡ file.header
+    fields : Parts (spelled_file file) file.header file.filter file.extension (release_octets file.header ++ flat_map spelled_cdr file.cdrs) →
+        fields_in (spelled_file file) ≡ bare file.header
     fields parts = parts.fields
 
 pub spelled_again : (file : CdrFile) (octets : List ℕ) → Spells file octets → file_in octets ≡ Ok file
@@ -103,25 +118,27 @@ counted_is octets file (Ok cdrs) e =
 
 spells_with : (octets : List ℕ) (cdrs : List Cdr) → AreOctets octets → HasHeader octets → cdrs_in octets ≡ Ok cdrs → length cdrs ≡ number_at 4 18 octets →
     Spells (file_with octets cdrs) octets
-unfolding filter_in extension_in header_in
+unfolding filter_in extension_in header_in fields_in
 spells_with octets cdrs fit has read count =
     let start : ℕ = header_end octets in
     let rest : List ℕ = drop start octets in
-    let are = cdrs_are (length rest) start rest cdrs (AreOctets-drop start octets fit) read in
-    let fits : IsFileHeader (header_in octets) = fields_fit octets fit has.least in
+    let are = cdrs_are (extends_in octets) (length rest) start rest cdrs (AreOctets-drop start octets fit) read in
+    let fits : IsFileHeader (header_in octets) = header_fits octets fit has in
     let filter_count : length (filter_in octets) ≡ filter_length octets = length_of_part 50 (filter_length octets) octets (omega (arith, has.filter, has.within)) in
     let extension_count : length (extension_in octets) ≡ extension_length octets =
     length_of_part (extension_place octets + 2) (extension_length octets) octets (omega (arith, has.extension, has.within)) in
+    let plain_long = length-plain_header (header_in octets) (filter_in octets) (extension_in octets) fits.address in
+    let header_long = length-append (plain_header (header_in octets) (filter_in octets) (extension_in octets)) (release_octets (header_in octets)) in
     let spelled : octets ≡ spelled_file (file_with octets cdrs) =
     header_is octets fit has ∙ ap (λ (o : List ℕ). header_with (header_in octets) (filter_in octets) (extension_in octets) ++ o) are.1 in
     record {
       is_file = record {
         header = fits;
-        cdrs = are.0;
+        cdrs = subst (λ (b : Bool). AreCdrs b cdrs) (sym (extends_is octets has)) are.0;
         filter = omega (arith, filter_count, number_fits 2 48 octets fit);
         extension = omega (arith, extension_count, number_fits 2 (extension_place octets) octets fit);
         file_length = has.stated ∙ ap length spelled;
-        header_length = sym (length-header_with (header_in octets) (filter_in octets) (extension_in octets) fits.address ∙ omega (arith, filter_count, extension_count, has.extension));
+        header_length = omega (arith, header_long, plain_long, releases_count octets, filter_count, extension_count, has.extension);
         count = sym count;
       };
       spelled = spelled;

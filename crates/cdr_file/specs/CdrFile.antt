@@ -1,22 +1,24 @@
 -- The octets of a whole CDR file (3GPP TS 32.297, clause 6.1), for a run of records of one kind.
-use Rattle.std.specs.Prelude.{ℕ, ◌+◌, List, [], ◌∷◌, ◌++◌, ℤ, length, map, replicate, sum_by}
+use Rattle.std.specs.Prelude.{ℕ, ◌+◌, List, [], ◌∷◌, ◌++◌, ℤ, None, length, map, replicate, sum_by}
 use Rattle.std.specs.List.{flat_map}
 use Rattle.byteorder.specs.Endian.{big_bytes}
-use Rattle.gw_base.specs.declared.kind.CdrKind.{CdrKind}
 use Rattle.cdr_file.specs.declared.cdr_header.CdrHeader.{CdrHeader}
 use Rattle.cdr_file.specs.declared.file.Cdr.{Cdr}
 use Rattle.cdr_file.specs.declared.file.CdrFile.{CdrFile}
 use Rattle.cdr_file.specs.declared.closure.ClosureReason.{ClosureReason}
 use Rattle.cdr_file.specs.declared.file_header.FileHeader.{FileHeader}
+use Rattle.cdr_file.specs.declared.filed_kind.FiledKind.{FiledKind}
 use Rattle.cdr_file.specs.declared.run.RunFacts.{RunFacts}
 use Rattle.cdr_file.specs.CdrHeader.{spelled_cdr}
 use Rattle.cdr_file.specs.ClosureReason.{code_of}
 use Rattle.cdr_file.specs.FileHeader.{header_octets}
+use Rattle.cdr_file.specs.Profile.{extension_octets}
 use Rattle.cdr_file.specs.Timestamp.{stamp_of}
 
--- a record that goes into a file: its kind, its octets, and the moment at which it was filed
+-- a record that goes into a file: its kind in the form of the file's profile, its octets, and the moment at which it
+-- was filed
 pub record FiledRecord : Type 0 where
-  pub kind : CdrKind
+  pub kind : FiledKind
   pub octets : List ℕ
   pub moment : ℕ
 
@@ -33,6 +35,7 @@ cdr_header filed = record {
   version = filed.kind.version;
   format = filed.kind.format;
   ts = 0;
+  extension = filed.kind.extension;
 }
 
 -- the CDR that a record becomes
@@ -48,12 +51,12 @@ abbrev pub run_octets : List FiledRecord → List ℕ
 run_octets run = flat_map cdr_octets run
 
 -- how many octets the header of a CDR of a kind has
-abbrev pub cdr_header_length : CdrKind → ℕ
-cdr_header_length _ = 4
+abbrev pub cdr_header_length : FiledKind → ℕ
+cdr_header_length kind = 4 + length (extension_octets kind.extension)
 
--- how many octets the header of a file of CDRs of a kind has
-abbrev pub header_length : CdrKind → ℕ
-header_length _ = 52
+-- how many octets the header of a file of CDRs of a kind has: both of its releases are that of the kind
+abbrev pub header_length : FiledKind → ℕ
+header_length kind = 52 + (length (extension_octets kind.extension) + length (extension_octets kind.extension))
 
 -- how many octets the CDR of a record has
 abbrev pub cdr_length : FiledRecord → ℕ
@@ -61,8 +64,8 @@ cdr_length filed = cdr_header_length filed.kind + length filed.octets
 
 -- the kind of a run is that of its first record, and so of each. A file begins with its first record: no file has an
 -- empty run, for which any value would do here and below
-abbrev pub run_kind : List FiledRecord → CdrKind
-run_kind [] = record { release = 0; version = 0; format = 0 }
+abbrev pub run_kind : List FiledRecord → FiledKind
+run_kind [] = record { release = 0; version = 0; format = 0; extension = None }
 run_kind (first ∷ _) = first.kind
 
 -- a file is opened at the moment of its first record
@@ -118,6 +121,8 @@ header_of run sequence reason settings = record {
   reason = code_of reason;
   address = node_address settings.address;
   lost = 0;
+  high_extension = run.kind.extension;
+  low_extension = run.kind.extension;
 }
 
 -- the header of the file of a run

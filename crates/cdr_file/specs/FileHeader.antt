@@ -1,10 +1,11 @@
 -- The header of a CDR file (3GPP TS 32.297, clause 6.1.1).
-use Rattle.std.specs.Prelude.{◌≡◌, ◌<◌, ◌^◌, ℕ, List, [], ◌∷◌, ◌++◌, length}
+use Rattle.std.specs.Prelude.{◌≡◌, ◌<◌, ◌^◌, ◌==◌, ◌&&◌, ◌||◌, ℕ, Bool, List, [], ◌∷◌, ◌++◌, Option, length, is_some}
 use Rattle.byteorder.specs.Endian.{big_bytes}
 use Rattle.cdr_file.specs.declared.file_header.FileHeader.{FileHeader}
+use Rattle.cdr_file.specs.Profile.{IsExtension, extension_octets}
 use Rattle.cdr_file.specs.SharedOctet.{shared_octet}
 
--- how many octets a header has that has neither a routeing filter nor a private extension
+-- how many octets a header has that has neither a routeing filter nor any extension
 abbrev pub least_header : ℕ
 least_header = 52
 
@@ -27,15 +28,31 @@ field_octets header =
 abbrev pub with_length : List ℕ → List ℕ
 with_length octets = big_bytes 2 (length octets) ++ octets
 
--- a header with its routeing filter and its private extension
-abbrev pub header_with : FileHeader → List ℕ → List ℕ → List ℕ
-header_with header filter extension = field_octets header ++ (with_length filter ++ with_length extension)
+-- a header with its routeing filter and its private extension, but without the extensions of its releases
+abbrev pub plain_header : FileHeader → List ℕ → List ℕ → List ℕ
+plain_header header filter extension = field_octets header ++ (with_length filter ++ with_length extension)
 
--- a header with neither
+-- the extensions of its releases, of the high one first
+abbrev pub release_octets : FileHeader → List ℕ
+release_octets header = extension_octets header.high_extension ++ extension_octets header.low_extension
+
+-- a header with all of these
+abbrev pub header_with : FileHeader → List ℕ → List ℕ → List ℕ
+header_with header filter extension = plain_header header filter extension ++ release_octets header
+
+-- a header with neither filter nor private extension
 unfoldable pub header_octets : FileHeader → List ℕ
 header_octets header = header_with header [] []
 
--- each number of a header fits its field
+-- a file whose header has the extension of a release has those of all (profile 2)
+abbrev pub extends : FileHeader → Bool
+extends header = is_some header.high_extension || is_some header.low_extension
+
+-- a release of a header has an extension just where it should: where the file extends releases, and it is 7
+abbrev pub IsExtended : FileHeader → ℕ → Option ℕ → Type 0
+IsExtended header release extension = IsExtension (extends header && (release == 7)) extension
+
+-- each number of a header fits its field, and either no release has an extension, or those that are 7
 pub record IsFileHeader (header : FileHeader) : Type 0 where
   pub address : length header.address ≡ 20
   pub file_length : header.length < 2 ^ 32
@@ -46,3 +63,5 @@ pub record IsFileHeader (header : FileHeader) : Type 0 where
   pub count : header.count < 2 ^ 32
   pub sequence : header.sequence < 2 ^ 32
   pub octets : (header.reason < 256) × (header.lost < 256)
+  pub high_extension : IsExtended header header.high_release header.high_extension
+  pub low_extension : IsExtended header header.low_release header.low_extension

@@ -6,6 +6,7 @@ pub mod FaultText
 pub mod FileHeader
 pub mod Listing
 pub mod Names
+pub mod Profile
 pub mod Reading
 pub mod SharedOctet
 pub mod Spelling

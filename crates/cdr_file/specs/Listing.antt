@@ -1,6 +1,6 @@
 -- The listing of a CDR file: a line for its header, one for its routeing filter and one for its private extension where these
 -- aren't empty, and one for each CDR.
-use Rattle.std.specs.Prelude.{ℕ, ◌+◌, ◌/◌, ◌%◌, ◌==◌, if◌then◌else◌, List, [], ◌∷◌, ◌++◌, codes}
+use Rattle.std.specs.Prelude.{ℕ, ◌+◌, ◌/◌, ◌%◌, ◌==◌, if◌then◌else◌, List, [], ◌∷◌, ◌++◌, Option, None, Some, codes}
 use Rattle.std.specs.Fmt.{decimal}
 use Rattle.std.specs.List.{flat_map}
 use Rattle.hex.specs.Hex.{encode_upper}
@@ -36,17 +36,22 @@ fields_text fields =
 unfoldable pub stamp_text : ℕ → List ℕ
 stamp_text stamp = fields_text (fields_of stamp)
 
--- a release and a version in it
-abbrev pub release_text : ℕ → ℕ → List ℕ
-release_text release version = decimal release ++ (46 ∷ decimal version)
+-- a plus and the extension of a release, where there is one
+abbrev pub extension_text : Option ℕ → List ℕ
+extension_text None = []
+extension_text (Some extension) = 43 ∷ decimal extension
+
+-- a release, with its extension where it has one, and a version in it
+abbrev pub release_text : ℕ → Option ℕ → ℕ → List ℕ
+release_text release extension version = decimal release ++ (extension_text extension ++ (46 ∷ decimal version))
 
 -- the line of a header
 abbrev pub file_line : FileHeader → List ℕ
 file_line header = line (codes "file")
     (decimal header.length
     ∷ decimal header.header_length
-    ∷ release_text header.high_release header.high_version
-    ∷ release_text header.low_release header.low_version
+    ∷ release_text header.high_release header.high_extension header.high_version
+    ∷ release_text header.low_release header.low_extension header.low_version
     ∷ stamp_text header.opened
     ∷ stamp_text header.appended
     ∷ decimal header.count
@@ -71,7 +76,7 @@ abbrev pub cdr_line : ℕ → Cdr → List ℕ
 cdr_line number cdr = line (codes "cdr")
     (decimal number
     ∷ decimal cdr.header.length
-    ∷ release_text cdr.header.release cdr.header.version
+    ∷ release_text cdr.header.release cdr.header.extension cdr.header.version
     ∷ decimal cdr.header.format
     ∷ decimal cdr.header.ts
     ∷ octets_text cdr.octets

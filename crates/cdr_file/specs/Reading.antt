@@ -1,6 +1,6 @@
 -- Reading a whole CDR file (3GPP TS 32.297, clause 6.1). The first condition that holds is the file's fault, and where none
 -- holds the file is read.
-use Rattle.std.specs.Prelude.{◌≡◌, ◌≤◌, ℕ, zero, suc, ◌+◌, ◌/◌, ◌%◌, ◌==◌, ◌||◌, not, nat_lt, Bool, if◌then◌else◌, List, [], ◌∷◌, length, take, drop, slice_index, Option, Some, None, Result, Ok, Err}
+use Rattle.std.specs.Prelude.{◌≡◌, ◌≤◌, ℕ, zero, suc, ◌+◌, ◌/◌, ◌%◌, ◌==◌, ◌&&◌, ◌||◌, not, nat_lt, Bool, true, false, if◌then◌else◌, List, [], ◌∷◌, length, take, drop, slice_index, Option, Some, None, Result, Ok, Err}
 use Rattle.byteorder.specs.Endian.{big_number}
 use Rattle.cdr_file.specs.declared.cdr_header.CdrHeader.{CdrHeader}
 use Rattle.cdr_file.specs.declared.fault.FileFault.{FileFault}
@@ -10,6 +10,7 @@ use Rattle.cdr_file.specs.declared.file.Cdr.{Cdr}
 use Rattle.cdr_file.specs.declared.file.CdrFile.{CdrFile}
 use Rattle.cdr_file.specs.declared.file_header.FileHeader.{FileHeader}
 use Rattle.cdr_file.specs.FileHeader.{least_header}
+use Rattle.cdr_file.specs.Profile.{extension_if}
 
 -- Faults.
 
@@ -42,8 +43,8 @@ abbrev pub low_at : ℕ → List ℕ → ℕ
 low_at place octets = slice_index octets place % 32
 
 -- the fields, each from its place
-unfoldable pub header_in : List ℕ → FileHeader
-header_in octets = record {
+unfoldable pub fields_in : List ℕ → FileHeader
+fields_in octets = record {
   length = number_at 4 0 octets;
   header_length = number_at 4 4 octets;
   high_release = high_at 8 octets;
@@ -57,6 +58,8 @@ header_in octets = record {
   reason = slice_index octets 26;
   address = take 20 (drop 27 octets);
   lost = slice_index octets 47;
+  high_extension = None;
+  low_extension = None;
 }
 
 -- where the header says that it ends, and the CDRs begin
@@ -80,6 +83,46 @@ extension_length octets = number_at 2 (extension_place octets) octets
 unfoldable pub extension_in : List ℕ → List ℕ
 extension_in octets = take (extension_length octets) (drop (extension_place octets + 2) octets)
 
+-- where the private extension ends, and the extensions of releases begin, if there are any
+abbrev pub extension_end : List ℕ → ℕ
+extension_end octets = extension_place octets + 2 + extension_length octets
+
+-- how many of a header's two releases are 7
+abbrev pub one_if : Bool → ℕ
+one_if true = 1
+one_if false = 0
+
+abbrev pub is_seven : ℕ → List ℕ → Bool
+is_seven place octets = high_at place octets == 7
+
+abbrev pub sevens : List ℕ → ℕ
+sevens octets = one_if (is_seven 8 octets) + one_if (is_seven 9 octets)
+
+-- octets follow the private extension: the file is read in profile 2, else in profile 1
+abbrev pub extends_in : List ℕ → Bool
+extends_in octets = not (extension_end octets == header_end octets)
+
+-- the extension of each release that is 7, of the high one first
+abbrev pub high_extension_in : List ℕ → Option ℕ
+high_extension_in octets =
+    extension_if (extends_in octets && is_seven 8 octets) (slice_index octets (extension_end octets))
+
+abbrev pub low_extension_in : List ℕ → Option ℕ
+low_extension_in octets =
+    extension_if (extends_in octets && is_seven 9 octets)
+    (slice_index octets (extension_end octets + one_if (is_seven 8 octets)))
+
+-- the whole header but for its routeing filter and its private extension
+unfoldable pub header_in : List ℕ → FileHeader
+header_in octets = record (fields_in octets) {
+  high_extension = high_extension_in octets;
+  low_extension = low_extension_in octets;
+}
+
+-- how many octets extend releases: none, or one for each that is 7
+abbrev pub release_count : List ℕ → ℕ
+release_count octets = if extends_in octets then sevens octets else 0
+
 -- what is wrong with a header, in the order in which it is tested
 abbrev pub header_tests : List ℕ → List Test
 header_tests octets =
@@ -87,7 +130,10 @@ header_tests octets =
     ∷ (record { holds = not (number_at 4 0 octets == length octets); fault = Bad (length octets) kind.FileLength })
     ∷ (record { holds = nat_lt (header_end octets) least_header || nat_lt (length octets) (header_end octets); fault = Bad 4 kind.HeaderLength })
     ∷ (record { holds = nat_lt (header_end octets) (extension_place octets + 2); fault = Bad 48 kind.Filter })
-    ∷ (record { holds = not (extension_place octets + 2 + extension_length octets == header_end octets); fault = Bad (extension_place octets) kind.Extension })
+    ∷ (record {
+      holds = not (extension_end octets + release_count octets == header_end octets);
+      fault = Bad (extension_place octets) kind.Extension;
+    })
     ∷ []
 
 unfoldable pub header_fault : List ℕ → Option FileFault
@@ -100,37 +146,50 @@ pub record HasHeader (octets : List ℕ) : Type 0 where
   pub from : least_header ≤ header_end octets
   pub within : header_end octets ≤ length octets
   pub filter : extension_place octets + 2 ≤ header_end octets
-  pub extension : extension_place octets + 2 + extension_length octets ≡ header_end octets
+  pub extension : extension_end octets + release_count octets ≡ header_end octets
 
--- The CDRs.
+-- The CDRs, of a file in profile 2 where it extends releases.
 
--- the header of the CDR that octets begin with
-abbrev pub cdr_header_in : List ℕ → CdrHeader
-cdr_header_in octets = record {
+-- the header of the CDR that octets begin with has an extension
+abbrev pub has_extension : Bool → List ℕ → Bool
+has_extension extends octets = extends && is_seven 2 octets
+
+-- how many octets the header has
+abbrev pub cdr_head : Bool → List ℕ → ℕ
+cdr_head extends octets = 4 + one_if (has_extension extends octets)
+
+-- the header
+abbrev pub cdr_header_in : Bool → List ℕ → CdrHeader
+cdr_header_in extends octets = record {
   length = big_number 2 octets;
   release = high_at 2 octets;
   version = low_at 2 octets;
   format = high_at 3 octets;
   ts = low_at 3 octets;
+  extension = extension_if (has_extension extends octets) (slice_index octets 4);
 }
 
 -- where the CDR ends
-abbrev pub cdr_end : List ℕ → ℕ
-cdr_end octets = 4 + big_number 2 octets
+abbrev pub cdr_end : Bool → List ℕ → ℕ
+cdr_end extends octets = cdr_head extends octets + big_number 2 octets
 
 -- the CDR
-unfoldable pub cdr_in : List ℕ → Cdr
-cdr_in octets = record { header = cdr_header_in octets; octets = take (big_number 2 octets) (drop 4 octets) }
+unfoldable pub cdr_in : Bool → List ℕ → Cdr
+cdr_in extends octets =
+    record {
+      header = cdr_header_in extends octets;
+      octets = take (big_number 2 octets) (drop (cdr_head extends octets) octets);
+    }
 
 -- what is wrong with the CDR that octets from a place of the file on begin with
-abbrev pub cdr_tests : ℕ → List ℕ → List Test
-cdr_tests place octets =
-    (record { holds = nat_lt (length octets) 4; fault = Bad place kind.CdrHeader })
-    ∷ (record { holds = nat_lt (length octets) (cdr_end octets); fault = Bad place kind.CdrCut })
+abbrev pub cdr_tests : Bool → ℕ → List ℕ → List Test
+cdr_tests extends place octets =
+    (record { holds = nat_lt (length octets) (cdr_head extends octets); fault = Bad place kind.CdrHeader })
+    ∷ (record { holds = nat_lt (length octets) (cdr_end extends octets); fault = Bad place kind.CdrCut })
     ∷ []
 
-unfoldable pub cdr_fault : ℕ → List ℕ → Option FileFault
-cdr_fault place octets = first_fault (cdr_tests place octets)
+unfoldable pub cdr_fault : Bool → ℕ → List ℕ → Option FileFault
+cdr_fault extends place octets = first_fault (cdr_tests extends place octets)
 
 -- a CDR in front of the others, where they can be read
 abbrev pub in_front : Cdr → Result (List Cdr) FileFault → Result (List Cdr) FileFault
@@ -139,18 +198,20 @@ in_front cdr (Err fault) = Err fault
 
 -- the CDRs that octets from a place of the file on are, one after the other, or the first fault. There are at most as
 -- many as octets
-unfoldable pub cdrs_up_to : ℕ → ℕ → List ℕ → Result (List Cdr) FileFault
-cdrs_up_to most place [] = Ok []
-cdrs_up_to zero place (octet ∷ octets) = Err (Bad place kind.CdrHeader)
-cdrs_up_to (suc most) place (octet ∷ octets) =
-    unless (cdr_fault place (octet ∷ octets))
-    (in_front (cdr_in (octet ∷ octets)) (cdrs_up_to most (place + cdr_end (octet ∷ octets)) (drop (cdr_end (octet ∷ octets)) (octet ∷ octets))))
+unfoldable pub cdrs_up_to : Bool → ℕ → ℕ → List ℕ → Result (List Cdr) FileFault
+cdrs_up_to extends most place [] = Ok []
+cdrs_up_to extends zero place (octet ∷ octets) = Err (Bad place kind.CdrHeader)
+cdrs_up_to extends (suc most) place (octet ∷ octets) =
+    let all = octet ∷ octets in
+    let end = cdr_end extends all in
+    unless (cdr_fault extends place all)
+    (in_front (cdr_in extends all) (cdrs_up_to extends most (place + end) (drop end all)))
 
-abbrev pub cdrs_from : ℕ → List ℕ → Result (List Cdr) FileFault
-cdrs_from place octets = cdrs_up_to (length octets) place octets
+abbrev pub cdrs_from : Bool → ℕ → List ℕ → Result (List Cdr) FileFault
+cdrs_from extends place octets = cdrs_up_to extends (length octets) place octets
 
 abbrev pub cdrs_in : List ℕ → Result (List Cdr) FileFault
-cdrs_in octets = cdrs_from (header_end octets) (drop (header_end octets) octets)
+cdrs_in octets = cdrs_from (extends_in octets) (header_end octets) (drop (header_end octets) octets)
 
 -- The file.
 

@@ -3,7 +3,7 @@ use Rattle.std.specs.Prelude.{◌≡◌, ◌<◌, ◌^◌, ℕ, List, ◌++◌, 
 use Rattle.std.specs.List.{flat_map}
 use Rattle.cdr_file.specs.declared.file.CdrFile.{CdrFile}
 use Rattle.cdr_file.specs.CdrHeader.{AreCdrs, spelled_cdr}
-use Rattle.cdr_file.specs.FileHeader.{IsFileHeader, header_with}
+use Rattle.cdr_file.specs.FileHeader.{IsFileHeader, extends, header_with}
 
 -- numbers that are octets
 abbrev pub AreOctets : List ℕ → Type 0
@@ -16,7 +16,7 @@ spelled_file file = header_with file.header file.filter file.extension ++ flat_m
 -- what a file says of itself is true
 pub record IsFile (file : CdrFile) : Type 0 where
   pub header : IsFileHeader file.header
-  pub cdrs : AreCdrs file.cdrs
+  pub cdrs : AreCdrs (extends file.header) file.cdrs
   pub filter : length file.filter < 2 ^ 16
   pub extension : length file.extension < 2 ^ 16
   pub file_length : file.header.length ≡ length (spelled_file file)

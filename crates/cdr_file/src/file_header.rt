@@ -1,6 +1,7 @@
-ghost use Rattle.std.specs.Prelude.{◌≡◌, ◌<◌};
-ghost use Rattle.cdr_file.specs.FileHeader.{header_octets};
+ghost use Rattle.std.specs.Prelude.{◌≡◌, ◌<◌, []};
+ghost use Rattle.cdr_file.specs.FileHeader.{IsExtended, header_octets, plain_header};
 
+use crate::head_octets::HeadOctets;
 use crate::octet::octet_of;
 use byteorder::{BigEndian, ByteOrder};
 
@@ -34,15 +35,37 @@ pub struct FileHeader {
     pub address: [u8; 20],
     /// The lost CDR indicator: 0 for none.
     pub lost: u8,
+    /// The extension of a high release that is 7, in a file of profile 2.
+    pub high_extension: Option<u8>,
+    /// The extension of a low release that is 7, in a file of profile 2.
+    pub low_extension: Option<u8>,
 }
 
-/// The 52 octets of a file's header that has neither a routeing filter nor a private extension.
-pub fn write_header(header: &FileHeader) -> [u8; 52]
+/// The octets of a file's header that has neither a routeing filter nor a private extension: 52, and one
+/// more for each extension of a release. Either no release has one, or those that are 7.
+#[tactic(auto, using(crate::proofs::FileLemmas::header_joined))]
+pub fn write_header(header: &FileHeader) -> HeadOctets
     requires high_release { header.now.high_release < 8 }
     requires high_version { header.now.high_version < 32 }
     requires low_release { header.now.low_release < 8 }
     requires low_version { header.now.low_version < 32 }
+    requires high_extension { IsExtended header.now header.now.high_release header.now.high_extension }
+    requires low_extension { IsExtended header.now header.now.low_release header.now.low_extension }
     ensures { result ≡ header_octets header.now }
+{
+    let mut octets = HeadOctets::of(&least_octets(header));
+    octets.append(header.high_extension);
+    octets.append(header.low_extension);
+    octets
+}
+
+/// The 52 octets that each header has.
+fn least_octets(header: &FileHeader) -> [u8; 52]
+    requires high_release { header.now.high_release < 8 }
+    requires high_version { header.now.high_version < 32 }
+    requires low_release { header.now.low_release < 8 }
+    requires low_version { header.now.low_version < 32 }
+    ensures { result ≡ plain_header header.now [] [] }
 {
     let mut octets = [0; 52];
     BigEndian::write_u32(&mut octets[0..4], header.length);

@@ -4,7 +4,7 @@ ghost use Rattle.std.specs.Prelude.{◌≡◌, ◌≢◌, ◌<◌, ◌^◌, ◌�
 ghost use Rattle.byteorder.specs.Endian.{big_number};
 ghost use Rattle.cdr_file.specs.CdrFile.{FiledRecord, FileSettings, cdr_octets, facts_of, facts_of_one, facts_with, file_header, file_octets, read_file, run_octets};
 ghost use Rattle.cdr_file.specs.CdrHeader.{AreCdrs};
-ghost use Rattle.cdr_file.specs.FileHeader.{IsFileHeader, header_octets};
+ghost use Rattle.cdr_file.specs.FileHeader.{IsFileHeader, extends, header_octets};
 ghost use Rattle.cdr_file.specs.Reading.{file_in};
 ghost use Rattle.cdr_file.specs.Spelling.{AreOctets, IsFile, Spells, spelled_file};
 ghost use Rattle.cdr_file.specs.Timestamp.{AreFields, fields_of, packed};
@@ -46,11 +46,12 @@ pub fn what_is_spelled_is_read()
     ensures { (file : CdrFile) → IsFile file → file_in (spelled_file file) ≡ Ok file }
 {}
 
-/// What is written of a run of records is read back: its header, and a CDR for each record.
+/// What is written of a run of records is read back: its header, and a CDR for each record. Each record
+/// has an extension where the header has, and its release is 7.
 pub fn what_is_written_is_read()
     ensures { (run : List FiledRecord) (sequence : ℕ) (reason : ClosureReason) (settings : FileSettings) →
         IsFileHeader (file_header run sequence reason settings) →
-        AreCdrs (read_file run sequence reason settings).cdrs →
+        AreCdrs (extends (file_header run sequence reason settings)) (read_file run sequence reason settings).cdrs →
         file_in (file_octets run sequence reason settings) ≡ Ok (read_file run sequence reason settings) }
 {}
 

@@ -15,6 +15,8 @@ mod closure;
 mod fault;
 mod file;
 mod file_header;
+mod filed_kind;
+mod head_octets;
 mod laws;
 mod listing;
 mod octet;
@@ -29,6 +31,8 @@ pub use closure::ClosureReason;
 pub use fault::{FileFault, FileKind};
 pub use file::{Cdr, CdrFile, Cdrs};
 pub use file_header::{FileHeader, write_header};
+pub use filed_kind::FiledKind;
+pub use head_octets::HeadOctets;
 pub use laws::{
     file_octets_law, run_facts_law, stamp_fields_law, what_is_read_is_spelled,
     what_is_spelled_is_read, what_is_written_is_read,

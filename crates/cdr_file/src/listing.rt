@@ -53,7 +53,13 @@ fn append_cdr(alloc: Global, text: &mut Vec<u8>, number: u64, cdr: &Cdr) -> Resu
     text.extend_from_slice(b"cdr")?;
     append_number(alloc, text, number)?;
     append_number(alloc, text, header.length as u64)?;
-    append_release(alloc, text, header.release, header.version)?;
+    append_release(
+        alloc,
+        text,
+        header.release,
+        header.extension,
+        header.version,
+    )?;
     append_number(alloc, text, header.format as u64)?;
     append_number(alloc, text, header.ts as u64)?;
     append_octets(alloc, text, cdr.octets.octets())?;
@@ -81,14 +87,26 @@ fn append_sizes(alloc: Global, text: &mut Vec<u8>, header: &FileHeader) -> Resul
     ensures { OnOk result (text.new.items ≡ text.old.items ++ words
         (decimal header.now.length
         ∷ decimal header.now.header_length
-        ∷ release_text header.now.high_release header.now.high_version
-        ∷ release_text header.now.low_release header.now.low_version
+        ∷ release_text header.now.high_release header.now.high_extension header.now.high_version
+        ∷ release_text header.now.low_release header.now.low_extension header.now.low_version
         ∷ [])) }
 {
     append_number(alloc, text, header.length as u64)?;
     append_number(alloc, text, header.header_length as u64)?;
-    append_release(alloc, text, header.high_release, header.high_version)?;
-    append_release(alloc, text, header.low_release, header.low_version)?;
+    append_release(
+        alloc,
+        text,
+        header.high_release,
+        header.high_extension,
+        header.high_version,
+    )?;
+    append_release(
+        alloc,
+        text,
+        header.low_release,
+        header.low_extension,
+        header.low_version,
+    )?;
     Ok(())
 }
 
@@ -139,16 +157,20 @@ fn append_hex(alloc: Global, text: &mut Vec<u8>, octets: &[u8]) -> Result<(), No
     append_word(text, digits.as_bytes())
 }
 
-/// Appends a release and a version, as a word.
+/// Appends a release, with its extension where it has one, and a version, as a word.
 fn append_release(
     alloc: Global,
     text: &mut Vec<u8>,
     release: u8,
+    extension: Option<u8>,
     version: u8,
 ) -> Result<(), NoMemory>
-    ensures { OnOk result (text.new.items ≡ text.old.items ++ 32 ∷ release_text release version) }
+    ensures { OnOk result (text.new.items ≡ text.old.items ++ 32 ∷ release_text release extension version) }
 {
-    let word = format!(in alloc; "{release}.{version}")?;
+    let word = match extension {
+        None => format!(in alloc; "{release}.{version}")?,
+        Some(extension) => format!(in alloc; "{release}+{extension}.{version}")?,
+    };
     append_word(text, word.as_bytes())
 }
 

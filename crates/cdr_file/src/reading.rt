@@ -1,5 +1,6 @@
-ghost use Rattle.std.specs.Prelude.{◌≡◌, ◌≤◌, ◌+◌, ◌⊎◌, ◌++◌, ◌∷◌, [], None, Ok, Err, IfOk, IfErr, OnOk, length, take, drop};
-ghost use Rattle.cdr_file.specs.Reading.{HasHeader, cdr_end, cdr_fault, cdr_in, cdrs_from, extension_in, file_in, filter_in, header_fault, header_in, number_at};
+ghost use Rattle.std.specs.Prelude.{◌≡◌, ◌≤◌, ◌+◌, ◌⊎◌, ◌<◌, ◌++◌, ◌∷◌, [], true, None, Ok, Err, if◌then◌else◌, IfOk, IfErr, OnOk, length, slice_index, take, drop};
+ghost use Rattle.cdr_file.specs.Profile.{extension_if};
+ghost use Rattle.cdr_file.specs.Reading.{HasHeader, cdr_end, cdr_fault, cdr_head, cdr_in, cdrs_from, extends_in, extension_end, extension_in, fields_in, file_in, filter_in, header_end, header_fault, header_in, high_extension_in, is_seven, low_extension_in, number_at, one_if, sevens};
 ghost use Rattle.cdr_file.specs.FileHeader.{least_header};
 ghost use Rattle.cdr_file.specs.Spelling.{Spells};
 ghost use Rattle.cdr_file.specs.declared.fault.FileFault.TheVariants.{Bad, NoMemory as no_memory};
@@ -8,18 +9,19 @@ use crate::cdr_header::CdrHeader;
 use crate::fault::{FileFault, FileKind};
 use crate::file::{Cdr, CdrFile, Cdrs};
 use crate::file_header::FileHeader;
+use crate::filed_kind::LAST_RELEASE;
 use byteorder::{BigEndian, ByteOrder};
 use gw_base::{NoMemory, Octets};
 use std::alloc::Global;
 
-/// How many octets a header has that has neither a routeing filter nor a private extension.
+/// How many octets a header has that has neither a routeing filter nor any extension.
 const LEAST_HEADER: usize = 52;
 
 /// Where the length of the routeing filter stands, in two octets.
 const FILTER: usize = 48;
 
-/// How many octets the header of a CDR has.
-const CDR_HEADER: usize = 4;
+/// How many octets the header of a CDR has that has no extension.
+const LEAST_CDR_HEADER: usize = 4;
 
 /// How many numbers the five low bits of an octet can say, which it shares with another number.
 const FIVE_BITS: u8 = 32;
@@ -36,8 +38,9 @@ pub fn read(alloc: Global, octets: &[u8]) -> Result<CdrFile, FileFault>
     if let Some(fault) = header_fault(octets) {
         return Err(fault);
     }
-    let header = header_of(octets);
-    let cdrs = cdrs_of(alloc, octets, header.header_length as usize)?;
+    let extends = extends_in(octets);
+    let header = header_of(octets, extends);
+    let cdrs = cdrs_of(alloc, extends, octets, header.header_length as usize)?;
     if cdrs.len() as u64 != header.count as u64 {
         return Err(bad(18, FileKind::Count));
     }
@@ -82,17 +85,109 @@ fn header_fault(octets: &[u8]) -> Option<FileFault>
     if end < extension + 2 {
         return Some(bad(FILTER, FileKind::Filter));
     }
-    if extension + 2 + length_at(octets, extension) as usize != end {
+    let after = extension + 2 + length_at(octets, extension) as usize;
+    let extends = after != end;
+    if after + release_count(extends, octets) != end {
         return Some(bad(extension, FileKind::Extension));
     }
     None
 }
 
-/// The fields of a file's header.
-#[tactic(auto, using(crate::proofs::NumberLemmas::length_of_part), unfolding(crate::specs::Reading::header_in))]
-fn header_of(octets: &[u8]) -> FileHeader
+/// How many octets extend the releases of a header, where any do: one for each that is 7.
+fn release_count(extends: bool, octets: &[u8]) -> usize
     requires { least_header ≤ length octets.now }
+    ensures count { result ≡ (if extends then sevens octets.now else 0) }
+    ensures most { result ≤ 2 }
+{
+    if !extends {
+        return 0;
+    }
+    one_if(is_seven(octets, 8)) + one_if(is_seven(octets, 9))
+}
+
+/// Whether the release in the octet at a place is 7.
+fn is_seven(octets: &[u8], place: usize) -> bool
+    requires { place < length octets.now }
+    ensures { result ≡ is_seven place octets.now }
+{
+    octets[place] / FIVE_BITS == LAST_RELEASE
+}
+
+/// 1 where something holds.
+fn one_if(holds: bool) -> usize
+    ensures count { result ≡ one_if holds }
+    ensures most { result ≤ 1 }
+{
+    if holds { 1 } else { 0 }
+}
+
+/// Where the private extension ends.
+fn extension_end(octets: &[u8]) -> usize
+    requires { HasHeader octets.now }
+    ensures end { result ≡ extension_end octets.now }
+    ensures within { result ≤ header_end octets.now }
+{
+    let place = FILTER + 2 + length_at(octets, FILTER) as usize;
+    place + 2 + length_at(octets, place) as usize
+}
+
+/// Whether octets follow the private extension: the file is read in profile 2, else in profile 1.
+fn extends_in(octets: &[u8]) -> bool
+    requires { HasHeader octets.now }
+    ensures { result ≡ extends_in octets.now }
+{
+    extension_end(octets) != number_at(octets, 4) as usize
+}
+
+/// The header of a file but for its routeing filter and its private extension.
+#[tactic(auto, unfolding(crate::specs::Reading::header_in))]
+fn header_of(octets: &[u8], extends: bool) -> FileHeader
+    requires header { HasHeader octets.now }
+    requires extends { extends ≡ extends_in octets.now }
     ensures { result ≡ header_in octets.now }
+{
+    FileHeader {
+        high_extension: high_extension_of(octets, extends),
+        low_extension: low_extension_of(octets, extends),
+        ..fields_of(octets)
+    }
+}
+
+/// The extension of the high release, if there is one.
+fn high_extension_of(octets: &[u8], extends: bool) -> Option<u8>
+    requires header { HasHeader octets.now }
+    requires extends { extends ≡ extends_in octets.now }
+    ensures { result ≡ high_extension_in octets.now }
+{
+    let is_there = extends && is_seven(octets, 8);
+    extension_at(is_there, octets, extension_end(octets))
+}
+
+/// The extension of the low release, if there is one.
+fn low_extension_of(octets: &[u8], extends: bool) -> Option<u8>
+    requires header { HasHeader octets.now }
+    requires extends { extends ≡ extends_in octets.now }
+    ensures { result ≡ low_extension_in octets.now }
+{
+    let is_there = extends && is_seven(octets, 9);
+    let place = extension_end(octets) + one_if(is_seven(octets, 8));
+    extension_at(is_there, octets, place)
+}
+
+/// The extension at a place, if there is one.
+fn extension_at(is_there: bool, octets: &[u8], place: usize) -> Option<u8>
+    requires { is_there ≡ true → place < length octets.now }
+    ensures { result ≡ extension_if is_there (slice_index octets.now place) }
+{
+    if is_there { Some(octets[place]) } else { None }
+}
+
+/// The fields of a file's header.
+#[tactic(auto, using(crate::proofs::NumberLemmas::length_of_part), unfolding(crate::specs::Reading::fields_in))]
+fn fields_of(octets: &[u8]) -> FileHeader
+    requires { least_header ≤ length octets.now }
+    ensures fields { result ≡ fields_in octets.now }
+    ensures end { result.header_length ≡ header_end octets.now }
 {
     let mut address = [0; 20];
     address.copy_from_slice(part(octets, 27, 20));
@@ -110,6 +205,8 @@ fn header_of(octets: &[u8]) -> FileHeader
         reason: octets[26],
         address,
         lost: octets[47],
+        high_extension: None,
+        low_extension: None,
     }
 }
 
@@ -127,20 +224,20 @@ fn extras_of(alloc: Global, octets: &[u8]) -> Result<(Octets, Octets), NoMemory>
     Ok((filter, extension))
 }
 
-/// The CDRs of a file, which begin at a place of it.
-fn cdrs_of(alloc: Global, octets: &[u8], start: usize) -> Result<Vec<Cdr>, FileFault>
+/// The CDRs of a file, which begin at a place of it, and have extensions where it extends releases.
+fn cdrs_of(alloc: Global, extends: bool, octets: &[u8], start: usize) -> Result<Vec<Cdr>, FileFault>
     requires { start ≤ length octets.now }
-    ensures cdrs { IfOk result (λ cdrs. cdrs_from start (drop start octets.now) ≡ Ok cdrs.items) }
+    ensures cdrs { IfOk result (λ cdrs. cdrs_from extends start (drop start octets.now) ≡ Ok cdrs.items) }
     ensures fault { IfErr result (λ fault. (fault ≡ no_memory)
-        ⊎ (cdrs_from start (drop start octets.now) ≡ Err fault)) }
+        ⊎ (cdrs_from extends start (drop start octets.now) ≡ Err fault)) }
 {
     let mut cdrs = Vec::new(alloc);
     let (_, mut rest) = octets.split_at(start);
     while !rest.is_empty() {
-        if let Some(fault) = cdr_fault(octets.len() - rest.len(), rest) {
+        if let Some(fault) = cdr_fault(extends, octets.len() - rest.len(), rest) {
             return Err(fault);
         }
-        let (cdr, after) = first_cdr(alloc, rest)?;
+        let (cdr, after) = first_cdr(alloc, extends, rest)?;
         push_cdr(&mut cdrs, cdr)?;
         rest = after;
     }
@@ -157,38 +254,53 @@ fn push_cdr(cdrs: &mut Vec<Cdr>, cdr: Cdr) -> Result<(), NoMemory>
 
 /// What is wrong with the CDR that octets from a place of the file on begin with, if anything is.
 #[tactic(auto, unfolding(crate::specs::Reading::cdr_fault))]
-fn cdr_fault(place: usize, octets: &[u8]) -> Option<FileFault>
-    ensures fault { result ≡ cdr_fault place octets.now }
-    ensures header { result ≡ None → 4 ≤ length octets.now }
-    ensures whole { result ≡ None → cdr_end octets.now ≤ length octets.now }
+fn cdr_fault(extends: bool, place: usize, octets: &[u8]) -> Option<FileFault>
+    ensures fault { result ≡ cdr_fault extends place octets.now }
+    ensures header { result ≡ None → cdr_head extends octets.now ≤ length octets.now }
+    ensures whole { result ≡ None → cdr_end extends octets.now ≤ length octets.now }
 {
-    if octets.len() < CDR_HEADER {
+    if octets.len() < LEAST_CDR_HEADER {
         return Some(bad(place, FileKind::CdrHeader));
     }
-    if octets.len() < CDR_HEADER + length_at(octets, 0) as usize {
+    let head = cdr_head(extends, octets);
+    if octets.len() < head {
+        return Some(bad(place, FileKind::CdrHeader));
+    }
+    if octets.len() < head + length_at(octets, 0) as usize {
         return Some(bad(place, FileKind::CdrCut));
     }
     None
 }
 
+/// How many octets the header of the CDR has that octets begin with.
+fn cdr_head(extends: bool, octets: &[u8]) -> usize
+    requires { 4 ≤ length octets.now }
+    ensures head { result ≡ cdr_head extends octets.now }
+    ensures most { result ≤ 5 }
+{
+    LEAST_CDR_HEADER + one_if(extends && is_seven(octets, 2))
+}
+
 /// The CDR that octets begin with, and the octets after it.
 #[tactic(auto, unfolding(crate::specs::Reading::cdr_in))]
-fn first_cdr(alloc: Global, octets: &[u8]) -> Result<(Cdr, &[u8]), NoMemory>
-    requires header { 4 ≤ length octets.now }
-    requires whole { cdr_end octets.now ≤ length octets.now }
-    ensures { IfOk result (λ found. (found.0 ≡ cdr_in octets.now)
-        × (found.1.now ≡ drop (cdr_end octets.now) octets.now)) }
+fn first_cdr(alloc: Global, extends: bool, octets: &[u8]) -> Result<(Cdr, &[u8]), NoMemory>
+    requires header { cdr_head extends octets.now ≤ length octets.now }
+    requires whole { cdr_end extends octets.now ≤ length octets.now }
+    ensures { IfOk result (λ found. (found.0 ≡ cdr_in extends octets.now)
+        × (found.1.now ≡ drop (cdr_end extends octets.now) octets.now)) }
 {
     let length = length_at(octets, 0);
-    let (_, after) = octets.split_at(CDR_HEADER + length as usize);
+    let head = cdr_head(extends, octets);
+    let (_, after) = octets.split_at(head + length as usize);
     let header = CdrHeader {
         length,
         release: octets[2] / FIVE_BITS,
         version: octets[2] % FIVE_BITS,
         format: octets[3] / FIVE_BITS,
         ts: octets[3] % FIVE_BITS,
+        extension: extension_at(extends && is_seven(octets, 2), octets, LEAST_CDR_HEADER),
     };
-    let octets = Octets::of(alloc, part(octets, CDR_HEADER, length as usize))?;
+    let octets = Octets::of(alloc, part(octets, head, length as usize))?;
     Ok((Cdr { header, octets }, after))
 }
 

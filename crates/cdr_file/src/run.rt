@@ -1,19 +1,22 @@
-ghost use Rattle.std.specs.Prelude.{◌≡◌, ◌<◌, ◌%◌, ◌^◌};
+ghost use Rattle.std.specs.Prelude.{◌≡◌, ◌≤◌, ◌%◌, ◌^◌, length};
 ghost use Rattle.cdr_file.specs.CdrFile.{cdr_header_length, header_length, header_of, node_address};
 ghost use Rattle.cdr_file.specs.FileHeader.{header_octets};
+ghost use Rattle.cdr_file.specs.Profile.{IsFiledKind, extension_octets};
 
 use crate::closure::ClosureReason;
 use crate::file_header::{FileHeader, write_header};
+use crate::filed_kind::FiledKind;
+use crate::head_octets::HeadOctets;
 use crate::offset::Offset16;
 use crate::timestamp::stamp;
 use byteorder::{BigEndian, ByteOrder};
-use gw_base::{CdrKind, Moment};
+use gw_base::Moment;
 
 /// What the header of a file says of the records in it.
 #[derive(Clone, Copy, Debug, PartialEq, Eq)]
 pub struct RunFacts {
-    /// The kind of each of them.
-    pub kind: CdrKind,
+    /// The kind of each of them, in the form of the file's profile.
+    pub kind: FiledKind,
     /// The moment at which the first was filed.
     pub opened: Moment,
     /// The moment at which the last was filed.
@@ -25,17 +28,30 @@ pub struct RunFacts {
 }
 
 /// How many octets the header of a file of CDRs of a kind has.
-pub fn header_length(_kind: CdrKind) -> u32
-    ensures { result ≡ header_length _kind }
+pub fn header_length(kind: FiledKind) -> u32
+    ensures length { result ≡ header_length kind }
+    ensures most { result ≤ 54 }
 {
-    52
+    52 + 2 * extension_length(kind)
 }
 
 /// How many octets the header of a CDR of a kind has.
-pub fn cdr_header_length(_kind: CdrKind) -> u32
-    ensures { result ≡ cdr_header_length _kind }
+pub fn cdr_header_length(kind: FiledKind) -> u32
+    ensures length { result ≡ cdr_header_length kind }
+    ensures most { result ≤ 5 }
 {
-    4
+    4 + extension_length(kind)
+}
+
+/// How many octets the extension of a kind has.
+fn extension_length(kind: FiledKind) -> u32
+    ensures length { result ≡ length (extension_octets kind.extension) }
+    ensures most { result ≤ 1 }
+{
+    match kind.extension {
+        None => 0,
+        Some(_) => 1,
+    }
 }
 
 /// The address of a node that has an IPv4 address: it as an IPv6 address (RFC 4291, section 2.5.5.2),
@@ -53,17 +69,18 @@ pub fn node_address(ip: u32) -> [u8; 20]
 
 /// The header of the file of a run of records, which a gateway with an IPv4 address closes for a reason.
 /// Of a length and of a count it says the low 32 bits, which is all that it has room for.
-#[tactic(auto, using(crate::proofs::RunLemmas::low_header))]
+#[tactic(auto, using(crate::proofs::RunLemmas::low_header, crate::specs::Laws::extends_one))]
 pub fn run_header(
     run: RunFacts,
     sequence: u32,
     reason: ClosureReason,
     offset: Offset16,
     address: u32,
-) -> [u8; 52]
-    requires release { run.kind.release < 8 }
-    requires version { run.kind.version < 32 }
-    ensures { result ≡ header_octets (header_of run sequence reason (record { offset = offset; address = address })) }
+) -> HeadOctets
+    requires { IsFiledKind run.kind }
+    ensures octets { result ≡ header_octets
+        (header_of run sequence reason (record { offset = offset; address = address })) }
+    ensures length { length result ≡ header_length run.kind }
 {
     let header_length = header_length(run.kind);
     let kind = run.kind;
@@ -81,6 +98,8 @@ pub fn run_header(
         reason: reason.code(),
         address: node_address(address),
         lost: 0,
+        high_extension: kind.extension,
+        low_extension: kind.extension,
     })
 }
 

@@ -39,6 +39,7 @@ is_seen set same = λ i. record {
   size = sym set.size i;
   limits = sym set.limits i;
   offset = sym set.offset i;
+  profile = sym set.profile i;
   rules = same i;
 }
 

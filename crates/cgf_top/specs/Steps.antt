@@ -35,6 +35,7 @@ setup_seen s rules = record {
   size = s.size;
   limits = s.limits;
   offset = s.offset;
+  profile = s.profile;
   rules = rules;
 }
 

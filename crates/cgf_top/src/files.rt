@@ -31,7 +31,14 @@ pub fn write_files(
         ≡ stream_files (files_in (setup_seen settings rules) 0) s items.now) }
 {
     let shelf = QuietShelf::new(alloc);
-    let mut writer = Writer::new(shelf, rules, settings.limits, settings.offset, GATEWAY);
+    let mut writer = Writer::new(
+        shelf,
+        rules,
+        settings.limits,
+        settings.offset,
+        GATEWAY,
+        settings.profile,
+    );
     match writer.recover() {
         Ok(()) => {}
         Err(ShelfFault::NoMemory) => return Err(NoMemory),

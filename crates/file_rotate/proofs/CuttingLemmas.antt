@@ -3,14 +3,14 @@ use Rattle.std.proofs.Common.{◌≡◌, ℕ, List, [], ◌∷◌, ◌++◌, len
 use Rattle.std.proofs.lemmas.List.{append-nil}
 use Rattle.std.proofs.lemmas.List.Sums.{sum_by-append, sum_by-cons}
 use Rattle.cdr_file.specs.declared.closure.ClosureReason.{ClosureReason}
-use Rattle.gw_base.specs.declared.kind.CdrKind.{CdrKind}
+use Rattle.cdr_file.specs.declared.filed_kind.FiledKind.{FiledKind}
 use Rattle.file_rotate.specs.declared.limits.Limits.{Limits}
 use Rattle.file_rotate.specs.declared.open_file.OpenFile.{OpenFile}
 use Rattle.file_rotate.specs.Cutting.{answers_from, file_of, file_with, item_cuts, item_file, limit_reached, marked_from, with_record}
 use Rattle.file_rotate.specs.Division.{Cuts, cdr_length, cuts_at, divided_from, Division, ends_after, ends_before, run_limit_reached, joined, run_after, still, with_cuts}
 use Rattle.file_rotate.specs.Items.{Filed, Item, Record, Tick, Close}
 
-same_file : (kind : CdrKind) (opened : ℕ) (count count' octets octets' : ℕ) → count ≡ count' → octets ≡ octets'
+same_file : (kind : FiledKind) (opened : ℕ) (count count' octets octets' : ℕ) → count ≡ count' → octets ≡ octets'
     → ◌≡◌ {A = OpenFile} (record { kind = kind; opened = opened; count = count; octets = octets }) (record { kind = kind; opened = opened; count = count'; octets = octets' })
 same_file kind opened count count' octets octets' c o = λ i. record { kind = kind; opened = opened; count = c i; octets = o i }
 

@@ -3,19 +3,21 @@ use Rattle.std.specs.Prelude.{ℕ, ◌+◌, ◌<◌, Bool, true, false, nat_le, 
 use Rattle.std.specs.Option.{ForSome}
 use Rattle.cdr_file.specs.CdrFile.{cdr_header_length, header_length}
 use Rattle.cdr_file.specs.ClosureReason.{code_of}
+use Rattle.cdr_file.specs.Profile.{IsProfile}
 use Rattle.cdr_file.specs.declared.closure.ClosureReason.{ClosureReason}
 use Rattle.cdr_file.specs.declared.closure.ClosureReason.TheVariants.{SizeLimit, OpenTimeLimit, CountLimit, Manual, KindChange}
+use Rattle.cdr_file.specs.declared.filed_kind.FiledKind.{FiledKind}
 use Rattle.gw_base.specs.TickDue.{is_long_ago}
-use Rattle.gw_base.specs.declared.kind.CdrKind.{CdrKind}
 use Rattle.file_rotate.specs.declared.cut.Cut.{Cut}
 use Rattle.file_rotate.specs.declared.limits.Limits.{Limits}
 use Rattle.file_rotate.specs.declared.open_file.OpenFile.{OpenFile}
 use Rattle.file_rotate.specs.Division.{Cuts, Division, run_after, run_length, still, with_cuts}
 use Rattle.file_rotate.specs.Items.{AreLimits, Filed, Item, Record, Tick, Close, same_kind}
 
--- a cutter: its limits, and what it keeps of the open file, if there is one
+-- a cutter: its limits, the profile of its files, and what it keeps of the open file, if there is one
 pub record Cutting : Type 0 where
   pub limits : Limits
+  pub profile : ℕ
   pub file : Option OpenFile
 
 -- an open file hasn't reached a limit
@@ -23,8 +25,9 @@ pub record IsBelow (limits : Limits) (file : OpenFile) : Type 0 where
   pub size : file.octets < limits.size
   pub count : file.count < limits.count
 
-pub record IsSound (limits : Limits) (file : Option OpenFile) : Type 0 where
+pub record IsSound (limits : Limits) (profile : ℕ) (file : Option OpenFile) : Type 0 where
   pub are_limits : AreLimits limits
+  pub is_profile : IsProfile profile
   pub below : ForSome file (λ f. IsBelow limits f)
 
 -- what is kept of the file of a run
@@ -40,12 +43,12 @@ file_of (first ∷ later) = Some (record {
 -- A record.
 
 -- why the open file is closed before a record of this kind
-abbrev pub kind_change : Option OpenFile → CdrKind → Option ClosureReason
+abbrev pub kind_change : Option OpenFile → FiledKind → Option ClosureReason
 kind_change None kind = None
 kind_change (Some file) kind = if same_kind file.kind kind then None else Some KindChange
 
 -- the file with one more record, which opens it where none is open
-abbrev pub with_record : Option OpenFile → CdrKind → ℕ → ℕ → OpenFile
+abbrev pub with_record : Option OpenFile → FiledKind → ℕ → ℕ → OpenFile
 with_record None kind octets moment = record {
   kind = kind;
   opened = moment;
@@ -67,17 +70,17 @@ limit_reached limits file =
     else None
 
 -- the file that has the record
-abbrev pub file_with : Option OpenFile → CdrKind → ℕ → ℕ → OpenFile
+abbrev pub file_with : Option OpenFile → FiledKind → ℕ → ℕ → OpenFile
 file_with file kind octets moment = with_record (still (kind_change file kind) file None) kind octets moment
 
-abbrev pub record_cuts : Limits → Option OpenFile → CdrKind → ℕ → ℕ → Cuts
+abbrev pub record_cuts : Limits → Option OpenFile → FiledKind → ℕ → ℕ → Cuts
 record_cuts limits file kind octets moment = record {
   before = kind_change file kind;
   after = limit_reached limits (file_with file kind octets moment);
 }
 
 -- what is kept after the record
-abbrev pub record_file : Limits → Option OpenFile → CdrKind → ℕ → ℕ → Option OpenFile
+abbrev pub record_file : Limits → Option OpenFile → FiledKind → ℕ → ℕ → Option OpenFile
 record_file limits file kind octets moment =
     still (limit_reached limits (file_with file kind octets moment)) (Some (file_with file kind octets moment)) None
 

@@ -1,6 +1,6 @@
 -- What a stream of records is, and the limits under which its records are cut into CDR files.
-use Rattle.std.specs.Prelude.{ℕ, ◌-◌, ◌^◌, ◌≤◌, ◌==◌, ◌&&◌, Bool, List, [], ◌∷◌, ◌++◌}
-use Rattle.gw_base.specs.declared.kind.CdrKind.{CdrKind}
+use Rattle.std.specs.Prelude.{ℕ, ◌-◌, ◌^◌, ◌≤◌, ◌==◌, ◌&&◌, Bool, true, false, List, [], ◌∷◌, ◌++◌, Option, None, Some}
+use Rattle.cdr_file.specs.declared.filed_kind.FiledKind.{FiledKind}
 use Rattle.file_rotate.specs.declared.limits.Limits.{Limits}
 
 -- the limits that a cutter takes
@@ -9,10 +9,10 @@ pub record AreLimits (limits : Limits) : Type 0 where
   pub size_to : limits.size ≤ 2 ^ 32 - 2 ^ 17
   pub count_from : 1 ≤ limits.count
 
--- a record that goes into a file: its kind, how many octets it has, the moment at which it was filed, and whatever
--- else it carries
+-- a record that goes into a file: its kind in the form of the file's profile, how many octets it has, the moment at
+-- which it was filed, and whatever else it carries
 pub record Filed (P : Type 0) : Type 0 where
-  pub kind : CdrKind
+  pub kind : FiledKind
   pub octets : ℕ
   pub moment : ℕ
   pub payload : P
@@ -35,6 +35,16 @@ abbrev pub records_of : {P : Type 0} → List (Item P) → List (Filed P)
 records_of [] = []
 records_of (item ∷ items) = record_in item ++ records_of items
 
+-- whether two extensions are one, or neither is there
+abbrev pub same_extension : Option ℕ → Option ℕ → Bool
+same_extension None None = true
+same_extension None (Some other) = false
+same_extension (Some extension) None = false
+same_extension (Some extension) (Some other) = extension == other
+
 -- whether two kinds are one
-abbrev pub same_kind : CdrKind → CdrKind → Bool
-same_kind kind other = (kind.release == other.release) && ((kind.version == other.version) && (kind.format == other.format))
+abbrev pub same_kind : FiledKind → FiledKind → Bool
+same_kind kind other =
+    (kind.release == other.release)
+    && ((kind.version == other.version)
+    && ((kind.format == other.format) && same_extension kind.extension other.extension))

@@ -4,7 +4,7 @@
 //! `specs/Division.antt` says which file has which records. The contract of a `Cutter` is that its
 //! answers, over any items, mark that division.
 //!
-//!     let mut cutter = Cutter::new(limits);
+//!     let mut cutter = Cutter::new(limits, profile);
 //!     let cut = cutter.put(kind, length, moment);
 //!     // cut says whether a file is closed before the record, and whether one is after it
 #![tactic(auto)]

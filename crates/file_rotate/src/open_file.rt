@@ -2,18 +2,18 @@ ghost use Rattle.std.specs.Prelude.{◌≡◌, ◌+◌, ◌-◌, ◌<◌, Option
 ghost use Rattle.std.specs.Option.{ForSome};
 ghost use Rattle.file_rotate.specs.Cutting.{IsBelow, kind_change, limit_reached, mark_reason, with_record};
 ghost use Rattle.file_rotate.specs.Division.{still};
-ghost use Rattle.file_rotate.specs.Items.{AreLimits, same_kind};
+ghost use Rattle.file_rotate.specs.Items.{AreLimits, same_extension, same_kind};
 
 use crate::limits::Limits;
-use cdr_file::{ClosureReason, cdr_header_length, header_length};
+use cdr_file::{ClosureReason, FiledKind, cdr_header_length, header_length};
+use gw_base::Moment;
 use gw_base::scan::is_long_ago;
-use gw_base::{CdrKind, Moment};
 
 /// What is kept of an open file.
 #[derive(Clone, Copy, Debug)]
 pub(crate) struct OpenFile {
     /// The kind of its records.
-    pub kind: CdrKind,
+    pub kind: FiledKind,
     /// The moment of its first record.
     pub opened: Moment,
     /// How many records it has.
@@ -23,7 +23,7 @@ pub(crate) struct OpenFile {
 }
 
 /// Why the open file is closed before a record of this kind.
-pub(crate) fn kind_change(file: &Option<OpenFile>, kind: CdrKind) -> Option<ClosureReason>
+pub(crate) fn kind_change(file: &Option<OpenFile>, kind: FiledKind) -> Option<ClosureReason>
     ensures { result ≡ kind_change file.now kind }
 {
     match file {
@@ -38,10 +38,23 @@ pub(crate) fn kind_change(file: &Option<OpenFile>, kind: CdrKind) -> Option<Clos
     }
 }
 
-fn same_kind(kind: CdrKind, other: CdrKind) -> bool
+fn same_kind(kind: FiledKind, other: FiledKind) -> bool
     ensures { result ≡ same_kind kind other }
 {
-    kind == other
+    kind.release == other.release
+        && kind.version == other.version
+        && kind.format == other.format
+        && same_extension(kind.extension, other.extension)
+}
+
+fn same_extension(extension: Option<u8>, other: Option<u8>) -> bool
+    ensures { result ≡ same_extension extension other }
+{
+    match (extension, other) {
+        (None, None) => true,
+        (Some(extension), Some(other)) => extension == other,
+        (None, Some(_)) | (Some(_), None) => false,
+    }
 }
 
 /// Why the open file is closed at a Close, or else at a Tick, of this moment.
@@ -80,7 +93,7 @@ pub(crate) fn still(reason: Option<ClosureReason>, file: Option<OpenFile>) -> Op
 pub(crate) fn with_record(
     limits: Limits,
     file: Option<OpenFile>,
-    kind: CdrKind,
+    kind: FiledKind,
     length: u16,
     moment: Moment,
 ) -> OpenFile

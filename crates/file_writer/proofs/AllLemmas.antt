@@ -62,11 +62,11 @@ module _ (law : DivisionGoesOn) {A : Type 0} (tells : Ghosts A) (settings : Sett
   abbrev run : List (Filed (List ℕ))
   run = (stream_division settings s before).left_open
 
-  one_item : (xs : List (rotate.Item (List ℕ))) → stream_item settings.rules s item ≡ xs
-      → stream_items settings.rules s (item ∷ []) ≡ xs
-  one_item xs e = append-nil (stream_item settings.rules s item) ∙ e
+  one_item : (xs : List (rotate.Item (List ℕ))) → stream_item settings.profile settings.rules s item ≡ xs
+      → stream_items settings.profile settings.rules s (item ∷ []) ≡ xs
+  one_item xs e = append-nil (stream_item settings.profile settings.rules s item) ∙ e
 
-  pub calls_are : (x : rotate.Item (List ℕ)) (stream : Stream) (shelf : A) → stream_item settings.rules s item ≡ x ∷ []
+  pub calls_are : (x : rotate.Item (List ℕ)) (stream : Stream) (shelf : A) → stream_item settings.profile settings.rules s item ≡ x ∷ []
       → StreamAt tells settings closed sealed before s stream shelf
       → calls_at settings.file s stream.file.sealed (cuts_at stream.cutter.limits run x) stream.file.closed run x
       ≡ stream_calls settings closed sealed before (item ∷ []) s
@@ -77,11 +77,11 @@ module _ (law : DivisionGoesOn) {A : Type 0} (tells : Ghosts A) (settings : Sett
       ∙ ap (λ (xs : List (rotate.Item (List ℕ))). calls_from settings s (sealed s)
       (closed s + closed_of settings s before) run xs) (sym (one_item (x ∷ []) e))
 
-  later_is : (xs : List (rotate.Item (List ℕ))) → stream_item settings.rules s item ≡ xs
+  later_is : (xs : List (rotate.Item (List ℕ))) → stream_item settings.profile settings.rules s item ≡ xs
       → later_division settings s before (item ∷ []) ≡ divided_from settings.limits run xs
   later_is xs e = ap (λ (ys : List (rotate.Item (List ℕ))). divided_from settings.limits run ys) (one_item xs e)
 
-  pub taken_at : (x : rotate.Item (List ℕ)) (stream later : Stream) (old new : A) → stream_item settings.rules s item
+  pub taken_at : (x : rotate.Item (List ℕ)) (stream later : Stream) (old new : A) → stream_item settings.profile settings.rules s item
       ≡ x ∷ [] → StreamAt tells settings closed sealed before s stream old
       → HasTaken tells s run x stream later new
       → StreamAt tells settings closed sealed (before ++ item ∷ []) s later new
@@ -108,18 +108,19 @@ module _ (law : DivisionGoesOn) {A : Type 0} (tells : Ghosts A) (settings : Sett
             ∙ ap (λ (n : ℕ). closed s + n) (sym count);
         has_sealed = taken.sealed ∙ at.has_sealed;
         limits = taken.limits ∙ at.limits;
+        profile = taken.profile ∙ at.profile;
       }
     where
       grouped : (a b c : ℕ) → a + b + c ≡ a + (b + c)
       grouped a b c = omega arith
 
   -- a stream that the item doesn't go to
-  pub no_calls : stream_item settings.rules s item ≡ [] → stream_calls settings closed sealed before (item ∷ []) s ≡ []
+  pub no_calls : stream_item settings.profile settings.rules s item ≡ [] → stream_calls settings closed sealed before (item ∷ []) s ≡ []
   no_calls e =
       ap (λ (xs : List (rotate.Item (List ℕ))). calls_from settings s (sealed s)
       (closed s + closed_of settings s before) run xs) (one_item [] e)
 
-  pub not_taken : (stream : Stream) (shelf : A) → stream_item settings.rules s item ≡ []
+  pub not_taken : (stream : Stream) (shelf : A) → stream_item settings.profile settings.rules s item ≡ []
       → StreamAt tells settings closed sealed before s stream shelf
       → StreamAt tells settings closed sealed (before ++ item ∷ []) s stream shelf
   not_taken stream shelf e at =
@@ -136,6 +137,7 @@ module _ (law : DivisionGoesOn) {A : Type 0} (tells : Ghosts A) (settings : Sett
             (no_more (closed_of settings s before) (closed_of settings s (before ++ item ∷ [])) count);
         has_sealed = at.has_sealed;
         limits = at.limits;
+        profile = at.profile;
       }
     where
       no_more : (a b : ℕ) → b ≡ a + 0 → a ≡ b
@@ -160,6 +162,7 @@ at_stays tells settings closed sealed items s stream old new stays at = record {
   has_closed = at.has_closed;
   has_sealed = at.has_sealed;
   limits = at.limits;
+  profile = at.profile;
 }
 
 pub safe_stays : {A : Type 0} (tells : Ghosts A) (s : ℕ) (stream : Stream) (old new : A)
@@ -210,10 +213,10 @@ up_to_here n before item = ap (λ (b : Bool). with_item b before item) (not_belo
     not_below m = grind (arith, nat_tests)
 
 -- a mark goes to each stream
-pub mark_stream_item : (rules : List Rule) (s : ℕ) (closes : Bool) (moment : ℕ)
-    → stream_item rules s (mark_told closes moment) ≡ mark_item closes moment ∷ []
-mark_stream_item rules s true moment = refl
-mark_stream_item rules s false moment = refl
+pub mark_stream_item : (profile : ℕ) (rules : List Rule) (s : ℕ) (closes : Bool) (moment : ℕ)
+    → stream_item profile rules s (mark_told closes moment) ≡ mark_item closes moment ∷ []
+mark_stream_item profile rules s true moment = refl
+mark_stream_item profile rules s false moment = refl
 
 -- the calls of the first streams are the first ones of those of more streams
 either : (n m : ℕ) → n ≤ suc m → (n ≤ m) ⊎ (n ≡ suc m)
@@ -307,20 +310,20 @@ equal_numbers s t e = grind (arith, nat_tests)
 unequal_numbers : (s t : ℕ) → s ≢ t → (t == s) ≡ false
 unequal_numbers s t h = grind (arith, nat_tests)
 
-pub not_here : (rules : List Rule) (kind : CdrKind) (tag : Option Tag) (octets : List ℕ) (moment s t : ℕ)
+pub not_here : (profile : ℕ) (rules : List Rule) (kind : CdrKind) (tag : Option Tag) (octets : List ℕ) (moment s t : ℕ)
     → s ≡ stream_of rules tag kind.format → t ≢ s
-    → stream_item rules t (part_of kind tag octets moment) ≡ []
-not_here rules kind tag octets moment s t e other =
-    ap (λ (b : Bool). record_if b (stream_record kind octets moment))
+    → stream_item profile rules t (part_of kind tag octets moment) ≡ []
+not_here profile rules kind tag octets moment s t e other =
+    ap (λ (b : Bool). record_if b (stream_record profile kind octets moment))
     (unequal_numbers t (stream_of rules tag kind.format) (λ same. other (same ∙ sym e)))
 
-pub goes_to : (rules : List Rule) (kind : CdrKind) (tag : Option Tag) (octets : List ℕ) (moment s : ℕ)
+pub goes_to : (profile : ℕ) (rules : List Rule) (kind : CdrKind) (tag : Option Tag) (octets : List ℕ) (moment s : ℕ)
     → s ≡ stream_of rules tag kind.format
-    → GoesTo rules (part_of kind tag octets moment) s (stream_record kind octets moment)
-goes_to rules kind tag octets moment s e = record {
-  here = ap (λ (b : Bool). record_if b (stream_record kind octets moment))
+    → GoesTo profile rules (part_of kind tag octets moment) s (stream_record profile kind octets moment)
+goes_to profile rules kind tag octets moment s e = record {
+  here = ap (λ (b : Bool). record_if b (stream_record profile kind octets moment))
       (equal_numbers s (stream_of rules tag kind.format) e);
-  others = λ t other. not_here rules kind tag octets moment s t e other;
+  others = λ t other. not_here profile rules kind tag octets moment s t e other;
 }
 
 pub calls-append : (settings : Settings) (closed sealed : ℕ → ℕ) (before xs ys : List Item)

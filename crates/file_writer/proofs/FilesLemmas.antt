@@ -61,17 +61,17 @@ in_stream-other settings s t n (suc k) (x ∷ xs) h = in_stream-other settings s
 -- ---- more items
 
 pub stream_items-append : (settings : Settings) (s : ℕ) (items more : List Item)
-    → stream_items settings.rules s (items ++ more) ≡ stream_items settings.rules s items
-    ++ stream_items settings.rules s more
-stream_items-append settings s items more = flat_map-append (stream_item settings.rules s) items more
+    → stream_items settings.profile settings.rules s (items ++ more) ≡ stream_items settings.profile settings.rules s items
+    ++ stream_items settings.profile settings.rules s more
+stream_items-append settings s items more = flat_map-append (stream_item settings.profile settings.rules s) items more
 
 pub division-append : DivisionGoesOn → (settings : Settings) (s : ℕ) (items more : List Item)
     → stream_division settings s (items ++ more) ≡ goes_on settings.limits (stream_division settings s items)
-    (stream_items settings.rules s more)
+    (stream_items settings.profile settings.rules s more)
 division-append law settings s items more =
     ap (λ (xs : List (stream.Item (List ℕ))). division_of settings.limits xs)
     (stream_items-append settings s items more)
-    ∙ law settings.limits [] (stream_items settings.rules s items) (stream_items settings.rules s more)
+    ∙ law settings.limits [] (stream_items settings.profile settings.rules s items) (stream_items settings.profile settings.rules s more)
 
 pub closed_of-append : DivisionGoesOn → (settings : Settings) (s : ℕ) (items more : List Item)
     → closed_of settings s (items ++ more)

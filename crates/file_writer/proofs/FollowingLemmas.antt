@@ -5,9 +5,11 @@ use Rattle.std.proofs.lemmas.Bool.Decides.{nat_tests}
 use Rattle.std.proofs.lemmas.List.{append-nil, map-append}
 use Rattle.area_disk.specs.Armed.{Came, calls_under}
 use Rattle.area_disk.specs.Armed.Came.{Ran, FailedAt, StoppedAt}
-use Rattle.cdr_file.specs.CdrFile.{FileSettings, FiledRecord, cdr_octets, facts_of, facts_of_one, facts_with, file_octets, header_of, run_octets}
+use Rattle.cdr_file.specs.CdrFile.{FileSettings, FiledRecord, cdr_header_length, cdr_octets, facts_of, facts_of_one, facts_with, file_octets, header_length, header_of, run_octets}
 use Rattle.cdr_file.specs.FileHeader.{header_octets}
+use Rattle.cdr_file.specs.Profile.{IsFiledKind}
 use Rattle.cdr_file.specs.declared.closure.ClosureReason.{ClosureReason}
+use Rattle.cdr_file.specs.declared.filed_kind.FiledKind.{FiledKind}
 use Rattle.cdr_file.specs.declared.run.RunFacts.{RunFacts}
 use Rattle.cdr_shelf.specs.FileLaws.{greatest_in-append}
 use Rattle.cdr_shelf.specs.Files.{SealedFile, UnsealedFile, greatest_in, number_in}
@@ -18,13 +20,11 @@ use Rattle.file_rotate.specs.Division.{Cuts, run_after, still}
 use Rattle.file_rotate.specs.Items.{Filed, Record}
 use Rattle.file_rotate.specs.declared.limits.Limits.{Limits}
 use Rattle.file_rotate.specs.declared.open_file.OpenFile.{OpenFile}
-use Rattle.gw_base.specs.CdrKind.{IsCdrKind}
-use Rattle.gw_base.specs.declared.kind.CdrKind.{CdrKind}
 use Rattle.file_writer.specs.Calls.{Call, Writes, Seals, appending, beginning, calls_at, closed_by, closing, seals, unless_sealed}
 use Rattle.file_writer.specs.Files.{record_of, run_records}
 use Rattle.file_writer.specs.Following.{BodyWhere, Follows, IsUp, Pairs, Stays, mark_item}
 use Rattle.file_writer.specs.Making.{Comes, Ending, HasSealed, Makes, Went, done_at}
-use Rattle.file_writer.specs.Writing.{ClosesOpen, GrownWhere, IsGrown, IsReady, ReadyWhere, StillOpen, appending_of, beginning_of, body_behind, closed_file, closed_progress, closing_of, grown, grown_facts, growing_of, is_sealed, name_in}
+use Rattle.file_writer.specs.Writing.{ClosesOpen, GrownWhere, IsGrown, IsReady, ReadyWhere, StillOpen, appending_of, beginning_of, body_behind, closed_file, closed_progress, closing_of, filed_of, grown, grown_facts, growing_of, is_sealed, name_in}
 use Rattle.file_writer.specs.declared.fault.ShelfFault.{ShelfFault}
 use Rattle.file_writer.specs.declared.progress.Progress.{Progress}
 use Rattle.file_writer.proofs.MakingLemmas.{all_sealed}
@@ -82,7 +82,7 @@ closing_long : (settings : FileSettings) (s : ℕ) (file : Progress) (u : Option
 closing_long settings s file u None run = refl
 closing_long settings s file u (Some reason) run = long_if (nat_le (file.closed + 1) file.sealed) _ _
 
-some_is : {A : Type 0} {a b : A} → Some a ≡ Some b → a ≡ b
+pub some_is : {A : Type 0} {a b : A} → Some a ≡ Some b → a ≡ b
 some_is e = cc
 
 abbrev file_by : FileSettings → FileName → ClosureReason → RunFacts → List ℕ → SealedFile
@@ -354,26 +354,43 @@ pairs_closed None kept file later pairs e = subst (λ (f : Progress). Pairs kept
 pairs_closed (Some reason) kept file later pairs e = subst (λ (f : Progress). Pairs None f.growing) (sym e) tt
 
 pairs_with : (kept : Option OpenFile) (growing : Option RunFacts) (r : FiledRecord) → Pairs kept growing
-    → IsCdrKind r.kind
+    → IsFiledKind r.kind
     → Pairs (Some (with_record kept r.kind (length r.octets) r.moment)) (Some (grown_facts growing r))
 pairs_with None None r pairs kind = (refl, refl, kind)
 pairs_with None (Some run) r pairs kind = absurd pairs
 pairs_with (Some file) None r pairs kind = absurd pairs
 pairs_with (Some file) (Some run) r pairs kind = (
-  more_octets file.octets run.octets (length r.octets) pairs.0,
+  more_octets (header_length run.kind) file.octets run.octets (cdr_header_length r.kind + length r.octets) pairs.0,
   ap (λ (n : ℕ). n + 1) pairs.1,
   pairs.2,
 )
   where
-    more_octets : (a b n : ℕ) → a ≡ 52 + b → a + (4 + n) ≡ 52 + (b + (4 + n))
-    more_octets a b n e = omega arith
+    more_octets : (header a b n : ℕ) → a ≡ header + b → a + n ≡ header + (b + n)
+    more_octets header a b n e = omega arith
 
 pub pairs_grown : (kept : Option OpenFile) (file later : Progress) (r : FiledRecord) → Pairs kept file.growing
-    → IsCdrKind r.kind → later ≡ grown file r
+    → IsFiledKind r.kind → later ≡ grown file r
     → Pairs (Some (with_record kept r.kind (length r.octets) r.moment)) later.growing
 pairs_grown kept file later r pairs kind e =
     subst (λ (f : Progress). Pairs (Some (with_record kept r.kind (length r.octets) r.moment)) f.growing) (sym e)
     (pairs_with kept file.growing r pairs kind)
+
+-- the same record, where two kinds are one
+pub grown_as : (file later : Progress) (kind other : FiledKind) (octets : List ℕ) (moment : ℕ)
+    → later ≡ grown file (filed_of kind octets moment) → kind ≡ other
+    → later ≡ grown file (filed_of other octets moment)
+grown_as file later kind other octets moment e same =
+    e ∙ ap (λ (k : FiledKind). grown file (filed_of k octets moment)) same
+
+pub stands_as : {A : Type 0} (tells : Ghosts A) (s : ℕ) (file : Progress) (kind other : FiledKind)
+    (octets : List ℕ) (moment : ℕ) (old new : A)
+    → (IsTrue tells.tells_files
+    → IsGrown s file (filed_of kind octets moment) (tells.unsealed old s) (tells.unsealed new s)) → kind ≡ other
+    → IsTrue tells.tells_files
+    → IsGrown s file (filed_of other octets moment) (tells.unsealed old s) (tells.unsealed new s)
+stands_as tells s file kind other octets moment old new stands same told =
+    subst (λ (k : FiledKind). IsGrown s file (filed_of k octets moment) (tells.unsealed old s) (tells.unsealed new s))
+    same (stands told)
 
 -- where a function ended, it has no answer
 pub no_answer : {T : Type 0} (q : Result T ShelfFault) (e : ShelfFault) (P : T → Type 0) → IsErr q
@@ -428,7 +445,7 @@ mark_closes limits None closes moment (Some run) reason pairs e = absurd pairs
 mark_closes limits (Some file) closes moment None reason pairs e = absurd pairs
 mark_closes limits (Some file) closes moment (Some run) reason pairs e = closes_some reason run
 
-pub record_closes : (kept : Option OpenFile) (kind : CdrKind) (growing : Option RunFacts)
+pub record_closes : (kept : Option OpenFile) (kind : FiledKind) (growing : Option RunFacts)
     (reason : Option ClosureReason)
     → Pairs kept growing → reason ≡ kind_change kept kind → ClosesOpen reason growing
 record_closes None kind None reason pairs e = subst (λ (r : Option ClosureReason). ClosesOpen r None) (sym e) tt

@@ -1,8 +1,9 @@
 -- What calls for items leave unsealed.
-use Rattle.std.proofs.Common.{◌≡◌, ◌≢◌, ◌⊎◌, inl, inr, ℕ, max, ◌+◌, ◌<◌, ◌≤◌, Bool, true, false, nat_le, IsTrue, List, [], ◌∷◌, ◌++◌, length, Option, None, Some, slice_index_or, slice_set, refl, sym, ap, ◌∙◌, subst, arith}
+use Rattle.std.proofs.Common.{◌≡◌, ◌≢◌, ◌⊎◌, inl, inr, ℕ, max, ◌+◌, ◌<◌, ◌≤◌, Bool, true, false, nat_le, IsTrue, List, [], ◌∷◌, ◌++◌, length, drop, Option, None, Some, slice_index_or, slice_set, refl, sym, ap, ◌∙◌, subst, arith}
 use Rattle.std.proofs.lemmas.Bool.Decides.{nat_tests}
-use Rattle.cdr_file.specs.CdrFile.{FiledRecord, run_octets}
+use Rattle.cdr_file.specs.CdrFile.{FiledRecord, header_length, run_octets}
 use Rattle.cdr_file.specs.declared.closure.ClosureReason.{ClosureReason}
+use Rattle.cdr_file.specs.declared.filed_kind.FiledKind.{FiledKind}
 use Rattle.cdr_file.specs.declared.run.RunFacts.{RunFacts}
 use Rattle.cdr_shelf.specs.Files.{UnsealedFile}
 use Rattle.cdr_shelf.specs.Steps.{left_unsealed, synced, written}
@@ -24,6 +25,7 @@ use Rattle.file_writer.specs.declared.progress.Progress.{Progress}
 use Rattle.file_writer.specs.declared.stream.Stream.{Stream}
 use Rattle.file_writer.proofs.AllLemmas.{each_set}
 use Rattle.file_writer.proofs.FilesLemmas.{closed_of-append}
+use Rattle.file_writer.proofs.FollowingLemmas.{some_is}
 use Rattle.file_writer.proofs.StreamsLemmas.{left_open-append}
 use Rattle.file_writer.proofs.WriterLemmas.{any_default, no_stream}
 
@@ -41,10 +43,11 @@ untrue n m h = grind (arith, nat_tests)
 -- ---- one file
 
 -- a file that is written again, synced and sealed is gone
-pub gone_by : (name : FileName) (n : ℕ) (header : List ℕ) (u v w x : Option UnsealedFile) → IsOpenAt name n u
+pub gone_by : (name : FileName) (kind : FiledKind) (n : ℕ) (header : List ℕ) (u v w x : Option UnsealedFile)
+    → IsOpenAt name kind n u
     → v ≡ written 0 header u → w ≡ synced v → x ≡ left_unsealed w → x ≡ None
-gone_by name n header None v w x h e f g = absurd h
-gone_by name n header (Some file) v w x h e f g = g ∙ ap left_unsealed (f ∙ ap synced e)
+gone_by name kind n header None v w x h e f g = absurd h
+gone_by name kind n header (Some file) v w x h e f g = g ∙ ap left_unsealed (f ∙ ap synced e)
 
 -- ---- one stream
 
@@ -177,7 +180,11 @@ file_open : (name : FileName) (run : List (Filed (List ℕ))) (growing : Option 
 file_open name [] growing u e ready body none = none e
 file_open name (first ∷ later) None u e ready body none = some_is_open _ (sym e)
 file_open name (first ∷ later) (Some run) None e ready body none = absurd ready
-file_open name (first ∷ later) (Some run) (Some f) e ready body none = (ready.0, body)
+file_open name (first ∷ later) (Some run) (Some f) e ready body none = (
+  ready.0,
+  subst (λ (kind : FiledKind). drop (header_length kind) f.octets ≡ run_octets (run_records (first ∷ later)))
+      (ap (λ (facts : RunFacts). facts.kind) (some_is e)) body,
+)
 
 module _ {A : Type 0} (tells : Ghosts A) (settings : Settings) (closed sealed : ℕ → ℕ) (before after : List Item)
     (first last : List Stream) (old new : A) (told : IsTrue tells.tells_files)
@@ -274,7 +281,7 @@ module _ (law : DivisionGoesOn) (settings : Settings) (s : ℕ) (items more : Li
       → (stream_division settings s (items ++ more)).left_open ≡ [] → (stream_division settings s items).left_open ≡ []
   was_shut few shut =
       none_was_open settings.limits (stream_division settings s items).left_open
-      (stream_items settings.rules s more)
+      (stream_items settings.profile settings.rules s more)
       (is_empty (later_division settings s items more).closed
       (no_more (closed_of settings s (items ++ more)) (closed_of settings s items)
       (length (later_division settings s items more).closed) (closed_of-append law settings s items more) few))

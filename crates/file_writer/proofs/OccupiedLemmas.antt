@@ -67,7 +67,7 @@ is_nth s q (run ∷ later) (suc before) index filed h =
 -- ---- the items of a stream's records
 
 -- an item is the record of a stream before which it has so many
-record IsItem (rules : List Rule) (s : ℕ) (items : List Item) (n : ℕ) : Type 0 where
+record IsItem (profile : ℕ) (rules : List Rule) (s : ℕ) (items : List Item) (n : ℕ) : Type 0 where
   k : ℕ
   kind : CdrKind
   tag : Option Tag
@@ -75,13 +75,13 @@ record IsItem (rules : List Rule) (s : ℕ) (items : List Item) (n : ℕ) : Type
   moment : ℕ
   is : slice_get items k ≡ Some (item.Part kind tag octets moment)
   stream : stream_of rules tag kind.format ≡ s
-  before : length (records_of (stream_items rules s (take k items))) ≡ n
+  before : length (records_of (stream_items profile rules s (take k items))) ≡ n
 
 -- so it is where an item stands in front that has so many records of the stream
-one_later : (rules : List Rule) (s : ℕ) (first : Item) (items : List Item) (n m : ℕ)
-    → length (records_of (stream_item rules s first)) + n ≡ m → IsItem rules s items n
-    → IsItem rules s (first ∷ items) m
-one_later rules s first items n m more there = record {
+one_later : (profile : ℕ) (rules : List Rule) (s : ℕ) (first : Item) (items : List Item) (n m : ℕ)
+    → length (records_of (stream_item profile rules s first)) + n ≡ m → IsItem profile rules s items n
+    → IsItem profile rules s (first ∷ items) m
+one_later profile rules s first items n m more there = record {
   k = suc there.k;
   kind = there.kind;
   tag = there.tag;
@@ -89,36 +89,36 @@ one_later rules s first items n m more there = record {
   moment = there.moment;
   is = there.is;
   stream = there.stream;
-  before = length-records (stream_item rules s first) (stream_items rules s (take there.k items))
-      ∙ ap (λ (i : ℕ). length (records_of (stream_item rules s first)) + i) there.before ∙ more;
+  before = length-records (stream_item profile rules s first) (stream_items profile rules s (take there.k items))
+      ∙ ap (λ (i : ℕ). length (records_of (stream_item profile rules s first)) + i) there.before ∙ more;
 }
 
 none_in_front : (n : ℕ) → 0 + n ≡ n
 none_in_front n = omega arith
 
-is_item : (rules : List Rule) (s : ℕ) (items : List Item) (n : ℕ) → n < length (records_of (stream_items rules s items))
-    → IsItem rules s items n
-is_item rules s [] n h = let no : ⊥ = omega (arith, h) in absurd no
-is_item rules s (item.Tick moment ∷ items) n h =
-    one_later rules s (item.Tick moment) items n n (none_in_front n) (is_item rules s items n h)
-is_item rules s (item.Close moment ∷ items) n h =
-    one_later rules s (item.Close moment) items n n (none_in_front n) (is_item rules s items n h)
-is_item rules s (item.Part kind tag octets moment ∷ items) n h =
-    by (stream_of rules tag kind.format == s) refl n h (is_item rules s items)
+is_item : (profile : ℕ) (rules : List Rule) (s : ℕ) (items : List Item) (n : ℕ) → n < length (records_of (stream_items profile rules s items))
+    → IsItem profile rules s items n
+is_item profile rules s [] n h = let no : ⊥ = omega (arith, h) in absurd no
+is_item profile rules s (item.Tick moment ∷ items) n h =
+    one_later profile rules s (item.Tick moment) items n n (none_in_front n) (is_item profile rules s items n h)
+is_item profile rules s (item.Close moment ∷ items) n h =
+    one_later profile rules s (item.Close moment) items n n (none_in_front n) (is_item profile rules s items n h)
+is_item profile rules s (item.Part kind tag octets moment ∷ items) n h =
+    by (stream_of rules tag kind.format == s) refl n h (is_item profile rules s items)
   where
     first : Item
     first = item.Part kind tag octets moment
 
-    one : (stream_of rules tag kind.format == s) ≡ true → length (records_of (stream_item rules s first)) ≡ 1
-    one e = ap (λ (b : Bool). length (records_of (record_if b (stream_record kind octets moment)))) e
+    one : (stream_of rules tag kind.format == s) ≡ true → length (records_of (stream_item profile rules s first)) ≡ 1
+    one e = ap (λ (b : Bool). length (records_of (record_if b (stream_record profile kind octets moment)))) e
 
-    none : (stream_of rules tag kind.format == s) ≡ false → length (records_of (stream_item rules s first)) ≡ 0
-    none e = ap (λ (b : Bool). length (records_of (record_if b (stream_record kind octets moment)))) e
+    none : (stream_of rules tag kind.format == s) ≡ false → length (records_of (stream_item profile rules s first)) ≡ 0
+    none e = ap (λ (b : Bool). length (records_of (record_if b (stream_record profile kind octets moment)))) e
 
     by : (b : Bool) → (stream_of rules tag kind.format == s) ≡ b → (n : ℕ)
-        → n < length (records_of (stream_items rules s (first ∷ items)))
-        → ((m : ℕ) → m < length (records_of (stream_items rules s items)) → IsItem rules s items m)
-        → IsItem rules s (first ∷ items) n
+        → n < length (records_of (stream_items profile rules s (first ∷ items)))
+        → ((m : ℕ) → m < length (records_of (stream_items profile rules s items)) → IsItem profile rules s items m)
+        → IsItem profile rules s (first ∷ items) n
     by true e zero h rest = record {
       k = 0;
       kind = kind;
@@ -130,22 +130,22 @@ is_item rules s (item.Part kind tag octets moment ∷ items) n h =
       before = refl;
     }
     by true e (suc n) h rest =
-        one_later rules s first items n (suc n) (omega (arith, one e))
+        one_later profile rules s first items n (suc n) (omega (arith, one e))
         (rest n
         (omega (
           arith,
           h,
           one e,
-          length-records (stream_item rules s first) (stream_items rules s items),
+          length-records (stream_item profile rules s first) (stream_items profile rules s items),
         )))
     by false e n h rest =
-        one_later rules s first items n n (omega (arith, none e))
+        one_later profile rules s first items n n (omega (arith, none e))
         (rest n
         (omega (
           arith,
           h,
           none e,
-          length-records (stream_item rules s first) (stream_items rules s items),
+          length-records (stream_item profile rules s first) (stream_items profile rules s items),
         )))
 
 -- ---- the item at a place
@@ -153,7 +153,7 @@ is_item rules s (item.Part kind tag octets moment ∷ items) n h =
 -- its place is that of the record
 place_is : (settings : Settings) (items : List Item) (s before index sequence : ℕ)
     (nth : IsNth s 1 (runs_of (stream_division settings s items)) before index)
-    (found : IsItem settings.rules s items nth.n) → 1 + before ≡ sequence
+    (found : IsItem settings.profile settings.rules s items nth.n) → 1 + before ≡ sequence
     → place_in settings items found.k ≡ Some (place s sequence index)
 place_is settings items s before index sequence nth found number =
     ap (λ (o : Option Item). place_of_item settings items found.k o) found.is
@@ -172,7 +172,7 @@ item-there law settings items at filed h = by at.sequence refl h
     runs : List (List (Filed (List ℕ)))
     runs = runs_of (stream_division settings s items)
 
-    all : length (all_of runs) ≡ length (records_of (stream_items settings.rules s items))
+    all : length (all_of runs) ≡ length (records_of (stream_items settings.profile settings.rules s items))
     all = ap length
         (all_of-runs (stream_division settings s items).closed (stream_division settings s items).left_open
         ∙ law settings s items)
@@ -182,5 +182,5 @@ item-there law settings items at filed h = by at.sequence refl h
     by zero e there = let no : ⊥ = none-some filed there in absurd no
     by (suc before) e there =
         let nth = is_nth s 1 runs before at.index filed there in
-        let found = is_item settings.rules s items nth.n (omega (arith, nth.within, all)) in
+        let found = is_item settings.profile settings.rules s items nth.n (omega (arith, nth.within, all)) in
         (found.k, place_is settings items s before at.index at.sequence nth found (omega (arith, e)))

@@ -38,7 +38,7 @@ module _ (settings : Settings) (closed sealed : ℕ → ℕ) where
   one_of_streams before items s h =
       subst AreOfStreams
       (sym (seals-calls_from settings s (sealed s) (closed s + closed_of settings s before)
-      (stream_division settings s before).left_open (stream_items settings.rules s items)))
+      (stream_division settings s before).left_open (stream_items settings.profile settings.rules s items)))
       (All-drop IsOfStream _ _
       (files_of_stream settings.file s (closed s + closed_of settings s before + 1)
       (later_division settings s before items).closed h))

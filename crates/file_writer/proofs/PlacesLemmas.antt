@@ -130,5 +130,5 @@ place-stays law settings items more k place h = by (slice_get items k) refl h
         (take-append-le k items more here)
         ∙ ap (λ (d : Division (List ℕ)). nth_place s 1 (runs_of d) (records_to settings s (take k items)))
         (division-append law settings s items more)
-        ∙ nth_place-goes_on settings.limits s 1 (stream_division settings s items) (stream_items settings.rules s more)
+        ∙ nth_place-goes_on settings.limits s 1 (stream_division settings s items) (stream_items settings.profile settings.rules s more)
         (records_to settings s (take k items)) place h

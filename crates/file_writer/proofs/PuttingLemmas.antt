@@ -129,9 +129,9 @@ module _ {A : Type 0} (tells : Ghosts A) (settings : FileSettings) (s : ℕ) (fi
 
       -- all went
       pub all_went : (last : Stream) (new : A) → last.file ≡ closed_progress a later → (IsTrue tells.tells_files → StillOpen a later (tells.unsealed far s) (tells.unsealed new s))
-          → Makes tells (closing_of settings s later (tells.unsealed far s) a) Went far new → last.cutter.file ≡ file_of (run_after cuts run (Record filed)) → last.cutter.limits ≡ stream.cutter.limits
+          → Makes tells (closing_of settings s later (tells.unsealed far s) a) Went far new → last.cutter.file ≡ file_of (run_after cuts run (Record filed)) → last.cutter.limits ≡ stream.cutter.limits → last.cutter.profile ≡ stream.cutter.profile
           → Takes tells settings s run (Record filed) stream old new (Ok last)
-      all_went last new closed_3 opens_3 made cut limits = record {
+      all_went last new closed_3 opens_3 made cut limits profile = record {
         makes = all_calls Went new made;
         after = record {
           behind = record {
@@ -142,5 +142,6 @@ module _ {A : Type 0} (tells : Ghosts A) (settings : FileSettings) (s : ℕ) (fi
           closed = closed_count a later last.file closed_3 ∙ ap (λ (k : ℕ). closed_by a k) closed_2 ∙ ap (λ (at : Cuts). closed_by at.after (closed_by at.before stream.file.closed)) both;
           sealed = closed_sealed a later last.file closed_3 ∙ sealed_2;
           limits = limits;
+          profile = profile;
         };
       }

@@ -1,6 +1,7 @@
 -- The files of items are read back: each number that a header says of their records fits its field.
-use Rattle.std.proofs.Common.{◌≡◌, ℕ, zero, suc, ◌+◌, ◌^◌, ◌<◌, ◌≤◌, ◌==◌, nat_le, if◌then◌else◌, Bool, true, false, All, Contains, List, [], ◌∷◌, ◌++◌, length, map, slice_get, sum_by, Option, None, Some, Ok, refl, sym, ap, ◌∙◌, subst, arith, ℤ, append-nil}
-use Rattle.std.proofs.lemmas.Bool.{leb-false}
+use Rattle.std.proofs.Common.{◌≡◌, ℕ, zero, suc, ◌+◌, ◌^◌, ◌<◌, ◌≤◌, ◌==◌, ◌&&◌, ◌||◌, nat_le, if◌then◌else◌, Bool, true, false, All, Contains, List, [], ◌∷◌, ◌++◌, length, map, slice_get, sum_by, Option, None, Some, Ok, refl, sym, ap, ◌∙◌, subst, arith, ℤ, append-nil}
+use Rattle.std.specs.Prelude.{is_some}
+use Rattle.std.proofs.lemmas.Bool.{eqb-true, leb-false}
 use Rattle.std.proofs.lemmas.List.Elements.{All-head, All-tail}
 use Rattle.std.proofs.lemmas.List.Sums.{sum_by-append, sum_by-cons}
 use Rattle.std.proofs.lemmas.Option.{get_or_from_slice_get, none-some, slice_get_within}
@@ -8,16 +9,18 @@ use Rattle.cdr_file.specs.CdrFile.{FileSettings, FiledRecord, cdr_of, file_heade
 use Rattle.cdr_file.specs.CdrFile as cdr
 use Rattle.cdr_file.specs.CdrHeader.{AreCdrs}
 use Rattle.cdr_file.specs.ClosureReason.{code_of}
-use Rattle.cdr_file.specs.FileHeader.{IsFileHeader}
+use Rattle.cdr_file.specs.FileHeader.{IsFileHeader, extends}
+use Rattle.cdr_file.specs.Laws.{extends_one, in_profile-fits}
+use Rattle.cdr_file.specs.Profile.{IsExtension, IsFiledKind, extension_octets}
 use Rattle.cdr_file.specs.Reading as reading
 use Rattle.cdr_file.specs.Timestamp.{stamp_of}
 use Rattle.cdr_file.specs.declared.closure.ClosureReason.{ClosureReason}
 use Rattle.cdr_file.specs.declared.closure.ClosureReason.TheVariants as reason
+use Rattle.cdr_file.specs.declared.filed_kind.FiledKind.{FiledKind}
 use Rattle.file_rotate.specs.Division.{ClosedRun, Division, cdr_length, closed_first, divided_from, ends_after, ends_before, joined, run_length, run_limit_reached, still}
-use Rattle.file_rotate.specs.Items.{AreLimits, Filed, Record, Tick, Close}
+use Rattle.file_rotate.specs.Items.{AreLimits, Filed, Record, Tick, Close, same_extension, same_kind}
 use Rattle.file_rotate.specs.Items as stream
 use Rattle.file_rotate.specs.declared.limits.Limits.{Limits}
-use Rattle.gw_base.specs.CdrKind.{IsCdrKind}
 use Rattle.gw_base.specs.declared.item.Item.{Item}
 use Rattle.gw_base.specs.declared.item.Item.TheVariants as item
 use Rattle.route_filter.specs.Rules.{stream_of}
@@ -31,7 +34,7 @@ use Rattle.file_writer.specs.Streams.{Settings, closed_of, record_if, stream_div
 -- ---- what a header says of a record
 
 record IsSayable (offset : ℤ) (filed : Filed (List ℕ)) : Type 0 where
-  kind : IsCdrKind filed.kind
+  kind : IsFiledKind filed.kind
   octets : filed.octets < 2 ^ 16
   stated : filed.octets ≡ length filed.payload
   stamp : stamp_of filed.moment offset < 2 ^ 32
@@ -49,22 +52,22 @@ abbrev AreItemsSayable : ℤ → List (stream.Item (List ℕ)) → Type 0
 AreItemsSayable offset [] = Unit {0}
 AreItemsSayable offset (i ∷ items) = IsItemSayable offset i × AreItemsSayable offset items
 
-items_sayable : (rules : List Rule) (file : FileSettings) (s : ℕ) (items : List Item) → All IsFit items
-    → All (IsStamped file) items → AreItemsSayable file.offset (stream_items rules s items)
-items_sayable rules file s [] fit stamped = tt
-items_sayable rules file s (item.Tick moment ∷ items) fit stamped = (
+items_sayable : (profile : ℕ) (rules : List Rule) (file : FileSettings) (s : ℕ) (items : List Item) → All IsFit items
+    → All (IsStamped file) items → AreItemsSayable file.offset (stream_items profile rules s items)
+items_sayable profile rules file s [] fit stamped = tt
+items_sayable profile rules file s (item.Tick moment ∷ items) fit stamped = (
   tt,
-  items_sayable rules file s items (All-tail IsFit (item.Tick moment) items fit)
+  items_sayable profile rules file s items (All-tail IsFit (item.Tick moment) items fit)
       (All-tail (IsStamped file) (item.Tick moment) items stamped),
 )
-items_sayable rules file s (item.Close moment ∷ items) fit stamped = (
+items_sayable profile rules file s (item.Close moment ∷ items) fit stamped = (
   tt,
-  items_sayable rules file s items (All-tail IsFit (item.Close moment) items fit)
+  items_sayable profile rules file s items (All-tail IsFit (item.Close moment) items fit)
       (All-tail (IsStamped file) (item.Close moment) items stamped),
 )
-items_sayable rules file s (item.Part kind tag octets moment ∷ items) fit stamped =
+items_sayable profile rules file s (item.Part kind tag octets moment ∷ items) fit stamped =
     by (stream_of rules tag kind.format == s)
-    (items_sayable rules file s items (All-tail IsFit first items fit) (All-tail (IsStamped file) first items stamped))
+    (items_sayable profile rules file s items (All-tail IsFit first items fit) (All-tail (IsStamped file) first items stamped))
   where
     first : Item
     first = item.Part kind tag octets moment
@@ -72,11 +75,11 @@ items_sayable rules file s (item.Part kind tag octets moment ∷ items) fit stam
     fits : IsFit first
     fits = All-head IsFit first items fit
 
-    by : (b : Bool) → AreItemsSayable file.offset (stream_items rules s items)
-        → AreItemsSayable file.offset (record_if b (stream_record kind octets moment) ++ stream_items rules s items)
+    by : (b : Bool) → AreItemsSayable file.offset (stream_items profile rules s items)
+        → AreItemsSayable file.offset (record_if b (stream_record profile kind octets moment) ++ stream_items profile rules s items)
     by true rest = (
       record {
-        kind = fits.0;
+        kind = in_profile-fits profile kind fits.0;
         octets = fits.1;
         stated = refl;
         stamp = All-head (IsStamped file) first items stamped;
@@ -90,13 +93,86 @@ sayable_more : (offset : ℤ) (run : List (Filed (List ℕ))) (filed : Filed (Li
 sayable_more offset [] filed all is = (is, tt)
 sayable_more offset (x ∷ run) filed all is = (all.0, sayable_more offset run filed all.1 is)
 
+-- ---- of which kind the records of runs are
+
+abbrev AreOf : FiledKind → List (Filed (List ℕ)) → Type 0
+AreOf kind [] = Unit {0}
+AreOf kind (filed ∷ run) = (filed.kind ≡ kind) × AreOf kind run
+
+-- all of that of the first
+abbrev IsOneKind : List (Filed (List ℕ)) → Type 0
+IsOneKind [] = Unit {0}
+IsOneKind (first ∷ later) = AreOf first.kind later
+
+-- an item that is a record is of that kind too
+abbrev Joins : List (Filed (List ℕ)) → stream.Item (List ℕ) → Type 0
+Joins [] i = Unit {0}
+Joins (first ∷ later) (Record filed) = filed.kind ≡ first.kind
+Joins (first ∷ later) (Tick moment) = Unit {0}
+Joins (first ∷ later) (Close moment) = Unit {0}
+
+of_more : (kind : FiledKind) (run : List (Filed (List ℕ))) (filed : Filed (List ℕ)) → AreOf kind run
+    → filed.kind ≡ kind → AreOf kind (run ++ filed ∷ [])
+of_more kind [] filed are is = (is, tt)
+of_more kind (x ∷ run) filed are is = (are.0, of_more kind run filed are.1 is)
+
+kinds_more : (run : List (Filed (List ℕ))) (filed : Filed (List ℕ)) → IsOneKind run → Joins run (Record filed)
+    → IsOneKind (run ++ filed ∷ [])
+kinds_more [] filed one is = tt
+kinds_more (first ∷ later) filed one is = of_more first.kind later filed one is
+
+both_of : (a b : Bool) → (a && b) ≡ true → (a ≡ true) × (b ≡ true)
+both_of true b e = (refl, e)
+both_of false b e = absurd (cc)
+
+extension_is : (extension other : Option ℕ) → same_extension extension other ≡ true → extension ≡ other
+extension_is None None e = refl
+extension_is None (Some other) e = absurd (cc)
+extension_is (Some extension) None e = absurd (cc)
+extension_is (Some extension) (Some other) e = ap (λ (x : ℕ). Some x) (eqb-true extension other e)
+
+kind_is : (kind other : FiledKind) → same_kind kind other ≡ true → kind ≡ other
+kind_is kind other e =
+    let first = both_of (kind.release == other.release) _ e in
+    let second = both_of (kind.version == other.version) _ first.1 in
+    let third = both_of (kind.format == other.format) _ second.1 in
+    let release : kind.release ≡ other.release = eqb-true kind.release other.release first.0 in
+    let version : kind.version ≡ other.version = eqb-true kind.version other.version second.0 in
+    let format : kind.format ≡ other.format = eqb-true kind.format other.format third.0 in
+    let extension : kind.extension ≡ other.extension = extension_is kind.extension other.extension third.1 in
+    λ i. record { release = release i; version = version i; format = format i; extension = extension i }
+
+-- a file that isn't closed before a record is one of records of its kind
+joins : (limits : Limits) (run : List (Filed (List ℕ))) (i : stream.Item (List ℕ)) (before : Option ClosureReason)
+    → ends_before limits run i ≡ before → Joins (still before run []) i
+unfolding ends_before
+joins limits run i (Some reason) e = tt
+joins limits [] i None e = tt
+joins limits (first ∷ later) (Record filed) None e = by (same_kind first.kind filed.kind) refl e
+  where
+    by : (b : Bool) → same_kind first.kind filed.kind ≡ b
+        → (if b then None else Some reason.KindChange) ≡ None → filed.kind ≡ first.kind
+    by true same h = sym (kind_is first.kind filed.kind same)
+    by false same h = let no : ⊥ = none-some reason.KindChange (sym h) in absurd no
+joins limits (first ∷ later) (Tick moment) None e = tt
+joins limits (first ∷ later) (Close moment) None e = tt
+
 -- ---- how long runs are
 
+few_octets : (extension : Option ℕ) → length (extension_octets extension) ≤ 1
+few_octets None = omega arith
+few_octets (Some extension) = omega arith
+
 one_longer : (run : List (Filed (List ℕ))) (filed : Filed (List ℕ)) → run_length (run ++ filed ∷ [])
-    ≤ run_length run + (56 + filed.octets)
-one_longer [] filed = omega (arith, sum_by-cons cdr_length filed [])
+    ≤ run_length run + (59 + filed.octets)
+one_longer [] filed = omega (arith, few_octets filed.kind.extension, sum_by-cons cdr_length filed [])
 one_longer (x ∷ run) filed =
-    omega (arith, sum_by-append cdr_length (x ∷ run) (filed ∷ []), sum_by-cons cdr_length filed [])
+    omega (
+      arith,
+      few_octets filed.kind.extension,
+      sum_by-append cdr_length (x ∷ run) (filed ∷ []),
+      sum_by-cons cdr_length filed [],
+    )
 
 as_long : (offset : ℤ) (run : List (Filed (List ℕ))) → AreSayable offset run
     → sum_by cdr.cdr_length (run_records run) ≡ sum_by cdr_length run
@@ -123,6 +199,7 @@ as_many (x ∷ run) = ap suc (as_many run)
 record IsReadable (offset : ℤ) (run : List (Filed (List ℕ))) : Type 0 where
   long : run_length run < 2 ^ 32
   each : AreSayable offset run
+  kinds : IsOneKind run
 
 abbrev AllReadable : ℤ → List (ClosedRun (List ℕ)) → Type 0
 AllReadable offset [] = Unit {0}
@@ -139,26 +216,28 @@ module _ (limits : Limits) (are : AreLimits limits) (offset : ℤ) where
   record IsOpen (run : List (Filed (List ℕ))) : Type 0 where
     short : run_length run < limits.size
     each : AreSayable offset run
+    kinds : IsOneKind run
 
   none_open : IsOpen []
-  none_open = record { short = are.size_from; each = tt }
+  none_open = record { short = are.size_from; each = tt; kinds = tt }
 
   still_open : (reason : Option ClosureReason) (run : List (Filed (List ℕ))) → IsOpen run → IsOpen (still reason run [])
   still_open None run is = is
   still_open (Some reason) run is = none_open
 
   readable : (run : List (Filed (List ℕ))) → IsOpen run → IsReadable offset run
-  readable run is = record { long = omega (arith, is.short, are.size_to); each = is.each }
+  readable run is = record { long = omega (arith, is.short, are.size_to); each = is.each; kinds = is.kinds }
 
   -- a run with an item more, which may be closed after it
   with_item : (run : List (Filed (List ℕ))) (i : stream.Item (List ℕ)) → IsOpen run → IsItemSayable offset i
-      → IsReadable offset (run ++ stream.record_in i)
-  with_item run (Record filed) is sayable = record {
+      → Joins run i → IsReadable offset (run ++ stream.record_in i)
+  with_item run (Record filed) is sayable joint = record {
     long = omega (arith, is.short, are.size_to, sayable.octets, one_longer run filed);
     each = sayable_more offset run filed is.each sayable;
+    kinds = kinds_more run filed is.kinds joint;
   }
-  with_item run (Tick moment) is sayable = subst (IsReadable offset) (sym (append-nil run)) (readable run is)
-  with_item run (Close moment) is sayable = subst (IsReadable offset) (sym (append-nil run)) (readable run is)
+  with_item run (Tick moment) is sayable joint = subst (IsReadable offset) (sym (append-nil run)) (readable run is)
+  with_item run (Close moment) is sayable joint = subst (IsReadable offset) (sym (append-nil run)) (readable run is)
 
   short_of : (run : List (Filed (List ℕ))) → run_limit_reached limits run ≡ None → run_length run < limits.size
   unfolding run_limit_reached
@@ -172,16 +251,17 @@ module _ (limits : Limits) (are : AreLimits limits) (offset : ℤ) where
 
   -- what is left open
   left_open : (run : List (Filed (List ℕ))) (i : stream.Item (List ℕ)) → IsOpen run → IsItemSayable offset i
-      → (after : Option ClosureReason) → ends_after limits (run ++ stream.record_in i) i ≡ after
+      → Joins run i → (after : Option ClosureReason) → ends_after limits (run ++ stream.record_in i) i ≡ after
       → IsOpen (still after (run ++ stream.record_in i) [])
   unfolding ends_after
-  left_open run i is sayable (Some reason) e = none_open
-  left_open run (Record filed) is sayable None e = record {
+  left_open run i is sayable joint (Some reason) e = none_open
+  left_open run (Record filed) is sayable joint None e = record {
     short = short_of (run ++ filed ∷ []) e;
     each = sayable_more offset run filed is.each sayable;
+    kinds = kinds_more run filed is.kinds joint;
   }
-  left_open run (Tick moment) is sayable None e = subst IsOpen (sym (append-nil run)) is
-  left_open run (Close moment) is sayable None e = subst IsOpen (sym (append-nil run)) is
+  left_open run (Tick moment) is sayable joint None e = subst IsOpen (sym (append-nil run)) is
+  left_open run (Close moment) is sayable joint None e = subst IsOpen (sym (append-nil run)) is
 
   all_closed : (run : List (Filed (List ℕ))) → IsOpen run → (items : List (stream.Item (List ℕ)))
       → AreItemsSayable offset items → AllReadable offset (divided_from limits run items).closed
@@ -191,11 +271,12 @@ module _ (limits : Limits) (are : AreLimits limits) (offset : ℤ) where
       let at : List (Filed (List ℕ)) = still before run [] in
       let is_at : IsOpen at = still_open before run is in
       let joint : List (Filed (List ℕ)) = joined before run i in
+      let is_joint : Joins at i = joins limits run i before refl in
       let after : Option ClosureReason = ends_after limits joint i in
       let rest : Division (List ℕ) = divided_from limits (still after joint []) items in
       with_first offset before run (closed_first after joint rest) (readable run is)
-      (with_first offset after joint rest (with_item at i is_at all.0)
-      (all_closed (still after joint []) (left_open at i is_at all.0 after refl) items all.1))
+      (with_first offset after joint rest (with_item at i is_at all.0 is_joint)
+      (all_closed (still after joint []) (left_open at i is_at all.0 is_joint after refl) items all.1))
 
 -- ---- what is read of a run's file
 
@@ -228,18 +309,21 @@ header_fits settings first later sequence r is low =
     record {
       address = address_is settings.address;
       file_length = omega (arith, is.long, long);
-      header_length = omega arith;
+      header_length = omega (arith, few_octets first.kind.extension);
       high = (is.each.0.kind.release, is.each.0.kind.version);
       low = (is.each.0.kind.release, is.each.0.kind.version);
       stamps = (is.each.0.stamp, last_stamp settings.offset first later is.each);
       count = omega (arith, is.long, no_more (first ∷ later), as_many (first ∷ later));
       sequence = low;
       octets = (reason_is r, omega arith);
+      high_extension = extends_one first.kind.release first.kind.extension is.each.0.kind.extension;
+      low_extension = extends_one first.kind.release first.kind.extension is.each.0.kind.extension;
     }
 
-cdrs_fit : (offset : ℤ) (run : List (Filed (List ℕ))) → AreSayable offset run → AreCdrs (map cdr_of (run_records run))
-cdrs_fit offset [] all = tt
-cdrs_fit offset (x ∷ run) all = (
+cdrs_fit : (offset : ℤ) (kind : FiledKind) (run : List (Filed (List ℕ))) → AreSayable offset run → AreOf kind run
+    → AreCdrs (is_some kind.extension || is_some kind.extension) (map cdr_of (run_records run))
+cdrs_fit offset kind [] all are = tt
+cdrs_fit offset kind (x ∷ run) all are = (
   record {
     header = record {
       length = omega (arith, all.0.octets, all.0.stated);
@@ -247,10 +331,14 @@ cdrs_fit offset (x ∷ run) all = (
       version = all.0.kind.version;
       format = all.0.kind.format;
       ts = omega arith;
+      extension = all.0.kind.extension;
     };
+    extension = subst (λ (k : FiledKind). IsExtension ((is_some k.extension || is_some k.extension)
+        && (x.kind.release == 7)) x.kind.extension) are.0
+        (extends_one x.kind.release x.kind.extension all.0.kind.extension);
     stated = refl;
   },
-  cdrs_fit offset run all.1,
+  cdrs_fit offset kind run all.1 are.1,
 )
 
 cdr_at : (run : List (Filed (List ℕ))) (index : ℕ) (filed : Filed (List ℕ)) → slice_get run index ≡ Some filed
@@ -300,7 +388,8 @@ kept_at xs k x h = (k, slice_get_within xs k x h, get_or_from_slice_get xs k x x
 -- what is written is read back, as it is stated
 abbrev pub ReadsBack : Type 0
 ReadsBack = (run : List FiledRecord) (sequence : ℕ) (r : ClosureReason) (settings : FileSettings)
-    → IsFileHeader (file_header run sequence r settings) → AreCdrs (read_file run sequence r settings).cdrs
+    → IsFileHeader (file_header run sequence r settings)
+    → AreCdrs (extends (file_header run sequence r settings)) (read_file run sequence r settings).cdrs
     → reading.file_in (file_octets run sequence r settings) ≡ Ok (read_file run sequence r settings)
 
 reads : ReadsBack → (settings : FileSettings) (run : List (Filed (List ℕ))) (sequence : ℕ) (r : ClosureReason)
@@ -311,7 +400,7 @@ reads : ReadsBack → (settings : FileSettings) (run : List (Filed (List ℕ))) 
 reads law settings [] sequence r index filed is low h = let no : ⊥ = none-some filed h in absurd no
 reads law settings (first ∷ later) sequence r index filed is low h =
     law (run_records (first ∷ later)) sequence r settings (header_fits settings first later sequence r is low)
-    (cdrs_fit settings.offset (first ∷ later) is.each)
+    (cdrs_fit settings.offset first.kind (first ∷ later) is.each (refl, is.kinds))
 
 pub read-there : ReadsBack → (settings : Settings) (items : List Item) (place : FilePlace) (filed : Filed (List ℕ))
     → AreLimits settings.limits → All IsFit items → All (IsStamped settings.file) items → place.sequence < 2 ^ 32
@@ -332,7 +421,7 @@ read-there law settings items place filed are fit stamped low closed h = by plac
     by (suc before) e there =
         let at = closed_at settings.file s 1 division.closed division.left_open before (omega (arith, e, closed))
         (all_closed settings.limits are settings.file.offset [] (none_open settings.limits are settings.file.offset)
-        (stream_items settings.rules s items) (items_sayable settings.rules settings.file s items fit stamped)) in
+        (stream_items settings.profile settings.rules s items) (items_sayable settings.profile settings.rules settings.file s items fit stamped)) in
         let inside : slice_get at.c.run place.index ≡ Some filed =
         sym (ap (in_run place.index) at.run_is) ∙ there in
         let number : 1 + before ≡ place.sequence = omega (arith, e) in

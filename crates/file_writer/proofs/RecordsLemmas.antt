@@ -196,46 +196,46 @@ front_within : (a b : ℕ) → a ≤ a + b
 front_within a b = omega arith
 
 -- an item that is a record of a stream is the one after the records of the items before it
-record_there : (rules : List Rule) (s : ℕ) (items : List Item) (k : ℕ) (found : Item) (filed : Filed (List ℕ))
+record_there : (profile : ℕ) (rules : List Rule) (s : ℕ) (items : List Item) (k : ℕ) (found : Item) (filed : Filed (List ℕ))
     → slice_get items k ≡ Some found
-    → stream_item rules s found ≡ Record filed ∷ []
-    → slice_get (records_of (stream_items rules s items)) (length (records_of (stream_items rules s (take k items))))
+    → stream_item profile rules s found ≡ Record filed ∷ []
+    → slice_get (records_of (stream_items profile rules s items)) (length (records_of (stream_items profile rules s (take k items))))
     ≡ Some filed
-record_there rules s [] k found filed h is = let no : ⊥ = none-some found h in absurd no
-record_there rules s (x ∷ xs) zero found filed h is =
-    ap (λ (front : List (stream.Item (List ℕ))). slice_get (records_of (front ++ stream_items rules s xs)) 0)
-    (ap (λ (i : Item). stream_item rules s i) (same_Some x found h) ∙ is)
-record_there rules s (x ∷ xs) (suc k) found filed h is =
-    let here : List (Filed (List ℕ)) = records_of (stream_item rules s x) in
-    let later : List (Filed (List ℕ)) = records_of (stream_items rules s xs) in
-    let before : List (Filed (List ℕ)) = records_of (stream_items rules s (take k xs)) in
-    ap (λ (n : ℕ). slice_get (records_of (stream_item rules s x ++ stream_items rules s xs)) n)
-    (length-records (stream_item rules s x) (stream_items rules s (take k xs)))
+record_there profile rules s [] k found filed h is = let no : ⊥ = none-some found h in absurd no
+record_there profile rules s (x ∷ xs) zero found filed h is =
+    ap (λ (front : List (stream.Item (List ℕ))). slice_get (records_of (front ++ stream_items profile rules s xs)) 0)
+    (ap (λ (i : Item). stream_item profile rules s i) (same_Some x found h) ∙ is)
+record_there profile rules s (x ∷ xs) (suc k) found filed h is =
+    let here : List (Filed (List ℕ)) = records_of (stream_item profile rules s x) in
+    let later : List (Filed (List ℕ)) = records_of (stream_items profile rules s xs) in
+    let before : List (Filed (List ℕ)) = records_of (stream_items profile rules s (take k xs)) in
+    ap (λ (n : ℕ). slice_get (records_of (stream_item profile rules s x ++ stream_items profile rules s xs)) n)
+    (length-records (stream_item profile rules s x) (stream_items profile rules s (take k xs)))
     ∙ ap (λ (all : List (Filed (List ℕ))). slice_get all (length here + length before))
-    (records_of-append (stream_item rules s x) (stream_items rules s xs))
+    (records_of-append (stream_item profile rules s x) (stream_items profile rules s xs))
     ∙ slice_get-after here later (length here + length before) (front_within (length here) (length before))
     ∙ ap (λ (n : ℕ). slice_get later n) (without_front (length here) (length before))
-    ∙ record_there rules s xs k found filed h is
+    ∙ record_there profile rules s xs k found filed h is
 
 -- a record of a stream is one more for the items after it
-one_more_after : (rules : List Rule) (s : ℕ) (items : List Item) (k l : ℕ) (found : Item) (filed : Filed (List ℕ))
+one_more_after : (profile : ℕ) (rules : List Rule) (s : ℕ) (items : List Item) (k l : ℕ) (found : Item) (filed : Filed (List ℕ))
     → slice_get items k ≡ Some found
-    → stream_item rules s found ≡ Record filed ∷ [] → k < l
-    → length (records_of (stream_items rules s (take k items))) < length
-    (records_of (stream_items rules s (take l items)))
-one_more_after rules s [] k l found filed h is less = let no : ⊥ = none-some found h in absurd no
-one_more_after rules s (x ∷ xs) k zero found filed h is less = let no : ⊥ = omega (arith, less) in absurd no
-one_more_after rules s (x ∷ xs) zero (suc l) found filed h is less =
-    let one : length (records_of (stream_item rules s x)) ≡ 1 =
+    → stream_item profile rules s found ≡ Record filed ∷ [] → k < l
+    → length (records_of (stream_items profile rules s (take k items))) < length
+    (records_of (stream_items profile rules s (take l items)))
+one_more_after profile rules s [] k l found filed h is less = let no : ⊥ = none-some found h in absurd no
+one_more_after profile rules s (x ∷ xs) k zero found filed h is less = let no : ⊥ = omega (arith, less) in absurd no
+one_more_after profile rules s (x ∷ xs) zero (suc l) found filed h is less =
+    let one : length (records_of (stream_item profile rules s x)) ≡ 1 =
     ap (λ (front : List (stream.Item (List ℕ))). length (records_of front))
-    (ap (λ (i : Item). stream_item rules s i) (same_Some x found h) ∙ is) in
-    omega (arith, one, length-records (stream_item rules s x) (stream_items rules s (take l xs)))
-one_more_after rules s (x ∷ xs) (suc k) (suc l) found filed h is less =
+    (ap (λ (i : Item). stream_item profile rules s i) (same_Some x found h) ∙ is) in
+    omega (arith, one, length-records (stream_item profile rules s x) (stream_items profile rules s (take l xs)))
+one_more_after profile rules s (x ∷ xs) (suc k) (suc l) found filed h is less =
     omega (
       arith,
-      one_more_after rules s xs k l found filed h is (omega (arith, less)),
-      length-records (stream_item rules s x) (stream_items rules s (take k xs)),
-      length-records (stream_item rules s x) (stream_items rules s (take l xs)),
+      one_more_after profile rules s xs k l found filed h is (omega (arith, less)),
+      length-records (stream_item profile rules s x) (stream_items profile rules s (take k xs)),
+      length-records (stream_item profile rules s x) (stream_items profile rules s (take l xs)),
     )
 
 -- ---- items that are records
@@ -248,7 +248,7 @@ abbrev pub HasAll : Type 0
 HasAll = (settings : Settings) (s : ℕ) (items : List Item)
     → flat_map (λ (c : ClosedRun (List ℕ)). c.run) (stream_division settings s items).closed
     ++ (stream_division settings s items).left_open
-    ≡ records_of (stream_items settings.rules s items)
+    ≡ records_of (stream_items settings.profile settings.rules s items)
 
 -- a record of a stream stands at its place
 stands_there : (settings : Settings) (items : List Item) (s n : ℕ) (filed : Filed (List ℕ))
@@ -265,19 +265,19 @@ pub place-has : HasAll → (settings : Settings) (items : List Item) (k : ℕ) (
     → slice_get items k ≡ Some (item.Part kind tag octets moment) → HasPlace settings items k kind tag octets moment
 place-has law settings items k kind tag octets moment h =
     let s : ℕ = stream_of settings.rules tag kind.format in
-    let filed : Filed (List ℕ) = stream_record kind octets moment in
-    let is : stream_item settings.rules s (item.Part kind tag octets moment) ≡ Record filed ∷ [] =
+    let filed : Filed (List ℕ) = stream_record settings.profile kind octets moment in
+    let is : stream_item settings.profile settings.rules s (item.Part kind tag octets moment) ≡ Record filed ∷ [] =
     ap (λ (b : Bool). record_if b filed) (same s) in
     let n : ℕ = records_to settings s (take k items) in
-    let there : slice_get (records_of (stream_items settings.rules s items)) n ≡ Some filed =
-    record_there settings.rules s items k (item.Part kind tag octets moment) filed h is in
+    let there : slice_get (records_of (stream_items settings.profile settings.rules s items)) n ≡ Some filed =
+    record_there settings.profile settings.rules s items k (item.Part kind tag octets moment) filed h is in
     let division : Division (List ℕ) = stream_division settings s items in
-    let all : all_of (runs_of division) ≡ records_of (stream_items settings.rules s items) =
+    let all : all_of (runs_of division) ≡ records_of (stream_items settings.profile settings.rules s items) =
     all_of-runs division.closed division.left_open ∙ law settings s items in
     let p = placed s 1 (runs_of division) n
     (omega (
       arith,
-      slice_get_within (records_of (stream_items settings.rules s items)) n filed there,
+      slice_get_within (records_of (stream_items settings.profile settings.rules s items)) n filed there,
       ap length all,
     )) in
     record {
@@ -293,7 +293,7 @@ record IsThere (settings : Settings) (items : List Item) (k : ℕ) (p : FilePlac
   found : Item
   filed : Filed (List ℕ)
   is : slice_get items k ≡ Some found
-  record_is : stream_item settings.rules p.stream found ≡ Record filed ∷ []
+  record_is : stream_item settings.profile settings.rules p.stream found ≡ Record filed ∷ []
   nth : nth_place p.stream 1 (runs_of (stream_division settings p.stream items))
       (records_to settings p.stream (take k items)) ≡ Some p
 
@@ -312,10 +312,10 @@ is_there settings items k p h = by (slice_get items k) refl h
         (records_to settings s (take k items)) p h in
         record {
           found = item.Part kind tag octets moment;
-          filed = stream_record kind octets moment;
+          filed = stream_record settings.profile kind octets moment;
           is = e;
-          record_is = ap (λ (t : ℕ). record_if (s == t) (stream_record kind octets moment)) (sym at)
-              ∙ ap (λ (b : Bool). record_if b (stream_record kind octets moment)) (same s);
+          record_is = ap (λ (t : ℕ). record_if (s == t) (stream_record settings.profile kind octets moment)) (sym at)
+              ∙ ap (λ (b : Bool). record_if b (stream_record settings.profile kind octets moment)) (same s);
           nth = subst (λ (t : ℕ). nth_place t 1 (runs_of (stream_division settings t items))
               (records_to settings t (take k items)) ≡ Some p) at h;
         }
@@ -341,7 +341,7 @@ place-only settings items k l p h g = by (nat_lt k l) refl (nat_lt l k) refl
         omega (
           arith,
           equal,
-          one_more_after settings.rules p.stream items k l one.found one.filed one.is one.record_is (ltb-true k l e),
+          one_more_after settings.profile settings.rules p.stream items k l one.found one.filed one.is one.record_is (ltb-true k l e),
         )
         in absurd no
     by false e true f =
@@ -349,7 +349,7 @@ place-only settings items k l p h g = by (nat_lt k l) refl (nat_lt l k) refl
         omega (
           arith,
           equal,
-          one_more_after settings.rules p.stream items l k other.found other.filed other.is
+          one_more_after settings.profile settings.rules p.stream items l k other.found other.filed other.is
               other.record_is (ltb-true l k f),
         ) in absurd no
     by false e false f = omega (arith, ltb-false k l e, ltb-false l k f)

@@ -45,12 +45,12 @@ up_to s n h = grind arith
 
 pub later-append : DivisionGoesOn → (settings : Settings) (s : ℕ) (before xs ys : List Item)
     → later_division settings s before (xs ++ ys) ≡ goes_on settings.limits (later_division settings s before xs)
-    (stream_items settings.rules s ys)
+    (stream_items settings.profile settings.rules s ys)
 later-append law settings s before xs ys =
     ap (λ (zs : List (stream.Item (List ℕ))). divided_from settings.limits
     (stream_division settings s before).left_open zs) (stream_items-append settings s xs ys)
-    ∙ law settings.limits (stream_division settings s before).left_open (stream_items settings.rules s xs)
-    (stream_items settings.rules s ys)
+    ∙ law settings.limits (stream_division settings s before).left_open (stream_items settings.profile settings.rules s xs)
+    (stream_items settings.profile settings.rules s ys)
 
 pub left_open-append : DivisionGoesOn → (settings : Settings) (s : ℕ) (before xs : List Item)
     → (stream_division settings s (before ++ xs)).left_open ≡ (later_division settings s before xs).left_open
@@ -63,7 +63,7 @@ pub later-closed : DivisionGoesOn → (settings : Settings) (s : ℕ) (before xs
 later-closed law settings s before xs ys =
     ap (λ (d : Division (List ℕ)). d.closed) (later-append law settings s before xs ys)
     ∙ ap (λ (run : List (Filed (List ℕ))). (later_division settings s before xs).closed
-    ++ (divided_from settings.limits run (stream_items settings.rules s ys)).closed)
+    ++ (divided_from settings.limits run (stream_items settings.profile settings.rules s ys)).closed)
     (sym (left_open-append law settings s before xs))
 
 -- ---- one item
@@ -76,7 +76,7 @@ module _ (settings : Settings) (closed sealed : ℕ → ℕ) (before : List Item
   sealed_by : (s : ℕ) (items : List Item) → seals (stream_calls settings closed sealed before items s)
       ≡ drop (sealed s - up s) (files_from settings.file s (up s + 1) (later_division settings s before items).closed)
   sealed_by s items = seals-calls_from settings s (sealed s) (up s) (stream_division settings s before).left_open
-      (stream_items settings.rules s items)
+      (stream_items settings.profile settings.rules s items)
 
   own : (s : ℕ) (items : List Item) → in_stream s (seals (stream_calls settings closed sealed before items s))
       ≡ seals (stream_calls settings closed sealed before items s)

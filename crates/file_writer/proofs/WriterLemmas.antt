@@ -22,7 +22,7 @@ use Rattle.file_writer.proofs.HoldingLemmas.{first_count, holds-all, holds-some}
 -- any stream
 abbrev pub no_stream : Stream
 no_stream = record {
-  cutter = record { limits = record { size = 0; count = 0; open_time = 0 }; file = None };
+  cutter = record { limits = record { size = 0; count = 0; open_time = 0 }; profile = 1; file = None };
   file = record { growing = None; closed = 0; sealed = 0 };
 }
 
@@ -38,7 +38,7 @@ and_none n = omega arith
 
 pub recovered_at : {A : Type 0} (tells : Ghosts A) (settings : Settings) (sequences : List ℕ) (streams : List Stream)
     (old new : A)
-    → HasAsked tells settings.limits sequences stream_count streams old new
+    → HasAsked tells settings.limits settings.profile sequences stream_count streams old new
     → AllAt tells settings (λ s. slice_index sequences s) (sealed_at streams) [] streams new
 recovered_at tells settings sequences streams old new asked s d h =
     let fresh = asked.fresh s d h in
@@ -55,6 +55,7 @@ recovered_at tells settings sequences streams old new asked s d h =
       has_closed = fresh.has_closed ∙ and_none (slice_index sequences s);
       has_sealed = sym (sealed_is streams s d (subst (λ (n : ℕ). s < n) (sym asked.sixteen) h));
       limits = ap (λ (kept : Cutting). kept.limits) fresh.cutter;
+      profile = ap (λ (kept : Cutting). kept.profile) fresh.cutter;
     }
 
 pub zeros_at : (n s : ℕ) → slice_index (replicate n 0) s ≡ 0
@@ -73,6 +74,7 @@ at_self tells settings closed sealed items streams shelf sixteen at s d h = reco
   has_closed = (at s d h).has_closed;
   has_sealed = sym (sealed_is streams s d (subst (λ (n : ℕ). s < n) (sym sixteen) h));
   limits = (at s d h).limits;
+  profile = (at s d h).profile;
 }
 
 pub sealed_same : {A : Type 0} (tells : Ghosts A) (settings : Settings) (closed sealed : ℕ → ℕ) (items : List Item)

@@ -5,16 +5,17 @@ use Rattle.std.proofs.lemmas.List.{append-nil, drop-append-le}
 use Rattle.std.proofs.lemmas.List.Elements.{All-cons, All-nil}
 use Rattle.std.proofs.Math.Seq.{drop-length}
 use Rattle.area_disk.specs.Disk.{overwritten}
-use Rattle.cdr_file.specs.CdrFile.{FiledRecord, cdr_length, cdr_octets}
+use Rattle.cdr_file.specs.CdrFile.{FiledRecord, cdr_length, cdr_octets, header_length}
 use Rattle.cdr_file.specs.Laws.{length-cdr_octets}
+use Rattle.cdr_file.specs.declared.filed_kind.FiledKind.{FiledKind}
 use Rattle.cdr_file.specs.declared.run.RunFacts.{RunFacts}
 use Rattle.cdr_shelf.specs.Files.{IsFresh, SealedFile, UnsealedFile, greatest_in, number_in, sealed_as}
 use Rattle.cdr_shelf.specs.declared.file_name.FileName.{FileName}
 use Rattle.cdr_shelf.specs.declared.shelf.Shelf.{Ghosts}
-use Rattle.cdr_shelf.specs.Steps.{StepsAt, TakesWrite, synced, written}
+use Rattle.cdr_shelf.specs.Steps.{StepsAt, TakesWrite, begun, synced, written}
 use Rattle.file_writer.specs.Calls.{Call, unless_sealed}
 use Rattle.file_writer.specs.Making.{Ending, Makes}
-use Rattle.file_writer.specs.Writing.{HasLength, IsBegun, IsOpenAt, appended, body_behind, body_length, body_of, grown_facts}
+use Rattle.file_writer.specs.Writing.{HasLength, IsBegun, IsOpenAt, appended, body_behind, body_length, body_of, grown_facts, kind_with}
 use Rattle.file_writer.proofs.StreamsLemmas.{drop_nothing}
 
 zero_plus : (n : ℕ) → 0 + n ≡ n
@@ -93,14 +94,15 @@ abbrev pub named_file : FileName → List ℕ → SealedFile
 named_file own octets = record { name = own; octets = octets }
 
 -- the header is written again, and the file is synced
-pub sealed_of : (name : FileName) (n : ℕ) (header : List ℕ) (u v w : Option UnsealedFile) → IsOpenAt name n u
-    → length header ≡ 52
-    → v ≡ written 0 header u → w ≡ synced v → sealed_as w ≡ record { name = name; octets = header ++ body_of u } ∷ []
-sealed_of name n header None v w h long e f = absurd h
-sealed_of name n header (Some file) v w h long e f =
+pub sealed_of : (name : FileName) (kind : FiledKind) (n : ℕ) (header : List ℕ) (u v w : Option UnsealedFile)
+    → IsOpenAt name kind n u → length header ≡ header_length kind
+    → v ≡ written 0 header u → w ≡ synced v
+    → sealed_as w ≡ record { name = name; octets = header ++ body_of kind u } ∷ []
+sealed_of name kind n header None v w h long e f = absurd h
+sealed_of name kind n header (Some file) v w h long e f =
     ap sealed_as (f ∙ ap synced e)
     ∙ ap (λ (m : ℕ). named_file file.name (header ++ drop m file.octets) ∷ []) (zero_plus (length header) ∙ long)
-    ∙ ap (λ (own : FileName). named_file own (header ++ drop 52 file.octets) ∷ []) h.0
+    ∙ ap (λ (own : FileName). named_file own (header ++ drop (header_length kind) file.octets) ∷ []) h.0
 
 -- ---- names
 
@@ -133,45 +135,66 @@ is_fresh s closed sealed files h k = fresh_above s (closed + 1) files (omega ari
 
 -- ---- a record more
 
-pub begun_at : (name : FileName) (u : Option UnsealedFile) → IsOpenAt name 0 u → IsOpenAt name 0 u × (body_of u ≡ [])
-begun_at name None h = absurd h
-begun_at name (Some f) h = (h, ap (λ (n : ℕ). drop n f.octets) (sym (h.1 ∙ same_header)) ∙ drop-length f.octets)
-  where
-    same_header : 52 + 0 ≡ 52
-    same_header = refl
+and_none : (n : ℕ) → n + 0 ≡ n
+and_none n = omega arith
 
-pub none_begun : (name : FileName) (growing : Option RunFacts) (old new : Option UnsealedFile) → growing ≡ None
-    → IsOpenAt name 0 new → IsBegun name growing old new
-none_begun name growing old new e h = subst (λ (before : Option RunFacts). IsBegun name before old new) (sym e)
-    (begun_at name new h)
+-- a header at the front of a file that was begun
+pub opened_at : (name : FileName) (kind : FiledKind) (header : List ℕ) (old mid new : Option UnsealedFile)
+    → mid ≡ begun name old → new ≡ written 0 header mid → length header ≡ header_length kind
+    → IsOpenAt name kind 0 new
+opened_at name kind header old mid new e f long =
+    subst (λ (u : Option UnsealedFile). IsOpenAt name kind 0 u) (sym (f ∙ ap (written 0 header) e)) (
+      refl,
+      ap (λ (xs : List ℕ). length xs) (overwritten-end [] header) ∙ long ∙ sym (and_none (header_length kind)),
+    )
 
-longer_by : (n m k l : ℕ) → k ≡ 52 + n → l ≡ k + m → l ≡ 52 + (n + m)
-longer_by n m k l e f = omega arith
+pub begun_at : (name : FileName) (kind : FiledKind) (u : Option UnsealedFile) → IsOpenAt name kind 0 u
+    → IsOpenAt name kind 0 u × (body_of kind u ≡ [])
+begun_at name kind None h = absurd h
+begun_at name kind (Some f) h =
+    (h, ap (λ (n : ℕ). drop n f.octets) (sym (h.1 ∙ and_none (header_length kind))) ∙ drop-length f.octets)
 
-pub grown_at : (name : FileName) (growing : Option RunFacts) (filed : FiledRecord) (old mid new : Option UnsealedFile)
-    → IsOpenAt name (body_length growing) mid → body_of mid ≡ body_behind growing old
-    → new ≡ appended (cdr_octets filed) mid
-    → IsOpenAt name (grown_facts growing filed).octets new × (body_of new ≡ body_behind growing old ++ cdr_octets filed)
-grown_at name growing filed old None new h e f = absurd h
-grown_at name growing filed old (Some file) new h e f =
-    let Q : Option UnsealedFile → Type 0 = λ u. IsOpenAt name (grown_facts growing filed).octets u
-    × (body_of u ≡ body_behind growing old ++ cdr_octets filed) in
+pub none_begun : (name : FileName) (kind : FiledKind) (growing : Option RunFacts) (old new : Option UnsealedFile)
+    → growing ≡ None → IsOpenAt name kind 0 new → IsBegun name kind growing old new
+none_begun name kind growing old new e h =
+    subst (λ (before : Option RunFacts). IsBegun name kind before old new) (sym e) (begun_at name kind new h)
+
+longer_by : (header n m k l : ℕ) → k ≡ header + n → l ≡ k + m → l ≡ header + (n + m)
+longer_by header n m k l e f = omega arith
+
+within : (header n m : ℕ) → m ≡ header + n → header ≤ m
+within header n m e = omega arith
+
+-- a record more at the end of a file of records of this kind
+more_at : (name : FileName) (kind : FiledKind) (n m : ℕ) (filed : FiledRecord) (body : List ℕ)
+    (mid new : Option UnsealedFile) → m ≡ n + cdr_length filed
+    → IsOpenAt name kind n mid → body_of kind mid ≡ body → new ≡ appended (cdr_octets filed) mid
+    → IsOpenAt name kind m new × (body_of kind new ≡ body ++ cdr_octets filed)
+more_at name kind n m filed body None new sum h e f = absurd h
+more_at name kind n m filed body (Some file) new sum h e f =
+    let Q : Option UnsealedFile → Type 0 = λ u. IsOpenAt name kind m u × (body_of kind u ≡ body ++ cdr_octets filed) in
     subst Q (sym f) (
       (
         h.0,
-        longer_by (body_length growing) (cdr_length filed) (length file.octets)
+        longer_by (header_length kind) n (cdr_length filed) (length file.octets)
             (length (file.octets ++ cdr_octets filed)) h.1
             (length-append file.octets (cdr_octets filed)
-            ∙ ap (λ (n : ℕ). length file.octets + n) (length-cdr_octets filed))
-            ∙ ap (λ (n : ℕ). 52 + n) (sym (octets_of growing filed)),
+            ∙ ap (λ (k : ℕ). length file.octets + k) (length-cdr_octets filed))
+            ∙ ap (λ (k : ℕ). header_length kind + k) (sym sum),
       ),
-      drop-append-le 52 file.octets (cdr_octets filed) (omega (arith, h.1))
+      drop-append-le (header_length kind) file.octets (cdr_octets filed) (within (header_length kind) n (length file.octets) h.1)
           ∙ ap (λ (octets : List ℕ). octets ++ cdr_octets filed) e,
     )
-  where
-    octets_of : (g : Option RunFacts) (r : FiledRecord) → (grown_facts g r).octets ≡ body_length g + cdr_length r
-    octets_of None r = sym (zero_plus (cdr_length r))
-    octets_of (Some run) r = refl
+
+pub grown_at : (name : FileName) (growing : Option RunFacts) (filed : FiledRecord) (old mid new : Option UnsealedFile)
+    → IsBegun name (grown_facts growing filed).kind growing old mid
+    → new ≡ appended (cdr_octets filed) mid
+    → IsOpenAt name (grown_facts growing filed).kind (grown_facts growing filed).octets new
+    × (body_of (grown_facts growing filed).kind new ≡ body_behind growing old ++ cdr_octets filed)
+grown_at name None filed old mid new h f =
+    more_at name filed.kind 0 (cdr_length filed) filed [] mid new (sym (zero_plus (cdr_length filed))) h.0 h.1 f
+grown_at name (Some run) filed old mid new h f =
+    more_at name run.kind run.octets (run.octets + cdr_length filed) filed (body_of run.kind old) mid new refl h.0 h.1 f
 
 pub not_sealed : (closed sealed : ℕ) → sealed < closed + 1 → nat_le (closed + 1) sealed ≡ false
 not_sealed closed sealed h = grind (arith, nat_tests)

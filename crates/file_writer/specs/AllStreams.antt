@@ -53,6 +53,7 @@ pub record StreamAt {A : Type 0} (tells : Ghosts A) (settings : Settings) (close
   pub has_closed : stream.file.closed ≡ closed s + closed_of settings s items
   pub has_sealed : stream.file.sealed ≡ sealed s
   pub limits : stream.cutter.limits ≡ settings.limits
+  pub profile : stream.cutter.profile ≡ settings.profile
 
 abbrev pub EachAt : {A : Type 0} → Ghosts A → Settings → (ℕ → ℕ) → (ℕ → ℕ) → (ℕ → List Item) → List Stream → A → Type 0
 EachAt tells settings closed sealed items streams shelf =
@@ -78,9 +79,9 @@ pub record Goes {A : Type 0} {T : Type 0} (tells : Ghosts A) (settings : Setting
   pub at : OnOk result (EachAt tells settings closed sealed items streams new)
 
 -- an item goes to one stream, as this record, and to no other
-pub record GoesTo (rules : List Rule) (item : Item) (s : ℕ) (filed : Filed (List ℕ)) : Type 0 where
-  pub here : stream_item rules s item ≡ Record filed ∷ []
-  pub others : (t : ℕ) → t ≢ s → stream_item rules t item ≡ []
+pub record GoesTo (profile : ℕ) (rules : List Rule) (item : Item) (s : ℕ) (filed : Filed (List ℕ)) : Type 0 where
+  pub here : stream_item profile rules s item ≡ Record filed ∷ []
+  pub others : (t : ℕ) → t ≢ s → stream_item profile rules t item ≡ []
 
 -- The first streams have taken an item, and the others haven't yet.
 pub record HasMarked {A : Type 0} (tells : Ghosts A) (file : FileSettings) (item : Item) (n : ℕ)

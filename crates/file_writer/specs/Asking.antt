@@ -20,16 +20,17 @@ pub record IsAsked {A : Type 0} (tells : Ghosts A) (failed : Bool) (old new : A)
       → (failed ≡ false) × IsArmed a (tells.plan new)
 
 -- A stream has no open file, and so many closed ones.
-pub record IsFreshStream (limits : Limits) (closed : ℕ) (stream : Stream) : Type 0 where
-  pub cutter : stream.cutter ≡ record { limits = limits; file = None }
+pub record IsFreshStream (limits : Limits) (profile closed : ℕ) (stream : Stream) : Type 0 where
+  pub cutter : stream.cutter ≡ record { limits = limits; profile = profile; file = None }
   pub growing : stream.file.growing ≡ None
   pub has_closed : stream.file.closed ≡ closed
 
 -- So many streams are fresh, and know what is sealed.
-pub record HasAsked {A : Type 0} (tells : Ghosts A) (limits : Limits) (sequences : List ℕ) (n : ℕ)
+pub record HasAsked {A : Type 0} (tells : Ghosts A) (limits : Limits) (profile : ℕ) (sequences : List ℕ) (n : ℕ)
     (streams : List Stream) (old new : A) : Type 0 where
   pub asked : IsAsked tells false old new
   pub sixteen : length streams ≡ stream_count
-  pub fresh : (s : ℕ) (d : Stream) → s < n → IsFreshStream limits (slice_index sequences s) (slice_index_or streams s d)
+  pub fresh : (s : ℕ) (d : Stream) → s < n
+      → IsFreshStream limits profile (slice_index sequences s) (slice_index_or streams s d)
   pub greatest : IsTrue tells.tells_files → (s : ℕ) (d : Stream) → s < n
       → (slice_index_or streams s d).file.sealed ≡ greatest_in s (tells.files old)

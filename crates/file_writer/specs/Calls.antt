@@ -70,7 +70,7 @@ calls_from settings s sealed closed run (item ∷ items) =
 abbrev pub stream_calls : Settings → (ℕ → ℕ) → (ℕ → ℕ) → List Item → List Item → ℕ → List Call
 stream_calls settings closed sealed before items s =
     calls_from settings s (sealed s) (closed s + closed_of settings s before)
-    (stream_division settings s before).left_open (stream_items settings.rules s items)
+    (stream_division settings s before).left_open (stream_items settings.profile settings.rules s items)
 
 -- those of the first streams for one item, stream after stream
 unfoldable pub calls_below : ℕ → Settings → (ℕ → ℕ) → (ℕ → ℕ) → List Item → Item → List Call

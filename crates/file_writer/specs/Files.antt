@@ -52,7 +52,8 @@ pub record AreFilesOf (settings : Settings) (items : List Item) (files : List Se
 -- how the run that items leave open is divided with more of them
 abbrev pub later_division : Settings → ℕ → List Item → List Item → Division (List ℕ)
 later_division settings s items more =
-    divided_from settings.limits (stream_division settings s items).left_open (stream_items settings.rules s more)
+    divided_from settings.limits (stream_division settings s items).left_open
+    (stream_items settings.profile settings.rules s more)
 
 -- the files of a stream that more items close behind those that the first ones close
 abbrev pub later_files : Settings → ℕ → List Item → List Item → List SealedFile

@@ -1,6 +1,7 @@
 -- How what is kept of a stream, and its file on the shelf, follow the items of the stream.
 use Rattle.std.specs.Prelude.{◌≡◌, ℕ, ◌+◌, ◌<◌, ◌≤◌, max, Bool, true, false, IsTrue, IfOk, List, Option, None, Some, Result}
-use Rattle.cdr_file.specs.CdrFile.{FileSettings, run_octets}
+use Rattle.cdr_file.specs.CdrFile.{FileSettings, header_length, run_octets}
+use Rattle.cdr_file.specs.Profile.{IsFiledKind}
 use Rattle.cdr_file.specs.declared.run.RunFacts.{RunFacts}
 use Rattle.cdr_shelf.specs.Files.{UnsealedFile, greatest_in}
 use Rattle.cdr_shelf.specs.declared.shelf.Shelf.{Ghosts}
@@ -9,7 +10,6 @@ use Rattle.file_rotate.specs.Division.{cuts_at, run_after}
 use Rattle.file_rotate.specs.Items.{AreLimits, Close, Filed, Tick}
 use Rattle.file_rotate.specs.Items as stream
 use Rattle.file_rotate.specs.declared.open_file.OpenFile.{OpenFile}
-use Rattle.gw_base.specs.CdrKind.{IsCdrKind}
 use Rattle.file_writer.specs.Calls.{calls_at, closed_by}
 use Rattle.file_writer.specs.Files.{run_records}
 use Rattle.file_writer.specs.Making.{Makes, ending_of}
@@ -23,7 +23,8 @@ abbrev pub Pairs : Option OpenFile → Option RunFacts → Type 0
 Pairs None None = Unit {0}
 Pairs None (Some run) = ⊥
 Pairs (Some file) None = ⊥
-Pairs (Some file) (Some run) = (file.octets ≡ 52 + run.octets) × (file.count ≡ run.count) × IsCdrKind run.kind
+Pairs (Some file) (Some run) =
+    (file.octets ≡ header_length run.kind + run.octets) × (file.count ≡ run.count) × IsFiledKind run.kind
 
 -- No later file of the stream is sealed, and the open one stands as it is kept.
 pub record IsUp {A : Type 0} (tells : Ghosts A) (s : ℕ) (file : Progress) (shelf : A) : Type 0 where
@@ -80,6 +81,7 @@ pub record HasTaken {A : Type 0} (tells : Ghosts A) (s : ℕ) (run : List (Filed
       (closed_by (cuts_at old.cutter.limits run item).before old.file.closed)
   pub sealed : new.file.sealed ≡ old.file.sealed
   pub limits : new.cutter.limits ≡ old.cutter.limits
+  pub profile : new.cutter.profile ≡ old.cutter.profile
 
 -- A stream takes an item by its calls.
 pub record Takes {A : Type 0} (tells : Ghosts A) (settings : FileSettings) (s : ℕ) (run : List (Filed (List ℕ)))

@@ -1,6 +1,6 @@
 -- What a shelf holds unsealed of the streams that items go to.
 use Rattle.std.specs.Prelude.{◌≡◌, ℕ, ◌+◌, ◌<◌, ◌≤◌, max, List, [], ◌∷◌, drop, Option, None, Some}
-use Rattle.cdr_file.specs.CdrFile.{run_octets}
+use Rattle.cdr_file.specs.CdrFile.{header_length, run_octets}
 use Rattle.cdr_shelf.specs.Files.{UnsealedFile}
 use Rattle.cdr_shelf.specs.declared.file_name.FileName.{FileName}
 use Rattle.file_rotate.specs.Items.{Filed}
@@ -14,7 +14,7 @@ abbrev pub IsOpenFile : FileName → List (Filed (List ℕ)) → Option Unsealed
 IsOpenFile name [] u = u ≡ None
 IsOpenFile name (first ∷ later) None = ⊥
 IsOpenFile name (first ∷ later) (Some f) =
-    (f.name ≡ name) × (drop 52 f.octets ≡ run_octets (run_records (first ∷ later)))
+    (f.name ≡ name) × (drop (header_length first.kind) f.octets ≡ run_octets (run_records (first ∷ later)))
 
 -- the unsealed file of a stream, of which so many files were closed before the first item, is the one that items leave
 -- open

@@ -28,7 +28,7 @@ nth_place s sequence (run ∷ later) n =
 
 -- how many records a stream has of some items
 abbrev pub records_to : Settings → ℕ → List Item → ℕ
-records_to settings s items = length (records_of (stream_items settings.rules s items))
+records_to settings s items = length (records_of (stream_items settings.profile settings.rules s items))
 
 -- the place of the record of a stream before which it has so many
 abbrev pub place_after : Settings → List Item → ℕ → ℕ → Option FilePlace
@@ -67,4 +67,4 @@ pub record HasPlace (settings : Settings) (items : List Item) (k : ℕ) (kind : 
   pub place : FilePlace
   pub found : place_in settings items k ≡ Some place
   pub stream : place.stream ≡ stream_of settings.rules tag kind.format
-  pub there : record_at settings items place ≡ Some (stream_record kind octets moment)
+  pub there : record_at settings items place ≡ Some (stream_record settings.profile kind octets moment)

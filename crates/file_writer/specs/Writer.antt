@@ -17,7 +17,12 @@ module _ {A : Type 0} {tells : Ghosts A} (writer : Writer A tells) where
   is_broken = writer.is_broken
 
   abbrev pub settings_in : Settings
-  settings_in = record { rules = writer.rules; limits = writer.limits; file = settings_of writer.gateway }
+  settings_in = record {
+    rules = writer.rules;
+    limits = writer.limits;
+    profile = writer.profile;
+    file = settings_of writer.gateway;
+  }
 
   -- how many items it has taken since it recovered, and the number of the first of them
   abbrev pub taken_of : ℕ

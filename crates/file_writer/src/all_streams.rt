@@ -90,7 +90,8 @@ fn put_one<F: Shelf>(
     requires length { length next.octets.now < 2 ^ 16 }
     ensures takes { (settings : Settings) (closed sealed : ℕ → ℕ) (before : List Item) (item : Item) →
         settings.file ≡ settings_of gateway.now →
-        GoesTo settings.rules item s (stream_record next.entry.kind next.entry.octets.now next.entry.moment) →
+        GoesTo settings.profile settings.rules item s
+        (stream_record settings.profile next.entry.kind next.entry.octets.now next.entry.moment) →
         AllAt F.Shelf settings closed sealed before streams.old shelf.old →
         Goes F.Shelf settings closed sealed (calls_below stream_count settings closed sealed before item)
         (λ t. before ++ item ∷ []) streams.new shelf.old shelf.new result }

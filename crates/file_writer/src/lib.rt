@@ -5,7 +5,7 @@
 //! its calls of the shelf the files that are sealed are the first of these, and at `Ok` they are all
 //! that the items close.
 //!
-//!     let mut writer = Writer::new(shelf, rules, limits, offset, address);
+//!     let mut writer = Writer::new(shelf, rules, limits, offset, address, profile);
 //!     writer.recover()?;
 //!     let taken = writer.advance(&items)?;
 #![tactic(auto)]

@@ -3,7 +3,7 @@ ghost use Rattle.std.specs.Prelude.{◌≡◌, ◌+◌, ◌-◌, ◌<◌, ◌^�
 ghost use Rattle.cdr_file.specs.CdrFile.{cdr_octets};
 ghost use Rattle.cdr_shelf.specs.Files.{IsFresh};
 ghost use Rattle.cdr_shelf.specs.Steps.{StepsAt};
-ghost use Rattle.gw_base.specs.CdrKind.{IsCdrKind};
+ghost use Rattle.cdr_file.specs.Profile.{IsFiledKind};
 ghost use Rattle.file_writer.specs.Calls.{Writes, Seals};
 ghost use Rattle.file_writer.specs.Making.{Makes, ending_of};
 ghost use Rattle.file_writer.specs.Writing.{IsOpenAt, OthersStay, appended, closed_file, settings_of, HasLength};
@@ -11,9 +11,10 @@ ghost use Rattle.file_writer.specs.Writing.{IsOpenAt, OthersStay, appended, clos
 use crate::fault::ShelfFault;
 use crate::gateway::Gateway;
 use crate::shelf_calls::{begin, seal, sync, write};
-use cdr_file::{CdrHeader, ClosureReason, RunFacts, cdr_header_length, run_header, write_cdr};
+use cdr_file::{
+    CdrHeader, ClosureReason, FiledKind, RunFacts, cdr_header_length, run_header, write_cdr,
+};
 use cdr_shelf::{FileName, Shelf};
-use gw_base::CdrKind;
 
 /// Begins a file, with a header that says its first record alone.
 pub(crate) fn begin_file<F: Shelf>(
@@ -23,9 +24,10 @@ pub(crate) fn begin_file<F: Shelf>(
     first: &RunFacts,
 ) -> Result<(), ShelfFault>
     requires fresh { IsTrue F.tells_files → IsFresh name (F.files shelf.old) }
-    requires kind { IsCdrKind first.now.kind }
+    requires kind { IsFiledKind first.now.kind }
     ensures makes { Makes F.Shelf (Writes ∷ Writes ∷ []) (ending_of result) shelf.old shelf.new }
-    ensures open { IsTrue F.tells_files → OnOk result (IsOpenAt name 0 (F.unsealed shelf.new name.stream)) }
+    ensures open { IsTrue F.tells_files →
+        OnOk result (IsOpenAt name first.now.kind 0 (F.unsealed shelf.new name.stream)) }
     ensures others { IsTrue F.tells_files →
         OnOk result (OthersStay name.stream (F.unsealed shelf.old) (F.unsealed shelf.new)) }
 {
@@ -37,7 +39,7 @@ pub(crate) fn begin_file<F: Shelf>(
         gateway.offset,
         gateway.address,
     );
-    write(shelf, name.stream, 0, &header)
+    write(shelf, name.stream, 0, header.octets())
 }
 
 /// Appends a record to the file of a stream, which has so many octets.
@@ -45,13 +47,13 @@ pub(crate) fn append_cdr<F: Shelf>(
     shelf: &mut F,
     stream: u8,
     at: u32,
-    kind: CdrKind,
+    kind: FiledKind,
     octets: &[u8],
 ) -> Result<(), ShelfFault>
     requires end { IsTrue F.tells_files → HasLength at (F.unsealed shelf.old stream) }
-    requires room { at + 4 < 2 ^ 32 }
+    requires room { at + 5 < 2 ^ 32 }
     requires length { length octets.now < 2 ^ 16 }
-    requires kind { IsCdrKind kind }
+    requires kind { IsFiledKind kind }
     ensures makes { Makes F.Shelf (Writes ∷ Writes ∷ []) (ending_of result) shelf.old shelf.new }
     ensures appended { IsTrue F.tells_files → OnOk result (StepsAt stream
         (appended (cdr_octets (record { kind = kind; octets = octets.now; moment = 0 })))
@@ -63,8 +65,9 @@ pub(crate) fn append_cdr<F: Shelf>(
         version: kind.version,
         format: kind.format,
         ts: 0,
+        extension: kind.extension,
     });
-    write(shelf, stream, at, &header)?;
+    write(shelf, stream, at, header.octets())?;
     write(shelf, stream, at + cdr_header_length(kind), octets)
 }
 
@@ -76,8 +79,8 @@ pub(crate) fn close_file<F: Shelf>(
     run: RunFacts,
     reason: ClosureReason,
 ) -> Result<(), ShelfFault>
-    requires open { IsTrue F.tells_files → IsOpenAt name run.octets (F.unsealed shelf.old name.stream) }
-    requires kind { IsCdrKind run.kind }
+    requires open { IsTrue F.tells_files → IsOpenAt name run.kind run.octets (F.unsealed shelf.old name.stream) }
+    requires kind { IsFiledKind run.kind }
     ensures makes { let file =
         closed_file (settings_of gateway.now) name reason (Some run) (F.unsealed shelf.old name.stream) in
         Makes F.Shelf (Writes ∷ Writes ∷ Seals file ∷ []) (ending_of result) shelf.old shelf.new }
@@ -86,7 +89,7 @@ pub(crate) fn close_file<F: Shelf>(
         OnOk result (OthersStay name.stream (F.unsealed shelf.old) (F.unsealed shelf.new)) }
 {
     let header = run_header(run, name.sequence, reason, gateway.offset, gateway.address);
-    write(shelf, name.stream, 0, &header)?;
+    write(shelf, name.stream, 0, header.octets())?;
     sync(shelf, name.stream)?;
     seal(shelf, name.stream)
 }

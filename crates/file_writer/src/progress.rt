@@ -1,13 +1,14 @@
 ghost use Rattle.std.specs.Prelude.{◌≡◌, ◌+◌, ◌-◌, ◌<◌, ◌≤◌, ◌^◌, IsTrue, IfOk, OnOk, length, max, false};
 ghost use Rattle.cdr_shelf.specs.Files.{IsFresh, greatest_in};
-ghost use Rattle.gw_base.specs.CdrKind.{IsCdrKind};
+ghost use Rattle.cdr_file.specs.CdrFile.{header_length};
+ghost use Rattle.cdr_file.specs.Profile.{IsFiledKind};
 ghost use Rattle.file_writer.specs.Making.{Makes, ending_of};
-ghost use Rattle.file_writer.specs.Writing.{ClosesOpen, HasKind, IsBounded, IsReady, OthersStay, StillOpen, appending_of, beginning_of, body_length, closed_progress, closing_of, filed_of, grown, grown_facts, IsBegun, IsGrown, ReadyWhere, settings_of};
+ghost use Rattle.file_writer.specs.Writing.{ClosesOpen, HasKind, IsBounded, IsReady, OthersStay, StillOpen, appending_of, beginning_of, body_length, closed_progress, closing_of, filed_of, grown, grown_facts, IsBegun, IsGrown, ReadyWhere, kind_with, settings_of};
 
 use crate::fault::ShelfFault;
 use crate::gateway::Gateway;
 use crate::one_file::{append_cdr, begin_file, close_file};
-use cdr_file::{ClosureReason, RunFacts, cdr_header_length, header_length};
+use cdr_file::{ClosureReason, FiledKind, RunFacts, cdr_header_length, header_length};
 use cdr_shelf::{FileName, Shelf};
 use gw_base::{CdrKind, Moment};
 
@@ -30,8 +31,21 @@ pub(crate) struct NextRecord<'a> {
     pub moment: Moment,
 }
 
+/// The same, its kind in the form of the file's profile.
+#[derive(Clone, Copy)]
+pub(crate) struct FormedRecord<'a> {
+    pub kind: FiledKind,
+    pub octets: &'a [u8],
+    pub moment: Moment,
+}
+
 /// What the header of a file is to say with one more record.
-fn with_record(growing: &Option<RunFacts>, kind: CdrKind, octets: &[u8], moment: Moment) -> RunFacts
+fn with_record(
+    growing: &Option<RunFacts>,
+    kind: FiledKind,
+    octets: &[u8],
+    moment: Moment,
+) -> RunFacts
     requires length { length octets.now < 2 ^ 16 }
     requires bounded { IsBounded growing.now }
     ensures { result ≡ grown_facts growing.now (filed_of kind octets.now moment) }
@@ -39,7 +53,7 @@ fn with_record(growing: &Option<RunFacts>, kind: CdrKind, octets: &[u8], moment:
     let octets = cdr_header_length(kind) as u64 + octets.len() as u64;
     match growing {
         None => RunFacts {
-            kind: kind,
+            kind,
             opened: moment,
             appended: moment,
             count: 1,
@@ -58,7 +72,8 @@ fn with_record(growing: &Option<RunFacts>, kind: CdrKind, octets: &[u8], moment:
 /// How many octets the open file of these records has.
 fn length_of(run: RunFacts) -> u32
     requires { run.octets < 2 ^ 32 - 2 ^ 17 }
-    ensures { result ≡ 52 + run.octets }
+    ensures length { result ≡ header_length run.kind + run.octets }
+    ensures most { result ≤ 54 + run.octets }
 {
     header_length(run.kind) + run.octets as u32
 }
@@ -73,11 +88,12 @@ fn end_of_file<F: Shelf>(
 ) -> Result<u32, ShelfFault>
     requires fresh { IsTrue F.tells_files → IsFresh name (F.files shelf.old) }
     requires ready { IsTrue F.tells_files → ReadyWhere false name growing (F.unsealed shelf.old name.stream) }
-    requires kind { IsCdrKind next.now.kind }
+    requires kind { IsFiledKind next.now.kind }
     requires bounded { IsBounded growing }
     ensures makes { Makes F.Shelf (beginning_of growing) (ending_of result) shelf.old shelf.new }
-    ensures end { IfOk result (λ at. at ≡ 52 + body_length growing) }
-    ensures stands { IsTrue F.tells_files → OnOk result (IsBegun name growing
+    ensures end { IfOk result (λ at. at ≡ header_length (kind_with growing next.now.kind) + body_length growing) }
+    ensures most { IfOk result (λ at. at ≤ 54 + body_length growing) }
+    ensures stands { IsTrue F.tells_files → OnOk result (IsBegun name next.now.kind growing
         (F.unsealed shelf.old name.stream) (F.unsealed shelf.new name.stream)) }
     ensures others { IsTrue F.tells_files →
         OnOk result (OthersStay name.stream (F.unsealed shelf.old) (F.unsealed shelf.new)) }
@@ -98,11 +114,11 @@ pub(crate) fn append<F: Shelf>(
     gateway: &Gateway,
     stream: u8,
     file: Progress,
-    next: NextRecord<'_>,
+    next: FormedRecord<'_>,
 ) -> Result<Progress, ShelfFault>
     requires fresh { IsTrue F.tells_files → greatest_in stream (F.files shelf.old) ≤ max file.closed file.sealed }
     requires ready { IsTrue F.tells_files → IsReady stream file (F.unsealed shelf.old stream) }
-    requires kind { IsCdrKind next.kind }
+    requires kind { IsFiledKind next.kind }
     requires length { length next.octets.now < 2 ^ 16 }
     requires bounded { IsBounded file.growing }
     requires few { file.closed + 1 < 2 ^ 32 }
@@ -120,7 +136,7 @@ pub(crate) fn append<F: Shelf>(
         closed,
         sealed,
     } = file;
-    let NextRecord {
+    let FormedRecord {
         kind,
         octets,
         moment,

@@ -9,7 +9,7 @@ ghost use Rattle.file_writer.specs.Writing.{settings_of, weight_of};
 
 use crate::fault::ShelfFault;
 use crate::gateway::Gateway;
-use crate::progress::{NextRecord, Progress, append, close};
+use crate::progress::{FormedRecord, NextRecord, Progress, append, close};
 use cdr_file::{ClosureReason, file_octets_law, run_facts_law};
 use cdr_shelf::Shelf;
 use file_rotate::{Cutter, cutter_keeps_the_run};
@@ -54,7 +54,7 @@ pub(crate) fn put<F: Shelf>(
     requires few { weight_of stream.file + 1 < 2 ^ 32 }
     ensures takes { (run : List (Filed (List ℕ))) → IsBehind F.Shelf s run stream shelf.old →
         Takes F.Shelf (settings_of gateway.now) s run
-        (Record (stream_record next.entry.kind next.entry.octets.now next.entry.moment))
+        (Record (stream_record stream.cutter.profile next.entry.kind next.entry.octets.now next.entry.moment))
         stream shelf.old shelf.new result }
     ensures safe { IfOk result (λ later. IsSafe F.Shelf s later shelf.new) }
     ensures few { IfOk result (λ later. weight_of later.file ≤ weight_of stream.file + 1) }
@@ -70,13 +70,13 @@ pub(crate) fn put<F: Shelf>(
         octets,
         moment,
     } = next;
-    let cut = cutter.put(kind, octets.len() as u16, moment);
-    let file = close(shelf, gateway, s, file, reason_of(cut.before))?;
-    let next = NextRecord {
-        kind,
+    let next = FormedRecord {
+        kind: cutter.kind(kind),
         octets,
         moment,
     };
+    let cut = cutter.put(kind, octets.len() as u16, moment);
+    let file = close(shelf, gateway, s, file, reason_of(cut.before))?;
     let file = append(shelf, gateway, s, file, next)?;
     let file = close(shelf, gateway, s, file, reason_of(cut.after))?;
     Ok(Stream { cutter, file })

@@ -1,5 +1,6 @@
 ghost use Rattle.std.specs.Prelude.{◌≡◌, ◌+◌, ◌-◌, ◌<◌, ◌^◌, ℕ, List, OnOk, IfErr, IfOk, All, true, false, is_err, length, min, slice_index};
 ghost use Rattle.std.proofs.Props.{props};
+ghost use Rattle.cdr_file.specs.Profile.{IsProfile};
 ghost use Rattle.file_rotate.specs.Items.{AreLimits};
 ghost use Rattle.gw_base.specs.declared.item.Item.{Item};
 ghost use Rattle.file_writer.specs.AllStreams.{IsFit};
@@ -34,6 +35,7 @@ pub struct Writer<F: Shelf> {
     pub(crate) shelf: F,
     rules: Rules,
     limits: Limits,
+    profile: u8,
     gateway: Gateway,
     streams: [Stream; 16],
     /// The number of the first item.
@@ -41,23 +43,37 @@ pub struct Writer<F: Shelf> {
     /// How many items were taken since.
     taken: u64,
     is_broken: bool,
-    ghost sound: { IsSound F.Shelf shelf limits streams taken is_broken } by { Prim.hlevel (Pairs-prop, ReadyWhere-prop, props) },
+    ghost sound: { IsSound F.Shelf shelf limits profile streams taken is_broken } by { Prim.hlevel (Pairs-prop, ReadyWhere-prop, props) },
 }
 
 impl<F: Shelf> Writer<F> {
     ghost use Rattle.file_writer.specs.Writer.{IsAt, first_of, is_broken, settings_in, shelf_of, taken_of};
 
-    /// A writer on a shelf, which is broken until it recovers. It makes no call of the shelf.
+    /// A writer on a shelf of files of profile 1 or 2, which is broken until it recovers. It makes no call of the
+    /// shelf.
     ///
     /// Of the limits, the size of a file is from 1 to 2^32 - 2^17 octets, the count of its records is at least 1, and
     /// the open time is in seconds. The offset is that of the gateway's clock from UTC, in minutes, and the address is
     /// its IPv4 address: the headers of files say them.
-    pub fn new(shelf: F, rules: Rules, limits: Limits, offset: Offset16, address: u32) -> Writer<F>
-        requires { AreLimits limits }
+    pub fn new(
+        shelf: F,
+        rules: Rules,
+        limits: Limits,
+        offset: Offset16,
+        address: u32,
+        profile: u8,
+    ) -> Writer<F>
+        requires limits { AreLimits limits }
+        requires profile { IsProfile profile }
         ensures broken { is_broken result ≡ true }
         ensures shelf { shelf_of result ≡ shelf }
         ensures settings { settings_in result ≡
-            record { rules = rules; limits = limits; file = record { offset = offset; address = address } } }
+            record {
+              rules = rules;
+              limits = limits;
+              profile = profile;
+              file = record { offset = offset; address = address };
+            } }
     {
         let file = Progress {
             growing: None,
@@ -65,13 +81,14 @@ impl<F: Shelf> Writer<F> {
             sealed: 0,
         };
         let stream = Stream {
-            cutter: Cutter::new(limits),
+            cutter: Cutter::new(limits, profile),
             file,
         };
         Writer {
             shelf,
             rules,
             limits,
+            profile,
             gateway: Gateway { offset, address },
             streams: [stream; 16],
             first: 0,
@@ -141,7 +158,13 @@ impl<F: Shelf> Writer<F> {
         ensures recovered { OnOk result (HasRecovered F.Shelf (λ s. slice_index sequences s) item self.old self.new) }
     {
         self.is_broken = true;
-        ask_all(&mut self.shelf, self.limits, &sequences, &mut self.streams)?;
+        ask_all(
+            &mut self.shelf,
+            self.limits,
+            self.profile,
+            &sequences,
+            &mut self.streams,
+        )?;
         self.first = item;
         self.taken = 0;
         self.is_broken = false;

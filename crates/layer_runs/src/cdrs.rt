@@ -4,23 +4,27 @@
 //! - `fields STAMP`: the fields of a timestamp.
 //! - `file SECONDS MINUTES ADDRESS RECORD`: the file of one record, of release 3, version 0 and format 1, that was filed
 //!   then and that an operator closed, at a gateway with this address; and its header as that of a run of records.
+//! - `file-2 SECONDS MINUTES ADDRESS VERSION`: the header of the file of one record of five octets, of this format
+//!   version and format 1, in profile 2; and the header of its CDR.
 //! - `file-head LENGTH HEADER HIGH HIGH-VERSION LOW LOW-VERSION REASON LOST REST`: the header of a file; REST is, in
 //!   hexadecimal, when it was opened and appended to, the count, the sequence number and the node's address.
 //! - `cdr-head LENGTH RELEASE VERSION FORMAT TS`: the header of a CDR.
 //! - `listed OCTETS`: what is listed of a file, its head, and then each CDR by itself; or its first fault.
 //! - `long LENGTH`: what is read of a file of one record of so many octets, of release 7, version 31 and format 7.
 
-ghost use Rattle.std.specs.Prelude.{◌≡◌, ◌<◌, ◌≤◌, ◌∷◌, [], length, pos, negsuc, IfOk};
+ghost use Rattle.std.specs.Prelude.{◌≡◌, ◌<◌, ◌≤◌, ◌∷◌, [], None, Some, length, pos, negsuc, IfOk};
 ghost use Rattle.cdr_file.specs.CdrFile.{file_octets};
+ghost use Rattle.cdr_file.specs.Profile.{in_profile};
 ghost use Rattle.cdr_file.specs.Timestamp.{stamp_of};
 
 use crate::words::{bad, first_word, no_memory, number, octets, print_octets};
 use byteorder::{BigEndian, ByteOrder};
 use cdr_file::{
-    CdrFile, CdrHeader, ClosureReason, FileHeader, Offset16, RunFacts, StampFields, cdr_line,
-    head_lines, node_address, read, run_header, stamp, write_cdr, write_header,
+    CdrFile, CdrHeader, ClosureReason, FileHeader, FiledKind, Offset16, RunFacts, StampFields,
+    cdr_header_length, cdr_line, head_lines, node_address, read, run_header, stamp, write_cdr,
+    write_header,
 };
-use gw_base::{CdrKind, GatewayId, Moment};
+use gw_base::{CdrKind, GatewayId, Moment, cdr_kind};
 use std::alloc::{AllocError, Global};
 use std::io;
 
@@ -43,16 +47,44 @@ const ONE_CDR: [u8; 61] = [
     0xA0, 0x03, 0x80, 0x01, 0x05,
 ];
 
-/// The definition gives these octets for this file.
+/// The same file of a record of release 7 and extension 1, in profile 2: an octet more for each release of the header,
+/// and one in the header of the CDR.
+const ONE_CDR_OF_PROFILE_2: [u8; 64] = [
+    0x00, 0x00, 0x00, 0x40, // file length
+    0x00, 0x00, 0x00, 0x36, // header length
+    0xE0, 0xE0, // high and low release 7, version 0
+    0x2E, 0x80, 0x08, 0x00, // opened
+    0x2E, 0x80, 0x08, 0x00, // appended to
+    0x00, 0x00, 0x00, 0x01, // one CDR
+    0x00, 0x00, 0x00, 0x01, // sequence number
+    0x04, // manual intervention
+    0x00, 0x00, 0x00, 0x00, 0x00, 0x00, 0x00, 0x00, 0x00, 0x00, // node address
+    0xFF, 0xFF, 0x0A, 0x00, 0x00, 0x01, 0x00, 0x00, 0x00, 0x00, //
+    0x00, // none lost
+    0x00, 0x00, 0x00, 0x00, // no routeing filter, no private extension
+    0x01, 0x01, // the extensions of the high and of the low release
+    0x00, 0x05, 0xE0, 0x20, 0x01, // five octets, release 7, version 0, format 1, extension 1
+    0xA0, 0x03, 0x80, 0x01, 0x05,
+];
+
+/// The definition gives these octets for these files.
 fn one_cdr_by_definition()
-    ensures { file_octets
+    ensures profile_1 { file_octets
         ((record {
-          kind = record { release = 3; version = 0; format = 1 };
+          kind = record { release = 3; version = 0; format = 1; extension = None };
           octets = 0xA0 ∷ 0x03 ∷ 0x80 ∷ 0x01 ∷ 0x05 ∷ [];
           moment = 1_709_164_800;
         }) ∷ [])
         1 ClosureReason.Manual (record { offset = pos 0; address = 0x0A00_0001 })
         ≡ ONE_CDR }
+    ensures profile_2 { file_octets
+        ((record {
+          kind = record { release = 7; version = 0; format = 1; extension = Some 1 };
+          octets = 0xA0 ∷ 0x03 ∷ 0x80 ∷ 0x01 ∷ 0x05 ∷ [];
+          moment = 1_709_164_800;
+        }) ∷ [])
+        1 ClosureReason.Manual (record { offset = pos 0; address = 0x0A00_0001 })
+        ≡ ONE_CDR_OF_PROFILE_2 }
 {}
 
 /// The definition gives these timestamps.
@@ -66,7 +98,7 @@ fn timestamps_by_definition()
     ensures a_minute_ahead { stamp_of 4_102_444_799 (pos 1) ≡ 0x1080_0801 }
 {}
 
-/// The octets of a file of one CDR that an operator closed, as plain code: its contract is the definition.
+/// The octets of a file of one CDR of profile 1 that an operator closed, as plain code: its contract is the definition.
 fn one_cdr_file(
     alloc: Global,
     kind: CdrKind,
@@ -80,7 +112,7 @@ fn one_cdr_file(
     requires format { kind.format < 8 }
     requires short { length octets.now < 65536 }
     ensures { IfOk result (λ file. file.items ≡ file_octets
-        ((record { kind = kind; octets = octets.now; moment = filed }) ∷ [])
+        ((record { kind = in_profile 1 kind; octets = octets.now; moment = filed }) ∷ [])
         1 ClosureReason.Manual (record { offset = offset; address = gateway.0 })) }
 {
     let stamp = stamp(filed, offset);
@@ -98,6 +130,8 @@ fn one_cdr_file(
         reason: ClosureReason::Manual.code(),
         address: node_address(gateway.0),
         lost: 0,
+        high_extension: None,
+        low_extension: None,
     };
     let cdr = CdrHeader {
         length: octets.len() as u16,
@@ -105,10 +139,13 @@ fn one_cdr_file(
         version: kind.version,
         format: kind.format,
         ts: 0,
+        extension: None,
     };
+    let header = write_header(&header);
+    let cdr = write_cdr(cdr);
     let mut file = Vec::new(alloc);
-    file.extend_from_slice(&write_header(&header))?;
-    file.extend_from_slice(&write_cdr(cdr))?;
+    file.extend_from_slice(header.octets())?;
+    file.extend_from_slice(cdr.octets())?;
     file.extend_from_slice(octets)?;
     Ok(file)
 }
@@ -155,22 +192,51 @@ pub(crate) fn file(rt: &HostRuntime, words: &str) -> io::Result<()> {
         release: 3,
         version: 0,
         format: 1,
+        extension: 0,
     };
     let gateway = GatewayId(address);
     let file = one_cdr_file(rt.alloc(), kind, &record, filed, offset, gateway)?;
     print_octets(rt, &file)?;
     print!(rt; ", ")?;
     let run = RunFacts {
-        kind,
+        kind: FiledKind::of(kind, 1),
         opened: filed,
         appended: filed,
         count: 1,
         octets: record.len() as u64 + 4,
     };
-    print_octets(
-        rt,
-        &run_header(run, 1, ClosureReason::Manual, offset, address),
-    )
+    let header = run_header(run, 1, ClosureReason::Manual, offset, address);
+    print_octets(rt, header.octets())
+}
+
+pub(crate) fn file_of_profile_2(rt: &HostRuntime, words: &str) -> io::Result<()> {
+    let (seconds, words) = first_word(words);
+    let (minutes, words) = first_word(words);
+    let filed = moment_of(seconds)?;
+    let offset = offset_of(minutes)?;
+    let (address, version) = first_word(words);
+    let address = number(address, 4_294_967_295)? as u32;
+    let version = number(version, 65_535)? as u16;
+    let kind = FiledKind::of(cdr_kind(1, version), 2);
+    let run = RunFacts {
+        kind,
+        opened: filed,
+        appended: filed,
+        count: 1,
+        octets: u64::from(cdr_header_length(kind)) + 5,
+    };
+    let header = run_header(run, 1, ClosureReason::Manual, offset, address);
+    print_octets(rt, header.octets())?;
+    print!(rt; ", ")?;
+    let header = write_cdr(CdrHeader {
+        length: 5,
+        release: kind.release,
+        version: kind.version,
+        format: kind.format,
+        ts: 0,
+        extension: kind.extension,
+    });
+    print_octets(rt, header.octets())
 }
 
 /// The number that the next word says, and the words behind it.
@@ -210,8 +276,11 @@ pub(crate) fn file_head(rt: &HostRuntime, words: &str) -> io::Result<()> {
         reason: reason as u8,
         address,
         lost: lost as u8,
+        high_extension: None,
+        low_extension: None,
     };
-    print_octets(rt, &write_header(&header))
+    let octets = write_header(&header);
+    print_octets(rt, octets.octets())
 }
 
 pub(crate) fn cdr_head(rt: &HostRuntime, words: &str) -> io::Result<()> {
@@ -225,8 +294,10 @@ pub(crate) fn cdr_head(rt: &HostRuntime, words: &str) -> io::Result<()> {
         version: version as u8,
         format: format as u8,
         ts: number(words, 31)? as u8,
+        extension: None,
     };
-    print_octets(rt, &write_cdr(header))
+    let octets = write_cdr(header);
+    print_octets(rt, octets.octets())
 }
 
 pub(crate) fn listed(rt: &HostRuntime, words: &str) -> io::Result<()> {
@@ -268,6 +339,7 @@ pub(crate) fn long(rt: &HostRuntime, words: &str) -> io::Result<()> {
         release: 7,
         version: 31,
         format: 7,
+        extension: 0,
     };
     let record = vec![in rt.alloc(); 0x5A_u8; length]?;
     let file = one_cdr_file(rt.alloc(), kind, &record, filed, offset, GatewayId(1))?;

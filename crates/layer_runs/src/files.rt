@@ -14,6 +14,9 @@ const MOST_SIZE: u64 = 4_294_836_224;
 
 const MOST_RECORDS: u64 = 4_294_967_295;
 
+/// The profile of the files.
+const PROFILE: u8 = 1;
+
 pub(crate) fn limits(rt: &HostRuntime, cutter: &mut Option<Cutter>, words: &str) -> io::Result<()> {
     let (size, words) = first_word(words);
     let (count, open_time) = first_word(words);
@@ -28,7 +31,7 @@ pub(crate) fn limits(rt: &HostRuntime, cutter: &mut Option<Cutter>, words: &str)
         count,
         open_time,
     };
-    *cutter = Some(Cutter::new(limits));
+    *cutter = Some(Cutter::new(limits, PROFILE));
     print!(rt; "{limits:?}")
 }
 
@@ -43,6 +46,7 @@ pub(crate) fn record(rt: &HostRuntime, cutter: &mut Option<Cutter>, words: &str)
         release: 3,
         version: 0,
         format: number(format, 7)? as u8,
+        extension: 0,
     };
     let length = number(length, 65_535)? as u16;
     let moment = moment_of(at)?;

@@ -145,6 +145,7 @@ fn answer_outside(rt: &HostRuntime, scene: &mut Scene, form: &str, words: &str) 
         "stamp" => cdrs::stamped(rt, words),
         "fields" => cdrs::fields(rt, words),
         "file" => cdrs::file(rt, words),
+        "file-2" => cdrs::file_of_profile_2(rt, words),
         "file-head" => cdrs::file_head(rt, words),
         "cdr-head" => cdrs::cdr_head(rt, words),
         "listed" => cdrs::listed(rt, words),

@@ -19,7 +19,7 @@ use Rattle.gw_base.specs.declared.history.HistoryEntry.{HistoryEntry}
 use Rattle.gw_base.specs.declared.tag.Tag.{Tag}
 use Rattle.route_filter.specs.Rules.{matches, stream_of}
 use Rattle.route_filter.specs.declared.rule.Rule.{Rule}
-use Rattle.once_core.specs.FilePlaces.{at_place, filed_item, filed_items, filed_items_by, filed_runs, goes_to, placed, streams_of}
+use Rattle.once_core.specs.FilePlaces.{as_filed, at_place, filed_item, filed_items, filed_items_by, filed_runs, goes_to, placed, streams_of}
 use Rattle.once_core.proofs.ListLemmas.{in_cons, in_head, in_none, in_tail}
 
 -- each record of some items stands once in the runs that they are divided into
@@ -149,10 +149,10 @@ all_in_runs (c ∷ closed) open_run =
 
 -- the records of a stream's files are those that go there
 pub in_runs : Divides → (settings : Settings) (s : ℕ) (h : List HistoryEntry)
-    → flat_map (λ (run : List (Filed FiledRecord)). run) (filed_runs settings s h) ≡ records_of (filter (goes_to settings s) (filed_items h))
+    → flat_map (λ (run : List (Filed FiledRecord)). run) (filed_runs settings s h) ≡ records_of (filter (goes_to settings s) (filed_items settings.profile h))
 in_runs divides settings s h =
-    let division = division_of settings.limits (filter (goes_to settings s) (filed_items h)) in
-    all_in_runs division.closed division.left_open ∙ divides settings.limits (filter (goes_to settings s) (filed_items h))
+    let division = division_of settings.limits (filter (goes_to settings s) (filed_items settings.profile h)) in
+    all_in_runs division.closed division.left_open ∙ divides settings.limits (filter (goes_to settings s) (filed_items settings.profile h))
 
 -- ---- how many records are such
 
@@ -244,36 +244,36 @@ module _ (p : FiledRecord → Bool) where
 
   -- ---- the records that a history files
 
-  records_so : (rs : List FiledRecord) → sum_by filed_so (records_of (map filed_item rs)) ≡ sum_by record_so rs
-  records_so [] = refl
-  records_so (r ∷ rs) =
-      sum_by-cons filed_so (record { kind = r.kind; octets = length r.octets; moment = r.moment; payload = r }) (records_of (map filed_item rs))
-      ∙ ap (λ (n : ℕ). record_so r + n) (records_so rs)
+  records_so : (profile : ℕ) (rs : List FiledRecord) → sum_by filed_so (records_of (map (filed_item profile) rs)) ≡ sum_by record_so rs
+  records_so profile [] = refl
+  records_so profile (r ∷ rs) =
+      sum_by-cons filed_so (as_filed profile r) (records_of (map (filed_item profile) rs))
+      ∙ ap (λ (n : ℕ). record_so r + n) (records_so profile rs)
       ∙ sym (sum_by-cons record_so r rs)
 
-  act_so : (before : List HistoryEntry) (moment : ℕ) (a : HistoryAct)
-      → sum_by filed_so (records_of (filed_items_by before moment a)) ≡ sum_by record_so (filed_by_act before moment a)
-  act_so before moment act.Start = refl
-  act_so before moment (act.Path n port counter) = refl
-  act_so before moment (act.File n x packet) = records_so (filed_by_act before moment (act.File n x packet))
-  act_so before moment (act.Hold n x packet) = refl
-  act_so before moment (act.Seal n x) = refl
-  act_so before moment (act.Release n xs) = records_so (filed_by_act before moment (act.Release n xs))
-  act_so before moment (act.Cancel n xs) = refl
-  act_so before moment act.Tick = refl
-  act_so before moment act.Close = refl
+  act_so : (profile : ℕ) (before : List HistoryEntry) (moment : ℕ) (a : HistoryAct)
+      → sum_by filed_so (records_of (filed_items_by profile before moment a)) ≡ sum_by record_so (filed_by_act before moment a)
+  act_so profile before moment act.Start = refl
+  act_so profile before moment (act.Path n port counter) = refl
+  act_so profile before moment (act.File n x packet) = records_so profile (filed_by_act before moment (act.File n x packet))
+  act_so profile before moment (act.Hold n x packet) = refl
+  act_so profile before moment (act.Seal n x) = refl
+  act_so profile before moment (act.Release n xs) = records_so profile (filed_by_act before moment (act.Release n xs))
+  act_so profile before moment (act.Cancel n xs) = refl
+  act_so profile before moment act.Tick = refl
+  act_so profile before moment act.Close = refl
 
-  abbrev items_at : List HistoryEntry → HistoryEntry → List (Item FiledRecord)
-  items_at before e = filed_items_by before e.moment e.act
+  abbrev items_at : ℕ → List HistoryEntry → HistoryEntry → List (Item FiledRecord)
+  items_at profile before e = filed_items_by profile before e.moment e.act
 
-  history_so : (before h : List HistoryEntry) → sum_by filed_so (records_of (along items_at before h)) ≡ sum_by record_so (along filed_by before h)
-  history_so before [] = refl
-  history_so before (e ∷ h) =
+  history_so : (profile : ℕ) (before h : List HistoryEntry) → sum_by filed_so (records_of (along (items_at profile) before h)) ≡ sum_by record_so (along filed_by before h)
+  history_so profile before [] = refl
+  history_so profile before (e ∷ h) =
       let later : List HistoryEntry = before ++ e ∷ [] in
-      ap (λ (rs : List (Filed FiledRecord)). sum_by filed_so rs) (records_append (items_at before e) (along items_at later h))
-      ∙ sum_by-append filed_so (records_of (items_at before e)) (records_of (along items_at later h))
-      ∙ ap (λ (n : ℕ). n + sum_by filed_so (records_of (along items_at later h))) (act_so before e.moment e.act)
-      ∙ ap (λ (n : ℕ). sum_by record_so (filed_by before e) + n) (history_so later h)
+      ap (λ (rs : List (Filed FiledRecord)). sum_by filed_so rs) (records_append (items_at profile before e) (along (items_at profile) later h))
+      ∙ sum_by-append filed_so (records_of (items_at profile before e)) (records_of (along (items_at profile) later h))
+      ∙ ap (λ (n : ℕ). n + sum_by filed_so (records_of (along (items_at profile) later h))) (act_so profile before e.moment e.act)
+      ∙ ap (λ (n : ℕ). sum_by record_so (filed_by before e) + n) (history_so profile later h)
       ∙ sym (sum_by-append record_so (filed_by before e) (along filed_by later h))
 
   pub placed_count : Divides → (settings : Settings) (h : List HistoryEntry)
@@ -281,9 +281,9 @@ module _ (p : FiledRecord → Bool) where
   placed_count divides settings h =
       spread (λ s. flat_map (stream_places s) (enumerate_from 1 (filed_runs settings s h))) (streams_of settings)
       ∙ ap (λ (f : ℕ → ℕ). sum_by f (streams_of settings)) (λ i s. each s i)
-      ∙ dealt settings (streams_of settings) (one_stream settings) (filed_items h)
-      ∙ history_so [] h
+      ∙ dealt settings (streams_of settings) (one_stream settings) (filed_items settings.profile h)
+      ∙ history_so settings.profile [] h
     where
       each : (s : ℕ) → sum_by placed_so (flat_map (stream_places s) (enumerate_from 1 (filed_runs settings s h)))
-          ≡ sum_by filed_so (records_of (filter (goes_to settings s) (filed_items h)))
+          ≡ sum_by filed_so (records_of (filter (goes_to settings s) (filed_items settings.profile h)))
       each s = runs_count s 1 (filed_runs settings s h) ∙ ap (λ (rs : List (Filed FiledRecord)). sum_by filed_so rs) (in_runs divides settings s h)

@@ -15,7 +15,7 @@ use Rattle.gw_base.specs.declared.history.HistoryAct.{HistoryAct}
 use Rattle.gw_base.specs.declared.history.HistoryAct.TheVariants as act
 use Rattle.gw_base.specs.declared.history.HistoryEntry.{HistoryEntry}
 use Rattle.route_filter.specs.Rules.{stream_of}
-use Rattle.once_core.specs.FilePlaces.{at_place, filed_item, filed_items, filed_items_by, filed_runs, goes_to, placed, streams_of}
+use Rattle.once_core.specs.FilePlaces.{as_filed, at_place, filed_item, filed_items, filed_items_by, filed_runs, goes_to, placed, streams_of}
 use Rattle.once_core.proofs.FileCountLemmas.{Divides, counted_there, in_runs, one_stream, records_append}
 use Rattle.once_core.proofs.FileRunLemmas.{plain, same_runs}
 use Rattle.once_core.proofs.ListLemmas.{get_contains, in_cons, in_head, in_none, in_tail}
@@ -67,10 +67,6 @@ get_map {A} {B} f xs k x e = slice_get-map f xs k ∙ ap (λ (o : Option A). opt
 
 -- ---- what goes to a stream was filed
 
--- a record as it is filed
-abbrev as_filed : FiledRecord → Filed FiledRecord
-as_filed r = record { kind = r.kind; octets = length r.octets; moment = r.moment; payload = r }
-
 stream_kept : (settings : Settings) (s : ℕ) (items : List (Item FiledRecord)) (r : Filed FiledRecord)
     → Contains (records_of (filter (goes_to settings s) items)) r
     → Contains (records_of items) r × (stream_of settings.rules r.payload.tag r.kind.format ≡ s)
@@ -96,44 +92,44 @@ stream_kept settings s (Record x ∷ items) r is =
         (λ others. let kept = later others in (in_tail x r (records_of items) kept.0, kept.1))
         (in_cons x r (records_of rest) there)
 
-of_records : (rs : List FiledRecord) (r : Filed FiledRecord) → Contains (records_of (map filed_item rs)) r → Contains rs r.payload × (r ≡ as_filed r.payload)
-of_records [] r is = absurd (in_none r is)
-of_records (x ∷ rs) r is = ⊎_elim
+of_records : (profile : ℕ) (rs : List FiledRecord) (r : Filed FiledRecord) → Contains (records_of (map (filed_item profile) rs)) r → Contains rs r.payload × (r ≡ as_filed profile r.payload)
+of_records profile [] r is = absurd (in_none r is)
+of_records profile (x ∷ rs) r is = ⊎_elim
     (λ same. (
       subst (λ (y : Filed FiledRecord). Contains (x ∷ rs) y.payload) same (in_head x rs),
-      subst (λ (y : Filed FiledRecord). y ≡ as_filed y.payload) same refl,
+      subst (λ (y : Filed FiledRecord). y ≡ as_filed profile y.payload) same refl,
     ))
-    (λ later. let there = of_records rs r later in (in_tail x r.payload rs there.0, there.1))
-    (in_cons (as_filed x) r (records_of (map filed_item rs)) is)
+    (λ later. let there = of_records profile rs r later in (in_tail x r.payload rs there.0, there.1))
+    (in_cons (as_filed profile x) r (records_of (map (filed_item profile) rs)) is)
 
-of_act : (before : List HistoryEntry) (moment : ℕ) (a : HistoryAct) (r : Filed FiledRecord) → Contains (records_of (filed_items_by before moment a)) r
-    → Contains (filed_by_act before moment a) r.payload × (r ≡ as_filed r.payload)
-of_act before moment act.Start r is = absurd (in_none r is)
-of_act before moment (act.Path n port counter) r is = absurd (in_none r is)
-of_act before moment (act.File n x packet) r is = of_records (filed_by_act before moment (act.File n x packet)) r is
-of_act before moment (act.Hold n x packet) r is = absurd (in_none r is)
-of_act before moment (act.Seal n x) r is = absurd (in_none r is)
-of_act before moment (act.Release n xs) r is = of_records (filed_by_act before moment (act.Release n xs)) r is
-of_act before moment (act.Cancel n xs) r is = absurd (in_none r is)
-of_act before moment act.Tick r is = absurd (in_none r is)
-of_act before moment act.Close r is = absurd (in_none r is)
+of_act : (profile : ℕ) (before : List HistoryEntry) (moment : ℕ) (a : HistoryAct) (r : Filed FiledRecord) → Contains (records_of (filed_items_by profile before moment a)) r
+    → Contains (filed_by_act before moment a) r.payload × (r ≡ as_filed profile r.payload)
+of_act profile before moment act.Start r is = absurd (in_none r is)
+of_act profile before moment (act.Path n port counter) r is = absurd (in_none r is)
+of_act profile before moment (act.File n x packet) r is = of_records profile (filed_by_act before moment (act.File n x packet)) r is
+of_act profile before moment (act.Hold n x packet) r is = absurd (in_none r is)
+of_act profile before moment (act.Seal n x) r is = absurd (in_none r is)
+of_act profile before moment (act.Release n xs) r is = of_records profile (filed_by_act before moment (act.Release n xs)) r is
+of_act profile before moment (act.Cancel n xs) r is = absurd (in_none r is)
+of_act profile before moment act.Tick r is = absurd (in_none r is)
+of_act profile before moment act.Close r is = absurd (in_none r is)
 
-abbrev items_at : List HistoryEntry → HistoryEntry → List (Item FiledRecord)
-items_at before e = filed_items_by before e.moment e.act
+abbrev items_at : ℕ → List HistoryEntry → HistoryEntry → List (Item FiledRecord)
+items_at profile before e = filed_items_by profile before e.moment e.act
 
-of_history : (before h : List HistoryEntry) (r : Filed FiledRecord) → Contains (records_of (along items_at before h)) r
-    → Contains (along filed_by before h) r.payload × (r ≡ as_filed r.payload)
-of_history before [] r is = absurd (in_none r is)
-of_history before (e ∷ h) r is =
+of_history : (profile : ℕ) (before h : List HistoryEntry) (r : Filed FiledRecord) → Contains (records_of (along (items_at profile) before h)) r
+    → Contains (along filed_by before h) r.payload × (r ≡ as_filed profile r.payload)
+of_history profile before [] r is = absurd (in_none r is)
+of_history profile before (e ∷ h) r is =
     let later : List HistoryEntry = before ++ e ∷ [] in ⊎_elim
     (λ here.
-    let there = of_act before e.moment e.act r here in
+    let there = of_act profile before e.moment e.act r here in
     (Contains-append_left (filed_by before e) (along filed_by later h) r.payload there.0, there.1))
     (λ rest.
-    let there = of_history later h r rest in
+    let there = of_history profile later h r rest in
     (Contains-append_right (filed_by before e) (along filed_by later h) r.payload there.0, there.1))
-    (Contains-append_cases (records_of (items_at before e)) (records_of (along items_at later h)) r
-    (subst (λ (rs : List (Filed FiledRecord)). Contains rs r) (records_append (items_at before e) (along items_at later h)) is))
+    (Contains-append_cases (records_of (items_at profile before e)) (records_of (along (items_at profile) later h)) r
+    (subst (λ (rs : List (Filed FiledRecord)). Contains rs r) (records_append (items_at profile before e) (along (items_at profile) later h)) is))
 
 -- ---- what stands at a place
 
@@ -182,12 +178,12 @@ is_at settings h place filing is =
 -- it went to the stream, and was filed
 in_stream : Divides → (settings : Settings) (s : ℕ) (h : List HistoryEntry) (k : ℕ) (run : List (Filed FiledRecord)) (i : ℕ) (r : Filed FiledRecord)
     → slice_get (filed_runs settings s h) k ≡ Some run → slice_get run i ≡ Some r
-    → (Contains (filed h) r.payload × (r ≡ as_filed r.payload)) × (stream_of settings.rules r.payload.tag r.kind.format ≡ s)
+    → (Contains (filed h) r.payload × (r ≡ as_filed settings.profile r.payload)) × (stream_of settings.rules r.payload.tag r.kind.format ≡ s)
 in_stream divides settings s h k run i r run_is is =
     let all : Contains (flat_map (λ (x : List (Filed FiledRecord)). x) (filed_runs settings s h)) r =
     in_flat_map (λ (x : List (Filed FiledRecord)). x) (filed_runs settings s h) run r (get_contains (filed_runs settings s h) k run run_is) (get_contains run i r is) in
-    let kept = stream_kept settings s (filed_items h) r (subst (λ (rs : List (Filed FiledRecord)). Contains rs r) (in_runs divides settings s h) all) in
-    (of_history [] h r kept.0, kept.1)
+    let kept = stream_kept settings s (filed_items settings.profile h) r (subst (λ (rs : List (Filed FiledRecord)). Contains rs r) (in_runs divides settings s h) all) in
+    (of_history settings.profile [] h r kept.0, kept.1)
 
 pub was_filed : Divides → (settings : Settings) (h : List HistoryEntry) (place : FilePlace) (filing : FiledRecord) → Contains (placed settings h) (place, filing)
     → Contains (filed h) filing
@@ -212,7 +208,7 @@ one_there settings h place one other is are = same_at settings h place one other
 
 -- the files of the history's items have it there
 stands_at : Divides → (settings : Settings) (h : List HistoryEntry) (place : FilePlace) (filing : FiledRecord) → IsAt settings h place filing
-    → record_at settings (items_of h) place ≡ Some (stream_record filing.kind filing.octets filing.moment)
+    → record_at settings (items_of h) place ≡ Some (stream_record settings.profile filing.kind filing.octets filing.moment)
 stands_at divides settings h place filing at =
     let was = in_stream divides settings place.stream h at.before at.run place.index at.found at.run_is at.found_is in
     let runs : List (List (Filed (List ℕ))) = map (map plain) (filed_runs settings place.stream h) in
@@ -221,10 +217,10 @@ stands_at divides settings h place filing at =
     ∙ ap (λ (o : Option (List (Filed (List ℕ)))). in_run place.index o) (get_map (map plain) (filed_runs settings place.stream h) at.before at.run at.run_is)
     ∙ get_map plain at.run place.index at.found at.found_is
     ∙ ap (λ (r : Filed FiledRecord). Some (plain r)) was.0.1
-    ∙ ap (λ (r : FiledRecord). Some (plain (as_filed r))) at.filing_is
+    ∙ ap (λ (r : FiledRecord). Some (plain (as_filed settings.profile r))) at.filing_is
 
 pub stands_there : Divides → (settings : Settings) (h : List HistoryEntry) (place : FilePlace) (filing : FiledRecord) → Contains (placed settings h) (place, filing)
-    → record_at settings (items_of h) place ≡ Some (stream_record filing.kind filing.octets filing.moment)
+    → record_at settings (items_of h) place ≡ Some (stream_record settings.profile filing.kind filing.octets filing.moment)
 stands_there divides settings h place filing is = stands_at divides settings h place filing (is_at settings h place filing is)
 
 -- and they have a record nowhere else

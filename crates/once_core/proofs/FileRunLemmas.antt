@@ -155,18 +155,18 @@ module _ (settings : Settings) (s : ℕ) where
   abbrev of_stream : List (Item FiledRecord) → List (Item (List ℕ))
   of_stream items = map plain_item (filter (goes_to settings s) items)
 
-  records_same : (rs : List FiledRecord) → flat_map (stream_item settings.rules s) (map part_of rs) ≡ of_stream (map filed_item rs)
+  records_same : (rs : List FiledRecord) → flat_map (stream_item settings.profile settings.rules s) (map part_of rs) ≡ of_stream (map (filed_item settings.profile) rs)
   records_same [] = refl
   records_same (r ∷ rs) = by (stream_of settings.rules r.tag r.kind.format == s) (records_same rs)
     where
-      by : (b : Bool) → flat_map (stream_item settings.rules s) (map part_of rs) ≡ of_stream (map filed_item rs)
-          → record_if b (stream_record r.kind r.octets r.moment) ++ flat_map (stream_item settings.rules s) (map part_of rs)
-          ≡ map plain_item (cond b (filed_item r ∷ filter (goes_to settings s) (map filed_item rs)) (filter (goes_to settings s) (map filed_item rs)))
-      by true rest = ap (λ (is : List (Item (List ℕ))). Record (stream_record r.kind r.octets r.moment) ∷ is) rest
+      by : (b : Bool) → flat_map (stream_item settings.profile settings.rules s) (map part_of rs) ≡ of_stream (map (filed_item settings.profile) rs)
+          → record_if b (stream_record settings.profile r.kind r.octets r.moment) ++ flat_map (stream_item settings.profile settings.rules s) (map part_of rs)
+          ≡ map plain_item (cond b (filed_item settings.profile r ∷ filter (goes_to settings s) (map (filed_item settings.profile) rs)) (filter (goes_to settings s) (map (filed_item settings.profile) rs)))
+      by true rest = ap (λ (is : List (Item (List ℕ))). Record (stream_record settings.profile r.kind r.octets r.moment) ∷ is) rest
       by false rest = rest
 
   act_same : (before : List HistoryEntry) (moment : ℕ) (a : HistoryAct)
-      → flat_map (stream_item settings.rules s) (items_by_act before moment a) ≡ of_stream (filed_items_by before moment a)
+      → flat_map (stream_item settings.profile settings.rules s) (items_by_act before moment a) ≡ of_stream (filed_items_by settings.profile before moment a)
   act_same before moment act.Start = refl
   act_same before moment (act.Path n port counter) = refl
   act_same before moment (act.File n x packet) = records_same (filed_by_act before moment (act.File n x packet))
@@ -178,14 +178,14 @@ module _ (settings : Settings) (s : ℕ) where
   act_same before moment act.Close = refl
 
   abbrev items_at : List HistoryEntry → HistoryEntry → List (Item FiledRecord)
-  items_at before e = filed_items_by before e.moment e.act
+  items_at before e = filed_items_by settings.profile before e.moment e.act
 
-  history_same : (before h : List HistoryEntry) → flat_map (stream_item settings.rules s) (along items_by before h) ≡ of_stream (along items_at before h)
+  history_same : (before h : List HistoryEntry) → flat_map (stream_item settings.profile settings.rules s) (along items_by before h) ≡ of_stream (along items_at before h)
   history_same before [] = refl
   history_same before (e ∷ h) =
       let later : List HistoryEntry = before ++ e ∷ [] in
-      flat_map-append (stream_item settings.rules s) (items_by before e) (along items_by later h)
-      ∙ ap (λ (is : List (Item (List ℕ))). is ++ flat_map (stream_item settings.rules s) (along items_by later h)) (act_same before e.moment e.act)
+      flat_map-append (stream_item settings.profile settings.rules s) (items_by before e) (along items_by later h)
+      ∙ ap (λ (is : List (Item (List ℕ))). is ++ flat_map (stream_item settings.profile settings.rules s) (along items_by later h)) (act_same before e.moment e.act)
       ∙ ap (λ (is : List (Item (List ℕ))). of_stream (items_at before e) ++ is) (history_same later h)
       ∙ sym (map-append plain_item (filter (goes_to settings s) (items_at before e)) (filter (goes_to settings s) (along items_at later h)))
       ∙ ap (λ (is : List (Item FiledRecord)). map plain_item is) (sym (filter-append (goes_to settings s) (items_at before e) (along items_at later h)))
@@ -195,4 +195,4 @@ pub same_runs : (settings : Settings) (s : ℕ) (h : List HistoryEntry)
     → runs_of (stream_division settings s (items_of h)) ≡ map (map plain) (filed_runs settings s h)
 same_runs settings s h =
     ap (λ (items : List (Item (List ℕ))). runs_of (division_of settings.limits items)) (history_same settings s [] h)
-    ∙ divided_same (λ (x : FiledRecord). x.octets) settings.limits [] (filter (goes_to settings s) (filed_items h))
+    ∙ divided_same (λ (x : FiledRecord). x.octets) settings.limits [] (filter (goes_to settings s) (filed_items settings.profile h))

@@ -3,6 +3,7 @@
 -- has all that it was filed with.
 use Rattle.std.specs.Prelude.{ℕ, ◌==◌, Bool, true, List, [], ◌∷◌, length, map, filter}
 use Rattle.std.specs.List.{enumerate_from, flat_map}
+use Rattle.cdr_file.specs.Profile.{in_profile}
 use Rattle.file_rotate.specs.Division.{division_of}
 use Rattle.file_rotate.specs.Items.{Filed, Item, Record, Tick, Close}
 use Rattle.file_writer.specs.Places.{FilePlace, runs_of}
@@ -15,17 +16,22 @@ use Rattle.gw_base.specs.declared.history.HistoryAct.TheVariants as act
 use Rattle.gw_base.specs.declared.history.HistoryEntry.{HistoryEntry}
 use Rattle.route_filter.specs.Rules.{stream_of}
 
-abbrev pub filed_item : FiledRecord → Item FiledRecord
-filed_item r = Record (record { kind = r.kind; octets = length r.octets; moment = r.moment; payload = r })
+-- a record as its stream has it, its kind in the form of a profile
+abbrev pub as_filed : ℕ → FiledRecord → Filed FiledRecord
+as_filed profile r =
+    record { kind = in_profile profile r.kind; octets = length r.octets; moment = r.moment; payload = r }
+
+abbrev pub filed_item : ℕ → FiledRecord → Item FiledRecord
+filed_item profile r = Record (as_filed profile r)
 
 -- what an act gives to the files: the records that it files, or a mark
-abbrev pub filed_items_by : List HistoryEntry → ℕ → HistoryAct → List (Item FiledRecord)
-filed_items_by before moment act.Tick = Tick moment ∷ []
-filed_items_by before moment act.Close = Close moment ∷ []
-filed_items_by before moment a = map filed_item (filed_by_act before moment a)
+abbrev pub filed_items_by : ℕ → List HistoryEntry → ℕ → HistoryAct → List (Item FiledRecord)
+filed_items_by profile before moment act.Tick = Tick moment ∷ []
+filed_items_by profile before moment act.Close = Close moment ∷ []
+filed_items_by profile before moment a = map (filed_item profile) (filed_by_act before moment a)
 
-abbrev pub filed_items : List HistoryEntry → List (Item FiledRecord)
-filed_items h = along (λ before e. filed_items_by before e.moment e.act) [] h
+abbrev pub filed_items : ℕ → List HistoryEntry → List (Item FiledRecord)
+filed_items profile h = along (λ before e. filed_items_by profile before e.moment e.act) [] h
 
 -- a record goes to the stream that the rules choose, and a mark to each
 abbrev pub goes_to : Settings → ℕ → Item FiledRecord → Bool
@@ -35,7 +41,8 @@ goes_to settings s (Close moment) = true
 
 -- the files of a stream, each with its records in order, and last the one that is still open
 abbrev pub filed_runs : Settings → ℕ → List HistoryEntry → List (List (Filed FiledRecord))
-filed_runs settings s h = runs_of (division_of settings.limits (filter (goes_to settings s) (filed_items h)))
+filed_runs settings s h =
+    runs_of (division_of settings.limits (filter (goes_to settings s) (filed_items settings.profile h)))
 
 -- the streams that the rules may choose, each once
 abbrev pub streams_of : Settings → List ℕ

@@ -41,6 +41,7 @@ abbrev pub some_files : Settings
 some_files = record {
   rules = [];
   limits = record { size = 4096; count = 1; open_time = 3600 };
+  profile = 1;
   file = record { offset = pos 0; address = 0 };
 }
 

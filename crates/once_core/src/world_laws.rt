@@ -123,7 +123,7 @@ pub fn what_stands_at_a_place_was_filed()
         Contains (placed settings h) (place, filing) → Contains (filed h) filing }
     ensures there { (settings : Settings) (h : List HistoryEntry) (place : FilePlace) (filing : FiledRecord) →
         Contains (placed settings h) (place, filing) → record_at settings (items_of h) place
-        ≡ Some (stream_record filing.kind filing.octets filing.moment) }
+        ≡ Some (stream_record settings.profile filing.kind filing.octets filing.moment) }
     ensures all { (settings : Settings) (h : List HistoryEntry) (place : FilePlace) (found : Filed (List ℕ)) →
         record_at settings (items_of h) place ≡ Some found →
         (filing : FiledRecord) × Contains (placed settings h) (place, filing) }

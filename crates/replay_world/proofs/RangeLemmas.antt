@@ -198,6 +198,11 @@ gateways_fine rules words l h =
     let within = between_ok 1 8 found.0 words found.1 in
     subst (IsFine rules) found.2 (plain rules (line.Gateways found.0) refl refl (within.0, omega (arith, within.1)))
 
+profile_fine : (rules : ℕ) (words : List (List ℕ)) (l : Line) → said_as line.Profile (one_between 1 2 words) ≡ Ok l → IsFine rules l
+profile_fine rules words l h =
+    let found = said_value line.Profile (one_between 1 2 words) l h in
+    subst (IsFine rules) found.2 (plain rules (line.Profile found.0) refl refl (between_ok 1 2 found.0 words found.1))
+
 limit_fine : (rules : ℕ) (what number : List ℕ) (l : Line) → limit_on what number ≡ Ok l → IsFine rules l
 limit_fine rules what number l h = by (bytes_eq what (codes "records")) (bytes_eq what (codes "size")) (bytes_eq what (codes "open")) h
   where
@@ -335,6 +340,7 @@ said_fine of keyword.End rules content words l shown h = word_fine rules line.En
 said_fine of keyword.Reserve rules content words l shown h = reserve_fine rules words l h
 said_fine of keyword.Limit rules content words l shown h = limits_fine rules words l h
 said_fine of keyword.Offset rules content words l shown h = offset_fine rules words l h
+said_fine of keyword.Profile rules content words l shown h = profile_fine rules words l h
 said_fine of keyword.Rule rules content words l shown h = rule_fine rules content words l shown h
 said_fine of keyword.Gateways rules content words l shown h = gateways_fine rules words l h
 said_fine of keyword.Nodes rules content words l shown h = value_fine rules line.Nodes (one_between 1 16 words) l (λ n. plain rules (line.Nodes n) refl refl tt) h

@@ -39,14 +39,14 @@ module _ (goes : DivisionGoesOn) (stay : ItemsStay) (settings : Settings) (s : �
   open_run items = (stream_division settings s items).left_open
 
   abbrev open_from : List (Filed (List ℕ)) → List Item → List (Filed (List ℕ))
-  open_from run items = (divided_from settings.limits run (stream_items settings.rules s items)).left_open
+  open_from run items = (divided_from settings.limits run (stream_items settings.profile settings.rules s items)).left_open
 
   open_then : (items more : List Item) → open_run (items ++ more) ≡ open_from (open_run items) more
   open_then items more =
       ap (λ (xs : List (stream.Item (List ℕ))). (divided_from settings.limits [] xs).left_open)
-      (flat_map-append (stream_item settings.rules s) items more)
+      (flat_map-append (stream_item settings.profile settings.rules s) items more)
       ∙ ap (λ (d : Division (List ℕ)). d.left_open)
-      (goes settings.limits [] (stream_items settings.rules s items) (stream_items settings.rules s more))
+      (goes settings.limits [] (stream_items settings.profile settings.rules s items) (stream_items settings.profile settings.rules s more))
 
   -- after one more entry
   by_act : (h : List HistoryEntry) (due : Bool) (run : List (Filed (List ℕ))) (moment : ℕ) (a : HistoryAct) →

@@ -73,6 +73,7 @@ idle_line s t v (line.LimitRecords count) gateways nodes idle = record { allowed
 idle_line s t v (line.LimitSize size) gateways nodes idle = record { allowed = refl; turns = refl; after = refl; moment = refl; stopped = refl; gateways = gateways; nodes = nodes }
 idle_line s t v (line.LimitOpen seconds) gateways nodes idle = record { allowed = refl; turns = refl; after = refl; moment = refl; stopped = refl; gateways = gateways; nodes = nodes }
 idle_line s t v (line.Offset minutes) gateways nodes idle = record { allowed = refl; turns = refl; after = refl; moment = refl; stopped = refl; gateways = gateways; nodes = nodes }
+idle_line s t v (line.Profile profile) gateways nodes idle = record { allowed = refl; turns = refl; after = refl; moment = refl; stopped = refl; gateways = gateways; nodes = nodes }
 idle_line s t v (line.Rule text) gateways nodes idle = record { allowed = refl; turns = refl; after = refl; moment = refl; stopped = refl; gateways = gateways; nodes = nodes }
 idle_line s t v (line.Gateways count) gateways nodes idle = record { allowed = refl; turns = refl; after = refl; moment = refl; stopped = refl; gateways = refl; nodes = nodes }
 idle_line s t v (line.Nodes count) gateways nodes idle = record { allowed = refl; turns = refl; after = refl; moment = refl; stopped = refl; gateways = gateways; nodes = refl }
@@ -103,6 +104,7 @@ setting_stays t (line.LimitRecords count) h = absurd (cc)
 setting_stays t (line.LimitSize size) h = absurd (cc)
 setting_stays t (line.LimitOpen seconds) h = absurd (cc)
 setting_stays t (line.Offset minutes) h = absurd (cc)
+setting_stays t (line.Profile profile) h = absurd (cc)
 setting_stays t (line.Rule text) h = absurd (cc)
 setting_stays t (line.Gateways count) h = absurd (cc)
 setting_stays t (line.Nodes count) h = absurd (cc)

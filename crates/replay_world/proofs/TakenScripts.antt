@@ -226,6 +226,7 @@ module _ (s : Scene) (v : ReplayValue) (is : IsAsSaid s v) where
   line_taken (line.LimitSize size) action there = absurd (cc)
   line_taken (line.LimitOpen seconds) action there = absurd (cc)
   line_taken (line.Offset minutes) action there = absurd (cc)
+  line_taken (line.Profile profile) action there = absurd (cc)
   line_taken (line.Rule text) action there = absurd (cc)
   line_taken (line.Gateways count) action there = absurd (cc)
   line_taken (line.Nodes count) action there = absurd (cc)

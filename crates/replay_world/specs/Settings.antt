@@ -1,6 +1,7 @@
 -- The settings of a replay as its code has them, and what the grammar of scripts makes sure of them.
 use Rattle.std.specs.Prelude.{◌≡◌, ◌≤◌, ◌^◌, ◌-◌, List, [], length, All, IsSome, IsUtf8}
 use Rattle.std.specs.List.{flat_map}
+use Rattle.cdr_file.specs.Profile.{IsProfile}
 use Rattle.file_rotate.specs.Items.{AreLimits}
 use Rattle.gate_journal.specs.Format.{fewest_octets, most_octets}
 use Rattle.jiff_core.specs.Calendar.{IsWithin}
@@ -18,6 +19,7 @@ IsInRange (line.Reserve length) = (fewest_octets ≤ length) × (length ≤ most
 IsInRange (line.LimitRecords count) = 1 ≤ count
 IsInRange (line.LimitSize size) = (1 ≤ size) × (size ≤ 2 ^ 32 - 2 ^ 17)
 IsInRange (line.Offset minutes) = IsWithin 959 minutes
+IsInRange (line.Profile profile) = IsProfile profile
 IsInRange (line.Rule text) = IsSome (rule_of text) × IsUtf8 text
 IsInRange (line.Gateways count) = (1 ≤ count) × (count ≤ 255)
 IsInRange _ = Unit {0}
@@ -40,11 +42,13 @@ pub record AreSet (setup : Setup) (s : Settings) : Type 0 where
   pub size : setup.size ≡ s.size
   pub limits : setup.limits ≡ s.limits
   pub offset : setup.offset ≡ s.offset
+  pub profile : setup.profile ≡ s.profile
 
--- The area isn't too short or too long, files have limits, and there is a gateway.
+-- The area isn't too short or too long, files have limits and a profile, and there is a gateway.
 pub record AreSound (s : Settings) : Type 0 where
   pub long : fewest_octets ≤ s.size
   pub short : s.size ≤ most_octets
   pub limits : AreLimits s.limits
+  pub profile : IsProfile s.profile
   pub some : 1 ≤ s.gateways
   pub most : s.gateways ≤ 255

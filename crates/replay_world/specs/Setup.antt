@@ -17,21 +17,29 @@ use Rattle.world_script.specs.declared.line.Line.{Line}
 use Rattle.world_script.specs.declared.line.Line.TheVariants as line
 
 -- how many gateways and nodes there are, how many octets each gateway's journal has, and what decides the gateways'
--- files: the limits, the offset of local time from UTC in minutes, and the rules
+-- files: the limits, the offset of local time from UTC in minutes, the profile, and the rules
 pub record Setup : Type 0 where
   pub gateways : ℕ
   pub nodes : ℕ
   pub size : ℕ
   pub limits : Limits
   pub offset : ℤ
+  pub profile : ℕ
   pub rules : List Rule
 
 abbrev pub default_limits : Limits
 default_limits = record { size = 1048576; count = 1000; open_time = default_open_time }
 
 abbrev pub default_setup : Setup
-default_setup =
-    record { gateways = 1; nodes = 1; size = default_size; limits = default_limits; offset = pos 0; rules = [] }
+default_setup = record {
+  gateways = 1;
+  nodes = 1;
+  size = default_size;
+  limits = default_limits;
+  offset = pos 0;
+  profile = 1;
+  rules = [];
+}
 
 -- the rule that a line says
 abbrev pub rules_said : List ℕ → List Rule
@@ -44,6 +52,7 @@ after_setting s (line.LimitRecords count) = record s { limits = record s.limits 
 after_setting s (line.LimitSize size) = record s { limits = record s.limits { size = size } }
 after_setting s (line.LimitOpen seconds) = record s { limits = record s.limits { open_time = seconds } }
 after_setting s (line.Offset minutes) = record s { offset = minutes }
+after_setting s (line.Profile profile) = record s { profile = profile }
 after_setting s (line.Rule text) = record s { rules = s.rules ++ rules_said text }
 after_setting s (line.Gateways count) = record s { gateways = count }
 after_setting s (line.Nodes count) = record s { nodes = count }
@@ -72,5 +81,6 @@ abbrev pub files_in : Setup → ℕ → Settings
 files_in s place = record {
   rules = s.rules;
   limits = s.limits;
+  profile = s.profile;
   file = record { offset = s.offset; address = (gateway_address place).ip };
 }

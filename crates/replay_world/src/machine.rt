@@ -128,7 +128,14 @@ impl Machine {
         let Ok(shelf) = MemoryShelf::new(alloc, plan) else {
             return Err(NoMemory);
         };
-        let writer = Writer::new(shelf, rules, settings.limits, settings.offset, address);
+        let writer = Writer::new(
+            shelf,
+            rules,
+            settings.limits,
+            settings.offset,
+            address,
+            settings.profile,
+        );
         let files = Files::new(writer);
         Ok(Machine {
             setup,

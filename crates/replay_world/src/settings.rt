@@ -24,6 +24,8 @@ pub struct Settings {
     pub limits: Limits,
     /// How far a gateway's clock is ahead of UTC.
     pub offset: Offset16,
+    /// The profile of the files, 1 or 2.
+    pub profile: u8,
 }
 
 impl Settings {
@@ -54,6 +56,7 @@ impl Settings {
             size: 16_777_216,
             limits: first_limits(),
             offset: offset(0),
+            profile: 1,
         }
     }
 
@@ -70,6 +73,7 @@ impl Settings {
             Line::LimitSize { size } => self.limits.size = *size,
             Line::LimitOpen { seconds } => self.limits.open_time = *seconds,
             Line::Offset { minutes } => self.offset = offset(*minutes),
+            Line::Profile { profile } => self.profile = *profile,
             Line::Gateways { count } => self.gateways = *count,
             Line::Nodes { count } => self.nodes = *count,
             _ => {}

@@ -11,6 +11,7 @@ const KIND: CdrKind = CdrKind {
     release: 3,
     version: 0,
     format: 1,
+    extension: 0,
 };
 
 /// Sends a request, which is accepted.

@@ -17,6 +17,9 @@ use std::test::Fail;
 /// The gateway's address, 10.0.0.1.
 const ADDRESS: u32 = 0x0A00_0001;
 
+/// The profile of its files.
+const PROFILE: u8 = 1;
+
 /// The format versions of two kinds of records, of release 3 and of release 4.
 const RELEASE_3: u16 = 0x0600;
 
@@ -84,7 +87,7 @@ fn write(
     requires few { length items.now < 2 ^ 31 }
     requires fit { All IsFit items.now }
 {
-    let mut writer = Writer::new(shelf, rules, limits, offset, ADDRESS);
+    let mut writer = Writer::new(shelf, rules, limits, offset, ADDRESS, PROFILE);
     if let Err(fault) = writer.recover() {
         return (writer.into_shelf(), Err(fault));
     }

@@ -165,6 +165,8 @@ spoken of keyword.Reserve rules content words said other are h =
     ranged of keyword.Reserve line.Reserve 100 268435456 (omega arith) (λ m. refl) words said are h (λ r c. h)
 spoken of keyword.Limit rules content words said other are h = limit_spoken of words said are h
 spoken of keyword.Offset rules content words said other are h = offset_spoken of words said are h
+spoken of keyword.Profile rules content words said other are h =
+    ranged of keyword.Profile line.Profile 1 2 (omega arith) (λ m. refl) words said are h (λ r c. h)
 spoken of keyword.Rule rules content words said other are h = let no : ⊥ = cc in absurd no
 spoken of keyword.Gateways rules content words said other are h =
     ranged of keyword.Gateways line.Gateways 1 8 (omega arith) (λ m. refl) words said are h (λ r c. h)

@@ -44,7 +44,7 @@ shared_named word form h =
     is_named word (codes "at") form keyword.At _ refl (is_named word (codes "mark") form keyword.Mark _ refl (is_named word (codes "close") form keyword.Close _ refl
     (is_named word (codes "end") form keyword.End _ refl (is_named word (codes "reserve") form keyword.Reserve _ refl
     (is_named word (codes "limit") form keyword.Limit _ refl (is_named word (codes "offset") form keyword.Offset _ refl
-    (is_named word (codes "rule") form keyword.Rule _ refl (no_form word form)))))))) h
+    (is_named word (codes "profile") form keyword.Profile _ refl (is_named word (codes "rule") form keyword.Rule _ refl (no_form word form))))))))) h
 
 feed_named : (word : List ℕ) (form : Keyword) → feed_form word ≡ Some form → word ≡ name form
 feed_named word form h = is_named word (codes "in") form keyword.In _ refl (no_form word form) h
@@ -104,6 +104,7 @@ names_show keyword.End rest = refl
 names_show keyword.Reserve rest = refl
 names_show keyword.Limit rest = refl
 names_show keyword.Offset rest = refl
+names_show keyword.Profile rest = refl
 names_show keyword.Rule rest = refl
 names_show keyword.Gateways rest = refl
 names_show keyword.Nodes rest = refl

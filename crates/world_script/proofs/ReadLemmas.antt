@@ -122,6 +122,7 @@ said_acts of keyword.Settle rules content words h = word_acts line.Settle words 
 said_acts of keyword.Reserve rules content words h = absurd (cc)
 said_acts of keyword.Limit rules content words h = absurd (cc)
 said_acts of keyword.Offset rules content words h = absurd (cc)
+said_acts of keyword.Profile rules content words h = absurd (cc)
 said_acts of keyword.Rule rules content words h = absurd (cc)
 said_acts of keyword.Gateways rules content words h = absurd (cc)
 said_acts of keyword.Nodes rules content words h = absurd (cc)

@@ -21,6 +21,7 @@ shared_form word =
     else if bytes_eq word (codes "reserve") then Some keyword.Reserve
     else if bytes_eq word (codes "limit") then Some keyword.Limit
     else if bytes_eq word (codes "offset") then Some keyword.Offset
+    else if bytes_eq word (codes "profile") then Some keyword.Profile
     else if bytes_eq word (codes "rule") then Some keyword.Rule
     else None
 
@@ -59,9 +60,9 @@ abbrev pub form_in : ScriptKind → List ℕ → Option Keyword
 form_in script.Feed word = option_or (shared_form word) (feed_form word)
 form_in script.Replay word = option_or (shared_form word) (option_or (network_form word) (gateway_form word))
 
--- a line that isn't built yet: a new journal on a new area, and another profile of CDR files
+-- a line that isn't built yet: a new journal on a new area
 abbrev pub is_later : List ℕ → Bool
-is_later word = bytes_eq word (codes "renew") || bytes_eq word (codes "profile")
+is_later word = bytes_eq word (codes "renew")
 
 -- in a replay also: shelves that stop or fail, nodes with a journal of their own, standbys
 abbrev pub is_later_in_replay : List ℕ → Bool
@@ -88,6 +89,7 @@ abbrev pub is_setting : Keyword → Bool
 is_setting keyword.Reserve = true
 is_setting keyword.Limit = true
 is_setting keyword.Offset = true
+is_setting keyword.Profile = true
 is_setting keyword.Rule = true
 is_setting keyword.Gateways = true
 is_setting keyword.Nodes = true

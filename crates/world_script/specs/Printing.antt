@@ -72,6 +72,7 @@ line_text of (line.LimitRecords count) = one_number (codes "limit records") coun
 line_text of (line.LimitSize size) = one_number (codes "limit size") size
 line_text of (line.LimitOpen seconds) = one_number (codes "limit open") seconds
 line_text of (line.Offset minutes) = codes "offset" ++ words_text (offset_text minutes ∷ [])
+line_text of (line.Profile profile) = one_number (codes "profile") profile
 line_text of (line.Rule text) = text
 line_text of (line.Gateways count) = one_number (codes "gateways") count
 line_text of (line.Nodes count) = one_number (codes "nodes") count

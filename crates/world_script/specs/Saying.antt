@@ -156,6 +156,7 @@ said_by of keyword.End rules content words = word_said line.End words
 said_by of keyword.Reserve rules content words = said_as line.Reserve (one_between 100 268435456 words)
 said_by of keyword.Limit rules content words = limit_said words
 said_by of keyword.Offset rules content words = offset_said words
+said_by of keyword.Profile rules content words = said_as line.Profile (one_between 1 2 words)
 said_by of keyword.Rule rules content words = rule_said rules content words
 said_by of keyword.Gateways rules content words = said_as line.Gateways (one_between 1 8 words)
 said_by of keyword.Nodes rules content words = said_as line.Nodes (one_between 1 16 words)

@@ -34,6 +34,7 @@ is_setting_line (line.LimitRecords count) = true
 is_setting_line (line.LimitSize size) = true
 is_setting_line (line.LimitOpen seconds) = true
 is_setting_line (line.Offset minutes) = true
+is_setting_line (line.Profile profile) = true
 is_setting_line (line.Rule text) = true
 is_setting_line (line.Gateways count) = true
 is_setting_line (line.Nodes count) = true

@@ -40,6 +40,7 @@ takes s (line.LimitRecords count) = true
 takes s (line.LimitSize size) = true
 takes s (line.LimitOpen seconds) = true
 takes s (line.Offset minutes) = true
+takes s (line.Profile profile) = true
 takes s (line.Rule text) = true
 takes s (line.Gateways count) = true
 takes s (line.Nodes count) = true

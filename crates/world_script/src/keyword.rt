@@ -15,6 +15,7 @@ pub enum Keyword {
     Reserve,
     Limit,
     Offset,
+    Profile,
     Rule,
     Gateways,
     Nodes,
@@ -58,6 +59,7 @@ impl Keyword {
             Keyword::Reserve
                 | Keyword::Limit
                 | Keyword::Offset
+                | Keyword::Profile
                 | Keyword::Rule
                 | Keyword::Gateways
                 | Keyword::Nodes
@@ -98,6 +100,8 @@ fn shared_form(word: &[u8]) -> Option<Keyword>
         Some(Keyword::Limit)
     } else if word == b"offset".as_slice() {
         Some(Keyword::Offset)
+    } else if word == b"profile".as_slice() {
+        Some(Keyword::Profile)
     } else if word == b"rule".as_slice() {
         Some(Keyword::Rule)
     } else {
@@ -180,7 +184,7 @@ fn is_later_in(kind: ScriptKind, word: &[u8]) -> bool
 fn is_later(word: &[u8]) -> bool
     ensures { result ≡ is_later word.now }
 {
-    word == b"renew".as_slice() || word == b"profile".as_slice()
+    word == b"renew".as_slice()
 }
 
 fn is_later_in_replay(word: &[u8]) -> bool

@@ -28,6 +28,10 @@ pub enum Line {
     Offset {
         minutes: i16,
     },
+    /// The profile of CDR files, 1 or 2.
+    Profile {
+        profile: u8,
+    },
     /// A rule, as the whole line says it.
     Rule {
         text: Octets,

@@ -78,6 +78,7 @@ fn append_line(
         Line::LimitSize { size } => append_one(alloc, text, b"limit size", u64::from(*size)),
         Line::LimitOpen { seconds } => append_one(alloc, text, b"limit open", *seconds),
         Line::Offset { minutes } => append_offset(text, *minutes),
+        Line::Profile { profile } => append_one(alloc, text, b"profile", u64::from(*profile)),
         Line::Rule { text: rule } => append(text, rule.octets()),
         Line::Gateways { count } => append_one(alloc, text, b"gateways", u64::from(*count)),
         Line::Nodes { count } => append_one(alloc, text, b"nodes", u64::from(*count)),

@@ -131,6 +131,7 @@ fn is_setting(line: &Line) -> bool
             | Line::LimitSize { .. }
             | Line::LimitOpen { .. }
             | Line::Offset { .. }
+            | Line::Profile { .. }
             | Line::Rule { .. }
             | Line::Gateways { .. }
             | Line::Nodes { .. }

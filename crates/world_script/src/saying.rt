@@ -39,6 +39,9 @@ pub fn said_by(
         },
         Keyword::Limit => limit(words)?,
         Keyword::Offset => offset_line(words)?,
+        Keyword::Profile => Line::Profile {
+            profile: one_between(1, 2, words)? as u8,
+        },
         Keyword::Gateways => Line::Gateways {
             count: one_between(1, 8, words)? as u8,
         },

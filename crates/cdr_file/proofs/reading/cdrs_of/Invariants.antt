@@ -7,7 +7,7 @@ use Rattle.cdr_file.proofs.reading.cdrs_of.Given as goal
 abbrev pub invariant-loop-rest : goal.invariant-loop-rest
 invariant-loop-rest l =
     (length l.rest ≤ length l.octets)
-    × (all_in_front l.cdrs.items (cdrs_from (length l.octets - length l.rest) l.rest) ≡ cdrs_from l.start (drop l.start l.octets))
+    × (all_in_front l.cdrs.items (cdrs_from l.extends (length l.octets - length l.rest) l.rest) ≡ cdrs_from l.extends l.start (drop l.start l.octets))
 
 abbrev pub decreases-loop-rest : goal.decreases-loop-rest
 decreases-loop-rest l = length l.rest

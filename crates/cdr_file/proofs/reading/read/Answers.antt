@@ -19,19 +19,19 @@ returns-in_err-cdrs-clause-fault c =
     rw (exit.1, exit.2)
     (elim c.in_err-cdrs.ensures.fault [
       | inl memory ↦ inl memory
-      | inr found ↦ inr (cdrs_faulty _ _ _ (sym c.header_fault.ensures.fault ∙ none) c.header_of-header.ensures found)
+      | inr found ↦ inr (cdrs_faulty _ _ _ _ (sym c.header_fault.ensures.fault ∙ none) c.extends_in-extends.ensures c.header_of-header.ensures found)
     ])
 
 pub returns-then-len-header-clause-fault : goal.returns-then-len-header-clause-fault
 returns-then-len-header-clause-fault c =
     let none : c.header_fault.result ≡ None = search rules in
     rw c.bad.ensures
-    (inr (count_faulty _ c.header_of-header.result c.in_ok-cdrs.cdrs.items (sym c.header_fault.ensures.fault ∙ none) c.header_of-header.ensures c.in_ok-cdrs.ensures.cdrs
+    (inr (count_faulty _ _ c.header_of-header.result c.in_ok-cdrs.cdrs.items (sym c.header_fault.ensures.fault ∙ none) c.extends_in-extends.ensures c.header_of-header.ensures c.in_ok-cdrs.ensures.cdrs
     (λ same. absurd (omega (arith, same, c.if-len-header.true, c.len.ensures)))))
 
 pub returns : goal.returns
 returns c =
     let none : c.header_fault.result ≡ None = search rules in
-    let file = file_read _ _ _ _ _ (sym c.header_fault.ensures.fault ∙ none) c.header_of-header.ensures c.in_ok-cdrs.ensures.cdrs
+    let file = file_read _ _ _ _ _ _ (sym c.header_fault.ensures.fault ∙ none) c.extends_in-extends.ensures c.header_of-header.ensures c.in_ok-cdrs.ensures.cdrs
     (omega (arith, c.if-len-header.false, c.len.ensures)) c.in_ok-filter.ensures.0 c.in_ok-filter.ensures.1 in
     rw c.from_vec-cdrs.ensures (record { file = file; spelled = read_spells _ _ (λ k. omega (arith, c.type_inv.octets k)) file; fault = tt })

@@ -19,7 +19,7 @@ returns-clause-takes g c = λ settings closed sealed before same each.
     let x = mark_item c.args.closes c.args.moment in
     let stream : Stream = c.index-streams-s.result in
     let law = c.division_goes_on.ensures in
-    let goes = mark_stream_item settings.rules s c.args.closes c.args.moment in
+    let goes = mark_stream_item settings.profile settings.rules s c.args.closes c.args.moment in
     let at : StreamAt g.F.Shelf settings closed sealed before s stream c.args.shelf.now =
     subst (λ (st : Stream). StreamAt g.F.Shelf settings closed sealed before s st c.args.shelf.now)
     (sym c.index-streams-s.is)

@@ -10,7 +10,7 @@ returns-clause-takes g c = λ settings closed sealed before same rules at.
     let next = c.args.next in
     c.put_one.ensures.takes settings closed sealed before
     (part_of next.kind c.args.tag next.octets.now next.moment) same
-    (goes_to settings.rules next.kind c.args.tag next.octets.now next.moment c.stream-s.result
+    (goes_to settings.profile settings.rules next.kind c.args.tag next.octets.now next.moment c.stream-s.result
     (c.stream-s.ensures.stream
     ∙ ap (λ (rs : List Rule). stream_of rs c.args.tag next.kind.format) (sym rules)))
     at

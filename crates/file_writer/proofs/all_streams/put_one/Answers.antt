@@ -1,12 +1,12 @@
-use Rattle.std.proofs.Common.{ℕ, ◌<◌, List, [], ◌∷◌, ◌++◌, slice_index_or, sym, ap, ◌∙◌, subst}
+use Rattle.std.proofs.Common.{◌≡◌, ℕ, ◌<◌, List, [], ◌∷◌, ◌++◌, slice_index_or, sym, ap, ◌∙◌, subst}
 use Rattle.cdr_file.specs.CdrFile.{FileSettings}
 use Rattle.file_rotate.specs.Division.{cuts_at}
-use Rattle.file_rotate.specs.Items.{Record}
+use Rattle.file_rotate.specs.Items.{Item, Record}
 use Rattle.file_writer.specs.AllStreams.{StreamAt}
 use Rattle.file_writer.specs.Calls.{Call, calls_at, calls_below}
 use Rattle.file_writer.specs.Following.{IsLeft, IsSafe}
 use Rattle.file_writer.specs.Making.{Makes, Went, ending_at}
-use Rattle.file_writer.specs.Streams.{stream_count, stream_division, stream_record}
+use Rattle.file_writer.specs.Streams.{stream_count, stream_division, stream_item, stream_record}
 use Rattle.file_writer.specs.declared.stream.Stream.{Stream}
 use Rattle.file_writer.proofs.AllLemmas.{at_stays, calls_are, each_set, no_calls, not_taken, only_one, safe_stays, taken_at}
 use Rattle.file_writer.proofs.FollowingLemmas.{no_result}
@@ -17,18 +17,21 @@ use Rattle.file_writer.proofs.all_streams.put_one.Goals as goal
 pub returns-in_err-streams-clause-takes : goal.returns-in_err-streams-clause-takes
 returns-in_err-streams-clause-takes g c = λ settings closed sealed before item same goes each.
     let s : ℕ = c.args.s in
-    let x = Record (stream_record c.args.next.kind c.args.next.octets.now c.args.next.moment) in
     let stream : Stream = c.index-streams-s.result in
+    let filed_in : ℕ → Item (List ℕ) = λ profile. Record (stream_record profile c.args.next.kind c.args.next.octets.now c.args.next.moment) in
+    let x : Item (List ℕ) = filed_in stream.cutter.profile in
     let at : StreamAt g.F.Shelf settings closed sealed before s stream c.args.shelf.now =
     subst (λ (st : Stream). StreamAt g.F.Shelf settings closed sealed before s st c.args.shelf.now)
     (sym c.index-streams-s.is) (each s stream c.requires.within) in
+    let here : stream_item settings.profile settings.rules s item ≡ x ∷ [] =
+    goes.here ∙ ap (λ (profile : ℕ). filed_in profile ∷ []) (sym at.profile) in
     let run = (stream_division settings s before).left_open in
     let taken = c.in_err-streams.ensures.takes run at.behind in
     let law = c.division_goes_on.ensures in
     let calls =
     ap (λ (fs : FileSettings). calls_at fs s stream.file.sealed (cuts_at stream.cutter.limits run x)
     stream.file.closed run x) (sym same)
-    ∙ calls_are law g.F.Shelf settings closed sealed before item s x stream c.args.shelf.now goes.here at
+    ∙ calls_are law g.F.Shelf settings closed sealed before item s x stream c.args.shelf.now here at
     ∙ sym ((only_one settings closed sealed before item stream_count s
     (λ t other. no_calls law g.F.Shelf settings closed sealed before item t (goes.others t other))).1
     c.requires.within) in
@@ -43,18 +46,21 @@ returns-in_err-streams-clause-takes g c = λ settings closed sealed before item 
 pub returns-clause-takes : goal.returns-clause-takes
 returns-clause-takes g c = λ settings closed sealed before item same goes each.
     let s : ℕ = c.args.s in
-    let x = Record (stream_record c.args.next.kind c.args.next.octets.now c.args.next.moment) in
     let stream : Stream = c.index-streams-s.result in
+    let filed_in : ℕ → Item (List ℕ) = λ profile. Record (stream_record profile c.args.next.kind c.args.next.octets.now c.args.next.moment) in
+    let x : Item (List ℕ) = filed_in stream.cutter.profile in
     let at : StreamAt g.F.Shelf settings closed sealed before s stream c.args.shelf.now =
     subst (λ (st : Stream). StreamAt g.F.Shelf settings closed sealed before s st c.args.shelf.now)
     (sym c.index-streams-s.is) (each s stream c.requires.within) in
+    let here : stream_item settings.profile settings.rules s item ≡ x ∷ [] =
+    goes.here ∙ ap (λ (profile : ℕ). filed_in profile ∷ []) (sym at.profile) in
     let run = (stream_division settings s before).left_open in
     let taken = c.in_ok-streams.ensures.takes run at.behind in
     let law = c.division_goes_on.ensures in
     let calls =
     ap (λ (fs : FileSettings). calls_at fs s stream.file.sealed (cuts_at stream.cutter.limits run x)
     stream.file.closed run x) (sym same)
-    ∙ calls_are law g.F.Shelf settings closed sealed before item s x stream c.args.shelf.now goes.here at
+    ∙ calls_are law g.F.Shelf settings closed sealed before item s x stream c.args.shelf.now here at
     ∙ sym ((only_one settings closed sealed before item stream_count s
     (λ t other. no_calls law g.F.Shelf settings closed sealed before item t (goes.others t other))).1
     c.requires.within) in
@@ -63,7 +69,7 @@ returns-clause-takes g c = λ settings closed sealed before item same goes each.
       at = each_set (λ (t : ℕ) (st : Stream). StreamAt g.F.Shelf settings closed sealed (before ++ item ∷ []) t st
           c.put.new.shelf) c.args.streams.now s c.in_ok-streams.field-0
           (subst (λ (n : ℕ). s < n) (sym c.requires.sixteen) c.requires.within)
-          (taken_at law g.F.Shelf settings closed sealed before item s x stream c.in_ok-streams.field-0 _ _ goes.here
+          (taken_at law g.F.Shelf settings closed sealed before item s x stream c.in_ok-streams.field-0 _ _ here
           at taken.after)
           (λ t d other h.
           not_taken law g.F.Shelf settings closed sealed before item t (slice_index_or c.args.streams.now t d)

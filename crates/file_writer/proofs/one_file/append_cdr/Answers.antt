@@ -1,4 +1,5 @@
 use Rattle.std.proofs.Common.{◌≡◌, List, [], ◌∷◌, ℕ, length, ◌++◌, ap, sym, subst, ◌∙◌}
+use Rattle.cdr_file.specs.CdrFile.{cdr_header_length}
 use Rattle.cdr_file.specs.Laws.{length-cdr_header_octets}
 use Rattle.cdr_shelf.specs.Steps.{StepsAt}
 use Rattle.file_writer.specs.Calls.{Writes}
@@ -13,10 +14,11 @@ returns-in_err-write-clause-makes g c =
 
 pub write-requires-2-after_bounds : goal.write-requires-2-after_bounds
 write-requires-2-after_bounds g c within = λ told.
-    let long : length c.write_cdr-header.result ≡ 4 = ap (λ (xs : List ℕ). length xs) c.write_cdr-header.ensures
+    let long : length c.octets.result.now ≡ cdr_header_length c.args.kind =
+    ap (λ (xs : List ℕ). length xs) (c.octets.ensures.octets ∙ c.write_cdr-header.ensures)
     ∙ length-cdr_header_octets _ in
-    takes_end _ _ (has_longer c.args.at c.cdr_header_length.result c.write_cdr-header.result
-    (g.F.Shelf.unsealed c.args.shelf.now c.args.stream) _ (long ∙ sym c.cdr_header_length.ensures)
+    takes_end _ _ (has_longer c.args.at c.cdr_header_length.result c.octets.result.now
+    (g.F.Shelf.unsealed c.args.shelf.now c.args.stream) _ (long ∙ sym c.cdr_header_length.ensures.length)
     (c.requires.end told) (c.in_ok-write.ensures.written told).here)
 
 pub returns-clause-makes : goal.returns-clause-makes
@@ -25,15 +27,16 @@ returns-clause-makes g c = makes_then g.F.Shelf (Writes ∷ []) (Writes ∷ []) 
 
 pub returns-clause-appended : goal.returns-clause-appended
 returns-clause-appended g c = λ told.
-    let long : length c.write_cdr-header.result ≡ 4 = ap (λ (xs : List ℕ). length xs) c.write_cdr-header.ensures
+    let long : length c.octets.result.now ≡ cdr_header_length c.args.kind =
+    ap (λ (xs : List ℕ). length xs) (c.octets.ensures.octets ∙ c.write_cdr-header.ensures)
     ∙ length-cdr_header_octets _ in
     let steps : List ℕ
     → Type 0 = λ xs. StepsAt c.args.stream (appended (xs ++ c.args.octets.now))
     (g.F.Shelf.unsealed c.args.shelf.now) (g.F.Shelf.unsealed c.write-2.new.shelf) in
     on_ok c.write-2.result
-    (λ second. subst steps c.write_cdr-header.ensures
-    (written_both c.args.at c.cdr_header_length.result c.write_cdr-header.result c.args.octets.now
+    (λ second. subst steps (c.octets.ensures.octets ∙ c.write_cdr-header.ensures)
+    (written_both c.args.at c.cdr_header_length.result c.octets.result.now c.args.octets.now
     (g.F.Shelf.unsealed c.args.shelf.now) (g.F.Shelf.unsealed c.write.new.shelf)
     (g.F.Shelf.unsealed c.write-2.new.shelf) c.args.stream
-    (long ∙ sym c.cdr_header_length.ensures) (c.requires.end told) (c.in_ok-write.ensures.written told) second))
+    (long ∙ sym c.cdr_header_length.ensures.length) (c.requires.end told) (c.in_ok-write.ensures.written told) second))
     (c.write-2.ensures.written told)

@@ -1,6 +1,7 @@
-use Rattle.std.proofs.Common.{[], ◌∷◌}
+use Rattle.std.proofs.Common.{[], ◌∷◌, ℕ, List, length, ap, ◌∙◌}
 use Rattle.file_writer.specs.Calls.{Writes}
 use Rattle.file_writer.proofs.MakingLemmas.{makes_then, stopped_at}
+use Rattle.file_writer.proofs.WritingLemmas.{on_ok, opened_at}
 use Rattle.file_writer.proofs.one_file.begin_file.Goals as goal
 
 pub returns-in_err-begin-clause-makes : goal.returns-in_err-begin-clause-makes
@@ -10,3 +11,11 @@ returns-in_err-begin-clause-makes g c =
 pub returns-clause-makes : goal.returns-clause-makes
 returns-clause-makes g c = makes_then g.F.Shelf (Writes ∷ []) (Writes ∷ []) _ _ _ _ c.in_ok-begin.ensures.makes
     c.write.ensures.makes
+
+pub returns-clause-open : goal.returns-clause-open
+returns-clause-open g c = λ told.
+    on_ok c.write.result
+    (λ second. opened_at c.args.name c.args.first.now.kind c.octets.result.now _ _ _
+    (c.in_ok-begin.ensures.begun told).here second.here
+    (ap (λ (xs : List ℕ). length xs) c.octets.ensures.octets ∙ c.run_header-header.ensures.length))
+    (c.write.ensures.written told)

@@ -1,6 +1,7 @@
-use Rattle.std.proofs.Common.{rules, ◌≡◌, ℕ, List, [], ◌∷◌, ◌++◌, length, Option, ap, ◌∙◌}
-use Rattle.cdr_file.specs.CdrFile.{header_of}
+use Rattle.std.proofs.Common.{◌≡◌, ℕ, List, [], ◌∷◌, ◌++◌, length, Option, ap, ◌∙◌}
+use Rattle.cdr_file.specs.CdrFile.{header_length, header_of}
 use Rattle.cdr_file.specs.FileHeader.{header_octets}
+use Rattle.cdr_file.specs.declared.filed_kind.FiledKind.{FiledKind}
 use Rattle.cdr_shelf.specs.Files.{UnsealedFile}
 use Rattle.file_writer.specs.Writing.{body_of, settings_of}
 use Rattle.file_writer.proofs.LeavingLemmas.{gone_by}
@@ -20,22 +21,25 @@ returns-in_err-sync-clause-makes g c =
 
 pub returns-clause-makes : goal.returns-clause-makes
 returns-clause-makes g c =
-    let long : length c.run_header-header.result ≡ 52 = search rules in
+    let long : length c.octets.result.now ≡ header_length c.args.run.kind =
+    ap (λ (xs : List ℕ). length xs) c.octets.ensures.octets ∙ c.run_header-header.ensures.length in
+    let kind : FiledKind = c.args.run.kind in
     let header : List ℕ =
     header_octets (header_of c.args.run c.args.name.sequence c.args.reason (settings_of c.args.gateway.now)) in
     let u : Option UnsealedFile = g.F.Shelf.unsealed c.args.shelf.now c.args.name.stream in
-    makes_then g.F.Shelf (Writes ∷ Writes ∷ []) (Seals (record { name = c.args.name; octets = header ++ body_of u }) ∷
+    makes_then g.F.Shelf (Writes ∷ Writes ∷ []) (Seals (record { name = c.args.name; octets = header ++ body_of kind u }) ∷
     []) _ _ _ _
     (makes_then g.F.Shelf (Writes ∷ []) (Writes ∷ []) _ _ _ _ c.in_ok-write.ensures.makes c.in_ok-sync.ensures.makes)
     (c.seal.ensures.makes _ (λ told.
-    sealed_of c.args.name c.args.run.octets c.run_header-header.result u _ _ (c.requires.open told) long
+    sealed_of c.args.name kind c.args.run.octets c.octets.result.now u _ _ (c.requires.open told) long
     (c.in_ok-write.ensures.written told).here (c.in_ok-sync.ensures.synced told).here
-    ∙ ap (λ (octets : List ℕ). named_file c.args.name (octets ++ body_of u) ∷ []) c.run_header-header.ensures))
+    ∙ ap (λ (octets : List ℕ). named_file c.args.name (octets ++ body_of kind u) ∷ [])
+    (c.octets.ensures.octets ∙ c.run_header-header.ensures.octets)))
 
 pub returns-clause-gone : goal.returns-clause-gone
 returns-clause-gone g c = λ told.
     on_ok c.seal.result
-    (λ ended. gone_by c.args.name c.args.run.octets c.run_header-header.result
+    (λ ended. gone_by c.args.name c.args.run.kind c.args.run.octets c.octets.result.now
     (g.F.Shelf.unsealed c.args.shelf.now c.args.name.stream) _ _ _ (c.requires.open told)
     (c.in_ok-write.ensures.written told).here (c.in_ok-sync.ensures.synced told).here ended.here)
     (c.seal.ensures.ended told)

@@ -7,7 +7,7 @@ pub returns : goal.returns
 returns c = λ settings items place filed h.
     item-there
     (λ settings s items. c.division_closes_where_files_end.ensures.records settings.limits
-    (stream_items settings.rules s items)
-    (division_of settings.limits (stream_items settings.rules s items))
-    (c.division_closes_where_files_end.ensures.ends settings.limits (stream_items settings.rules s items)))
+    (stream_items settings.profile settings.rules s items)
+    (division_of settings.limits (stream_items settings.profile settings.rules s items))
+    (c.division_closes_where_files_end.ensures.ends settings.limits (stream_items settings.profile settings.rules s items)))
     settings items place filed h

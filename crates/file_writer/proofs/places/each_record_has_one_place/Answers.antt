@@ -7,9 +7,9 @@ pub returns-clause-has : goal.returns-clause-has
 returns-clause-has c = λ settings items k kind tag octets moment h.
     place-has
     (λ settings s items. c.division_closes_where_files_end.ensures.records settings.limits
-    (stream_items settings.rules s items)
-    (division_of settings.limits (stream_items settings.rules s items))
-    (c.division_closes_where_files_end.ensures.ends settings.limits (stream_items settings.rules s items)))
+    (stream_items settings.profile settings.rules s items)
+    (division_of settings.limits (stream_items settings.profile settings.rules s items))
+    (c.division_closes_where_files_end.ensures.ends settings.limits (stream_items settings.profile settings.rules s items)))
     settings items k kind tag octets moment h
 
 pub returns-clause-only : goal.returns-clause-only

@@ -1,9 +1,10 @@
 use Rattle.std.proofs.Common.{Bool, Option, [], ◌∷◌, subst, sym}
 use Rattle.cdr_file.specs.CdrFile.{FiledRecord}
+use Rattle.cdr_file.specs.declared.run.RunFacts.{RunFacts}
 use Rattle.cdr_shelf.specs.Files.{UnsealedFile}
 use Rattle.cdr_shelf.specs.declared.file_name.FileName.{FileName}
 use Rattle.file_writer.specs.Calls.{Writes}
-use Rattle.file_writer.specs.Writing.{GrownWhere, beginning_of, filed_of, name_in}
+use Rattle.file_writer.specs.Writing.{GrownWhere, IsBegun, beginning_of, filed_of, name_in}
 use Rattle.file_writer.proofs.MakingLemmas.{ended_at, makes_then, stopped_at}
 use Rattle.file_writer.proofs.WritingLemmas.{grown_at, is_fresh, makes_unsealed, not_sealed}
 use Rattle.file_writer.proofs.progress.append.Goals as goal
@@ -37,7 +38,9 @@ returns-clause-stands g c = λ told.
     let filed : FiledRecord = filed_of c.args.next.kind c.args.next.octets.now c.args.next.moment in
     let old : Option UnsealedFile = g.F.Shelf.unsealed c.args.shelf.now c.args.stream in
     let new : Option UnsealedFile = g.F.Shelf.unsealed c.append_cdr.new.shelf c.args.stream in
-    let begun = c.in_ok-at.ensures.stands told in
+    let begun =
+    subst (λ (run : RunFacts). IsBegun name run.kind c.args.file.growing old
+    (g.F.Shelf.unsealed c.end_of_file.new.shelf c.args.stream)) c.with_record-run.ensures (c.in_ok-at.ensures.stands told) in
     subst (λ (b : Bool). GrownWhere b name c.args.file.growing filed old new)
     (sym (not_sealed c.args.file.closed c.args.file.sealed c.if-sequence-sealed.false))
-    (grown_at name c.args.file.growing filed old _ new begun.0 begun.1 (c.in_ok-append_cdr.ensures.appended told).here)
+    (grown_at name c.args.file.growing filed old _ new begun (c.in_ok-append_cdr.ensures.appended told).here)

@@ -89,6 +89,7 @@ returns-clause-takes g c = λ run behind.
             ∙ ap (λ (at : Cuts). closed_by at.after (closed_by at.before stream.file.closed)) cuts;
         sealed = closed_sealed reason stream.file file c.in_ok-file.ensures.closed;
         limits = ap (λ (kept : Cutting). kept.limits) c.mark-cut.ensures.kept;
+        profile = ap (λ (kept : Cutting). kept.profile) c.mark-cut.ensures.kept;
       };
     }
 

@@ -1,6 +1,8 @@
 use Rattle.std.proofs.Common.{◌≡◌, ℕ, List, length, Option, Some, None, sym, ap, ◌∙◌, subst}
 use Rattle.cdr_file.specs.CdrFile.{FiledRecord}
+use Rattle.cdr_file.specs.Profile.{IsFiledKind, in_profile}
 use Rattle.cdr_file.specs.declared.closure.ClosureReason.{ClosureReason}
+use Rattle.cdr_file.specs.declared.filed_kind.FiledKind.{FiledKind}
 use Rattle.file_rotate.specs.Cutting.{Cutting, file_with, kind_change, limit_reached, record_file, with_record}
 use Rattle.file_rotate.specs.Division.{still}
 use Rattle.file_rotate.specs.Items.{AreLimits, Filed, Record}
@@ -9,8 +11,8 @@ use Rattle.file_rotate.specs.declared.cut.Cut.{Cut}
 use Rattle.file_rotate.specs.declared.open_file.OpenFile.{OpenFile}
 use Rattle.file_writer.specs.Following.{IsUp, Pairs}
 use Rattle.file_writer.specs.Streams.{stream_record}
-use Rattle.file_writer.specs.Writing.{filed_of, settings_of}
-use Rattle.file_writer.proofs.FollowingLemmas.{append_stays, append_up, close_stays, close_up, grown_closes, pairs_closed, pairs_grown, record_closes, stays_then}
+use Rattle.file_writer.specs.Writing.{filed_of, grown, settings_of}
+use Rattle.file_writer.proofs.FollowingLemmas.{append_stays, append_up, close_stays, close_up, grown_as, grown_closes, pairs_closed, pairs_grown, record_closes, stands_as, stays_then}
 use Rattle.file_writer.proofs.LeavingLemmas.{append_left, close_left}
 use Rattle.file_writer.proofs.PuttingLemmas.{all_went, first_ended, second_ended, third_ended}
 use Rattle.file_writer.specs.declared.progress.Progress.{Progress}
@@ -18,7 +20,7 @@ use Rattle.file_writer.proofs.stream.put.Goals as goal
 
 pub returns-in_err-file-clause-takes : goal.returns-in_err-file-clause-takes
 returns-in_err-file-clause-takes g c = λ run behind.
-    first_ended g.F.Shelf (settings_of c.args.gateway.now) c.args.s (stream_record c.args.next.kind c.args.next.octets.now c.args.next.moment) c.args.stream c.reason_of.result c.args.shelf.now c.requires.safe.pairs
+    first_ended g.F.Shelf (settings_of c.args.gateway.now) c.args.s (stream_record c.args.stream.cutter.profile c.args.next.kind c.args.next.octets.now c.args.next.moment) c.args.stream c.reason_of.result c.args.shelf.now c.requires.safe.pairs
     (c.reason_of.ensures _ (ap (λ (cut : Cut). cut.before) c.put-cut.ensures.cut)) c.cutter_keeps_the_run.ensures.cuts run behind
     c.close.new.shelf c.from_residual.result _ c.from_residual.ensures c.in_err-file.ensures.makes
 
@@ -30,33 +32,35 @@ append-requires-clause-fresh g c within = λ told.
 
 pub returns-in_err-file-2-clause-takes : goal.returns-in_err-file-2-clause-takes
 returns-in_err-file-2-clause-takes g c = λ run behind.
-    second_ended g.F.Shelf (settings_of c.args.gateway.now) c.args.s (stream_record c.args.next.kind c.args.next.octets.now c.args.next.moment) c.args.stream c.reason_of.result c.args.shelf.now c.requires.safe.pairs
+    second_ended g.F.Shelf (settings_of c.args.gateway.now) c.args.s (stream_record c.args.stream.cutter.profile c.args.next.kind c.args.next.octets.now c.args.next.moment) c.args.stream c.reason_of.result c.args.shelf.now c.requires.safe.pairs
     (c.reason_of.ensures _ (ap (λ (cut : Cut). cut.before) c.put-cut.ensures.cut)) c.cutter_keeps_the_run.ensures.cuts run behind
     c.in_ok-file.file c.close.new.shelf c.in_ok-file.ensures.closed c.in_ok-file.ensures.still c.in_ok-file.ensures.makes
     c.append.new.shelf c.from_residual-in_err-file-2.result _ c.from_residual-in_err-file-2.ensures c.in_err-file-2.ensures.makes
 
 pub returns-in_err-file-3-clause-takes : goal.returns-in_err-file-3-clause-takes
 returns-in_err-file-3-clause-takes g c = λ run behind.
-    third_ended g.F.Shelf (settings_of c.args.gateway.now) c.args.s (stream_record c.args.next.kind c.args.next.octets.now c.args.next.moment) c.args.stream c.reason_of.result c.args.shelf.now c.requires.safe.pairs
+    third_ended g.F.Shelf (settings_of c.args.gateway.now) c.args.s (stream_record c.args.stream.cutter.profile c.args.next.kind c.args.next.octets.now c.args.next.moment) c.args.stream c.reason_of.result c.args.shelf.now c.requires.safe.pairs
     (c.reason_of.ensures _ (ap (λ (cut : Cut). cut.before) c.put-cut.ensures.cut)) c.cutter_keeps_the_run.ensures.cuts run behind
     c.in_ok-file.file c.close.new.shelf c.in_ok-file.ensures.closed c.in_ok-file.ensures.still c.in_ok-file.ensures.makes
-    (record { first = c.run_facts_law.ensures.first; more = c.run_facts_law.ensures.more; growth = c.file_octets_law.ensures.growth }) c.in_ok-file-2.file c.append.new.shelf c.in_ok-file-2.ensures.grown
-    c.in_ok-file-2.ensures.stands c.in_ok-file-2.ensures.makes c.reason_of-2.result (c.reason_of-2.ensures _ (ap (λ (cut : Cut). cut.after) c.put-cut.ensures.cut))
+    (record { first = c.run_facts_law.ensures.first; more = c.run_facts_law.ensures.more; growth = c.file_octets_law.ensures.growth }) c.in_ok-file-2.file c.append.new.shelf (grown_as c.in_ok-file.file c.in_ok-file-2.file c.kind.result _ c.args.next.octets.now c.args.next.moment c.in_ok-file-2.ensures.grown c.kind.ensures.kind)
+    (stands_as g.F.Shelf c.args.s c.in_ok-file.file c.kind.result _ c.args.next.octets.now c.args.next.moment c.close.new.shelf c.append.new.shelf c.in_ok-file-2.ensures.stands c.kind.ensures.kind)
+    c.in_ok-file-2.ensures.makes c.reason_of-2.result (c.reason_of-2.ensures _ (ap (λ (cut : Cut). cut.after) c.put-cut.ensures.cut))
     c.close-2.new.shelf c.from_residual-in_err-file-3.result _ c.from_residual-in_err-file-3.ensures c.in_err-file-3.ensures.makes
 
 pub returns-clause-takes : goal.returns-clause-takes
 returns-clause-takes g c = λ run behind.
-    let filed : Filed (List ℕ) = stream_record c.args.next.kind c.args.next.octets.now c.args.next.moment in
-    all_went g.F.Shelf (settings_of c.args.gateway.now) c.args.s (stream_record c.args.next.kind c.args.next.octets.now c.args.next.moment) c.args.stream c.reason_of.result c.args.shelf.now c.requires.safe.pairs
+    let filed : Filed (List ℕ) = stream_record c.args.stream.cutter.profile c.args.next.kind c.args.next.octets.now c.args.next.moment in
+    all_went g.F.Shelf (settings_of c.args.gateway.now) c.args.s (stream_record c.args.stream.cutter.profile c.args.next.kind c.args.next.octets.now c.args.next.moment) c.args.stream c.reason_of.result c.args.shelf.now c.requires.safe.pairs
     (c.reason_of.ensures _ (ap (λ (cut : Cut). cut.before) c.put-cut.ensures.cut)) c.cutter_keeps_the_run.ensures.cuts run behind
     c.in_ok-file.file c.close.new.shelf c.in_ok-file.ensures.closed c.in_ok-file.ensures.still c.in_ok-file.ensures.makes
-    (record { first = c.run_facts_law.ensures.first; more = c.run_facts_law.ensures.more; growth = c.file_octets_law.ensures.growth }) c.in_ok-file-2.file c.append.new.shelf c.in_ok-file-2.ensures.grown
-    c.in_ok-file-2.ensures.stands c.in_ok-file-2.ensures.makes c.reason_of-2.result (c.reason_of-2.ensures _ (ap (λ (cut : Cut). cut.after) c.put-cut.ensures.cut))
+    (record { first = c.run_facts_law.ensures.first; more = c.run_facts_law.ensures.more; growth = c.file_octets_law.ensures.growth }) c.in_ok-file-2.file c.append.new.shelf (grown_as c.in_ok-file.file c.in_ok-file-2.file c.kind.result _ c.args.next.octets.now c.args.next.moment c.in_ok-file-2.ensures.grown c.kind.ensures.kind)
+    (stands_as g.F.Shelf c.args.s c.in_ok-file.file c.kind.result _ c.args.next.octets.now c.args.next.moment c.close.new.shelf c.append.new.shelf c.in_ok-file-2.ensures.stands c.kind.ensures.kind)
+    c.in_ok-file-2.ensures.makes c.reason_of-2.result (c.reason_of-2.ensures _ (ap (λ (cut : Cut). cut.after) c.put-cut.ensures.cut))
     _ c.close-2.new.shelf c.in_ok-file-3.ensures.closed c.in_ok-file-3.ensures.still c.in_ok-file-3.ensures.makes
     (ap (λ (k : Cutting). k.file) c.put-cut.ensures.kept
     ∙ ap (λ (k : Option OpenFile). record_file c.args.stream.cutter.limits k filed.kind filed.octets filed.moment) behind.cut
     ∙ c.cutter_keeps_the_run.ensures.kept c.args.stream.cutter.limits run (Record filed))
-    (ap (λ (k : Cutting). k.limits) c.put-cut.ensures.kept)
+    (ap (λ (k : Cutting). k.limits) c.put-cut.ensures.kept) (ap (λ (k : Cutting). k.profile) c.put-cut.ensures.kept)
 
 pub returns-clause-safe : goal.returns-clause-safe
 returns-clause-safe g c =
@@ -64,7 +68,14 @@ returns-clause-safe g c =
     let s : ℕ = c.args.s in
     let kept : Option OpenFile = stream.cutter.file in
     let settings = settings_of c.args.gateway.now in
-    let next : FiledRecord = filed_of c.args.next.kind c.args.next.octets.now c.args.next.moment in
+    let kind : FiledKind = in_profile c.args.stream.cutter.profile c.args.next.kind in
+    let next : FiledRecord = filed_of kind c.args.next.octets.now c.args.next.moment in
+    let is_grown : c.in_ok-file-2.file ≡ grown c.in_ok-file.file next =
+    grown_as c.in_ok-file.file c.in_ok-file-2.file c.kind.result kind c.args.next.octets.now c.args.next.moment
+    c.in_ok-file-2.ensures.grown c.kind.ensures.kind in
+    let stands =
+    stands_as g.F.Shelf c.args.s c.in_ok-file.file c.kind.result kind c.args.next.octets.now c.args.next.moment
+    c.close.new.shelf c.append.new.shelf c.in_ok-file-2.ensures.stands c.kind.ensures.kind in
     let b : Option ClosureReason = c.reason_of.result in
     let is_b : b ≡ kind_change kept next.kind =
     c.reason_of.ensures _ (ap (λ (cut : Cut). cut.before) c.put-cut.ensures.cut) in
@@ -78,7 +89,7 @@ returns-clause-safe g c =
     close_up g.F.Shelf settings s stream.file file b _ _ c.requires.safe.up c.in_ok-file.ensures.closed
     c.in_ok-file.ensures.still c.in_ok-file.ensures.makes in
     let up_2 : IsUp g.F.Shelf s later c.append.new.shelf =
-    append_up g.F.Shelf s file later next _ _ up_1 c.in_ok-file-2.ensures.grown c.in_ok-file-2.ensures.stands
+    append_up g.F.Shelf s file later next _ _ up_1 is_grown stands
     c.in_ok-file-2.ensures.makes in
     let after_first : Option ClosureReason → Option OpenFile =
     λ r. Some (with_record (still r kept None) next.kind (length next.octets) next.moment) in
@@ -93,7 +104,8 @@ returns-clause-safe g c =
           ∙ sym (ap (λ (k : Cutting). k.file) c.put-cut.ensures.kept))
           (pairs_closed a (after_first b) later last
           (pairs_grown (still b kept None) file later next (pairs_closed b kept stream.file file c.requires.safe.pairs
-          c.in_ok-file.ensures.closed) c.requires.kind c.in_ok-file-2.ensures.grown)
+          c.in_ok-file.ensures.closed)
+          (subst (λ (k : FiledKind). IsFiledKind k) c.kind.ensures.kind (c.kind.ensures.fits c.requires.kind)) is_grown)
           c.in_ok-file-3.ensures.closed);
       up = close_up g.F.Shelf settings s later last a _ _ up_2 c.in_ok-file-3.ensures.closed
           c.in_ok-file-3.ensures.still c.in_ok-file-3.ensures.makes;
@@ -115,7 +127,14 @@ returns-clause-others g c = λ told t other.
 pub returns-clause-left : goal.returns-clause-left
 returns-clause-left g c = λ told start stale left.
     let stream = c.args.stream in
-    let next : FiledRecord = filed_of c.args.next.kind c.args.next.octets.now c.args.next.moment in
+    let kind : FiledKind = in_profile c.args.stream.cutter.profile c.args.next.kind in
+    let next : FiledRecord = filed_of kind c.args.next.octets.now c.args.next.moment in
+    let is_grown : c.in_ok-file-2.file ≡ grown c.in_ok-file.file next =
+    grown_as c.in_ok-file.file c.in_ok-file-2.file c.kind.result kind c.args.next.octets.now c.args.next.moment
+    c.in_ok-file-2.ensures.grown c.kind.ensures.kind in
+    let stands =
+    stands_as g.F.Shelf c.args.s c.in_ok-file.file c.kind.result kind c.args.next.octets.now c.args.next.moment
+    c.close.new.shelf c.append.new.shelf c.in_ok-file-2.ensures.stands c.kind.ensures.kind in
     let b : Option ClosureReason = c.reason_of.result in
     let is_b : b ≡ kind_change stream.cutter.file next.kind =
     c.reason_of.ensures _ (ap (λ (cut : Cut). cut.before) c.put-cut.ensures.cut) in
@@ -123,10 +142,9 @@ returns-clause-left g c = λ told start stale left.
     let later : Progress = c.in_ok-file-2.file in
     let a : Option ClosureReason = c.reason_of-2.result in
     close_left start stale later c.in_ok-file-3.file a _ _
-    (grown_closes file later next a c.in_ok-file-2.ensures.grown) c.in_ok-file-3.ensures.closed
+    (grown_closes file later next a is_grown) c.in_ok-file-3.ensures.closed
     (c.in_ok-file-3.ensures.still told)
-    (append_left start stale c.args.s file later next _ _ c.in_ok-file-2.ensures.grown
-    (c.in_ok-file-2.ensures.stands told)
+    (append_left start stale c.args.s file later next _ _ is_grown (stands told)
     (close_left start stale stream.file file b _ _
     (record_closes stream.cutter.file next.kind stream.file.growing b c.requires.safe.pairs is_b)
     c.in_ok-file.ensures.closed (c.in_ok-file.ensures.still told) left))

@@ -33,6 +33,7 @@ pub invariant_of-self-2 : goal.invariant_of-self-2
 invariant_of-self-2 g c = record {
   sound = record {
     are_limits = c.args.self.now.sound.are_limits;
+    is_profile = c.args.self.now.sound.is_profile;
     few = c.requires.few;
     safe = λ e. c.in_ok-take_all.ensures.safe;
     below = λ e. more_below _ _ _ _ (c.in_ok-take_all.ensures.below _ (c.args.self.now.sound.below c.requires.ready));

@@ -26,6 +26,7 @@ returns c = λ setup is rules.
     c.new-writer.ensures.settings ∙ (λ i. record {
       rules = sym rules i;
       limits = sym is.limits i;
+      profile = sym is.profile i;
       file = record { offset = sym is.offset i; address = (c.gateway_address.ensures i).ip };
     }) in
     let armed : IsArmed Nothing (shelf_tells.plan c.in-Ok.shelf) =
