@@ -5,12 +5,13 @@
 //! and `Sink`, and tell what these told; the exit code is the number of the status.
 #![tactic(auto)]
 
-ghost use Rattle.std.specs.Prelude.{◌≡◌, ◌≢◌, ◌⊎◌, ℕ, List, None, map, string_bytes, true};
+ghost use Rattle.std.specs.Prelude.{◌≡◌, ◌≢◌, ◌⊎◌, None, map, string_bytes, true};
 ghost use Rattle.std.specs.Io.KnownBytes.{Appends};
 ghost use Rattle.std.specs.Process.{exit_status};
 ghost use Rattle.cgf_top.specs.Command.{command_of};
 ghost use Rattle.cgf_top.specs.Ending.{HasCause, WordsDecide};
-ghost use Rattle.cgf_top.specs.Run.{IsReported, is_reported, status_number};
+ghost use Rattle.cgf_top.specs.Job.{job_of};
+ghost use Rattle.cgf_top.specs.Run.{HasRead, is_reported, report_of, status_number};
 
 mod progress;
 mod sink;
@@ -21,7 +22,7 @@ mod tests;
 use crate::progress::Progress;
 use crate::sink::WriterSink;
 use crate::source::{FileSource, ReaderSource};
-use cgf_top::{Status, run_cgf};
+use cgf_top::{Status, run_watched};
 use gw_base::{Sink, Source};
 use std::env;
 use std::io::{ErrorKind, IsTerminal, Stderr};
@@ -96,16 +97,17 @@ fn run_over<S: Source, K: Sink>(
     sink: &mut K,
 ) -> Status
     ensures words { WordsDecide (command_of (map string_bytes words.now)) result source.old source.new }
-    ensures report { is_reported result ≡ true → (report : List ℕ) ×
-        IsReported (map string_bytes words.now) (S.left source.old) (S.left source.new) result report ×
-        Appends (K.written sink.old) (K.written sink.new) report }
+    ensures report { is_reported result ≡ true →
+        let job = job_of S.Source K.Sink (map string_bytes words.now) source.old source.new sink.old sink.new in
+        (input : HasRead job result) ×
+        Appends (K.written sink.old) (K.written sink.new) (report_of input.command input.octets) }
     ensures cause { HasCause result (S.faults source.old) (S.faults source.new) (K.faults sink.old)
         (K.faults sink.new) }
 {
     let mut progress = Progress::new(terminal(rt));
-    let (status, _played) = run_cgf(rt.alloc(), words, source, sink, &mut progress);
+    let ended = run_watched(rt.alloc(), words, source, sink, &mut progress);
     progress.clear();
-    status
+    ended.status
 }
 
 /// The standard error, where it is a terminal.

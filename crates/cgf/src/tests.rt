@@ -1,7 +1,7 @@
 use crate::progress::Progress;
 use crate::sink::WriterSink;
 use crate::source::{FileSource, ReaderSource};
-use cgf_top::{InputKind, Nobody, Status, Watch, WorldKind, run_cgf};
+use cgf_top::{InputKind, Status, Watch, WorldKind, run_cgf};
 use gw_base::{Failed, MemorySource, Octets, Sink, Source};
 use std::fs::OpenOptions;
 use std::io::{Read, Write};
@@ -95,8 +95,8 @@ fn a_sink_that_fails_in_the_middle_ends_the_job(rt: HostRuntime) -> Result<(), F
         let script = Octets::of(alloc, script.as_bytes())?;
         let mut source = MemorySource::new(script, 7, Vec::new(alloc));
         let mut sink = WriterSink::new(FullWriter { calls: 0 });
-        let (ended, _played) = run_cgf(alloc, &words, &mut source, &mut sink, &mut Nobody);
-        assert_eq!(rt; ended, status);
+        let ended = run_cgf(alloc, &words, &mut source, &mut sink);
+        assert_eq!(rt; ended.status, status);
     }
     Ok(())
 }

@@ -2,11 +2,8 @@
 use Rattle.std.proofs.Common.{◌≡◌, ℕ, ◌<◌, ◌⊎◌, inl, inr, List, ◌++◌, length, Option, Some, None, ap, sym, ◌∙◌, subst, arith, length-append, append-nil}
 use Rattle.std.proofs.lemmas.Option.{same_Some}
 use Rattle.cgf_top.specs.Command.{command_of, most_read}
-use Rattle.cgf_top.specs.NetworkReport.{HandsBackAt}
 use Rattle.cgf_top.specs.Ending.{EndsByInput, EndsByWhole, IsBounded, IsComplete}
-use Rattle.cgf_top.specs.Run.{IsPlayed, IsRead, TakesUpTo, end_of}
-use Rattle.replay_world.specs.declared.replay.Played.{Played}
-use Rattle.world_script.specs.declared.line.Line.{Line}
+use Rattle.cgf_top.specs.Run.{IsRead, TakesUpTo, end_of}
 use Rattle.cgf_top.specs.declared.command.Command.{Command}
 use Rattle.cgf_top.specs.declared.status.Status.{Status}
 use Rattle.cgf_top.specs.declared.status.Status.TheVariants as status
@@ -20,7 +17,7 @@ read_whole most octets read (Some rest) h r =
     ]
 
 -- two commands of the same words are one
-same_command : (words : List (List ℕ)) (a b : Command) → command_of words ≡ Some a → command_of words ≡ Some b → a ≡ b
+pub same_command : (words : List (List ℕ)) (a b : Command) → command_of words ≡ Some a → command_of words ≡ Some b → a ≡ b
 same_command words a b h k = same_Some a b (sym h ∙ k)
 
 -- with no fault, the octets that are left decide, as those that were read do
@@ -51,15 +48,3 @@ pub bounded_by : (words : List (List ℕ)) (command : Command) (left rest : Opti
     → TakesUpTo (most_read command) left rest → IsBounded words left rest
 bounded_by words command left rest asked takes other asked' =
     subst (λ c. TakesUpTo (most_read c) left rest) (same_command words command other asked asked') takes
-
--- what is handed back ran to its end
-pub plays_back : (ended : Status) (lines : Option (List Line)) (played : Option Played) → HandsBackAt ended lines played →
-    IsPlayed played ended
-plays_back ended lines None hands = tt
-plays_back status.Done None (Some played) hands = absurd hands
-plays_back status.Done (Some lines) (Some played) hands = (lines, hands)
-plays_back status.Words lines (Some played) hands = absurd (cc)
-plays_back (status.Input place kind) lines (Some played) hands = absurd (cc)
-plays_back status.Read lines (Some played) hands = absurd (cc)
-plays_back status.Write lines (Some played) hands = absurd (cc)
-plays_back status.Memory lines (Some played) hands = absurd (cc)

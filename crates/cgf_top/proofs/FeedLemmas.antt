@@ -14,7 +14,7 @@ use Rattle.world_script.specs.Script.{Refusal as LineRefusal, script_of}
 use Rattle.world_script.specs.declared.line.Line.{Line}
 use Rattle.cgf_top.specs.FeedReport.{Fed, FeedState, after_line, begun, end_lines, fed_from, fed_of, is_earlier, printed_for, with_print}
 use Rattle.cgf_top.specs.Gateway.{after_close}
-use Rattle.cgf_top.specs.NetworkReport.{HandsBackAt}
+use Rattle.cgf_top.specs.NetworkReport.{HandsBack, lines_run}
 use Rattle.cgf_top.specs.Run.{may_have_written, run_end, script_end, script_report}
 use Rattle.replay_world.specs.Report.{counts_line, counts_text, file_lines}
 use Rattle.replay_world.specs.Settings.{AreSet}
@@ -131,10 +131,10 @@ written_run : (place : Option ℕ) → may_have_written (run_end place) ≡ true
 written_run None = refl
 written_run (Some place) = refl
 
-hands_none : (place : Option ℕ) (played : Option Played) → played ≡ None → HandsBackAt (run_end place) None played
-hands_none None None is = tt
-hands_none None (Some played) is = absurd (cc)
-hands_none (Some place) played is = is
+hands_none : (place : Option ℕ) (text : List ℕ) (played : Option Played) → played ≡ None →
+    HandsBack (lines_run (run_end place) Feed text) played
+hands_none None text played is = is
+hands_none (Some place) text played is = is
 
 -- the report of a script that the grammar takes
 pub fed_is_report : (text : List ℕ) (lines : List Line) (report : Report) → script_of text ≡ Ok lines → IsFed (fed_of lines) report → IsReport Feed text report
@@ -143,8 +143,8 @@ fed_is_report text lines report read fed = record {
   ended = ap (λ (r : Option Refusal). ended_by r) fed.refused ∙ ended_run (fed_of lines).refused
       ∙ ap (λ (r : Result (List Line) LineRefusal). script_end r) (sym read);
   taken = ap (λ (r : Result (List Line) LineRefusal). may_have_written (script_end r)) read ∙ written_run (fed_of lines).refused;
-  played = subst (λ (r : Result (List Line) LineRefusal). HandsBackAt (script_end r) None report.played) (sym read)
-      (hands_none (fed_of lines).refused report.played fed.played);
+  played = subst (λ (r : Result (List Line) LineRefusal). HandsBack (lines_run (script_end r) Feed text) report.played) (sym read)
+      (hands_none (fed_of lines).refused text report.played fed.played);
 }
 
 -- the refusal of one that it doesn't take

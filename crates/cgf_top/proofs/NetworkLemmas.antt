@@ -16,8 +16,8 @@ use Rattle.world_script.specs.Script.{Refusal as LineRefusal, script_in}
 use Rattle.world_script.specs.declared.fault.InputKind.{InputKind as LineKind}
 use Rattle.world_script.specs.declared.kind.ScriptKind.TheVariants as kind
 use Rattle.world_script.specs.declared.line.Line.{Line}
-use Rattle.cgf_top.specs.NetworkReport.{EndsByReport, HandsBackAt, lines_ok, network_end, replay_end, replay_report, seeded_lines}
-use Rattle.cgf_top.specs.NetworkSteps.{HasDrilled, HasRun, IsAt, IsReplayed, PlayedOf, refusal_at_line}
+use Rattle.cgf_top.specs.NetworkReport.{EndsByReport, HandsBack, lines_ok, lines_run, network_end, replay_end, replay_report, seeded_lines}
+use Rattle.cgf_top.specs.NetworkSteps.{HasDrilled, HasRun, IsAt, IsReplayed, PlayedOf, lines_unless, refusal_at_line}
 use Rattle.cgf_top.specs.Run.{may_have_written}
 use Rattle.cgf_top.specs.Steps.{IsRefusal, IsReport, ended_by}
 use Rattle.cgf_top.specs.declared.command.Command.TheVariants.{Drill, Replay as OfReplay}
@@ -131,7 +131,7 @@ run_first lines replay printed stands gateways none = record {
 
 pub ran_network : (lines : List Line) (played : Option Played) → PlayedOf (replayed lines) played →
     AreWritten (replayed lines) → EndsByReport lines → StandsOnce (files_in (setup_of lines)) (replayed lines).world →
-    HandsBackAt (network_end None) (Some lines) played
+    HandsBack (Some lines) played
 ran_network lines None is written told places = absurd is
 ran_network lines (Some played) is written told places =
     record { stands = is.0; written = written; sealed = is.1 written; told = told; places = places }
@@ -143,7 +143,7 @@ pub replayed_whole : (lines : List Line) (report : Report) → refusal_of_lines 
 replayed_whole lines report none printed refused played written told places = record {
   printed = printed;
   refused = refused ∙ sym (ap refusal_at_line none);
-  played = subst (λ (o : Option WorldRefusal). HandsBackAt (network_end o) (Some lines) report.played) (sym none)
+  played = subst (λ (o : Option WorldRefusal). HandsBack (lines_unless o lines) report.played) (sym none)
       (ran_network lines report.played played written told places);
 }
 
@@ -153,7 +153,7 @@ pub replayed_front : (lines : List Line) (report : Report) (refusal : WorldRefus
 replayed_front lines report refusal some printed refused played = record {
   printed = printed;
   refused = refused ∙ sym (ap refusal_at_line some);
-  played = subst (λ (o : Option WorldRefusal). HandsBackAt (network_end o) (Some lines) report.played) (sym some) played;
+  played = subst (λ (o : Option WorldRefusal). HandsBack (lines_unless o lines) report.played) (sym some) played;
 }
 
 -- the refusal of a line at a place from 0
@@ -176,6 +176,13 @@ ends_at : (o : Option WorldRefusal) → ended_by (refusal_at_line o) ≡ network
 ends_at None = refl
 ends_at (Some refusal) = refl
 
+hands_lines : (text : List ℕ) (lines : List Line) (played : Option Played) (o : Option WorldRefusal) →
+    script_in kind.Replay text ≡ Ok lines → HandsBack (lines_unless o lines) played →
+    HandsBack (lines_run (network_end o) OfReplay text) played
+hands_lines text lines played None read hands =
+    subst (λ (r : Result (List Line) LineRefusal). HandsBack (lines_ok r) played) (sym read) hands
+hands_lines text lines played (Some refusal) read hands = hands
+
 pub replayed_is_report : (text : List ℕ) (lines : List Line) (report : Report) → script_in kind.Replay text ≡ Ok lines →
     IsReplayed lines report → IsReport OfReplay text report
 replayed_is_report text lines report read is = record {
@@ -184,8 +191,8 @@ replayed_is_report text lines report read is = record {
       ∙ sym (ap (λ (r : Result (List Line) LineRefusal). replay_end r) read);
   taken = ap (λ (r : Result (List Line) LineRefusal). may_have_written (replay_end r)) read
       ∙ written_at (refusal_of_lines lines);
-  played = subst (λ (r : Result (List Line) LineRefusal). HandsBackAt (replay_end r) (lines_ok r) report.played) (sym read)
-      is.played;
+  played = subst (λ (r : Result (List Line) LineRefusal). HandsBack (lines_run (replay_end r) OfReplay text) report.played)
+      (sym read) (hands_lines text lines report.played (refusal_of_lines lines) read is.played);
 }
 
 pub replay_refused : (text : List ℕ) (place : ℕ) (why : LineKind) →

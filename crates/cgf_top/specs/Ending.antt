@@ -1,8 +1,10 @@
 -- What decides how the job ends: its words, its input, and the faults of its source and its sink.
-use Rattle.std.specs.Prelude.{ℕ, ◌≡◌, ◌<◌, ◌⊎◌, false, List, length, Option, Some, None}
+use Rattle.std.specs.Prelude.{ℕ, ◌≡◌, ◌≢◌, ◌<◌, ◌⊎◌, true, false, List, length, Option, Some, None}
 use Rattle.gw_base.specs.Faults.{Rose}
 use Rattle.cgf_top.specs.Command.{command_of, has_input, most_read}
-use Rattle.cgf_top.specs.Run.{IsRead, TakesUpTo, end_of}
+use Rattle.replay_world.specs.declared.replay.Played.{Played}
+use Rattle.cgf_top.specs.Job.{Job}
+use Rattle.cgf_top.specs.Run.{HasReported, IsRead, TakesUpTo, WritesFront, end_of, is_reported}
 use Rattle.cgf_top.specs.declared.command.Command.{Command}
 use Rattle.cgf_top.specs.declared.status.Status.{Status}
 use Rattle.cgf_top.specs.declared.status.Status.TheVariants as status
@@ -47,3 +49,22 @@ EndsByWhole words left ended = (command : Command) (octets : List ℕ) → comma
 pub record IsComplete (words : List (List ℕ)) (left rest : Option (List ℕ)) (ended : Status) : Type 0 where
   pub read : (ended ≡ status.Memory) ⊎ EndsByInput words left rest ended
   pub whole : EndsByWhole words left ended
+
+-- What a job does, as a whole.
+pub record DoesJob (job : Job) (ended : Status) (played : Option Played) : Type 0 where
+  -- At `Done` the input was read to its end, and all of the report on it and nothing else was written; of `replay` and
+  -- `drill` the network that it is the report of is handed back. At `Input` the place is the first that is refused of the
+  -- input that was read: by the grammar, and then nothing is written; or as a line that can't be run, and then the input
+  -- was read to its end, and the report of the lines before is written.
+  pub report : is_reported ended ≡ true → HasReported job ended played
+  -- A front of what is to be written was.
+  pub front : ended ≡ status.Write → WritesFront job
+  -- Nothing is handed back but at `Done`.
+  pub none : ended ≢ status.Done → played ≡ None
+  -- Each fault was the source's or the sink's own, and where another end is told there was none.
+  pub cause : HasCause ended job.read_before job.read_after job.written_before job.written_after
+  -- Of a script no octet past the first 16,777,217 is taken, of a file none past the first 4,294,967,296.
+  pub bound : IsBounded job.words job.left job.rest
+  -- With no fault, what was read decides, unless memory runs out.
+  pub complete : command_of job.words ≢ None → ¬ (Rose job.read_before job.read_after) →
+      ¬ (Rose job.written_before job.written_after) → IsComplete job.words job.left job.rest ended

@@ -1,6 +1,7 @@
 -- what public clauses cite
 pub mod Words
 pub mod Command
+pub mod Job
 pub mod Run
 pub mod Ending
 pub mod StatusText

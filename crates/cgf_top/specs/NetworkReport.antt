@@ -1,5 +1,5 @@
 -- What `replay`, `sample` and `drill` print, and what a network that was run hands back.
-use Rattle.std.specs.Prelude.{ℕ, ◌≡◌, ◌++◌, List, [], Option, Some, None, Result, Ok, Err}
+use Rattle.std.specs.Prelude.{ℕ, ◌≡◌, ◌++◌, List, [], Option, Some, None, IsSomeAnd, Result, Ok, Err}
 use Rattle.once_core.specs.StandsOnce.{StandsOnce}
 use Rattle.replay_world.specs.Played.{AreAllSealed, HasPlayed}
 use Rattle.replay_world.specs.Report.{refusal_of_lines, replayed, report_of, report_of_lines}
@@ -79,17 +79,16 @@ network_lines Replay text = lines_ok (script_in kind.Replay text)
 network_lines (Sample of) text = None
 network_lines (Drill of) text = Some (seeded_lines of)
 
--- a network that ran to its end is handed back, and nothing else is
-abbrev pub HandsBack : Option (List Line) → Option Played → Type 0
-HandsBack None None = Unit {0}
-HandsBack None (Some played) = ⊥
-HandsBack (Some lines) None = ⊥
-HandsBack (Some lines) (Some played) = RanNetwork lines played
+-- what a job that ends so ran to its end, by what it read
+abbrev pub lines_run : Status → Command → List ℕ → Option (List Line)
+lines_run status.Done command text = network_lines command text
+lines_run status.Words command text = None
+lines_run (status.Input place kind) command text = None
+lines_run status.Read command text = None
+lines_run status.Write command text = None
+lines_run status.Memory command text = None
 
-abbrev pub HandsBackAt : Status → Option (List Line) → Option Played → Type 0
-HandsBackAt status.Done lines played = HandsBack lines played
-HandsBackAt status.Words lines played = played ≡ None
-HandsBackAt (status.Input place kind) lines played = played ≡ None
-HandsBackAt status.Read lines played = played ≡ None
-HandsBackAt status.Write lines played = played ≡ None
-HandsBackAt status.Memory lines played = played ≡ None
+-- the network that ran is handed back, and nothing else is
+abbrev pub HandsBack : Option (List Line) → Option Played → Type 0
+HandsBack None played = played ≡ None
+HandsBack (Some lines) played = IsSomeAnd played (RanNetwork lines)

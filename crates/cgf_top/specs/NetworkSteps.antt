@@ -11,7 +11,7 @@ use Rattle.replay_world.specs.Value.{ReplayValue}
 use Rattle.replay_world.specs.declared.replay.Played.{Played}
 use Rattle.replay_world.specs.declared.replay.Replay.{Replay}
 use Rattle.world_script.specs.declared.line.Line.{Line}
-use Rattle.cgf_top.specs.NetworkReport.{HandsBack, HandsBackAt, network_end}
+use Rattle.cgf_top.specs.NetworkReport.{HandsBack}
 use Rattle.cgf_top.specs.declared.input_kind.InputKind.TheVariants.{World}
 use Rattle.cgf_top.specs.declared.report.Refusal.{Refusal}
 use Rattle.cgf_top.specs.declared.report.Report.{Report}
@@ -39,11 +39,16 @@ abbrev pub PlayedOf : ReplayValue → Option Played → Type 0
 PlayedOf v None = ⊥
 PlayedOf v (Some played) = HasPlayed v played × (AreWritten v → AreAllSealed played.shelves.items)
 
+-- the lines ran to their end, unless one was refused
+abbrev pub lines_unless : Option WorldRefusal → List Line → Option (List Line)
+lines_unless None lines = Some lines
+lines_unless (Some refusal) lines = None
+
 -- a report is what is printed for the lines of a network
 pub record IsReplayed (lines : List Line) (report : Report) : Type 0 where
   pub printed : report.printed.items ≡ report_of_lines lines
   pub refused : report.refused ≡ refusal_at_line (refusal_of_lines lines)
-  pub played : HandsBackAt (network_end (refusal_of_lines lines)) (Some lines) report.played
+  pub played : HandsBack (lines_unless (refusal_of_lines lines) lines) report.played
 
 -- or the sums of it
 pub record HasDrilled (lines : List Line) (report : Report) : Type 0 where

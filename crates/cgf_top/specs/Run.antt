@@ -11,7 +11,8 @@ use Rattle.world_script.specs.Script.{Refusal, script_in, script_of}
 use Rattle.world_script.specs.declared.kind.ScriptKind.TheVariants as kind
 use Rattle.world_script.specs.declared.line.Line.{Line}
 use Rattle.cgf_top.specs.FeedReport.{fed_of}
-use Rattle.cgf_top.specs.NetworkReport.{HandsBackAt, RanNetwork, drill_report, network_lines, replay_end, replay_report, sample_report}
+use Rattle.cgf_top.specs.Job.{Job}
+use Rattle.cgf_top.specs.NetworkReport.{HandsBack, drill_report, lines_run, replay_end, replay_report, sample_report}
 use Rattle.cgf_top.specs.ShowReport.{show_report}
 use Rattle.once_core.specs.declared.event.WorldKind.TheVariants.{Earlier}
 use Rattle.replay_world.specs.declared.replay.Played.{Played}
@@ -87,29 +88,27 @@ pub record IsRead (most : ℕ) (left rest : Option (List ℕ)) (octets : List �
 abbrev pub TakesUpTo : ℕ → Option (List ℕ) → Option (List ℕ) → Type 0
 TakesUpTo most left rest = (taken : List ℕ) × (length taken ≤ most) × Consumes left rest taken
 
--- By these words the input was read as far as their command reads it, what was read decides that the job ends so, and this
--- is what is to be written; where the grammar takes the input it was read to its end.
-pub record IsReported (words : List (List ℕ)) (left rest : Option (List ℕ)) (ended : Status) (report : List ℕ) : Type 0 where
+-- By the words of a job its input was read as far as their command reads it, and what was read decides that it ends so;
+-- where the grammar takes the input it was read to its end.
+pub record HasRead (job : Job) (ended : Status) : Type 0 where
   pub command : Command
-  pub asked : command_of words ≡ Some command
+  pub asked : command_of job.words ≡ Some command
   pub octets : List ℕ
-  pub read : IsRead (most_read command) left rest octets
+  pub read : IsRead (most_read command) job.left job.rest octets
   pub decided : ended ≡ end_of command octets
-  pub whole : may_have_written ended ≡ true → has_input command ≡ true → IsAtEnd rest
-  pub report_is : report ≡ report_of command octets
+  pub whole : may_have_written ended ≡ true → has_input command ≡ true → IsAtEnd job.rest
 
--- All of that and nothing else was written; and the network that what was read runs to its end is handed back.
-pub record WritesReport (words : List (List ℕ)) (left rest before after : Option (List ℕ)) (ended : Status)
-    (played : Option Played) : Type 0 where
-  pub report : List ℕ
-  pub is : IsReported words left rest ended report
-  pub written : Appends before after report
-  pub hands : HandsBackAt ended (network_lines is.command is.octets) played
+-- The report on that and nothing else was written; and the network that what was read runs to its end is handed back, and
+-- nothing else is.
+pub record HasReported (job : Job) (ended : Status) (played : Option Played) : Type 0 where
+  pub input : HasRead job ended
+  pub written : Appends job.before job.after (report_of input.command input.octets)
+  pub hands : HandsBack (lines_run ended input.command input.octets) played
 
 -- a front was written of the report on an input that the grammar takes, however the job was to end
-abbrev pub WritesFront : List (List ℕ) → Option (List ℕ) → Option (List ℕ) → Option (List ℕ) → Option (List ℕ) → Type 0
-WritesFront words left rest before after = (ended : Status) × (may_have_written ended ≡ true)
-    × ((report : List ℕ) × IsReported words left rest ended report × AppendsFront before after report)
+abbrev pub WritesFront : Job → Type 0
+WritesFront job = (ended : Status) × (may_have_written ended ≡ true)
+    × ((input : HasRead job ended) × AppendsFront job.before job.after (report_of input.command input.octets))
 
 -- how a job ends whose report was written, or was nothing: all of the input was read, or the place that is refused
 abbrev pub is_reported : Status → Bool
@@ -119,16 +118,6 @@ is_reported status.Words = false
 is_reported status.Read = false
 is_reported status.Write = false
 is_reported status.Memory = false
-
--- Nothing is handed back but at `Done`, and then a network that ran to the end of its lines.
-abbrev pub IsPlayed : Option Played → Status → Type 0
-IsPlayed None ended = Unit {0}
-IsPlayed (Some played) status.Done = (lines : List Line) × RanNetwork lines played
-IsPlayed (Some played) status.Words = ⊥
-IsPlayed (Some played) (status.Input place kind) = ⊥
-IsPlayed (Some played) status.Read = ⊥
-IsPlayed (Some played) status.Write = ⊥
-IsPlayed (Some played) status.Memory = ⊥
 
 -- the number that the program ends with
 abbrev pub status_number : Status → ℕ

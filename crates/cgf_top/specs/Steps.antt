@@ -8,7 +8,7 @@ use Rattle.replay_world.specs.Setup.{Setup}
 use Rattle.replay_world.specs.declared.settings.Settings.{Settings}
 use Rattle.route_filter.specs.declared.rule.Rule.{Rule}
 use Rattle.cgf_top.specs.FeedReport.{Fed, FeedState, drop_line, octets_line}
-use Rattle.cgf_top.specs.NetworkReport.{HandsBackAt, network_lines}
+use Rattle.cgf_top.specs.NetworkReport.{HandsBack, lines_run}
 use Rattle.cgf_top.specs.Run.{end_of, may_have_written, report_of}
 use Rattle.cgf_top.specs.declared.command.Command.{Command}
 use Rattle.cgf_top.specs.declared.feed.Feed.{Feed}
@@ -71,7 +71,7 @@ pub record IsReport (command : Command) (octets : List ℕ) (report : Report) : 
   pub printed : report.printed.items ≡ report_of command octets
   pub ended : ended_by report.refused ≡ end_of command octets
   pub taken : may_have_written (end_of command octets) ≡ true
-  pub played : HandsBackAt (end_of command octets) (network_lines command octets) report.played
+  pub played : HandsBack (lines_run (end_of command octets) command octets) report.played
 
 -- the grammar refuses an input, and nothing is to be written
 pub record IsRefusal (command : Command) (octets : List ℕ) (refusal : Refusal) : Type 0 where

@@ -14,7 +14,7 @@ use route_filter::number;
 use std::alloc::Global;
 
 /// A job that the program does.
-#[derive(Clone, Copy, Debug, PartialEq, Eq)]
+#[derive(Clone, Copy)]
 pub enum Command {
     /// `feed FILE`: feeds a gateway with the datagrams of a script.
     Feed,
@@ -29,7 +29,7 @@ pub enum Command {
 }
 
 /// The script that a seed gives of so many nodes, gateways and packets.
-#[derive(Clone, Copy, Debug, PartialEq, Eq)]
+#[derive(Clone, Copy)]
 pub struct Seeded {
     pub seed: u64,
     /// From 1 to 16.

@@ -9,7 +9,7 @@ use gw_base::Source;
 use std::alloc::Global;
 
 /// Why an input was not read.
-#[derive(Clone, Copy, Debug, PartialEq, Eq)]
+#[derive(Clone, Copy)]
 pub enum ReadEnd {
     /// The source failed.
     Failed,

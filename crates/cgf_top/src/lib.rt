@@ -4,15 +4,21 @@
 //! `report_of` of `specs/Run.antt`. The contract is that of `run_cgf`: what is written is the
 //! report of what was read.
 //!
-//!     let (status, played) = run_cgf(alloc, &words, &mut source, &mut sink, &mut Nobody);
+//!     let ended = run_cgf(alloc, &words, &mut source, &mut sink);
 #![tactic(auto)]
 
-ghost use Rattle.std.specs.Prelude.{◌≡◌, ◌≢◌, ◌<◌, false, true, None, Ok, Err, IfOk, OnOk, length, map, string_bytes};
+ghost use Rattle.std.specs.Prelude.{◌≡◌, ◌≢◌, ◌<◌, ℕ, List, Some, false, true, None, Ok, Err, IfOk, IsSomeAnd, OnOk, length, map, string_bytes};
 ghost use Rattle.gw_base.specs.Faults.{Rose};
+ghost use Rattle.world_script.specs.Script.{script_in};
+ghost use Rattle.world_script.specs.declared.kind.ScriptKind.{ScriptKind};
+ghost use Rattle.world_script.specs.declared.line.Line.{Line};
 ghost use Rattle.cgf_top.specs.Command.{IsWithin, command_of, has_input, most_read};
-ghost use Rattle.cgf_top.specs.Ending.{HasCause, IsBounded, IsComplete, WordsDecide};
-ghost use Rattle.cgf_top.specs.Run.{IsPlayed, WritesFront, WritesReport, is_reported, may_have_written};
+ghost use Rattle.cgf_top.specs.Ending.{DoesJob, HasCause, IsBounded, IsComplete, WordsDecide};
+ghost use Rattle.cgf_top.specs.Job.{job_of};
+ghost use Rattle.cgf_top.specs.NetworkReport.{RanNetwork, seeded_lines};
+ghost use Rattle.cgf_top.specs.Run.{HasReported, WritesFront, is_reported, may_have_written};
 ghost use Rattle.cgf_top.specs.Steps.{IsRefusal, IsReport, ended_by};
+ghost use Rattle.cgf_top.specs.declared.command.Seeded.{Seeded};
 ghost use Rattle.cgf_top.specs.declared.report.Refusal.{Refusal};
 
 mod command;
@@ -34,6 +40,7 @@ use crate::command::Command;
 use crate::input::{ReadEnd, read_input};
 use crate::output::write_all;
 use crate::report::{NoReport, Refusal, Report};
+use crate::watch::Nobody;
 pub use cdr_file::FileKind;
 use gw_base::{NoMemory, Sink, Source};
 pub use input_kind::InputKind;
@@ -42,76 +49,126 @@ pub use replay_world::Played;
 use replay_world::laws::a_script_is_short;
 pub use status::Status;
 use std::alloc::Global;
-pub use watch::{Nobody, Watch};
+pub use watch::Watch;
 pub use world_script::InputKind as LineKind;
 use world_script::{InputFault, Script};
 
-/// Does what the words ask, with the source as their file, and tells `watch` how far the lines of a network are: `feed
-/// FILE` reads a script, feeds a gateway with its datagrams, and writes the reply to each or why it is dropped, the CDR
-/// files and the gateway's counts to the sink; `show FILE` reads a CDR file and writes its listing; `replay FILE` reads
-/// a script, runs gateways and nodes by its lines, and writes each message, what becomes of it, and at the end all
-/// files and counts. `sample SEED NODES GATEWAYS PACKETS` reads nothing, and writes the script that the seed gives;
-/// `drill SEED NODES GATEWAYS PACKETS` runs that script, and writes what all gateways and nodes count together then.
+/// How a job ended, and what it ran.
+#[derive(Drop)]
+pub struct Ended {
+    pub status: Status,
+    /// The network of a `replay` or a `drill` that is done: its areas, its shelves and its nodes.
+    pub played: Option<Played>,
+}
+
+/// Does what the words ask, with the source as their file: `feed FILE` reads a script, feeds a gateway with its
+/// datagrams, and writes the reply to each or why it is dropped, the CDR files and the gateway's counts to the sink;
+/// `show FILE` reads a CDR file and writes its listing; `replay FILE` reads a script, runs gateways and nodes by its
+/// lines, and writes each message, what becomes of it, and at the end all files and counts. `sample SEED NODES GATEWAYS
+/// PACKETS` reads nothing, and writes the script that the seed gives; `drill SEED NODES GATEWAYS PACKETS` runs that
+/// script, and writes what all gateways and nodes count together then.
 ///
-/// A network that ran to its end is handed back: its areas, its shelves and its nodes.
+/// A network that ran to its end is handed back.
 ///
 /// An input that the grammar refuses writes nothing. A line of a script that can't be run, since it sets a moment before
 /// the present one, or the world refuses it, ends the job: what was printed for the lines before it is written.
-#[tactic(auto, using(crate::proofs::Ends::complete, crate::proofs::Ends::complete_by, crate::proofs::Ends::bounded_by, crate::proofs::Streams::takes_none, crate::proofs::Whole::plays_done, crate::proofs::Whole::writes_done, crate::proofs::Whole::writes_refusal))]
-pub fn run_cgf<S: Source, K: Sink, W: Watch>(
+pub fn run_cgf<S: Source, K: Sink>(
+    alloc: Global,
+    words: &[String],
+    source: &mut S,
+    sink: &mut K,
+) -> Ended
+    // A replay that is done hands back the network that its script is. In the files of all its gateways each record of
+    // each packet that its node ever resolved stands at exactly one place of its own, and each record of any other
+    // packet at one at most; no copy that is held or was cancelled puts one there, and the files have no other record.
+    // Each file is sealed, and no shelf has another. What is printed ends with these files.
+    ensures once { (text : List ℕ) (lines : List Line) →
+        command_of (map string_bytes words.now) ≡ Some Command.Replay → S.left source.old ≡ Some text →
+        script_in ScriptKind.Replay text ≡ Ok lines → result.status ≡ Status.Done →
+        IsSomeAnd result.played (RanNetwork lines) }
+    // So does a drill, which prints sums instead: the script is that of its seed.
+    ensures drilled { (of : Seeded) → command_of (map string_bytes words.now) ≡ Some (Command.Drill of) →
+        result.status ≡ Status.Done → IsSomeAnd result.played (RanNetwork (seeded_lines of)) }
+
+    // What was read and written, what is handed back, and why the job ended so.
+    ensures job { DoesJob (job_of S.Source K.Sink (map string_bytes words.now) source.old source.new sink.old sink.new)
+        result.status result.played }
+    // Words that are none of the forms end as `Words`, and no others do, unless there is no memory to parse them. Nothing
+    // is read of them, nor where the command has no input. Nothing is written but at `Done`, at `Write`, and at a line
+    // that can't be run.
+    ensures words { WordsDecide (command_of (map string_bytes words.now)) result.status source.old source.new }
+    ensures untouched { may_have_written result.status ≡ false → sink.new ≡ sink.old }
+{
+    run_watched(alloc, words, source, sink, &mut Nobody)
+}
+
+/// The same, and tells `watch` how far the lines of a network are.
+pub fn run_watched<S: Source, K: Sink, W: Watch>(
     alloc: Global,
     words: &[String],
     source: &mut S,
     sink: &mut K,
     watch: &mut W,
-) -> (Status, Option<Played>)
-    // Words that are none of the forms end as `Words`, and no others do, unless there is no memory to parse them. Nothing
-    // is read of them, nor where the command has no input. Nothing is written but at `Done`, at `Write`, and at a line
-    // that can't be run.
-    ensures words { WordsDecide (command_of (map string_bytes words.now)) result.0 source.old source.new }
-    ensures untouched { may_have_written result.0 ≡ false → sink.new ≡ sink.old }
+) -> Ended
+    ensures once { (text : List ℕ) (lines : List Line) →
+        command_of (map string_bytes words.now) ≡ Some Command.Replay → S.left source.old ≡ Some text →
+        script_in ScriptKind.Replay text ≡ Ok lines → result.status ≡ Status.Done →
+        IsSomeAnd result.played (RanNetwork lines) }
+    ensures drilled { (of : Seeded) → command_of (map string_bytes words.now) ≡ Some (Command.Drill of) →
+        result.status ≡ Status.Done → IsSomeAnd result.played (RanNetwork (seeded_lines of)) }
+    ensures job { DoesJob (job_of S.Source K.Sink (map string_bytes words.now) source.old source.new sink.old sink.new)
+        result.status result.played }
+    ensures words { WordsDecide (command_of (map string_bytes words.now)) result.status source.old source.new }
+    ensures untouched { may_have_written result.status ≡ false → sink.new ≡ sink.old }
+{
+    run(alloc, words, source, sink, watch)
+}
 
-    // At `Done` the input was read to its end, and all of the report on it and nothing else was written; of `replay` and
-    // `drill` the network that it is the report of is handed back. At `Input` the place is the first that is refused of
-    // the input that was read: by the grammar, and then nothing is written; or as a line that can't be run, and then the
-    // input was read to its end, and the report of the lines before is written.
-    ensures report { is_reported result.0 ≡ true →
-        WritesReport (map string_bytes words.now) (S.left source.old) (S.left source.new)
-        (K.written sink.old) (K.written sink.new) result.0 result.1 }
-    // A front of what is to be written was.
-    ensures front { result.0 ≡ Status.Write →
-        WritesFront (map string_bytes words.now) (S.left source.old) (S.left source.new)
-        (K.written sink.old) (K.written sink.new) }
-
-    // Each fault was the source's or the sink's own, and where another end is told there was none.
-    ensures cause { HasCause result.0 (S.faults source.old) (S.faults source.new) (K.faults sink.old)
+/// The same, clause by clause of what a job does.
+#[tactic(auto, using(crate::proofs::Ends::complete, crate::proofs::Ends::complete_by, crate::proofs::Ends::bounded_by, crate::proofs::Streams::takes_none, crate::proofs::Whole::keeps_none, crate::proofs::Whole::writes_done, crate::proofs::Whole::writes_refusal))]
+fn run<S: Source, K: Sink, W: Watch>(
+    alloc: Global,
+    words: &[String],
+    source: &mut S,
+    sink: &mut K,
+    watch: &mut W,
+) -> Ended
+    ensures words { WordsDecide (command_of (map string_bytes words.now)) result.status source.old source.new }
+    ensures untouched { may_have_written result.status ≡ false → sink.new ≡ sink.old }
+    ensures report { is_reported result.status ≡ true → HasReported
+        (job_of S.Source K.Sink (map string_bytes words.now) source.old source.new sink.old sink.new) result.status
+        result.played }
+    ensures front { result.status ≡ Status.Write → WritesFront
+        (job_of S.Source K.Sink (map string_bytes words.now) source.old source.new sink.old sink.new) }
+    ensures none { result.status ≢ Status.Done → result.played ≡ None }
+    ensures cause { HasCause result.status (S.faults source.old) (S.faults source.new) (K.faults sink.old)
         (K.faults sink.new) }
-
-    // Of a script no octet past the first 16,777,217 is taken, of a file none past the first 4,294,967,296.
     ensures bound { IsBounded (map string_bytes words.now) (S.left source.old) (S.left source.new) }
-
-    // With no fault, what was read decides, unless memory runs out.
     ensures complete { command_of (map string_bytes words.now) ≢ None →
         ¬ (Rose (S.faults source.old) (S.faults source.new)) → ¬ (Rose (K.faults sink.old) (K.faults sink.new)) →
-        IsComplete (map string_bytes words.now) (S.left source.old) (S.left source.new) result.0 }
-
-    // What is handed back, at `Done` alone, stands for the world that some lines make; that they are those that were
-    // read, or those of the seed, is `report`. Each record of each packet that its node ever resolved stands at exactly
-    // one place of its own in the files of all gateways, and each record of any other packet at one at most; no copy
-    // that is held or was cancelled puts one there, and the files have no other record. Each file is sealed, and no
-    // shelf has another. The report of these lines, which `replay` prints, ends with these files; `drill` prints sums
-    // instead.
-    ensures once { IsPlayed result.1 result.0 }
+        IsComplete (map string_bytes words.now) (S.left source.old) (S.left source.new) result.status }
 {
     let command = match Command::of(alloc, words) {
         Ok(Some(command)) => command,
-        Ok(None) => return (Status::Words, None),
-        Err(NoMemory) => return (Status::Memory, None),
+        Ok(None) => return Ended {
+            status: Status::Words,
+            played: None,
+        },
+        Err(NoMemory) => return Ended {
+            status: Status::Memory,
+            played: None,
+        },
     };
     let octets = match read_input(alloc, source, command.most_read()) {
         Ok(octets) => octets,
-        Err(ReadEnd::Failed) => return (Status::Read, None),
-        Err(ReadEnd::NoMemory) => return (Status::Memory, None),
+        Err(ReadEnd::Failed) => return Ended {
+            status: Status::Read,
+            played: None,
+        },
+        Err(ReadEnd::NoMemory) => return Ended {
+            status: Status::Memory,
+            played: None,
+        },
     };
     match report_of(alloc, command, octets, watch) {
         Ok(
@@ -121,11 +178,25 @@ pub fn run_cgf<S: Source, K: Sink, W: Watch>(
                 played,
             },
         ) => match write_all(sink, &printed) {
-            Ok(()) => (ended_by(refused), played),
-            Err(_) => (Status::Write, None),
+            Ok(()) => Ended {
+                status: ended_by(refused),
+                played,
+            },
+            Err(_) => Ended {
+                status: Status::Write,
+                played: None,
+            },
         },
-        Err(NoReport::Refused(Refusal { place, kind })) => (Status::Input { place, kind }, None),
-        Err(NoReport::NoMemory) => (Status::Memory, None),
+        Err(NoReport::Refused(Refusal { place, kind })) => {
+            Ended {
+                status: Status::Input { place, kind },
+                played: None,
+            }
+        }
+        Err(NoReport::NoMemory) => Ended {
+            status: Status::Memory,
+            played: None,
+        },
     }
 }
 

@@ -3,7 +3,7 @@ use gw_base::NoMemory;
 use replay_world::Played;
 
 /// The first place of an input that is refused.
-#[derive(Clone, Copy, Debug, PartialEq, Eq)]
+#[derive(Clone, Copy)]
 pub struct Refusal {
     /// The number of a script's line, from 1, or the place of a file's octet, from 0.
     pub place: u64,
@@ -20,7 +20,7 @@ pub struct Report {
 }
 
 /// Why there is nothing to print.
-#[derive(Clone, Copy, Debug, PartialEq, Eq)]
+#[derive(Clone, Copy)]
 pub enum NoReport {
     /// The grammar refuses the input.
     Refused(Refusal),

@@ -12,7 +12,7 @@ use cdr_file::{FileFault, list, read};
 use std::alloc::Global;
 
 /// The listing of a CDR file, or where its octets are none and why.
-#[tactic(auto, using(crate::proofs::Whole::shown_within, crate::proofs::Whole::shown_refusal))]
+#[tactic(auto, using(crate::proofs::Whole::shown_within, crate::proofs::Whole::shown_refusal, crate::proofs::Whole::shown_none))]
 pub fn report(alloc: Global, octets: Vec<u8>) -> Result<Report, NoReport>
     ensures within { OnOk result (length octets.items < most_read Command.Show) }
     ensures report { IfOk result (λ report. IsReport Command.Show octets.items report) }

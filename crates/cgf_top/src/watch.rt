@@ -6,9 +6,9 @@ pub trait Watch {
     fn ran(&mut self, lines: u64, all: u64);
 }
 
-/// Nobody.
-#[derive(Clone, Copy, Debug, PartialEq, Eq)]
-pub struct Nobody;
+/// Nobody is told.
+#[derive(Drop)]
+pub(crate) struct Nobody;
 
 impl Watch for Nobody {
     fn ran(&mut self, _lines: u64, _all: u64) {}

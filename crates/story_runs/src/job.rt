@@ -1,6 +1,6 @@
 //! A job over words and an input in memory.
 
-use cgf_top::{Nobody, Played, Status, run_cgf};
+use cgf_top::{Ended, Played, Status, run_cgf};
 use gw_base::{MemorySink, MemorySource, Octets};
 use std::alloc::Global;
 use std::io;
@@ -32,7 +32,7 @@ pub(crate) fn run(alloc: Global, words: &str, input: &str) -> io::Result<Done> {
     let mut source = MemorySource::new(input, PIECE, Vec::new(alloc));
     let sink = MemorySink::new(alloc, MOST_WRITTEN, Vec::new(alloc));
     let mut sink = sink.map_err(|_| Error::from(ErrorKind::OutOfMemory))?;
-    let (status, played) = run_cgf(alloc, &given, &mut source, &mut sink, &mut Nobody);
+    let Ended { status, played } = run_cgf(alloc, &given, &mut source, &mut sink);
     Ok(Done {
         status,
         printed: sink.octets().to_vec(alloc)?,

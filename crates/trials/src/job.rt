@@ -4,7 +4,7 @@
 
 ghost use Rattle.std.specs.Prelude.{◌≤◌};
 
-use cgf_top::{InputKind, LineKind, Nobody, Played, Status, WorldKind, run_cgf};
+use cgf_top::{Ended, InputKind, LineKind, Played, Status, WorldKind, run_cgf};
 use gw_base::{MemorySink, MemorySource, Octets};
 use std::alloc::Global;
 use std::test::Fail;
@@ -60,7 +60,7 @@ pub(crate) fn job(
     let input = Octets::of(alloc, input)?;
     let mut source = MemorySource::new(input, piece, fail_source.to_vec(alloc)?);
     let mut sink = MemorySink::new(alloc, 1_100_000, fail_sink.to_vec(alloc)?)?;
-    let (status, played) = run_cgf(alloc, &given, &mut source, &mut sink, &mut Nobody);
+    let Ended { status, played } = run_cgf(alloc, &given, &mut source, &mut sink);
     Ok(Done {
         status,
         printed: sink.octets().to_vec(alloc)?,

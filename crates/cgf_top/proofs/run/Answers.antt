@@ -3,14 +3,15 @@ use Rattle.std.specs.Io.KnownBytes.{Appends}
 use Rattle.gw_base.specs.Written.{AppendsFront}
 use Rattle.cgf_top.specs.Command.{command_of}
 use Rattle.cgf_top.specs.Ending.{HasCause, WordsDecide}
-use Rattle.cgf_top.specs.Run.{IsPlayed, IsRead, WritesReport, may_have_written}
+use Rattle.cgf_top.specs.Job.{job_of}
+use Rattle.cgf_top.specs.Run.{HasReported, IsRead, may_have_written}
 use Rattle.cgf_top.specs.declared.report.NoReport.{NoReport}
 use Rattle.cgf_top.specs.declared.status.Status.{Status}
 use Rattle.cgf_top.specs.declared.status.Status.TheVariants as status
 use Rattle.cgf_top.proofs.Clauses.{input_not_words, no_fault, not_words, not_write, ok_is_err, was_taken, words_decide, write_not_words}
 use Rattle.cgf_top.proofs.Ends.{complete_by}
-use Rattle.cgf_top.proofs.Whole.{plays_done, writes_done, writes_front, writes_refusal}
-use Rattle.cgf_top.proofs.run_cgf.Goals as goal
+use Rattle.cgf_top.proofs.Whole.{keeps_none, writes_done, writes_front, writes_refusal}
+use Rattle.cgf_top.proofs.run.Goals as goal
 
 -- The report was written.
 
@@ -29,12 +30,12 @@ returns-in-Ok-write_all-clause-untouched g c untaken =
 
 pub returns-in-Ok-write_all-clause-report : goal.returns-in-Ok-write_all-clause-report
 returns-in-Ok-write_all-clause-report g c reported =
-    subst (λ (s : Status). WritesReport (map string_bytes c.args.words.now) (g.S.Source.left c.args.source.now)
-    (g.S.Source.left c.read_input.new.source) (g.K.Sink.written c.args.sink.now) (g.K.Sink.written c.write_all.new.sink) s
+    subst (λ (s : Status). HasReported (job_of g.S.Source g.K.Sink (map string_bytes c.args.words.now) c.args.source.now c.read_input.new.source
+    c.args.sink.now c.write_all.new.sink) s
     c.in-Ok-report_of.field-0.played) (sym c.ended_by.ensures)
-    (writes_done (map string_bytes c.args.words.now) c.in-Ok-Some.command (g.S.Source.left c.args.source.now)
-    (g.S.Source.left c.read_input.new.source) (g.K.Sink.written c.args.sink.now) (g.K.Sink.written c.write_all.new.sink)
-    c.in-Ok.octets.items c.in-Ok-report_of.field-0 (sym c.in-Ok-Some.ensures.asked ∙ c.in-Ok-Some.field-0-is)
+    (writes_done (job_of g.S.Source g.K.Sink (map string_bytes c.args.words.now) c.args.source.now c.read_input.new.source
+    c.args.sink.now c.write_all.new.sink)
+    c.in-Ok-Some.command c.in-Ok.octets.items c.in-Ok-report_of.field-0 (sym c.in-Ok-Some.ensures.asked ∙ c.in-Ok-Some.field-0-is)
     (subst (λ (most : ℕ). IsRead most (g.S.Source.left c.args.source.now) (g.S.Source.left c.read_input.new.source) c.in-Ok.octets.items)
     c.most_read.ensures c.in-Ok.ensures.read)
     c.in-Ok-report_of.ensures.within c.in-Ok-report_of.ensures.report
@@ -58,10 +59,10 @@ returns-in-Ok-write_all-clause-complete g c some read written =
     c.most_read.ensures c.in-Ok.ensures.read)
     (c.ended_by.ensures ∙ c.in-Ok-report_of.ensures.report.ended)
 
-pub returns-in-Ok-write_all-clause-once : goal.returns-in-Ok-write_all-clause-once
-returns-in-Ok-write_all-clause-once g c =
-    subst (λ (s : Status). IsPlayed c.in-Ok-report_of.field-0.played s) (sym c.ended_by.ensures)
-    (plays_done c.in-Ok-Some.command c.in-Ok.octets.items c.in-Ok-report_of.field-0 c.in-Ok-report_of.ensures.report)
+pub returns-in-Ok-write_all-clause-none : goal.returns-in-Ok-write_all-clause-none
+returns-in-Ok-write_all-clause-none g c other =
+    keeps_none c.in-Ok-Some.command c.in-Ok.octets.items c.in-Ok-report_of.field-0 c.in-Ok-report_of.ensures.report
+    (λ done. other (c.ended_by.ensures ∙ done))
 
 -- The sink failed.
 
@@ -72,9 +73,9 @@ returns-in-Ok-report_of-clause-words g c =
 
 pub returns-in-Ok-report_of-clause-front : goal.returns-in-Ok-report_of-clause-front
 returns-in-Ok-report_of-clause-front g c is =
-    writes_front (map string_bytes c.args.words.now) c.in-Ok-Some.command (g.S.Source.left c.args.source.now)
-    (g.S.Source.left c.read_input.new.source) (g.K.Sink.written c.args.sink.now) (g.K.Sink.written c.write_all.new.sink)
-    c.in-Ok.octets.items c.in-Ok-report_of.field-0.printed.items _ (sym c.in-Ok-Some.ensures.asked ∙ c.in-Ok-Some.field-0-is)
+    writes_front (job_of g.S.Source g.K.Sink (map string_bytes c.args.words.now) c.args.source.now c.read_input.new.source
+    c.args.sink.now c.write_all.new.sink)
+    c.in-Ok-Some.command c.in-Ok.octets.items c.in-Ok-report_of.field-0.printed.items _ (sym c.in-Ok-Some.ensures.asked ∙ c.in-Ok-Some.field-0-is)
     (subst (λ (most : ℕ). IsRead most (g.S.Source.left c.args.source.now) (g.S.Source.left c.read_input.new.source) c.in-Ok.octets.items)
     c.most_read.ensures c.in-Ok.ensures.read)
     c.in-Ok-report_of.ensures.within refl c.in-Ok-report_of.ensures.report.taken c.in-Ok-report_of.ensures.report.printed
@@ -90,8 +91,9 @@ returns-in-Err-Refused-clause-words g c =
 
 pub returns-in-Err-Refused-clause-report : goal.returns-in-Err-Refused-clause-report
 returns-in-Err-Refused-clause-report g c reported =
-    writes_refusal (map string_bytes c.args.words.now) c.in-Ok-Some.command (g.S.Source.left c.args.source.now) (g.S.Source.left c.read_input.new.source)
-    (g.K.Sink.written c.args.sink.now) c.in-Ok.octets.items c.in-Err-Refused.field-0-0
+    writes_refusal (job_of g.S.Source g.K.Sink (map string_bytes c.args.words.now) c.args.source.now
+    c.read_input.new.source c.args.sink.now c.args.sink.now) c.in-Ok-Some.command c.in-Ok.octets.items
+    c.in-Err-Refused.field-0-0 refl
     (sym c.in-Ok-Some.ensures.asked ∙ c.in-Ok-Some.field-0-is)
     (subst (λ (most : ℕ). IsRead most (g.S.Source.left c.args.source.now) (g.S.Source.left c.read_input.new.source) c.in-Ok.octets.items)
     c.most_read.ensures c.in-Ok.ensures.read)
