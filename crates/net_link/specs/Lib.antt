@@ -1,0 +1,5 @@
+pub mod Datagrams
+pub mod FaultText
+pub mod Making
+pub mod Memory
+pub mod Steps
