@@ -15,7 +15,7 @@ pub record LinksState : Type 1 where
   pub received : Addr → Option (List Datagram)
   pub sent : Addr → Option (List Datagram)
 
--- the turns and the lists stay
+-- the turns and the lists stay, and an address that was made
 pub record Keeps (old new : LinksState) : Type 0 where
   pub made : (a : Addr) → old.IsMade a → new.IsMade a
   pub turns : (a : Addr) → new.turns a ≡ old.turns a
@@ -33,9 +33,9 @@ pub record Makes (R : Type 0) (old : LinksState) (at : Addr) (result : Result R 
 abbrev pub GrowsBy : Option (List Datagram) → Option (List Datagram) → Option (List Datagram) → Type 0
 GrowsBy old more new = IfSome new (λ list. joined old more ≡ Some list)
 
--- A link is taken back: what is told at its address grows by the link's, and the faults by its faults.
+-- A link is taken back: what is told at its address grows by the link's, and the faults by at least its faults.
 pub record TakesBack (old : LinksState) (link : LinkState) (new : LinksState) : Type 0 where
-  pub faults : new.faults ≡ added old.faults link.faults
+  pub faults : added old.faults link.faults ≤ new.faults
   pub made : (a : Addr) → old.IsMade a → new.IsMade a
   pub turns : new.turns link.address ≡ added (old.turns link.address) link.turns
   pub received : GrowsBy (old.received link.address) link.received (new.received link.address)

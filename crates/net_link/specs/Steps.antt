@@ -33,6 +33,7 @@ pub record Sends (old : LinkState) (to : Addr) (octets : List ℕ) (result : Res
 pub record Receives (old : LinkState) (into : List ℕ) (result : Result Heard Failed) (new : LinkState) : Type 0 where
   pub datagram : (from : Addr) (n : ℕ) → result ≡ Ok (heard.Datagram from n) → (n ≤ most_octets) × (new ≡ record old {
     turns = next_count old.turns;
-    received = with_one (record { peer = from; octets = take n into }) old.received })
+    received = with_one (record { peer = from; octets = take n into }) old.received;
+  })
   pub quiet : result ≡ Ok heard.Quiet → new ≡ record old { turns = next_count old.turns }
   pub failed : OnErr result (HasFailed old new)

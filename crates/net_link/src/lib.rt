@@ -12,9 +12,13 @@
 mod link;
 mod links;
 mod memory_link;
+mod memory_links;
 mod post;
+mod turns;
 
 pub use link::{Heard, Link, LinkStop};
 pub use links::Links;
 pub use memory_link::MemoryLink;
+pub use memory_links::MemoryLinks;
 pub use post::Post;
+pub use turns::Tally;

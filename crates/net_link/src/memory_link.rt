@@ -1,8 +1,9 @@
 // A link in memory.
-ghost use Rattle.std.specs.Prelude.{◌≡◌, ◌↔◌, ◌⊎◌, ◌×◌, ◌≤◌, ◌++◌, ◌∷◌, [], length, take, Contains, IfOk, OnOk, OnErr, Err, is_ok, if◌then◌else◌};
+ghost use Rattle.std.specs.Prelude.{◌≡◌, ◌≢◌, ◌↔◌, ◌<◌, ◌≤◌, ◌×◌, ◌⊎◌, [], true, length, Contains, IfOk, OnOk, OnErr, IsErr, Err};
 ghost use Rattle.gw_base.specs.Faults.{next_count};
+ghost use Rattle.net_link.specs.declared.link.LinkStop.TheVariants as stop;
 ghost use Rattle.net_link.specs.Datagrams.{IsNewAt};
-ghost use Rattle.net_link.specs.Memory.{AreShort, path_at, told_of};
+ghost use Rattle.net_link.specs.Memory.{AreShort, Hears, failed, path_at, sending, told_of};
 ghost use Rattle.net_link.specs.Steps.{Receives, Sends, Stops, most_octets};
 
 use crate::link::{Heard, Link, LinkStop};
@@ -12,19 +13,19 @@ use std::alloc::Global;
 use std::marker::Model;
 
 /// A link that holds what it receives and what was sent, tells both, and fails at the calls that it is told to, and at a
-/// datagram that it has no room for.
+/// datagram that it has no room for. Its calls are sends, receives and splits.
 #[derive(Drop)]
 pub struct MemoryLink {
     alloc: Global,
-    address: Addr,
+    pub(crate) address: Addr,
     given: Vec<Post>,
     next: usize,
-    sent: Vec<Post>,
+    pub(crate) sent: Vec<Post>,
     room: usize,
     calls: u64,
     fail: Vec<u64>,
-    turns: u64,
-    faults: u64,
+    pub(crate) turns: u64,
+    pub(crate) faults: u64,
 }
 
 impl Model for MemoryLink {
@@ -50,7 +51,13 @@ impl Model for MemoryLink {
 
 impl MemoryLink {
     // A link at this address that has these posts to receive.
-    pub(crate) fn new(alloc: Global, address: Addr, given: Vec<Post>, room: usize, fail: Vec<u64>) -> Result<MemoryLink, NoMemory>
+    pub(crate) fn new(
+        alloc: Global,
+        address: Addr,
+        given: Vec<Post>,
+        room: usize,
+        fail: Vec<u64>,
+    ) -> Result<MemoryLink, NoMemory>
         requires { AreShort given.items }
         ensures { IfOk result (λ link. link ≡ path_at address given.items room fail.items) }
     {
@@ -70,17 +77,29 @@ impl MemoryLink {
 
     // Counts a call that fails.
     fn failed(&mut self)
-        ensures { self.new ≡ record self.old { calls = next_count self.old.calls; faults = next_count self.old.faults } }
+        ensures { self.new ≡ failed self.old }
     {
         self.calls = self.calls.saturating_add(1);
         self.faults = self.faults.saturating_add(1);
     }
 
-    // Whether the next call is to fail.
-    fn fails(&self) -> bool
-        ensures { result ≡ true ↔ Contains self.now.fail (next_count self.now.calls) }
+    // Takes the next post that is left, into the front of a buffer.
+    fn take(&mut self, into: &mut [u8]) -> Heard
+        requires { most_octets ≤ length into.old }
+        ensures { Hears self.old.left self.old into.new result self.new }
     {
-        self.fail.contains(&self.calls.saturating_add(1))
+        self.calls = self.calls.saturating_add(1);
+        self.turns = self.turns.saturating_add(1);
+        if self.next == self.given.len() {
+            return Heard::Quiet;
+        }
+        let post = &self.given[self.next];
+        let octets = post.octets.octets();
+        let length = octets.len();
+        into[..length].copy_from_slice(octets);
+        let from = post.peer;
+        self.next += 1;
+        Heard::Datagram { from, length }
     }
 }
 
@@ -88,58 +107,72 @@ impl Link for MemoryLink {
     ghost state = { told_of };
 
     fn send(&mut self, to: Addr, octets: &[u8]) -> Result<(), LinkStop>
-        ensures { Sends (told_of self.old) to octets.now result (told_of self.new) }
+        ensures sends { Sends (told_of self.old) to octets.now result (told_of self.new) }
+        ensures fails { (result ≡ Err stop.Failed) → (Contains self.old.fail (next_count self.old.calls)
+            ⊎ (length self.old.sent ≡ self.old.room)) }
+        ensures works { OnOk result (¬ Contains self.old.fail (next_count self.old.calls)
+            × (length self.old.sent < self.old.room)) }
+        ensures ok { OnOk result (self.new ≡ sending self.old to octets.now) }
+        ensures failed { (result ≡ Err stop.Failed) → self.new ≡ failed self.old }
+        ensures no_memory { (result ≡ Err stop.NoMemory) → self.new ≡ self.old }
     {
-        if self.fails() || self.sent.len() == self.room {
+        let call = self.calls.saturating_add(1);
+        if self.fail.contains(&call) || self.sent.len() == self.room {
             self.failed();
             return Err(LinkStop::Failed);
         }
         let Ok(octets) = Octets::of(self.alloc, octets) else {
             return Err(LinkStop::NoMemory);
         };
-        let post = Post {
+        self.calls = call;
+        self.sent.push_reserved(Post {
             at: self.address,
             peer: to,
             octets,
-        };
-        match self.sent.push(post) {
-            Ok(()) => {}
-            Err(_) => unreachable!(),
-        }
-        self.calls = self.calls.saturating_add(1);
+        });
         Ok(())
     }
 
     fn receive(&mut self, into: &mut [u8]) -> Result<Heard, Failed>
         requires { most_octets ≤ length into.old }
-        ensures { Receives (told_of self.old) into.new result (told_of self.new) }
+        ensures receives { Receives (told_of self.old) into.new result (told_of self.new) }
+        ensures fails { IsErr result ↔ Contains self.old.fail (next_count self.old.calls) }
+        ensures failed { OnErr result (self.new ≡ failed self.old) }
+        ensures hears { IfOk result (λ heard. Hears self.old.left self.old into.new heard self.new) }
     {
-        if self.fails() {
+        let call = self.calls.saturating_add(1);
+        if self.fail.contains(&call) {
             self.failed();
             return Err(Failed);
         }
-        self.calls = self.calls.saturating_add(1);
-        self.turns = self.turns.saturating_add(1);
-        let Some(post) = self.given.get(self.next) else {
-            return Ok(Heard::Quiet);
-        };
-        let octets = post.octets.octets();
-        let length = octets.len();
-        into[..length].copy_from_slice(octets);
-        let from = post.peer;
-        self.next += 1;
-        Ok(Heard::Datagram { from, length })
+        Ok(self.take(into))
     }
 
     fn split(&mut self) -> Result<MemoryLink, LinkStop>
         ensures new { IfOk result (λ link. IsNewAt (told_of self.old).address (told_of link)) }
         ensures ok { OnOk result (told_of self.new ≡ told_of self.old) }
         ensures stops { Stops MemoryLink (told_of self.old) result (told_of self.new) }
+        ensures fails { (result ≡ Err stop.Failed) ↔ Contains self.old.fail (next_count self.old.calls) }
+        ensures works { IfOk result (λ link. link ≡ path_at self.old.address [] self.old.room self.old.fail) }
+        ensures counted { OnOk result (self.new ≡ record self.old { calls = next_count self.old.calls }) }
+        ensures failed { (result ≡ Err stop.Failed) → self.new ≡ failed self.old }
     {
-        let fail = self.fail.to_vec(self.alloc)?;
-        match MemoryLink::new(self.alloc, self.address, Vec::new(self.alloc), self.room, fail) {
-            Ok(link) => Ok(link),
-            Err(NoMemory) => Err(LinkStop::NoMemory),
+        let call = self.calls.saturating_add(1);
+        if self.fail.contains(&call) {
+            self.failed();
+            return Err(LinkStop::Failed);
         }
+        let fail = self.fail.to_vec(self.alloc)?;
+        let Ok(link) = MemoryLink::new(
+            self.alloc,
+            self.address,
+            Vec::new(self.alloc),
+            self.room,
+            fail,
+        ) else {
+            return Err(LinkStop::NoMemory);
+        };
+        self.calls = call;
+        Ok(link)
     }
 }
