@@ -5,3 +5,4 @@ pub mod Memory
 pub mod Net
 pub mod Steps
 pub mod Turns
+pub mod Udp

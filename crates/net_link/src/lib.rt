@@ -15,6 +15,8 @@ mod memory_link;
 mod memory_links;
 mod post;
 mod turns;
+mod udp_link;
+mod udp_links;
 
 pub use link::{Heard, Link, LinkStop};
 pub use links::Links;
@@ -22,3 +24,5 @@ pub use memory_link::MemoryLink;
 pub use memory_links::MemoryLinks;
 pub use post::Post;
 pub use turns::Tally;
+pub use udp_link::UdpLink;
+pub use udp_links::UdpLinks;
