@@ -111,13 +111,13 @@ impl MemoryLinks {
     pub fn sent(&self, k: usize) -> Option<&Post>
         ensures { option_copied result ≡ slice_get (all_sent self.now.links) k }
     {
-        let mut k = k;
+        let mut left = k;
         for link in &self.links {
             let count = link.sent.len();
-            if k < count {
-                return link.sent.get(k);
+            if left < count {
+                return link.sent.get(left);
             }
-            k -= count;
+            left -= count;
         }
         None
     }

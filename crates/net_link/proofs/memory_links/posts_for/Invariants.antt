@@ -1,4 +1,4 @@
-use Rattle.std.proofs.Common.{◌≡◌, ◌×◌, take}
+use Rattle.std.proofs.Common.{◌≡◌, take}
 use Rattle.net_link.specs.Memory.{AreShort}
 use Rattle.net_link.specs.Net.{given_for}
 use Rattle.net_link.proofs.memory_links.posts_for.Given as goal

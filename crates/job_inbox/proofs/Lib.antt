@@ -1,0 +1,3 @@
+pub mod Orders
+pub mod Sublists
+pub mod Totals
