@@ -175,7 +175,7 @@ shows port v some' alone items views rule at = not_unbegun items views port v so
         let taken = b.2 in
         let k = b.3.each port v at in
         let s : StandsIn put taken (first_of v.hands) = All-head (StandsIn put taken) (first_of v.hands) []
-            (subst (All (StandsIn put taken)) alone k.stand) in
+        (subst (All (StandsIn put taken)) alone k.stand) in
         (taken, (subst (λ l. IsSublist (first_of v.hands).put l) b.3.order s.0, s.1))
 
 -- ---- the queue is begun
@@ -227,7 +227,7 @@ starts port passes some' items views rule at = ⊎_elim fresh (λ (b : Begun ite
     fresh : (items ≡ []) × (views ≡ unbegun ∷ []) → Rule items (set views port bystander ++ begun passes ∷ [])
     fresh none =
         subst (λ (l : List Hands). get_elem? l port ≡ some unbegun → Rule items (set l port bystander ++ begun passes ∷ []))
-            (sym none.1) (base none.0 port) at
+        (sym none.1) (base none.0 port) at
 
 -- ---- a pass gets a seat of its own
 
@@ -242,7 +242,7 @@ splits port v some' items views rule at = inr (not_unbegun items views port v so
         let r : AreInOrder n put taken items views = b.3 in
         let k : Knows n put taken v = r.each port v at in
         let total = λ (f : Hand → ℕ). parted _ _ _ _ _ _ (total_set (over f) views port v (without_first v) at)
-            (sum_by_push (over f) (set views port (without_first v)) (first_alone v)) (sum_by-take-drop f v.hands 1) in
+        (sum_by_push (over f) (set views port (without_first v)) (first_alone v)) (sum_by-take-drop f v.hands 1) in
         let kept : Knows n put taken (without_first v) = record {
           begun = k.begun;
           made = λ some. k.made (omega (arith, length-drop 1 v.hands));
@@ -300,9 +300,9 @@ joins port v other w some' alike items views rule at apart at' = inr (not_unbegu
           stand = All-nil (StandsIn put taken);
         } in
         let total = λ (f : Hand → ℕ). merged _ _ _ _ _ _
-            (total_set (over f) views port v (both v w) at)
-            (total_set (over f) (set views port (both v w)) other w bystander at')
-            (sum_by-append f w.hands v.hands) in (
+        (total_set (over f) views port v (both v w) at)
+        (total_set (over f) (set views port (both v w)) other w bystander at')
+        (sum_by-append f w.hands v.hands) in (
           n,
           put,
           taken,

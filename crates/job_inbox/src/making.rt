@@ -38,7 +38,11 @@ fn deal(inbox: &Inbox, mut seat: Seat, all: &mut Vec<InboxPass>)
 
 impl Inbox {
     /// An inbox with room for so many jobs, and so many passes to it.
-    pub fn new(alloc: Global, capacity: usize, passes: u32) -> Result<(Inbox, Vec<InboxPass>), NoMemory>
+    pub fn new(
+        alloc: Global,
+        capacity: usize,
+        passes: u32,
+    ) -> Result<(Inbox, Vec<InboxPass>), NoMemory>
         requires room { 0 < capacity }
         requires some { 0 < passes }
         ensures inbox { IfOk result (λ new. (capacity_of new.0 ≡ capacity) × (made_by new.0 ≡ passes)) }

@@ -21,15 +21,15 @@ module _ (f : MemoryPath → List Datagram) where
       let own : at_address link.address link ≡ f link =
       ap (λ t. if t then f link else []) (is_at_same link.address link.address refl) in
       flat_map-append (at_address link.address) links (link ∷ [])
-          ∙ ap (λ more. flat_map (at_address link.address) links ++ more) (append-nil (at_address link.address link) ∙ own)
+      ∙ ap (λ more. flat_map (at_address link.address) links ++ more) (append-nil (at_address link.address link) ∙ own)
 
   lists-other : (links : List MemoryPath) (link : MemoryPath) (at : Addr) → at ≢ link.address →
       flat_map (at_address at) (links ++ link ∷ []) ≡ flat_map (at_address at) links
   lists-other links link at other =
       let none : at_address at link ≡ [] = ap (λ t. if t then f link else []) (is_at_other at link.address other) in
       flat_map-append (at_address at) links (link ∷ [])
-          ∙ ap (λ more. flat_map (at_address at) links ++ more) (append-nil (at_address at link) ∙ none)
-          ∙ append-nil (flat_map (at_address at) links)
+      ∙ ap (λ more. flat_map (at_address at) links ++ more) (append-nil (at_address at link) ∙ none)
+      ∙ append-nil (flat_map (at_address at) links)
 
 pub received-more : (links : List MemoryPath) (link : MemoryPath) →
     received_at link.address (links ++ link ∷ []) ≡ received_at link.address links ++ datagrams_of link.received

@@ -65,7 +65,7 @@ turns-raised tallies at place more d within here =
     let whole : sum_by f (set tallies place (raised before at more)) + f before ≡ sum_by f tallies + f (raised before at more) =
     sum_by-set f tallies place (raised before at more) d within in
     capped (sum_by f (set tallies place (raised before at more))) (sum_by f tallies) before.turns more
-        (rw own at part) (rw (own, new) at whole)
+    (rw own at part) (rw (own, new) at whole)
   where
     capped : (now was part more : ℕ) → part ≤ was → now + part ≡ was + min (part + more) (2 ^ 64 - 1) →
         min now (2 ^ 64 - 1) ≡ min (min was (2 ^ 64 - 1) + more) (2 ^ 64 - 1)
@@ -92,5 +92,5 @@ pub places-raised : (tallies : List Tally) (at : Addr) (place more : ℕ) (d : T
 places-raised tallies at place more d within here =
     let there : get_or (map place_of tallies) place at ≡ at = get_or-map place_of tallies place d at within ∙ here in
     map-set place_of tallies place (raised (get_or tallies place d) at more)
-        ∙ ap (λ (a : Addr). set (map place_of tallies) place a) (sym there)
-        ∙ set-get_or (map place_of tallies) place at
+    ∙ ap (λ (a : Addr). set (map place_of tallies) place a) (sym there)
+    ∙ set-get_or (map place_of tallies) place at

@@ -46,7 +46,8 @@ impl Model for MemoryLink {
       faults = l.faults;
     } };
 
-    ghost invariant = { λ l. (l.next ≤ length l.given.items) × AreShort l.given.items × (l.room ≤ vec_capacity l.sent) };
+    ghost invariant = { λ l. (l.next ≤ length l.given.items) × AreShort l.given.items
+      × (l.room ≤ vec_capacity l.sent) };
 }
 
 impl MemoryLink {

@@ -22,9 +22,13 @@ const WAIT: u64 = 20;
 
 // The errors of Linux that say that the descriptor is no open socket for datagrams, or that a buffer isn't memory.
 const EBADF: i32 = 9;
+
 const EFAULT: i32 = 14;
+
 const ENOTSOCK: i32 = 88;
+
 const EOPNOTSUPP: i32 = 95;
+
 const ENOTCONN: i32 = 107;
 
 /// A link over UDP and IPv4. It tells nothing of the datagrams. A call waits for one for 20 milliseconds.
