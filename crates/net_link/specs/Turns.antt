@@ -1,5 +1,5 @@
 -- The turns of links that were taken back, by their addresses.
-use Rattle.std.specs.Prelude.{ℕ, ◌-◌, ◌^◌, ◌==◌, ◌&&◌, Bool, if◌then◌else◌, List, Contains, map, min, sum_by}
+use Rattle.std.specs.Prelude.{ℕ, ◌+◌, ◌-◌, ◌^◌, ◌==◌, ◌&&◌, Bool, if◌then◌else◌, List, Contains, map, min, sum_by}
 use Rattle.gw_base.specs.declared.address.Addr.{Addr}
 use Rattle.net_link.specs.declared.turns.Tally.{Tally}
 
@@ -13,6 +13,10 @@ turns_in a tally = if is_at a tally.at then tally.turns else 0
 -- the turns at an address, at most the last value of 64 bits
 abbrev pub turns_at : Addr → List Tally → ℕ
 turns_at a tallies = min (sum_by (turns_in a) tallies) (2 ^ 64 - 1)
+
+-- a tally with more turns, at most the last value of 64 bits
+abbrev pub raised : Tally → ℕ → Tally
+raised tally more = record { at = tally.at; turns = min (tally.turns + more) (2 ^ 64 - 1) }
 
 abbrev pub place_of : Tally → Addr
 place_of tally = tally.at

@@ -47,7 +47,7 @@ impl Model for MemoryLink {
     } };
 
     ghost invariant = { λ l. (l.next ≤ length l.given.items) × AreShort l.given.items
-      × (l.room ≤ vec_capacity l.sent) };
+        × (l.room ≤ vec_capacity l.sent) };
 }
 
 impl MemoryLink {
@@ -85,6 +85,7 @@ impl MemoryLink {
     }
 
     // Takes the next post that is left, into the front of a buffer.
+    #[tactic(auto, using(crate::proofs::PathLemmas::hears_none, crate::proofs::PathLemmas::hears_one))]
     fn take(&mut self, into: &mut [u8]) -> Heard
         requires { most_octets ≤ length into.old }
         ensures { Hears self.old.left self.old into.new result self.new }

@@ -159,10 +159,10 @@ impl Links for MemoryLinks {
     {
         self.faults = self.faults.saturating_add(link.faults);
         add(&mut self.tallies, link.address, link.turns);
-        if self.links.len() < KEPT {
-            self.links.push_reserved(link);
-        } else {
+        if self.links.len() >= KEPT {
             self.are_all = false;
+            return;
         }
+        self.links.push_reserved(link);
     }
 }

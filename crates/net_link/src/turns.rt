@@ -2,7 +2,7 @@
 ghost use Rattle.std.specs.Prelude.{◌≡◌, ◌≢◌, ◌<◌, length, map};
 ghost use Rattle.std.specs.List.{HoldsAt};
 ghost use Rattle.net_link.specs.Datagrams.{added};
-ghost use Rattle.net_link.specs.Turns.{IsListed, place_of, turns_at};
+ghost use Rattle.net_link.specs.Turns.{IsListed, place_of, raised, turns_at};
 
 use gw_base::Addr;
 
@@ -13,14 +13,28 @@ pub struct Tally {
     pub turns: u64,
 }
 
+impl Tally {
+    // The tally with more turns.
+    fn raised(self, more: u64) -> Tally
+        ensures { result ≡ raised self more }
+    {
+        Tally {
+            at: self.at,
+            turns: self.turns.saturating_add(more),
+        }
+    }
+}
+
 // The place of a tally for this address.
+#[tactic(auto, using(crate::proofs::TurnLemmas::at_same, crate::proofs::TurnLemmas::at_apart))]
 fn find(tallies: &[Tally], at: Addr) -> usize
     requires { IsListed at tallies.now }
     ensures within { result < length tallies.now }
     ensures at { HoldsAt (λ tally. tally.at ≡ at) tallies.now result }
 {
     for i in 0..tallies.len() {
-        if tallies[i].at == at {
+        let tally = tallies[i];
+        if tally.at == at {
             return i;
         }
     }
@@ -35,9 +49,6 @@ pub(crate) fn add(tallies: &mut [Tally], at: Addr, turns: u64)
     ensures others { (a : Addr) → a ≢ at → turns_at a tallies.new ≡ turns_at a tallies.old }
 {
     let place = find(tallies, at);
-    let before = tallies[place].turns;
-    tallies[place] = Tally {
-        at,
-        turns: before.saturating_add(turns),
-    };
+    let tally = tallies[place];
+    tallies[place] = tally.raised(turns);
 }
