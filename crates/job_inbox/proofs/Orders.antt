@@ -29,7 +29,7 @@ alone_there views port v only at = first port (ap (λ l. get_elem? l port) (sym 
 
 not_unbegun : {P : Type 0} (items : List Job) (views : List Hands) (port : ℕ) (v : Hands) → 1 ≤ v.made → get_elem? views port ≡ some v →
     (Begun items views → P) → Rule items views → P
-not_unbegun items views port v some' at go rule =
+not_unbegun items views port v lasts at go rule =
     ⊎_elim
     (λ (none : (items ≡ []) × (views ≡ unbegun ∷ [])).
     let nothing : v.made ≡ 0 = ap (λ (u : Hands). u.made) (alone_there views port v none.1 at) in
@@ -37,11 +37,38 @@ not_unbegun items views port v some' at go rule =
     go
     rule
 
+-- ---- sums, as one of their parts changes
+
+same_total : (now was new old all : ℕ) → now + old ≡ was + new → new ≡ old → was ≡ all → now ≡ all
+same_total now was new old all e same whole = omega arith
+
+grown_total : (now was old new whole longer more : ℕ) → now + (0 + old) ≡ was + (0 + new) → new ≡ old + more →
+    was ≡ whole → longer ≡ whole + more → now ≡ longer
+grown_total now was old new whole longer more e grown was_whole long = omega arith
+
+parted : (now mid was whole first rest : ℕ) → mid + whole ≡ was + rest → now ≡ mid + first → first + rest ≡ whole → now ≡ was
+parted now mid was whole first rest e push parts = omega arith
+
+merged : (now mid was one two sum : ℕ) → mid + one ≡ was + sum → now + two ≡ mid + 0 → sum ≡ two + one → now ≡ was
+merged now mid was one two sum first second parts = omega arith
+
+halves : (hands : List Hand) → length (take 1 hands) + length (drop 1 hands) ≡ length hands
+halves hands = omega (arith, length-take 1 hands, length-drop 1 hands)
+
+idles : (f : Hand → ℕ) → f idle ≡ 0 → (k : ℕ) → sum_by f (replicate k idle) ≡ 0
+idles f none zero = refl
+idles f none (suc k) = omega (arith, sum_by-cons f idle (replicate k idle), idles f none k)
+
+-- two seats whose passes are of one number
+made_alike : (w v mw mv n : ℕ) → (0 < w → mw ≡ n) → (0 < v → mv ≡ n) → mv ≡ mw → 0 < w + v → mv ≡ n
+made_alike zero v mw mv n a b same h = b (omega arith)
+made_alike (suc w) v mw mv n a b same h = same ∙ a (omega arith)
+
 -- ---- what others know, as one goes on
 
 more_put : (n : ℕ) (put taken : List Job) (job : Job) (v : Hands) → Knows n put taken v → Knows n (put ++ job ∷ []) taken v
 more_put n put taken job v k = record {
-  begun = k.begun;
+  has_begun = k.has_begun;
   made = k.made;
   stand = All-weaker (StandsIn put taken) (StandsIn (put ++ job ∷ []) taken)
       (λ h s. (sub_more h.put put (job ∷ []) s.0, s.1)) v.hands k.stand;
@@ -49,7 +76,7 @@ more_put n put taken job v k = record {
 
 more_taken : (n : ℕ) (put taken : List Job) (job : Job) (v : Hands) → Knows n put taken v → Knows n put (taken ++ job ∷ []) v
 more_taken n put taken job v k = record {
-  begun = k.begun;
+  has_begun = k.has_begun;
   made = k.made;
   stand = All-weaker (StandsIn put taken) (StandsIn put (taken ++ job ∷ []))
       (λ h s. (s.0, sub_more h.taken taken (job ∷ []) s.1)) v.hands k.stand;
@@ -70,7 +97,7 @@ push_one m port h job items views at b =
     let k : Knows n put taken v = r.each port v at in
     let s : StandsIn put taken h = All-head (StandsIn put taken) h [] k.stand in
     let mine : Knows n (put ++ job ∷ []) taken w = record {
-      begun = k.begun;
+      has_begun = k.has_begun;
       made = k.made;
       stand = All-cons (StandsIn (put ++ job ∷ []) taken) (with_put job h) []
           (sub_append h.put put (job ∷ []) s.0, s.1) (All-nil (StandsIn (put ++ job ∷ []) taken));
@@ -83,29 +110,22 @@ push_one m port h job items views at b =
         passes = same_total _ _ 1 1 n (total_set count views port v w at) refl r.passes;
         each = each_set (Knows n (put ++ job ∷ []) taken) views port w mine
             (λ j u e. more_put n put taken job u (r.each j u e));
-        puts = λ weight. put_total _ _ (sum_by weight h.put) _ _ _ (weight job)
+        puts = λ weight. grown_total _ _ (sum_by weight h.put) _ _ _ (weight job)
             (total_set (over (weight_put weight)) views port v w at) (sum_by_push weight h.put job)
             (r.puts weight) (sum_by_push weight put job);
         takes = λ weight. same_total _ _ _ _ _ (total_set (over (weight_taken weight)) views port v w at) refl (r.takes weight);
       },
     )
-  where
-    same_total : (now was new old all : ℕ) → now + old ≡ was + new → new ≡ old → was ≡ all → now ≡ all
-    same_total now was new old all e same whole = omega arith
-
-    put_total : (now was old new whole longer more : ℕ) → now + (0 + old) ≡ was + (0 + new) → new ≡ old + more →
-        was ≡ whole → longer ≡ whole + more → now ≡ longer
-    put_total now was old new whole longer more e grown was_whole long = omega arith
 
 pub pushes : (n port : ℕ) (v : Hands) (job : Job) → 1 ≤ v.made → v.hands ≡ first_of v.hands ∷ [] →
     Pushes Rule n port v job (λ w. w ≡ with_first (with_put job) v)
-pushes n port v job some' alone items views room rule at =
+pushes n port v job lasts alone items views room rule at =
     let h = first_of v.hands in
     let same : v ≡ hands_of v.made (h ∷ []) = ap (λ hs. hands_of v.made hs) alone in
     let at' : get_elem? views port ≡ some (hands_of v.made (h ∷ [])) = at ∙ ap (λ (u : Hands). some u) same in
     let goes : with_first (with_put job) v ≡ hands_of v.made (with_put job h ∷ []) = ap (λ (u : Hands). with_first (with_put job) u) same in (
       hands_of v.made (with_put job h ∷ []),
-      inr (not_unbegun items views port v some' at (push_one v.made port h job items views at') rule),
+      inr (not_unbegun items views port v lasts at (push_one v.made port h job items views at') rule),
       sym goes,
     )
 
@@ -124,7 +144,7 @@ take_one m port h job items views at b =
     let k : Knows n put taken v = r.each port v at in
     let s : StandsIn put taken h = All-head (StandsIn put taken) h [] k.stand in
     let mine : Knows n put (taken ++ job ∷ []) w = record {
-      begun = k.begun;
+      has_begun = k.has_begun;
       made = k.made;
       stand = All-cons (StandsIn put (taken ++ job ∷ [])) (with_taken job h) []
           (s.0, sub_append h.taken taken (job ∷ []) s.1) (All-nil (StandsIn put (taken ++ job ∷ [])));
@@ -138,28 +158,21 @@ take_one m port h job items views at b =
         each = each_set (Knows n put (taken ++ job ∷ [])) views port w mine
             (λ j u e. more_taken n put taken job u (r.each j u e));
         puts = λ weight. same_total _ _ _ _ _ (total_set (over (weight_put weight)) views port v w at) refl (r.puts weight);
-        takes = λ weight. put_total _ _ (sum_by weight h.taken) _ _ _ (weight job)
+        takes = λ weight. grown_total _ _ (sum_by weight h.taken) _ _ _ (weight job)
             (total_set (over (weight_taken weight)) views port v w at) (sum_by_push weight h.taken job)
             (r.takes weight) (sum_by_push weight taken job);
       },
     )
-  where
-    same_total : (now was new old all : ℕ) → now + old ≡ was + new → new ≡ old → was ≡ all → now ≡ all
-    same_total now was new old all e same whole = omega arith
-
-    put_total : (now was old new whole longer more : ℕ) → now + (0 + old) ≡ was + (0 + new) → new ≡ old + more →
-        was ≡ whole → longer ≡ whole + more → now ≡ longer
-    put_total now was old new whole longer more e grown was_whole long = omega arith
 
 pub takes : (port : ℕ) (v : Hands) → 1 ≤ v.made → v.hands ≡ first_of v.hands ∷ [] →
     Pops Rule port v (λ job w. w ≡ with_first (with_taken job) v)
-takes port v some' alone job items views rule at =
+takes port v lasts alone job items views rule at =
     let h = first_of v.hands in
     let same : v ≡ hands_of v.made (h ∷ []) = ap (λ hs. hands_of v.made hs) alone in
     let at' : get_elem? views port ≡ some (hands_of v.made (h ∷ [])) = at ∙ ap (λ (u : Hands). some u) same in
     let goes : with_first (with_taken job) v ≡ hands_of v.made (with_taken job h ∷ []) = ap (λ (u : Hands). with_first (with_taken job) u) same in (
       hands_of v.made (with_taken job h ∷ []),
-      inr (not_unbegun (job ∷ items) views port v some' at (take_one v.made port h job items views at') rule),
+      inr (not_unbegun (job ∷ items) views port v lasts at (take_one v.made port h job items views at') rule),
       sym goes,
     )
 
@@ -167,7 +180,7 @@ takes port v some' alone job items views rule at =
 
 pub shows : (port : ℕ) (v : Hands) → 1 ≤ v.made → v.hands ≡ first_of v.hands ∷ [] →
     Learns Rule port v (λ items. Shows (first_of v.hands) items)
-shows port v some' alone items views rule at = not_unbegun items views port v some' at told rule
+shows port v lasts alone items views rule at = not_unbegun items views port v lasts at told rule
   where
     told : Begun items views → Shows (first_of v.hands) items
     told b =
@@ -180,59 +193,55 @@ shows port v some' alone items views rule at = not_unbegun items views port v so
 
 -- ---- the queue is begun
 
-pub starts : (port passes : ℕ) → 0 < passes → Forks Rule port unbegun bystander (begun passes)
-starts port passes some' items views rule at = ⊎_elim fresh (λ (b : Begun items views). absurd (never b)) rule
+pub starts : (port all : ℕ) → 0 < all → Forks Rule port unbegun bystander (begun all)
+starts port all lasts items views rule at = ⊎_elim fresh (λ (b : Begun items views). absurd (never b)) rule
   where
     never : Begun items views → ⊥
-    never b = let k = b.3.each port unbegun at in let one : 1 ≤ 0 = k.begun in omega arith
+    never b = let k = b.3.each port unbegun at in let one : 1 ≤ 0 = k.has_begun in omega arith
 
-    gone : Knows passes [] [] bystander
+    gone : Knows all [] [] bystander
     gone = record {
-      begun = omega arith;
-      made = λ some. absurd (omega arith);
+      has_begun = omega arith;
+      made = λ here. absurd (omega arith);
       stand = All-nil (StandsIn [] []);
     }
 
-    idlers : Knows passes [] [] (begun passes)
+    idlers : Knows all [] [] (begun all)
     idlers = record {
-      begun = omega arith;
-      made = λ some. refl;
-      stand = All-replicate (StandsIn [] []) passes idle (refl, refl);
+      has_begun = omega arith;
+      made = λ here. refl;
+      stand = All-replicate (StandsIn [] []) all idle (refl, refl);
     }
 
-    first : Each (Knows passes [] []) (bystander ∷ [])
-    first zero v e = subst (Knows passes [] []) (some-injective bystander v e) gone
+    first : Each (Knows all [] []) (bystander ∷ [])
+    first zero v e = subst (Knows all [] []) (some-injective bystander v e) gone
     first (suc port) v e = absurd (some-ne-none v (sym e))
 
-    idles : (f : Hand → ℕ) → f idle ≡ 0 → (k : ℕ) → sum_by f (replicate k idle) ≡ 0
-    idles f none zero = refl
-    idles f none (suc k) = omega (arith, sum_by-cons f idle (replicate k idle), idles f none k)
-
     base : items ≡ [] → (port : ℕ) → get_elem? (unbegun ∷ []) port ≡ some unbegun →
-        Rule items (set (unbegun ∷ []) port bystander ++ begun passes ∷ [])
+        Rule items (set (unbegun ∷ []) port bystander ++ begun all ∷ [])
     base none zero e = inr (
-      passes,
+      all,
       [],
       [],
       record {
         order = sym none;
-        passes = omega (arith, length-replicate passes idle);
-        each = each_snoc (Knows passes [] []) (bystander ∷ []) (begun passes) idlers first;
-        puts = λ weight. omega (arith, idles (weight_put weight) refl passes);
-        takes = λ weight. omega (arith, idles (weight_taken weight) refl passes);
+        passes = omega (arith, length-replicate all idle);
+        each = each_snoc (Knows all [] []) (bystander ∷ []) (begun all) idlers first;
+        puts = λ weight. omega (arith, idles (weight_put weight) refl all);
+        takes = λ weight. omega (arith, idles (weight_taken weight) refl all);
       },
     )
     base none (suc port) e = absurd (some-ne-none unbegun (sym e))
 
-    fresh : (items ≡ []) × (views ≡ unbegun ∷ []) → Rule items (set views port bystander ++ begun passes ∷ [])
+    fresh : (items ≡ []) × (views ≡ unbegun ∷ []) → Rule items (set views port bystander ++ begun all ∷ [])
     fresh none =
-        subst (λ (l : List Hands). get_elem? l port ≡ some unbegun → Rule items (set l port bystander ++ begun passes ∷ []))
+        subst (λ (l : List Hands). get_elem? l port ≡ some unbegun → Rule items (set l port bystander ++ begun all ∷ []))
         (sym none.1) (base none.0 port) at
 
 -- ---- a pass gets a seat of its own
 
 pub splits : (port : ℕ) (v : Hands) → 1 ≤ v.made → Forks Rule port v (without_first v) (first_alone v)
-splits port v some' items views rule at = inr (not_unbegun items views port v some' at cut rule)
+splits port v lasts items views rule at = inr (not_unbegun items views port v lasts at cut rule)
   where
     cut : Begun items views → Begun items (set views port (without_first v) ++ first_alone v ∷ [])
     cut b =
@@ -244,13 +253,13 @@ splits port v some' items views rule at = inr (not_unbegun items views port v so
         let total = λ (f : Hand → ℕ). parted _ _ _ _ _ _ (total_set (over f) views port v (without_first v) at)
         (sum_by_push (over f) (set views port (without_first v)) (first_alone v)) (sum_by-take-drop f v.hands 1) in
         let kept : Knows n put taken (without_first v) = record {
-          begun = k.begun;
-          made = λ some. k.made (omega (arith, length-drop 1 v.hands));
+          has_begun = k.has_begun;
+          made = λ here. k.made (omega (arith, length-drop 1 v.hands));
           stand = All-drop (StandsIn put taken) 1 v.hands k.stand;
         } in
         let given : Knows n put taken (first_alone v) = record {
-          begun = k.begun;
-          made = λ some. k.made (omega (arith, length-take 1 v.hands));
+          has_begun = k.has_begun;
+          made = λ here. k.made (omega (arith, length-take 1 v.hands));
           stand = All-take (StandsIn put taken) 1 v.hands k.stand;
         } in (
           n,
@@ -259,23 +268,19 @@ splits port v some' items views rule at = inr (not_unbegun items views port v so
           record {
             order = r.order;
             passes = parted _ _ _ _ _ _ (total_set count views port v (without_first v) at)
-                (sum_by_push count (set views port (without_first v)) (first_alone v))
-                (omega (arith, length-take 1 v.hands, length-drop 1 v.hands)) ∙ r.passes;
+                (sum_by_push count (set views port (without_first v)) (first_alone v)) (halves v.hands) ∙ r.passes;
             each = each_snoc (Knows n put taken) (set views port (without_first v)) (first_alone v) given
                 (each_set (Knows n put taken) views port (without_first v) kept r.each);
             puts = λ weight. total (weight_put weight) ∙ r.puts weight;
             takes = λ weight. total (weight_taken weight) ∙ r.takes weight;
           },
         )
-      where
-        parted : (now mid was whole first rest : ℕ) → mid + whole ≡ was + rest → now ≡ mid + first → first + rest ≡ whole → now ≡ was
-        parted now mid was whole first rest e push parts = omega arith
 
 -- ---- a pass is taken into another's seat
 
 pub joins : (port : ℕ) (v : Hands) (other : ℕ) (w : Hands) → 1 ≤ v.made → v.made ≡ w.made →
     Merges Rule port v other w (both v w) bystander
-joins port v other w some' alike items views rule at apart at' = inr (not_unbegun items views port v some' at join rule)
+joins port v other w lasts alike items views rule at apart at' = inr (not_unbegun items views port v lasts at join rule)
   where
     was : get_elem? views other ≡ some w
     was = ⊎_elim (λ x. absurd (apart x.0)) (λ x. x.1) (at_set views port other (both v w) w at')
@@ -289,14 +294,14 @@ joins port v other w some' alike items views rule at apart at' = inr (not_unbegu
         let k : Knows n put taken v = r.each port v at in
         let l : Knows n put taken w = r.each other w was in
         let together : Knows n put taken (both v w) = record {
-          begun = k.begun;
-          made = λ some. either (length w.hands) (length v.hands) w.made v.made n l.made k.made alike
+          has_begun = k.has_begun;
+          made = λ here. made_alike (length w.hands) (length v.hands) w.made v.made n l.made k.made alike
               (omega (arith, length-append w.hands v.hands));
           stand = All-append (StandsIn put taken) w.hands v.hands l.stand k.stand;
         } in
         let gone : Knows n put taken bystander = record {
-          begun = omega arith;
-          made = λ some. absurd (omega arith);
+          has_begun = omega arith;
+          made = λ here. absurd (omega arith);
           stand = All-nil (StandsIn put taken);
         } in
         let total = λ (f : Hand → ℕ). merged _ _ _ _ _ _
@@ -316,18 +321,11 @@ joins port v other w some' alike items views rule at apart at' = inr (not_unbegu
             takes = λ weight. total (weight_taken weight) ∙ r.takes weight;
           },
         )
-      where
-        merged : (now mid was one two sum : ℕ) → mid + one ≡ was + sum → now + two ≡ mid + 0 → sum ≡ two + one → now ≡ was
-        merged now mid was one two sum first second parts = omega arith
-
-        either : (w v mw mv n : ℕ) → (0 < w → mw ≡ n) → (0 < v → mv ≡ n) → mv ≡ mw → 0 < w + v → mv ≡ n
-        either zero v mw mv n a b same h = b (omega arith)
-        either (suc w) v mw mv n a b same h = same ∙ a (omega arith)
 
 -- ---- who has all passes knows the whole
 
 pub ends : (port : ℕ) (v : Hands) → 1 ≤ v.made → v.made ≤ length v.hands → Learns Rule port v (Ends v)
-ends port v some' all items views rule at = not_unbegun items views port v some' at told rule
+ends port v lasts all items views rule at = not_unbegun items views port v lasts at told rule
   where
     told : Begun items views → Ends v items
     told b =

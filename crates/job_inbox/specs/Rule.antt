@@ -63,7 +63,7 @@ over f v = sum_by f v.hands
 
 -- what a seat knows fits to what was pushed and taken in all, and to how many passes there are
 pub record Knows (n : ℕ) (put taken : List Job) (v : Hands) : Type 0 where
-  pub begun : 1 ≤ v.made
+  pub has_begun : 1 ≤ v.made
   pub made : 0 < length v.hands → v.made ≡ n
   pub stand : All (StandsIn put taken) v.hands
 

@@ -2,8 +2,6 @@
 ghost use Rattle.std.specs.Prelude.{◌≡◌, ◌<◌, ◌∷◌, [], IfErr, IfNone, IfSome, OnErr, OnOk};
 ghost use Rattle.crossbeam_queue.specs.Fifo.{Held};
 ghost use Rattle.crossbeam_queue.specs.Passes.{view};
-ghost use Rattle.job_inbox.specs.Hands.{Shows};
-ghost use Rattle.job_inbox.specs.Inbox.{IsPassOf, capacity_of, knowledge};
 ghost use Rattle.job_inbox.specs.Rule.{first_of, with_put, with_taken};
 
 use crate::hand::{Hands, InOrder, Push, Take};
@@ -32,6 +30,9 @@ pub struct Inbox {
 }
 
 impl Inbox {
+    ghost use Rattle.job_inbox.specs.Hands.{Shows};
+    ghost use Rattle.job_inbox.specs.Inbox.{IsPassOf, capacity_of, knowledge};
+
     /// Pushes a job behind those that the inbox holds. It hands the job back only if the inbox was full at a moment of
     /// the call.
     pub fn push<R: Wait>(&self, rt: &R, pass: InboxPass, job: Job) -> (Result<(), Job>, InboxPass)
@@ -42,8 +43,10 @@ impl Inbox {
         ensures full { OnErr result.0 (Held (capacity_of self.now) (Shows (knowledge pass))) }
     {
         let InboxPass { mut seat } = pass;
-        let pushed = self.queue.push_as::<Push, R>(rt, &mut seat, job);
-        (pushed, InboxPass { seat })
+        match self.queue.push_as::<Push, R>(rt, &mut seat, job) {
+            Ok(()) => (Ok(()), InboxPass { seat }),
+            Err(job) => (Err(job), InboxPass { seat }),
+        }
     }
 
     /// Takes the first of the jobs that the inbox holds. `None` comes only if it was empty at a moment of the call.
@@ -55,7 +58,9 @@ impl Inbox {
         ensures empty { IfNone result.0 (Held 0 (Shows (knowledge pass))) }
     {
         let InboxPass { mut seat } = pass;
-        let job = self.queue.pop_as::<Take, R>(rt, &mut seat);
-        (job, InboxPass { seat })
+        match self.queue.pop_as::<Take, R>(rt, &mut seat) {
+            Some(job) => (Some(job), InboxPass { seat }),
+            None => (None, InboxPass { seat }),
+        }
     }
 }

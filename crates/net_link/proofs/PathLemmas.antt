@@ -1,5 +1,5 @@
 -- What a link in memory hears, and what several of them have sent.
-use Rattle.std.proofs.Common.{◌≡◌, ℕ, ◌+◌, ◌-◌, ◌<◌, ◌≤◌, Bool, true, false, if◌then◌else◌, List, [], ◌∷◌, ◌++◌, filter, length, get_or, take, drop, slice_get, refl, sym, ap, ◌∙◌, subst, arith}
+use Rattle.std.proofs.Common.{◌≡◌, ℕ, ◌+◌, ◌-◌, ◌<◌, ◌≤◌, Bool, true, false, cond, List, [], ◌∷◌, ◌++◌, filter, length, get_or, take, drop, slice_get, refl, sym, ap, ◌∙◌, subst, arith}
 use Rattle.std.proofs.lemmas.List.{append-nil, drop_all, drop_more, take_more}
 use Rattle.gw_base.specs.Faults.{next_count}
 use Rattle.gw_base.specs.declared.address.Addr.{Addr}
@@ -44,30 +44,32 @@ hears_one given next post old new into within read so_far octets is =
     )
 
 -- the posts for an address, with one more
+filter_step : (p : Post) (long short last : List Post) → long ≡ short ++ last → (b : Bool) →
+    cond b (p ∷ long) long ≡ cond b (p ∷ short) short ++ last
+filter_step p long short last e true = ap (λ (l : List Post). p ∷ l) e
+filter_step p long short last e false = e
+
 filter_more : (test : Post → Bool) (posts : List Post) (post : Post) →
-    filter test (posts ++ post ∷ []) ≡ filter test posts ++ (if test post then post ∷ [] else [])
+    filter test (posts ++ post ∷ []) ≡ filter test posts ++ cond (test post) (post ∷ []) []
 filter_more test [] post = refl
-filter_more test (p ∷ posts) post = step (test p)
-  where
-    step : (b : Bool) → (if b then p ∷ filter test (posts ++ post ∷ []) else filter test (posts ++ post ∷ []))
-        ≡ (if b then p ∷ filter test posts else filter test posts) ++ (if test post then post ∷ [] else [])
-    step true = ap (λ (l : List Post). p ∷ l) (filter_more test posts post)
-    step false = filter_more test posts post
+filter_more test (p ∷ posts) post =
+    filter_step p (filter test (posts ++ post ∷ [])) (filter test posts) (cond (test post) (post ∷ []) [])
+        (filter_more test posts post) (test p)
 
 pub given_more : (at : Addr) (given : List Post) (i : ℕ) (post : Post) → i < length given → post ≡ get_or given i post →
     is_at at post.at ≡ true → given_for at (take (i + 1) given) ≡ given_for at (take i given) ++ post ∷ []
 given_more at given i post within read mine =
-    ap (given_for at) (take_more given i post within ∙ ap (λ (p : Post). take i given ++ p ∷ []) (sym read))
-    ∙ filter_more (λ p. is_at at p.at) (take i given) post
-    ∙ ap (λ (b : Bool). given_for at (take i given) ++ (if b then post ∷ [] else [])) mine
+    ap (λ (l : List Post). given_for at l) (take_more given i post within ∙ ap (λ (p : Post). take i given ++ p ∷ []) (sym read))
+        ∙ filter_more (λ p. is_at at p.at) (take i given) post
+        ∙ ap (λ (b : Bool). given_for at (take i given) ++ cond b (post ∷ []) []) mine
 
 pub given_same : (at : Addr) (given : List Post) (i : ℕ) (post : Post) → i < length given → post ≡ get_or given i post →
     is_at at post.at ≡ false → given_for at (take (i + 1) given) ≡ given_for at (take i given)
 given_same at given i post within read other =
-    ap (given_for at) (take_more given i post within ∙ ap (λ (p : Post). take i given ++ p ∷ []) (sym read))
-    ∙ filter_more (λ p. is_at at p.at) (take i given) post
-    ∙ ap (λ (b : Bool). given_for at (take i given) ++ (if b then post ∷ [] else [])) other
-    ∙ append-nil (given_for at (take i given))
+    ap (λ (l : List Post). given_for at l) (take_more given i post within ∙ ap (λ (p : Post). take i given ++ p ∷ []) (sym read))
+        ∙ filter_more (λ p. is_at at p.at) (take i given) post
+        ∙ ap (λ (b : Bool). given_for at (take i given) ++ cond b (post ∷ []) []) other
+        ∙ append-nil (given_for at (take i given))
 
 -- the datagram so far behind is one of this link, or stands in the rest
 pub sent_here : (links : List MemoryPath) (i left : ℕ) (link : MemoryPath) → i < length links → link ≡ get_or links i link →

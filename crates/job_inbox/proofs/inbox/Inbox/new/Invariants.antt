@@ -1,4 +1,4 @@
-use Rattle.job_inbox.proofs.making.Inbox.new.Given as goal
+use Rattle.job_inbox.proofs.inbox.Inbox.new.Given as goal
 
 -- how many passes the queue is to have
 abbrev pub ghosts-begin : goal.ghosts-begin
