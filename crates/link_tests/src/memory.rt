@@ -42,12 +42,12 @@ fn runs(alloc: Global) -> Option<([bool; 3], bool)> {
     let mut into = Vec::from_elem(alloc, 0, 65_507).ok()?;
     let mut link = links.make(HERE).ok()?;
     let mut split = link.split().ok()?;
-    let heard = link.receive(&mut into)
+    let heard = link.receive(into.as_mut_slice())
         == Ok(Heard::Datagram {
             from: THERE,
             length: 3,
         });
-    let quiet = split.receive(&mut into) == Ok(Heard::Quiet);
+    let quiet = split.receive(into.as_mut_slice()) == Ok(Heard::Quiet);
     link.send(THERE, &[4]).ok()?;
     split.send(THERE, &[5]).ok()?;
     let full = link.send(THERE, &[6]).is_err();

@@ -17,7 +17,7 @@ fn local(host: u8) -> Addr {
     }
 }
 
-fn link_at<R: Net>(links: &mut UdpLinks<R>, at: Addr) -> Option<UdpLink> {
+fn link_at<R: Net>(links: &mut UdpLinks<'_, R>, at: Addr) -> Option<UdpLink> {
     links.make(at).ok()
 }
 
@@ -62,7 +62,14 @@ fn all_go<R: Net>(net: &R, alloc: Global) -> Option<[bool; 4]> {
     let long = Vec::from_elem(alloc, 0x4E, MOST_OCTETS).ok()?;
     let mut one = link_at(&mut links, local(1))?;
     let mut other = link_at(&mut links, local(2))?;
-    let none = goes(&mut one, &mut other, local(2), &[], local(1), &mut into);
+    let none = goes(
+        &mut one,
+        &mut other,
+        local(2),
+        &[],
+        local(1),
+        into.as_mut_slice(),
+    );
     let three = goes(
         &mut one,
         &mut other,
@@ -71,9 +78,23 @@ fn all_go<R: Net>(net: &R, alloc: Global) -> Option<[bool; 4]> {
         local(1),
         &mut into,
     );
-    let most = goes(&mut other, &mut one, local(1), &long, local(2), &mut into);
+    let most = goes(
+        &mut other,
+        &mut one,
+        local(1),
+        &long,
+        local(2),
+        into.as_mut_slice(),
+    );
     let mut again = one.split().ok()?;
-    let by_split = goes(&mut again, &mut other, local(2), &[7], local(1), &mut into);
+    let by_split = goes(
+        &mut again,
+        &mut other,
+        local(2),
+        &[7],
+        local(1),
+        into.as_mut_slice(),
+    );
     Some([none, three, most, by_split])
 }
 
@@ -102,7 +123,14 @@ fn lost<R: Net>(net: &R, alloc: Global) -> Option<[bool; 5]> {
     let nobody = one.send(local(99), &[1]).is_ok();
     let all = one.send(everybody, &[1]).is_ok();
     let too_long = one.send(local(4), &long).is_ok();
-    let then = goes(&mut one, &mut other, local(4), &[2], local(3), &mut into);
+    let then = goes(
+        &mut one,
+        &mut other,
+        local(4),
+        &[2],
+        local(3),
+        into.as_mut_slice(),
+    );
     Some([nowhere, nobody, all, too_long, then])
 }
 
@@ -118,9 +146,9 @@ fn silent<R: Net>(net: &R, alloc: Global) -> Option<[bool; 4]> {
     let mut into = Vec::from_elem(alloc, 0, MOST_OCTETS).ok()?;
     let mut one = link_at(&mut links, local(5))?;
     let mut second = link_at(&mut links, local(5))?;
-    let quiet = one.receive(&mut into) == Ok(Heard::Quiet);
+    let quiet = one.receive(into.as_mut_slice()) == Ok(Heard::Quiet);
     let sends = second.send(local(5), &[1]) == Err(LinkStop::Failed);
-    let receives = second.receive(&mut into).is_err();
+    let receives = second.receive(into.as_mut_slice()).is_err();
     let splits = second.split().err() == Some(LinkStop::Failed);
     Some([quiet, sends, receives, splits])
 }

@@ -54,22 +54,22 @@ filter_more : (test : Post → Bool) (posts : List Post) (post : Post) →
 filter_more test [] post = refl
 filter_more test (p ∷ posts) post =
     filter_step p (filter test (posts ++ post ∷ [])) (filter test posts) (cond (test post) (post ∷ []) [])
-        (filter_more test posts post) (test p)
+    (filter_more test posts post) (test p)
 
 pub given_more : (at : Addr) (given : List Post) (i : ℕ) (post : Post) → i < length given → post ≡ get_or given i post →
     is_at at post.at ≡ true → given_for at (take (i + 1) given) ≡ given_for at (take i given) ++ post ∷ []
 given_more at given i post within read mine =
     ap (λ (l : List Post). given_for at l) (take_more given i post within ∙ ap (λ (p : Post). take i given ++ p ∷ []) (sym read))
-        ∙ filter_more (λ p. is_at at p.at) (take i given) post
-        ∙ ap (λ (b : Bool). given_for at (take i given) ++ cond b (post ∷ []) []) mine
+    ∙ filter_more (λ p. is_at at p.at) (take i given) post
+    ∙ ap (λ (b : Bool). given_for at (take i given) ++ cond b (post ∷ []) []) mine
 
 pub given_same : (at : Addr) (given : List Post) (i : ℕ) (post : Post) → i < length given → post ≡ get_or given i post →
     is_at at post.at ≡ false → given_for at (take (i + 1) given) ≡ given_for at (take i given)
 given_same at given i post within read other =
     ap (λ (l : List Post). given_for at l) (take_more given i post within ∙ ap (λ (p : Post). take i given ++ p ∷ []) (sym read))
-        ∙ filter_more (λ p. is_at at p.at) (take i given) post
-        ∙ ap (λ (b : Bool). given_for at (take i given) ++ cond b (post ∷ []) []) other
-        ∙ append-nil (given_for at (take i given))
+    ∙ filter_more (λ p. is_at at p.at) (take i given) post
+    ∙ ap (λ (b : Bool). given_for at (take i given) ++ cond b (post ∷ []) []) other
+    ∙ append-nil (given_for at (take i given))
 
 -- the datagram so far behind is one of this link, or stands in the rest
 pub sent_here : (links : List MemoryPath) (i left : ℕ) (link : MemoryPath) → i < length links → link ≡ get_or links i link →

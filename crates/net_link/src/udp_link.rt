@@ -79,7 +79,7 @@ fn address_of(from: SocketAddrV4) -> Addr
 // Whether an error is one of the socket itself, and not of a datagram, of a wait or of the way.
 fn is_fault(error: &io::Error) -> bool {
     match error.raw_os_error() {
-        Some(number) => matches!(number, EBADF | EFAULT | ENOTSOCK | EOPNOTSUPP | ENOTCONN),
+        Some(number) => [EBADF, EFAULT, ENOTSOCK, EOPNOTSUPP, ENOTCONN].contains(&number),
         None => true,
     }
 }
