@@ -20,8 +20,9 @@ weight_put weight hand = sum_by weight hand.put
 abbrev pub weight_taken : (Job → ℕ) → Hand → ℕ
 weight_taken weight hand = sum_by weight hand.taken
 
--- The jobs that these passes pushed are `put`, in the order of the pushes, and those that they took are `taken`. These are
--- the first of those. Each was pushed and taken as often by the passes as it stands there: so say all weights.
+-- The jobs that these passes pushed are `put`, in the order of the pushes, and those that they took are `taken`.
+-- These are the first of those. Each was pushed and taken as often by the passes as it stands there: so say all
+-- weights.
 pub record Settled (hands : List Hand) (put taken left : List Job) : Type 0 where
   pub order : put ≡ taken ++ left
   pub stand : All (StandsIn put taken) hands

@@ -45,8 +45,8 @@ fn settle(inbox: &Inbox, mut seat: Seat)
 }
 
 impl Inbox {
-    /// Ends the inbox, where all its passes are given, and drops the jobs that it holds. Else inbox and passes come back
-    /// as they were. It takes no memory.
+    /// Ends the inbox, where all its passes are given, and drops the jobs that it holds. Else inbox and passes come
+    /// back as they were. It takes no memory.
     pub fn finish(self, passes: Vec<InboxPass>) -> Result<(), (Missing, Inbox, Vec<InboxPass>)>
         requires own { ArePassesOf self passes.items }
         ensures all { OnOk result (made_by self ≡ vec_len passes) }

@@ -1,12 +1,18 @@
 -- What a link in memory hears, and what several of them have sent.
-use Rattle.std.proofs.Common.{◌≡◌, ℕ, ◌+◌, ◌-◌, ◌<◌, ◌≤◌, Bool, true, false, cond, List, [], ◌∷◌, ◌++◌, filter, length, get_or, take, drop, slice_get, refl, sym, ap, ◌∙◌, subst, arith}
-use Rattle.std.proofs.lemmas.List.{append-nil, drop_all, drop_more, take_more}
+use Rattle.std.proofs.Common.{◌≡◌, ℕ, ◌+◌, ◌-◌, ◌<◌, ◌≤◌, Bool, true, false, cond, List, [], ◌∷◌, ◌++◌, Ok, Result, Some, filter, length, get_or, take, drop, slice_get, refl, sym, ap, ◌∙◌, subst, arith}
+use Rattle.std.proofs.lemmas.List.{append-nil, drop_all, drop_more, map-append, take_more}
+use Rattle.std.proofs.lemmas.List.Elements.{All-head}
 use Rattle.gw_base.specs.Faults.{next_count}
 use Rattle.gw_base.specs.declared.address.Addr.{Addr}
+use Rattle.gw_base.specs.declared.fault.Failed.{Failed}
+use Rattle.net_link.specs.declared.link.Heard.{Heard}
 use Rattle.net_link.specs.declared.link.Heard.TheVariants.{Datagram, Quiet}
 use Rattle.net_link.specs.declared.post.Post.{Post}
-use Rattle.net_link.specs.Memory.{Hears, MemoryPath}
+use Rattle.net_link.specs.Datagrams as told
+use Rattle.net_link.specs.Datagrams.{LinkState}
+use Rattle.net_link.specs.Memory.{AreShort, Hears, MemoryPath, datagram_of, datagrams_of, told_of}
 use Rattle.net_link.specs.Net.{all_sent, given_for}
+use Rattle.net_link.specs.Steps.{Receives, most_octets}
 use Rattle.net_link.specs.Turns.{is_at}
 use Rattle.net_link.proofs.NetLemmas.{slice_get_behind, slice_get_first}
 
@@ -42,6 +48,56 @@ hears_one given next post old new into within read so_far octets is =
         left = drop (next + 1) given;
       }) more,
     )
+
+-- what a link tells after a turn, with this list of what it received
+abbrev told_with : MemoryPath → List told.Datagram → LinkState
+told_with old list = record {
+  address = old.address;
+  turns = next_count old.turns;
+  faults = old.faults;
+  received = Some list;
+  sent = Some (datagrams_of old.sent);
+}
+
+inside : (a b : Heard) → ◌≡◌ {A = Result Heard Failed} (Ok a) (Ok b) → a ≡ b
+inside a b e = cc
+
+-- what is heard is what is received, as it is told
+pub hears_is_received : (left : List Post) (old new : MemoryPath) (into : List ℕ) (heard : Heard) → AreShort left →
+    Hears left old into heard new → Receives (told_of old) into (Ok heard) (told_of new)
+hears_is_received [] old new into heard short h = record {
+  datagram = λ from n e. absurd (never from n (sym h.0 ∙ inside heard _ e));
+  quiet = λ e. ap told_of h.1;
+  failed = tt;
+}
+  where
+    never : (from : Addr) (n : ℕ) → Quiet ≡ Datagram from n → ⊥
+    never from n e = cc
+hears_is_received (post ∷ left) old new into heard short h = record {
+  datagram = λ from n e.
+      let same : Datagram post.peer (length post.octets) ≡ Datagram from n = sym h.0 ∙ inside heard _ e in
+      let here : from ≡ post.peer = peers from n same in
+      let long : n ≡ length post.octets = lengths from n same in
+      let octets : take n into ≡ post.octets = ap (λ (k : ℕ). take k into) long ∙ h.1 in
+      let one : datagram_of post ≡ record { peer = from; octets = take n into } =
+      λ i. record { peer = sym here i; octets = sym octets i } in (
+        subst (λ (k : ℕ). k ≤ most_octets) (sym long) (All-head (λ (p : Post). length p.octets ≤ most_octets) post left short),
+        ap told_of h.2 ∙ ap (λ (list : List told.Datagram). told_with old list)
+            (map-append datagram_of old.received (post ∷ [])
+            ∙ ap (λ (d : told.Datagram). datagrams_of old.received ++ d ∷ []) one),
+      );
+  quiet = λ e. absurd (never (sym h.0 ∙ inside heard _ e));
+  failed = tt;
+}
+  where
+    never : Datagram post.peer (length post.octets) ≡ Quiet → ⊥
+    never e = cc
+
+    peers : (from : Addr) (n : ℕ) → Datagram post.peer (length post.octets) ≡ Datagram from n → from ≡ post.peer
+    peers from n e = cc
+
+    lengths : (from : Addr) (n : ℕ) → Datagram post.peer (length post.octets) ≡ Datagram from n → n ≡ length post.octets
+    lengths from n e = cc
 
 -- the posts for an address, with one more
 filter_step : (p : Post) (long short last : List Post) → long ≡ short ++ last → (b : Bool) →

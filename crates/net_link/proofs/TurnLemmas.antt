@@ -61,8 +61,8 @@ pub here_at : (tallies : List Tally) (place : ℕ) (tally : Tally) (at : Addr) �
     HoldsAt (λ (t : Tally). t.at ≡ at) tallies place → tally.at ≡ at
 here_at tallies place tally at read holds = ap place_of read ∙ holds tally
 
--- One tally is raised, which was read at its place: then the turns at its address are more, those at others are the same,
--- and so are the addresses.
+-- One tally is raised, which was read at its place: then the turns at its address are more, those at others are the
+-- same, and so are the addresses.
 module _ (tallies : List Tally) (place : ℕ) (tally : Tally) (more : ℕ) (within : place < length tallies)
     (read : tally ≡ get_or tallies place tally) where
   pub turns_raised : (at : Addr) → tally.at ≡ at →

@@ -23,7 +23,8 @@ pub record Keeps (old new : LinksState) : Type 0 where
   pub sent : (a : Addr) → new.sent a ≡ old.sent a
 
 -- A link is made at an address, or not.
-pub record Makes (R : Type 0) (old : LinksState) (at : Addr) (result : Result R LinkStop) (new : LinksState) : Type 0 where
+pub record Makes (R : Type 0) (old : LinksState) (at : Addr) (result : Result R LinkStop) (new : LinksState) :
+    Type 0 where
   pub keeps : Keeps old new
   pub made : (link : R) → result ≡ Ok link → new.IsMade at × (new.faults ≡ old.faults)
   pub failed : result ≡ Err stop.Failed → (old.faults ≤ new.faults) × Rose old.faults new.faults

@@ -58,8 +58,8 @@ path_at address given room fail = record {
 }
 
 -- after a call that failed
-abbrev pub failed : MemoryPath → MemoryPath
-failed link = record link { calls = next_count link.calls; faults = next_count link.faults }
+abbrev pub failing : MemoryPath → MemoryPath
+failing link = record link { calls = next_count link.calls; faults = next_count link.faults }
 
 -- after a datagram was sent
 abbrev pub sending : MemoryPath → Addr → List ℕ → MemoryPath
@@ -73,7 +73,8 @@ abbrev pub Hears : List Post → MemoryPath → List ℕ → Heard → MemoryPat
 Hears [] old into heard new =
     (heard ≡ Quiet) × (new ≡ record old { calls = next_count old.calls; turns = next_count old.turns })
 Hears (post ∷ left) old into heard new =
-    (heard ≡ Datagram post.peer (length post.octets)) × (take (length post.octets) into ≡ post.octets) × (new ≡ record old {
+    (heard ≡ Datagram post.peer (length post.octets)) × (take (length post.octets) into ≡ post.octets)
+    × (new ≡ record old {
       calls = next_count old.calls;
       turns = next_count old.turns;
       received = old.received ++ post ∷ [];

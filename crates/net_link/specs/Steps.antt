@@ -25,7 +25,8 @@ pub record Stops (R : Type 0) (old : LinkState) (result : Result R LinkStop) (ne
   pub no_memory : result ≡ Err stop.NoMemory → new ≡ old
 
 -- a datagram is sent, or not; what becomes of it on the way nobody knows
-pub record Sends (old : LinkState) (to : Addr) (octets : List ℕ) (result : Result Unit LinkStop) (new : LinkState) : Type 0 where
+pub record Sends (old : LinkState) (to : Addr) (octets : List ℕ) (result : Result Unit LinkStop) (new : LinkState) :
+    Type 0 where
   pub ok : OnOk result (new ≡ record old { sent = with_one (record { peer = to; octets = octets }) old.sent })
   pub stops : Stops Unit old result new
 

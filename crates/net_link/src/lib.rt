@@ -1,7 +1,7 @@
 //! Links: datagrams in and out of one address, and what makes links and takes them back.
 //!
-//! The model is `LinkState` of `specs/Datagrams.antt`: a link's address, its turns, its faults, and the datagrams that it
-//! received and sent, where it tells them. The contract of each call is a step of `specs/Steps.antt`.
+//! The model is `LinkState` of `specs/Datagrams.antt`: a link's address, its turns, its faults, and the datagrams
+//! that it received and sent, where it tells them. The contract of each call is a step of `specs/Steps.antt`.
 //!
 //!     match link.receive(&mut buffer)? {
 //!         Heard::Datagram { from, length } => link.send(from, &buffer[..length])?,

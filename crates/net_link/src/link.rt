@@ -3,8 +3,7 @@ ghost use Rattle.std.specs.Prelude.{◌≡◌, ◌≤◌, IfOk, OnOk, length};
 ghost use Rattle.net_link.specs.Datagrams.{IsNewAt};
 ghost use Rattle.net_link.specs.Steps.{Receives, Sends, Stops, most_octets};
 
-use gw_base::{Addr, Failed};
-use std::alloc::AllocError;
+use gw_base::{Addr, Failed, NoMemory};
 use std::error::Error;
 use std::fmt;
 
@@ -42,24 +41,24 @@ impl fmt::Display for LinkStop {
 
 impl Error for LinkStop {}
 
-impl From<AllocError> for LinkStop {
+impl From<NoMemory> for LinkStop {
     ghost use Rattle.std.specs.Prelude.{◌≡◌};
     ghost use Rattle.net_link.specs.declared.link.LinkStop.TheVariants as stop;
 
     ghost from_gives = { λ _ e. e ≡ stop.NoMemory };
 
-    fn from(_: AllocError) -> Self {
+    fn from(_: NoMemory) -> Self {
         LinkStop::NoMemory
     }
 }
 
-/// Datagrams out and in, at one address. What a datagram meets on its way isn't known: one that was sent may be lost, may
-/// come late or more than once.
+/// Datagrams out and in, at one address. What a datagram meets on its way isn't known: one that was sent may be lost,
+/// may come late or more than once.
 pub trait Link: Send + Drop {
     ghost use Rattle.net_link.specs.Datagrams.{LinkState};
 
-    /// Its address, its turns, which rise by one at each `Heard` and stand still at 2^64 - 1, its faults, which never fall,
-    /// and the datagrams that it received and sent, where it tells them.
+    /// Its address, its turns, which rise by one at each `Heard` and stand still at 2^64 - 1, its faults, which never
+    /// fall, and the datagrams that it received and sent, where it tells them.
     ghost state: { Self → LinkState };
 
     /// Sends a datagram.

@@ -6,8 +6,8 @@ ghost use Rattle.net_link.specs.Making.{Makes, TakesBack};
 use crate::link::{Link, LinkStop};
 use gw_base::Addr;
 
-/// Makes the links of addresses. Whoever had one made, or split, gives it back, so that what all links of an address did
-/// is told together.
+/// Makes the links of addresses. Whoever had one made, or split, gives it back, so that what all links of an address
+/// did is told together.
 pub trait Links {
     ghost use Rattle.net_link.specs.Making.{LinksState};
 

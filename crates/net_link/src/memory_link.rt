@@ -3,7 +3,7 @@ ghost use Rattle.std.specs.Prelude.{◌≡◌, ◌≢◌, ◌↔◌, ◌<◌, �
 ghost use Rattle.gw_base.specs.Faults.{next_count};
 ghost use Rattle.net_link.specs.declared.link.LinkStop.TheVariants as stop;
 ghost use Rattle.net_link.specs.Datagrams.{IsNewAt};
-ghost use Rattle.net_link.specs.Memory.{AreShort, Hears, failed, path_at, sending, told_of};
+ghost use Rattle.net_link.specs.Memory.{AreShort, Hears, failing, path_at, sending, told_of};
 ghost use Rattle.net_link.specs.Steps.{Receives, Sends, Stops, most_octets};
 
 use crate::link::{Heard, Link, LinkStop};
@@ -12,8 +12,8 @@ use gw_base::{Addr, Failed, NoMemory, Octets};
 use std::alloc::Global;
 use std::marker::Model;
 
-/// A link that holds what it receives and what was sent, tells both, and fails at the calls that it is told to, and at a
-/// datagram that it has no room for. Its calls are sends, receives and splits.
+/// A link that holds what it receives and what was sent, tells both, and fails at the calls that it is told to, and
+/// at a datagram that it has no room for. Its calls are sends, receives and splits.
 #[derive(Drop)]
 pub struct MemoryLink {
     alloc: Global,
@@ -47,7 +47,7 @@ impl Model for MemoryLink {
     } };
 
     ghost invariant = { λ l. (l.next ≤ length l.given.items) × AreShort l.given.items
-        × (l.room ≤ vec_capacity l.sent) };
+        × (length l.sent.items ≤ l.room) × (l.room ≤ vec_capacity l.sent) };
 }
 
 impl MemoryLink {
@@ -78,10 +78,24 @@ impl MemoryLink {
 
     // Counts a call that fails.
     fn failed(&mut self)
-        ensures { self.new ≡ failed self.old }
+        ensures { self.new ≡ failing self.old }
     {
         self.calls = self.calls.saturating_add(1);
         self.faults = self.faults.saturating_add(1);
+    }
+
+    // A link at the same address, with nothing to receive.
+    fn again(&self) -> Result<MemoryLink, NoMemory>
+        ensures { IfOk result (λ link. link ≡ path_at self.now.address [] self.now.room self.now.fail) }
+    {
+        let fail = self.fail.to_vec(self.alloc)?;
+        MemoryLink::new(
+            self.alloc,
+            self.address,
+            Vec::new(self.alloc),
+            self.room,
+            fail,
+        )
     }
 
     // Takes the next post that is left, into the front of a buffer.
@@ -112,10 +126,10 @@ impl Link for MemoryLink {
         ensures sends { Sends (told_of self.old) to octets.now result (told_of self.new) }
         ensures fails { (result ≡ Err stop.Failed) → (Contains self.old.fail (next_count self.old.calls)
             ⊎ (length self.old.sent ≡ self.old.room)) }
-        ensures works { OnOk result (¬ Contains self.old.fail (next_count self.old.calls)
+        ensures works { OnOk result ((¬ (Contains self.old.fail (next_count self.old.calls)))
             × (length self.old.sent < self.old.room)) }
         ensures ok { OnOk result (self.new ≡ sending self.old to octets.now) }
-        ensures failed { (result ≡ Err stop.Failed) → self.new ≡ failed self.old }
+        ensures failed { (result ≡ Err stop.Failed) → self.new ≡ failing self.old }
         ensures no_memory { (result ≡ Err stop.NoMemory) → self.new ≡ self.old }
     {
         let call = self.calls.saturating_add(1);
@@ -139,7 +153,7 @@ impl Link for MemoryLink {
         requires { most_octets ≤ length into.old }
         ensures receives { Receives (told_of self.old) into.new result (told_of self.new) }
         ensures fails { IsErr result ↔ Contains self.old.fail (next_count self.old.calls) }
-        ensures failed { OnErr result (self.new ≡ failed self.old) }
+        ensures failed { OnErr result (self.new ≡ failing self.old) }
         ensures hears { IfOk result (λ heard. Hears self.old.left self.old into.new heard self.new) }
     {
         let call = self.calls.saturating_add(1);
@@ -157,23 +171,14 @@ impl Link for MemoryLink {
         ensures fails { (result ≡ Err stop.Failed) ↔ Contains self.old.fail (next_count self.old.calls) }
         ensures works { IfOk result (λ link. link ≡ path_at self.old.address [] self.old.room self.old.fail) }
         ensures counted { OnOk result (self.new ≡ record self.old { calls = next_count self.old.calls }) }
-        ensures failed { (result ≡ Err stop.Failed) → self.new ≡ failed self.old }
+        ensures failed { (result ≡ Err stop.Failed) → self.new ≡ failing self.old }
     {
         let call = self.calls.saturating_add(1);
         if self.fail.contains(&call) {
             self.failed();
             return Err(LinkStop::Failed);
         }
-        let fail = self.fail.to_vec(self.alloc)?;
-        let Ok(link) = MemoryLink::new(
-            self.alloc,
-            self.address,
-            Vec::new(self.alloc),
-            self.room,
-            fail,
-        ) else {
-            return Err(LinkStop::NoMemory);
-        };
+        let link = self.again()?;
         self.calls = call;
         Ok(link)
     }

@@ -13,15 +13,15 @@ use crate::memory_link::MemoryLink;
 use crate::post::Post;
 use crate::turns::{Tally, add};
 use gw_base::{Addr, NoMemory, Octets};
-use std::alloc::{AllocError, Global};
+use std::alloc::Global;
 use std::marker::Model;
 
 /// How many links given back are kept.
 const KEPT: usize = 64;
 
-/// What makes links in memory. A link that is made at an address has the posts given for it to receive, in their order,
-/// has room to send so many datagrams, and fails at these calls, counted from 1. It keeps the first 64 links given back;
-/// from the 65th on no lists are told.
+/// What makes links in memory. A link that is made at an address has the posts given for it to receive, in their
+/// order, has room to send so many datagrams, and fails at these calls, counted from 1. It keeps the first 64 links
+/// given back; from the 65th on no lists are told.
 #[derive(Drop)]
 pub struct MemoryLinks {
     alloc: Global,
@@ -55,7 +55,7 @@ impl Model for MemoryLinks {
 }
 
 // Copies of the posts that are given for an address.
-fn posts_for(alloc: Global, given: &[Post], at: Addr) -> Result<Vec<Post>, AllocError>
+fn posts_for(alloc: Global, given: &[Post], at: Addr) -> Result<Vec<Post>, NoMemory>
     requires { AreShort given.now }
     ensures all { IfOk result (λ posts. posts.items ≡ given_for at given.now) }
     ensures short { IfOk result (λ posts. AreShort posts.items) }
@@ -70,16 +70,13 @@ fn posts_for(alloc: Global, given: &[Post], at: Addr) -> Result<Vec<Post>, Alloc
     Ok(posts)
 }
 
-fn copy_of(alloc: Global, post: &Post) -> Result<Post, AllocError>
+fn copy_of(alloc: Global, post: &Post) -> Result<Post, NoMemory>
     ensures { IfOk result (λ copy. copy ≡ post.now) }
 {
-    let Ok(octets) = Octets::of(alloc, post.octets.octets()) else {
-        return Err(AllocError);
-    };
     Ok(Post {
         at: post.at,
         peer: post.peer,
-        octets,
+        octets: Octets::of(alloc, post.octets.octets())?,
     })
 }
 
@@ -106,8 +103,8 @@ impl MemoryLinks {
         })
     }
 
-    /// The k-th datagram, from 0, that the first 64 links given back had sent, link after link; `None` exactly where there
-    /// are no more.
+    /// The k-th datagram, from 0, that the first 64 links given back had sent, link after link; `None` exactly where
+    /// there are no more.
     pub fn sent(&self, k: usize) -> Option<&Post>
         ensures { option_copied result ≡ slice_get (all_sent self.now.links) k }
     {
@@ -123,15 +120,12 @@ impl MemoryLinks {
     }
 
     // A link at this address, which has no tally yet.
-    fn link_at(&self, at: Addr) -> Result<MemoryLink, AllocError>
+    fn link_at(&self, at: Addr) -> Result<MemoryLink, NoMemory>
         ensures { IfOk result (λ link. link ≡ path_at at (given_for at self.now.given) self.now.room self.now.fail) }
     {
         let posts = posts_for(self.alloc, &self.given, at)?;
         let fail = self.fail.to_vec(self.alloc)?;
-        match MemoryLink::new(self.alloc, at, posts, self.room, fail) {
-            Ok(link) => Ok(link),
-            Err(NoMemory) => Err(AllocError),
-        }
+        MemoryLink::new(self.alloc, at, posts, self.room, fail)
     }
 }
 
@@ -149,7 +143,9 @@ impl Links for MemoryLinks {
         ensures kept { self.new ≡ record self.old { tallies = self.new.tallies } }
     {
         let link = self.link_at(at)?;
-        self.tallies.push(Tally { at, turns: 0 })?;
+        if self.tallies.push(Tally { at, turns: 0 }).is_err() {
+            return Err(LinkStop::NoMemory);
+        }
         Ok(link)
     }
 

@@ -33,9 +33,9 @@ const ENOTCONN: i32 = 107;
 
 /// A link over UDP and IPv4. It tells nothing of the datagrams. A call waits for one for 20 milliseconds.
 ///
-/// A call fails where the address couldn't be bound, or where the system says that the socket is none. Whatever else keeps
-/// a datagram from being sent is a loss on its way, and whatever else keeps one from being received is a `Quiet`: so no
-/// datagram that somebody sends can end a gateway.
+/// A call fails where the address couldn't be bound, or where the system says that the socket is none. Whatever else
+/// keeps a datagram from being sent is a loss on its way, and whatever else keeps one from being received is a
+/// `Quiet`: so no datagram that somebody sends can end a gateway.
 #[derive(Drop)]
 pub struct UdpLink {
     socket: Option<UdpSocket>,

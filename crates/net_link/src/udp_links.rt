@@ -13,7 +13,8 @@ use std::alloc::Global;
 use std::marker::Model;
 use std::net::Net;
 
-/// What makes links over UDP and IPv4. A link at an address that can't be bound, or is bound already, fails at each call.
+/// What makes links over UDP and IPv4. A link at an address that can't be bound, or is bound already, fails at each
+/// call.
 #[derive(Drop)]
 pub struct UdpLinks<'a, R: Net> {
     net: &'a R,
@@ -51,7 +52,9 @@ impl<R: Net> Links for UdpLinks<'_, R> {
         ensures new { IfOk result (λ link. IsNewAt at link) }
         ensures made { Makes UdpLink (told_by self.old) at result (told_by self.new) }
     {
-        self.tallies.push(Tally { at, turns: 0 })?;
+        if self.tallies.push(Tally { at, turns: 0 }).is_err() {
+            return Err(LinkStop::NoMemory);
+        }
         Ok(UdpLink::at(self.net, at))
     }
 
