@@ -1,7 +1,8 @@
 -- Seats and passes: what is dealt, and what is gathered.
-use Rattle.std.proofs.Common.{◌≡◌, ℕ, suc, ◌+◌, ◌-◌, ◌<◌, ◌≤◌, List, [], ◌∷◌, ◌++◌, length, take, drop, map, refl, sym, ap, ◌∙◌, append_assoc, arith}
+use Rattle.std.proofs.Common.{◌≡◌, ℕ, suc, ◌+◌, ◌-◌, ◌<◌, List, [], ◌∷◌, ◌++◌, All, take, drop, map, ap, ◌∙◌, append_assoc, arith}
 use lib.ListN.{replicate}
 use Rattle.std.proofs.lemmas.List.{map-append, replicate-append-replicate}
+use Rattle.std.proofs.lemmas.List.Elements.{All-head, All-tail}
 use Rattle.job_inbox.specs.declared.hand.Hand.{Hand}
 use Rattle.job_inbox.specs.declared.hand.Hands.{Hands}
 use Rattle.job_inbox.specs.declared.inbox.InboxPass.{InboxPass}
@@ -33,6 +34,11 @@ pub one_behind : (all now left behind : List InboxPass) (pass : InboxPass) → a
     all ≡ left ++ (pass ∷ behind)
 one_behind all now left behind pass split last =
     split ∙ ap (λ (l : List InboxPass). l ++ behind) last ∙ append_assoc left (pass ∷ []) behind
+
+-- what is so of all passes is so of the one between
+pub is_in : (P : InboxPass → Type 0) (left behind : List InboxPass) (pass : InboxPass) → All P (left ++ (pass ∷ behind)) → P pass
+is_in P [] behind pass all = All-head P pass behind all
+is_in P (p ∷ left) behind pass all = is_in P left behind pass (All-tail P p (left ++ (pass ∷ behind)) all)
 
 -- the one pass of a seat did something more
 pub onto_alone : (f : Hand → Hand) (hands : List Hand) → hands ≡ first_of hands ∷ [] → onto_first f hands ≡ f (first_of hands) ∷ []
