@@ -1,0 +1,4 @@
+pub mod Deals
+pub mod Orders
+pub mod Sublists
+pub mod Totals

@@ -1,0 +1,4 @@
+pub mod MadeLemmas
+pub mod NetLemmas
+pub mod PathLemmas
+pub mod TurnLemmas

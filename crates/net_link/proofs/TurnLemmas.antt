@@ -1,0 +1,106 @@
+-- Tallies of turns by addresses, of which one is raised.
+use Rattle.std.proofs.Common.{◌≡◌, ◌≢◌, ◌⊎◌, ⊎_elim, inl, inr, ℕ, ◌+◌, ◌-◌, ◌^◌, ◌<◌, ◌≤◌, ◌==◌, ◌&&◌, min, Bool, true, false, true≢false, if◌then◌else◌, List, length, get_or, set, map, sum_by, refl, sym, ap, ◌∙◌, arith}
+use Rattle.std.specs.List.{HoldsAt}
+use Rattle.std.proofs.lemmas.Bool.Decides.{eqb_tells}
+use Rattle.std.proofs.lemmas.List.{get_or-map, map-set, set-get_or}
+use Rattle.std.proofs.lemmas.List.Sums.{get_or-le-sum_by, sum_by-set}
+use Rattle.gw_base.specs.declared.address.Addr.{Addr}
+use Rattle.net_link.specs.declared.turns.Tally.{Tally}
+use Rattle.net_link.specs.Datagrams.{added}
+use Rattle.net_link.specs.Turns.{is_at, place_of, raised, turns_at, turns_in}
+
+-- this answer of the test of two addresses tells whether they are equal
+abbrev Tells : Addr → Addr → Bool → Type 0
+Tells a b answer = ((answer ≡ true) × (a ≡ b)) ⊎ ((answer ≡ false) × (a ≢ b))
+
+at_tells : (a b : Addr) → Tells a b (is_at a b)
+at_tells a b = ⊎_elim same_ip other_ip (eqb_tells a.ip b.ip)
+  where
+    other_ip : ((a.ip == b.ip) ≡ false) × (a.ip ≢ b.ip) → Tells a b (is_at a b)
+    other_ip off = inr (
+      ap (λ t. t && (a.port == b.port)) off.0,
+      λ same. off.1 (ap (λ (n : Addr). n.ip) same),
+    )
+
+    same_ip : ((a.ip == b.ip) ≡ true) × (a.ip ≡ b.ip) → Tells a b (is_at a b)
+    same_ip here =
+        let left : is_at a b ≡ (a.port == b.port) = ap (λ t. t && (a.port == b.port)) here.0 in
+        ⊎_elim
+        (λ both. inl (left ∙ both.0, λ i. record { ip = here.1 i; port = both.1 i }))
+        (λ off. inr (left ∙ off.0, λ same. off.1 (ap (λ (n : Addr). n.port) same)))
+        (eqb_tells a.port b.port)
+
+pub at_same : (a b : Addr) → is_at a b ≡ true → a ≡ b
+at_same a b is = ⊎_elim (λ here. here.1) (λ off. absurd (true≢false (sym is ∙ off.0))) (at_tells a b)
+
+pub at_apart : (a b : Addr) → is_at a b ≡ false → a ≢ b
+at_apart a b is = ⊎_elim (λ here. absurd (true≢false (sym here.0 ∙ is))) (λ off. off.1) (at_tells a b)
+
+pub is_at_same : (a b : Addr) → a ≡ b → is_at a b ≡ true
+is_at_same a b same = ⊎_elim (λ here. here.0) (λ off. absurd (off.1 same)) (at_tells a b)
+
+pub is_at_other : (a b : Addr) → a ≢ b → is_at a b ≡ false
+is_at_other a b other = ⊎_elim (λ here. absurd (other here.1)) (λ off. off.0) (at_tells a b)
+
+-- what a tally of an address counts for it, and for another
+turns_own : (a : Addr) (tally : Tally) → tally.at ≡ a → turns_in a tally ≡ tally.turns
+turns_own a tally here = ap (λ t. if t then tally.turns else 0) (is_at_same a tally.at (sym here))
+
+turns_other : (a : Addr) (tally : Tally) → a ≢ tally.at → turns_in a tally ≡ 0
+turns_other a tally other = ap (λ t. if t then tally.turns else 0) (is_at_other a tally.at other)
+
+capped : (now was old new part more : ℕ) → now + old ≡ was + new → old ≤ was → old ≡ part →
+    new ≡ min (part + more) (2 ^ 64 - 1) → min now (2 ^ 64 - 1) ≡ min (min was (2 ^ 64 - 1) + more) (2 ^ 64 - 1)
+capped now was old new part more sum within own grown = omega arith
+
+same_sum : (now was old new : ℕ) → now + old ≡ was + new → old ≡ 0 → new ≡ 0 → now ≡ was
+same_sum now was old new sum none gone = omega arith
+
+-- what is so of each reading at a place is so of the tally that was read there
+pub here_at : (tallies : List Tally) (place : ℕ) (tally : Tally) (at : Addr) → tally ≡ get_or tallies place tally →
+    HoldsAt (λ (t : Tally). t.at ≡ at) tallies place → tally.at ≡ at
+here_at tallies place tally at read holds = ap place_of read ∙ holds tally
+
+-- One tally is raised, which was read at its place: then the turns at its address are more, those at others are the
+-- same, and so are the addresses.
+module _ (tallies : List Tally) (place : ℕ) (tally : Tally) (more : ℕ) (within : place < length tallies)
+    (read : tally ≡ get_or tallies place tally) where
+  pub turns_raised : (at : Addr) → tally.at ≡ at →
+      turns_at at (set tallies place (raised tally more)) ≡ added (turns_at at tallies) more
+  turns_raised at here =
+      let f : Tally → ℕ = turns_in at in
+      let stood : f (get_or tallies place tally) ≡ tally.turns = ap f (sym read) ∙ turns_own at tally here in
+      capped
+      (sum_by f (set tallies place (raised tally more)))
+      (sum_by f tallies)
+      (f (get_or tallies place tally))
+      (f (raised tally more))
+      tally.turns
+      more
+      (sum_by-set f tallies place (raised tally more) tally within)
+      (get_or-le-sum_by f tallies place tally within)
+      stood
+      (turns_own at (raised tally more) here)
+
+  pub turns_elsewhere : (a : Addr) → a ≢ tally.at → turns_at a (set tallies place (raised tally more)) ≡ turns_at a tallies
+  turns_elsewhere a other =
+      let f : Tally → ℕ = turns_in a in
+      let stood : f (get_or tallies place tally) ≡ 0 = ap f (sym read) ∙ turns_other a tally other in
+      ap
+      (λ (n : ℕ). min n (2 ^ 64 - 1))
+      (same_sum
+      (sum_by f (set tallies place (raised tally more)))
+      (sum_by f tallies)
+      (f (get_or tallies place tally))
+      (f (raised tally more))
+      (sum_by-set f tallies place (raised tally more) tally within)
+      stood
+      (turns_other a (raised tally more) other))
+
+  pub places_stay : map place_of (set tallies place (raised tally more)) ≡ map place_of tallies
+  places_stay =
+      let there : get_or (map place_of tallies) place tally.at ≡ tally.at =
+      get_or-map place_of tallies place tally tally.at within ∙ ap place_of (sym read) in
+      map-set place_of tallies place (raised tally more)
+      ∙ ap (λ (a : Addr). set (map place_of tallies) place a) (sym there)
+      ∙ set-get_or (map place_of tallies) place tally.at
