@@ -39,7 +39,7 @@ impl<'a, R: Files<File = File>> FileArea<'a, R> {
         }
     }
 
-    /// What the last call that failed has failed with.
+    /// What the last call that failed has failed with, unless that was an earlier sync alone.
     pub fn trouble(&self) -> Option<Trouble>
         ensures { result ≡ self.now.troubles.last }
     {

@@ -58,7 +58,7 @@ impl<'a, R: Files<File = File>> FolderShelf<'a, R> {
         })
     }
 
-    /// What the last call that failed has failed with.
+    /// What the last call that failed has failed with, unless that was an earlier sync alone.
     pub fn trouble(&self) -> Option<Trouble>
         ensures { result ≡ self.now.troubles.last }
     {
@@ -85,13 +85,13 @@ impl<'a, R: Files<File = File>> FolderShelf<'a, R> {
         ensures troubles { self.new.troubles ≡ self.old.troubles }
     {
         self.open()?;
+        if fs::exists(self.files, paths.sealed.as_str())? {
+            return Err(Trouble::Sealed);
+        }
         let Some(place) = self.parts.get_mut(stream as usize) else {
             return Err(Trouble::NoFile);
         };
         *place = None;
-        if fs::exists(self.files, paths.sealed.as_str())? {
-            return Err(Trouble::Sealed);
-        }
         remove_leftover(self.files, paths.part.as_str())?;
         let file = DiskFile::new(make_new(self.files, paths.part.as_str())?);
         *place = Some(Part { file, paths });

@@ -54,7 +54,8 @@ impl From<TryLockError> for Trouble {
     }
 }
 
-/// How often calls have failed, and what the last of them failed with.
+/// How often calls have failed, and what the last of them failed with. That a call failed since an earlier sync did isn't
+/// noted: what the sync failed with tells more.
 #[derive(Drop)]
 pub struct Troubles {
     pub count: u64,
@@ -80,7 +81,9 @@ impl Troubles {
             Ok(value) => Ok(value),
             Err(trouble) => {
                 self.count = self.count.saturating_add(1);
-                self.last = Some(trouble);
+                if !matches!(trouble, Trouble::Unsynced) {
+                    self.last = Some(trouble);
+                }
                 Err(Failed)
             }
         }
