@@ -7,9 +7,10 @@ use area_disk::{Area, Failed};
 use std::fs::{File, Files};
 
 /// The area in a file, which is opened, locked and allocated at the first call: where it is missing it is made, and
-/// where an earlier start was stopped while it filled it, it is filled to its end. A call fails where the file can't be
-/// opened so, is another's, isn't a regular one, or has another length; it then stays as it was, and the next call tries
-/// again.
+/// where an earlier start was stopped while it filled it, it is filled to its end.
+///
+/// A call fails where the file can't be opened so, is another's, isn't a regular one, or has another length. The file
+/// then stays as it was, and the next call tries again.
 ///
 /// It tells nothing of what it holds. From a sync that failed on each write and sync fails, while reads go on.
 #[derive(Drop)]

@@ -1,4 +1,5 @@
-//! The real outside: readers, files, standard streams, a folder and the system's clock behind the traits of the gateway.
+//! The real outside: readers, files, standard streams, a folder and the system's clock, behind the traits of the
+//! gateway.
 //!
 //! It has no model of its own. A source and a sink tell what their reader and writer tell. The area and the shelf tell
 //! nothing of what they hold: their clauses are that a call fails only where the count of faults rose, and that from a

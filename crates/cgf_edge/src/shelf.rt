@@ -25,8 +25,8 @@ struct Part {
 ///
 /// The file that stream SS writes has the name `SS.part`, a sealed file `SS-NNNNNNNNNN.cdr`. A part that an earlier run
 /// left is removed when the stream begins its next file, and is never read. Files with other names stay as they are.
-/// `begin` and `seal` refuse a name that a sealed file has. After a sync of the folder that failed each call fails; after
-/// one of a file, each write, sync and seal of that file does.
+/// `begin` and `seal` refuse a name that a sealed file has. After a sync of the folder that failed each call fails, and
+/// after one of a file each write, sync and seal of that file.
 ///
 /// It tells nothing of what it holds.
 #[derive(Drop)]

@@ -5,7 +5,8 @@ use crate::again::write_again;
 use gw_base::{Failed, Sink};
 use std::io::Write;
 
-/// A sink over a writer. It tells what was written where the writer does. A write that a signal interrupts is made again.
+/// A sink over a writer. It tells what was written where the writer does. A write that a signal interrupts is made
+/// again.
 #[derive(Drop)]
 pub struct WriterSink<W: Write + Drop> {
     writer: W,

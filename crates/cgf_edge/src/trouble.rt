@@ -54,8 +54,8 @@ impl From<TryLockError> for Trouble {
     }
 }
 
-/// How often calls have failed, and what the last of them failed with. That a call failed since an earlier sync did isn't
-/// noted: what the sync failed with tells more.
+/// How often calls have failed, and what the last of them failed with. Where that was an earlier sync that failed, it
+/// isn't noted: what that sync failed with tells more.
 #[derive(Drop)]
 pub struct Troubles {
     pub count: u64,
