@@ -138,17 +138,24 @@ impl<R: Files<File = File> + Sync> Area for FileArea<'_, R> {
     }
 
     fn read_at(&mut self, at: u64, into: &mut [u8]) -> Result<(), Failed> {
-        let done = self.read(at, into);
-        self.troubles.told(done)
+        match self.read(at, into) {
+            Ok(()) => Ok(()),
+            Err(trouble) => Err(self.troubles.failed(trouble)),
+        }
     }
 
+    #[tactic(auto, using(crate::proofs::Untold::follows))]
     fn write_at(&mut self, at: u64, from: &[u8]) -> Result<(), Failed> {
-        let done = self.write(at, from);
-        self.troubles.told(done)
+        match self.write(at, from) {
+            Ok(()) => Ok(()),
+            Err(trouble) => Err(self.troubles.failed(trouble)),
+        }
     }
 
     fn sync(&mut self) -> Result<(), Failed> {
-        let done = self.settle();
-        self.troubles.told(done)
+        match self.settle() {
+            Ok(()) => Ok(()),
+            Err(trouble) => Err(self.troubles.failed(trouble)),
+        }
     }
 }

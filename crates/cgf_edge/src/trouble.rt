@@ -1,6 +1,6 @@
 // What a file or a folder has failed with.
 ghost use Rattle.std.specs.Prelude.{◌≡◌, ◌≤◌};
-ghost use Rattle.area_disk.specs.Disk.{HasCause};
+ghost use Rattle.area_disk.specs.Disk.{HasCause, Rose};
 
 use area_disk::Failed;
 use std::fs::TryLockError;
@@ -74,18 +74,24 @@ impl Troubles {
     }
 
     /// Counts a call that failed.
+    pub fn failed(&mut self, trouble: Trouble) -> Failed
+        ensures later { self.old.count ≤ self.new.count }
+        ensures rose { Rose self.old.count self.new.count }
+    {
+        self.count = self.count.saturating_add(1);
+        if !matches!(trouble, Trouble::Unsynced) {
+            self.last = Some(trouble);
+        }
+        Failed
+    }
+
+    /// Counts a call where it failed.
     pub fn told<T>(&mut self, done: Result<T, Trouble>) -> Result<T, Failed>
         ensures { HasCause self.old.count self.new.count result }
     {
         match done {
             Ok(value) => Ok(value),
-            Err(trouble) => {
-                self.count = self.count.saturating_add(1);
-                if !matches!(trouble, Trouble::Unsynced) {
-                    self.last = Some(trouble);
-                }
-                Err(Failed)
-            }
+            Err(trouble) => Err(self.failed(trouble)),
         }
     }
 }
