@@ -33,10 +33,9 @@ fn what_is_written_is_read_after_opening_again(rt: HostRuntime) -> Result<(), Fa
     Ok(())
 }
 
-/// One handle has the lock. The file of another length, one that isn't regular, and one in a folder that is missing are
-/// refused. What is refused stays as it was.
+/// A second handle fails at each call while the first has the lock, and changes nothing.
 #[test]
-fn a_file_that_is_not_ours_is_refused_and_stays(rt: HostRuntime) -> Result<(), Fail> {
+fn a_file_that_is_locked_is_refused(rt: HostRuntime) -> Result<(), Fail> {
     let mut into = [0; 1];
     let mut holder = FileArea::new(&rt, "held.area", 100);
     holder.write_at(0, b"x")?;
@@ -50,20 +49,31 @@ fn a_file_that_is_not_ours_is_refused_and_stays(rt: HostRuntime) -> Result<(), F
     drop(holder);
     second.read_at(0, &mut into)?;
     assert_eq!(rt; into, [b'x']);
+    Ok(())
+}
 
-    for (octets, length) in [("0123456789ab", 11), ("0123456789", 11)] {
+/// A longer file, and a shorter one that doesn't begin with an octet 0, are refused and stay as they were.
+#[test]
+fn a_file_of_another_length_is_refused_and_stays(rt: HostRuntime) -> Result<(), Fail> {
+    for octets in ["0123456789ab", "0123456789"] {
         fs::write(&rt, "other.area", octets)?;
-        let mut area = FileArea::new(&rt, "other.area", length);
+        let mut area = FileArea::new(&rt, "other.area", 11);
+        let mut into = [0; 1];
         assert_eq!(rt; area.read_at(0, &mut into), Err(Failed));
         assert!(rt; is_length(area.trouble(), octets.len() as u64));
-        assert_eq!(rt; fs::read_to_string(&rt, "other.area")?.as_str(), octets);
+        let kept = fs::read_to_string(&rt, "other.area")?;
+        assert_eq!(rt; kept.as_str(), octets);
     }
+    Ok(())
+}
 
+/// A folder, a device, and a file in a folder that is missing.
+#[test]
+fn what_is_no_regular_file_is_refused(rt: HostRuntime) {
     for path in [".", "/dev/full", "missing/a.area"] {
         let mut area = FileArea::new(&rt, path, 100);
         assert_eq!(rt; area.sync(), Err(Failed), "{path}");
     }
-    Ok(())
 }
 
 /// A start that was stopped while it filled the file left it empty, or with a first octet 0.
