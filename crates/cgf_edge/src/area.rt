@@ -53,10 +53,11 @@ impl<'a, R: Files<File = File>> FileArea<'a, R> {
         ensures length { self.new.length ≡ self.old.length }
         ensures troubles { self.new.troubles ≡ self.old.troubles }
     {
-        if self.file.is_none() {
-            let file = open_area(self.files, self.path, self.length)?;
-            self.file = Some(DiskFile::new(file));
+        if self.file.is_some() {
+            return Ok(());
         }
+        let file = open_area(self.files, self.path, self.length)?;
+        self.file = Some(DiskFile::new(file));
         Ok(())
     }
 

@@ -70,13 +70,14 @@ impl<'a, R: Files<File = File>> FolderShelf<'a, R> {
         ensures open { OnOk result (IsSome self.new.folder) }
         ensures troubles { self.new.troubles ≡ self.old.troubles }
     {
-        if self.folder.is_none() {
-            let folder = open_folder(self.files, self.path.as_str())?;
-            self.folder = Some(DiskFile::new(folder));
+        if let Some(folder) = &self.folder {
+            if folder.is_unsynced() {
+                return Err(Trouble::Unsynced);
+            }
+            return Ok(());
         }
-        if self.folder.as_ref().unwrap().is_unsynced() {
-            return Err(Trouble::Unsynced);
-        }
+        let folder = open_folder(self.files, self.path.as_str())?;
+        self.folder = Some(DiskFile::new(folder));
         Ok(())
     }
 
