@@ -1,5 +1,4 @@
 // Reads and writes that a signal interrupts, and that are made again.
-ghost use Rattle.std.specs.Prelude.{◌≡◌, length, OnErr};
 ghost use Rattle.std.specs.Io.{ReadsAtMost, WritesAtMost};
 ghost use Rattle.std.specs.Io.KnownBytes.{ReadConsumes, WriteAppends};
 

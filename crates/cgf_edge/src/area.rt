@@ -87,8 +87,8 @@ impl<'a, R: Files<File = File>> FileArea<'a, R> {
 }
 
 impl<R: Files<File = File> + Sync> Area for FileArea<'_, R> {
-    ghost use Rattle.std.specs.Prelude.{[], false, length};
-    ghost use Rattle.std.proofs.Common.{refl, le_trans};
+    ghost use Rattle.std.specs.Prelude.{[], false};
+    ghost use Rattle.std.proofs.Common.{refl};
     ghost use Rattle.std.proofs.Math.Bridge.{no_suc-le-zero};
     ghost use Rattle.area_disk.specs.Quiet.{no_moments, no_prospect, no_room, not_told};
 

@@ -1,7 +1,5 @@
 // The names of files in the folder of a shelf: `SS.part` while stream SS writes it, `SS-NNNNNNNNNN.cdr` once it is
 // sealed.
-ghost use Rattle.std.specs.Prelude.{◌≤◌};
-
 use cdr_shelf::FileName;
 use std::alloc::{AllocError, Global};
 use std::fs::Files;

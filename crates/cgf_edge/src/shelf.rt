@@ -1,4 +1,4 @@
-ghost use Rattle.std.specs.Prelude.{◌≡◌, ◌≤◌, IfOk, IsSome, OnOk};
+ghost use Rattle.std.specs.Prelude.{◌≡◌, IfOk, IsSome, OnOk};
 
 use crate::name::{Paths, greatest};
 use crate::open::{make_new, open_folder};
