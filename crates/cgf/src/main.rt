@@ -1,8 +1,8 @@
 //! The program: it makes the real input and output, hands them to the top call, and tells how that
 //! ended.
 //!
-//! It has no model of its own. Its adapters over readers and writers keep the promises of `Source`
-//! and `Sink`, and tell what these told; the exit code is the number of the status.
+//! It has no model of its own. The adapters over readers and writers are those of `cgf_edge`; the exit
+//! code is the number of the status.
 #![tactic(auto)]
 
 ghost use Rattle.std.specs.Prelude.{◌≡◌, ◌≢◌, ◌⊎◌, None, map, string_bytes, true};
@@ -13,19 +13,14 @@ ghost use Rattle.cgf_top.specs.Ending.{HasCause, WordsDecide};
 ghost use Rattle.cgf_top.specs.Job.{job_of};
 ghost use Rattle.cgf_top.specs.Run.{HasRead, is_reported, report_of, status_number};
 
-mod progress;
-mod sink;
-mod source;
 #[cfg(test)]
 mod tests;
 
-use crate::progress::Progress;
-use crate::sink::WriterSink;
-use crate::source::{FileSource, ReaderSource};
-use cgf_top::{Status, run_watched};
+use cgf_edge::{BehindProgress, FileSource, Line, Progress, ReaderSource, WriterSink};
+use cgf_top::{Status, Watch, run_watched};
 use gw_base::{Sink, Source};
 use std::env;
-use std::io::{ErrorKind, IsTerminal, Stderr};
+use std::io::{ErrorKind, IsTerminal, Stderr, Write};
 use std::process::ExitCode;
 
 /// The word that names the standard input.
@@ -70,31 +65,35 @@ fn without_words(kind: ErrorKind) -> Status
     }
 }
 
-/// Runs the job over the file that the second word names, which is opened once it is to be read.
+/// Runs the job over the file that the second word names, which is opened once it is to be read. Where the standard error
+/// is a terminal, it shows there how far a long job is, and the line is empty before anything is written.
 fn run(rt: &HostRuntime, words: &[String]) -> Status
     ensures words { result ≡ Status.Words → command_of (map string_bytes words.now) ≡ None }
     ensures told { command_of (map string_bytes words.now) ≡ None →
         (result ≡ Status.Words) ⊎ (result ≡ Status.Memory) }
 {
-    let mut sink = WriterSink::new(rt.stdout());
+    let line = Line::new();
+    let mut sink = BehindProgress::new(WriterSink::new(rt.stdout()), &line, terminal(rt));
+    let mut watch = Shown(Progress::new(&line, terminal(rt)));
     match words {
         [_, file] if file.as_str() != STANDARD_INPUT => {
             let mut source = FileSource::new(rt, file.as_str());
-            run_over(rt, words, &mut source, &mut sink)
+            run_over(rt, words, &mut source, &mut sink, &mut watch)
         }
         _ => {
             let mut source = ReaderSource::new(rt.stdin());
-            run_over(rt, words, &mut source, &mut sink)
+            run_over(rt, words, &mut source, &mut sink, &mut watch)
         }
     }
 }
 
-/// Runs the job over a source and a sink, and shows how far it is where the standard error is a terminal.
-fn run_over<S: Source, K: Sink>(
+/// Runs the job over a source and a sink, and shows how far it is.
+fn run_over<S: Source, K: Sink, W: Write + Drop>(
     rt: &HostRuntime,
     words: &[String],
     source: &mut S,
     sink: &mut K,
+    watch: &mut Shown<'_, W>,
 ) -> Status
     ensures words { WordsDecide (command_of (map string_bytes words.now)) result source.old source.new }
     ensures report { is_reported result ≡ true →
@@ -104,10 +103,19 @@ fn run_over<S: Source, K: Sink>(
     ensures cause { HasCause result (S.faults source.old) (S.faults source.new) (K.faults sink.old)
         (K.faults sink.new) }
 {
-    let mut progress = Progress::new(terminal(rt));
-    let ended = run_watched(rt.alloc(), words, source, sink, &mut progress);
-    progress.clear();
+    let ended = run_watched(rt.alloc(), words, source, sink, watch);
+    watch.0.clear();
     ended.status
+}
+
+/// Who shows how far a job is.
+#[derive(Drop)]
+struct Shown<'a, W: Write + Drop>(Progress<'a, W>);
+
+impl<W: Write + Drop> Watch for Shown<'_, W> {
+    fn ran(&mut self, lines: u64, all: u64) {
+        self.0.ran(lines, all);
+    }
 }
 
 /// The standard error, where it is a terminal.

@@ -1,12 +1,13 @@
 ghost use Rattle.std.specs.Prelude.{◌≡◌, ◌≤◌, None, length, IfOk, OnOk, IsSome, option_and_then};
 ghost use Rattle.std.specs.Io.KnownBytes.{ReadConsumes};
 
+use crate::again::read_again;
 use gw_base::{Failed, Source};
+use std::fs::Files;
 use std::io::Read;
-use std::rt::Files;
 use std::{fs, io};
 
-/// A source over a reader. It tells what is left where the reader does.
+/// A source over a reader. It tells what is left where the reader does. A read that a signal interrupts is made again.
 #[derive(Drop)]
 pub struct ReaderSource<R: Read + Drop> {
     reader: R,
@@ -29,7 +30,7 @@ impl<R: Read + Drop> Source for ReaderSource<R> {
     ghost faults = { λ s. s.faults };
 
     fn take(&mut self, into: &mut [u8]) -> Result<usize, Failed> {
-        match self.reader.read(into) {
+        match read_again(&mut self.reader, into) {
             Ok(count) => Ok(count),
             Err(_) => {
                 self.faults = self.faults.saturating_add(1);
@@ -74,10 +75,10 @@ impl<'a, R: Files> FileSource<'a, R> {
         ensures faults { self.new.faults ≡ self.old.faults }
     {
         if let Some(file) = &mut self.file {
-            return file.read(into);
+            return read_again(file, into);
         }
         let mut file = fs::open(self.files, self.path)?;
-        let count = file.read(into)?;
+        let count = read_again(&mut file, into)?;
         self.file = Some(file);
         Ok(count)
     }

@@ -1,10 +1,12 @@
 ghost use Rattle.std.specs.Prelude.{◌≡◌, ◌≤◌};
 ghost use Rattle.gw_base.specs.Faults.{Rose};
 
+use crate::again::write_again;
 use gw_base::{Failed, Sink};
 use std::io::Write;
 
-/// A sink over a writer. It tells what was written where the writer does.
+/// A sink over a writer. It tells what was written where the writer does. A write that a signal interrupts is made
+/// again.
 #[derive(Drop)]
 pub struct WriterSink<W: Write + Drop> {
     writer: W,
@@ -36,7 +38,7 @@ impl<W: Write + Drop> Sink for WriterSink<W> {
     ghost faults = { λ s. s.faults };
 
     fn put(&mut self, from: &[u8]) -> Result<usize, Failed> {
-        match self.writer.write(from) {
+        match write_again(&mut self.writer, from) {
             Ok(0) if !from.is_empty() => Err(self.fail()),
             Ok(count) => Ok(count),
             Err(_) => Err(self.fail()),

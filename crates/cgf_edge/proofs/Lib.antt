@@ -1,0 +1,2 @@
+pub mod Interrupted
+pub mod Untold

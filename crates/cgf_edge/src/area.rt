@@ -1,0 +1,162 @@
+ghost use Rattle.std.specs.Prelude.{◌≡◌, None, IsSome, OnOk};
+
+use crate::open::open_area;
+use crate::trouble::Troubles;
+use crate::{DiskFile, Trouble};
+use area_disk::{Area, Failed};
+use std::fs::{File, Files};
+
+/// The area in a file, which is opened, locked and allocated at the first call: where it is missing it is made, and
+/// where an earlier start was stopped while it filled it, it is filled to its end.
+///
+/// A call fails where the file can't be opened so, is another's, isn't a regular one, or has another length. The file
+/// then stays as it was, and the next call tries again.
+///
+/// It tells nothing of what it holds. From a sync that failed on each write and sync fails, while reads go on.
+#[derive(Drop)]
+pub struct FileArea<'a, R: Files> {
+    files: &'a R,
+    path: &'a str,
+    length: u64,
+    file: Option<DiskFile>,
+    troubles: Troubles,
+}
+
+impl<'a, R: Files<File = File>> FileArea<'a, R> {
+    /// The area of `length` octets in the file at this path, which isn't opened yet. It has failed no call yet.
+    pub fn new(files: &'a R, path: &'a str, length: u64) -> Self
+        ensures files { result.files.now ≡ files.now }
+        ensures path { result.path.now ≡ path.now }
+        ensures length { result.length ≡ length }
+        ensures file { result.file ≡ None }
+        ensures faults { result.troubles.count ≡ 0 }
+    {
+        FileArea {
+            files,
+            path,
+            length,
+            file: None,
+            troubles: Troubles::new(),
+        }
+    }
+
+    /// What the last call that failed has failed with, unless that was an earlier sync alone.
+    pub fn trouble(&self) -> Option<Trouble>
+        ensures { result ≡ self.now.troubles.last }
+    {
+        self.troubles.last
+    }
+
+    /// Opens the file where that wasn't done yet.
+    fn open(&mut self) -> Result<(), Trouble>
+        ensures open { OnOk result (IsSome self.new.file) }
+        ensures length { self.new.length ≡ self.old.length }
+        ensures troubles { self.new.troubles ≡ self.old.troubles }
+    {
+        if self.file.is_some() {
+            return Ok(());
+        }
+        let file = open_area(self.files, self.path, self.length)?;
+        self.file = Some(DiskFile::new(file));
+        Ok(())
+    }
+
+    fn read(&mut self, at: u64, into: &mut [u8]) -> Result<(), Trouble>
+        ensures length { self.new.length ≡ self.old.length }
+        ensures troubles { self.new.troubles ≡ self.old.troubles }
+    {
+        self.open()?;
+        self.file.as_ref().unwrap().read(at, into)
+    }
+
+    fn write(&mut self, at: u64, from: &[u8]) -> Result<(), Trouble>
+        ensures length { self.new.length ≡ self.old.length }
+        ensures troubles { self.new.troubles ≡ self.old.troubles }
+    {
+        self.open()?;
+        self.file.as_ref().unwrap().write(at, from)
+    }
+
+    fn settle(&mut self) -> Result<(), Trouble>
+        ensures length { self.new.length ≡ self.old.length }
+        ensures troubles { self.new.troubles ≡ self.old.troubles }
+    {
+        self.open()?;
+        self.file.as_mut().unwrap().sync_data()
+    }
+}
+
+impl<R: Files<File = File> + Sync> Area for FileArea<'_, R> {
+    ghost use Rattle.std.specs.Prelude.{[], false};
+    ghost use Rattle.std.proofs.Common.{refl};
+    ghost use Rattle.std.proofs.Math.Bridge.{no_suc-le-zero};
+    ghost use Rattle.area_disk.specs.Quiet.{no_moments, no_prospect, no_room, not_told};
+
+    ghost size = { λ a. a.length };
+
+    ghost tells_octets = { false };
+
+    ghost octets = { λ a. [] };
+
+    ghost tells_crash = { false };
+
+    ghost may_leave = { λ a c. c ≡ [] };
+
+    ghost moments = { λ a. no_moments };
+
+    ghost most_room = { no_room };
+
+    ghost tells_calls = { false };
+
+    ghost calls = { λ a. 0 };
+
+    ghost tells_fate = { false };
+
+    ghost fate = { λ a. no_prospect };
+
+    ghost faults = { λ a. a.troubles.count };
+
+    ghost holds = { λ a. refl };
+
+    ghost whole = { λ a told. not_told told };
+
+    ghost same_size = { λ a c told left. not_told told };
+
+    ghost same_size_since = { λ a t c tells told le left. not_told tells };
+
+    ghost counts_now = { λ a t c le now left. tt };
+
+    ghost only_now = { λ a c le left. absurd (no_suc-le-zero le) };
+
+    ghost may_stop = { λ a o told. not_told told };
+
+    ghost stops_new = { λ a told. not_told told };
+
+    ghost counts_calls = { λ a told. not_told told };
+
+    fn length(&self) -> u64 {
+        self.length
+    }
+
+    fn read_at(&mut self, at: u64, into: &mut [u8]) -> Result<(), Failed> {
+        match self.read(at, into) {
+            Ok(()) => Ok(()),
+            Err(trouble) => Err(self.troubles.failed(trouble)),
+        }
+    }
+
+    #[tactic(auto, using(crate::proofs::Untold::follows))]
+    fn write_at(&mut self, at: u64, from: &[u8]) -> Result<(), Failed> {
+        match self.write(at, from) {
+            Ok(()) => Ok(()),
+            Err(trouble) => Err(self.troubles.failed(trouble)),
+        }
+    }
+
+    fn sync(&mut self) -> Result<(), Failed> {
+        match self.settle() {
+            Ok(()) => Ok(()),
+            Err(trouble) => Err(self.troubles.failed(trouble)),
+        }
+    }
+}

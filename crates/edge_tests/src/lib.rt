@@ -1,0 +1,12 @@
+//! Tests of the real outside: each adapter on a real thing that works, and on one that fails. A crate with tests is
+//! proved twice in the gate, so they stand here and are proved over the contracts of `cgf_edge` alone.
+#![tactic(auto)]
+
+#[cfg(test)]
+mod area;
+#[cfg(test)]
+mod clock;
+#[cfg(test)]
+mod shelf;
+#[cfg(test)]
+mod streams;
