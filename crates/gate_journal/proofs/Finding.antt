@@ -2,11 +2,20 @@
 use Rattle.std.proofs.Common.{◌≡◌, ℕ, ◌+◌, ◌<◌, ◌≤◌, List, ◌∷◌, ◌++◌, length, take, drop, ⊎_elim, ◌⊎◌, inl, inr, suc, Bool, true, false, refl, sym, ◌∙◌, ap, subst, arith}
 use Rattle.std.specs.Prelude.{Option, Some, None, IfSome, nat_lt, if◌then◌else◌}
 use Rattle.std.proofs.lemmas.Bool.Decides.{leb_tells}
-use Rattle.gate_journal.specs.Format.{spelled, end_of, longest_batch, IsSmall}
-use Rattle.gate_journal.specs.Places.{gate_before, gate_is_open, length_is, whole_there}
+use Rattle.area_disk.specs.AreaLaws.{AreaLaws}
+use Rattle.area_disk.specs.declared.area.Area.{Ghosts}
+use Rattle.gate_journal.specs.Format.{header, spelled, end_of, longest_batch, IsSmall}
+use Rattle.gate_journal.specs.Journal.{batches, is_closed}
+use Rattle.gate_journal.specs.Moments.{Told}
+use Rattle.gate_journal.specs.Reading.{IsGate}
+use Rattle.gate_journal.specs.Spelling.{length-header}
+use Rattle.gate_journal.specs.State.{batches_below}
+use Rattle.gate_journal.specs.Places.{behind_some, gate_before, gate_is_open, length_is, small_among, whole_there}
 use Rattle.gate_journal.specs.Verdicts.{Fits, IsBehind, content_at}
+use Rattle.gate_journal.specs.declared.journal.Journal.{Journal}
 use Rattle.gate_journal.specs.declared.reading.Behind.{Behind}
 use Rattle.gate_journal.specs.declared.reading.Behind.TheVariants.{Shut, Whole, Cut}
+use Rattle.gate_journal.proofs.States.{settled}
 
 ltb_tells : (a b : ℕ) → ((nat_lt a b ≡ true) × (a < b)) ⊎ ((nat_lt a b ≡ false) × (b ≤ a))
 ltb_tells a b = ⊎_elim (λ yes. inl (yes.0, omega (arith, yes.1))) (λ no. inr (no.0, omega (arith, no.1))) (leb_tells (suc a) b)
@@ -25,6 +34,27 @@ module _ (header : List ℕ) (long : length header ≡ 32) (place : ℕ) (octets
       let fits : end_of some + 5 + n ≤ place = omega (arith, gate_before header long place octets some batch more (omega arith) listed) in
       let P : Bool → Type 0 = λ b. answer b (end_of some + 5) n ≡ answer false (end_of some + 5) (length batch) in
       subst P (sym (⊎_elim (λ yes. absurd (omega (arith, yes.1, fits))) (λ no. no.0) (ltb_tells place (end_of some + 5 + n)))) (ap (λ m. answer false (end_of some + 5) m) is)
+
+-- what stands behind a gate of a journal
+module _ {A : Type 0} (tells : Ghosts A) (laws : AreaLaws tells) (j : Journal A tells) (told : Told tells) (gate : ℕ) (behind : Behind) (reads : IsBehind (tells.octets j.area) gate behind) where
+  pub found_at : (some : List (List ℕ)) (batch : List ℕ) (more : List (List ℕ)) → batches_below j.gate (tells.octets j.area) ≡ some ++ batch ∷ more → gate ≡ end_of some → content_at behind gate j.gate ≡ Some (gate + 5, length batch)
+  found_at some batch more is at =
+      let h = header (tells.size j.area) j.address j.generation in
+      subst (λ n. content_at behind n j.gate ≡ Some (n + 5, length batch)) (sym at)
+      (content_found h (length-header (tells.size j.area) j.address j.generation) j.gate (tells.octets j.area) some batch more (omega (arith, laws.whole j.area told.0, j.sound.high))
+      ((j.sound.content told (tells.octets j.area) (laws.holds j.area)).listed ∙ ap (λ (bs : List (List ℕ)). drop 1 h ++ spelled bs) is)
+      (small_among (batches_below j.gate (tells.octets j.area)) some batch more is (j.sound.small told)) behind (subst (λ n. IsBehind (tells.octets j.area) n behind) at reads))
+
+  -- before the first closed gate there is one
+  module _ (open' : is_closed j ≡ false) (is_gate : IsGate j gate) (before : gate < j.gate) where
+    next : (batch : List ℕ) × (more : List (List ℕ)) × (batches_below j.gate (tells.octets j.area) ≡ (is_gate.behind told).0 ++ batch ∷ more)
+    unfolding batches
+    next =
+        let is = is_gate.behind told in
+        behind_some (batches_below j.gate (tells.octets j.area)) is.0 is.1 is.2 (omega (arith, (settled tells laws j open').place told, is.3, before))
+
+    there : content_at behind gate j.gate ≡ Some (gate + 5, length next.0)
+    there = found_at (is_gate.behind told).0 next.0 next.1 next.2 (is_gate.behind told).3
 
 pub content_inside : (size : ℕ) (behind : Behind) (gate end : ℕ) → Fits size gate behind → IfSome (content_at behind gate end) (λ content. (content.0 ≡ gate + 5) × (content.0 + content.1 ≤ end) × (content.1 ≤ longest_batch))
 content_inside size Shut gate end fits = tt

@@ -1,14 +1,12 @@
-use Rattle.std.proofs.Common.{◌≡◌, ◌≤◌, ◌+◌, ℕ, List, [], ◌∷◌, ◌++◌, length, drop, refl, sym, ◌∙◌, ap, subst, arith}
-use Rattle.std.specs.Prelude.{Option, Some, IfSome, is_some, unwrap_or}
-use Rattle.gate_journal.specs.Format.{end_of, header, longest_batch, spelled}
+use Rattle.std.proofs.Common.{◌≡◌, ◌≤◌, ◌+◌, ℕ, List, [], ◌∷◌, ◌++◌, length, refl, sym, ◌∙◌, ap, subst, arith}
+use Rattle.std.specs.Prelude.{Option, IfSome, is_some, unwrap_or}
+use Rattle.gate_journal.specs.Format.{longest_batch}
 use Rattle.gate_journal.specs.Journal.{batches}
 use Rattle.gate_journal.specs.Reading.{IsBatch}
 use Rattle.gate_journal.specs.State.{batches_below}
-use Rattle.gate_journal.specs.Verdicts.{IsBehind, content_at}
 use Rattle.gate_journal.proofs.Kept.{kept_journal}
-use Rattle.gate_journal.proofs.Finding.{content_found, content_inside, if_some}
-use Rattle.gate_journal.specs.Places.{small_among, behind_some, before_end, next_gate}
-use Rattle.gate_journal.specs.Spelling.{length-header}
+use Rattle.gate_journal.proofs.Finding.{content_inside, found_at, if_some, next, there}
+use Rattle.gate_journal.specs.Places.{before_end, next_gate}
 use Rattle.gate_journal.proofs.States.{settled}
 use Rattle.gate_journal.proofs.Turns.{other_bool}
 use Rattle.gate_journal.proofs.journal.Journal.batch.Goals as goal
@@ -22,16 +20,7 @@ returns-then-gate-self-clause-found g c = λ told some batch more is at.
 
 pub returns-in-Ok-clause-found : goal.returns-in-Ok-clause-found
 unfolding batches
-returns-in-Ok-clause-found g c = λ told.
-    let j = c.args.self.now in
-    let found = λ (some : List (List ℕ)) (batch : List ℕ) (more : List (List ℕ)) (is : batches_below j.gate (g.A.Area.octets j.area) ≡ some ++ batch ∷ more) (at : c.args.gate ≡ end_of some).
-    c.content_behind.ensures
-    ∙ subst (λ n. content_at c.in-Ok.behind n j.gate ≡ Some (n + 5, length batch)) (sym at)
-    (content_found (header (g.A.Area.size j.area) j.address j.generation) (length-header (g.A.Area.size j.area) j.address j.generation) j.gate (g.A.Area.octets j.area) some batch more (omega (arith, c.area_laws.ensures.whole j.area told.0, j.sound.high))
-    ((j.sound.content told (g.A.Area.octets j.area) (c.area_laws.ensures.holds j.area)).listed ∙ ap (λ (bs : List (List ℕ)). drop 1 (header (g.A.Area.size j.area) j.address j.generation) ++ spelled bs) is)
-    (small_among (batches_below j.gate (g.A.Area.octets j.area)) some batch more is (j.sound.small told)) c.in-Ok.behind
-    (subst (λ n. IsBehind (g.A.Area.octets j.area) n c.in-Ok.behind) at (c.in-Ok.ensures.reads told.0))) in
-    found
+returns-in-Ok-clause-found g c = λ told some batch more is at. c.content_behind.ensures ∙ found_at g.A.Area c.area_laws.ensures c.args.self.now told c.args.gate c.in-Ok.behind (c.in-Ok.ensures.reads told.0) some batch more is at
 
 pub returns-in-Ok-clause-some : goal.returns-in-Ok-clause-some
 unfolding batches
@@ -40,20 +29,10 @@ returns-in-Ok-clause-some g c =
     (content_inside (g.A.Area.size c.args.self.now.area) c.in-Ok.behind c.args.gate c.args.self.now.gate c.in-Ok.ensures.fits) in
     if_some c.content_behind.result (λ content. (content.0 ≡ c.args.gate + 5) × (content.0 + content.1 ≤ c.args.self.now.gate) × (content.1 ≤ longest_batch)) _ inside (λ x answer p. record {
       batch = λ told.
-          let j = c.args.self.now in
-          let found = λ (some : List (List ℕ)) (batch : List ℕ) (more : List (List ℕ)) (is : batches_below j.gate (g.A.Area.octets j.area) ≡ some ++ batch ∷ more) (at : c.args.gate ≡ end_of some).
-          c.content_behind.ensures
-          ∙ subst (λ n. content_at c.in-Ok.behind n j.gate ≡ Some (n + 5, length batch)) (sym at)
-          (content_found (header (g.A.Area.size j.area) j.address j.generation) (length-header (g.A.Area.size j.area) j.address j.generation) j.gate (g.A.Area.octets j.area) some batch more (omega (arith, c.area_laws.ensures.whole j.area told.0, j.sound.high))
-          ((j.sound.content told (g.A.Area.octets j.area) (c.area_laws.ensures.holds j.area)).listed ∙ ap (λ (bs : List (List ℕ)). drop 1 (header (g.A.Area.size j.area) j.address j.generation) ++ spelled bs) is)
-          (small_among (batches_below j.gate (g.A.Area.octets j.area)) some batch more is (j.sound.small told)) c.in-Ok.behind
-          (subst (λ n. IsBehind (g.A.Area.octets j.area) n c.in-Ok.behind) at (c.in-Ok.ensures.reads told.0))) in
-          let place = (settled g.A.Area c.area_laws.ensures j c.requires.ready).place told in
           let behind = c.requires.gate.behind told in
-          let next = behind_some (batches_below j.gate (g.A.Area.octets j.area)) behind.0 behind.1 behind.2 (omega (arith, place, behind.3)) in
-          let is = found behind.0 next.0 next.1 next.2 behind.3 in
-          subst (λ r. IfSome r (λ content. IsBatch j c.args.gate content.0 content.1)) (sym is ∙ answer)
-          (record { before = behind.0; content = next.0; behind = next.1; listed = next.2; gate_is = behind.3; place = refl; size = refl });
+          let here = next g.A.Area c.area_laws.ensures c.args.self.now told c.args.gate c.in-Ok.behind (c.in-Ok.ensures.reads told.0) c.requires.ready c.requires.gate (omega arith) in
+          subst (λ r. IfSome r (λ content. IsBatch c.args.self.now c.args.gate content.0 content.1)) (sym (c.content_behind.ensures ∙ there g.A.Area c.area_laws.ensures c.args.self.now told c.args.gate c.in-Ok.behind (c.in-Ok.ensures.reads told.0) c.requires.ready c.requires.gate (omega arith)) ∙ answer)
+          (record { before = behind.0; content = here.0; behind = here.1; listed = here.2; gate_is = behind.3; place = refl; size = refl });
       place = p.0;
       inside = p.1;
       short = p.2;
@@ -62,39 +41,17 @@ returns-in-Ok-clause-some g c =
         high = p.1;
         behind = λ told.
             let j = c.args.self.now in
-            let found = λ (some : List (List ℕ)) (batch : List ℕ) (more : List (List ℕ)) (is : batches_below j.gate (g.A.Area.octets j.area) ≡ some ++ batch ∷ more) (at : c.args.gate ≡ end_of some).
-            c.content_behind.ensures
-            ∙ subst (λ n. content_at c.in-Ok.behind n j.gate ≡ Some (n + 5, length batch)) (sym at)
-            (content_found (header (g.A.Area.size j.area) j.address j.generation) (length-header (g.A.Area.size j.area) j.address j.generation) j.gate (g.A.Area.octets j.area) some batch more (omega (arith, c.area_laws.ensures.whole j.area told.0, j.sound.high))
-            ((j.sound.content told (g.A.Area.octets j.area) (c.area_laws.ensures.holds j.area)).listed ∙ ap (λ (bs : List (List ℕ)). drop 1 (header (g.A.Area.size j.area) j.address j.generation) ++ spelled bs) is)
-            (small_among (batches_below j.gate (g.A.Area.octets j.area)) some batch more is (j.sound.small told)) c.in-Ok.behind
-            (subst (λ n. IsBehind (g.A.Area.octets j.area) n c.in-Ok.behind) at (c.in-Ok.ensures.reads told.0))) in
-            let place = (settled g.A.Area c.area_laws.ensures j c.requires.ready).place told in
             let behind = c.requires.gate.behind told in
-            let next = behind_some (batches_below j.gate (g.A.Area.octets j.area)) behind.0 behind.1 behind.2 (omega (arith, place, behind.3)) in
-            let is = found behind.0 next.0 next.1 next.2 behind.3 in
-            let same : x ≡ (c.args.gate + 5, length next.0) = ap (λ (o : Option (ℕ × ℕ)). unwrap_or o x) (sym answer ∙ is) in
-            let goes = next_gate (batches_below j.gate (g.A.Area.octets j.area)) behind.0 next.0 next.1 c.args.gate next.2 behind.3 in
-            (behind.0 ++ next.0 ∷ [], next.1, ap (λ (o : List ℕ). batches_below j.gate o) c.read_gate.ensures.kept.octets ∙ goes.0, ap (λ (q : ℕ × ℕ). q.0 + q.1) same ∙ goes.1);
+            let here = next g.A.Area c.area_laws.ensures c.args.self.now told c.args.gate c.in-Ok.behind (c.in-Ok.ensures.reads told.0) c.requires.ready c.requires.gate (omega arith) in
+            let same : x ≡ (c.args.gate + 5, length here.0) = ap (λ (o : Option (ℕ × ℕ)). unwrap_or o x) (sym answer ∙ c.content_behind.ensures ∙ there g.A.Area c.area_laws.ensures c.args.self.now told c.args.gate c.in-Ok.behind (c.in-Ok.ensures.reads told.0) c.requires.ready c.requires.gate (omega arith)) in
+            let goes = next_gate (batches_below j.gate (g.A.Area.octets j.area)) behind.0 here.0 here.1 c.args.gate here.2 behind.3 in
+            (behind.0 ++ here.0 ∷ [], here.1, ap (λ (o : List ℕ). batches_below j.gate o) c.read_gate.ensures.kept.octets ∙ goes.0, ap (λ (q : ℕ × ℕ). q.0 + q.1) same ∙ goes.1);
       };
     })
 
 pub returns-in-Ok-clause-none : goal.returns-in-Ok-clause-none
-unfolding batches
 returns-in-Ok-clause-none g c = λ told.
-    let j = c.args.self.now in
-    let found = λ (some : List (List ℕ)) (batch : List ℕ) (more : List (List ℕ)) (is : batches_below j.gate (g.A.Area.octets j.area) ≡ some ++ batch ∷ more) (at : c.args.gate ≡ end_of some).
-    c.content_behind.ensures
-    ∙ subst (λ n. content_at c.in-Ok.behind n j.gate ≡ Some (n + 5, length batch)) (sym at)
-    (content_found (header (g.A.Area.size j.area) j.address j.generation) (length-header (g.A.Area.size j.area) j.address j.generation) j.gate (g.A.Area.octets j.area) some batch more (omega (arith, c.area_laws.ensures.whole j.area told.0, j.sound.high))
-    ((j.sound.content told (g.A.Area.octets j.area) (c.area_laws.ensures.holds j.area)).listed ∙ ap (λ (bs : List (List ℕ)). drop 1 (header (g.A.Area.size j.area) j.address j.generation) ++ spelled bs) is)
-    (small_among (batches_below j.gate (g.A.Area.octets j.area)) some batch more is (j.sound.small told)) c.in-Ok.behind
-    (subst (λ n. IsBehind (g.A.Area.octets j.area) n c.in-Ok.behind) at (c.in-Ok.ensures.reads told.0))) in
-    let place = (settled g.A.Area c.area_laws.ensures j c.requires.ready).place told in
-    let behind = c.requires.gate.behind told in
-    let next = behind_some (batches_below j.gate (g.A.Area.octets j.area)) behind.0 behind.1 behind.2 (omega (arith, place, behind.3)) in
-    let is = found behind.0 next.0 next.1 next.2 behind.3 in
-    ((λ none. absurd (other_bool (sym (ap is_some is) ∙ none))), λ at. absurd (omega arith))
+    ((λ none. absurd (other_bool (sym (ap is_some (c.content_behind.ensures ∙ there g.A.Area c.area_laws.ensures c.args.self.now told c.args.gate c.in-Ok.behind (c.in-Ok.ensures.reads told.0) c.requires.ready c.requires.gate (omega arith))) ∙ none))), λ at. absurd (omega arith))
 
 pub returns-in-Ok-clause-kept : goal.returns-in-Ok-clause-kept
 returns-in-Ok-clause-kept g c = kept_journal _ _ (record { buffer = refl; gate = refl; torn_length = refl; is_torn = refl; front = refl; address = refl; generation = refl }) c.read_gate.ensures.kept
