@@ -47,13 +47,13 @@ module _ {A : Type 0} (tells : Ghosts A) (laws : AreaLaws tells) (j : Journal A 
 
   -- before the first closed gate there is one
   module _ (open' : is_closed j ≡ false) (is_gate : IsGate j gate) (before : gate < j.gate) where
-    next : (batch : List ℕ) × (more : List (List ℕ)) × (batches_below j.gate (tells.octets j.area) ≡ (is_gate.behind told).0 ++ batch ∷ more)
+    pub next : (batch : List ℕ) × (more : List (List ℕ)) × (batches_below j.gate (tells.octets j.area) ≡ (is_gate.behind told).0 ++ batch ∷ more)
     unfolding batches
     next =
         let is = is_gate.behind told in
         behind_some (batches_below j.gate (tells.octets j.area)) is.0 is.1 is.2 (omega (arith, (settled tells laws j open').place told, is.3, before))
 
-    there : content_at behind gate j.gate ≡ Some (gate + 5, length next.0)
+    pub there : content_at behind gate j.gate ≡ Some (gate + 5, length next.0)
     there = found_at (is_gate.behind told).0 next.0 next.1 next.2 (is_gate.behind told).3
 
 pub content_inside : (size : ℕ) (behind : Behind) (gate end : ℕ) → Fits size gate behind → IfSome (content_at behind gate end) (λ content. (content.0 ≡ gate + 5) × (content.0 + content.1 ≤ end) × (content.1 ≤ longest_batch))

@@ -13,7 +13,7 @@ use Rattle.cgf_journal.proofs.Listings.{breaks_here, costs_within, read_next, ta
 use Rattle.cgf_journal.proofs.listing.take_next.Goals as goal
 
 pub batch-requires-clause-gate : goal.batch-requires-clause-gate
-batch-requires-clause-gate g c = λ le. record {
+batch-requires-clause-gate g c = record {
   low = omega (arith, c.requires.taken.taken_in.gate_is);
   high = omega arith;
   behind = λ told.

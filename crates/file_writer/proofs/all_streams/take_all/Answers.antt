@@ -11,7 +11,7 @@ use Rattle.file_writer.proofs.MakingLemmas.{makes_then, stopped_at}
 use Rattle.file_writer.proofs.all_streams.take_all.Goals as goal
 
 pub take_item-requires-clause-few : goal.take_item-requires-clause-few
-take_item-requires-clause-few g c within = λ s d h.
+take_item-requires-clause-few g c = λ s d h.
     let below = c.loop-item.invariant.below (2 ^ 32 - 2 - length c.args.items.now) c.requires.few s d h in omega
     (arith, c.requires.room)
 

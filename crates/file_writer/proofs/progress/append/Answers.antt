@@ -10,7 +10,7 @@ use Rattle.file_writer.proofs.WritingLemmas.{grown_at, is_fresh, makes_unsealed,
 use Rattle.file_writer.proofs.progress.append.Goals as goal
 
 pub end_of_file-requires-clause-fresh : goal.end_of_file-requires-clause-fresh
-end_of_file-requires-clause-fresh g c within = λ told. is_fresh c.args.stream c.args.file.closed c.args.file.sealed
+end_of_file-requires-clause-fresh g c = λ told. is_fresh c.args.stream c.args.file.closed c.args.file.sealed
     _ (c.requires.fresh told) c.if-sequence-sealed.false
 
 pub returns-in_err-at-clause-makes : goal.returns-in_err-at-clause-makes

@@ -25,7 +25,7 @@ returns-in_err-file-clause-takes g c = λ run behind.
     c.close.new.shelf c.from_residual.result _ c.from_residual.ensures c.in_err-file.ensures.makes
 
 pub append-requires-clause-fresh : goal.append-requires-clause-fresh
-append-requires-clause-fresh g c within = λ told.
+append-requires-clause-fresh g c = λ told.
     (close_up g.F.Shelf (settings_of c.args.gateway.now) c.args.s c.args.stream.file c.in_ok-file.file
     c.reason_of.result _ _ c.requires.safe.up c.in_ok-file.ensures.closed c.in_ok-file.ensures.still
     c.in_ok-file.ensures.makes).fresh told

@@ -11,7 +11,7 @@ use Rattle.gate_journal.proofs.Openings.{shut_or_broken}
 use Rattle.gate_journal.proofs.opening.list.Goals as goal
 
 pub over-requires-clause-listed : goal.over-requires-clause-listed
-over-requires-clause-listed g c = λ le told.
+over-requires-clause-listed g c = λ told.
     let h = header (g.A.Area.size c.args.area) c.args.address c.args.generation in
     let o = g.A.Area.octets c.args.area in
     let kept = c.scan.ensures.kept in

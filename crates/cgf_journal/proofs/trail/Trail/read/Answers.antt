@@ -8,7 +8,7 @@ use Rattle.cgf_journal.proofs.Trails.{entry_is, kept, place_ends, place_is, spel
 use Rattle.cgf_journal.proofs.trail.Trail.read.Goals as goal
 
 pub read-requires-clause-inside : goal.read-requires-clause-inside
-read-requires-clause-inside g c within =
+read-requires-clause-inside g c =
     let t = c.args.self.now in
     let place = c.args.place in
     let is = c.requires.place in

@@ -46,7 +46,7 @@ returns-in-Ok-open_judged-clause-size g c =
     c.in-Ok-open_judged.ensures.size
 
 pub begin-book-requires-clause-fit : goal.begin-book-requires-clause-fit
-begin-book-requires-clause-fit g c = λ le told.
+begin-book-requires-clause-fit g c = λ told.
     let laws = g.met.A.Area in
     found_fit (header (g.A.Area.size c.args.area) c.args.setup.address 0) (g.A.Area.octets c.args.area) (firm_entries c.in-Ok-open_judged.trail) (g.A.Area.size c.args.area) _ (laws.whole c.args.area told.0) c.in-Ok-open_judged.ensures.size
     (c.in-Ok-open_judged.ensures.ok.found told)

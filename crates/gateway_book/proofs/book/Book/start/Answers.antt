@@ -27,10 +27,10 @@ invariant_of-self g c =
     }
 
 pub append-requires-clause-ready : goal.append-requires-clause-ready
-append-requires-clause-ready g c within = record { may_come = record { place = refl; low = tt }; places = tt }
+append-requires-clause-ready g c = record { may_come = record { place = refl; low = tt }; places = tt }
 
 pub append-requires-clause-free : goal.append-requires-clause-free
-append-requires-clause-free g c within = omega (arith, c.requires.emptied)
+append-requires-clause-free g c = omega (arith, c.requires.emptied)
 
 pub returns : goal.returns
 returns g c =
