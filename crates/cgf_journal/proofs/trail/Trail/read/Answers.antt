@@ -7,7 +7,7 @@ use Rattle.entry_codec.specs.Laws.{one_entry}
 use Rattle.cgf_journal.proofs.Trails.{entry_is, kept, place_ends, place_is, spelling_is}
 use Rattle.cgf_journal.proofs.trail.Trail.read.Goals as goal
 
-pub read-requires : goal.read-requires-clause-inside
+pub read-requires : goal.read-requires
 read-requires g c =
     let t = c.args.self.now in
     let place = c.args.place in
