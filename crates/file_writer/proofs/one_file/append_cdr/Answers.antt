@@ -12,8 +12,8 @@ pub returns-in_err-write-clause-makes : goal.returns-in_err-write-clause-makes
 returns-in_err-write-clause-makes g c =
     stopped_at g.F.Shelf (Writes ∷ []) (Writes ∷ []) _ _ _ _ c.from_residual.ensures c.in_err-write.ensures.makes
 
-pub write-requires-2-after_bounds : goal.write-requires-2-after_bounds
-write-requires-2-after_bounds g c = λ told.
+pub write-requires-2 : goal.write-requires-2
+write-requires-2 g c = λ told.
     let long : length c.octets.result.now ≡ cdr_header_length c.args.kind =
     ap (λ (xs : List ℕ). length xs) (c.octets.ensures.octets ∙ c.write_cdr-header.ensures)
     ∙ length-cdr_header_octets _ in

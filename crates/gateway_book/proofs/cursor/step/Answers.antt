@@ -6,8 +6,8 @@ use Rattle.gateway_book.proofs.CursorLemmas.{at_more, at_still, below_up, full_o
 use Rattle.gateway_book.proofs.ReadLemmas.{read_on}
 use Rattle.gateway_book.proofs.cursor.step.Goals as goal
 
-pub add_items-requires-after_bounds : goal.add_items-requires-after_bounds
-add_items-requires-after_bounds g c =
+pub add_items-requires : goal.add_items-requires
+add_items-requires g c =
     let lt = c.requires.before in
     let same = c.read_entry.ensures.read.kept.firm_length in
     below_up c.args.cursor.now.entry (firm_length c.read_entry.new.trail) (places_of c.args.cursor.now.copies) (omega (arith, lt, same)) c.requires.within.copies
