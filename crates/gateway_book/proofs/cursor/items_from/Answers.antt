@@ -4,7 +4,7 @@ use Rattle.gateway_book.proofs.StandingLemmas.{items_after, stands_moved}
 use Rattle.gateway_book.proofs.cursor.items_from.Goals as goal
 
 pub gather-requires : goal.gather-requires
-gather-requires g c = c.rewind.ensures.within (firm_length c.args.trail.now) c.requires.within
+gather-requires g c = record { within = c.rewind.ensures.within (firm_length c.args.trail.now) c.requires.within }
 
 pub returns-in_err-gather-clause-at : goal.returns-in_err-gather-clause-at
 returns-in_err-gather-clause-at g c = λ told h stands. c.gather.ensures.at told h (stands_moved c.args.trail.now h c.args.cursor.now c.rewind.new.self (c.rewind.ensures.at h) stands)

@@ -13,11 +13,13 @@ read-requires g c =
     let place = c.args.place in
     let is = c.requires.place in
     record {
-      high = omega (arith, place_ends t is.0 place is.1, c.requires.length);
-      content = λ told.
-          let found = place_is t told is.0 place is.1 in
-          let among = found.2 in
-          (among.some, among.batch, among.more, among.parts, omega (arith, among.here.low), omega (arith, among.here.high, c.requires.length));
+      inside = record {
+        high = omega (arith, place_ends t is.0 place is.1, c.requires.length);
+        content = λ told.
+            let found = place_is t told is.0 place is.1 in
+            let among = found.2 in
+            (among.some, among.batch, among.more, among.parts, omega (arith, among.here.low), omega (arith, among.here.high, c.requires.length));
+      };
     }
 
 pub returns-clause-read : goal.returns-clause-read
