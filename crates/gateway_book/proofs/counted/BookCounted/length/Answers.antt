@@ -1,4 +1,4 @@
-use Rattle.std.proofs.Common.{◌≤◌, Bool, true, false, [], ◌++◌, length, if◌then◌else◌, refl, sym, arith}
+use Rattle.std.proofs.Common.{◌≤◌, Bool, true, false, [], ◌++◌, length, if◌then◌else◌, refl, sym, ◌∙◌, arith}
 use Rattle.std.proofs.lemmas.List.{append-nil}
 use Rattle.std.proofs.lemmas.Bool.{and_parts}
 use Rattle.cgf_journal.specs.Trail.{firm_length}
@@ -26,7 +26,8 @@ returns-clause-sound g c =
     record {
       cut = book.counts.fewer;
       within = omega (arith, most, bound, count);
-      counted = λ told. c.length-entries.ensures.length (and_parts g.A.Area.tells_octets g.A.Area.tells_crash told);
+      counted = λ told. sym c.length-entries.ensures.counted
+          ∙ c.length-entries.ensures.length (and_parts g.A.Area.tells_octets g.A.Area.tells_crash told);
       begins = λ told. begins_firm (value_of book);
       firm = λ told.
           let long = c.firm.ensures.length (and_parts g.A.Area.tells_octets g.A.Area.tells_crash told) in
