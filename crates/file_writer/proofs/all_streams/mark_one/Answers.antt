@@ -4,11 +4,11 @@ use Rattle.file_rotate.specs.Division.{cuts_at}
 use Rattle.gw_base.specs.declared.item.Item.{Item}
 use Rattle.file_writer.specs.AllStreams.{StreamAt, mark_told, up_to}
 use Rattle.file_writer.specs.Calls.{Call, calls_at}
-use Rattle.file_writer.specs.Following.{IsLeft, mark_item}
+use Rattle.file_writer.specs.Following.{IsLeft, IsSafe, mark_item}
 use Rattle.file_writer.specs.Making.{Makes, Went}
 use Rattle.file_writer.specs.Streams.{stream_division}
 use Rattle.file_writer.specs.declared.stream.Stream.{Stream}
-use Rattle.file_writer.proofs.AllLemmas.{at_stays, calls_are, each_set, mark_stream_item, taken_at, up_to_here, up_to_next, up_to_other}
+use Rattle.file_writer.proofs.AllLemmas.{at_stays, calls_are, each_set, mark_stream_item, safe_stays, taken_at, up_to_here, up_to_next, up_to_other}
 use Rattle.file_writer.proofs.LeavingLemmas.{left_set}
 use Rattle.file_writer.proofs.all_streams.mark_one.Goals as goal
 
@@ -47,6 +47,15 @@ returns-clause-takes g c = λ settings closed sealed before same each.
           (at_stays g.F.Shelf settings closed sealed (up_to s before item t) t _ _ _
           (λ told. c.in_ok-streams.ensures.others told t other) (each t d h)));
     }
+
+pub returns-clause-safe : goal.returns-clause-safe
+returns-clause-safe g c =
+    each_set (λ (t : ℕ) (st : Stream). IsSafe g.F.Shelf t st c.mark.new.shelf) c.args.streams.now c.args.s
+    c.in_ok-streams.field-0
+    (subst (λ (n : ℕ). c.args.s < n) (sym c.requires.sixteen) c.requires.within)
+    c.in_ok-streams.ensures.safe
+    (λ t d other h. safe_stays g.F.Shelf t _ _ _ (λ told. c.in_ok-streams.ensures.others told t other)
+    (c.requires.safe t d h))
 
 pub returns-clause-left : goal.returns-clause-left
 returns-clause-left g c = λ told start stale left.

@@ -15,7 +15,8 @@ returns-clause-makes g c = makes_then g.F.Shelf (Writes ∷ []) (Writes ∷ []) 
 pub returns-clause-open : goal.returns-clause-open
 returns-clause-open g c = λ told.
     on_ok c.write.result
-    (λ second. opened_at c.args.name c.args.first.now.kind c.octets.result.now _ _ _
+    (λ second. opened_at c.args.name c.args.first.now.kind c.octets.result.now
+    (g.F.Shelf.unsealed c.args.shelf.now c.args.name.stream) _ _
     (c.in_ok-begin.ensures.begun told).here second.here
     (ap (λ (xs : List ℕ). length xs) c.octets.ensures.octets ∙ c.run_header-header.ensures.length))
     (c.write.ensures.written told)
