@@ -9,10 +9,10 @@ use std::fs::{File, Files};
 /// The area in a file, which is opened, locked and allocated at the first call: where it is missing it is made, and
 /// where an earlier start was stopped while it filled it, it is filled to its end.
 ///
-/// A call fails where the file can't be opened so, is another's, isn't a regular one, or has another length. The file
-/// then stays as it was, and the next call tries again.
+/// A call fails where the file can't be opened so, and the next one tries again. A file that somebody else has locked,
+/// one that isn't regular, and one of another length stay as they were.
 ///
-/// It tells nothing of what it holds. From a sync that failed on each write and sync fails, while reads go on.
+/// It tells nothing of what it holds. From a `sync` that failed on each write and sync fails, while reads go on.
 #[derive(Drop)]
 pub struct FileArea<'a, R: Files> {
     files: &'a R,
@@ -86,7 +86,7 @@ impl<'a, R: Files<File = File>> FileArea<'a, R> {
     }
 }
 
-impl<R: Files<File = File> + Sync> Area for FileArea<'_, R> {
+impl<R: Files<File = File>> Area for FileArea<'_, R> {
     ghost use Rattle.std.specs.Prelude.{[], false};
     ghost use Rattle.std.proofs.Common.{refl};
     ghost use Rattle.std.proofs.Math.Bridge.{no_suc-le-zero};

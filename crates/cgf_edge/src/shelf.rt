@@ -186,7 +186,7 @@ fn seal_part<R: Files>(files: &R, place: &mut Option<Part>) -> Result<(), Troubl
     Ok(())
 }
 
-impl<R: Files<File = File> + Sync> Shelf for FolderShelf<'_, R> {
+impl<R: Files<File = File>> Shelf for FolderShelf<'_, R> {
     ghost use Rattle.std.specs.Prelude.{[], None, false};
     ghost use Rattle.area_disk.specs.Quiet.{not_told};
     ghost use Rattle.cdr_shelf.specs.Quiet.{no_plan};

@@ -10,3 +10,5 @@ mod clock;
 mod shelf;
 #[cfg(test)]
 mod streams;
+#[cfg(test)]
+mod trouble;

@@ -47,7 +47,8 @@ fn a_part_that_was_left_is_made_anew(rt: HostRuntime) -> Result<(), Fail> {
     Ok(())
 }
 
-/// The greatest number of each stream, by names alone: a part, another name and another number of digits count nothing.
+/// The greatest number of each stream, by names alone, which are more than one piece that is read at once. A part, another
+/// name and another number of digits count nothing.
 #[test]
 fn the_greatest_sealed_number_of_each_stream_is_found(rt: HostRuntime) -> Result<(), Fail> {
     fs::create_dir(&rt, "three")?;
@@ -69,7 +70,11 @@ fn the_greatest_sealed_number_of_each_stream_is_found(rt: HostRuntime) -> Result
     ] {
         fs::write(&rt, other, "x")?;
     }
-    for (stream, greatest) in [(0, 11), (1, 4_294_967_295), (2, 0), (15, 1), (16, 0)] {
+    for number in 1..301 {
+        let path = format!(in rt.alloc(); "three/04-{number:010}.cdr")?;
+        fs::write(&rt, path.as_str(), "x")?;
+    }
+    for (stream, greatest) in [(0, 11), (1, 4_294_967_295), (2, 0), (4, 300), (15, 1), (16, 0)] {
         assert_eq!(rt; shelf.sealed(stream), Ok(greatest), "stream {stream}");
     }
     Ok(())
