@@ -89,7 +89,7 @@ impl Lesson<Job, Hands> for Push {
     ghost use Rattle.job_inbox.specs.Hands.{Shows};
     ghost use Rattle.job_inbox.specs.Rule.{first_of};
 
-    ghost fact = { λ v items. Shows (first_of v.hands) items };
+    ghost fact = { λ v items. Shows v.made (first_of v.hands) items };
 }
 
 // The pass took a job, or learns what an empty inbox shows.
@@ -106,7 +106,7 @@ impl Lesson<Job, Hands> for Take {
     ghost use Rattle.job_inbox.specs.Hands.{Shows};
     ghost use Rattle.job_inbox.specs.Rule.{first_of};
 
-    ghost fact = { λ v items. Shows (first_of v.hands) items };
+    ghost fact = { λ v items. Shows v.made (first_of v.hands) items };
 }
 
 // A pass that has all learns the whole.
