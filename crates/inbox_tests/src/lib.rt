@@ -1,8 +1,6 @@
-//! Tests of inboxes by the public calls of `job_inbox`: on threads, and on one thread at an inbox that is full and empty.
-//! A crate with tests is proved twice in the gate, so they stand here and are proved over its contracts alone.
+//! Tests of inboxes by the public calls of `job_inbox`. A crate with tests is proved twice in the gate, so they stand
+//! here and are proved over its contracts alone.
 #![tactic(auto)]
 
-#[cfg(test)]
-mod alone;
 #[cfg(test)]
 mod threads;

@@ -1,7 +1,8 @@
-//! Two threads that push and two that take at once, at an inbox that is soon full.
-ghost use Rattle.job_inbox.specs.Inbox.{IsPassOf};
+//! An inbox on one thread, which fills it and empties it, and on four threads: two push and two take.
+ghost use Rattle.std.specs.Prelude.{IfSome};
+ghost use Rattle.job_inbox.specs.Inbox.{ArePassesOf, IsPassOf};
 
-use crate::alone::{job, last_of};
+use gw_base::{Addr, Moment, Octets};
 use job_inbox::{Inbox, InboxPass, Job};
 use std::alloc::Global;
 use std::sync::Wait;
@@ -15,6 +16,96 @@ const ROOM: usize = 4;
 
 // How often a thread tries before it gives up.
 const TRIES: u64 = 100_000_000;
+
+// A job of this number, without octets.
+fn job(alloc: Global, serial: u64) -> Option<Job> {
+    Some(Job {
+        from: Addr {
+            ip: 0x0A00_0001,
+            port: 3386,
+        },
+        octets: Octets::from_vec(Vec::new(alloc)),
+        moment: Moment::of(serial)?,
+        serial,
+    })
+}
+
+// The next pass of a list.
+fn last_of(inbox: &Inbox, passes: &mut Vec<InboxPass>) -> Option<InboxPass>
+    requires { ArePassesOf inbox.now passes.old.items }
+    ensures pass { IfSome result (IsPassOf inbox.now) }
+    ensures others { ArePassesOf inbox.now passes.new.items }
+{
+    passes.pop()
+}
+
+// Pushes a job of this number: the number that is handed back, or 0.
+fn pushed<R: Wait>(
+    rt: &R,
+    inbox: &Inbox,
+    pass: InboxPass,
+    job: Option<Job>,
+) -> (Option<u64>, InboxPass)
+    requires { IsPassOf inbox.now pass }
+    ensures { IsPassOf inbox.now result.1 }
+{
+    let Some(job) = job else {
+        return (None, pass);
+    };
+    let (pushed, pass) = inbox.push(rt, pass, job);
+    (Some(pushed.err().map_or(0, |job| job.serial)), pass)
+}
+
+// The number of the job that is taken, or 0.
+fn taken<R: Wait>(rt: &R, inbox: &Inbox, pass: InboxPass) -> (u64, InboxPass)
+    requires { IsPassOf inbox.now pass }
+    ensures { IsPassOf inbox.now result.1 }
+{
+    let (taken, pass) = inbox.pop(rt, pass);
+    (taken.map_or(0, |job| job.serial), pass)
+}
+
+// What a pass is answered that pushes three jobs where there is room for two, and takes until there is none.
+fn fills<R: Wait>(
+    rt: &R,
+    alloc: Global,
+    inbox: &Inbox,
+    pass: InboxPass,
+) -> ([Option<u64>; 3], [u64; 3], InboxPass)
+    requires { IsPassOf inbox.now pass }
+    ensures { IsPassOf inbox.now result.2 }
+{
+    let (first, pass) = pushed(rt, inbox, pass, job(alloc, 1));
+    let (second, pass) = pushed(rt, inbox, pass, job(alloc, 2));
+    let (third, pass) = pushed(rt, inbox, pass, job(alloc, 3));
+    let (one, pass) = taken(rt, inbox, pass);
+    let (two, pass) = taken(rt, inbox, pass);
+    let (none, pass) = taken(rt, inbox, pass);
+    ([first, second, third], [one, two, none], pass)
+}
+
+// That pass's answers, and whether the inbox, which ends with both passes, isn't ended by one; None for want of memory.
+fn runs_alone<R: Wait>(rt: &R, alloc: Global) -> Option<([Option<u64>; 3], [u64; 3], bool)> {
+    let (inbox, mut passes) = Inbox::new(alloc, 2, 2).ok()?;
+    let other = last_of(&inbox, &mut passes)?;
+    let pass = last_of(&inbox, &mut passes)?;
+    let (pushed, taken, pass) = fills(rt, alloc, &inbox, pass);
+    passes.push(pass).ok()?;
+    let (missed, inbox, mut passes) = match inbox.finish(passes) {
+        Ok(()) => return None,
+        Err((missing, inbox, passes)) => (missing.wanted == 2 && missing.given == 1, inbox, passes),
+    };
+    passes.push(other).ok()?;
+    inbox.finish(passes).ok()?;
+    Some((pushed, taken, missed))
+}
+
+#[test]
+fn a_full_inbox_hands_a_job_back_and_an_empty_one_has_none(rt: HostRuntime) -> Result<(), Fail> {
+    let found = runs_alone(&rt, rt.alloc());
+    assert!(rt; found == Some(([Some(0), Some(0), Some(3)], [1, 2, 0], true)));
+    Ok(())
+}
 
 // Pushes a job, and says how often it was handed back before.
 fn push_one<R: Wait>(rt: &R, inbox: &Inbox, mut pass: InboxPass, mut job: Job) -> (u64, InboxPass)
@@ -180,8 +271,9 @@ fn four_at_once<R: Threads + Wait + Sync>(
     )
 }
 
-// Whether a job was handed back, each was taken once, and the inbox ended with its four passes; None for want of memory.
-fn runs<R: Threads + Wait + Sync>(rt: &R, alloc: Global) -> Option<[bool; 3]> {
+// Whether a job was handed back, each was taken once, and the inbox ended with its four passes; None for want of
+// memory.
+fn runs_on_four<R: Threads + Wait + Sync>(rt: &R, alloc: Global) -> Option<[bool; 3]> {
     let all = 2 * JOBS as usize;
     let counts = (
         Vec::from_elem(alloc, 0u8, all).ok()?,
@@ -202,6 +294,6 @@ fn runs<R: Threads + Wait + Sync>(rt: &R, alloc: Global) -> Option<[bool; 3]> {
 
 #[test]
 fn four_threads_lose_no_job_and_take_none_twice(rt: HostRuntime) -> Result<(), Fail> {
-    assert!(rt; runs(&rt, rt.alloc()) == Some([true, true, true]));
+    assert!(rt; runs_on_four(&rt, rt.alloc()) == Some([true, true, true]));
     Ok(())
 }

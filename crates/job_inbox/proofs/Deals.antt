@@ -57,7 +57,5 @@ settled v items e = (e.1.0, e.1.1, items, e.1.2)
 -- what was taken is the first of what was pushed, and weighs at most as much
 pub took_what_was_pushed : (hands : List Hand) → AreSettled hands → TookWhatWasPushed hands
 took_what_was_pushed hands s weight =
-    let taken = s.1.0 in
-    let left = s.1.1.0 in
-    let e = s.1.1.1 in
-    omega (arith, e.puts weight, e.takes weight, ap (sum_by weight) e.order, sum_by-append weight taken left)
+    let e = s.3 in
+    omega (arith, e.puts weight, e.takes weight, ap (sum_by weight) e.order, sum_by-append weight s.1 s.2)

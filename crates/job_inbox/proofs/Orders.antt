@@ -11,7 +11,7 @@ use Rattle.crossbeam_queue.specs.Fifo.{Forks, Learns, Merges, Pops, Pushes}
 use Rattle.job_inbox.specs.declared.hand.Hand.{Hand}
 use Rattle.job_inbox.specs.declared.hand.Hands.{Hands}
 use Rattle.job_inbox.specs.declared.job.Job.{Job}
-use Rattle.job_inbox.specs.Hands.{Shows, StandsIn, weight_put, weight_taken}
+use Rattle.job_inbox.specs.Hands.{Shows, ShowsFirst, StandsIn, weight_put, weight_taken}
 use Rattle.job_inbox.specs.Rule.{AreInOrder, Begun, Ends, Knows, Rule, begun, both, bystander, count, first_alone, first_of, hand, hands_of, idle, over, unbegun, with_first, with_put, with_taken, without_first}
 use Rattle.job_inbox.proofs.Sublists.{sub_append, sub_more}
 use Rattle.job_inbox.proofs.Totals.{Each, all_hands, each_of_all, each_set, each_snoc, length_of_all, sum_of_all, total_ge, total_only, total_set}
@@ -168,15 +168,6 @@ take_one m port h job items views at b =
       },
     )
 
-pub takes : (port : ℕ) (v : Hands) (m : ℕ) (h : Hand) → 1 ≤ m → v ≡ hands_of m (h ∷ []) →
-    Pops Rule port v (λ job w. w ≡ with_first (with_taken job) v)
-takes port v m h lasts is job items views rule at =
-    let at' : get_elem? views port ≡ some (hands_of m (h ∷ [])) = at ∙ ap (λ (u : Hands). some u) is in (
-      hands_of m (with_taken job h ∷ []),
-      inr (not_unbegun (job ∷ items) views port (hands_of m (h ∷ [])) lasts at' (take_one m port h job items views at') rule),
-      goes (with_taken job) v m h is,
-    )
-
 -- ---- what a moment shows
 
 show_one : (m port : ℕ) (h : Hand) (items : List Job) (views : List Hands) →
@@ -194,9 +185,9 @@ show_one m port h items views at b =
     let own = λ (f : Hand → ℕ). shown _ _ _ _ _ (sum_by-cons f h (all_hands others)) (sum_of_all f others)
     (total_set (over f) views port v none at) in
     let stand : All (StandsIn put taken) (all_hands others) =
-        each_of_all (StandsIn put taken) others
-        (each_set (λ (u : Hands). All (StandsIn put taken) u.hands) views port none (All-nil (StandsIn put taken))
-        (λ j u e. (r.each j u e).stand)) in (
+    each_of_all (StandsIn put taken) others
+    (each_set (λ (u : Hands). All (StandsIn put taken) u.hands) views port none (All-nil (StandsIn put taken))
+    (λ j u e. (r.each j u e).stand)) in (
       all_hands others,
       omega (arith, length_of_all others, r.passes),
       (
@@ -217,6 +208,17 @@ shows port v m h lasts is items views rule at =
     let at' : get_elem? views port ≡ some (hands_of m (h ∷ [])) = at ∙ ap (λ (u : Hands). some u) is in
     subst (λ (u : Hands). Shows u.made (first_of u.hands) items) (sym is)
     (not_unbegun items views port (hands_of m (h ∷ [])) lasts at' (show_one m port h items views at') rule)
+
+-- ---- a job is taken, which was the first
+
+pub takes : (port : ℕ) (v : Hands) (m : ℕ) (h : Hand) → 1 ≤ m → v ≡ hands_of m (h ∷ []) →
+    Pops Rule port v (λ job w. (w ≡ with_first (with_taken job) v) × ShowsFirst v.made (first_of v.hands) job)
+takes port v m h lasts is job items views rule at =
+    let at' : get_elem? views port ≡ some (hands_of m (h ∷ [])) = at ∙ ap (λ (u : Hands). some u) is in (
+      hands_of m (with_taken job h ∷ []),
+      inr (not_unbegun (job ∷ items) views port (hands_of m (h ∷ [])) lasts at' (take_one m port h job items views at') rule),
+      (goes (with_taken job) v m h is, (items, shows port v m h lasts is (job ∷ items) views rule at)),
+    )
 
 -- ---- the queue is begun
 

@@ -38,3 +38,7 @@ abbrev pub Shows : ℕ → Hand → List Job → Type 0
 Shows made hand items =
     (others : List Hand) × (length others + 1 ≡ made)
     × ((put taken : List Job) × Settled (hand ∷ others) put taken items)
+
+-- at a moment this job stood in front of all others that the inbox held
+abbrev pub ShowsFirst : ℕ → Hand → Job → Type 0
+ShowsFirst made hand job = (others : List Job) × Shows made hand (job ∷ others)

@@ -97,9 +97,10 @@ pub(crate) struct Take;
 
 impl Outcome<Job, Hands> for Take {
     ghost use Rattle.std.specs.Prelude.{◌≡◌};
-    ghost use Rattle.job_inbox.specs.Rule.{with_first, with_taken};
+    ghost use Rattle.job_inbox.specs.Hands.{ShowsFirst};
+    ghost use Rattle.job_inbox.specs.Rule.{first_of, with_first, with_taken};
 
-    ghost then = { λ v job w. w ≡ with_first (with_taken job) v };
+    ghost then = { λ v job w. (w ≡ with_first (with_taken job) v) × ShowsFirst v.made (first_of v.hands) job };
 }
 
 impl Lesson<Job, Hands> for Take {

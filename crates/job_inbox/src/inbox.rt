@@ -27,7 +27,7 @@ pub struct Inbox {
 }
 
 impl Inbox {
-    ghost use Rattle.job_inbox.specs.Hands.{Shows};
+    ghost use Rattle.job_inbox.specs.Hands.{Shows, ShowsFirst};
     ghost use Rattle.job_inbox.specs.Inbox.{IsPassOf, capacity_of, knowledge, made_by};
 
     /// Pushes a job behind those that the inbox holds. It hands the job back only if the inbox was full at a moment of
@@ -51,6 +51,7 @@ impl Inbox {
         requires own { IsPassOf self.now pass }
         ensures own { IsPassOf self.now result.1 }
         ensures some { IfSome result.0 (λ job. knowledge result.1 ≡ with_taken job (knowledge pass)) }
+        ensures first { IfSome result.0 (ShowsFirst (made_by self.now) (knowledge pass)) }
         ensures none { IfNone result.0 (knowledge result.1 ≡ knowledge pass) }
         ensures empty { IfNone result.0 (Held 0 (Shows (made_by self.now) (knowledge pass))) }
     {

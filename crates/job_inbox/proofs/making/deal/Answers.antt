@@ -19,7 +19,7 @@ loop-preserved c =
     let e = c.another-own.ensures in
     let made = c.args.inbox.now.made in
     let own : view c.another-own.result ≡ hands_of made (idle ∷ []) =
-        e.rule.1 ∙ gives _ c.loop.counter made c.loop-test.true i.seat.1 in record {
+    e.rule.1 ∙ gives _ c.loop.counter made c.loop-test.true i.seat.1 in record {
       seat = ((e.queue.0.0 ∙ i.seat.0.0, e.queue.0.2 ∙ i.seat.0.1), e.rule.0 ∙ keeps _ c.loop.counter made c.loop-test.true i.seat.1);
       count = let was = i.count in omega (arith, c.push_reserved.ensures.len);
       room = c.push_reserved.ensures.capacity ∙ i.room;
