@@ -1,25 +1,31 @@
 -- Seats and passes: what is dealt, and what is gathered.
-use Rattle.std.proofs.Common.{◌≡◌, ℕ, suc, ◌+◌, ◌-◌, ◌<◌, List, [], ◌∷◌, ◌++◌, All, take, drop, map, ap, ◌∙◌, append_assoc, arith}
+use Rattle.std.proofs.Common.{◌≡◌, ℕ, suc, ◌+◌, ◌-◌, ◌<◌, List, [], ◌∷◌, ◌++◌, All, map, sum_by, sym, ap, ◌∙◌, append_assoc, arith}
 use lib.ListN.{replicate}
 use Rattle.std.proofs.lemmas.List.{map-append, replicate-append-replicate}
 use Rattle.std.proofs.lemmas.List.Elements.{All-head, All-tail}
+use Rattle.std.proofs.lemmas.List.Sums.{sum_by-append}
 use Rattle.job_inbox.specs.declared.hand.Hand.{Hand}
 use Rattle.job_inbox.specs.declared.hand.Hands.{Hands}
 use Rattle.job_inbox.specs.declared.inbox.InboxPass.{InboxPass}
 use Rattle.job_inbox.specs.declared.job.Job.{Job}
-use Rattle.job_inbox.specs.Hands.{AreSettled}
+use Rattle.job_inbox.specs.Hands.{AreSettled, TookWhatWasPushed}
 use Rattle.job_inbox.specs.Inbox.{knowledge, known_by}
-use Rattle.job_inbox.specs.Rule.{Ends, first_of, idle, onto_first}
+use Rattle.job_inbox.specs.Rule.{Ends, first_alone, first_of, hands_of, idle, without_first}
 
 -- what is left of so many passes has a first one
 next : (first made : ℕ) → first < made → made - first ≡ suc (made - (first + 1))
 next first made within = omega arith
 
-pub next_first : (first made : ℕ) → first < made → take 1 (replicate (made - first) idle) ≡ idle ∷ []
-next_first first made within = ap (λ (n : ℕ). take 1 (replicate n idle)) (next first made within)
+-- the first pass is given away, and the others stay
+pub gives : (v : Hands) (first made : ℕ) → first < made → v ≡ hands_of made (replicate (made - first) idle) →
+    first_alone v ≡ hands_of made (idle ∷ [])
+gives v first made within is =
+    ap first_alone is ∙ ap (λ (n : ℕ). first_alone (hands_of made (replicate n idle))) (next first made within)
 
-pub next_rest : (first made : ℕ) → first < made → drop 1 (replicate (made - first) idle) ≡ replicate (made - (first + 1)) idle
-next_rest first made within = ap (λ (n : ℕ). drop 1 (replicate n idle)) (next first made within)
+pub keeps : (v : Hands) (first made : ℕ) → first < made → v ≡ hands_of made (replicate (made - first) idle) →
+    without_first v ≡ hands_of made (replicate (made - (first + 1)) idle)
+keeps v first made within is =
+    ap without_first is ∙ ap (λ (n : ℕ). without_first (hands_of made (replicate n idle))) (next first made within)
 
 -- one more pass that did nothing
 pub one_more : (passes : List InboxPass) (pass : InboxPass) (n : ℕ) → known_by passes ≡ replicate n idle → knowledge pass ≡ idle →
@@ -40,10 +46,16 @@ pub is_in : (P : InboxPass → Type 0) (left behind : List InboxPass) (pass : In
 is_in P [] behind pass all = All-head P pass behind all
 is_in P (p ∷ left) behind pass all = is_in P left behind pass (All-tail P p (left ++ (pass ∷ behind)) all)
 
--- the one pass of a seat did something more
-pub onto_alone : (f : Hand → Hand) (hands : List Hand) → hands ≡ first_of hands ∷ [] → onto_first f hands ≡ f (first_of hands) ∷ []
-onto_alone f hands alone = ap (onto_first f) alone
+-- a seat with one pass has the first
+pub is_one : (v : Hands) (m : ℕ) (h : Hand) → v ≡ hands_of m (h ∷ []) → v ≡ hands_of m (first_of v.hands ∷ [])
+is_one v m h is = is ∙ sym (ap (λ (u : Hands). hands_of m (first_of u.hands ∷ [])) is)
 
 -- who knows the whole knows it of all passes
 pub settled : (v : Hands) (items : List Job) → Ends v items → AreSettled v.hands
 settled v items e = (e.1.0, e.1.1, items, e.1.2)
+
+-- what was taken is the first of what was pushed, and weighs at most as much
+pub took_what_was_pushed : (hands : List Hand) → AreSettled hands → TookWhatWasPushed hands
+took_what_was_pushed hands s weight =
+    let e = s.3 in
+    omega (arith, e.puts weight, e.takes weight, ap (sum_by weight) e.order, sum_by-append weight s.1 s.2)

@@ -11,10 +11,10 @@ use Rattle.crossbeam_queue.specs.Fifo.{Forks, Learns, Merges, Pops, Pushes}
 use Rattle.job_inbox.specs.declared.hand.Hand.{Hand}
 use Rattle.job_inbox.specs.declared.hand.Hands.{Hands}
 use Rattle.job_inbox.specs.declared.job.Job.{Job}
-use Rattle.job_inbox.specs.Hands.{Shows, StandsIn, weight_put, weight_taken}
+use Rattle.job_inbox.specs.Hands.{Shows, ShowsFirst, StandsIn, weight_put, weight_taken}
 use Rattle.job_inbox.specs.Rule.{AreInOrder, Begun, Ends, Knows, Rule, begun, both, bystander, count, first_alone, first_of, hand, hands_of, idle, over, unbegun, with_first, with_put, with_taken, without_first}
 use Rattle.job_inbox.proofs.Sublists.{sub_append, sub_more}
-use Rattle.job_inbox.proofs.Totals.{Each, each_set, each_snoc, total_ge, total_only, total_set}
+use Rattle.job_inbox.proofs.Totals.{Each, all_hands, each_of_all, each_set, each_snoc, length_of_all, sum_of_all, total_ge, total_only, total_set}
 
 pub begins : Rule [] (unbegun ∷ [])
 begins = inl (refl, refl)
@@ -51,6 +51,9 @@ parted now mid was whole first rest e push parts = omega arith
 
 merged : (now mid was one two sum : ℕ) → mid + one ≡ was + sum → now + two ≡ mid + 0 → sum ≡ two + one → now ≡ was
 merged now mid was one two sum first second parts = omega arith
+
+shown : (whole mine others left was : ℕ) → whole ≡ mine + others → others ≡ left → left + (0 + mine) ≡ was + 0 → whole ≡ was
+shown whole mine others left was parts same e = omega arith
 
 halves : (hands : List Hand) → length (take 1 hands) + length (drop 1 hands) ≡ length hands
 halves hands = omega (arith, length-take 1 hands, length-drop 1 hands)
@@ -117,16 +120,17 @@ push_one m port h job items views at b =
       },
     )
 
-pub pushes : (n port : ℕ) (v : Hands) (job : Job) → 1 ≤ v.made → v.hands ≡ first_of v.hands ∷ [] →
+-- the one pass of a seat did something more
+goes : (f : Hand → Hand) (v : Hands) (m : ℕ) (h : Hand) → v ≡ hands_of m (h ∷ []) → hands_of m (f h ∷ []) ≡ with_first f v
+goes f v m h is = sym (ap (with_first f) is)
+
+pub pushes : (n port : ℕ) (v : Hands) (m : ℕ) (h : Hand) (job : Job) → 1 ≤ m → v ≡ hands_of m (h ∷ []) →
     Pushes Rule n port v job (λ w. w ≡ with_first (with_put job) v)
-pushes n port v job lasts alone items views room rule at =
-    let h = first_of v.hands in
-    let same : v ≡ hands_of v.made (h ∷ []) = ap (λ hs. hands_of v.made hs) alone in
-    let at' : get_elem? views port ≡ some (hands_of v.made (h ∷ [])) = at ∙ ap (λ (u : Hands). some u) same in
-    let goes : with_first (with_put job) v ≡ hands_of v.made (with_put job h ∷ []) = ap (λ (u : Hands). with_first (with_put job) u) same in (
-      hands_of v.made (with_put job h ∷ []),
-      inr (not_unbegun items views port v lasts at (push_one v.made port h job items views at') rule),
-      sym goes,
+pushes n port v m h job lasts is items views room rule at =
+    let at' : get_elem? views port ≡ some (hands_of m (h ∷ [])) = at ∙ ap (λ (u : Hands). some u) is in (
+      hands_of m (with_put job h ∷ []),
+      inr (not_unbegun items views port (hands_of m (h ∷ [])) lasts at' (push_one m port h job items views at') rule),
+      goes (with_put job) v m h is,
     )
 
 -- ---- a job is taken
@@ -164,32 +168,57 @@ take_one m port h job items views at b =
       },
     )
 
-pub takes : (port : ℕ) (v : Hands) → 1 ≤ v.made → v.hands ≡ first_of v.hands ∷ [] →
-    Pops Rule port v (λ job w. w ≡ with_first (with_taken job) v)
-takes port v lasts alone job items views rule at =
-    let h = first_of v.hands in
-    let same : v ≡ hands_of v.made (h ∷ []) = ap (λ hs. hands_of v.made hs) alone in
-    let at' : get_elem? views port ≡ some (hands_of v.made (h ∷ [])) = at ∙ ap (λ (u : Hands). some u) same in
-    let goes : with_first (with_taken job) v ≡ hands_of v.made (with_taken job h ∷ []) = ap (λ (u : Hands). with_first (with_taken job) u) same in (
-      hands_of v.made (with_taken job h ∷ []),
-      inr (not_unbegun (job ∷ items) views port v lasts at (take_one v.made port h job items views at') rule),
-      sym goes,
-    )
-
 -- ---- what a moment shows
 
-pub shows : (port : ℕ) (v : Hands) → 1 ≤ v.made → v.hands ≡ first_of v.hands ∷ [] →
-    Learns Rule port v (λ items. Shows (first_of v.hands) items)
-shows port v lasts alone items views rule at = not_unbegun items views port v lasts at told rule
-  where
-    told : Begun items views → Shows (first_of v.hands) items
-    told b =
-        let put = b.1 in
-        let taken = b.2 in
-        let k = b.3.each port v at in
-        let s : StandsIn put taken (first_of v.hands) = All-head (StandsIn put taken) (first_of v.hands) []
-        (subst (All (StandsIn put taken)) alone k.stand) in
-        (taken, (subst (λ l. IsSublist (first_of v.hands).put l) b.3.order s.0, s.1))
+show_one : (m port : ℕ) (h : Hand) (items : List Job) (views : List Hands) →
+    get_elem? views port ≡ some (hands_of m (h ∷ [])) → Begun items views → Shows m h items
+show_one m port h items views at b =
+    let v : Hands = hands_of m (h ∷ []) in
+    let none : Hands = hands_of m [] in
+    let put = b.1 in
+    let taken = b.2 in
+    let r : AreInOrder b.0 put taken items views = b.3 in
+    let k : Knows b.0 put taken v = r.each port v at in
+    let made : m ≡ b.0 = k.made (omega arith) in
+    let others = set views port none in
+    let counts : sum_by count others + 1 ≡ sum_by count views + 0 = total_set count views port v none at in
+    let own = λ (f : Hand → ℕ). shown _ _ _ _ _ (sum_by-cons f h (all_hands others)) (sum_of_all f others)
+    (total_set (over f) views port v none at) in
+    let stand : All (StandsIn put taken) (all_hands others) =
+    each_of_all (StandsIn put taken) others
+    (each_set (λ (u : Hands). All (StandsIn put taken) u.hands) views port none (All-nil (StandsIn put taken))
+    (λ j u e. (r.each j u e).stand)) in (
+      all_hands others,
+      omega (arith, length_of_all others, r.passes),
+      (
+        put,
+        taken,
+        record {
+          order = r.order;
+          stand = All-cons (StandsIn put taken) h (all_hands others) (All-head (StandsIn put taken) h [] k.stand) stand;
+          puts = λ weight. own (weight_put weight) ∙ r.puts weight;
+          takes = λ weight. own (weight_taken weight) ∙ r.takes weight;
+        },
+      ),
+    )
+
+pub shows : (port : ℕ) (v : Hands) (m : ℕ) (h : Hand) → 1 ≤ m → v ≡ hands_of m (h ∷ []) →
+    Learns Rule port v (λ items. Shows v.made (first_of v.hands) items)
+shows port v m h lasts is items views rule at =
+    let at' : get_elem? views port ≡ some (hands_of m (h ∷ [])) = at ∙ ap (λ (u : Hands). some u) is in
+    subst (λ (u : Hands). Shows u.made (first_of u.hands) items) (sym is)
+    (not_unbegun items views port (hands_of m (h ∷ [])) lasts at' (show_one m port h items views at') rule)
+
+-- ---- a job is taken, which was the first
+
+pub takes : (port : ℕ) (v : Hands) (m : ℕ) (h : Hand) → 1 ≤ m → v ≡ hands_of m (h ∷ []) →
+    Pops Rule port v (λ job w. (w ≡ with_first (with_taken job) v) × ShowsFirst v.made (first_of v.hands) job)
+takes port v m h lasts is job items views rule at =
+    let at' : get_elem? views port ≡ some (hands_of m (h ∷ [])) = at ∙ ap (λ (u : Hands). some u) is in (
+      hands_of m (with_taken job h ∷ []),
+      inr (not_unbegun (job ∷ items) views port (hands_of m (h ∷ [])) lasts at' (take_one m port h job items views at') rule),
+      (goes (with_taken job) v m h is, (items, shows port v m h lasts is (job ∷ items) views rule at)),
+    )
 
 -- ---- the queue is begun
 

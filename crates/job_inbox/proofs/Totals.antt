@@ -1,8 +1,9 @@
 -- Sums over the views of all seats, of which one changes.
-use Rattle.std.proofs.Common.{◌≡◌, ◌≢◌, ◌⊎◌, ⊎_elim, ℕ, zero, suc, ◌+◌, ◌<◌, ◌≤◌, List, [], ◌∷◌, ◌++◌, length, set, sum_by, refl, sym, ap, ◌∙◌, subst, arith}
+use Rattle.std.proofs.Common.{◌≡◌, ◌≢◌, ◌⊎◌, ⊎_elim, ℕ, zero, suc, ◌+◌, ◌<◌, ◌≤◌, List, [], ◌∷◌, ◌++◌, All, length, set, sum_by, refl, sym, ap, ◌∙◌, subst, length-append, arith}
 use mathlib.Core.Option.{some, some-injective, some-ne-none}
 use lib.ListN.{get_elem?}
-use Rattle.std.proofs.lemmas.List.Sums.{sum_by-cons}
+use Rattle.std.proofs.lemmas.List.Elements.{All-append, All-nil}
+use Rattle.std.proofs.lemmas.List.Sums.{sum_by-append, sum_by-cons}
 use Rattle.crossbeam_queue.proofs.Lists.{at_set, at_snoc}
 use Rattle.job_inbox.specs.declared.hand.Hand.{Hand}
 use Rattle.job_inbox.specs.declared.hand.Hands.{Hands}
@@ -76,3 +77,25 @@ each_snoc P views w mine others j u e =
     (λ (x : get_elem? views j ≡ some u). others j u x)
     (λ (is : w ≡ u). subst P is mine)
     (at_snoc views w u j e)
+
+-- what all did, in one list
+abbrev pub all_hands : List Hands → List Hand
+all_hands [] = []
+all_hands (v ∷ views) = v.hands ++ all_hands views
+
+pub sum_of_all : (f : Hand → ℕ) (views : List Hands) → sum_by f (all_hands views) ≡ sum_by (over f) views
+sum_of_all f [] = refl
+sum_of_all f (v ∷ views) =
+    let rest = sum_of_all f views in
+    omega (arith, sum_by-append f v.hands (all_hands views), sum_by-cons (over f) v views)
+
+pub length_of_all : (views : List Hands) → length (all_hands views) ≡ sum_by count views
+length_of_all [] = refl
+length_of_all (v ∷ views) =
+    let rest = length_of_all views in
+    omega (arith, length-append v.hands (all_hands views), sum_by-cons count v views)
+
+pub each_of_all : (P : Hand → Type 0) (views : List Hands) → Each (λ v. All P v.hands) views → All P (all_hands views)
+each_of_all P [] each = All-nil P
+each_of_all P (v ∷ views) each =
+    All-append P v.hands (all_hands views) (each zero v refl) (each_of_all P views (λ port. each (suc port)))

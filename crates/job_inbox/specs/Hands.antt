@@ -1,5 +1,5 @@
 -- What passes to an inbox did, together.
-use Rattle.std.specs.Prelude.{◌≡◌, ℕ, List, ◌++◌, All, sum_by}
+use Rattle.std.specs.Prelude.{◌≡◌, ℕ, ◌+◌, ◌≤◌, List, ◌∷◌, ◌++◌, All, length, sum_by}
 use Rattle.turn_cell.specs.Placed.{IsSublist}
 use Rattle.job_inbox.specs.declared.hand.Hand.{Hand}
 use Rattle.job_inbox.specs.declared.job.Job.{Job}
@@ -7,11 +7,6 @@ use Rattle.job_inbox.specs.declared.job.Job.{Job}
 -- what a hand pushed and took stands, in its order, in what all pushed and in what all took
 abbrev pub StandsIn : List Job → List Job → Hand → Type 0
 StandsIn put taken hand = IsSublist hand.put put × IsSublist hand.taken taken
-
--- At a moment the inbox held these jobs. They stood behind the jobs that had been taken of those that had been pushed;
--- there the pass's own stood in its order.
-abbrev pub Shows : Hand → List Job → Type 0
-Shows hand items = (taken : List Job) × StandsIn (taken ++ items) taken hand
 
 -- a sum over the jobs that each hand pushed, or took, by any weights
 abbrev pub weight_put : (Job → ℕ) → Hand → ℕ
@@ -31,3 +26,19 @@ pub record Settled (hands : List Hand) (put taken left : List Job) : Type 0 wher
 
 abbrev pub AreSettled : List Hand → Type 0
 AreSettled hands = (put taken left : List Job) × Settled hands put taken left
+
+-- each job was taken by these passes at most as often as it was pushed by them: so say all weights
+abbrev pub TookWhatWasPushed : List Hand → Type 0
+TookWhatWasPushed hands =
+    (weight : Job → ℕ) → sum_by (weight_taken weight) hands ≤ sum_by (weight_put weight) hands
+
+-- At a moment the inbox held these jobs, and its passes, so many in all, had done this: the one that asks `hand`, and
+-- the others something.
+abbrev pub Shows : ℕ → Hand → List Job → Type 0
+Shows made hand items =
+    (others : List Hand) × (length others + 1 ≡ made)
+    × ((put taken : List Job) × Settled (hand ∷ others) put taken items)
+
+-- at a moment this job stood in front of all others that the inbox held
+abbrev pub ShowsFirst : ℕ → Hand → Job → Type 0
+ShowsFirst made hand job = (others : List Job) × Shows made hand (job ∷ others)

@@ -23,13 +23,13 @@ made_by inbox = inbox.made
 abbrev pub capacity_of : Inbox → ℕ
 capacity_of inbox = ruled_capacity inbox.queue
 
--- the pass is one of the inbox
-abbrev pub IsPassOf : Inbox → InboxPass → Type 0
-IsPassOf inbox pass = IsSeatOf inbox.queue pass.seat × ((view pass.seat).made ≡ inbox.made)
-
-abbrev pub ArePassesOf : Inbox → List InboxPass → Type 0
-ArePassesOf inbox passes = All (IsPassOf inbox) passes
-
 -- a seat of the inbox's queue that has these passes
 abbrev pub Has : Inbox → queue.Pass Job Hands → List Hand → Type 0
 Has inbox seat hands = IsSeatOf inbox.queue seat × (view seat ≡ hands_of inbox.made hands)
+
+-- the pass is one of the inbox
+abbrev pub IsPassOf : Inbox → InboxPass → Type 0
+IsPassOf inbox pass = Has inbox pass.seat (knowledge pass ∷ [])
+
+abbrev pub ArePassesOf : Inbox → List InboxPass → Type 0
+ArePassesOf inbox passes = All (IsPassOf inbox) passes

@@ -1,7 +1,7 @@
 // How an inbox is ended.
 ghost use Rattle.std.specs.Prelude.{◌≡◌, ◌<◌, ◌≤◌, ◌++◌, IfErr, OnErr, OnOk, length, vec_len};
 ghost use Rattle.crossbeam_queue.specs.Passes.{view};
-ghost use Rattle.job_inbox.specs.Hands.{AreSettled};
+ghost use Rattle.job_inbox.specs.Hands.{AreSettled, TookWhatWasPushed};
 ghost use Rattle.job_inbox.specs.Inbox.{ArePassesOf, Has, known_by, made_by};
 
 use crate::hand::{Gather, Whole};
@@ -40,6 +40,7 @@ fn settle(inbox: &Inbox, mut seat: Seat)
     requires all { inbox.now.made ≤ length (view seat).hands }
     ensures count { length (view seat).hands ≡ inbox.now.made }
     ensures settled { AreSettled (view seat).hands }
+    ensures pushed { TookWhatWasPushed (view seat).hands }
 {
     inbox.queue.learn_as::<Whole>(&mut seat);
 }
@@ -51,6 +52,7 @@ impl Inbox {
         requires own { ArePassesOf self passes.items }
         ensures all { OnOk result (made_by self ≡ vec_len passes) }
         ensures settled { OnOk result (AreSettled (known_by passes.items)) }
+        ensures pushed { OnOk result (TookWhatWasPushed (known_by passes.items)) }
         ensures fewer { OnErr result (vec_len passes < made_by self) }
         ensures missing { IfErr result (λ back. (back.0.wanted ≡ made_by self) × (back.0.given ≡ vec_len passes)) }
         ensures back { IfErr result (λ back. (back.1 ≡ self) × (back.2 ≡ passes)) }

@@ -89,7 +89,7 @@ impl Lesson<Job, Hands> for Push {
     ghost use Rattle.job_inbox.specs.Hands.{Shows};
     ghost use Rattle.job_inbox.specs.Rule.{first_of};
 
-    ghost fact = { λ v items. Shows (first_of v.hands) items };
+    ghost fact = { λ v items. Shows v.made (first_of v.hands) items };
 }
 
 // The pass took a job, or learns what an empty inbox shows.
@@ -97,16 +97,17 @@ pub(crate) struct Take;
 
 impl Outcome<Job, Hands> for Take {
     ghost use Rattle.std.specs.Prelude.{◌≡◌};
-    ghost use Rattle.job_inbox.specs.Rule.{with_first, with_taken};
+    ghost use Rattle.job_inbox.specs.Hands.{ShowsFirst};
+    ghost use Rattle.job_inbox.specs.Rule.{first_of, with_first, with_taken};
 
-    ghost then = { λ v job w. w ≡ with_first (with_taken job) v };
+    ghost then = { λ v job w. (w ≡ with_first (with_taken job) v) × ShowsFirst v.made (first_of v.hands) job };
 }
 
 impl Lesson<Job, Hands> for Take {
     ghost use Rattle.job_inbox.specs.Hands.{Shows};
     ghost use Rattle.job_inbox.specs.Rule.{first_of};
 
-    ghost fact = { λ v items. Shows (first_of v.hands) items };
+    ghost fact = { λ v items. Shows v.made (first_of v.hands) items };
 }
 
 // A pass that has all learns the whole.

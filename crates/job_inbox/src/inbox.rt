@@ -1,8 +1,7 @@
 // An inbox, and how its passes push and pop.
-ghost use Rattle.std.specs.Prelude.{◌≡◌, ◌<◌, ◌∷◌, [], IfErr, IfNone, IfSome, OnErr, OnOk};
+ghost use Rattle.std.specs.Prelude.{◌≡◌, ◌<◌, IfErr, IfNone, IfSome, OnErr, OnOk};
 ghost use Rattle.crossbeam_queue.specs.Fifo.{Held};
-ghost use Rattle.crossbeam_queue.specs.Passes.{view};
-ghost use Rattle.job_inbox.specs.Rule.{first_of, with_put, with_taken};
+ghost use Rattle.job_inbox.specs.Rule.{with_put, with_taken};
 
 use crate::hand::{Hands, InOrder, Push, Take};
 use crate::job::Job;
@@ -17,8 +16,6 @@ pub(crate) type Seat = Pass<Job, Hands>;
 #[derive(Drop)]
 pub struct InboxPass {
     pub(crate) seat: Seat,
-    ghost rests: { seat.me.1 ≡ [] },
-    ghost alone: { (view seat).hands ≡ first_of (view seat).hands ∷ [] },
 }
 
 /// A queue of jobs that has room for so many, with passes for those who push and pop.
@@ -30,8 +27,8 @@ pub struct Inbox {
 }
 
 impl Inbox {
-    ghost use Rattle.job_inbox.specs.Hands.{Shows};
-    ghost use Rattle.job_inbox.specs.Inbox.{IsPassOf, capacity_of, knowledge};
+    ghost use Rattle.job_inbox.specs.Hands.{Shows, ShowsFirst};
+    ghost use Rattle.job_inbox.specs.Inbox.{IsPassOf, capacity_of, knowledge, made_by};
 
     /// Pushes a job behind those that the inbox holds. It hands the job back only if the inbox was full at a moment of
     /// the call.
@@ -40,7 +37,7 @@ impl Inbox {
         ensures own { IsPassOf self.now result.1 }
         ensures ok { OnOk result.0 (knowledge result.1 ≡ with_put job (knowledge pass)) }
         ensures back { IfErr result.0 (λ back. (back ≡ job) × (knowledge result.1 ≡ knowledge pass)) }
-        ensures full { OnErr result.0 (Held (capacity_of self.now) (Shows (knowledge pass))) }
+        ensures full { OnErr result.0 (Held (capacity_of self.now) (Shows (made_by self.now) (knowledge pass))) }
     {
         let InboxPass { mut seat } = pass;
         match self.queue.push_as::<Push, R>(rt, &mut seat, job) {
@@ -54,8 +51,9 @@ impl Inbox {
         requires own { IsPassOf self.now pass }
         ensures own { IsPassOf self.now result.1 }
         ensures some { IfSome result.0 (λ job. knowledge result.1 ≡ with_taken job (knowledge pass)) }
+        ensures first { IfSome result.0 (ShowsFirst (made_by self.now) (knowledge pass)) }
         ensures none { IfNone result.0 (knowledge result.1 ≡ knowledge pass) }
-        ensures empty { IfNone result.0 (Held 0 (Shows (knowledge pass))) }
+        ensures empty { IfNone result.0 (Held 0 (Shows (made_by self.now) (knowledge pass))) }
     {
         let InboxPass { mut seat } = pass;
         match self.queue.pop_as::<Take, R>(rt, &mut seat) {

@@ -3,7 +3,8 @@
 //! Contracts see a pass as what it pushed and what it took, `Hand`. What holds of a queue at every moment is
 //! `AreInOrder` of `specs/Rule.antt`: the jobs that were taken are the first of those that were pushed, in their
 //! order, and what a pass pushed stands there in its own. `push` and `pop` tell of a moment at which the inbox was
-//! full or empty (`Shows`), and `finish` tells the whole of all passes (`Settled`, `specs/Hands.antt`).
+//! full or empty, or the job stood first (`Shows`), and `finish` tells the whole of all passes (`Settled`,
+//! `specs/Hands.antt`).
 //!
 //!     let (inbox, passes) = Inbox::new(alloc, 1024, 2)?;  // a pass for each of two threads
 //!     let (pushed, pass) = inbox.push(rt, pass, job);     // in a thread

@@ -1,7 +1,7 @@
 use Rattle.std.proofs.Common.{◌≡◌, ap, ◌∙◌, arith}
 use Rattle.crossbeam_queue.specs.Passes.{view}
 use Rattle.job_inbox.specs.declared.hand.Hands.{Hands}
-use Rattle.job_inbox.proofs.Deals.{settled}
+use Rattle.job_inbox.proofs.Deals.{settled, took_what_was_pushed}
 use Rattle.job_inbox.proofs.Orders.{ends}
 use Rattle.job_inbox.proofs.ending.settle.Goals as goal
 
@@ -16,3 +16,7 @@ returns-clause-count c =
 
 pub returns-clause-settled : goal.returns-clause-settled
 returns-clause-settled c = settled (view c.args.seat) c.learn_as.ensures.rule.0 c.learn_as.ensures.rule.1
+
+pub returns-clause-pushed : goal.returns-clause-pushed
+returns-clause-pushed c =
+    took_what_was_pushed (view c.args.seat).hands (settled (view c.args.seat) c.learn_as.ensures.rule.0 c.learn_as.ensures.rule.1)
