@@ -131,14 +131,7 @@ fn settle<R: Wait>(rt: &R, cell: &Cell, pass: Pass, receipt: &Receipt) -> (Settl
 }
 
 // Sends a request, and learns what has become of its answer.
-fn send<R: Wait>(
-    rt: &R,
-    cell: &Cell,
-    pass: Pass,
-    who: Caller,
-    now: Moment,
-    told: &mut Told,
-) -> Pass
+fn send<R: Wait>(rt: &R, cell: &Cell, pass: Pass, who: Caller, now: Moment, told: &mut Told) -> Pass
     requires own { IsPassOf cell.now pass }
     requires session { who.session ≡ (knowledge pass).number }
     ensures own { IsPassOf cell.now result }
@@ -158,13 +151,7 @@ fn send<R: Wait>(
 }
 
 // Sends all requests of a session.
-fn send_all<R: Wait>(
-    rt: &R,
-    cell: &Cell,
-    mut pass: Pass,
-    session: u32,
-    now: Moment,
-) -> (Told, Pass)
+fn send_all<R: Wait>(rt: &R, cell: &Cell, mut pass: Pass, session: u32, now: Moment) -> (Told, Pass)
     requires own { IsPassOf cell.now pass }
     requires session { session ≡ (knowledge pass).number }
     ensures { IsPassOf cell.now result.1 }
@@ -242,7 +229,9 @@ fn filed(items: &[Item], session: u8) -> (u64, bool) {
     let mut found = 0u64;
     let mut twice = false;
     for item in items {
-        if let Item::Part { octets, .. } = item && let [.., record] = octets.octets() {
+        if let Item::Part { octets, .. } = item
+            && let [.., record] = octets.octets()
+        {
             let serial = record.wrapping_sub(session.wrapping_mul(100));
             if serial < 50 {
                 let bit = 1u64.wrapping_shl(serial as u32);
