@@ -1,4 +1,4 @@
-use Rattle.std.proofs.Common.{◌≤◌, Bool, true, false, [], ◌++◌, length, if◌then◌else◌, refl, sym, ◌∙◌, arith}
+use Rattle.std.proofs.Common.{◌≤◌, Bool, true, false, [], ◌++◌, if◌then◌else◌, refl, sym, ◌∙◌, arith}
 use Rattle.std.proofs.lemmas.List.{append-nil}
 use Rattle.std.proofs.lemmas.Bool.{and_parts}
 use Rattle.cgf_journal.specs.Trail.{firm_length}

@@ -1,0 +1,285 @@
+//! Two sessions on two threads that share a gateway's book, whose device fails now and then.
+ghost use Rattle.std.specs.Prelude.{◌≡◌, IfSome};
+ghost use Rattle.turn_cell.specs.Cell.{ArePassesOf, AreNew, IsPassOf, begun, knowledge};
+ghost use Rattle.gateway_book.specs.Turning.{facts_of};
+
+use area_disk::{MemoryArea, Plan};
+use gateway_book::laws::a_turn_owes;
+use gateway_book::{Book, Outcome, Receipt, Settled, Setup, prepare};
+use gw_base::{Addr, Caller, Item, Moment};
+use std::alloc::Global;
+use std::sync::Wait;
+use std::test::Fail;
+use std::thread::{self, Threads};
+use turn_cell::{Pass, Turn, TurnCell};
+
+type Cell = TurnCell<Book<MemoryArea>>;
+
+// How many requests each session sends.
+const REQUESTS: u64 = 50;
+
+// A Data Record Transfer Request under this number, whose one record ends with this octet.
+fn request(number: u8, record: u8) -> [u8; 22] {
+    [
+        0x4E, 0xF0, 0, 0x10, 0, number, 0x7E, 1, 0xFC, 0, 0x0B, 1, 1, 6, 0, 0, 5, 0xA0, 3, 0x80, 1,
+        record,
+    ]
+}
+
+// Takes a request of a session, which has a node of its own.
+#[derive(Drop)]
+struct Asking {
+    who: Caller,
+    now: Moment,
+    octets: [u8; 22],
+}
+
+impl Turn<Book<MemoryArea>> for Asking {
+    ghost use Rattle.std.specs.Prelude.{Some};
+    ghost use Rattle.gateway_book.specs.Caller.{IsCounted};
+
+    type Answer = Outcome;
+
+    ghost session = { λ turn. Some turn.who.session };
+
+    ghost does = { λ turn found left answer drops added. IsCounted left answer };
+
+    fn run(self, value: &mut Book<MemoryArea>) -> Outcome {
+        a_turn_owes::<MemoryArea>();
+        let from = Addr {
+            ip: self.who.session,
+            port: 3386,
+        };
+        value.take(from, &prepare(&self.octets), self.now, self.who)
+    }
+}
+
+// Commits, and asks what has become of an answer.
+#[derive(Drop)]
+struct Committing {
+    front: u64,
+    faults: u64,
+}
+
+impl Turn<Book<MemoryArea>> for Committing {
+    ghost use Rattle.std.specs.Prelude.{◌≡◌, None};
+    ghost use Rattle.cgf_journal.specs.Trail.{firm_length};
+    ghost use Rattle.gateway_book.specs.Calls.{settled_by};
+
+    type Answer = Settled;
+
+    ghost session = { λ turn. None };
+
+    ghost does = { λ turn found left answer drops added.
+        answer ≡ settled_by left.cuts (firm_length left.trail) turn.front turn.faults };
+
+    fn run(self, value: &mut Book<MemoryArea>) -> Settled {
+        a_turn_owes::<MemoryArea>();
+        let _committed = value.commit();
+        value.settled(self.front, self.faults)
+    }
+}
+
+// What became of a session's requests: a bit each for those that were told to be firm, and how many were lost, and how
+// many weren't accepted.
+#[derive(Clone, Copy, Debug, PartialEq, Eq)]
+struct Told {
+    firm: u64,
+    lost: u64,
+    failed: u64,
+}
+
+// The receipt of an answer that accepts its request.
+fn accepted(outcome: Outcome) -> Option<Receipt> {
+    match outcome {
+        Outcome::Answer(receipt) => {
+            if receipt.cause == Some(128) {
+                Some(receipt)
+            } else {
+                None
+            }
+        }
+        Outcome::Drop(_) => None,
+        Outcome::NoMemory => None,
+    }
+}
+
+// Sends a request.
+fn ask<R: Wait>(rt: &R, cell: &Cell, pass: Pass, who: Caller, now: Moment) -> (Outcome, Pass)
+    requires own { IsPassOf cell.now pass }
+    requires session { who.session ≡ (knowledge pass).number }
+    ensures own { IsPassOf cell.now result.1 }
+    ensures same { (knowledge result.1).number ≡ (knowledge pass).number }
+{
+    let [.., number] = who.serial.to_be_bytes();
+    let [.., session] = who.session.to_be_bytes();
+    let octets = request(number, session.wrapping_mul(100).wrapping_add(number));
+    cell.with(rt, pass, Asking { who, now, octets })
+}
+
+// What has become of an answer, behind a commit.
+fn settle<R: Wait>(rt: &R, cell: &Cell, pass: Pass, receipt: &Receipt) -> (Settled, Pass)
+    requires own { IsPassOf cell.now pass }
+    ensures own { IsPassOf cell.now result.1 }
+    ensures same { (knowledge result.1).number ≡ (knowledge pass).number }
+{
+    let turn = Committing {
+        front: receipt.front,
+        faults: receipt.faults,
+    };
+    cell.with(rt, pass, turn)
+}
+
+// Sends a request, and learns what has become of its answer.
+fn send<R: Wait>(rt: &R, cell: &Cell, pass: Pass, who: Caller, now: Moment, told: &mut Told) -> Pass
+    requires own { IsPassOf cell.now pass }
+    requires session { who.session ≡ (knowledge pass).number }
+    ensures own { IsPassOf cell.now result }
+    ensures same { (knowledge result).number ≡ (knowledge pass).number }
+{
+    let (outcome, pass) = ask(rt, cell, pass, who, now);
+    let Some(receipt) = accepted(outcome) else {
+        told.failed = told.failed.wrapping_add(1);
+        return pass;
+    };
+    let (settled, pass) = settle(rt, cell, pass, &receipt);
+    match settled {
+        Settled::Firm => told.firm |= 1u64.wrapping_shl(who.serial as u32),
+        _ => told.lost = told.lost.wrapping_add(1),
+    }
+    pass
+}
+
+// Sends all requests of a session.
+fn send_all<R: Wait>(rt: &R, cell: &Cell, mut pass: Pass, session: u32, now: Moment) -> (Told, Pass)
+    requires own { IsPassOf cell.now pass }
+    requires session { session ≡ (knowledge pass).number }
+    ensures { IsPassOf cell.now result.1 }
+{
+    let mut told = Told {
+        firm: 0,
+        lost: 0,
+        failed: 0,
+    };
+    for serial in 0..REQUESTS {
+        let who = Caller { session, serial };
+        pass = send(rt, cell, pass, who, now, &mut told);
+    }
+    (told, pass)
+}
+
+// Two sessions at once.
+fn two_at_once<R: Threads + Wait + Sync>(
+    rt: &R,
+    cell: &Cell,
+    a: Pass,
+    b: Pass,
+    now: Moment,
+) -> (Told, Told, Pass, Pass)
+    requires a { IsPassOf cell.now a × ((knowledge a).number ≡ 0) }
+    requires b { IsPassOf cell.now b × ((knowledge b).number ≡ 1) }
+    ensures { IsPassOf cell.now result.2 × IsPassOf cell.now result.3 }
+{
+    let (one, two) = thread::join(
+        rt,
+        move ||
+            requires { IsPassOf cell.now a × ((knowledge a).number ≡ 0) }
+            ensures { IsPassOf cell.entry.now result.1 }
+        { send_all(rt, cell, a, 0, now) },
+        move ||
+            requires { IsPassOf cell.now b × ((knowledge b).number ≡ 1) }
+            ensures { IsPassOf cell.entry.now result.1 }
+        { send_all(rt, cell, b, 1, now) },
+    );
+    (one.0, two.0, one.1, two.1)
+}
+
+// The two passes of a cell that has just been made, the first one first.
+fn both(cell: &Cell, mut passes: Vec<Pass>) -> Option<(Pass, Pass, Vec<Pass>)>
+    requires { AreNew cell.now.table.shared.table_id (facts_of (begun cell.now)) 2 passes.items }
+    ensures a { IfSome result (λ made. IsPassOf cell.now made.0 × ((knowledge made.0).number ≡ 0)) }
+    ensures b { IfSome result (λ made. IsPassOf cell.now made.1 × ((knowledge made.1).number ≡ 1)) }
+    ensures rest { IfSome result (λ made. ArePassesOf cell.now made.2.items) }
+{
+    let b = passes.pop()?;
+    let a = passes.pop()?;
+    Some((a, b, passes))
+}
+
+// A book on an area in memory, of whose calls the 12th, the 13th, the 30th and the 52nd fail. The 12th is a commit's,
+// and the next an opening's again.
+fn opened(alloc: Global) -> Option<Book<MemoryArea>> {
+    let mut fail = Vec::new(alloc);
+    fail.extend_from_slice(&[12, 13, 30, 52]).ok()?;
+    let plan = Plan {
+        fail,
+        read_fail: Vec::new(alloc),
+        stop: None,
+    };
+    let area = MemoryArea::new(alloc, 50_000, plan).ok()?;
+    let setup = Setup {
+        address: 0x0A00_0001,
+        open_time: 60,
+    };
+    Book::open(alloc, area, setup).ok()
+}
+
+// A bit for each request of a session whose record is filed, and whether one is filed twice.
+fn filed(items: &[Item], session: u8) -> (u64, bool) {
+    let mut found = 0u64;
+    let mut twice = false;
+    for item in items {
+        if let Item::Part { octets, .. } = item
+            && let [.., record] = octets.octets()
+        {
+            let serial = record.wrapping_sub(session.wrapping_mul(100));
+            if serial < 50 {
+                let bit = 1u64.wrapping_shl(serial as u32);
+                twice = twice || found & bit != 0;
+                found |= bit;
+            }
+        }
+    }
+    (found, twice)
+}
+
+// What was told of the requests of both sessions, and the book as they left it.
+fn shared<R: Threads + Wait + Sync>(
+    rt: &R,
+    alloc: Global,
+) -> Option<(Told, Told, Book<MemoryArea>)> {
+    let now = Moment::of(1_709_164_800)?;
+    let book = opened(alloc)?;
+    let (cell, passes) = TurnCell::new(alloc, book, 2).ok()?;
+    let (a, b, mut passes) = both(&cell, passes)?;
+    let (one, two, a, b) = two_at_once(rt, &cell, a, b, now);
+    passes.push(a).ok()?;
+    passes.push(b).ok()?;
+    let book = cell.finish(passes).ok()?;
+    Some((one, two, book))
+}
+
+// Each request was answered, and each that was told to be firm is filed, once.
+fn keeps(items: &[Item], session: u8, told: Told) -> bool {
+    let (found, twice) = filed(items, session);
+    let firm = told.firm.count_ones() as u64;
+    !twice
+        && told.firm & !found == 0
+        && firm.wrapping_add(told.lost).wrapping_add(told.failed) == REQUESTS
+}
+
+#[test]
+fn what_two_sessions_are_told_is_firm_stays_whatever_fails(rt: HostRuntime) -> Result<(), Fail> {
+    let Some((one, two, mut book)) = shared(&rt, rt.alloc()) else {
+        panic!(&rt; "no memory")
+    };
+    assert!(rt; book.commit().is_ok());
+    assert_eq!(rt; book.settled(0, 0), Settled::Lost { faults: 4 });
+    let Ok(items) = book.items(rt.alloc(), 0, 1000) else {
+        panic!(&rt; "no items")
+    };
+    assert!(rt; keeps(&items, 0, one));
+    assert!(rt; keeps(&items, 1, two));
+    assert!(rt; one.lost.wrapping_add(two.lost) > 0);
+    Ok(())
+}
