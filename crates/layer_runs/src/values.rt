@@ -14,11 +14,11 @@ use std::io;
 
 /// The definition gives these kinds.
 fn kinds_by_definition()
-    ensures release_6 { kind_of 1 0x0600 ≡ record { release = 3; version = 0; format = 1 } }
-    ensures greatest_digit { kind_of 1 0x0FFF ≡ record { release = 7; version = 31; format = 1 } }
-    ensures low_digit_alone { kind_of 1 0xF61F ≡ record { release = 3; version = 31; format = 1 } }
-    ensures greatest_format { kind_of 255 0x06FF ≡ record { release = 3; version = 31; format = 7 } }
-    ensures all_zero { kind_of 0 0 ≡ record { release = 0; version = 0; format = 0 } }
+    ensures release_6 { kind_of 1 0x0600 ≡ record { release = 3; version = 0; format = 1; extension = 0 } }
+    ensures greatest_digit { kind_of 1 0x0FFF ≡ record { release = 7; version = 31; format = 1; extension = 5 } }
+    ensures low_digit_alone { kind_of 1 0xF61F ≡ record { release = 3; version = 31; format = 1; extension = 0 } }
+    ensures greatest_format { kind_of 255 0x06FF ≡ record { release = 3; version = 31; format = 7; extension = 0 } }
+    ensures all_zero { kind_of 0 0 ≡ record { release = 0; version = 0; format = 0; extension = 0 } }
 {}
 
 /// The definition gives these numbers.
