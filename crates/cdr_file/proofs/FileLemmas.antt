@@ -10,7 +10,7 @@ use Rattle.cdr_file.specs.Laws.{length-run_octets}
 use Rattle.cdr_file.specs.FileHeader.{field_octets, header_octets, plain_header, release_octets, with_length}
 use Rattle.cdr_file.specs.Profile.{extension_octets}
 use Rattle.cdr_file.specs.SharedOctet.{shared_octet}
-use Rattle.cdr_file.specs.CdrFile.{FiledRecord, FileSettings, cdr_length, cdr_octets, file_header, file_length, file_octets, last_moment, node_address, run_octets}
+use Rattle.cdr_file.specs.CdrFile.{FiledRecord, FileSettings, cdr_octets, file_header, file_length, file_octets, last_moment, node_address, run_octets}
 
 -- the fields have 48
 pub length-field_octets : (header : FileHeader) → length header.address ≡ 20 → length (field_octets header) ≡ 48

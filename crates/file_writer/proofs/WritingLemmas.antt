@@ -15,7 +15,7 @@ use Rattle.cdr_shelf.specs.declared.shelf.Shelf.{Ghosts}
 use Rattle.cdr_shelf.specs.Steps.{StepsAt, TakesWrite, begun, synced, written}
 use Rattle.file_writer.specs.Calls.{Call, unless_sealed}
 use Rattle.file_writer.specs.Making.{Ending, Makes}
-use Rattle.file_writer.specs.Writing.{HasLength, IsBegun, IsOpenAt, appended, body_behind, body_length, body_of, grown_facts, kind_with}
+use Rattle.file_writer.specs.Writing.{HasLength, IsBegun, IsOpenAt, appended, body_behind, body_of, grown_facts}
 use Rattle.file_writer.proofs.StreamsLemmas.{drop_nothing}
 
 zero_plus : (n : ℕ) → 0 + n ≡ n
