@@ -4,7 +4,6 @@ use Rattle.std.proofs.lemmas.Bool.{and_parts, false≢true}
 use Rattle.std.specs.Prelude.{All}
 use Rattle.std.proofs.lemmas.List.{append-nil}
 use Rattle.std.proofs.lemmas.List.Elements.{All-cons}
-use Rattle.area_disk.specs.Disk.{counted}
 use Rattle.area_disk.specs.declared.area.Area.{Ghosts}
 use Rattle.gate_journal.specs.Moments.{Told}
 use Rattle.cgf_journal.specs.Trail.{firm_length, is_closed, torn_stands}
