@@ -26,7 +26,7 @@ use std::alloc::Global;
 use world_script::{InputFault, Script, ScriptKind, print, read, sample};
 
 /// What is printed for the script of a network, or its first line that the grammar refuses.
-#[tactic(auto, using(crate::proofs::NetworkLemmas::replayed_is_report, crate::proofs::NetworkLemmas::replay_refused))]
+#[tactic(auto, using(crate::proofs::NetworkLemmas::replay_refused))]
 pub fn replay_report_of<W: Watch>(
     alloc: Global,
     text: Vec<u8>,
