@@ -12,7 +12,7 @@ use Rattle.net_link.specs.Datagrams as told
 use Rattle.net_link.specs.Datagrams.{LinkState}
 use Rattle.net_link.specs.Memory.{AreShort, Hears, MemoryPath, datagram_of, datagrams_of, told_of}
 use Rattle.net_link.specs.Net.{all_sent, given_for}
-use Rattle.net_link.specs.Steps.{Receives, most_octets}
+use Rattle.net_link.specs.Steps.{Follows, Receives, most_octets}
 use Rattle.net_link.specs.Turns.{is_at}
 use Rattle.net_link.proofs.NetLemmas.{slice_get_behind, slice_get_first}
 
@@ -62,6 +62,10 @@ told_with old list = record {
 inside : (a b : Heard) → ◌≡◌ {A = Result Heard Failed} (Ok a) (Ok b) → a ≡ b
 inside a b e = cc
 
+follows_from : (old new : MemoryPath) → new.address ≡ old.address → new.faults ≡ old.faults →
+    Follows (told_of old) (told_of new)
+follows_from old new at faults = record { address = at; faults = omega arith }
+
 -- what is heard is what is received, as it is told
 pub hears_is_received : (left : List Post) (old new : MemoryPath) (into : List ℕ) (heard : Heard) → AreShort left →
     Hears left old into heard new → Receives (told_of old) into (Ok heard) (told_of new)
@@ -69,6 +73,7 @@ hears_is_received [] old new into heard short h = record {
   datagram = λ from n e. absurd (never from n (sym h.0 ∙ inside heard _ e));
   quiet = λ e. ap told_of h.1;
   failed = tt;
+  follows = follows_from old new (ap (λ (l : MemoryPath). l.address) h.1) (ap (λ (l : MemoryPath). l.faults) h.1);
 }
   where
     never : (from : Addr) (n : ℕ) → Quiet ≡ Datagram from n → ⊥
@@ -88,6 +93,7 @@ hears_is_received (post ∷ left) old new into heard short h = record {
       );
   quiet = λ e. absurd (never (sym h.0 ∙ inside heard _ e));
   failed = tt;
+  follows = follows_from old new (ap (λ (l : MemoryPath). l.address) h.2) (ap (λ (l : MemoryPath). l.faults) h.2);
 }
   where
     never : Datagram post.peer (length post.octets) ≡ Quiet → ⊥
