@@ -67,8 +67,8 @@ fn runs(alloc: Global) -> Option<([bool; 5], bool)> {
     let went = used(&mut link, &mut split, into.as_mut_slice());
     links.back(split);
     links.back(link);
-    let first = links.sent(0)?.octets.octets() == [5];
-    let second = links.sent(1)?.octets.octets() == [4];
+    let first = links.sent(0)?.octets.octets() == [5].as_slice();
+    let second = links.sent(1)?.octets.octets() == [4].as_slice();
     Some((went, first && second && links.sent(2).is_none()))
 }
 

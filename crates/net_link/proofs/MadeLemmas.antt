@@ -1,5 +1,5 @@
 -- Tallies of turns, of which one is made, and what those tell who have them.
-use Rattle.std.proofs.Common.{◌≡◌, ◌≢◌, ℕ, ◌+◌, ◌-◌, ◌^◌, ◌<◌, ◌≤◌, min, Bool, true, false, true≢false, cond, if◌then◌else◌, Option, Result, Ok, Err, is_err, is_ok, Vec, Global, List, [], ◌∷◌, ◌++◌, Contains, length, get_or, map, sum_by, refl, sym, ap, ◌∙◌, subst, arith}
+use Rattle.std.proofs.Common.{◌≡◌, ℕ, ◌+◌, ◌-◌, ◌^◌, ◌≤◌, min, Bool, true, false, true≢false, cond, if◌then◌else◌, Option, Result, Ok, Err, is_err, is_ok, Vec, Global, List, [], ◌∷◌, ◌++◌, Contains, length, map, sum_by, refl, sym, ap, ◌∙◌, subst, arith}
 use Rattle.std.proofs.lemmas.List.{get_or_at, length-append, length-map, map-append, with_items_is}
 use Rattle.std.specs.Vec.{with_items}
 use Rattle.std.proofs.lemmas.List.Elements.{Contains-append_left}
@@ -62,8 +62,8 @@ told_with tallies faults received sent = record {
 }
 
 -- a link is made
-pub makes : (R : Type 0) (tallies now : List Tally) (faults : ℕ) (received sent : Addr → Option (List Datagram)) (at : Addr)
-    (link : R) → now ≡ tallies ++ fresh at ∷ [] →
+pub makes : (R : Type 0) (tallies now : List Tally) (faults : ℕ) (received sent : Addr → Option (List Datagram))
+    (at : Addr) (link : R) → now ≡ tallies ++ fresh at ∷ [] →
     Makes R (told_with tallies faults received sent) at (Ok link) (told_with now faults received sent)
 makes R tallies now faults received sent at link e = record {
   keeps = record {
@@ -100,7 +100,8 @@ pub counted : (tallies : Vec Tally Global) (now : List Tally) (at : Addr) (more 
     CountsMore at more tallies.items now → CountsMore at more tallies.items (with_items tallies now).items
 counted tallies now at more counts =
     let same : length now ≡ length tallies.items =
-    sym (length-map now place_of) ∙ ap (λ (l : List Addr). length l) counts.places ∙ length-map tallies.items place_of in
+    sym (length-map now place_of) ∙ ap (λ (l : List Addr). length l) counts.places
+    ∙ length-map tallies.items place_of in
     subst (λ (l : List Tally). CountsMore at more tallies.items l)
     (sym (with_items_is tallies now (same ∙ sym tallies.ok.0)))
     counts

@@ -1,11 +1,11 @@
 -- What links in memory tell together, as one more is taken back.
-use Rattle.std.proofs.Common.{◌≡◌, ◌≢◌, ℕ, ◌+◌, ◌-◌, ◌^◌, ◌<◌, ◌≤◌, zero, suc, true, false, true≢false, Bool, if◌then◌else◌, List, [], ◌∷◌, ◌++◌, Contains, IfSome, Some, length, flat_map, map, slice_get, refl, sym, ap, ◌∙◌, subst, arith}
+use Rattle.std.proofs.Common.{◌≡◌, ◌≢◌, ℕ, ◌+◌, ◌-◌, ◌^◌, ◌<◌, ◌≤◌, zero, suc, true, false, true≢false, Bool, if◌then◌else◌, List, [], ◌∷◌, ◌++◌, Contains, IfSome, Some, length, flat_map, slice_get, refl, sym, ap, ◌∙◌, subst, arith}
 use Rattle.std.proofs.lemmas.Bool.{le-ltb, lt-ltb}
 use Rattle.std.proofs.lemmas.List.{append-nil}
 use Rattle.std.proofs.lemmas.List.Concat.{flat_map-append}
 use Rattle.gw_base.specs.declared.address.Addr.{Addr}
 use Rattle.net_link.specs.declared.turns.Tally.{Tally}
-use Rattle.net_link.specs.Datagrams.{Datagram, added, joined}
+use Rattle.net_link.specs.Datagrams.{Datagram, added}
 use Rattle.net_link.specs.Making.{GrowsBy, TakesBack}
 use Rattle.net_link.specs.Memory.{MemoryPath, datagrams_of, told_of}
 use Rattle.net_link.specs.Net.{MemoryNet, given_back, received_at, sent_at, told_by, told_if}
@@ -71,7 +71,8 @@ module _ (old new : MemoryNet) (link : MemoryPath) (counts : CountsMore link.add
   pub takes_back : new.links ≡ old.links ++ link ∷ [] → new.are_all ≡ old.are_all →
       TakesBack (told_by old) (told_of link) (told_by new)
   takes_back more all =
-      let received : received_at link.address new.links ≡ received_at link.address old.links ++ datagrams_of link.received =
+      let received :
+      received_at link.address new.links ≡ received_at link.address old.links ++ datagrams_of link.received =
       ap (λ (l : List MemoryPath). received_at link.address l) more ∙ received_more old.links link in
       let sent : sent_at link.address new.links ≡ sent_at link.address old.links ++ datagrams_of link.sent =
       ap (λ (l : List MemoryPath). sent_at link.address l) more ∙ sent_more old.links link in
@@ -118,7 +119,8 @@ given_back_kept net link tallies few = ap
     (lt-ltb (length net.links) 64 few)
 
 pub given_back_left : (net : MemoryNet) (link : MemoryPath) (tallies : List Tally) → 64 ≤ length net.links →
-    given_back net link tallies ≡ record net { tallies = tallies; are_all = false; faults = added net.faults link.faults }
+    given_back net link tallies
+    ≡ record net { tallies = tallies; are_all = false; faults = added net.faults link.faults }
 given_back_left net link tallies many = ap
     (λ (b : Bool). if b
     then record net { tallies = tallies; links = net.links ++ link ∷ []; faults = added net.faults link.faults }

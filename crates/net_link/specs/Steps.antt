@@ -1,5 +1,5 @@
 -- What one call on a link does.
-use Rattle.std.specs.Prelude.{ℕ, ◌≡◌, ◌≤◌, List, take, Result, Ok, Err, IfOk, OnOk, OnErr}
+use Rattle.std.specs.Prelude.{ℕ, ◌≡◌, ◌≤◌, List, take, Result, Ok, Err, OnOk, OnErr}
 use Rattle.gw_base.specs.Faults.{Rose, next_count}
 use Rattle.gw_base.specs.declared.address.Addr.{Addr}
 use Rattle.gw_base.specs.declared.fault.Failed.{Failed}

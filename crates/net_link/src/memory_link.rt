@@ -1,5 +1,5 @@
 // A link in memory.
-ghost use Rattle.std.specs.Prelude.{◌≡◌, ◌≢◌, ◌↔◌, ◌<◌, ◌≤◌, ◌⊎◌, [], true, length, Contains, IfOk, OnOk, OnErr, IsErr, Err};
+ghost use Rattle.std.specs.Prelude.{◌≡◌, ◌↔◌, ◌≤◌, ◌⊎◌, [], length, Contains, IfOk, OnOk, OnErr, IsErr, Err};
 ghost use Rattle.gw_base.specs.Faults.{next_count};
 ghost use Rattle.net_link.specs.declared.link.LinkStop.TheVariants as stop;
 ghost use Rattle.net_link.specs.Datagrams.{IsNewAt};

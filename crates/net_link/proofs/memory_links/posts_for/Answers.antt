@@ -1,8 +1,7 @@
-use Rattle.std.proofs.Common.{◌≡◌, ◌<◌, ◌≤◌, ◌++◌, ◌∷◌, ◌∙◌, Global, List, [], Vec, ap, arith, false, length, subst, sym, take, true}
+use Rattle.std.proofs.Common.{◌≡◌, ◌<◌, ◌≤◌, ◌++◌, ◌∷◌, ◌∙◌, Global, List, [], Vec, ap, arith, false, length, subst, sym, true}
 use Rattle.std.proofs.lemmas.List.Elements.{All-push}
 use Rattle.net_link.specs.declared.post.Post.{Post}
 use Rattle.net_link.specs.Memory.{AreShort}
-use Rattle.net_link.specs.Net.{given_for}
 use Rattle.net_link.specs.Steps.{most_octets}
 use Rattle.net_link.specs.Turns.{is_at}
 use Rattle.net_link.proofs.PathLemmas.{given_more, given_same}

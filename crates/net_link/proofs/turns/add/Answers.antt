@@ -7,4 +7,5 @@ returns c =
     let none : Tally = record { at = record { ip = 0; port = 0 }; turns = 0 } in
     let place = c.find-place in
     rw c.raised.ensures
-    (counts_more c.args.tallies.now place.result none c.args.turns place.ensures.within c.args.at (place.ensures.at none))
+    (counts_more c.args.tallies.now place.result none c.args.turns place.ensures.within c.args.at
+    (place.ensures.at none))

@@ -1,6 +1,5 @@
-use Rattle.std.proofs.Common.{◌≡◌, ◌∙◌, ap, sym}
+use Rattle.std.proofs.Common.{◌∙◌, sym}
 use Rattle.gw_base.specs.declared.address.Addr.{Addr}
-use Rattle.net_link.specs.declared.memory_link.MemoryLink.{MemoryLink}
 use Rattle.net_link.specs.Net.{received_at, sent_at, told_if}
 use Rattle.net_link.proofs.MadeLemmas.{fresh, makes, pushed_whole}
 use Rattle.net_link.proofs.memory_links.MemoryLinksLinks.make.Goals as goal
@@ -14,4 +13,5 @@ returns-clause-made c =
     rw (← c.self.view_is)
     (makes _ tallies now c.self.inside.faults (λ (at : Addr). told_if all (received_at at links))
     (λ (at : Addr). told_if all (sent_at at links)) c.args.at c.in_ok-link.link
-    (pushed_whole c.push.result tallies now (fresh c.args.at) (sym c.is_err.ensures.value ∙ c.if-is_err.false) c.push.ensures.items))
+    (pushed_whole c.push.result tallies now (fresh c.args.at) (sym c.is_err.ensures.value ∙ c.if-is_err.false)
+    c.push.ensures.items))

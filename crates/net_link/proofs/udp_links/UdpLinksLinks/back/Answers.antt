@@ -1,4 +1,4 @@
-use Rattle.std.proofs.Common.{◌≡◌, ◌≤◌, ◌+◌, ◌-◌, ◌^◌, List, arith, subst}
+use Rattle.std.proofs.Common.{◌≡◌, ◌≤◌, ◌-◌, ◌^◌, List, arith, subst}
 use Rattle.std.specs.Vec.{with_items}
 use Rattle.net_link.specs.declared.turns.Tally.{Tally}
 use Rattle.net_link.specs.Datagrams.{LinkState, added}
