@@ -36,7 +36,7 @@ fn hear<L: Link>(link: &mut L, into: &mut [u8]) -> Option<(Addr, usize)>
 }
 
 // Whether a datagram that one link sends is what the other hears, from this address.
-fn goes<L: Link>(
+fn goes<L: Link + Send>(
     one: &mut L,
     other: &mut L,
     to: Addr,
@@ -76,7 +76,7 @@ fn all_go<R: Net>(net: &R, alloc: Global) -> Option<[bool; 4]> {
         local(2),
         &[0x4E, 1, 0],
         local(1),
-        &mut into,
+        into.as_mut_slice(),
     );
     let most = goes(
         &mut other,

@@ -12,7 +12,7 @@ use Rattle.net_link.specs.Datagrams as told
 use Rattle.net_link.specs.Datagrams.{LinkState}
 use Rattle.net_link.specs.Memory.{AreShort, Hears, MemoryPath, datagram_of, datagrams_of, told_of}
 use Rattle.net_link.specs.Net.{all_sent, given_for}
-use Rattle.net_link.specs.Steps.{Receives, most_octets}
+use Rattle.net_link.specs.Steps.{Follows, Receives, most_octets}
 use Rattle.net_link.specs.Turns.{is_at}
 use Rattle.net_link.proofs.NetLemmas.{slice_get_behind, slice_get_first}
 
@@ -24,8 +24,8 @@ hears_none given next old new into end is =
     let none : drop next given ≡ [] = drop_all next given (omega arith) in
     subst (λ (l : List Post). Hears l old into Quiet new) (sym none) (refl, is)
 
-pub hears_one : (given : List Post) (next : ℕ) (post : Post) (old new : MemoryPath) (into : List ℕ) → next < length given →
-    post ≡ get_or given next post → old.received ≡ take next given → take (length post.octets) into ≡ post.octets →
+pub hears_one : (given : List Post) (next : ℕ) (post : Post) (old new : MemoryPath) (into : List ℕ) →
+    next < length given → post ≡ get_or given next post → old.received ≡ take next given → take (length post.octets) into ≡ post.octets →
     new ≡ record old {
       calls = next_count old.calls;
       turns = next_count old.turns;
@@ -62,6 +62,10 @@ told_with old list = record {
 inside : (a b : Heard) → ◌≡◌ {A = Result Heard Failed} (Ok a) (Ok b) → a ≡ b
 inside a b e = cc
 
+follows_from : (old new : MemoryPath) → new.address ≡ old.address → new.faults ≡ old.faults →
+    Follows (told_of old) (told_of new)
+follows_from old new at faults = record { address = at; faults = omega arith }
+
 -- what is heard is what is received, as it is told
 pub hears_is_received : (left : List Post) (old new : MemoryPath) (into : List ℕ) (heard : Heard) → AreShort left →
     Hears left old into heard new → Receives (told_of old) into (Ok heard) (told_of new)
@@ -69,6 +73,7 @@ hears_is_received [] old new into heard short h = record {
   datagram = λ from n e. absurd (never from n (sym h.0 ∙ inside heard _ e));
   quiet = λ e. ap told_of h.1;
   failed = tt;
+  follows = follows_from old new (ap (λ (l : MemoryPath). l.address) h.1) (ap (λ (l : MemoryPath). l.faults) h.1);
 }
   where
     never : (from : Addr) (n : ℕ) → Quiet ≡ Datagram from n → ⊥
@@ -81,13 +86,15 @@ hears_is_received (post ∷ left) old new into heard short h = record {
       let octets : take n into ≡ post.octets = ap (λ (k : ℕ). take k into) long ∙ h.1 in
       let one : datagram_of post ≡ record { peer = from; octets = take n into } =
       λ i. record { peer = sym here i; octets = sym octets i } in (
-        subst (λ (k : ℕ). k ≤ most_octets) (sym long) (All-head (λ (p : Post). length p.octets ≤ most_octets) post left short),
+        subst (λ (k : ℕ). k ≤ most_octets) (sym long)
+            (All-head (λ (p : Post). length p.octets ≤ most_octets) post left short),
         ap told_of h.2 ∙ ap (λ (list : List told.Datagram). told_with old list)
             (map-append datagram_of old.received (post ∷ [])
             ∙ ap (λ (d : told.Datagram). datagrams_of old.received ++ d ∷ []) one),
       );
   quiet = λ e. absurd (never (sym h.0 ∙ inside heard _ e));
   failed = tt;
+  follows = follows_from old new (ap (λ (l : MemoryPath). l.address) h.2) (ap (λ (l : MemoryPath). l.faults) h.2);
 }
   where
     never : Datagram post.peer (length post.octets) ≡ Quiet → ⊥
@@ -115,20 +122,23 @@ filter_more test (p ∷ posts) post =
 pub given_more : (at : Addr) (given : List Post) (i : ℕ) (post : Post) → i < length given → post ≡ get_or given i post →
     is_at at post.at ≡ true → given_for at (take (i + 1) given) ≡ given_for at (take i given) ++ post ∷ []
 given_more at given i post within read mine =
-    ap (λ (l : List Post). given_for at l) (take_more given i post within ∙ ap (λ (p : Post). take i given ++ p ∷ []) (sym read))
+    ap (λ (l : List Post). given_for at l)
+    (take_more given i post within ∙ ap (λ (p : Post). take i given ++ p ∷ []) (sym read))
     ∙ filter_more (λ p. is_at at p.at) (take i given) post
     ∙ ap (λ (b : Bool). given_for at (take i given) ++ cond b (post ∷ []) []) mine
 
 pub given_same : (at : Addr) (given : List Post) (i : ℕ) (post : Post) → i < length given → post ≡ get_or given i post →
     is_at at post.at ≡ false → given_for at (take (i + 1) given) ≡ given_for at (take i given)
 given_same at given i post within read other =
-    ap (λ (l : List Post). given_for at l) (take_more given i post within ∙ ap (λ (p : Post). take i given ++ p ∷ []) (sym read))
+    ap (λ (l : List Post). given_for at l)
+    (take_more given i post within ∙ ap (λ (p : Post). take i given ++ p ∷ []) (sym read))
     ∙ filter_more (λ p. is_at at p.at) (take i given) post
     ∙ ap (λ (b : Bool). given_for at (take i given) ++ cond b (post ∷ []) []) other
     ∙ append-nil (given_for at (take i given))
 
 -- the datagram so far behind is one of this link, or stands in the rest
-pub sent_here : (links : List MemoryPath) (i left : ℕ) (link : MemoryPath) → i < length links → link ≡ get_or links i link →
+pub sent_here : (links : List MemoryPath) (i left : ℕ) (link : MemoryPath) → i < length links →
+    link ≡ get_or links i link →
     left < length link.sent → slice_get (all_sent (drop i links)) left ≡ slice_get link.sent left
 sent_here links i left link within read short =
     let list : drop i links ≡ link ∷ drop (i + 1) links =
@@ -136,7 +146,8 @@ sent_here links i left link within read short =
     ap (λ (ls : List MemoryPath). slice_get (all_sent ls) left) list
     ∙ slice_get_first link.sent (all_sent (drop (i + 1) links)) left short
 
-pub sent_on : (links : List MemoryPath) (i left : ℕ) (link : MemoryPath) → i < length links → link ≡ get_or links i link →
+pub sent_on : (links : List MemoryPath) (i left : ℕ) (link : MemoryPath) → i < length links →
+    link ≡ get_or links i link →
     length link.sent ≤ left →
     slice_get (all_sent (drop i links)) left ≡ slice_get (all_sent (drop (i + 1) links)) (left - length link.sent)
 sent_on links i left link within read past =

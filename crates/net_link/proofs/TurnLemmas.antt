@@ -1,13 +1,14 @@
 -- Tallies of turns by addresses, of which one is raised.
-use Rattle.std.proofs.Common.{◌≡◌, ◌≢◌, ◌⊎◌, ⊎_elim, inl, inr, ℕ, ◌+◌, ◌-◌, ◌^◌, ◌<◌, ◌≤◌, ◌==◌, ◌&&◌, min, Bool, true, false, true≢false, if◌then◌else◌, List, length, get_or, set, map, sum_by, refl, sym, ap, ◌∙◌, arith}
-use Rattle.std.specs.List.{HoldsAt}
+use Rattle.std.proofs.Common.{◌≡◌, ◌≢◌, ◌⊎◌, ⊎_elim, inl, inr, ℕ, ◌+◌, ◌-◌, ◌^◌, ◌<◌, ◌≤◌, ◌==◌, ◌&&◌, min, Bool, true, false, true≢false, if◌then◌else◌, List, length, get_or, set, map, sum_by, sym, ap, ◌∙◌, arith}
+use Rattle.std.proofs.lemmas.Bool.{cases_lt}
 use Rattle.std.proofs.lemmas.Bool.Decides.{eqb_tells}
 use Rattle.std.proofs.lemmas.List.{get_or-map, map-set, set-get_or}
 use Rattle.std.proofs.lemmas.List.Sums.{get_or-le-sum_by, sum_by-set}
 use Rattle.gw_base.specs.declared.address.Addr.{Addr}
 use Rattle.net_link.specs.declared.turns.Tally.{Tally}
 use Rattle.net_link.specs.Datagrams.{added}
-use Rattle.net_link.specs.Turns.{is_at, place_of, raised, turns_at, turns_in}
+use Rattle.net_link.specs.Making.{RoseBy}
+use Rattle.net_link.specs.Turns.{CountsMore, is_at, place_of, raised, turns_at, turns_in}
 
 -- this answer of the test of two addresses tells whether they are equal
 abbrev Tells : Addr → Addr → Bool → Type 0
@@ -56,51 +57,57 @@ capped now was old new part more sum within own grown = omega arith
 same_sum : (now was old new : ℕ) → now + old ≡ was + new → old ≡ 0 → new ≡ 0 → now ≡ was
 same_sum now was old new sum none gone = omega arith
 
--- what is so of each reading at a place is so of the tally that was read there
-pub here_at : (tallies : List Tally) (place : ℕ) (tally : Tally) (at : Addr) → tally ≡ get_or tallies place tally →
-    HoldsAt (λ (t : Tally). t.at ≡ at) tallies place → tally.at ≡ at
-here_at tallies place tally at read holds = ap place_of read ∙ holds tally
+-- One tally is raised: then the turns at its address are more, those at others are the same, and so are the addresses.
+module _ (tallies : List Tally) (place : ℕ) (none : Tally) (more : ℕ) (within : place < length tallies) where
+  abbrev tally : Tally
+  tally = get_or tallies place none
 
--- One tally is raised, which was read at its place: then the turns at its address are more, those at others are the
--- same, and so are the addresses.
-module _ (tallies : List Tally) (place : ℕ) (tally : Tally) (more : ℕ) (within : place < length tallies)
-    (read : tally ≡ get_or tallies place tally) where
-  pub turns_raised : (at : Addr) → tally.at ≡ at →
+  turns_raised : (at : Addr) → tally.at ≡ at →
       turns_at at (set tallies place (raised tally more)) ≡ added (turns_at at tallies) more
   turns_raised at here =
       let f : Tally → ℕ = turns_in at in
-      let stood : f (get_or tallies place tally) ≡ tally.turns = ap f (sym read) ∙ turns_own at tally here in
       capped
       (sum_by f (set tallies place (raised tally more)))
       (sum_by f tallies)
-      (f (get_or tallies place tally))
+      (f tally)
       (f (raised tally more))
       tally.turns
       more
-      (sum_by-set f tallies place (raised tally more) tally within)
-      (get_or-le-sum_by f tallies place tally within)
-      stood
+      (sum_by-set f tallies place (raised tally more) none within)
+      (get_or-le-sum_by f tallies place none within)
+      (turns_own at tally here)
       (turns_own at (raised tally more) here)
 
-  pub turns_elsewhere : (a : Addr) → a ≢ tally.at → turns_at a (set tallies place (raised tally more)) ≡ turns_at a tallies
+  turns_elsewhere : (a : Addr) → a ≢ tally.at → turns_at a (set tallies place (raised tally more)) ≡ turns_at a tallies
   turns_elsewhere a other =
       let f : Tally → ℕ = turns_in a in
-      let stood : f (get_or tallies place tally) ≡ 0 = ap f (sym read) ∙ turns_other a tally other in
       ap
       (λ (n : ℕ). min n (2 ^ 64 - 1))
       (same_sum
       (sum_by f (set tallies place (raised tally more)))
       (sum_by f tallies)
-      (f (get_or tallies place tally))
+      (f tally)
       (f (raised tally more))
-      (sum_by-set f tallies place (raised tally more) tally within)
-      stood
+      (sum_by-set f tallies place (raised tally more) none within)
+      (turns_other a tally other)
       (turns_other a (raised tally more) other))
 
-  pub places_stay : map place_of (set tallies place (raised tally more)) ≡ map place_of tallies
+  places_stay : map place_of (set tallies place (raised tally more)) ≡ map place_of tallies
   places_stay =
       let there : get_or (map place_of tallies) place tally.at ≡ tally.at =
-      get_or-map place_of tallies place tally tally.at within ∙ ap place_of (sym read) in
+      get_or-map place_of tallies place none tally.at within in
       map-set place_of tallies place (raised tally more)
       ∙ ap (λ (a : Addr). set (map place_of tallies) place a) (sym there)
       ∙ set-get_or (map place_of tallies) place tally.at
+
+  pub counts_more : (at : Addr) → tally.at ≡ at → CountsMore at more tallies (set tallies place (raised tally more))
+  counts_more at here = record {
+    places = places_stay;
+    turns = turns_raised at here;
+    others = λ a other. turns_elsewhere a (λ same. other (same ∙ here));
+  }
+
+-- a count that another is added to rose by it
+pub rose : (before more after : ℕ) → after ≡ added before more → RoseBy before more after
+rose before more after e =
+    ⊎_elim (λ low. inl (omega arith)) (λ high. inr (omega arith)) (cases_lt (before + more) (2 ^ 64 - 1))

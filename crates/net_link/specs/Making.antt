@@ -1,5 +1,5 @@
 -- What makes links and takes them back does.
-use Rattle.std.specs.Prelude.{ℕ, ◌≡◌, ◌≢◌, ◌≤◌, List, Option, Some, IfSome, Result, Ok, Err}
+use Rattle.std.specs.Prelude.{ℕ, ◌+◌, ◌-◌, ◌^◌, ◌≡◌, ◌≢◌, ◌≤◌, ◌⊎◌, List, Option, Some, IfSome, Result, Ok, Err}
 use Rattle.gw_base.specs.Faults.{Rose}
 use Rattle.gw_base.specs.declared.address.Addr.{Addr}
 use Rattle.net_link.specs.declared.link.LinkStop.{LinkStop}
@@ -34,9 +34,14 @@ pub record Makes (R : Type 0) (old : LinksState) (at : Addr) (result : Result R 
 abbrev pub GrowsBy : Option (List Datagram) → Option (List Datagram) → Option (List Datagram) → Type 0
 GrowsBy old more new = IfSome new (λ list. joined old more ≡ Some list)
 
+-- a count rose by at least so much, or to its last value, which counts as risen
+abbrev pub RoseBy : ℕ → ℕ → ℕ → Type 0
+RoseBy before more after = (before + more ≤ after) ⊎ (after ≡ 2 ^ 64 - 1)
+
 -- A link is taken back: what is told at its address grows by the link's, and the faults by at least its faults.
 pub record TakesBack (old : LinksState) (link : LinkState) (new : LinksState) : Type 0 where
-  pub faults : added old.faults link.faults ≤ new.faults
+  pub never_falls : old.faults ≤ new.faults
+  pub faults : RoseBy old.faults link.faults new.faults
   pub made : (a : Addr) → old.IsMade a → new.IsMade a
   pub turns : new.turns link.address ≡ added (old.turns link.address) link.turns
   pub received : GrowsBy (old.received link.address) link.received (new.received link.address)

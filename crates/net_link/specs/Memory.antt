@@ -1,5 +1,5 @@
 -- What a link in memory is, and what a call on it does.
-use Rattle.std.specs.Prelude.{ℕ, ◌+◌, ◌≡◌, ◌≤◌, ◌++◌, ◌∷◌, List, [], All, map, length, take, Option, Some, Result, Ok}
+use Rattle.std.specs.Prelude.{ℕ, ◌≡◌, ◌≤◌, ◌++◌, ◌∷◌, List, [], All, map, length, take, Some}
 use Rattle.gw_base.specs.Faults.{next_count}
 use Rattle.gw_base.specs.declared.address.Addr.{Addr}
 use Rattle.net_link.specs.declared.link.Heard.{Heard}

@@ -1,9 +1,9 @@
 -- What makes links in memory is.
-use Rattle.std.specs.Prelude.{ℕ, Bool, true, false, List, [], filter, flat_map, if◌then◌else◌, Option, Some, None}
+use Rattle.std.specs.Prelude.{ℕ, ◌++◌, ◌∷◌, Bool, true, false, List, [], filter, flat_map, if◌then◌else◌, length, nat_lt, Option, Some, None}
 use Rattle.gw_base.specs.declared.address.Addr.{Addr}
 use Rattle.net_link.specs.declared.post.Post.{Post}
 use Rattle.net_link.specs.declared.turns.Tally.{Tally}
-use Rattle.net_link.specs.Datagrams.{Datagram}
+use Rattle.net_link.specs.Datagrams.{Datagram, added}
 use Rattle.net_link.specs.Making.{LinksState}
 use Rattle.net_link.specs.Memory.{MemoryPath, datagrams_of}
 use Rattle.net_link.specs.Turns.{IsListed, is_at, turns_at}
@@ -53,3 +53,10 @@ all_sent links = flat_map (λ link. link.sent) links
 abbrev pub net_of : List Post → ℕ → List ℕ → MemoryNet
 net_of given room fail =
     record { given = given; room = room; fail = fail; tallies = []; links = []; are_all = true; faults = 0 }
+
+-- after a link was given back: the first 64 are kept, and one behind them isn't
+abbrev pub given_back : MemoryNet → MemoryPath → List Tally → MemoryNet
+given_back net link tallies =
+    if nat_lt (length net.links) 64
+    then record net { tallies = tallies; links = net.links ++ link ∷ []; faults = added net.faults link.faults }
+    else record net { tallies = tallies; are_all = false; faults = added net.faults link.faults }

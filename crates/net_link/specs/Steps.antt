@@ -1,5 +1,5 @@
 -- What one call on a link does.
-use Rattle.std.specs.Prelude.{ℕ, ◌≡◌, ◌≤◌, List, take, Result, Ok, Err, IfOk, OnOk, OnErr}
+use Rattle.std.specs.Prelude.{ℕ, ◌≡◌, ◌≤◌, List, take, Result, Ok, Err, OnOk, OnErr}
 use Rattle.gw_base.specs.Faults.{Rose, next_count}
 use Rattle.gw_base.specs.declared.address.Addr.{Addr}
 use Rattle.gw_base.specs.declared.fault.Failed.{Failed}
@@ -13,14 +13,20 @@ use Rattle.net_link.specs.Datagrams.{LinkState, with_one}
 abbrev pub most_octets : ℕ
 most_octets = 65507
 
+-- whatever comes of a call: the address stays, and the faults never fall
+pub record Follows (old new : LinkState) : Type 0 where
+  pub address : new.address ≡ old.address
+  pub faults : old.faults ≤ new.faults
+
 -- the link failed: its count of faults rose, and all else is as before
 pub record HasFailed (old new : LinkState) : Type 0 where
   pub never_falls : old.faults ≤ new.faults
   pub rose : Rose old.faults new.faults
   pub rest : new ≡ record old { faults = new.faults }
 
--- A call that may stop: what stands where it is done, and that the link is as before where there was no memory.
+-- a call that may stop: the link failed, or it is as before where there was no memory
 pub record Stops (R : Type 0) (old : LinkState) (result : Result R LinkStop) (new : LinkState) : Type 0 where
+  pub follows : Follows old new
   pub failed : result ≡ Err stop.Failed → HasFailed old new
   pub no_memory : result ≡ Err stop.NoMemory → new ≡ old
 
@@ -38,3 +44,4 @@ pub record Receives (old : LinkState) (into : List ℕ) (result : Result Heard F
   })
   pub quiet : result ≡ Ok heard.Quiet → new ≡ record old { turns = next_count old.turns }
   pub failed : OnErr result (HasFailed old new)
+  pub follows : Follows old new

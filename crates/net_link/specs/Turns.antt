@@ -1,7 +1,8 @@
 -- The turns of links that were taken back, by their addresses.
-use Rattle.std.specs.Prelude.{ℕ, ◌+◌, ◌-◌, ◌^◌, ◌==◌, ◌&&◌, Bool, if◌then◌else◌, List, Contains, map, min, sum_by}
+use Rattle.std.specs.Prelude.{ℕ, ◌+◌, ◌-◌, ◌^◌, ◌≡◌, ◌≢◌, ◌==◌, ◌&&◌, Bool, if◌then◌else◌, List, Contains, map, min, sum_by}
 use Rattle.gw_base.specs.declared.address.Addr.{Addr}
 use Rattle.net_link.specs.declared.turns.Tally.{Tally}
+use Rattle.net_link.specs.Datagrams.{added}
 
 abbrev pub is_at : Addr → Addr → Bool
 is_at a b = a.ip == b.ip && a.port == b.port
@@ -24,3 +25,9 @@ place_of tally = tally.at
 -- there is a tally for the address
 abbrev pub IsListed : Addr → List Tally → Type 0
 IsListed a tallies = Contains (map place_of tallies) a
+
+-- more turns are counted at an address, and all else is as before
+pub record CountsMore (at : Addr) (more : ℕ) (old new : List Tally) : Type 0 where
+  pub places : map place_of new ≡ map place_of old
+  pub turns : turns_at at new ≡ added (turns_at at old) more
+  pub others : (a : Addr) → a ≢ at → turns_at a new ≡ turns_at a old

@@ -54,7 +54,7 @@ impl From<NoMemory> for LinkStop {
 
 /// Datagrams out and in, at one address. What a datagram meets on its way isn't known: one that was sent may be lost,
 /// may come late or more than once.
-pub trait Link: Send + Drop {
+pub trait Link: Drop {
     ghost use Rattle.net_link.specs.Datagrams.{LinkState};
 
     /// Its address, its turns, which rise by one at each `Heard` and stand still at 2^64 - 1, its faults, which never

@@ -1,5 +1,5 @@
 // What makes links, and takes them back.
-ghost use Rattle.std.specs.Prelude.{◌≡◌, IfOk};
+ghost use Rattle.std.specs.Prelude.{IfOk};
 ghost use Rattle.net_link.specs.Datagrams.{IsNewAt};
 ghost use Rattle.net_link.specs.Making.{Makes, TakesBack};
 

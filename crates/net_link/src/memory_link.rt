@@ -1,5 +1,5 @@
 // A link in memory.
-ghost use Rattle.std.specs.Prelude.{◌≡◌, ◌≢◌, ◌↔◌, ◌<◌, ◌≤◌, ◌⊎◌, [], true, length, Contains, IfOk, OnOk, OnErr, IsErr, Err};
+ghost use Rattle.std.specs.Prelude.{◌≡◌, ◌↔◌, ◌≤◌, ◌⊎◌, [], length, Contains, IfOk, OnOk, OnErr, IsErr, Err};
 ghost use Rattle.gw_base.specs.Faults.{next_count};
 ghost use Rattle.net_link.specs.declared.link.LinkStop.TheVariants as stop;
 ghost use Rattle.net_link.specs.Datagrams.{IsNewAt};
@@ -124,10 +124,8 @@ impl Link for MemoryLink {
 
     fn send(&mut self, to: Addr, octets: &[u8]) -> Result<(), LinkStop>
         ensures sends { Sends (told_of self.old) to octets.now result (told_of self.new) }
-        ensures fails { (result ≡ Err stop.Failed) → (Contains self.old.fail (next_count self.old.calls)
-            ⊎ (length self.old.sent ≡ self.old.room)) }
-        ensures works { OnOk result ((¬ (Contains self.old.fail (next_count self.old.calls)))
-            × (length self.old.sent < self.old.room)) }
+        ensures fails { (result ≡ Err stop.Failed) ↔ (Contains self.old.fail (next_count self.old.calls)
+            ⊎ (self.old.room ≤ length self.old.sent)) }
         ensures ok { OnOk result (self.new ≡ sending self.old to octets.now) }
         ensures failed { (result ≡ Err stop.Failed) → self.new ≡ failing self.old }
         ensures no_memory { (result ≡ Err stop.NoMemory) → self.new ≡ self.old }
@@ -172,6 +170,7 @@ impl Link for MemoryLink {
         ensures works { IfOk result (λ link. link ≡ path_at self.old.address [] self.old.room self.old.fail) }
         ensures counted { OnOk result (self.new ≡ record self.old { calls = next_count self.old.calls }) }
         ensures failed { (result ≡ Err stop.Failed) → self.new ≡ failing self.old }
+        ensures no_memory { (result ≡ Err stop.NoMemory) → self.new ≡ self.old }
     {
         let call = self.calls.saturating_add(1);
         if self.fail.contains(&call) {

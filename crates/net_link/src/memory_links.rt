@@ -1,11 +1,10 @@
 // What makes links in memory.
-ghost use Rattle.std.specs.Prelude.{◌≡◌, ◌<◌, ◌≤◌, [], IfOk, OnErr, OnOk, length, option_copied, slice_get, Err, IsErr};
+ghost use Rattle.std.specs.Prelude.{◌≡◌, IfOk, OnErr, option_copied, slice_get, Err};
 ghost use Rattle.net_link.specs.declared.link.LinkStop.TheVariants as stop;
 ghost use Rattle.net_link.specs.Datagrams.{IsNewAt};
 ghost use Rattle.net_link.specs.Making.{Makes, TakesBack};
 ghost use Rattle.net_link.specs.Memory.{AreShort, path_at, told_of};
-ghost use Rattle.net_link.specs.Net.{all_sent, given_for, net_of, told_by};
-ghost use Rattle.net_link.specs.Turns.{is_at};
+ghost use Rattle.net_link.specs.Net.{all_sent, given_back, given_for, net_of, told_by};
 
 use crate::link::{Link, LinkStop};
 use crate::links::Links;
@@ -151,7 +150,8 @@ impl Links for MemoryLinks {
 
     fn back(&mut self, link: MemoryLink)
         requires { (told_by self.old).IsMade (told_of link).address }
-        ensures { TakesBack (told_by self.old) (told_of link) (told_by self.new) }
+        ensures takes { TakesBack (told_by self.old) (told_of link) (told_by self.new) }
+        ensures whole { self.new ≡ given_back self.old link self.new.tallies }
     {
         self.faults = self.faults.saturating_add(link.faults);
         add(&mut self.tallies, link.address, link.turns);

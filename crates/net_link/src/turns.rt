@@ -1,8 +1,7 @@
 // The turns of links that were taken back, by their addresses.
-ghost use Rattle.std.specs.Prelude.{◌≡◌, ◌≢◌, ◌<◌, length, map};
+ghost use Rattle.std.specs.Prelude.{◌≡◌, ◌<◌, length};
 ghost use Rattle.std.specs.List.{HoldsAt};
-ghost use Rattle.net_link.specs.Datagrams.{added};
-ghost use Rattle.net_link.specs.Turns.{IsListed, place_of, raised, turns_at};
+ghost use Rattle.net_link.specs.Turns.{CountsMore, IsListed, raised};
 
 use gw_base::Addr;
 
@@ -44,11 +43,8 @@ fn find(tallies: &[Tally], at: Addr) -> usize
 // Adds turns at an address that has a tally.
 pub(crate) fn add(tallies: &mut [Tally], at: Addr, turns: u64)
     requires { IsListed at tallies.old }
-    ensures listed { map place_of tallies.new ≡ map place_of tallies.old }
-    ensures turns { turns_at at tallies.new ≡ added (turns_at at tallies.old) turns }
-    ensures others { (a : Addr) → a ≢ at → turns_at a tallies.new ≡ turns_at a tallies.old }
+    ensures { CountsMore at turns tallies.old tallies.new }
 {
     let place = find(tallies, at);
-    let tally = tallies[place];
-    tallies[place] = tally.raised(turns);
+    tallies[place] = tallies[place].raised(turns);
 }

@@ -1,8 +1,7 @@
 // A link over UDP and IPv4.
-ghost use Rattle.std.specs.Prelude.{◌≡◌, ◌≤◌, IfOk, Ok, OnErr, OnOk, length};
+ghost use Rattle.std.specs.Prelude.{◌≡◌, ◌≤◌, IfOk, OnOk, length};
 ghost use Rattle.std.specs.Net.Addr.{IsIpv4OfBits, ipv4_bits};
 ghost use Rattle.std.specs.Net.Socket.{v4_ip, v4_port};
-ghost use Rattle.net_link.specs.declared.link.Heard.TheVariants as heard;
 ghost use Rattle.net_link.specs.Datagrams.{IsNewAt};
 ghost use Rattle.net_link.specs.Steps.{HasFailed, Receives, Sends, Stops, most_octets};
 ghost use Rattle.net_link.specs.Udp.{HearsShort};
