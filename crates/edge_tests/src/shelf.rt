@@ -74,7 +74,14 @@ fn the_greatest_sealed_number_of_each_stream_is_found(rt: HostRuntime) -> Result
         let path = format!(in rt.alloc(); "three/04-{number:010}.cdr")?;
         fs::write(&rt, path.as_str(), "x")?;
     }
-    for (stream, greatest) in [(0, 11), (1, 4_294_967_295), (2, 0), (4, 300), (15, 1), (16, 0)] {
+    for (stream, greatest) in [
+        (0, 11),
+        (1, 4_294_967_295),
+        (2, 0),
+        (4, 300),
+        (15, 1),
+        (16, 0),
+    ] {
         assert_eq!(rt; shelf.sealed(stream), Ok(greatest), "stream {stream}");
     }
     Ok(())

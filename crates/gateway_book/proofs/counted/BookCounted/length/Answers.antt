@@ -20,7 +20,7 @@ pub returns-clause-sound : goal.returns-clause-sound
 returns-clause-sound g c =
     let book = c.args.self.now in
     let most : length_at book.cuts (firm_length book.trail) book.kept ≤ firm_length book.trail =
-        at_most book.cuts (firm_length book.trail) book.kept book.counts.within in
+    at_most book.cuts (firm_length book.trail) book.kept book.counts.within in
     let bound = c.firm.ensures.bound in
     let count = c.firm.ensures.counted in
     record {
