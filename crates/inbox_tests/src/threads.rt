@@ -174,7 +174,7 @@ fn four_at_once<R: Threads + Wait + Sync>(
 }
 
 // A thread's desk, with the next pass of a list; None for want of memory.
-fn desk(alloc: Global, inbox: &Inbox, passes: &mut Vec<InboxPass>, place: u64) -> Option<Desk>
+fn open_desk(alloc: Global, inbox: &Inbox, passes: &mut Vec<InboxPass>, place: u64) -> Option<Desk>
     requires { ArePassesOf inbox.now passes.old.items }
     ensures own { IfSome result (λ desk. IsPassOf inbox.now desk.pass) }
     ensures others { ArePassesOf inbox.now passes.new.items }
@@ -188,7 +188,12 @@ fn desk(alloc: Global, inbox: &Inbox, passes: &mut Vec<InboxPass>, place: u64) -
 }
 
 // Adds what a thread counted, and puts its pass back: whether a job was handed back to it.
-fn clear(inbox: &Inbox, desk: Desk, passes: &mut Vec<InboxPass>, sums: &mut Vec<u8>) -> Option<bool>
+fn clear_desk(
+    inbox: &Inbox,
+    desk: Desk,
+    passes: &mut Vec<InboxPass>,
+    sums: &mut Vec<u8>,
+) -> Option<bool>
     requires passes { ArePassesOf inbox.now passes.old.items }
     requires own { IsPassOf inbox.now desk.pass }
     ensures { ArePassesOf inbox.now passes.new.items }
@@ -210,17 +215,17 @@ fn clear(inbox: &Inbox, desk: Desk, passes: &mut Vec<InboxPass>, sums: &mut Vec<
 // memory. Some job is surely handed back: a thread takes none before, or before it has pushed all of its own.
 fn runs<R: Threads + Wait + Sync>(rt: &R, alloc: Global) -> Option<[bool; 3]> {
     let (inbox, mut passes) = Inbox::new(alloc, ROOM, 4).ok()?;
-    let a = desk(alloc, &inbox, &mut passes, 0)?;
-    let b = desk(alloc, &inbox, &mut passes, 1)?;
-    let c = desk(alloc, &inbox, &mut passes, 2)?;
-    let d = desk(alloc, &inbox, &mut passes, 3)?;
+    let a = open_desk(alloc, &inbox, &mut passes, 0)?;
+    let b = open_desk(alloc, &inbox, &mut passes, 1)?;
+    let c = open_desk(alloc, &inbox, &mut passes, 2)?;
+    let d = open_desk(alloc, &inbox, &mut passes, 3)?;
     let ((a, b), (c, d)) = four_at_once(rt, alloc, &inbox, (a, b), (c, d));
     let mut sums = Vec::from_elem(alloc, 0, 4 * JOBS as usize).ok()?;
     let refused = [
-        clear(&inbox, a, &mut passes, &mut sums)?,
-        clear(&inbox, b, &mut passes, &mut sums)?,
-        clear(&inbox, c, &mut passes, &mut sums)?,
-        clear(&inbox, d, &mut passes, &mut sums)?,
+        clear_desk(&inbox, a, &mut passes, &mut sums)?,
+        clear_desk(&inbox, b, &mut passes, &mut sums)?,
+        clear_desk(&inbox, c, &mut passes, &mut sums)?,
+        clear_desk(&inbox, d, &mut passes, &mut sums)?,
     ];
     let once = sums == Vec::from_elem(alloc, 1, 4 * JOBS as usize).ok()?;
     Some([refused != [false; 4], once, inbox.finish(passes).is_ok()])
