@@ -1,5 +1,5 @@
 -- Each move on an inbox keeps its rule.
-use Rattle.std.proofs.Common.{◌≡◌, ◌⊎◌, ⊎_elim, inl, inr, ℕ, zero, suc, ◌+◌, ◌<◌, ◌≤◌, List, [], ◌∷◌, ◌++◌, All, length, set, sum_by, take, drop, refl, sym, ap, ◌∙◌, subst, append_assoc, length-append, length-drop, length-take, arith}
+use Rattle.std.proofs.Common.{◌≡◌, ⊎_elim, inl, inr, ℕ, zero, suc, ◌+◌, ◌<◌, ◌≤◌, List, [], ◌∷◌, ◌++◌, All, length, set, sum_by, take, drop, refl, sym, ap, ◌∙◌, subst, append_assoc, length-append, length-drop, length-take, arith}
 use mathlib.Core.Option.{some, some-injective, some-ne-none}
 use lib.ListN.{get_elem?, replicate}
 use Rattle.std.proofs.lemmas.List.{length-replicate}
