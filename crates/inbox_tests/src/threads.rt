@@ -107,7 +107,9 @@ fn work<R: Wait>(rt: &R, alloc: Global, inbox: &Inbox, desk: Desk) -> Desk
         let (reached, pushed) = push_some(rt, alloc, inbox, pass, next, end);
         let (wanted, taken) = take_some(rt, inbox, pushed, left, &mut counts);
         pass = taken;
-        refused |= reached < end;
+        if reached < end {
+            refused = true;
+        }
         next = reached;
         left = wanted;
         if next == end && left == 0 {
@@ -182,7 +184,7 @@ fn open_desk(alloc: Global, inbox: &Inbox, passes: &mut Vec<InboxPass>, place: u
     Some(Desk {
         pass: passes.pop()?,
         first: place.saturating_mul(JOBS),
-        counts: Vec::from_elem(alloc, 0, 4 * JOBS as usize).ok()?,
+        counts: Vec::from_elem(alloc, 0u8, 4 * JOBS as usize).ok()?,
         refused: false,
     })
 }
@@ -220,14 +222,14 @@ fn runs<R: Threads + Wait + Sync>(rt: &R, alloc: Global) -> Option<[bool; 3]> {
     let c = open_desk(alloc, &inbox, &mut passes, 2)?;
     let d = open_desk(alloc, &inbox, &mut passes, 3)?;
     let ((a, b), (c, d)) = four_at_once(rt, alloc, &inbox, (a, b), (c, d));
-    let mut sums = Vec::from_elem(alloc, 0, 4 * JOBS as usize).ok()?;
+    let mut sums = Vec::from_elem(alloc, 0u8, 4 * JOBS as usize).ok()?;
     let refused = [
         clear_desk(&inbox, a, &mut passes, &mut sums)?,
         clear_desk(&inbox, b, &mut passes, &mut sums)?,
         clear_desk(&inbox, c, &mut passes, &mut sums)?,
         clear_desk(&inbox, d, &mut passes, &mut sums)?,
     ];
-    let once = sums == Vec::from_elem(alloc, 1, 4 * JOBS as usize).ok()?;
+    let once = sums == Vec::from_elem(alloc, 1u8, 4 * JOBS as usize).ok()?;
     Some([refused != [false; 4], once, inbox.finish(passes).is_ok()])
 }
 
