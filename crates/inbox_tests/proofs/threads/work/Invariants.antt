@@ -1,5 +1,5 @@
 use Rattle.job_inbox.specs.Inbox.{IsPassOf}
-use Rattle.inbox_tests.proofs.threads.take_one.Given as goal
+use Rattle.inbox_tests.proofs.threads.work.Given as goal
 
 abbrev pub invariant-loop : goal.invariant-loop
 invariant-loop g l = IsPassOf l.inbox l.pass
