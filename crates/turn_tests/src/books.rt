@@ -47,7 +47,7 @@ impl Turn<Book<MemoryArea>> for Asking {
     fn run(self, value: &mut Book<MemoryArea>) -> Outcome {
         a_turn_owes::<MemoryArea>();
         let from = Addr {
-            ip: self.who.session,
+            ip: 0x0A00_0101u32.wrapping_add(self.who.session),
             port: 3386,
         };
         value.take(from, &prepare(&self.octets), self.now, self.who)
