@@ -37,19 +37,20 @@ fn hear<L: Link>(link: &mut L, into: &mut [u8]) -> Option<(Addr, usize)>
 
 // Whether a datagram that one link sends is what the other hears, from this address.
 fn goes<L: Link + Send>(
+    alloc: Global,
     one: &mut L,
     other: &mut L,
     to: Addr,
     octets: &[u8],
     from: Addr,
-    into: &mut [u8],
-) -> bool
-    requires { 65507 ≤ length into.old }
-{
+) -> bool {
+    let Ok(mut into) = Vec::from_elem(alloc, 0, MOST_OCTETS) else {
+        return false;
+    };
     if one.send(to, octets).is_err() {
         return false;
     }
-    match hear(other, into) {
+    match hear(other, into.as_mut_slice()) {
         Some((who, length)) => who == from && length == octets.len() && into.starts_with(octets),
         None => false,
     }
@@ -58,43 +59,21 @@ fn goes<L: Link + Send>(
 // Datagrams of 0, 3 and 65,507 octets, and one by a link that was split: whether each is heard as it was sent.
 fn all_go<R: Net>(net: &R, alloc: Global) -> Option<[bool; 4]> {
     let mut links = UdpLinks::new(alloc, net);
-    let mut into = Vec::from_elem(alloc, 0, MOST_OCTETS).ok()?;
     let long = Vec::from_elem(alloc, 0x4E, MOST_OCTETS).ok()?;
     let mut one = link_at(&mut links, local(1))?;
     let mut other = link_at(&mut links, local(2))?;
-    let none = goes(
-        &mut one,
-        &mut other,
-        local(2),
-        &[],
-        local(1),
-        into.as_mut_slice(),
-    );
+    let none = goes(alloc, &mut one, &mut other, local(2), &[], local(1));
     let three = goes(
+        alloc,
         &mut one,
         &mut other,
         local(2),
         &[0x4E, 1, 0],
         local(1),
-        into.as_mut_slice(),
     );
-    let most = goes(
-        &mut other,
-        &mut one,
-        local(1),
-        &long,
-        local(2),
-        into.as_mut_slice(),
-    );
+    let most = goes(alloc, &mut other, &mut one, local(1), &long, local(2));
     let mut again = one.split().ok()?;
-    let by_split = goes(
-        &mut again,
-        &mut other,
-        local(2),
-        &[7],
-        local(1),
-        into.as_mut_slice(),
-    );
+    let by_split = goes(alloc, &mut again, &mut other, local(2), &[7], local(1));
     Some([none, three, most, by_split])
 }
 
@@ -107,7 +86,6 @@ fn a_datagram_of_any_length_is_heard_as_it_was_sent(rt: HostRuntime) -> Result<(
 // Sends to a port 0, to nobody, to the broadcast address and of an octet too many; and then one that is heard.
 fn lost<R: Net>(net: &R, alloc: Global) -> Option<[bool; 5]> {
     let mut links = UdpLinks::new(alloc, net);
-    let mut into = Vec::from_elem(alloc, 0, MOST_OCTETS).ok()?;
     let long = Vec::from_elem(alloc, 0, MOST_OCTETS + 1).ok()?;
     let mut one = link_at(&mut links, local(3))?;
     let mut other = link_at(&mut links, local(4))?;
@@ -123,14 +101,7 @@ fn lost<R: Net>(net: &R, alloc: Global) -> Option<[bool; 5]> {
     let nobody = one.send(local(99), &[1]).is_ok();
     let all = one.send(everybody, &[1]).is_ok();
     let too_long = one.send(local(4), &long).is_ok();
-    let then = goes(
-        &mut one,
-        &mut other,
-        local(4),
-        &[2],
-        local(3),
-        into.as_mut_slice(),
-    );
+    let then = goes(alloc, &mut one, &mut other, local(4), &[2], local(3));
     Some([nowhere, nobody, all, too_long, then])
 }
 
