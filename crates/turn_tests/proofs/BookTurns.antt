@@ -1,16 +1,14 @@
--- A datagram that was taken was a turn, also where there was no memory; and the passes of two sessions.
-use Rattle.std.proofs.Common.{◌≡◌, ◌≢◌, ℕ, Bool, List, [], ◌∷◌, ◌++◌, map, Option, refl, ap}
+-- A datagram that was taken was a turn, also where there was no memory; and the passes of a cell with a book.
+use Rattle.std.proofs.Common.{◌≡◌, ◌≢◌, ℕ, List, [], Option, refl, sym, subst}
 use Rattle.area_disk.specs.declared.area.Area.{Ghosts}
-use Rattle.gw_base.specs.Facts.{Facts}
 use Rattle.gw_base.specs.declared.history.HistoryEntry.{HistoryEntry}
-use Rattle.gateway_book.specs.Turning.{IsTurn}
+use Rattle.gateway_book.specs.Turning.{IsTurn, facts_of}
 use Rattle.gateway_book.specs.declared.book.Book.{Book}
 use Rattle.gateway_book.specs.declared.outcome.Outcome.{Outcome}
 use Rattle.gateway_book.specs.declared.outcome.Outcome.TheVariants.{Answer, Drop, NoMemory}
-use Rattle.turn_cell.specs.Cell.{knowledge, known_by}
-use Rattle.turn_cell.specs.Knowing.{newcomers}
+use Rattle.turn_cell.specs.Cell.{AreNew}
 use Rattle.turn_cell.specs.declared.cell.Pass.{Pass}
-use Rattle.turn_cell.specs.declared.knowing.Knowledge.{Knowledge}
+use Rattle.turn_cell.specs.declared.cell.TurnCell.{TurnCell}
 
 pub some_turn : {A : Type 0} {tells : Ghosts A} (old new : Book A tells) (session : Option ℕ) (result : Outcome)
     (told is_taken is_ready : Type 0) (added : List HistoryEntry)
@@ -25,20 +23,8 @@ some_turn old new session (Answer receipt) told is_taken is_ready added ready ta
 some_turn old new session (Drop why) told is_taken is_ready added ready take taken no_memory =
     (added, take (λ t. taken t (λ not. absurd (cc not))))
 
--- the passes of a cell that has two
-pub two_passes : (start : Facts) (rest : List Pass) (a b : Pass) → known_by ((rest ++ a ∷ []) ++ b ∷ []) ≡ newcomers start 2
-    → ((knowledge a).number ≡ 0) × ((knowledge b).number ≡ 1)
-two_passes start [] a b is =
-    let both : ◌≡◌ {A = List Knowledge} (knowledge a ∷ knowledge b ∷ []) (newcomers start 2) = is in
-    (ap number_first both, ap number_second both)
-  where
-    number_first : List Knowledge → ℕ
-    number_first [] = 0
-    number_first (k ∷ ks) = k.number
-
-    number_second : List Knowledge → ℕ
-    number_second [] = 0
-    number_second (k ∷ ks) = number_first ks
-two_passes start (x ∷ []) a b is = absurd (cc is)
-two_passes start (x ∷ y ∷ []) a b is = absurd (cc is)
-two_passes start (x ∷ y ∷ z ∷ rest) a b is = absurd (cc is)
+-- the passes of a cell that was made with a book
+pub begun_with : {A : Type 0} {tells : Ghosts A} (cell : TurnCell (Book A tells)) (begun book : Book A tells) (passes : List Pass) → begun ≡ book
+    → AreNew cell.table.shared.table_id (facts_of book) 2 passes → AreNew cell.table.shared.table_id (facts_of begun) 2 passes
+begun_with {A = A} {tells = tells} cell begun book passes is new =
+    subst (λ (v : Book A tells). AreNew cell.table.shared.table_id (facts_of v) 2 passes) (sym is) new

@@ -3,7 +3,7 @@ ghost use Rattle.std.specs.Prelude.{◌≡◌, IfSome};
 ghost use Rattle.turn_cell.specs.Cell.{ArePassesOf, AreNew, IsPassOf, begun, knowledge};
 ghost use Rattle.gateway_book.specs.Turning.{facts_of};
 
-use area_disk::{MemoryArea, Plan};
+use area_disk::{Area, MemoryArea, Plan};
 use gateway_book::laws::a_turn_owes;
 use gateway_book::{Book, Outcome, Receipt, Settled, Setup, prepare};
 use gw_base::{Addr, Caller, Item, Moment};
@@ -34,7 +34,7 @@ struct Asking {
     octets: [u8; 22],
 }
 
-impl Turn<Book<MemoryArea>> for Asking {
+impl<A: Area> Turn<Book<A>> for Asking {
     ghost use Rattle.std.specs.Prelude.{Some};
     ghost use Rattle.gateway_book.specs.Caller.{IsCounted};
 
@@ -44,8 +44,8 @@ impl Turn<Book<MemoryArea>> for Asking {
 
     ghost does = { λ turn found left answer drops added. IsCounted left answer };
 
-    fn run(self, value: &mut Book<MemoryArea>) -> Outcome {
-        a_turn_owes::<MemoryArea>();
+    fn run(self, value: &mut Book<A>) -> Outcome {
+        a_turn_owes::<A>();
         let from = Addr {
             ip: 0x0A00_0101u32.wrapping_add(self.who.session),
             port: 3386,
@@ -61,7 +61,7 @@ struct Committing {
     faults: u64,
 }
 
-impl Turn<Book<MemoryArea>> for Committing {
+impl<A: Area> Turn<Book<A>> for Committing {
     ghost use Rattle.std.specs.Prelude.{◌≡◌, None};
     ghost use Rattle.cgf_journal.specs.Trail.{firm_length};
     ghost use Rattle.gateway_book.specs.Calls.{settled_by};
@@ -73,8 +73,8 @@ impl Turn<Book<MemoryArea>> for Committing {
     ghost does = { λ turn found left answer drops added.
         answer ≡ settled_by left.cuts (firm_length left.trail) turn.front turn.faults };
 
-    fn run(self, value: &mut Book<MemoryArea>) -> Settled {
-        a_turn_owes::<MemoryArea>();
+    fn run(self, value: &mut Book<A>) -> Settled {
+        a_turn_owes::<A>();
         let _committed = value.commit();
         value.settled(self.front, self.faults)
     }
@@ -144,7 +144,7 @@ fn send<R: Wait>(rt: &R, cell: &Cell, pass: Pass, who: Caller, now: Moment, told
     };
     let (settled, pass) = settle(rt, cell, pass, &receipt);
     match settled {
-        Settled::Firm => told.firm |= 1u64.wrapping_shl(who.serial as u32),
+        Settled::Firm => told.firm |= 1u64.wrapping_shl((who.serial % 64) as u32),
         _ => told.lost = told.lost.wrapping_add(1),
     }
     pass
@@ -243,6 +243,28 @@ fn filed(items: &[Item], session: u8) -> (u64, bool) {
     (found, twice)
 }
 
+// A cell with a book, and the passes of two sessions, the first one first.
+fn made(alloc: Global, book: Book<MemoryArea>) -> Option<(Cell, Pass, Pass, Vec<Pass>)>
+    ensures a { IfSome result (λ made. IsPassOf made.0 made.1 × ((knowledge made.1).number ≡ 0)) }
+    ensures b { IfSome result (λ made. IsPassOf made.0 made.2 × ((knowledge made.2).number ≡ 1)) }
+    ensures rest { IfSome result (λ made. ArePassesOf made.0 made.3.items) }
+{
+    let Ok((cell, passes)) = TurnCell::new(alloc, book, 2) else {
+        return None;
+    };
+    let (a, b, passes) = both(&cell, passes)?;
+    Some((cell, a, b, passes))
+}
+
+// Gives a pass back.
+fn back(cell: &Cell, mut passes: Vec<Pass>, pass: Pass) -> Option<Vec<Pass>>
+    requires { ArePassesOf cell.now passes.items × IsPassOf cell.now pass }
+    ensures { IfSome result (λ all. ArePassesOf cell.now all.items) }
+{
+    passes.push(pass).ok()?;
+    Some(passes)
+}
+
 // What was told of the requests of both sessions, and the book as they left it.
 fn shared<R: Threads + Wait + Sync>(
     rt: &R,
@@ -250,11 +272,10 @@ fn shared<R: Threads + Wait + Sync>(
 ) -> Option<(Told, Told, Book<MemoryArea>)> {
     let now = Moment::of(1_709_164_800)?;
     let book = opened(alloc)?;
-    let (cell, passes) = TurnCell::new(alloc, book, 2).ok()?;
-    let (a, b, mut passes) = both(&cell, passes)?;
+    let (cell, a, b, passes) = made(alloc, book)?;
     let (one, two, a, b) = two_at_once(rt, &cell, a, b, now);
-    passes.push(a).ok()?;
-    passes.push(b).ok()?;
+    let passes = back(&cell, passes, a)?;
+    let passes = back(&cell, passes, b)?;
     let book = cell.finish(passes).ok()?;
     Some((one, two, book))
 }

@@ -1,4 +1,4 @@
-use Rattle.std.proofs.Common.{◌×◌, List, Some}
+use Rattle.std.proofs.Common.{Some}
 use Rattle.gateway_book.specs.Book.{fortune_of, value_of}
 use Rattle.gateway_book.specs.Turning.{drops_of}
 use Rattle.turn_tests.proofs.BookTurns.{some_turn}
