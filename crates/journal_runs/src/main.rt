@@ -39,9 +39,13 @@ fn tell(rt: &HostRuntime, group: &str) -> io::Result<()> {
     };
     println!(rt; "{NAME}{name}")?;
     let mut scene = Scene::new();
+    tell_lines(rt, &mut scene, lines)
+}
+
+fn tell_lines(rt: &HostRuntime, scene: &mut Scene, lines: &str) -> io::Result<()> {
     for line in lines.lines() {
         print!(rt; "{line} => ")?;
-        answer(rt, &mut scene, line)?;
+        answer(rt, scene, line)?;
         println!(rt; "")?;
     }
     Ok(())

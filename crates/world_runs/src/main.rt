@@ -39,9 +39,18 @@ fn tell(rt: &HostRuntime, group: &str) -> io::Result<()> {
     println!(rt; "{NAME}{name}")?;
     let mut node = None;
     let mut world = None;
+    tell_lines(rt, &mut node, &mut world, lines)
+}
+
+fn tell_lines(
+    rt: &HostRuntime,
+    node: &mut Option<Logged>,
+    world: &mut Option<World>,
+    lines: &str,
+) -> io::Result<()> {
     for line in lines.lines() {
         print!(rt; "{line} => ")?;
-        answer(rt, &mut node, &mut world, line)?;
+        answer(rt, node, world, line)?;
         println!(rt; "")?;
     }
     Ok(())
@@ -59,11 +68,24 @@ fn answer(
         "serving" => nodes::serving(rt, node, words),
         "world" => worlds::begin(rt, world, words),
         "addresses" => worlds::addresses(rt),
-        _ => match (node, world) {
-            (Some(node), _) => answer_of_node(rt, node, form, words),
-            (_, Some(world)) => worlds::answer(rt, world, form, words),
-            _ => Err(bad()),
-        },
+        _ => answer_further(rt, node, world, form, words),
+    }
+}
+
+/// Prints what a line on whichever there is, a node or a world, is answered.
+fn answer_further(
+    rt: &HostRuntime,
+    node: &mut Option<Logged>,
+    world: &mut Option<World>,
+    form: &str,
+    words: &str,
+) -> io::Result<()> {
+    if let Some(node) = node {
+        return answer_of_node(rt, node, form, words);
+    }
+    match world {
+        Some(world) => worlds::answer(rt, world, form, words),
+        None => Err(bad()),
     }
 }
 
