@@ -84,7 +84,7 @@ fn answer_further(rt: &HostRuntime, scene: &mut Scene, form: &str, words: &str) 
         "shelf" => shelves::begin(rt, &mut scene.shelf),
         "files" => shelves::write_files(rt, &mut scene.shelf),
         "begin" => shelves::begin_file(rt, &mut scene.shelf),
-        "halves" => shelves::halves(rt, &mut scene.shelf, words),
+        "halves" => shelves::halves(rt, &mut scene.shelf),
         "file" => shelves::file(rt, &scene.shelf, words),
         "sealed" => shelves::sealed(rt, &mut scene.shelf, words),
         "bench" => shelves::tell(rt, &mut scene.shelf, words),

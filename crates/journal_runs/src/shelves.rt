@@ -4,8 +4,8 @@
 //! - `files`: writes the first two files of stream 3 that aren't sealed, in six counted calls each: the six octets of a
 //!   file end with that of its sequence number. What comes of it.
 //! - `begin`: what comes of the beginning of the first file, which isn't sealed.
-//! - `halves OUTCOME`: a shelf on which a file was written, and another written and synced, when it was stopped between
-//!   two calls. It is revived, and both are sealed.
+//! - `halves`: a shelf on which a file was written, and another written and synced, when it was stopped between two
+//!   calls, and left rot. It is revived, and both are sealed.
 //! - `file STREAM SEQUENCE`: the octets of a sealed file. `sealed STREAM`: the greatest sequence number of one.
 //! - `bench calls`, `bench stopped`: what it says. `bench revive`: revives it.
 //! - `quiet`: on a shelf that never fails, a file that is sealed before it is synced, and after; the other file of the
@@ -14,7 +14,7 @@
 ghost use Rattle.std.specs.Prelude.{IsTrue};
 ghost use Rattle.cdr_shelf.specs.Files.{IsFresh};
 
-use crate::plans::{no_plan, outcome_of};
+use crate::plans::no_plan;
 use crate::words::{bad, first_word, number};
 use area_disk::{Drill, Outcome3};
 use cdr_shelf::{FileName, MemoryShelf, QuietShelf, Shelf, ShelfStop};
@@ -87,7 +87,7 @@ pub(crate) fn begin_file(rt: &HostRuntime, shelf: &mut Option<MemoryShelf>) -> i
 }
 
 /// A shelf that was stopped between two calls, and whose files are sealed after it.
-fn stopped_between(alloc: Global, outcome: Outcome3) -> Result<MemoryShelf, ShelfStop> {
+fn stopped_between(alloc: Global) -> Result<MemoryShelf, ShelfStop> {
     let Ok(mut shelf) = MemoryShelf::new(alloc, no_plan(alloc)) else {
         return Err(ShelfStop::NoMemory);
     };
@@ -96,19 +96,15 @@ fn stopped_between(alloc: Global, outcome: Outcome3) -> Result<MemoryShelf, Shel
     shelf.begin(OTHER)?;
     shelf.write_at(200, 0, &[3])?;
     shelf.sync(200)?;
-    shelf.stop(outcome);
+    shelf.stop(Outcome3::Rot);
     shelf.revive();
     shelf.seal(3)?;
     shelf.seal(200)?;
     Ok(shelf)
 }
 
-pub(crate) fn halves(
-    rt: &HostRuntime,
-    shelf: &mut Option<MemoryShelf>,
-    words: &str,
-) -> io::Result<()> {
-    let Ok(made) = stopped_between(rt.alloc(), outcome_of(words)?) else {
+pub(crate) fn halves(rt: &HostRuntime, shelf: &mut Option<MemoryShelf>) -> io::Result<()> {
+    let Ok(made) = stopped_between(rt.alloc()) else {
         return Err(bad());
     };
     *shelf = Some(made);
