@@ -151,23 +151,30 @@ fn one_cdr_file(
     Ok(file)
 }
 
-/// The moment and the offset from UTC in minutes that a line begins with, and the words behind them.
-fn filed_of(words: &str) -> io::Result<(Moment, Offset16, &str)> {
+/// The moment and the offset from UTC in minutes that a line begins with.
+fn filed_of(words: &str) -> io::Result<(Moment, Offset16)> {
     let (seconds, words) = first_word(words);
-    let (minutes, words) = first_word(words);
+    let (minutes, _) = first_word(words);
     let filed = moment(seconds)?;
     let Ok(minutes) = minutes.parse::<i16>() else {
         return Err(bad());
     };
     match Offset16::of(minutes) {
-        Some(offset) => Ok((filed, offset, words)),
+        Some(offset) => Ok((filed, offset)),
         None => Err(bad()),
     }
 }
 
+/// The words behind them.
+fn behind_filed(words: &str) -> &str {
+    let (_, words) = first_word(words);
+    let (_, words) = first_word(words);
+    words
+}
+
 pub(crate) fn stamped(rt: &HostRuntime, words: &str) -> io::Result<()> {
     timestamps_by_definition();
-    let (filed, offset, _) = filed_of(words)?;
+    let (filed, offset) = filed_of(words)?;
     print_octets(rt, &stamp(filed, offset).to_be_bytes())
 }
 
@@ -203,7 +210,8 @@ fn print_header(
 
 pub(crate) fn file(rt: &HostRuntime, words: &str) -> io::Result<()> {
     one_cdr_by_definition();
-    let (filed, offset, words) = filed_of(words)?;
+    let (filed, offset) = filed_of(words)?;
+    let words = behind_filed(words);
     let (address, record) = next(words, 4_294_967_295)?;
     let address = address as u32;
     let record = octets(rt.alloc(), record)?;
@@ -224,7 +232,8 @@ pub(crate) fn file(rt: &HostRuntime, words: &str) -> io::Result<()> {
 }
 
 pub(crate) fn file_of_profile_2(rt: &HostRuntime, words: &str) -> io::Result<()> {
-    let (filed, offset, words) = filed_of(words)?;
+    let (filed, offset) = filed_of(words)?;
+    let words = behind_filed(words);
     let (address, words) = next(words, 4_294_967_295)?;
     let version = number(words, 65_535)? as u16;
     let kind = FiledKind::of(cdr_kind(1, version), 2);
@@ -354,7 +363,8 @@ fn print_lines(rt: &HostRuntime, text: &[u8]) -> io::Result<()> {
 }
 
 pub(crate) fn long(rt: &HostRuntime, words: &str) -> io::Result<()> {
-    let (filed, offset, words) = filed_of(words)?;
+    let (filed, offset) = filed_of(words)?;
+    let words = behind_filed(words);
     let length = number(words, 65_535)? as usize;
     let record = vec![in rt.alloc(); 0x5A_u8; length]?;
     let kind = CdrKind {
@@ -368,14 +378,14 @@ pub(crate) fn long(rt: &HostRuntime, words: &str) -> io::Result<()> {
 }
 
 /// Prints what is read of a file, and whether its records are this one.
-fn print_long(rt: &HostRuntime, file: &[u8], record: &[u8]) -> io::Result<()> {
+fn print_long(rt: &HostRuntime, file: &[u8], wanted: &[u8]) -> io::Result<()> {
     let Ok(found) = read(rt.alloc(), file) else {
         return Err(bad());
     };
     let opened = found.header.opened;
     print!(rt; "{} octets, opened {opened:08X}", found.header.length)?;
     for cdr in found.cdrs.cdrs() {
-        let is_same = cdr.octets.octets() == record;
+        let is_same = cdr.octets.octets() == wanted;
         print!(rt; ", {} octets, the same: {is_same}", cdr.header.length)?;
     }
     Ok(())
