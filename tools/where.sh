@@ -424,7 +424,7 @@ tried() {
     for hop in 1 2 3; do
         [ -z "$tests" ] || break
         helpers=$(awk -F'\t' '
-            $1 != "test" && $2 ~ /^crates\/(replay_)?trials\/|tests\.rt$/ && $5 !~ /::/' <<<"$hits")
+            $1 != "test" && $2 ~ /^crates\/(replay_|world_)?trials\/|tests\.rt$/ && $5 !~ /::/' <<<"$hits")
         [ -n "$helpers" ] || break
         hits=$(enclosing "[^A-Za-z0-9_.]($(cut -f 5 <<<"$helpers" | sort -u | paste -sd '|'))[(]" \
             " $(cut -d / -f 2 <<<"$helpers" | sort -u | paste -sd ' ') " "" "" "$helpers" <<<"$all" |
@@ -460,7 +460,7 @@ tried() {
 }
 
 # The programs whose lines call lower crates.
-line_programs="layer_runs journal_runs world_runs"
+line_programs="layer_runs journal_runs"
 
 # The groups of lines of these programs that call one of these functions, each with its first such line.
 asking() {

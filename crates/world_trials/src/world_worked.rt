@@ -1,4 +1,4 @@
-//! Worked values, computed by the definitions. Each function below does nothing: its contract is what is computed.
+// Worked values, computed by the definitions. Each function below does nothing: its contract is what is computed.
 ghost use Rattle.std.specs.Prelude.{◌≡◌, true, false, [], ◌∷◌, length};
 ghost use Rattle.once_core.specs.Worked.{after, after_turns, answer_lost, copy_late, entries, octets_sent, opened_by_a_copy, packets, started_again};
 ghost use Rattle.once_core.specs.declared.event.Event.TheVariants.{Tick};
@@ -38,8 +38,8 @@ fn an_opening_again_comes_first()
     ensures packets { packets (after_turns 1 opened_by_a_copy) ≡ (false, 0) ∷ [] }
 {}
 
-/// Calls each of them.
-pub(crate) fn worked_values() {
+#[test]
+fn worked_values_are_as_computed() {
     a_tick_asks_who_is_alive();
     a_lost_answer_files_once();
     a_late_copy_files_once();

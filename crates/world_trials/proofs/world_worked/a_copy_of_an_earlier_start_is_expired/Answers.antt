@@ -2,7 +2,7 @@ use Rattle.std.proofs.Common.{refl}
 use Rattle.gtpp_elements.specs.Reading.{elements_left}
 use Rattle.ber_frame.specs.Checked.{checked, inner_values_at, value_at}
 use Rattle.ber_frame.specs.Reading.{groups_at, head_at, identifier_at, length_at, long_length, octets_number}
-use Rattle.world_runs.proofs.world_worked.a_late_copy_files_once.Goals as goal
+use Rattle.world_trials.proofs.world_worked.a_copy_of_an_earlier_start_is_expired.Goals as goal
 
 pub returns-clause-entries : goal.returns-clause-entries
 unfolding elements_left checked inner_values_at value_at groups_at head_at identifier_at length_at long_length octets_number

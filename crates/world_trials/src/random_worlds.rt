@@ -10,7 +10,7 @@ use std::alloc::Global;
 use std::process::Abort;
 use std::test::Fail;
 
-/// The seeds of the worlds, and how many events each has. `world.sh` puts others here.
+/// The seeds of the worlds, and how many events each has. `bench/world.sh` takes others.
 const SEEDS: [u64; 3] = [26, 163, 124];
 
 const EVENTS: u64 = 300;
