@@ -409,7 +409,7 @@ enclosing() {
         }' -
 }
 
-# The tests that name a word, or else call a helper that does, the lines of layer_runs that call it, the stories and
+# The tests that name a word, or else call a helper that does, the lines of a program that call it, the stories and
 # lines that print it, and the edits that change a line of one of these bodies.
 tried() {
     local all=$1 bodies=$2 word=$3 text=$4 crates=$5 type=$6 hits=$7 tests helpers hop lines
@@ -424,7 +424,7 @@ tried() {
     for hop in 1 2 3; do
         [ -z "$tests" ] || break
         helpers=$(awk -F'\t' '
-            $1 != "test" && $2 ~ /^crates\/(journal_tests|(replay_|world_)?trials)\/|tests\.rt$/ && $5 !~ /::/' <<<"$hits")
+            $1 != "test" && $2 ~ /^crates\/(replay_|world_)?trials\/|tests\.rt$/ && $5 !~ /::/' <<<"$hits")
         [ -n "$helpers" ] || break
         hits=$(enclosing "[^A-Za-z0-9_.]($(cut -f 5 <<<"$helpers" | sort -u | paste -sd '|'))[(]" \
             " $(cut -d / -f 2 <<<"$helpers" | sort -u | paste -sd ' ') " "" "" "$helpers" <<<"$all" |
@@ -459,26 +459,36 @@ tried() {
     } | sort -u)"
 }
 
-# The groups of lines of layer_runs that call one of these functions, each with its first such line: the functions of
-# that crate among them, or what calls these there, and the forms of lines that main has for them.
+# The programs whose lines call lower crates.
+line_programs="layer_runs journal_runs"
+
+# The groups of lines of these programs that call one of these functions, each with its first such line.
 asking() {
-    local asked more forms hop
-    asked=$(awk -F'\t' '$2 ~ /^crates\/layer_runs\// { print }' <<<"$1")
+    local program
+    for program in $line_programs; do
+        asking_of "$program" "$1" "$2"
+    done
+}
+
+# Those of one program: its functions among them, or what calls these there, and the forms of lines that it has for them.
+asking_of() {
+    local program=$1 asked more forms hop
+    asked=$(awk -F'\t' -v at="crates/$program/" 'index($2, at) == 1 { print }' <<<"$2")
     for hop in 1 2; do
         [ -n "$asked" ] || return 0
         forms=$(awk -F'\t' '{ n = split($5, parts, "::"); print parts[n] }' <<<"$asked" | sort -u | while read -r name; do
-            sed -nE "s/^ *\"([a-z-]+)\" => ([a-z]+::|scene\.)$name\(.*/\1/p" crates/layer_runs/src/main.rt
+            cat crates/"$program"/src/*.rt | sed -nE "s/^ *\"([a-z-]+)\" => ([a-z]+::|scene\.)?$name\(.*/\1/p"
         done)
         [ -z "$forms" ] || break
-        asked=$(enclosing "[^A-Za-z0-9_.]($(cut -f 5 <<<"$asked" | sort -u | paste -sd '|'))[(]" " layer_runs " "" "" \
-            "$asked" <<<"$2")
+        asked=$(enclosing "[^A-Za-z0-9_.]($(cut -f 5 <<<"$asked" | sort -u | paste -sd '|'))[(]" " $program " "" "" \
+            "$asked" <<<"$3")
     done
     [ -n "$forms" ] || return 0
     awk -v forms="$(paste -sd ' ' <<<"$forms")" '
         /^== / { name = substr($0, 4); next }
         index(" " forms " ", " " $1 " ") && / => / && !(name in told) {
             told[name] = 1; print FILENAME ":" FNR ": " name
-        }' crates/layer_runs/stdout
+        }' crates/"$program"/stdout
 }
 
 # The stories and the groups of lines in which a word is printed, each with the first line that has it.
@@ -487,7 +497,7 @@ printing() {
         /^== / { name = substr($0, 4); next }
         match(" " $0 " ", "[^A-Za-z0-9_]" word "[^A-Za-z0-9_]") && !((FILENAME, name) in told) {
             told[FILENAME, name] = 1; print FILENAME ":" FNR ": " name
-        }' crates/story_runs/stdout crates/layer_runs/stdout
+        }' crates/story_runs/stdout $(printf 'crates/%s/stdout ' $line_programs)
 }
 
 # The lines of pages that have a name between backquotes.

@@ -14,13 +14,14 @@
 
 ghost use Rattle.std.specs.Prelude.{◌≡◌, ◌<◌, ◌≤◌, ◌∷◌, [], None, Some, length, pos, negsuc, IfOk};
 ghost use Rattle.cdr_file.specs.CdrFile.{file_octets};
-ghost use Rattle.cdr_file.specs.Profile.{in_profile};
+ghost use Rattle.cdr_file.specs.FileHeader.{IsFileHeader};
+ghost use Rattle.cdr_file.specs.Profile.{IsFiledKind, in_profile};
 ghost use Rattle.cdr_file.specs.Timestamp.{stamp_of};
 
-use crate::words::{bad, first_word, no_memory, number, octets, print_octets};
+use crate::words::{bad, first_word, moment, next, no_memory, number, octets, print_octets};
 use byteorder::{BigEndian, ByteOrder};
 use cdr_file::{
-    CdrFile, CdrHeader, ClosureReason, FileHeader, FiledKind, Offset16, RunFacts, StampFields,
+    Cdr, CdrFile, CdrHeader, ClosureReason, FileHeader, FiledKind, Offset16, RunFacts, StampFields,
     cdr_header_length, cdr_line, head_lines, node_address, read, run_header, stamp, write_cdr,
     write_header,
 };
@@ -150,22 +151,31 @@ fn one_cdr_file(
     Ok(file)
 }
 
-fn moment_of(word: &str) -> io::Result<Moment> {
-    Moment::of(number(word, u64::MAX)?).ok_or(bad())
+/// The moment and the offset from UTC in minutes that a line begins with.
+fn filed_of(words: &str) -> io::Result<(Moment, Offset16)> {
+    let (seconds, words) = first_word(words);
+    let (minutes, _) = first_word(words);
+    let filed = moment(seconds)?;
+    let Ok(minutes) = minutes.parse::<i16>() else {
+        return Err(bad());
+    };
+    match Offset16::of(minutes) {
+        Some(offset) => Ok((filed, offset)),
+        None => Err(bad()),
+    }
 }
 
-/// An offset from UTC in minutes.
-fn offset_of(word: &str) -> io::Result<Offset16> {
-    let minutes = word.parse::<i16>().map_err(|_| bad())?;
-    Offset16::of(minutes).ok_or(bad())
+/// The words behind them.
+fn behind_filed(words: &str) -> &str {
+    let (_, words) = first_word(words);
+    let (_, words) = first_word(words);
+    words
 }
 
 pub(crate) fn stamped(rt: &HostRuntime, words: &str) -> io::Result<()> {
     timestamps_by_definition();
-    let (seconds, minutes) = first_word(words);
-    let moment = moment_of(seconds)?;
-    let offset = offset_of(minutes)?;
-    print_octets(rt, &stamp(moment, offset).to_be_bytes())
+    let (filed, offset) = filed_of(words)?;
+    print_octets(rt, &stamp(filed, offset).to_be_bytes())
 }
 
 pub(crate) fn fields(rt: &HostRuntime, words: &str) -> io::Result<()> {
@@ -176,14 +186,34 @@ pub(crate) fn fields(rt: &HostRuntime, words: &str) -> io::Result<()> {
     print!(rt; "{:?}", StampFields::of(BigEndian::read_u32(&octets)))
 }
 
+/// Prints the header of the file of one record, which was filed then and which an operator closed.
+fn print_header(
+    rt: &HostRuntime,
+    kind: FiledKind,
+    length: u16,
+    filed: Moment,
+    offset: Offset16,
+    address: u32,
+) -> io::Result<()>
+    requires { IsFiledKind kind }
+{
+    let run = RunFacts {
+        kind,
+        opened: filed,
+        appended: filed,
+        count: 1,
+        octets: u64::from(cdr_header_length(kind)) + u64::from(length),
+    };
+    let header = run_header(run, 1, ClosureReason::Manual, offset, address);
+    print_octets(rt, header.octets())
+}
+
 pub(crate) fn file(rt: &HostRuntime, words: &str) -> io::Result<()> {
     one_cdr_by_definition();
-    let (seconds, words) = first_word(words);
-    let (minutes, words) = first_word(words);
-    let filed = moment_of(seconds)?;
-    let offset = offset_of(minutes)?;
-    let (address, record) = first_word(words);
-    let address = number(address, 4_294_967_295)? as u32;
+    let (filed, offset) = filed_of(words)?;
+    let words = behind_filed(words);
+    let (address, record) = next(words, 4_294_967_295)?;
+    let address = address as u32;
     let record = octets(rt.alloc(), record)?;
     if record.len() > 65_535 {
         return Err(bad());
@@ -194,39 +224,20 @@ pub(crate) fn file(rt: &HostRuntime, words: &str) -> io::Result<()> {
         format: 1,
         extension: 0,
     };
-    let gateway = GatewayId(address);
-    let file = one_cdr_file(rt.alloc(), kind, &record, filed, offset, gateway)?;
+    let file = one_cdr_file(rt.alloc(), kind, &record, filed, offset, GatewayId(address))?;
     print_octets(rt, &file)?;
     print!(rt; ", ")?;
-    let run = RunFacts {
-        kind: FiledKind::of(kind, 1),
-        opened: filed,
-        appended: filed,
-        count: 1,
-        octets: record.len() as u64 + 4,
-    };
-    let header = run_header(run, 1, ClosureReason::Manual, offset, address);
-    print_octets(rt, header.octets())
+    let length = record.len() as u16;
+    print_header(rt, FiledKind::of(kind, 1), length, filed, offset, address)
 }
 
 pub(crate) fn file_of_profile_2(rt: &HostRuntime, words: &str) -> io::Result<()> {
-    let (seconds, words) = first_word(words);
-    let (minutes, words) = first_word(words);
-    let filed = moment_of(seconds)?;
-    let offset = offset_of(minutes)?;
-    let (address, version) = first_word(words);
-    let address = number(address, 4_294_967_295)? as u32;
-    let version = number(version, 65_535)? as u16;
+    let (filed, offset) = filed_of(words)?;
+    let words = behind_filed(words);
+    let (address, words) = next(words, 4_294_967_295)?;
+    let version = number(words, 65_535)? as u16;
     let kind = FiledKind::of(cdr_kind(1, version), 2);
-    let run = RunFacts {
-        kind,
-        opened: filed,
-        appended: filed,
-        count: 1,
-        octets: u64::from(cdr_header_length(kind)) + 5,
-    };
-    let header = run_header(run, 1, ClosureReason::Manual, offset, address);
-    print_octets(rt, header.octets())?;
+    print_header(rt, kind, 5, filed, offset, address as u32)?;
     print!(rt; ", ")?;
     let header = write_cdr(CdrHeader {
         length: 5,
@@ -239,65 +250,80 @@ pub(crate) fn file_of_profile_2(rt: &HostRuntime, words: &str) -> io::Result<()>
     print_octets(rt, header.octets())
 }
 
-/// The number that the next word says, and the words behind it.
-fn next(words: &str, most: u64) -> io::Result<(u64, &str)>
-    ensures { IfOk result (λ next. next.0 ≤ most) }
+/// A release and a version, and the words behind them.
+fn release_of(words: &str) -> io::Result<(u8, u8, &str)>
+    ensures { IfOk result (λ said. (said.0 < 8) × (said.1 < 32)) }
 {
-    let (word, words) = first_word(words);
-    Ok((number(word, most)?, words))
+    let (release, words) = next(words, 7)?;
+    let (version, words) = next(words, 31)?;
+    Ok((release as u8, version as u8, words))
 }
 
-pub(crate) fn file_head(rt: &HostRuntime, words: &str) -> io::Result<()> {
+/// A header by the words of a line, but for what is told in octets, and the words behind it.
+fn header_of(words: &str) -> io::Result<(FileHeader, &str)>
+    ensures { IfOk result (λ said. IsFileHeader said.0) }
+{
     let (length, words) = next(words, 4_294_967_295)?;
     let (header_length, words) = next(words, 4_294_967_295)?;
-    let (high_release, words) = next(words, 7)?;
-    let (high_version, words) = next(words, 31)?;
-    let (low_release, words) = next(words, 7)?;
-    let (low_version, words) = next(words, 31)?;
+    let (high_release, high_version, words) = release_of(words)?;
+    let (low_release, low_version, words) = release_of(words)?;
     let (reason, words) = next(words, 255)?;
     let (lost, words) = next(words, 255)?;
-    let rest = octets(rt.alloc(), words)?;
-    if rest.len() != 36 {
-        return Err(bad());
-    }
-    let mut address = [0; 20];
-    address.copy_from_slice(&rest[16..]);
     let header = FileHeader {
         length: length as u32,
         header_length: header_length as u32,
-        high_release: high_release as u8,
-        high_version: high_version as u8,
-        low_release: low_release as u8,
-        low_version: low_version as u8,
-        opened: BigEndian::read_u32(&rest),
-        appended: BigEndian::read_u32(&rest[4..]),
-        count: BigEndian::read_u32(&rest[8..]),
-        sequence: BigEndian::read_u32(&rest[12..]),
+        high_release,
+        high_version,
+        low_release,
+        low_version,
+        opened: 0,
+        appended: 0,
+        count: 0,
+        sequence: 0,
         reason: reason as u8,
-        address,
+        address: [0; 20],
         lost: lost as u8,
         high_extension: None,
         low_extension: None,
     };
-    let octets = write_header(&header);
-    print_octets(rt, octets.octets())
+    Ok((header, words))
+}
+
+/// Prints the octets of a header with these octets of what has no word.
+fn print_head(rt: &HostRuntime, mut header: FileHeader, rest: &[u8]) -> io::Result<()>
+    requires { IsFileHeader header }
+{
+    if rest.len() != 36 {
+        return Err(bad());
+    }
+    header.opened = BigEndian::read_u32(rest);
+    header.appended = BigEndian::read_u32(&rest[4..]);
+    header.count = BigEndian::read_u32(&rest[8..]);
+    header.sequence = BigEndian::read_u32(&rest[12..]);
+    header.address.copy_from_slice(&rest[16..]);
+    print_octets(rt, write_header(&header).octets())
+}
+
+pub(crate) fn file_head(rt: &HostRuntime, words: &str) -> io::Result<()> {
+    let (header, words) = header_of(words)?;
+    let rest = octets(rt.alloc(), words)?;
+    print_head(rt, header, &rest)
 }
 
 pub(crate) fn cdr_head(rt: &HostRuntime, words: &str) -> io::Result<()> {
     let (length, words) = next(words, 65_535)?;
-    let (release, words) = next(words, 7)?;
-    let (version, words) = next(words, 31)?;
+    let (release, version, words) = release_of(words)?;
     let (format, words) = next(words, 7)?;
+    let ts = number(words, 31)?;
     let header = CdrHeader {
         length: length as u16,
-        release: release as u8,
-        version: version as u8,
+        release,
+        version,
         format: format as u8,
-        ts: number(words, 31)? as u8,
+        ts: ts as u8,
         extension: None,
     };
-    let octets = write_cdr(header);
-    print_octets(rt, octets.octets())
+    print_octets(rt, write_cdr(header).octets())
 }
 
 pub(crate) fn listed(rt: &HostRuntime, words: &str) -> io::Result<()> {
@@ -310,15 +336,22 @@ pub(crate) fn listed(rt: &HostRuntime, words: &str) -> io::Result<()> {
 
 /// Prints what is listed of a file's head, and of each of its CDRs.
 fn print_parts(rt: &HostRuntime, file: &CdrFile) -> io::Result<()> {
-    print_lines(rt, &head_lines(rt.alloc(), file).map_err(|_| no_memory())?)?;
+    match head_lines(rt.alloc(), file) {
+        Ok(lines) => print_lines(rt, &lines)?,
+        Err(_) => return Err(no_memory()),
+    }
     for (number, cdr) in (1..).zip(file.cdrs.cdrs()) {
-        print!(rt; ", ")?;
-        print_lines(
-            rt,
-            &cdr_line(rt.alloc(), number, cdr).map_err(|_| no_memory())?,
-        )?;
+        print_cdr(rt, number, cdr)?;
     }
     Ok(())
+}
+
+fn print_cdr(rt: &HostRuntime, number: u64, cdr: &Cdr) -> io::Result<()> {
+    print!(rt; ", ")?;
+    match cdr_line(rt.alloc(), number, cdr) {
+        Ok(line) => print_lines(rt, &line),
+        Err(_) => Err(no_memory()),
+    }
 }
 
 /// Prints lines with each line feed as `\n`.
@@ -330,24 +363,29 @@ fn print_lines(rt: &HostRuntime, text: &[u8]) -> io::Result<()> {
 }
 
 pub(crate) fn long(rt: &HostRuntime, words: &str) -> io::Result<()> {
-    let (seconds, words) = first_word(words);
-    let (minutes, words) = first_word(words);
-    let filed = moment_of(seconds)?;
-    let offset = offset_of(minutes)?;
+    let (filed, offset) = filed_of(words)?;
+    let words = behind_filed(words);
     let length = number(words, 65_535)? as usize;
+    let record = vec![in rt.alloc(); 0x5A_u8; length]?;
     let kind = CdrKind {
         release: 7,
         version: 31,
         format: 7,
         extension: 0,
     };
-    let record = vec![in rt.alloc(); 0x5A_u8; length]?;
     let file = one_cdr_file(rt.alloc(), kind, &record, filed, offset, GatewayId(1))?;
-    let found = read(rt.alloc(), &file).map_err(|_| bad())?;
+    print_long(rt, &file, &record)
+}
+
+/// Prints what is read of a file, and whether its records are this one.
+fn print_long(rt: &HostRuntime, file: &[u8], wanted: &[u8]) -> io::Result<()> {
+    let Ok(found) = read(rt.alloc(), file) else {
+        return Err(bad());
+    };
     let opened = found.header.opened;
     print!(rt; "{} octets, opened {opened:08X}", found.header.length)?;
     for cdr in found.cdrs.cdrs() {
-        let is_same = cdr.octets.octets() == record.as_slice();
+        let is_same = cdr.octets.octets() == wanted;
         print!(rt; ", {} octets, the same: {is_same}", cdr.header.length)?;
     }
     Ok(())

@@ -16,17 +16,21 @@ ghost use Rattle.gtpp_message.specs.Writing.{body_octets};
 use crate::paths::event_of;
 use crate::words::{bad, first_word, octets, print_octets};
 use gtpp_message::{Message, Packet, Reading, Role, Transfer, read, read_as, write, write_short};
-use gw_base::Buffer;
+use gw_base::{Buffer, Full};
+use path_mgmt::PathEvent;
 use std::io;
 
 pub(crate) fn read_one(rt: &HostRuntime, words: &str) -> io::Result<()> {
     let (end, datagram) = words.split_once(' ').unwrap_or(("", words));
     let octets = octets(rt.alloc(), datagram)?;
-    let reading = match end {
-        "gateway" => read_as(Role::Gateway, &octets),
-        "node" => read_as(Role::Node, &octets),
-        _ => read(&octets),
-    };
+    match end {
+        "gateway" => tell(rt, &read_as(Role::Gateway, &octets)),
+        "node" => tell(rt, &read_as(Role::Node, &octets)),
+        _ => tell(rt, &read(&octets)),
+    }
+}
+
+fn tell(rt: &HostRuntime, reading: &Reading<'_>) -> io::Result<()> {
     match reading {
         Reading::Drop(why) => print!(rt; "{why:?}, {}", why.name()),
         _ => print!(rt; "{reading:?}"),
@@ -67,17 +71,22 @@ fn is_short(message: &Message<'_>) -> bool
 
 pub(crate) fn write_one(rt: &HostRuntime, buffer: &mut Buffer, words: &str) -> io::Result<()> {
     let octets = octets(rt.alloc(), words)?;
-    let Reading::Message { number, message } = read(&octets) else {
+    match written(&octets, buffer)? {
+        Ok(()) => print!(rt; "Ok, ")?,
+        Err(full) => print!(rt; "{full:?}, ")?,
+    }
+    print_octets(rt, buffer.octets())
+}
+
+/// Writes the message that octets are read as.
+fn written(octets: &[u8], buffer: &mut Buffer) -> io::Result<Result<(), Full>> {
+    let Reading::Message { number, message } = read(octets) else {
         return Err(bad());
     };
     if !is_short(&message) {
         return Err(bad());
     }
-    match write(number, &message, buffer) {
-        Ok(()) => print!(rt; "Ok, ")?,
-        Err(full) => print!(rt; "{full:?}, ")?,
-    }
-    print_octets(rt, buffer.octets())
+    Ok(write(number, &message, buffer))
 }
 
 pub(crate) fn short(rt: &HostRuntime, words: &str) -> io::Result<()> {
@@ -141,7 +150,13 @@ pub(crate) fn event(rt: &HostRuntime, words: &str) -> io::Result<()> {
 
 pub(crate) fn message(rt: &HostRuntime, words: &str) -> io::Result<()> {
     let (address, event) = first_word(words);
+    let event = event_of(event)?;
     let address = octets(rt.alloc(), address)?;
-    let (number, message) = Message::of_path(event_of(event)?, Some(&address));
+    tells(rt, event, &address)
+}
+
+/// Prints the message that tells an event, from this address.
+fn tells(rt: &HostRuntime, event: PathEvent, address: &[u8]) -> io::Result<()> {
+    let (number, message) = Message::of_path(event, Some(address));
     print!(rt; "{number}, {}, {message:?}", message.kind())
 }

@@ -4,9 +4,12 @@
 //! - `record FORMAT LENGTH AT`: the reasons before and behind a record of this format, length and moment.
 //! - `tick AT`, `close AT`: the same of a Tick and a Close.
 
-use crate::words::{bad, first_word, number};
+ghost use Rattle.std.specs.Prelude.{IfOk};
+ghost use Rattle.file_rotate.specs.Items.{AreLimits};
+
+use crate::words::{bad, moment, next, number};
 use file_rotate::{Cutter, Limits};
-use gw_base::{CdrKind, Moment};
+use gw_base::CdrKind;
 use std::io;
 
 /// The most octets of a file, and the most records.
@@ -17,41 +20,43 @@ const MOST_RECORDS: u64 = 4_294_967_295;
 /// The profile of the files.
 const PROFILE: u8 = 1;
 
-pub(crate) fn limits(rt: &HostRuntime, cutter: &mut Option<Cutter>, words: &str) -> io::Result<()> {
-    let (size, words) = first_word(words);
-    let (count, open_time) = first_word(words);
-    let size = number(size, MOST_SIZE)? as u32;
-    let count = number(count, MOST_RECORDS)? as u32;
-    let open_time = number(open_time, u64::MAX)?;
-    if size == 0 || count == 0 {
+fn limits_of(words: &str) -> io::Result<Limits>
+    ensures { IfOk result AreLimits }
+{
+    let (size, words) = next(words, MOST_SIZE)?;
+    let (count, words) = next(words, MOST_RECORDS)?;
+    let open_time = number(words, u64::MAX)?;
+    if size == 0 {
         return Err(bad());
     }
-    let limits = Limits {
-        size,
-        count,
+    if count == 0 {
+        return Err(bad());
+    }
+    Ok(Limits {
+        size: size as u32,
+        count: count as u32,
         open_time,
-    };
+    })
+}
+
+pub(crate) fn limits(rt: &HostRuntime, cutter: &mut Option<Cutter>, words: &str) -> io::Result<()> {
+    let limits = limits_of(words)?;
     *cutter = Some(Cutter::new(limits, PROFILE));
     print!(rt; "{limits:?}")
 }
 
-fn moment_of(word: &str) -> io::Result<Moment> {
-    Moment::of(number(word, u64::MAX)?).ok_or(bad())
-}
-
 pub(crate) fn record(rt: &HostRuntime, cutter: &mut Option<Cutter>, words: &str) -> io::Result<()> {
-    let (format, words) = first_word(words);
-    let (length, at) = first_word(words);
+    let (format, words) = next(words, 7)?;
+    let (length, at) = next(words, 65_535)?;
+    let at = moment(at)?;
     let kind = CdrKind {
         release: 3,
         version: 0,
-        format: number(format, 7)? as u8,
+        format: format as u8,
         extension: 0,
     };
-    let length = number(length, 65_535)? as u16;
-    let moment = moment_of(at)?;
     match cutter {
-        Some(cutter) => print!(rt; "{:?}", cutter.put(kind, length, moment)),
+        Some(cutter) => print!(rt; "{:?}", cutter.put(kind, length as u16, at)),
         None => Err(bad()),
     }
 }
@@ -62,9 +67,9 @@ pub(crate) fn mark(
     closes: bool,
     words: &str,
 ) -> io::Result<()> {
-    let moment = moment_of(words)?;
+    let at = moment(words)?;
     match cutter {
-        Some(cutter) => print!(rt; "{:?}", cutter.mark(closes, moment)),
+        Some(cutter) => print!(rt; "{:?}", cutter.mark(closes, at)),
         None => Err(bad()),
     }
 }

@@ -5,7 +5,7 @@
 //! - `find NODE NUMBER`, `take NODE NUMBER`: where it lies, and that it is held no more.
 //! - `drop NODE`: how many of a node were held, which are held no more.
 
-use crate::words::{first_word, number};
+use crate::words::{next, number};
 use dup_buffer::{Held, HoldFault};
 use gw_base::{NodeId, Place};
 use std::io;
@@ -18,23 +18,21 @@ fn held_once(held: &mut Held, node: NodeId, number: u64, at: u64) -> Result<(), 
     }
 }
 
-/// A node and a number.
-fn key_of(words: &str) -> io::Result<(NodeId, u64)> {
-    let (node, words) = first_word(words);
-    let (wire, _) = first_word(words);
-    let node = number(node, 4_294_967_295)? as u32;
-    Ok((NodeId(node), number(wire, u64::MAX)?))
+/// A node and a number, and the words behind them.
+fn key_of(words: &str) -> io::Result<(NodeId, u64, &str)> {
+    let (node, words) = next(words, 4_294_967_295)?;
+    let (number, words) = next(words, u64::MAX)?;
+    Ok((NodeId(node as u32), number, words))
 }
 
 pub(crate) fn hold(rt: &HostRuntime, held: &mut Held, words: &str) -> io::Result<()> {
-    let (node, number_of) = key_of(words)?;
-    let at = words.split(' ').nth(2).unwrap_or("");
-    let answer = held_once(held, node, number_of, number(at, u64::MAX)?);
+    let (node, key, at) = key_of(words)?;
+    let answer = held_once(held, node, key, number(at, u64::MAX)?);
     print!(rt; "{answer:?}, {}", held.count())
 }
 
 pub(crate) fn hold_first(rt: &HostRuntime, held: &mut Held, words: &str) -> io::Result<()> {
-    let (node, count) = key_of(words)?;
+    let (node, count, _) = key_of(words)?;
     let mut last = Ok(());
     for number in 0..count {
         last = held_once(held, node, number, number);
@@ -43,12 +41,12 @@ pub(crate) fn hold_first(rt: &HostRuntime, held: &mut Held, words: &str) -> io::
 }
 
 pub(crate) fn find(rt: &HostRuntime, held: &Held, words: &str) -> io::Result<()> {
-    let (node, number) = key_of(words)?;
+    let (node, number, _) = key_of(words)?;
     print!(rt; "{:?}, {}", held.find(node, number), held.count())
 }
 
 pub(crate) fn take(rt: &HostRuntime, held: &mut Held, words: &str) -> io::Result<()> {
-    let (node, number) = key_of(words)?;
+    let (node, number, _) = key_of(words)?;
     let taken = held.take(node, number);
     print!(rt; "{taken:?}, {}", held.count())
 }

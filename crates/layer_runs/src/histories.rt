@@ -11,12 +11,13 @@
 //! - `told`: how often the gateway began to run, the known nodes, the held keys, and the last Tick.
 //! - `owned K`: the entry at place K, lent, owned and lent again.
 
-use crate::words::{bad, first_word, no_memory, number};
+use crate::words;
+use crate::words::{bad, first_word, next, no_memory, number};
 use gw_base::scan::{
     copies_of, epoch, held_keys, is_close_due, is_tick_due, known_nodes, last_tick, moment_after,
     opening, promised_octets, start, start_count, state, top,
 };
-use gw_base::{Absolutes, Caller, HistoryAct, HistoryEntry, Moment, NodeId, Octets, PacketKey};
+use gw_base::{Absolutes, Caller, HistoryAct, HistoryEntry, NodeId, Octets, PacketKey};
 use std::alloc::Global;
 use std::io;
 
@@ -32,10 +33,6 @@ const PACKET: [u8; 4] = [1, 1, 6, 0];
 fn node_of(word: &str) -> io::Result<NodeId> {
     let node = number(word, 4_294_967_295)? as u32;
     Ok(NodeId(node))
-}
-
-fn moment_of(word: &str) -> io::Result<Moment> {
-    Moment::of(number(word, u64::MAX)?).ok_or(bad())
 }
 
 fn act_of(alloc: Global, words: &str) -> io::Result<HistoryAct> {
@@ -59,23 +56,34 @@ fn act_of(alloc: Global, words: &str) -> io::Result<HistoryAct> {
 }
 
 fn act_of_number(alloc: Global, form: &str, node: NodeId, number: u64) -> io::Result<HistoryAct> {
-    let packet = Octets::of(alloc, &PACKET).map_err(|_| no_memory())?;
-    let numbers = Absolutes::from_vec(vec![in alloc; number]?);
     match form {
         "file" => Ok(HistoryAct::File {
             node,
             number,
-            packet,
+            packet: packet(alloc)?,
         }),
         "hold" => Ok(HistoryAct::Hold {
             node,
             number,
-            packet,
+            packet: packet(alloc)?,
         }),
         "seal" => Ok(HistoryAct::Seal { node, number }),
-        "release" => Ok(HistoryAct::Release { node, numbers }),
-        "cancel" => Ok(HistoryAct::Cancel { node, numbers }),
+        "release" => Ok(HistoryAct::Release {
+            node,
+            numbers: Absolutes::from_vec(vec![in alloc; number]?),
+        }),
+        "cancel" => Ok(HistoryAct::Cancel {
+            node,
+            numbers: Absolutes::from_vec(vec![in alloc; number]?),
+        }),
         _ => Err(bad()),
+    }
+}
+
+fn packet(alloc: Global) -> io::Result<Octets> {
+    match Octets::of(alloc, &PACKET) {
+        Ok(packet) => Ok(packet),
+        Err(_) => Err(no_memory()),
     }
 }
 
@@ -85,7 +93,7 @@ pub(crate) fn act(
     words: &str,
 ) -> io::Result<()> {
     let (seconds, act) = first_word(words);
-    let moment = moment_of(seconds)?;
+    let moment = words::moment(seconds)?;
     let act = act_of(rt.alloc(), act)?;
     history.push(HistoryEntry {
         moment,
@@ -100,24 +108,27 @@ fn front<'a, 'b>(
     history: &'a [HistoryEntry],
     words: &'b str,
 ) -> io::Result<(&'a [HistoryEntry], &'b str)> {
-    let (length, words) = first_word(words);
-    let length = number(length, 1_000)? as usize;
+    let (length, words) = next(words, 1_000)?;
+    let length = length as usize;
     if length > history.len() {
         return Err(bad());
     }
     Ok((&history[..length], words))
 }
 
+fn key_of(words: &str) -> io::Result<PacketKey> {
+    let (node, words) = next(words, 4_294_967_295)?;
+    let (epoch, words) = next(words, u64::MAX)?;
+    Ok(PacketKey {
+        node: NodeId(node as u32),
+        epoch,
+        number: number(words, u64::MAX)?,
+    })
+}
+
 pub(crate) fn key(rt: &HostRuntime, history: &[HistoryEntry], words: &str) -> io::Result<()> {
     let (front, words) = front(history, words)?;
-    let (node, words) = first_word(words);
-    let (epoch, absolute) = first_word(words);
-    let key = PacketKey {
-        node: node_of(node)?,
-        epoch: number(epoch, u64::MAX)?,
-        number: number(absolute, u64::MAX)?,
-    };
-    print!(rt; "{:?}", state(front, key))
+    print!(rt; "{:?}", state(front, key_of(words)?))
 }
 
 pub(crate) fn epoch_and_top(
@@ -133,7 +144,10 @@ pub(crate) fn epoch_and_top(
 pub(crate) fn begun(rt: &HostRuntime, history: &[HistoryEntry], words: &str) -> io::Result<()> {
     let (front, node) = front(history, words)?;
     let node = node_of(node)?;
-    let counter = opening(front, node).map(|opening| opening.counter);
+    let counter = match opening(front, node) {
+        Some(opening) => Some(opening.counter),
+        None => None,
+    };
     print!(rt; "{counter:?}, {}", start(front, node))
 }
 
@@ -149,24 +163,36 @@ pub(crate) fn copies(rt: &HostRuntime, history: &[HistoryEntry], words: &str) ->
 
 pub(crate) fn moment(rt: &HostRuntime, history: &[HistoryEntry], words: &str) -> io::Result<()> {
     let (front, now) = front(history, words)?;
-    print!(rt; "{}", moment_after(front, moment_of(now)?).seconds())
+    print!(rt; "{}", moment_after(front, words::moment(now)?).seconds())
 }
 
 pub(crate) fn due(rt: &HostRuntime, history: &[HistoryEntry], words: &str) -> io::Result<()> {
     let (front, now) = front(history, words)?;
-    print!(rt; "{}", is_tick_due(front, OPEN_TIME, moment_of(now)?))
+    print!(rt; "{}", is_tick_due(front, OPEN_TIME, words::moment(now)?))
 }
 
 pub(crate) fn told(rt: &HostRuntime, history: &[HistoryEntry]) -> io::Result<()> {
-    let known = known_nodes(rt.alloc(), history).map_err(|_| no_memory())?;
-    let held = held_keys(rt.alloc(), history).map_err(|_| no_memory())?;
-    let last = last_tick(history).map(Moment::seconds);
-    print!(rt; "{}, {known:?}, {held:?}, {last:?}", start_count(history))
+    print!(rt; "{}, ", start_count(history))?;
+    match known_nodes(rt.alloc(), history) {
+        Ok(known) => print!(rt; "{known:?}, ")?,
+        Err(_) => return Err(no_memory()),
+    }
+    match held_keys(rt.alloc(), history) {
+        Ok(held) => print!(rt; "{held:?}, ")?,
+        Err(_) => return Err(no_memory()),
+    }
+    match last_tick(history) {
+        Some(last) => print!(rt; "Some({})", last.seconds()),
+        None => print!(rt; "None"),
+    }
 }
 
 pub(crate) fn owned(rt: &HostRuntime, history: &[HistoryEntry], words: &str) -> io::Result<()> {
-    let place = number(words, 1_000)? as usize;
-    let entry = history.get(place).ok_or(bad())?;
-    let owned = entry.lent().to_owned(rt.alloc()).map_err(|_| no_memory())?;
-    print!(rt; "{:?}", owned.lent())
+    let Some(entry) = history.get(number(words, 1_000)? as usize) else {
+        return Err(bad());
+    };
+    match entry.lent().to_owned(rt.alloc()) {
+        Ok(owned) => print!(rt; "{:?}", owned.lent()),
+        Err(_) => Err(no_memory()),
+    }
 }

@@ -43,12 +43,18 @@ fn main(rt: HostRuntime) -> io::Result<()> {
 
 /// Prints the name of a group, and each of its lines with what it is answered.
 fn tell(rt: &HostRuntime, group: &str) -> io::Result<()> {
-    let (name, lines) = group.split_once('\n').ok_or(bad())?;
+    let Some((name, lines)) = group.split_once('\n') else {
+        return Err(bad());
+    };
     println!(rt; "{NAME}{name}")?;
     let mut scene = Scene::new(rt.alloc())?;
+    tell_lines(rt, &mut scene, lines)
+}
+
+fn tell_lines(rt: &HostRuntime, scene: &mut Scene, lines: &str) -> io::Result<()> {
     for line in lines.lines() {
         print!(rt; "{line} => ")?;
-        answer(rt, &mut scene, line)?;
+        answer(rt, scene, line)?;
         println!(rt; "")?;
     }
     Ok(())

@@ -12,9 +12,9 @@
 //! - `draft FORMAT VERSION`: begins a draft. `grow OCTETS`: whether it takes a record, and the octets of its value.
 //!   `grow-zeros COUNT LENGTH`: the same of so many records of so many zeros, of the last, and how many octets there are.
 
-use crate::words::{bad, first_word, no_memory, number, octets, print_octets};
+use crate::words::{bad, first_word, next, no_memory, number, octets, print_octets};
 use gw_base::{Addr, PacketId};
-use node_core::{Draft, Node, Outgoing, Port};
+use node_core::{Draft, DraftFault, Heeded, Node, Outgoing, Port};
 use std::alloc::Global;
 use std::io;
 
@@ -63,8 +63,10 @@ fn node_of(alloc: Global, words: &str) -> io::Result<(Node, u8)> {
     if gateways.is_empty() || gateways.len() > 255 {
         return Err(bad());
     }
-    let node = Node::new(alloc, ADDRESS, &gateways, 1).map_err(|_| no_memory())?;
-    Ok((node, count))
+    match Node::new(alloc, ADDRESS, &gateways, 1) {
+        Ok(node) => Ok((node, count)),
+        Err(_) => Err(no_memory()),
+    }
 }
 
 pub(crate) fn serving(rt: &HostRuntime, node: &mut Option<Node>, words: &str) -> io::Result<()> {
@@ -75,14 +77,19 @@ pub(crate) fn serving(rt: &HostRuntime, node: &mut Option<Node>, words: &str) ->
 
 pub(crate) fn ready(rt: &HostRuntime, node: &mut Option<Node>, words: &str) -> io::Result<()> {
     let (mut begun, count) = node_of(rt.alloc(), words)?;
-    let probes = ticked(rt.alloc(), &mut begun)?;
-    for gateway in 1..=count {
-        hear(&mut begun, gateway, &ECHO_REQUEST)?;
-        hear(&mut begun, gateway, &ALIVE_RESPONSE)?;
-    }
-    let taken = submitted(rt.alloc(), &mut begun)?;
+    make_ready(rt, &mut begun, count)?;
     *node = Some(begun);
-    print!(rt; "{} datagrams, packet {taken:?}", probes.len())
+    Ok(())
+}
+
+/// Makes a node ready, and prints how many datagrams it sends at first, and the number of its packet.
+fn make_ready(rt: &HostRuntime, node: &mut Node, count: u8) -> io::Result<()> {
+    print!(rt; "{} datagrams, ", ticked(rt.alloc(), node)?.len())?;
+    for gateway in 1..=count {
+        hear(node, gateway, &ECHO_REQUEST)?;
+        hear(node, gateway, &ALIVE_RESPONSE)?;
+    }
+    print!(rt; "packet {:?}", submitted(rt.alloc(), node)?)
 }
 
 /// Hears a datagram at the first port, whose answer doesn't matter.
@@ -97,7 +104,9 @@ fn hear(node: &mut Node, gateway: u8, octets: &[u8]) -> io::Result<()> {
 /// Whether a node takes a packet of one record, by its number.
 fn submitted(alloc: Global, node: &mut Node) -> io::Result<Result<u64, node_core::SubmitFault>> {
     let mut draft = Draft::new(alloc, 1, 0x0600);
-    draft.add(&RECORD).map_err(|_| bad())?;
+    let Ok(()) = draft.add(&RECORD) else {
+        return Err(bad());
+    };
     if !node.runs() || node.counts().packets >= 0x4000_0000_0000_0000 {
         return Err(bad());
     }
@@ -119,7 +128,10 @@ fn ticked(alloc: Global, node: &mut Node) -> io::Result<Vec<Outgoing>> {
     if !node.runs() {
         return Err(bad());
     }
-    node.tick(alloc).map_err(|_| no_memory())
+    match node.tick(alloc) {
+        Ok(sent) => Ok(sent),
+        Err(_) => Err(no_memory()),
+    }
 }
 
 pub(crate) fn turn(rt: &HostRuntime, node: &mut Option<Node>) -> io::Result<()> {
@@ -138,21 +150,28 @@ pub(crate) fn turn(rt: &HostRuntime, node: &mut Option<Node>) -> io::Result<()> 
 
 /// A packet by its number.
 fn number_of(packet: Option<PacketId>) -> Option<u64> {
-    packet.map(|id| id.number)
+    match packet {
+        Some(id) => Some(id.number),
+        None => None,
+    }
 }
 
 pub(crate) fn hears(rt: &HostRuntime, node: &mut Option<Node>, words: &str) -> io::Result<()> {
     let (port, words) = first_word(words);
-    let (gateway, datagram) = first_word(words);
-    let gateway = number(gateway, MOST_GATEWAYS)? as u8;
-    let octets = octets(rt.alloc(), datagram)?;
+    let port = port_of(port)?;
+    let (gateway, datagram) = next(words, MOST_GATEWAYS)?;
     let Some(node) = node else {
         return Err(bad());
     };
     if !node.runs() {
         return Err(bad());
     }
-    let heeded = node.hear(port_of(port)?, address(gateway), &octets);
+    let octets = octets(rt.alloc(), datagram)?;
+    print_heeded(rt, &node.hear(port, address(gateway as u8), &octets))
+}
+
+/// Prints what a node makes of a datagram.
+fn print_heeded(rt: &HostRuntime, heeded: &Heeded) -> io::Result<()> {
     match &heeded.reply {
         Some(reply) => print_octets(rt, reply.octets())?,
         None => print!(rt; "no reply")?,
@@ -200,24 +219,31 @@ pub(crate) fn begin_draft(rt: &HostRuntime, draft: &mut Draft, words: &str) -> i
 
 pub(crate) fn grow(rt: &HostRuntime, draft: &mut Draft, words: &str) -> io::Result<()> {
     let record = octets(rt.alloc(), words)?;
-    match draft.add(&record) {
-        Ok(()) => print!(rt; "Ok, ")?,
-        Err(fault) => print!(rt; "{fault:?}, {fault}, ")?,
-    }
+    print_added(rt, draft.add(&record))?;
     print_octets(rt, draft.octets())
 }
 
-pub(crate) fn grow_zeros(rt: &HostRuntime, draft: &mut Draft, words: &str) -> io::Result<()> {
-    let (count, length) = first_word(words);
-    let length = number(length, 65_536)? as usize;
-    let record = vec![in rt.alloc(); 0; length]?;
+/// Prints whether a draft took a record.
+fn print_added(rt: &HostRuntime, added: Result<(), DraftFault>) -> io::Result<()> {
+    match added {
+        Ok(()) => print!(rt; "Ok, "),
+        Err(fault) => print!(rt; "{fault:?}, {fault}, "),
+    }
+}
+
+/// Adds a record to a draft so many times; what comes of the last.
+fn added(draft: &mut Draft, count: u64, record: &[u8]) -> Result<(), DraftFault> {
     let mut last = Ok(());
-    for _ in 0..number(count, 1_000)? {
-        last = draft.add(&record);
+    for _ in 0..count {
+        last = draft.add(record);
     }
-    match last {
-        Ok(()) => print!(rt; "Ok, ")?,
-        Err(fault) => print!(rt; "{fault:?}, {fault}, ")?,
-    }
+    last
+}
+
+pub(crate) fn grow_zeros(rt: &HostRuntime, draft: &mut Draft, words: &str) -> io::Result<()> {
+    let (count, words) = next(words, 1_000)?;
+    let length = number(words, 65_536)? as usize;
+    let record = vec![in rt.alloc(); 0; length]?;
+    print_added(rt, added(draft, count, &record))?;
     print!(rt; "{} octets", draft.octets().len())
 }

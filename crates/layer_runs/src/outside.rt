@@ -5,7 +5,7 @@
 //! - `sink FAIL ROOM`: an output with so much room. `push OCTETS`: what comes of a call, and all that was written.
 //! - `clock FAIL SECONDS ..`: a clock of these moments. `now`: what comes of a call.
 
-use crate::words::{bad, first_word, no_memory, number, octets, print_octets};
+use crate::words::{bad, first_word, moment, next, no_memory, number, octets, print_octets};
 use gw_base::{Clock, Failed, MemoryClock, MemorySink, MemorySource, Moment, Octets, Sink, Source};
 use std::alloc::Global;
 use std::io;
@@ -20,7 +20,14 @@ pub(crate) fn no_source(alloc: Global) -> MemorySource {
 
 /// An output without room.
 pub(crate) fn no_sink(alloc: Global) -> io::Result<MemorySink> {
-    MemorySink::new(alloc, 0, Vec::new(alloc)).map_err(|_| no_memory())
+    sink_of(alloc, 0, Vec::new(alloc))
+}
+
+fn sink_of(alloc: Global, room: usize, fail: Vec<u64>) -> io::Result<MemorySink> {
+    match MemorySink::new(alloc, room, fail) {
+        Ok(sink) => Ok(sink),
+        Err(_) => Err(no_memory()),
+    }
 }
 
 /// The call that fails, alone in a list.
@@ -31,15 +38,14 @@ fn fail_of(alloc: Global, word: &str) -> io::Result<Vec<u64>> {
 
 pub(crate) fn source(rt: &HostRuntime, source: &mut MemorySource, words: &str) -> io::Result<()> {
     let (fail, words) = first_word(words);
-    let (piece, input) = first_word(words);
-    let fail = fail_of(rt.alloc(), fail)?;
-    let input = octets(rt.alloc(), input)?;
-    let piece = number(piece, MOST)? as usize;
+    let (piece, input) = next(words, MOST)?;
     if piece == 0 {
         return Err(bad());
     }
+    let input = octets(rt.alloc(), input)?;
+    let fail = fail_of(rt.alloc(), fail)?;
     print!(rt; "{} octets", input.len())?;
-    *source = MemorySource::new(Octets::from_vec(input), piece, fail);
+    *source = MemorySource::new(Octets::from_vec(input), piece as usize, fail);
     Ok(())
 }
 
@@ -58,9 +64,9 @@ pub(crate) fn pull(rt: &HostRuntime, source: &mut MemorySource, words: &str) -> 
 
 pub(crate) fn sink(rt: &HostRuntime, sink: &mut MemorySink, words: &str) -> io::Result<()> {
     let (fail, room) = first_word(words);
-    let fail = fail_of(rt.alloc(), fail)?;
     let room = number(room, MOST)? as usize;
-    *sink = MemorySink::new(rt.alloc(), room, fail).map_err(|_| no_memory())?;
+    let fail = fail_of(rt.alloc(), fail)?;
+    *sink = sink_of(rt.alloc(), room, fail)?;
     print!(rt; "room {room}")
 }
 
@@ -82,22 +88,26 @@ pub(crate) fn clock(
     words: &str,
 ) -> io::Result<()> {
     let (fail, words) = first_word(words);
-    let fail = fail_of(rt.alloc(), fail)?;
-    let mut moments = Vec::new(rt.alloc());
-    for word in words.split(' ') {
-        moments.push(Moment::of(number(word, u64::MAX)?).ok_or(bad())?)?;
-    }
+    let moments = moments_of(rt.alloc(), words)?;
     if moments.is_empty() {
         return Err(bad());
     }
     print!(rt; "{} moments", moments.len())?;
-    *clock = Some(MemoryClock::new(moments, fail));
+    *clock = Some(MemoryClock::new(moments, fail_of(rt.alloc(), fail)?));
     Ok(())
+}
+
+fn moments_of(alloc: Global, words: &str) -> io::Result<Vec<Moment>> {
+    let mut moments = Vec::new(alloc);
+    for word in words.split(' ') {
+        moments.push(moment(word)?)?;
+    }
+    Ok(moments)
 }
 
 /// Asks a clock once.
 fn ask_once<C: Clock>(clock: &mut C) -> Result<u64, Failed> {
-    clock.now().map(Moment::seconds)
+    Ok(clock.now()?.seconds())
 }
 
 pub(crate) fn now(rt: &HostRuntime, clock: &mut Option<MemoryClock>) -> io::Result<()> {

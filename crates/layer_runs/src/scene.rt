@@ -4,7 +4,7 @@
 //! `room N OCTETS` begins the buffer anew, with so many octets of room and these in it.
 
 use crate::outside::{no_sink, no_source};
-use crate::words::{bad, first_word, no_memory, number, octets};
+use crate::words::{bad, next, no_memory, octets};
 use dup_buffer::Held;
 use file_rotate::Cutter;
 use gw_base::{Buffer, HistoryEntry, MemoryClock, MemorySink, MemorySource};
@@ -19,6 +19,20 @@ const ROOM: usize = 64;
 
 /// The restart counter of the node whose paths there are.
 const COUNTER: u8 = 6;
+
+fn buffer(alloc: Global, room: usize) -> io::Result<Buffer> {
+    match Buffer::with(alloc, room) {
+        Ok(buffer) => Ok(buffer),
+        Err(_) => Err(no_memory()),
+    }
+}
+
+fn held(alloc: Global) -> io::Result<Held> {
+    match Held::new(alloc, 0) {
+        Ok(held) => Ok(held),
+        Err(_) => Err(no_memory()),
+    }
+}
 
 /// What the lines of a group add to.
 #[derive(Drop)]
@@ -41,13 +55,13 @@ impl Scene {
     /// What there is before the first line of a group.
     pub(crate) fn new(alloc: Global) -> io::Result<Scene> {
         Ok(Scene {
-            buffer: Buffer::with(alloc, ROOM).map_err(|_| no_memory())?,
+            buffer: buffer(alloc, ROOM)?,
             rules: Rules::none(alloc),
             text: Vec::new(alloc),
             history: Vec::new(alloc),
             path: NodePath::new(COUNTER),
             cutter: None,
-            held: Held::new(alloc, 0).map_err(|_| no_memory())?,
+            held: held(alloc)?,
             serving: None,
             draft: Draft::new(alloc, 1, 0),
             source: no_source(alloc),
@@ -58,10 +72,9 @@ impl Scene {
 
     /// Begins the buffer anew.
     pub(crate) fn begin_buffer(&mut self, rt: &HostRuntime, words: &str) -> io::Result<()> {
-        let (room, front) = first_word(words);
-        let room = number(room, 65_535)? as usize;
+        let (room, front) = next(words, 65_535)?;
         let front = octets(rt.alloc(), front)?;
-        let mut buffer = Buffer::with(rt.alloc(), room).map_err(|_| no_memory())?;
+        let mut buffer = buffer(rt.alloc(), room as usize)?;
         if buffer.free() < front.len() {
             return Err(bad());
         }

@@ -7,7 +7,7 @@
 //! - `sample SEED NODES GATEWAYS PACKETS`: how many lines and octets the text of a sample has, the sum of its octets,
 //!   each times its place from 1, modulo 2^32, and whether it reads as a script that is printed so.
 
-use crate::words::{bad, first_word, no_memory, number, unescaped};
+use crate::words::{bad, first_word, next, no_memory, number, unescaped};
 use gw_base::Octets;
 use std::alloc::Global;
 use std::io;
@@ -32,9 +32,17 @@ pub(crate) fn front(rt: &HostRuntime, text: &mut Vec<u8>, words: &str) -> io::Re
     print!(rt; "{} octets", text.len())
 }
 
+/// The text of a script.
+fn text_of(alloc: Global, script: &Script) -> io::Result<Octets> {
+    match print(alloc, script) {
+        Ok(text) => Ok(text),
+        Err(_) => Err(no_memory()),
+    }
+}
+
 /// Prints the text of a script with each line feed as `\n`.
 fn print_text(rt: &HostRuntime, script: &Script) -> io::Result<()> {
-    let text = print(rt.alloc(), script).map_err(|_| no_memory())?;
+    let text = text_of(rt.alloc(), script)?;
     match str::from_utf8(text.octets()) {
         Ok(text) => print!(rt; "{text:?}"),
         Err(_) => Err(bad()),
@@ -77,26 +85,45 @@ fn is_printed(alloc: Global, text: &Octets) -> io::Result<bool> {
     let Ok(script) = read(alloc, text.octets(), ScriptKind::Replay) else {
         return Ok(false);
     };
-    let printed = print(alloc, &script).map_err(|_| no_memory())?;
+    let printed = text_of(alloc, &script)?;
     Ok(printed.octets() == text.octets())
 }
 
 pub(crate) fn sampled(rt: &HostRuntime, words: &str) -> io::Result<()> {
-    let (seed, words) = first_word(words);
-    let (nodes, words) = first_word(words);
-    let (gateways, packets) = first_word(words);
-    let seed = number(seed, u64::MAX)?;
-    let nodes = number(nodes, 16)? as u8;
-    let gateways = number(gateways, 8)? as u8;
-    let packets = number(packets, 20_000)? as u32;
-    if nodes == 0 || gateways == 0 || packets == 0 {
+    let (seed, words) = next(words, u64::MAX)?;
+    let (nodes, words) = next(words, 16)?;
+    let (gateways, words) = next(words, 8)?;
+    let packets = number(words, 20_000)?;
+    if nodes == 0 {
         return Err(bad());
     }
-    let script = sample(rt.alloc(), seed, nodes, gateways, packets).map_err(|_| no_memory())?;
-    let lines = script.lines().len();
-    let text = print(rt.alloc(), &script).map_err(|_| no_memory())?;
+    if gateways == 0 {
+        return Err(bad());
+    }
+    if packets == 0 {
+        return Err(bad());
+    }
+    match sample(
+        rt.alloc(),
+        seed,
+        nodes as u8,
+        gateways as u8,
+        packets as u32,
+    ) {
+        Ok(script) => print_sample(rt, &script),
+        Err(_) => Err(no_memory()),
+    }
+}
+
+/// Prints what there is of the script of a sample.
+fn print_sample(rt: &HostRuntime, script: &Script) -> io::Result<()> {
+    let text = text_of(rt.alloc(), script)?;
     let octets = text.octets().len();
     let sum = weighed(text.octets());
     let reads = is_printed(rt.alloc(), &text)?;
-    print!(rt; "{lines} lines, {octets} octets, sum {sum}, reads as printed: {reads}")
+    print!(rt;
+        "{} lines, {octets} octets, sum {sum}, ",
+        script.lines().len()
+    )?;
+    print!(rt; "reads as printed: {reads}")
 }

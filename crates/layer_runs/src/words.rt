@@ -2,6 +2,7 @@
 
 ghost use Rattle.std.specs.Prelude.{◌≤◌, IfOk};
 
+use gw_base::Moment;
 use std::alloc::Global;
 use std::io;
 use std::io::{Error, ErrorKind};
@@ -28,7 +29,9 @@ pub(crate) fn first_word(text: &str) -> (&str, &str) {
 pub(crate) fn number(word: &str, most: u64) -> io::Result<u64>
     ensures { IfOk result (λ number. number ≤ most) }
 {
-    let number = word.parse::<u64>().map_err(|_| bad())?;
+    let Ok(number) = word.parse::<u64>() else {
+        return Err(bad());
+    };
     if number <= most {
         Ok(number)
     } else {
@@ -36,10 +39,31 @@ pub(crate) fn number(word: &str, most: u64) -> io::Result<u64>
     }
 }
 
+/// The number that the next word says in decimal, at most `most`, and the text behind it.
+pub(crate) fn next(text: &str, most: u64) -> io::Result<(u64, &str)>
+    ensures { IfOk result (λ next. next.0 ≤ most) }
+{
+    let (word, text) = first_word(text);
+    Ok((number(word, most)?, text))
+}
+
+/// The moment so many seconds after 1970.
+pub(crate) fn moment(word: &str) -> io::Result<Moment> {
+    match Moment::of(number(word, u64::MAX)?) {
+        Some(moment) => Ok(moment),
+        None => Err(bad()),
+    }
+}
+
 /// The octets that a word says in hexadecimal.
 pub(crate) fn octets(alloc: Global, word: &str) -> io::Result<Vec<u8>> {
-    let digits = if word == NOTHING { "" } else { word };
-    hex::decode(alloc, digits).map_err(|_| bad())
+    if word == NOTHING {
+        return Ok(Vec::new(alloc));
+    }
+    match hex::decode(alloc, word) {
+        Ok(octets) => Ok(octets),
+        Err(_) => Err(bad()),
+    }
 }
 
 /// Prints octets in hexadecimal.

@@ -8,4 +8,7 @@ use Rattle.layer_runs.proofs.cdrs.one_cdr_by_definition.Goals as goal
 
 pub returns : goal.returns
 unfolding header_octets field_octets cdr_header_octets node_address stamp_of date_since_1969 date_from_year date_from_month
-returns c = refl
+returns c = record {
+  profile_1 = refl;
+  profile_2 = refl;
+}
