@@ -65,8 +65,8 @@ fn without_words(kind: ErrorKind) -> Status
     }
 }
 
-/// Runs the job over the file that the second word names, which is opened once it is to be read. Where the standard error
-/// is a terminal, it shows there how far a long job is, and the line is empty before anything is written.
+/// Runs the job over the file that the second word names, which is opened once it is to be read. Where the standard
+/// error is a terminal, it shows there how far a long job is, and the line is empty before anything is written.
 fn run(rt: &HostRuntime, words: &[String]) -> Status
     ensures words { result ≡ Status.Words → command_of (map string_bytes words.now) ≡ None }
     ensures told { command_of (map string_bytes words.now) ≡ None →

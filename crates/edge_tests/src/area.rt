@@ -40,9 +40,8 @@ fn a_file_that_is_locked_is_refused(rt: HostRuntime) -> Result<(), Fail> {
     let mut holder = FileArea::new(&rt, "held.area", 100);
     holder.write_at(0, b"x")?;
     let mut second = FileArea::new(&rt, "held.area", 100);
-    for _ in 0..2 {
-        assert_eq!(rt; second.write_at(0, b"y"), Err(Failed));
-    }
+    assert_eq!(rt; second.write_at(0, b"y"), Err(Failed));
+    assert_eq!(rt; second.sync(), Err(Failed));
     assert!(rt; is_locked(second.trouble()));
     holder.read_at(0, &mut into)?;
     assert_eq!(rt; into, [b'x']);

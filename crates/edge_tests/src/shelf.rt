@@ -47,8 +47,8 @@ fn a_part_that_was_left_is_made_anew(rt: HostRuntime) -> Result<(), Fail> {
     Ok(())
 }
 
-/// The greatest number of each stream, by names alone, which are more than one piece that is read at once. A part, another
-/// name and another number of digits count nothing.
+/// The greatest number of each stream, by names alone, which are more than are read at once. A part, another name and
+/// another number of digits count nothing.
 #[test]
 fn the_greatest_sealed_number_of_each_stream_is_found(rt: HostRuntime) -> Result<(), Fail> {
     fs::create_dir(&rt, "three")?;
