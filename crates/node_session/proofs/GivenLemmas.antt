@@ -1,0 +1,193 @@
+-- What a writer holds that recovered, or was given items behind those that it had taken.
+use Rattle.std.proofs.Common.{◌≡◌, ℕ, zero, suc, ◌+◌, ◌<◌, ◌≤◌, ◌^◌, Bool, true, false, List, [], ◌∷◌, ◌++◌, length, take, drop, Ok, Err, refl, sym, ap, subst, ◌∙◌, append_assoc, arith, length-append}
+use Rattle.std.specs.Prelude.{IsTrue, nat_eq}
+use Rattle.std.proofs.lemmas.Bool.{true≢false, eq-eqb, eqb-true}
+use Rattle.std.proofs.lemmas.List.{append-nil}
+use Rattle.cdr_shelf.specs.Files.{SealedFile}
+use Rattle.cdr_shelf.specs.declared.shelf.Shelf.{Ghosts}
+use Rattle.gateway_book.specs.Items.{items_between, items_of}
+use Rattle.gw_base.specs.Facts.{WhereTold}
+use Rattle.gw_base.specs.declared.history.HistoryEntry.{HistoryEntry}
+use Rattle.gw_base.specs.declared.item.Item.{Item}
+use Rattle.file_writer.specs.Advancing.{Advances, HasRecovered}
+use Rattle.file_writer.specs.Holding.{IsBegun}
+use Rattle.file_writer.specs.Streams.{Settings}
+use Rattle.file_writer.specs.Writer.{Holds, IsAt, is_broken, settings_in, shelf_of, taken_of}
+use Rattle.file_writer.specs.declared.fault.ShelfFault.{ShelfFault}
+use Rattle.file_writer.specs.declared.writer.Writer.{Writer}
+use Rattle.node_session.specs.Settling.{HasGivenSome, HasTakenAll}
+use Rattle.node_session.specs.Writing.{AreNext, Begins, HasTakenOf, HoldsFilesOf, IsWriterOf, none_closed, none_stood}
+
+take_front : (xs ys : List Item) → take (length xs) (xs ++ ys) ≡ xs
+take_front [] ys = refl
+take_front (x ∷ xs) ys = ap (λ (zs : List Item). x ∷ zs) (take_front xs ys)
+
+drop_front : (xs ys : List Item) → drop (length xs) (xs ++ ys) ≡ ys
+drop_front [] ys = refl
+drop_front (x ∷ xs) ys = drop_front xs ys
+
+no_items : (xs : List Item) → length xs ≡ 0 → xs ≡ []
+no_items [] none = refl
+no_items (x ∷ xs) none = absurd (omega (arith, none))
+
+module _ {F : Type 0} {tells : Ghosts F} (old new : Writer F tells) where
+  -- one that recovered has taken none
+  pub recovered_writer : HasRecovered tells none_closed 0 old new → (told : Bool) (h : List HistoryEntry) → IsWriterOf told h new
+  recovered_writer has told h ready = record {
+    items = [];
+    at = has.at;
+    count = sym has.taken;
+    begins = λ it_is. (items_of h, refl);
+  }
+
+  pub broken_writer : is_broken new ≡ true → (told : Bool) (h : List HistoryEntry) → IsWriterOf told h new
+  broken_writer broken told h ready = absurd (true≢false (sym broken ∙ ready))
+
+  pub recovered_files : IsTrue tells.tells_files → is_broken old ≡ true → is_broken new ≡ false → settings_in new ≡ settings_in old
+      → tells.files (shelf_of new) ≡ tells.files (shelf_of old) → HasRecovered tells none_closed 0 old new
+      → (all : List Item) → HoldsFilesOf all old → HoldsFilesOf all new
+  recovered_files it_is was ready settings files has all holds = record {
+    begun = λ broken. absurd (true≢false (sym broken ∙ ready));
+    held = λ runs. subst (λ (n : ℕ). Holds new none_closed none_stood all (take n all)) (sym has.taken)
+        (has.holds it_is none_stood all (λ s lt. omega arith)
+        (subst (λ (x : Settings). IsBegun x none_closed none_stood all (tells.files (shelf_of new))) (sym settings)
+        (subst (λ (fs : List SealedFile). IsBegun (settings_in old) none_closed none_stood all fs) (sym files) (holds.begun was))));
+  }
+
+  pub still_broken_files : is_broken old ≡ true → is_broken new ≡ true → settings_in new ≡ settings_in old
+      → tells.files (shelf_of new) ≡ tells.files (shelf_of old) → (all : List Item) → HoldsFilesOf all old → HoldsFilesOf all new
+  still_broken_files was broken settings files all holds = record {
+    begun = λ b. subst (λ (x : Settings). IsBegun x none_closed none_stood all (tells.files (shelf_of new))) (sym settings)
+        (subst (λ (fs : List SealedFile). IsBegun (settings_in old) none_closed none_stood all fs) (sym files) (holds.begun was));
+    held = λ ready. absurd (true≢false (sym broken ∙ ready));
+  }
+
+  -- where the next items of a history stand in it
+  next_in : (told : Bool) (h : List HistoryEntry) (w : HasTakenOf told h old) (next : List Item) → AreNext told h (taken_of old) next
+      → WhereTold told (Begins (w.items ++ next) (items_of h))
+  next_in told h w next are it_is =
+      let begins = w.begins it_is in let behind = are it_is in
+      let rest : begins.0 ≡ next ++ behind.0 =
+      sym (drop_front w.items begins.0)
+      ∙ ap (λ (xs : List Item). drop (length w.items) xs) (sym begins.1)
+      ∙ ap (λ n. drop n (items_of h)) w.count ∙ behind.1 in
+      (behind.0, begins.1 ∙ ap (λ (xs : List Item). w.items ++ xs) rest ∙ sym (append_assoc w.items next behind.0))
+
+  pub given_writer : (next : List Item) → is_broken old ≡ false → taken_of new ≡ taken_of old + length next
+      → ((before : List Item) → IsAt old none_closed before → IsAt new none_closed (before ++ next))
+      → (told : Bool) (h : List HistoryEntry) → IsWriterOf told h old → AreNext told h (taken_of old) next → IsWriterOf told h new
+  given_writer next ready count at told h writer are still =
+      let w = writer ready in
+      record {
+        items = w.items ++ next;
+        at = at w.items w.at;
+        count = length-append w.items next ∙ ap (λ n. n + length next) w.count ∙ sym count;
+        begins = next_in told h w next are;
+      }
+
+  module _ (h : List HistoryEntry) (next all : List Item) (w : HasTakenOf true h old) (are : AreNext true h (taken_of old) next) (begins : Begins (items_of h) all) where
+    abbrev front : Begins (w.items ++ next) (items_of h)
+    front = next_in true h w next are refl
+
+    abbrev rest : List Item
+    rest = front.0 ++ begins.0
+
+    all_is : all ≡ (w.items ++ next) ++ rest
+    all_is = begins.1 ∙ ap (λ (xs : List Item). xs ++ begins.0) front.1 ∙ append_assoc (w.items ++ next) front.0 begins.0
+
+    held_before : is_broken old ≡ false → HoldsFilesOf all old → Holds old none_closed none_stood ((w.items ++ next) ++ rest) w.items
+    held_before ready holds =
+        let same : take (taken_of old) all ≡ w.items =
+        ap (λ (xs : List Item). take (taken_of old) xs) (all_is ∙ append_assoc w.items next rest)
+        ∙ ap (λ n. take n (w.items ++ (next ++ rest))) (sym w.count) ∙ take_front w.items (next ++ rest) in
+        subst (λ (xs : List Item). Holds old none_closed none_stood xs w.items) all_is
+        (subst (λ (xs : List Item). Holds old none_closed none_stood all xs) same (holds.held ready))
+
+    pub given_files : is_broken old ≡ false → is_broken new ≡ false → taken_of new ≡ taken_of old + length next → (n : ℕ)
+        → Advances tells none_closed w.items next old new (Ok n) → IsTrue tells.tells_files → HoldsFilesOf all old → HoldsFilesOf all new
+    given_files ready runs count n advances it_is holds =
+        let same : w.items ++ next ≡ take (taken_of new) all =
+        sym (ap (λ (xs : List Item). take (taken_of new) xs) all_is
+        ∙ ap (λ n. take n ((w.items ++ next) ++ rest)) (count ∙ ap (λ n. n + length next) (sym w.count) ∙ sym (length-append w.items next))
+        ∙ take_front (w.items ++ next) rest) in
+        record {
+          begun = λ broken. absurd (true≢false (sym broken ∙ runs));
+          held = λ still. subst (λ (xs : List Item). Holds new none_closed none_stood all xs) same
+              (subst (λ (xs : List Item). Holds new none_closed none_stood xs (w.items ++ next)) (sym all_is)
+              (advances.holds it_is none_stood rest (held_before ready holds)));
+        }
+
+    pub failed_files : is_broken old ≡ false → is_broken new ≡ true → settings_in new ≡ settings_in old → (fault : ShelfFault)
+        → Advances tells none_closed w.items next old new (Err fault) → IsTrue tells.tells_files → HoldsFilesOf all old → HoldsFilesOf all new
+    failed_files ready broken settings fault advances it_is holds =
+        let keeps = advances.keeps it_is none_stood rest (held_before ready holds) in
+        record {
+          begun = λ b. subst (λ (x : Settings). IsBegun x none_closed none_stood all (tells.files (shelf_of new))) (sym settings)
+              (subst (λ (xs : List Item). IsBegun (settings_in old) none_closed none_stood xs (tells.files (shelf_of new))) (sym all_is)
+              (subst (λ (fs : List SealedFile). IsBegun (settings_in old) none_closed none_stood ((w.items ++ next) ++ rest) fs) (sym keeps.now.1)
+              (λ s lt. (_, keeps.at_any_moment keeps.now.0 s lt))));
+          held = λ runs. absurd (true≢false (sym broken ∙ runs));
+        }
+
+-- the front of a list of items, and what is behind it
+front_and_rest : (n : ℕ) (xs : List Item) → take n xs ++ drop n xs ≡ xs
+front_and_rest zero xs = refl
+front_and_rest (suc n) [] = refl
+front_and_rest (suc n) (x ∷ xs) = ap (λ (ys : List Item). x ∷ ys) (front_and_rest n xs)
+
+-- so many items of a history from a number on are the next ones
+pub next_ones : (told : Bool) (h : List HistoryEntry) (from most : ℕ) (items : List Item) → WhereTold told (items ≡ items_between from most h)
+    → AreNext told h from items
+next_ones told h from most items are it_is =
+    (drop most (drop from (items_of h)), sym (ap (λ (xs : List Item). xs ++ drop most (drop from (items_of h))) (are it_is) ∙ front_and_rest most (drop from (items_of h))))
+
+-- fewer than were asked for are all that are left
+few_taken : (most : ℕ) (xs : List Item) → length (take most xs) < most → length (take most xs) ≡ length xs
+few_taken zero xs few = absurd (omega (arith, few))
+few_taken (suc n) [] few = refl
+few_taken (suc n) (x ∷ xs) few = ap (λ k. suc k) (few_taken n xs (omega (arith, few)))
+
+dropped_length : (n : ℕ) (xs : List Item) → length xs ≤ n + length (drop n xs)
+dropped_length zero xs = omega arith
+dropped_length (suc n) [] = omega arith
+dropped_length (suc n) (x ∷ xs) = let less = dropped_length n xs in omega (arith, less)
+
+-- a writer that took the items to their end has taken all
+pub all_given : {F : Type 0} {tells : Ghosts F} (h : List HistoryEntry) (new : Writer F tells) (from most : ℕ) (items : List Item)
+    → items ≡ items_between from most h → length items < most → is_broken new ≡ false → taken_of new ≡ from + length items
+    → HasTakenOf true h new → HasTakenAll h new
+all_given h new from most items are few ready count w =
+    let begins = w.begins refl in
+    let same : length items ≡ length (take most (drop from (items_of h))) = ap (λ (xs : List Item). length xs) are in
+    let left = few_taken most (drop from (items_of h)) (omega (arith, few, same)) in
+    let most_in = dropped_length from (items_of h) in
+    let long : length (items_of h) ≡ length w.items + length begins.0 = ap (λ (xs : List Item). length xs) begins.1 ∙ length-append w.items begins.0 in
+    let is_taken = w.count in
+    let none : begins.0 ≡ [] = no_items begins.0 (omega (arith, same, left, most_in, long, is_taken, count)) in
+    record {
+      ready = ready;
+      at = subst (λ (xs : List Item). IsAt new none_closed xs) (sym (begins.1 ∙ ap (λ (xs : List Item). w.items ++ xs) none ∙ append-nil w.items)) w.at;
+    }
+
+taken_within : (n : ℕ) (xs : List Item) → length (take n xs) ≤ n
+taken_within zero xs = omega arith
+taken_within (suc n) [] = omega arith
+taken_within (suc n) (x ∷ xs) = let less = taken_within n xs in omega (arith, less)
+
+-- a writer was given so many items at most, and took them
+pub given_some : {F : Type 0} {tells : Ghosts F} (told : Bool) (h : List HistoryEntry) (old new : Writer F tells) (most : ℕ) (items : List Item)
+    (n : ℕ) → n ≡ length items → WhereTold told (items ≡ items_between (taken_of old) most h) → is_broken new ≡ false
+    → taken_of new ≡ taken_of old + length items → taken_of new < 2 ^ 31 → IsWriterOf told h new → 0 < most
+    → HasGivenSome told h old new (nat_eq n most)
+given_some told h old new most items n long are ready count few writer some = record {
+  ready = ready;
+  few = few;
+  moves = λ more. let is = eqb-true n most more in omega (arith, is, long, count, some);
+  all = λ less it_is.
+      let not : n ≡ most → ⊥ = λ same. true≢false (sym (eq-eqb n most same) ∙ less) in
+      let within = taken_within most (drop (taken_of old) (items_of h)) in
+      let same : length items ≡ length (take most (drop (taken_of old) (items_of h))) = ap (λ (xs : List Item). length xs) (are it_is) in
+      let fewer : length items < most = omega (arith, within, same, long, not) in
+      all_given h new (taken_of old) most items (are it_is) fewer ready count
+      (subst (λ (b : Bool). HasTakenOf b h new) it_is (writer ready));
+}

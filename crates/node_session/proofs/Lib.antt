@@ -1,0 +1,10 @@
+pub mod ActorLemmas
+pub mod AskingLemmas
+pub mod CommittedLemmas
+pub mod EndedLemmas
+pub mod GivenLemmas
+pub mod OwnedLemmas
+pub mod PushedLemmas
+pub mod ServedLemmas
+pub mod SettledLemmas
+pub mod TakenLemmas

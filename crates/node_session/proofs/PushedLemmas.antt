@@ -1,0 +1,78 @@
+-- What becomes of the passes to inboxes when one of them pushes.
+use Rattle.std.proofs.Common.{◌≡◌, ℕ, zero, suc, ◌<◌, List, [], ◌∷◌, length, Result, Ok, Err, refl, sym, ap, subst, ◌∙◌, arith}
+use Rattle.std.specs.Prelude.{IfErr, OnErr, OnOk, slice_index_or}
+use Rattle.std.specs.List.{insert, remove}
+use Rattle.crossbeam_queue.specs.Fifo.{Held}
+use Rattle.job_inbox.specs.Hands.{Shows}
+use Rattle.job_inbox.specs.Inbox.{IsPassOf, capacity_of, knowledge, known_by, made_by}
+use Rattle.job_inbox.specs.Rule.{with_put}
+use Rattle.job_inbox.specs.declared.inbox.Inbox.{Inbox}
+use Rattle.job_inbox.specs.declared.inbox.InboxPass.{InboxPass}
+use Rattle.job_inbox.specs.declared.job.Job.{Job}
+use Rattle.node_session.specs.Receiving.{AreOfEach, WasFull, with_job}
+
+-- as many passes as inboxes
+pub as_many : (inboxes : List Inbox) (passes : List InboxPass) → AreOfEach inboxes passes → length passes ≡ length inboxes
+as_many [] [] own = refl
+as_many [] (p ∷ ps) own = absurd own
+as_many (b ∷ bs) [] own = absurd own
+as_many (b ∷ bs) (p ∷ ps) own = ap (λ n. suc n) (as_many bs ps own.1)
+
+pub pass_at : (inboxes : List Inbox) (passes : List InboxPass) (k : ℕ) (inbox : Inbox) (pass : InboxPass) → AreOfEach inboxes passes
+    → k < length inboxes → inbox ≡ slice_index_or inboxes k inbox → pass ≡ slice_index_or passes k pass → IsPassOf inbox pass
+pass_at [] passes k inbox pass own lt is also = absurd (omega (arith, lt))
+pass_at (b ∷ bs) [] k inbox pass own lt is also = absurd own
+pass_at (b ∷ bs) (p ∷ ps) zero inbox pass own lt is also = subst (λ x. IsPassOf x pass) (sym is) (subst (λ x. IsPassOf b x) (sym also) own.0)
+pass_at (b ∷ bs) (p ∷ ps) (suc k) inbox pass own lt is also = pass_at bs ps k inbox pass own.1 (omega (arith, lt)) is also
+
+pub still_own : (inboxes : List Inbox) (passes : List InboxPass) (k : ℕ) (inbox : Inbox) (new : InboxPass) → AreOfEach inboxes passes
+    → k < length inboxes → inbox ≡ slice_index_or inboxes k inbox → IsPassOf inbox new → AreOfEach inboxes (insert (remove passes k) k new)
+still_own [] passes k inbox new own lt is has = absurd (omega (arith, lt))
+still_own (b ∷ bs) [] k inbox new own lt is has = absurd own
+still_own (b ∷ bs) (p ∷ ps) zero inbox new own lt is has = (subst (λ x. IsPassOf x new) is has, own.1)
+still_own (b ∷ bs) (p ∷ ps) (suc k) inbox new own lt is has = (own.0, still_own bs ps k inbox new own.1 (omega (arith, lt)) is has)
+
+pub pushed : (passes : List InboxPass) (k : ℕ) (pass new : InboxPass) (job : Job) → k < length passes → pass ≡ slice_index_or passes k pass
+    → knowledge new ≡ with_put job (knowledge pass) → known_by (insert (remove passes k) k new) ≡ with_job k job (known_by passes)
+pushed [] k pass new job lt is has = absurd (omega (arith, lt))
+pushed (p ∷ ps) zero pass new job lt is has = ap (λ h. h ∷ known_by ps) (has ∙ ap (λ x. with_put job (knowledge x)) is)
+pushed (p ∷ ps) (suc k) pass new job lt is has = ap (λ hs. knowledge p ∷ hs) (pushed ps k pass new job (omega (arith, lt)) is has)
+
+pub kept : (passes : List InboxPass) (k : ℕ) (pass new : InboxPass) → k < length passes → pass ≡ slice_index_or passes k pass
+    → knowledge new ≡ knowledge pass → known_by (insert (remove passes k) k new) ≡ known_by passes
+kept [] k pass new lt is has = absurd (omega (arith, lt))
+kept (p ∷ ps) zero pass new lt is has = ap (λ h. h ∷ known_by ps) (has ∙ ap (λ x. knowledge x) is)
+kept (p ∷ ps) (suc k) pass new lt is has = ap (λ hs. knowledge p ∷ hs) (kept ps k pass new (omega (arith, lt)) is has)
+
+pub full_at : (inboxes : List Inbox) (passes : List InboxPass) (k : ℕ) (inbox : Inbox) (pass : InboxPass) → AreOfEach inboxes passes
+    → k < length inboxes → inbox ≡ slice_index_or inboxes k inbox → pass ≡ slice_index_or passes k pass
+    → Held (capacity_of inbox) (Shows (made_by inbox) (knowledge pass)) → WasFull inboxes k (known_by passes)
+full_at [] passes k inbox pass own lt is also full = absurd (omega (arith, lt))
+full_at (b ∷ bs) [] k inbox pass own lt is also full = absurd own
+full_at (b ∷ bs) (p ∷ ps) zero inbox pass own lt is also full =
+    subst (λ x. Held (capacity_of x) (Shows (made_by x) (knowledge p))) is
+    (subst (λ x. Held (capacity_of inbox) (Shows (made_by inbox) (knowledge x))) also full)
+full_at (b ∷ bs) (p ∷ ps) (suc k) inbox pass own lt is also full = full_at bs ps k inbox pass own.1 (omega (arith, lt)) is also full
+
+-- the same, by whether the job was pushed
+pub pushed_where : (r : Result Unit Job) (inboxes : List Inbox) (passes : List InboxPass) (k : ℕ) (pass new : InboxPass) (job : Job) (now : List InboxPass)
+    → AreOfEach inboxes passes → k < length inboxes → pass ≡ slice_index_or passes k pass → now ≡ insert (remove passes k) k new
+    → OnOk r (knowledge new ≡ with_put job (knowledge pass)) → OnOk r (known_by now ≡ with_job k job (known_by passes))
+pushed_where (Ok done) inboxes passes k pass new job now own lt is same has =
+    let many = as_many inboxes passes own in
+    ap known_by same ∙ pushed passes k pass new job (omega (arith, many, lt)) is has
+pushed_where (Err back) inboxes passes k pass new job now own lt is same has = has
+
+pub kept_where : (r : Result Unit Job) (inboxes : List Inbox) (passes : List InboxPass) (k : ℕ) (pass new : InboxPass) (job : Job) (now : List InboxPass)
+    → AreOfEach inboxes passes → k < length inboxes → pass ≡ slice_index_or passes k pass → now ≡ insert (remove passes k) k new
+    → IfErr r (λ back. (back ≡ job) × (knowledge new ≡ knowledge pass)) → OnErr r (known_by now ≡ known_by passes)
+kept_where (Ok done) inboxes passes k pass new job now own lt is same has = has
+kept_where (Err back) inboxes passes k pass new job now own lt is same has =
+    let many = as_many inboxes passes own in
+    ap known_by same ∙ kept passes k pass new (omega (arith, many, lt)) is has.1
+
+pub full_where : (r : Result Unit Job) (inboxes : List Inbox) (passes : List InboxPass) (k : ℕ) (inbox : Inbox) (pass : InboxPass)
+    → AreOfEach inboxes passes → k < length inboxes → inbox ≡ slice_index_or inboxes k inbox → pass ≡ slice_index_or passes k pass
+    → OnErr r (Held (capacity_of inbox) (Shows (made_by inbox) (knowledge pass))) → OnErr r (WasFull inboxes k (known_by passes))
+full_where (Ok done) inboxes passes k inbox pass own lt is also full = full
+full_where (Err back) inboxes passes k inbox pass own lt is also full = full_at inboxes passes k inbox pass own lt is also full

@@ -1,0 +1,330 @@
+-- What a session tells of a job, by what it did step by step.
+use Rattle.std.proofs.Common.{◌≡◌, ◌⊎◌, inl, inr, ℕ, ◌<◌, ◌≤◌, Bool, true, List, [], ◌∷◌, ◌++◌, length, Option, Some, None, Result, Ok, Err, refl, sym, ap, subst, ◌∙◌, append_assoc, arith}
+use Rattle.std.specs.Prelude.{All, IfSome, MatchOption, slice_index_or}
+use Rattle.std.specs.List.{Contains}
+use Rattle.std.proofs.lemmas.List.{append-nil}
+use Rattle.std.proofs.lemmas.List.Elements.{All-append, All-cons, All-nil, Contains-append_left, Contains-push}
+use Rattle.area_disk.specs.declared.area.Area.{Ghosts}
+use Rattle.gw_base.specs.Facts.{WhereTold}
+use Rattle.gateway_book.specs.Answer.{Decided, Says, Silent, failure_reply}
+use Rattle.gateway_book.specs.Answered.{act_decided}
+use Rattle.gateway_book.specs.Caller as caller
+use Rattle.gateway_book.specs.Calls.{cause_in}
+use Rattle.gateway_book.specs.Preparing.{prepared_of}
+use Rattle.gateway_book.specs.Turning.{facts_of as book_facts, tells_lists}
+use Rattle.gateway_book.specs.declared.outcome.Outcome.{Outcome}
+use Rattle.gateway_book.specs.declared.outcome.Outcome.TheVariants as outcome
+use Rattle.gateway_book.specs.declared.outcome.Receipt.{Receipt}
+use Rattle.gateway_book.specs.declared.outcome.Settled.{Settled}
+use Rattle.gateway_book.specs.declared.outcome.Settled.TheVariants as settled
+use Rattle.gw_base.specs.declared.address.Addr.{Addr}
+use Rattle.gw_base.specs.declared.history.Caller.{Caller}
+use Rattle.gw_base.specs.declared.history.HistoryAct.{HistoryAct}
+use Rattle.job_inbox.specs.declared.job.Job.{Job}
+use Rattle.net_link.specs.Datagrams.{LinkState}
+use Rattle.net_link.specs.Steps.{Sends}
+use Rattle.net_link.specs.declared.link.LinkStop.{LinkStop}
+use Rattle.net_link.specs.declared.link.LinkStop.TheVariants as stop
+use Rattle.turn_cell.specs.Cell.{knowledge}
+use Rattle.turn_cell.specs.Knowing.{kept}
+use Rattle.turn_cell.specs.declared.cell.Pass.{Pass}
+use Rattle.turn_cell.specs.declared.knowing.KeptTurn.{KeptTurn}
+use Rattle.turn_cell.specs.declared.knowing.Knowledge.{Knowledge}
+use Rattle.node_session.specs.Answering.{AddsAnswers, HasSent, IsAnswerTo, IsFaultAt, IsReplyAt, KeepsTurns, MayHave, Tells, called_at, history_at}
+use Rattle.node_session.specs.Asking.{CommitsIn, IsAsked, TakesIn}
+use Rattle.node_session.specs.Learning.{HasTurnFor, IsCountedBy, Learns}
+use Rattle.node_session.specs.Passes.{known_by}
+use Rattle.node_session.specs.Serving.{Concludes, GoesOn, IsServed, SendsFor, SendsTo, caller_of, once_sent}
+use Rattle.node_session.specs.Turns as turns
+use Rattle.node_session.specs.declared.gate.Go.{Go}
+use Rattle.node_session.specs.declared.gate.Go.TheVariants as go
+use Rattle.node_session.specs.declared.served.Served.{Served}
+use Rattle.node_session.specs.declared.served.Served.TheVariants as served
+
+-- what a receipt tells was decided
+says_of : (d : Decided) (receipt : Receipt) → turns.Tells d (outcome.Answer receipt)
+    → ((act : Option HistoryAct) × (d ≡ Says receipt.reply act)) × (receipt.cause ≡ cause_in receipt.reply)
+says_of (Silent why) receipt told = absurd (cc told)
+says_of (Says octets act) receipt told =
+    let same : receipt ≡ told.0 = cc told.1 in
+    let reply : receipt.reply ≡ octets = ap (λ (r : Receipt). r.reply) same ∙ told.2 in
+    let cause : receipt.cause ≡ cause_in octets = ap (λ (r : Receipt). r.cause) same ∙ told.3 in
+    ((act, ap (λ (o : List ℕ). Says o act) (sym reply)), cause ∙ ap cause_in (sym reply))
+
+-- what a pass did behind its first turn: at most one turn more, which added nothing
+record Later (taken after : Knowledge) : Type 0 where
+  pub later : List KeptTurn
+  pub turns : after.turns ≡ taken.turns ++ later
+  pub number : after.number ≡ taken.number
+  pub size : after.size ≡ taken.size
+  pub one_more : length later ≤ 1
+  pub adds_none : All (λ t. t.added ≡ []) later
+
+later_none : (taken after : Knowledge) → after ≡ taken → Later taken after
+later_none taken after is = record {
+  later = [];
+  turns = ap (λ (k : Knowledge). k.turns) is ∙ sym (append-nil taken.turns);
+  number = ap (λ (k : Knowledge). k.number) is;
+  size = ap (λ (k : Knowledge). k.size) is;
+  one_more = omega arith;
+  adds_none = All-nil (λ (t : KeptTurn). t.added ≡ []);
+}
+
+-- the turn that took a datagram is kept
+pub own_turn : {A : Type 0} (tells : Ghosts A) (from : Addr) (octets : List ℕ) (now : ℕ) (who : Caller) (before taken : Knowledge) (o : Outcome)
+    → TakesIn tells from octets now who before o taken → HasTurnFor (tells_lists tells) o taken
+own_turn tells from octets now who before taken o first receipt is =
+    let t : KeptTurn = kept (book_facts first.found) (book_facts first.left) first.drops first.added in
+    let counts = subst (λ (x : Outcome). turns.IsCountedAt (book_facts first.left) x) is first.does_so.counts in (
+      t,
+      subst (λ (k : Knowledge). Contains k.turns t) (sym first.kept) (Contains-push before.turns t),
+      record { front_is = counts.0; faults_is = counts.1; long = λ it_is. counts.0 ∙ first.sound.1.counted it_is },
+    )
+
+module _ {A : Type 0} (tells : Ghosts A) where
+  later_asked : (front faults : ℕ) (taken after : Knowledge) (s : Settled) → IsAsked tells front faults taken s after → Later taken after
+  later_asked front faults taken after s asked = by_end asked.ends
+    where
+      by_end : ((front ≤ asked.seen) × (s ≡ settled.Firm) × (after ≡ asked.looked))
+          ⊎ ((asked.seen < front) × CommitsIn tells front faults asked.looked s after) → Later taken after
+      by_end (inl seen) = record {
+        later = [];
+        turns = ap (λ (k : Knowledge). k.turns) (seen.2 ∙ asked.saw.same) ∙ sym (append-nil taken.turns);
+        number = ap (λ (k : Knowledge). k.number) (seen.2 ∙ asked.saw.same);
+        size = ap (λ (k : Knowledge). k.size) (seen.2 ∙ asked.saw.same);
+        one_more = omega arith;
+        adds_none = All-nil (λ (t : KeptTurn). t.added ≡ []);
+      }
+      by_end (inr more) =
+          let took = more.1 in
+          let u : KeptTurn = kept (book_facts took.found) (book_facts took.left) took.drops took.added in
+          record {
+            later = u ∷ [];
+            turns = ap (λ (k : Knowledge). k.turns) took.kept ∙ ap (λ (k : Knowledge). k.turns ++ u ∷ []) asked.saw.same;
+            number = ap (λ (k : Knowledge). k.number) took.kept ∙ ap (λ (k : Knowledge). k.number) asked.saw.same;
+            size = ap (λ (k : Knowledge). k.size) took.kept ∙ ap (λ (k : Knowledge). k.size) asked.saw.same;
+            one_more = omega arith;
+            adds_none = All-cons (λ (t : KeptTurn). t.added ≡ []) u [] took.does_so.adds (All-nil (λ (t : KeptTurn). t.added ≡ []));
+          }
+
+  module _ (may : ℕ → ℕ → Go → Type 0) (session : ℕ) (job : Job) (old new : LinkState) (result : Served) where
+    later_on : (taken after : Knowledge) (o : Outcome) → GoesOn tells may session job old new result taken after o → Later taken after
+    later_on taken after (outcome.Drop why) goes = later_none taken after goes.1
+    later_on taken after outcome.NoMemory (inl over) = later_none taken after over.1.1
+    later_on taken after outcome.NoMemory (inr on) = later_none taken after on.1.1
+    later_on taken after (outcome.Answer receipt) (inl over) = later_none taken after over.1.1
+    later_on taken after (outcome.Answer receipt) (inr on) =
+        later_asked receipt.front receipt.faults taken after on.1.settled on.1.asked
+
+    -- the first turn, as the pass keeps it
+    abbrev first_of : {before after : Knowledge} → IsServed tells may session job old new result before after → KeptTurn
+    first_of is = kept (book_facts is.first.found) (book_facts is.first.left) is.first.drops is.first.added
+
+    abbrev IsFirstOf : {before after : Knowledge} → IsServed tells may session job old new result before after → Type 0
+    IsFirstOf is = turns.IsOneOf job.from job.octets job.moment (caller_of session job) (book_facts is.first.found)
+        (book_facts is.first.left) is.first.added is.outcome is.first.drops
+
+    adds_by : {before after : Knowledge} (is : IsServed tells may session job old new result before after) → WhereTold (tells_lists tells)
+        (((first_of is).added ≡ []) ⊎ ((first_of is).added ≡ called_at (tells_lists tells) session job (first_of is)))
+    adds_by is told = by_case (is.first.does_so.answers told)
+      where
+        by_case : IsFirstOf is → ((first_of is).added ≡ []) ⊎ ((first_of is).added ≡ called_at (tells_lists tells) session job (first_of is))
+        by_case (inl taken) = inr taken.adds
+        by_case (inr (inl failed)) = inl failed.adds
+        by_case (inr (inr none)) = inl none.adds
+
+    pub keeps_turns : (before after : Knowledge) → IsServed tells may session job old new result before after
+        → KeepsTurns (tells_lists tells) session job before after
+    keeps_turns before after is =
+        let then = later_on is.taken after is.outcome is.goes_on in
+        record {
+          first = first_of is;
+          later = then.later;
+          turns = then.turns ∙ ap (λ (k : Knowledge). k.turns ++ then.later) is.first.kept
+              ∙ append_assoc before.turns (first_of is ∷ []) then.later;
+          number = then.number ∙ ap (λ (k : Knowledge). k.number) is.first.kept;
+          size = (then.size ∙ ap (λ (k : Knowledge). k.size) is.first.kept, is.first.legal.size);
+          adds = adds_by is;
+          one_more = then.one_more;
+          adds_none = then.adds_none;
+        }
+
+    -- the gate
+    may_sent : (answer : Served) (sent : Result Unit LinkStop) → MayHave (may session job.serial) answer → may session job.serial go.On
+        → MayHave (may session job.serial) (once_sent answer sent)
+    may_sent answer (Ok done) is on = is
+    may_sent answer (Err stop.Failed) is on = on
+    may_sent answer (Err stop.NoMemory) is on = on
+
+    may_to : (octets : Option (List ℕ)) (answer : Served) → SendsTo job old new result octets answer → MayHave (may session job.serial) answer
+        → may session job.serial go.On → MayHave (may session job.serial) result
+    may_to None answer sends is on = subst (λ (r : Served). MayHave (may session job.serial) r) (sym sends.0) is
+    may_to (Some octets) answer sends is on =
+        subst (λ (r : Served). MayHave (may session job.serial) r) (sym sends.2) (may_sent answer sends.0 is on)
+
+    may_for : (receipt : Receipt) (s : Settled) → SendsFor job old new result receipt s → may session job.serial go.On
+        → MayHave (may session job.serial) result
+    may_for receipt settled.Firm sends on = may_to (Some receipt.reply) (served.Replied receipt.cause receipt.front) sends on on
+    may_for receipt (settled.Lost n) sends on = may_to (failure_reply (prepared_of job.octets)) served.Lost sends on on
+    may_for receipt (settled.NotYet n) sends on = absurd sends
+
+    may_on : (taken after : Knowledge) (o : Outcome) → GoesOn tells may session job old new result taken after o → MayHave (may session job.serial) result
+    may_on taken after (outcome.Drop why) goes = subst (λ (r : Served). MayHave (may session job.serial) r) (sym goes.0) tt
+    may_on taken after outcome.NoMemory (inl over) = subst (λ (r : Served). MayHave (may session job.serial) r) (sym over.1.0) over.0
+    may_on taken after outcome.NoMemory (inr on) = subst (λ (r : Served). MayHave (may session job.serial) r) (sym on.1.0) on.0
+    may_on taken after (outcome.Answer receipt) (inl over) = subst (λ (r : Served). MayHave (may session job.serial) r) (sym over.1.0) over.0
+    may_on taken after (outcome.Answer receipt) (inr on) = may_for receipt on.1.settled on.1.sends on.0
+
+    pub may_have : (before after : Knowledge) → IsServed tells may session job old new result before after → MayHave (may session job.serial) result
+    may_have before after is = may_on is.taken after is.outcome is.goes_on
+
+    -- what each answer tells
+    module _ {before after : Knowledge} (is : IsServed tells may session job old new result before after) where
+      abbrev told : Bool
+      told = tells_lists tells
+
+      abbrev t : KeptTurn
+      t = first_of is
+
+      abbrev TellsSo : Served → Type 0
+      TellsSo r = Tells told session job before after old new r
+
+      taken_turns : is.taken.turns ≡ before.turns ++ t ∷ []
+      taken_turns = ap (λ (k : Knowledge). k.turns) is.first.kept
+
+      turns_behind : (later : List KeptTurn) → after.turns ≡ is.taken.turns ++ later → after.turns ≡ before.turns ++ t ∷ later
+      turns_behind later then = then ∙ ap (λ (ts : List KeptTurn). ts ++ later) taken_turns ∙ append_assoc before.turns (t ∷ []) later
+
+      counted : (receipt : Receipt) → is.outcome ≡ outcome.Answer receipt → IsCountedBy told receipt.front receipt.faults t
+      counted receipt o =
+          let counts = subst (λ (x : Outcome). turns.IsCountedAt (book_facts is.first.left) x) o is.first.does_so.counts in
+          record { front_is = counts.0; faults_is = counts.1; long = λ it_is. counts.0 ∙ is.first.sound.1.counted it_is }
+
+      answers_of : (receipt : Receipt) → is.outcome ≡ outcome.Answer receipt → WhereTold told
+          (IsReplyAt told session job t receipt.reply ⊎ IsFaultAt told session job t receipt.reply)
+      answers_of receipt o it_is = by_case (is.first.does_so.answers it_is)
+        where
+          by_case : IsFirstOf is → IsReplyAt told session job t receipt.reply ⊎ IsFaultAt told session job t receipt.reply
+          by_case (inl taken) =
+              let says = (says_of _ receipt (subst (λ (x : Outcome). turns.Tells (turns.decided_at (history_at t) t.found.size job.from job.octets) x) o taken.tells)).0 in
+              inl (record {
+                act = says.0;
+                decides = says.1;
+                adds = taken.adds ∙ ap (λ d. turns.entries_of (history_at t) job.moment (caller_of session job) (act_decided d)) says.1;
+                list = taken.list;
+              })
+          by_case (inr (inl failed)) =
+              let says = (says_of _ receipt (subst (λ (x : Outcome). turns.Tells (turns.decided_by_fault job.octets) x) o failed.tells)).0 in
+              inr (record { act = says.0; rose = failed.rose; decides = says.1; adds = failed.adds })
+          by_case (inr (inr none)) = absurd (cc (sym o ∙ none.tells))
+
+      cause_of : (receipt : Receipt) → is.outcome ≡ outcome.Answer receipt → WhereTold told (receipt.cause ≡ cause_in receipt.reply)
+      cause_of receipt o it_is = by_case (is.first.does_so.answers it_is)
+        where
+          by_case : IsFirstOf is → receipt.cause ≡ cause_in receipt.reply
+          by_case (inl taken) = (says_of _ receipt (subst (λ (x : Outcome). turns.Tells (turns.decided_at (history_at t) t.found.size job.from job.octets) x) o taken.tells)).1
+          by_case (inr (inl failed)) = (says_of _ receipt (subst (λ (x : Outcome). turns.Tells (turns.decided_by_fault job.octets) x) o failed.tells)).1
+          by_case (inr (inr none)) = absurd (cc (sym o ∙ none.tells))
+
+      module _ (receipt : Receipt) (o : is.outcome ≡ outcome.Answer receipt) (on : Concludes tells job old new result is.taken after receipt) where
+        abbrev learnt : Learns told t is.taken after on.settled
+        learnt = on.learns t (subst (λ (ts : List KeptTurn). Contains ts t) (sym taken_turns) (Contains-push before.turns t)) (counted receipt o)
+
+        abbrev then : Later is.taken after
+        then = later_asked receipt.front receipt.faults is.taken after on.settled on.asked
+
+        sent_by : (answer : Served) (octets : List ℕ) (sent : Result Unit LinkStop) → Sends old job.from octets sent new
+            → (HasSent told session job before after old new octets → TellsSo answer) → TellsSo (once_sent answer sent)
+        sent_by answer octets (Ok done) sends so = so sends.ok
+        sent_by answer octets (Err stop.Failed) sends so = sends.stops.failed refl
+        sent_by answer octets (Err stop.NoMemory) sends so = sends.stops.no_memory refl
+
+        replied : on.settled ≡ settled.Firm → HasSent told session job before after old new receipt.reply
+            → TellsSo (served.Replied receipt.cause receipt.front)
+        replied firm sent = record {
+          first = t;
+          later = then.later;
+          turns = turns_behind then.later then.turns;
+          reply = receipt.reply;
+          sent = sent;
+          front_is = (counted receipt o).front_is;
+          cause_is = cause_of receipt o;
+          answers = answers_of receipt o;
+          long = (counted receipt o).long;
+          firm = learnt.firm firm;
+          fault = λ number is_fault. is.first.does_so.fault (subst (λ (x : Outcome). caller.TellsFault x) (sym o) (inr (number, (receipt, refl, is_fault))));
+        }
+
+        lost : (n : ℕ) → on.settled ≡ settled.Lost n
+            → MatchOption (failure_reply (prepared_of job.octets)) (new ≡ old) (HasSent told session job before after old new) → TellsSo served.Lost
+        lost n is_lost sent =
+            let cut = learnt.lost n is_lost in
+            record { first = t; second = cut.second; turns = turns_behind (cut.second ∷ []) cut.turns; cut = cut.cut; rose = cut.rose; sent = sent }
+
+        lost_to : (n : ℕ) → on.settled ≡ settled.Lost n → (octets : Option (List ℕ)) → failure_reply (prepared_of job.octets) ≡ octets
+            → SendsTo job old new result octets served.Lost → TellsSo result
+        lost_to n is_lost None none sends = subst (λ (r : Served). TellsSo r) (sym sends.0)
+            (lost n is_lost (subst (λ x. MatchOption x (new ≡ old) (HasSent told session job before after old new)) (sym none) sends.1))
+        lost_to n is_lost (Some octets) some sends = subst (λ (r : Served). TellsSo r) (sym sends.2) (sent_by served.Lost octets sends.0 sends.1
+            (λ sent. lost n is_lost (subst (λ x. MatchOption x (new ≡ old) (HasSent told session job before after old new)) (sym some) sent)))
+
+        concluded : (s : Settled) → on.settled ≡ s → SendsFor job old new result receipt s → TellsSo result
+        concluded settled.Firm firm sends = subst (λ (r : Served). TellsSo r) (sym sends.2)
+            (sent_by (served.Replied receipt.cause receipt.front) receipt.reply sends.0 sends.1 (replied firm))
+        concluded (settled.Lost n) is_lost sends = lost_to n is_lost (failure_reply (prepared_of job.octets)) refl sends
+        concluded (settled.NotYet n) not sends = absurd sends
+
+      tells_on : (o : Outcome) → is.outcome ≡ o → GoesOn tells may session job old new result is.taken after o → TellsSo result
+      tells_on (outcome.Drop why) o goes = subst (λ (r : Served). TellsSo r) (sym goes.0) (record {
+        first = t;
+        turns = ap (λ (k : Knowledge). k.turns) goes.1 ∙ taken_turns;
+        unsent = goes.2;
+        fault = λ device. is.first.does_so.fault (subst (λ (x : Outcome). caller.TellsFault x) (sym o) (inl (ap (λ w. outcome.Drop w) device)));
+      })
+      tells_on outcome.NoMemory o (inl over) = subst (λ (r : Served). TellsSo r) (sym over.1.0) over.1.2
+      tells_on outcome.NoMemory o (inr on) = subst (λ (r : Served). TellsSo r) (sym on.1.0) on.1.2
+      tells_on (outcome.Answer receipt) o (inl over) = subst (λ (r : Served). TellsSo r) (sym over.1.0) over.1.2
+      tells_on (outcome.Answer receipt) o (inr on) = concluded receipt o on.1 on.1.settled refl on.1.sends
+
+      pub tells_so : TellsSo result
+      tells_so = tells_on is.outcome refl is.goes_on
+
+-- the entries that a pass added, with those of one job more
+more_jobs : (size session : ℕ) (jobs : List Job) (job : Job) (t : KeptTurn) → IsAnswerTo size session jobs t → IsAnswerTo size session (jobs ++ job ∷ []) t
+more_jobs size session jobs job t (inl none) = inl none
+more_jobs size session jobs job t (inr is) = inr (is.0, Contains-append_left jobs (job ∷ []) is.0 is.1, is.2)
+
+none_added : (size session : ℕ) (jobs : List Job) (later : List KeptTurn) → All (λ t. t.added ≡ []) later → All (IsAnswerTo size session jobs) later
+none_added size session jobs later none k d lt = inl (none k d lt)
+
+pub adds_answers : (told : Bool) (session : ℕ) (job : Job) (before after : Knowledge) → KeepsTurns told session job before after → told ≡ true
+    → session ≡ before.number → (jobs : List Job) → AddsAnswers jobs before → AddsAnswers (jobs ++ job ∷ []) after
+adds_answers told session job before after keeps it_is own jobs adds =
+    subst (λ (ts : List KeptTurn). All (IsAnswerTo after.size after.number (jobs ++ job ∷ [])) ts) (sym keeps.turns)
+    (subst (λ (n : ℕ). All (IsAnswerTo n after.number (jobs ++ job ∷ [])) (before.turns ++ keeps.first ∷ keeps.later)) (sym keeps.size.0)
+    (subst (λ (n : ℕ). All (IsAnswerTo before.size n (jobs ++ job ∷ [])) (before.turns ++ keeps.first ∷ keeps.later)) (sym keeps.number)
+    (All-append (IsAnswerTo before.size before.number (jobs ++ job ∷ [])) before.turns (keeps.first ∷ keeps.later)
+    (λ k d lt. more_jobs before.size before.number jobs job (slice_index_or before.turns k d) (adds k d lt))
+    (All-cons (IsAnswerTo before.size before.number (jobs ++ job ∷ [])) keeps.first keeps.later (by_case (keeps.adds it_is))
+    (none_added before.size before.number (jobs ++ job ∷ []) keeps.later keeps.adds_none)))))
+  where
+    by_case : (keeps.first.added ≡ []) ⊎ (keeps.first.added ≡ called_at told session job keeps.first)
+        → IsAnswerTo before.size before.number (jobs ++ job ∷ []) keeps.first
+    by_case (inl none) = inl none
+    by_case (inr is) = inr (
+      job,
+      Contains-push jobs job,
+      is ∙ (λ i. turns.called_for (history_at keeps.first) (keeps.size.1 i) job.from job.octets job.moment (caller_of (own i) job)),
+    )
+
+-- the same of the pass that a session has
+pub at_pass : {A : Type 0} {tells : Ghosts A} {may : ℕ → ℕ → Go → Type 0} {session : ℕ} {job : Job} {old new : LinkState} {result : Served}
+    {after : Knowledge} (p : Option Pass) (pass : Pass) → p ≡ Some pass
+    → IsServed tells may session job old new result (knowledge pass) after → IsServed tells may session job old new result (known_by p) after
+at_pass {tells = tells} {may = may} {session = session} {job = job} {old = old} {new = new} {result = result} {after = after} p pass is served =
+    subst (λ (k : Knowledge). IsServed tells may session job old new result k after) (ap known_by (sym is)) served
+
+pub own_number : (session : ℕ) (p : Option Pass) (pass : Pass) → p ≡ Some pass → IfSome p (λ q. session ≡ (knowledge q).number)
+    → session ≡ (known_by p).number
+own_number session None pass is own = absurd (cc is)
+own_number session (Some q) pass is own = own

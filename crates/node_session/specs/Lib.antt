@@ -1,0 +1,10 @@
+-- What public clauses cite.
+pub mod Answering
+pub mod Asking
+pub mod Learning
+pub mod Passes
+pub mod Receiving
+pub mod Serving
+pub mod Settling
+pub mod Turns
+pub mod Writing

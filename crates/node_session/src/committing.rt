@@ -1,0 +1,32 @@
+// A history is made firm in a turn.
+use area_disk::Area;
+use gateway_book::laws::a_turn_owes;
+use gateway_book::{Book, Settled};
+use turn_cell::Turn;
+
+/// The turn that makes the history firm, for an answer with this front, given when so many commits and openings again
+/// had failed. It names no session.
+#[derive(Drop)]
+pub(crate) struct Committing {
+    pub front: u64,
+    pub faults: u64,
+}
+
+impl<A: Area> Turn<Book<A>> for Committing {
+    ghost use Rattle.std.specs.Prelude.{None};
+    ghost use Rattle.gateway_book.specs.Turning.{facts_of, tells_lists};
+    ghost use Rattle.node_session.specs.Turns.{HasCommitted};
+
+    type Answer = Settled;
+
+    ghost session = { λ turn. None };
+
+    ghost does = { λ turn found left answer drops added. HasCommitted (tells_lists A.Area) turn.front turn.faults
+        (facts_of found) (facts_of left) answer added };
+
+    fn run(self, value: &mut Book<A>) -> Settled {
+        a_turn_owes::<A>();
+        let _committed = value.commit();
+        value.settled(self.front, self.faults)
+    }
+}

@@ -1,0 +1,27 @@
+//! Sessions: workers that answer datagrams on one book in turns, and send a reply once what it rests on is firm.
+#![tactic(auto)]
+
+mod actor;
+mod asking;
+mod committing;
+mod dispatched;
+mod dispatcher;
+mod filing;
+mod gate;
+mod giving;
+pub mod laws;
+mod listing;
+mod served;
+mod serving;
+mod settling;
+mod taking;
+mod worker;
+
+pub use actor::FileActor;
+pub use dispatched::Dispatched;
+pub use dispatcher::Dispatcher;
+pub use filing::Filing;
+pub use gate::{Gate, Go};
+pub use served::Served;
+pub use settling::{SettleFault, settle};
+pub use worker::Worker;

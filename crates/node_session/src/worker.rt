@@ -1,0 +1,96 @@
+// A session.
+ghost use Rattle.std.specs.Prelude.{◌≡◌, IfSome, IsSome, Some};
+ghost use Rattle.std.proofs.Props.{props};
+ghost use Rattle.turn_cell.specs.Cell.{knowledge};
+
+use crate::gate::Gate;
+use crate::served::Served;
+use crate::serving::serve;
+use area_disk::Area;
+use gateway_book::Book;
+use job_inbox::Job;
+use net_link::Link;
+use std::sync::Wait;
+use turn_cell::{Pass, TurnCell};
+
+/// A session: it serves jobs with a pass, whose number the entries bear that it adds.
+#[derive(Drop)]
+pub struct Worker {
+    pub(crate) session: u32,
+    pub(crate) pass: Option<Pass>,
+    ghost has: { IsSome pass },
+    ghost own: { IfSome pass (λ p. session ≡ (knowledge p).number) } by { Prim.hlevel props },
+}
+
+impl Worker {
+    ghost use Rattle.node_session.specs.Passes.{pass_of, session_of};
+
+    /// The session that has this pass.
+    pub fn new(session: u32, pass: Pass) -> Worker
+        requires { session ≡ (knowledge pass).number }
+        ensures session { session_of result ≡ session }
+        ensures pass { pass_of result ≡ Some pass }
+    {
+        Worker {
+            session,
+            pass: Some(pass),
+        }
+    }
+
+    /// Its pass.
+    pub fn into_pass(self) -> Pass
+        ensures { pass_of self ≡ Some result }
+    {
+        let Worker { session: _, pass } = self;
+        let Some(pass) = pass else {
+            unreachable!();
+        };
+        pass
+    }
+}
+
+impl Worker {
+    ghost use Rattle.std.specs.Prelude.{List, ◌∷◌, ◌++◌, []};
+    ghost use Rattle.gateway_book.specs.Turning.{tells_lists};
+    ghost use Rattle.gw_base.specs.Facts.{WhereTold};
+    ghost use Rattle.job_inbox.specs.declared.job.Job.{Job};
+    ghost use Rattle.node_session.specs.Answering.{AddsAnswers, KeepsTurns, MayHave, Tells};
+    ghost use Rattle.node_session.specs.Passes.{IsWorkerOf, knowledge_of, session_of};
+    ghost use Rattle.node_session.specs.Serving.{IsServed};
+
+    /// Serves a job on a link. It prepares the datagram without a turn, takes it in one turn, enters the gate, and looks
+    /// at the length that never falls. Where that hasn't reached the front of its answer, it takes a second turn, which
+    /// commits. A reply goes out once all that it rests on is firm.
+    pub fn serve_one<A: Area, G: Gate, L: Link, R: Wait>(
+        &mut self,
+        rt: &R,
+        cell: &TurnCell<Book<A>>,
+        job: Job,
+        gate: &G,
+        link: &mut L,
+    ) -> Served
+        requires own { IsWorkerOf cell.now self.old }
+        ensures own { IsWorkerOf cell.now self.new × (session_of self.new ≡ session_of self.old) }
+        // What it did, step by step: it is dropped exactly where the turn dropped it, and lost exactly where the book
+        // told so and no send failed.
+        ensures served { IsServed A.Area (G.may gate.now) (session_of self.old) job (L.state link.old)
+            (L.state link.new) result (knowledge_of self.old) (knowledge_of self.new) }
+        // The turns that its pass keeps of the call, and which entry they added.
+        ensures turns { KeepsTurns (tells_lists A.Area) (session_of self.old) job (knowledge_of self.old)
+            (knowledge_of self.new) }
+        // What was sent, and what stands: no reply goes before its front.
+        ensures tells { Tells (tells_lists A.Area) (session_of self.old) job (knowledge_of self.old)
+            (knowledge_of self.new) (L.state link.old) (L.state link.new) result }
+        ensures gate { MayHave (G.may gate.now (session_of self.old) job.serial) result }
+        // All that it added are answers to its jobs.
+        ensures answers { WhereTold (tells_lists A.Area) ((jobs : List Job) → AddsAnswers jobs (knowledge_of self.old) →
+            AddsAnswers (jobs ++ job ∷ []) (knowledge_of self.new)) }
+    {
+        let Some(pass) = self.pass.take() else {
+            unreachable!();
+        };
+        let (served, pass) = serve(rt, cell, pass, self.session, &job, gate, link);
+        self.pass = Some(pass);
+        served
+    }
+}
