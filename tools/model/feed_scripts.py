@@ -13,6 +13,8 @@ import wire
 from script import MOST_RULES
 
 VERSIONS = (0x0600, 0x0600, 0x0600, 0x0700, 0x0300, 0x0400, 0x0900, 0x0A00, 0x0B1F, 0xF61F, 0x06FF, 0x0000)
+# Mostly releases above 9, which differ in the extension alone.
+LATER = (0x0A00, 0x0A00, 0x0B00, 0x0B00, 0x0F00, 0x0B1F, 0x0900)
 FORMATS = (1, 1, 1, 1, 1, 1, 0, 2, 6, 7, 8, 255)
 IDENTIFIERS = ("A0", "80", "30", "1F22", "BF8122", "9F05", "1F8005", "05", "00", "7F64")
 VALUES = ("A003800105", "A003800106", "800105", "30808001050000", "1F220101", "BF8122038001FF", "0500", "A0810080")
@@ -34,6 +36,7 @@ class Feed:
         self.random = random.Random(seed)
         self.senders = [(self.random.choice((1, 1, 1, 2)), node) for node in range(1, self.random.randint(2, 5))]
         self.numbers = self.random.sample(NUMBERS, 4) + [self.random.randrange(65536)]
+        self.versions = self.random.choice((VERSIONS, VERSIONS, VERSIONS, LATER))
         self.sent = []
         self.moment = self.random.choice((0, 0, 1709164800, 4102444000, 86399))
         self.lines = []
@@ -51,7 +54,7 @@ class Feed:
         if kind == "records":
             return f"limit records {self.pick(1, 2, 3, 5, 1000000)}"
         if kind == "size":
-            return f"limit size {self.pick(1, 52, 61, 62, 70, 71, 100, 150, 1000000000)}"
+            return f"limit size {self.pick(1, 52, 61, 62, 64, 65, 70, 71, 74, 100, 150, 1000000000)}"
         if kind == "open":
             return f"limit open {self.pick(1, 10, 60, 1000000)}"
         if kind == "profile":
@@ -71,7 +74,7 @@ class Feed:
             return bytes.fromhex(self.pick("", "", "00", "00123456", "0001", "000102", "0001020304", "01010600"))
         format_ = self.pick(*FORMATS)
         records = [self.record(format_) for _ in range(self.pick(1, 1, 1, 2, 3))]
-        value = wire.packet_value(format_, self.pick(*VERSIONS), records)
+        value = wire.packet_value(format_, self.pick(*self.versions), records)
         return value + b"\0" if self.is_rare(0.02) else value
 
     def number(self):
@@ -154,6 +157,8 @@ class Feed:
             self.lines.append(f"in 10.9.0.{node}:1 {datagram.hex()}")
 
     def script(self):
+        if self.versions is LATER:
+            self.lines.append(f"profile {self.pick(1, 2, 2)}")
         for _ in range(self.pick(0, 0, 1, 2, 3, 6)):
             self.lines.append(self.setting())
         if not any(line.startswith("reserve") for line in self.lines):
