@@ -33,7 +33,8 @@ def bad(octets):
 
 def answers(octets, pieces):
     """What a deframer answers that is given a stream in pieces of these lengths, one after the other, each piece until
-    it is used: the octets used, and Whole with the message, More, or Bad with its place and why."""
+    it is used: the octets used, and Whole with the message, More, or Bad with its place and why. After Bad each piece is
+    answered by it again, an empty one too."""
     at, used, told = 0, 0, []
     for size in pieces:
         end = min(at + size, len(octets))
@@ -41,8 +42,12 @@ def answers(octets, pieces):
             _, rest = frames(octets[:used])
             begun = len(rest)
             why = fault(octets[used - begun : end])
+            if told and told[-1][1] == "Bad":
+                told.append(told[-1])
+                break
             if why:
-                return told + [(0, "Bad", used - begun, why)]
+                told.append((0, "Bad", used - begun, why))
+                break
             counts = [n for n in range(1, end - used + 1) if frames(octets[used - begun : used + n])[0]]
             if counts:
                 told.append((counts[0], "Whole", octets[used - begun : used + counts[0]]))
@@ -61,6 +66,8 @@ def check():
     assert frames(one + one[:3]) == ([one], one[:3])
     assert bad(b"\x5e") == (0, "NotPrime") and bad(one + b"\x2e") == (11, "Version") and bad(one) is None
     assert [a[1] for a in answers(one + one, [11, 1, 100])] == ["Whole", "More", "More", "Whole", "More"]
+    assert answers(one + b"\x2e" + one, [5, 7, 0, 3]) == [(5, "More"), (6, "Whole", one)] + 3 * [(0, "Bad", 11, "Version")]
+    assert answers(b"\x5e", [0, 1]) == [(0, "More"), (0, "Bad", 0, "NotPrime")]
     for size in (1, 7, 44):
         told = answers(one + one, [size] * 44)
         assert [a[2] for a in told if a[1] == "Whole"] == [one, one]

@@ -3,7 +3,7 @@
 Nothing is kept but the list of calls: each question scans it.
 """
 
-HALF = 32_768
+HALF = LEAST = 32_768
 MOST_COPIES = 65_536
 
 
@@ -22,7 +22,7 @@ class Window:
         top = self.top()
         if top is None:
             return 65_536 + wire
-        return next(n for n in range(max(top - 32_768, 0), top + 32_768) if n % 65_536 == wire)
+        return next(n for n in range(top - 32_768, top + 32_768) if n % 65_536 == wire)
 
     def holds(self, number):
         """Whether the window holds a number."""
@@ -36,7 +36,9 @@ class Window:
         return next((state for n, state in reversed(self.sets) if n == number), "Fresh")
 
     def set(self, number, state):
-        """Gives a state to a number that isn't below the window."""
+        """Gives a state to a number that isn't below the window, and is one that a request may have."""
+        top = self.top()
+        assert LEAST <= number < 2**63 and (top is None or top - self.half <= number)
         self.sets.append((number, state))
 
     def set_within(self, numbers, state):
@@ -46,6 +48,10 @@ class Window:
     def clear(self):
         """Begins a new epoch."""
         self.sets = []
+
+    def copy_from(self, other):
+        """Makes the window know what another one knows."""
+        self.sets = list(other.sets)
 
 
 class Held:
@@ -60,6 +66,7 @@ class Held:
 
     def hold(self, node, number, place):
         """Holds one more copy, which isn't held; False where as many are held as may be."""
+        assert self.find(node, number) is None
         if len(self.copies) == MOST_COPIES:
             return False
         self.copies.append((node, number, place))
@@ -77,6 +84,14 @@ class Held:
         self.copies = [copy for copy in self.copies if copy[0] != node]
         return before - len(self.copies)
 
+    def count(self):
+        """How many copies are held."""
+        return len(self.copies)
+
+    def copy_from(self, other):
+        """Holds what another one holds."""
+        self.copies = list(other.copies)
+
 
 def check():
     """The worked values."""
@@ -85,9 +100,13 @@ def check():
     window.set(65_536, "Filed")
     assert (window.near(0x7FFF), window.near(0x8000)) == (98_303, 32_768)
     small = Window(2)
-    for number, state in [(7, "Sealed"), (5, "Filed"), (9, "Filed")]:
+    for number, state in [(70_007, "Sealed"), (70_005, "Filed"), (70_009, "Filed")]:
         small.set(number, state)
-    assert [small.state(n) for n in range(5, 11)] == ["Fresh", "Fresh", "Sealed", "Fresh", "Filed", "Fresh"]
+    assert [small.state(n) for n in range(70_005, 70_011)] == ["Fresh", "Fresh", "Sealed", "Fresh", "Filed", "Fresh"]
+    other = Window(2)
+    other.copy_from(small)
+    small.clear()
+    assert (other.state(70_007), small.state(70_007), small.top()) == ("Sealed", "Fresh", None)
     held = Held()
     assert held.hold(1, 70_000, 5) and held.hold(2, 70_000, 40) and held.hold(1, 70_001, 90)
     assert (held.take(2, 70_001), held.take(1, 70_000), held.drop_node(1), held.find(2, 70_000)) == (None, 5, 1, 40)
