@@ -36,11 +36,17 @@ def file(number):
 
 def _change(draw, whole, end):
     """Cuts a file, or changes an octet of it, and mostly mends the length that it says."""
-    kind = draw.choice(("cut", "more", "octet", "length", "header", "release", "count"))
+    kind = draw.choice(("cut", "more", "head", "octet", "length", "header", "release", "count"))
     if kind == "cut":
         del whole[draw.randrange(len(whole)) :]
     elif kind == "more":
         whole += draw.randbytes(draw.randint(1, 6))
+    elif kind == "head":
+        # The first octets of one more CDR, mostly of a release above 9: its header wants one octet, or is whole.
+        release = draw.choice((EXTENDED, EXTENDED, 3))
+        head = bytes([0, draw.choice((0, 0, 1)), release << 5 | draw.randrange(32), draw.randrange(256)])
+        whole += head + draw.randbytes(draw.choice((0, 0, 1)))
+        whole[18:22] = (int.from_bytes(whole[18:22], "big") + 1).to_bytes(4, "big")
     elif kind == "octet":
         whole[draw.randrange(len(whole))] = draw.randrange(256)
     elif kind == "length":
