@@ -10,7 +10,7 @@ import sys
 
 import script
 import wire
-from feed_scripts import BAD_VALUES, FORMATS, IDENTIFIERS, VALUES, VERSIONS, write
+from feed_scripts import BAD_VALUES, FORMATS, IDENTIFIERS, LATER, VALUES, VERSIONS, write
 from world import LAST_START, Refused, Stopped, World
 
 # How often a line of each form is made; a script has factors of its own.
@@ -40,6 +40,7 @@ class Replay:
         self.random = random.Random(seed)
         self.shares = {form: share * self.pick(0.2, 1, 1, 1, 4) for form, share in SHARES.items()}
         self.is_large = self.is_rare(0.004)
+        self.versions = self.pick(*[VERSIONS] * 7, LATER)
         self.lines = self.settings()
         self.world = World(self.lines)
         self.gateways, self.nodes = len(self.world.gateways), len(self.world.nodes)
@@ -61,6 +62,8 @@ class Replay:
         """Lines of settings, of which a later one replaces an earlier one, and blank ones among them."""
         small = self.pick(100, 130, 200, self.random.randint(100, 1_200), *[self.random.randint(200, 3_000)] * 3)
         lines = [("reserve", 3_000_000 if self.is_large else small if self.is_rare(0.4) else 30_000)]
+        if self.versions is LATER:
+            lines.append(("profile", self.pick(1, 2, 2)))
         lines += [self.setting() for _ in range(self.pick(0, 0, 1, 2, 3, 6))]
         lines.append(("gateways", self.pick(1, *[2] * 9, *[3] * 7, 4, 4, 8)))
         lines.append(("nodes", self.pick(*[1] * 10, *[2] * 6, 3, 3, 4, 16)))
@@ -118,7 +121,7 @@ class Replay:
     def submit(self, node):
         self.packets += 1
         format_ = self.pick(*FORMATS)
-        return self.add("submit", node, format_, self.pick(*VERSIONS), self.records(format_))
+        return self.add("submit", node, format_, self.pick(*self.versions), self.records(format_))
 
     def deliver(self, waits):
         """A message that waits, a request of old, or any."""
