@@ -33,8 +33,8 @@ def bad(octets):
 
 def answers(octets, pieces):
     """What a deframer answers that is given a stream in pieces of these lengths, one after the other, each piece until
-    it is used: the octets used, and Whole with the message, More, or Bad with its place and why. After Bad each piece is
-    answered by it again, an empty one too."""
+    it is used: the octets used, and Whole with the message, More, or Bad with its place and why. After Bad each piece
+    is answered by it again, an empty one too."""
     at, used, told = 0, 0, []
     for size in pieces:
         end = min(at + size, len(octets))
@@ -66,7 +66,8 @@ def check():
     assert frames(one + one[:3]) == ([one], one[:3])
     assert bad(b"\x5e") == (0, "NotPrime") and bad(one + b"\x2e") == (11, "Version") and bad(one) is None
     assert [a[1] for a in answers(one + one, [11, 1, 100])] == ["Whole", "More", "More", "Whole", "More"]
-    assert answers(one + b"\x2e" + one, [5, 7, 0, 3]) == [(5, "More"), (6, "Whole", one)] + 3 * [(0, "Bad", 11, "Version")]
+    bad_ever_after = 3 * [(0, "Bad", 11, "Version")]
+    assert answers(one + b"\x2e" + one, [5, 7, 0, 3]) == [(5, "More"), (6, "Whole", one), *bad_ever_after]
     assert answers(b"\x5e", [0, 1]) == [(0, "More"), (0, "Bad", 0, "NotPrime")]
     for size in (1, 7, 44):
         told = answers(one + one, [size] * 44)
