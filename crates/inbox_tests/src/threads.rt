@@ -28,7 +28,7 @@ struct Desk {
 }
 
 // A job of this number, without octets.
-fn job(alloc: Global, serial: u64) -> Option<Job> {
+pub(crate) fn job(alloc: Global, serial: u64) -> Option<Job> {
     Some(Job {
         from: Addr {
             ip: 0x0A00_0001,
