@@ -2,11 +2,13 @@
 use Rattle.std.specs.Prelude.{ℕ, ◌≡◌, ◌≤◌, ◌++◌, Bool, true, List, length}
 use Rattle.gw_base.specs.declared.history.HistoryEntry.{HistoryEntry}
 
--- The numbers hold always, the lists where they are told: a size that stays, counts of faults and of cuts that never
--- fall, how many entries the list has, a length that never falls, the list of entries that the value stands for, those
--- that are firm, and those that a fault tore off the list, of which nobody knows whether they will be found again
+-- The numbers and the name hold always, the lists where they are told: a size and octets that name the value, which
+-- stay, counts of faults and of cuts that never fall, how many entries the list has, a length that never falls, the list
+-- of entries that the value stands for, those that are firm, and those that a fault tore off the list, of which nobody
+-- knows whether they will be found again
 pub record Facts : Type 0 where
   pub size : ℕ
+  pub name : List ℕ
   pub faults : ℕ
   pub cuts : ℕ
   pub entries : ℕ

@@ -34,6 +34,7 @@ pub record Adds (session : Option ℕ) (found left : Facts) (drops : Bool) (adde
 -- What a turn keeps to, whatever it does.
 pub record Owes (told : Bool) (found left : Facts) : Type 0 where
   pub size : left.size ≡ found.size
+  pub name : left.name ≡ found.name
   -- neither count falls, and that of cuts rises only where that of faults does
   pub faults : found.faults ≤ left.faults
   pub cuts : found.cuts ≤ left.cuts

@@ -72,6 +72,7 @@ module _ {V : Type 0} (told : Bool) (made : ℕ) (facts : V → Facts) (start : 
     pub sound : AreSound told c'.now
     pub stands : WhereTold told (Stands made start c'.now c'.stood c'.tail)
     pub size : c'.now.size ≡ start.size
+    pub name : c'.now.name ≡ start.name
     pub slot : IsSomewhere facts c'.now homes (set s.views id d')
     pub own : Fits told made c' id d'
     pub others : (j : ℕ) (e : SeatView) → j ≢ id → get_elem? s.views j ≡ some e → Fits told made c j e → Fits told made c' j e
@@ -88,6 +89,7 @@ module _ {V : Type 0} (told : Bool) (made : ℕ) (facts : V → Facts) (start : 
     sound = b.sound;
     stands = b.stands;
     size = b.size;
+    name = b.name;
     slot = b.slot;
     seats = λ j e p. ⊎_elim
         (λ (t : (j ≡ id) × (d' ≡ e)). subst (λ (x : ℕ × SeatView). Fits told made c' x.0 x.1) (λ i. (sym t.0 i, t.1 i)) b.own)

@@ -55,7 +55,7 @@ kept_from told made f first (suc n) within = All-cons (IsKept told made (first_c
     (record {
       keeper = refl;
       number = omega arith;
-      legal = record { size = refl; seen = omega arith; known = λ t. begins_self f.firm; turns = All-nil (λ (u : KeptTurn). Follows told (facts_of u.left) f) };
+      legal = record { size = refl; since = omega arith; seen = omega arith; known = λ t. begins_self f.firm; turns = All-nil (λ (u : KeptTurn). Follows told (facts_of u.left) f) };
       owns = λ t. refl;
     })
     (kept_from told made f (suc first) n (omega arith))
@@ -81,6 +81,7 @@ module _ {V : Type 0} (told : Bool) (made : ℕ) (facts : V → Facts) where
             made_by = All-nil (λ (e : HistoryEntry). e.caller.session < made);
           };
           size = refl;
+          name = refl;
           slot = inl (
             v,
             refl,
@@ -135,6 +136,7 @@ module _ {V : Type 0} (told : Bool) (made : ℕ) (facts : V → Facts) where
               record {
                 sound = subst (AreSound told) (sym now) k.sound;
                 size = ap (λ (f : Facts). f.size) now ∙ k.size;
+                name = ap (λ (f : Facts). f.name) now ∙ k.name;
                 legal = All-weaker (IsKept told made c id) (λ (n : Knowledge). IsLegal told n (facts v)) (λ (n : Knowledge) h. subst (IsLegal told n) (sym now) h.legal) ks desk.passes;
                 entries = λ t. record {
                   stood = c.stood;

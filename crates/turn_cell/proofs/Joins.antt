@@ -85,6 +85,7 @@ module _ {V : Type 0} (told : Bool) (made : ℕ) (facts : V → Facts) (start : 
           sound = k.sound;
           stands = k.stands;
           size = k.size;
+          name = k.name;
           slot = ⊎_elim
               (λ (home : IsHome facts c.now s.homes s.views). inl (
                 home.0,
@@ -189,6 +190,7 @@ module _ {V : Type 0} (told : Bool) (made : ℕ) (facts : V → Facts) (start : 
           sound = k.sound;
           stands = k.stands;
           size = k.size;
+          name = k.name;
           slot = ⊎_elim
               (λ (home : IsHome facts c.now s.homes s.views). inl (
                 home.0,

@@ -68,6 +68,7 @@ module _ {V : Type 0} (told : Bool) (made : ℕ) (facts : V → Facts) (start : 
         sound = k.sound;
         stands = k.stands;
         size = k.size;
+        name = k.name;
         slot = stays_somewhere facts c.now s.homes s.views id d w at (λ it. it) (λ it. it) refl k.slot;
         own = record {
           stage = record {
@@ -133,6 +134,7 @@ module _ {V : Type 0} (told : Bool) (made : ℕ) (facts : V → Facts) (start : 
         sound = k.sound;
         stands = k.stands;
         size = k.size;
+        name = k.name;
         slot = inr (ap (λ (hs : List (maybe.Option (Option V))). set hs 0 none) home.1, (id, w, here, tt, omega arith));
         own = record { stage = record { ticket = fits.stage; turn = turn; now = home.2 }; passes = fits.passes };
         others = λ j e _ _ f. f;
@@ -189,6 +191,7 @@ module _ {V : Type 0} (told : Bool) (made : ℕ) (facts : V → Facts) (start : 
         sound = k.sound;
         stands = k.stands;
         size = k.size;
+        name = k.name;
         slot = inl (
           v,
           put,
@@ -233,6 +236,7 @@ module _ {V : Type 0} (told : Bool) (made : ℕ) (facts : V → Facts) (start : 
         sound = k.sound;
         stands = k.stands;
         size = k.size;
+        name = k.name;
         slot = stays_somewhere facts c.now s.homes s.views id d w at (λ it. it) (λ it. it) refl k.slot;
         own = record {
           stage = tt;
@@ -317,6 +321,7 @@ module _ {V : Type 0} (told : Bool) (made : ℕ) (facts : V → Facts) (start : 
         sound = leaves;
         stands = a.stands;
         size = owes.size ∙ ap (λ (z : Facts). z.size) now ∙ k.size;
+        name = owes.name ∙ ap (λ (z : Facts). z.name) now ∙ k.name;
         slot = ⊎_elim
             (λ (home : IsHome facts c.now s.homes s.views). absurd (home.3 id d at tt))
             (λ (gone : IsAway facts s.homes s.views). inr (gone.0, (id, w, set_here s.views id w (inside s.views id d at), tt, omega arith)))

@@ -69,6 +69,7 @@ module _ (told : Bool) where
   pub legal_on : (k : Knowledge) (found left : Facts) → IsLegal told k found → Owes told found left → AreSound told found → IsLegal told k left
   legal_on k found left l o sound = record {
     size = o.size ∙ l.size;
+    since = let a = l.since in let b = o.faults in omega arith;
     seen = let a = l.seen in let b = o.grows in omega arith;
     known = λ t. begins_then k.known found.firm left.firm (l.known t) (o.firm t);
     turns = All-weaker (λ (t : KeptTurn). Follows told (facts_of t.left) found) (λ (t : KeptTurn). Follows told (facts_of t.left) left)
@@ -79,6 +80,7 @@ module _ (told : Bool) where
       → IsLegal told (after_turn k found left drops added) left
   legal_own k found left drops added l o sound leaves = record {
     size = o.size ∙ l.size;
+    since = let a = l.since in let b = o.faults in omega arith;
     seen = omega arith;
     known = λ t. begins_self left.firm;
     turns = All-push (λ (t : KeptTurn). Follows told (facts_of t.left) left) k.turns (kept found left drops added)
@@ -110,7 +112,7 @@ module _ (told : Bool) where
   }
 
   pub legal_seen : (k : Knowledge) (now : Facts) → IsLegal told k now → IsLegal told (knowing k now) now
-  legal_seen k now l = record { size = l.size; seen = omega arith; known = λ t. begins_self now.firm; turns = l.turns }
+  legal_seen k now l = record { size = l.size; since = l.since; seen = omega arith; known = λ t. begins_self now.firm; turns = l.turns }
 
 -- ---- which entries stand
 

@@ -12,6 +12,7 @@ use Rattle.turn_cell.specs.declared.knowing.Standing.{Standing}
 abbrev pub facts_of : Standing → Facts
 facts_of s = record {
   size = s.size;
+  name = s.name;
   faults = s.faults;
   cuts = s.cuts;
   entries = s.entries;
@@ -25,6 +26,7 @@ facts_of s = record {
 abbrev pub standing : Facts → Standing
 standing f = record {
   size = f.size;
+  name = f.name;
   faults = f.faults;
   cuts = f.cuts;
   entries = f.entries;
@@ -49,6 +51,8 @@ pub record Follows (told : Bool) (left now : Facts) : Type 0 where
 -- A value with these facts may come to the turn of a pass that knows so much.
 pub record IsLegal (told : Bool) (k : Knowledge) (now : Facts) : Type 0 where
   pub size : now.size ≡ k.size
+  -- the count of faults is at least the one that the cell was made with
+  pub since : k.faults ≤ now.faults
   pub seen : k.seen ≤ now.length
   pub known : WhereTold told (Begins k.known now.firm)
   pub turns : All (λ t. Follows told (facts_of t.left) now) k.turns
@@ -56,7 +60,7 @@ pub record IsLegal (told : Bool) (k : Knowledge) (now : Facts) : Type 0 where
 -- what a pass knows at first of a value with these facts
 abbrev pub newcomer : ℕ → Facts → Knowledge
 newcomer number start =
-    record { number = number; size = start.size; seen = start.length; known = start.firm; turns = [] }
+    record { number = number; size = start.size; faults = start.faults; seen = start.length; known = start.firm; turns = [] }
 
 -- what so many passes know at first, numbered from the first number on
 abbrev pub newcomers_from : Facts → ℕ → ℕ → List Knowledge
@@ -68,7 +72,7 @@ newcomers start n = newcomers_from start 0 n
 
 -- what the first of these passes knows
 abbrev pub first_of : List Knowledge → Knowledge
-first_of [] = record { number = 0; size = 0; seen = 0; known = []; turns = [] }
+first_of [] = record { number = 0; size = 0; faults = 0; seen = 0; known = []; turns = [] }
 first_of (k ∷ ks) = k
 
 -- a turn, as its pass keeps it

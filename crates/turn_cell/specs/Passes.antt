@@ -40,6 +40,7 @@ pub record AreOwned (start now : Facts) (passes : List Knowledge) : Type 0 where
 pub record Ended (told : Bool) (start now : Facts) (passes : List Knowledge) : Type 0 where
   pub sound : AreSound told now
   pub size : now.size ≡ start.size
+  pub name : now.name ≡ start.name
   -- it could come to a turn of each pass: its firm part begins with what the pass knows
   pub legal : All (λ k. IsLegal told k now) passes
   pub entries : WhereTold told (AreOwned start now passes)

@@ -64,7 +64,7 @@ ticket_at (Holding ticket found) = ticket
 ticket_at (Leaving ticket left) = ticket
 
 abbrev pub nothing : Facts
-nothing = record { size = 0; faults = 0; cuts = 0; entries = 0; length = 0; list = []; firm = []; torn = [] }
+nothing = record { size = 0; name = []; faults = 0; cuts = 0; entries = 0; length = 0; list = []; firm = []; torn = [] }
 
 -- what the value was that a pass has, when it came
 abbrev pub found_at : Stage → Facts
@@ -119,6 +119,7 @@ module _ (told : Bool) (made : ℕ) where
       pub sound : AreSound told c.now
       pub stands : WhereTold told (Stands made start c.now c.stood c.tail)
       pub size : c.now.size ≡ start.size
+      pub name : c.now.name ≡ start.name
       pub slot : IsSomewhere facts c.now s.homes s.views
       pub seats : (j : ℕ) (d : SeatView) → get_elem? s.views j ≡ some d → Fits c j d
       pub count : passes_in s.views ≡ made

@@ -6,6 +6,7 @@ use std::collections::LinkedList;
 /// The facts of a value at one moment.
 pub struct Standing {
     pub size: u64,
+    pub name: LinkedList<u8>,
     pub faults: u64,
     pub cuts: u64,
     pub entries: u64,
@@ -24,11 +25,12 @@ pub struct KeptTurn {
     pub added: LinkedList<HistoryEntry>,
 }
 
-/// What one pass knows: its number, the size of the value, the greatest length that it has seen or raised, the firm
-/// entries that it has learnt of, and its turns.
+/// What one pass knows: its number, the size of the value, the count of faults that its cell was made with, the greatest
+/// length that it has seen or raised, the firm entries that it has learnt of, and its turns.
 pub struct Knowledge {
     pub number: u64,
     pub size: u64,
+    pub faults: u64,
     pub seen: u64,
     pub known: LinkedList<HistoryEntry>,
     pub turns: LinkedList<KeptTurn>,

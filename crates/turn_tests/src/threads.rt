@@ -20,6 +20,7 @@ impl Counted for Tally {
 
     ghost facts = { λ tally. record {
       size = 0;
+      name = [];
       faults = 0;
       cuts = 0;
       entries = tally.count;
