@@ -1,7 +1,6 @@
 -- What an answer may add.
-use Rattle.std.proofs.Common.{◌≡◌, ℕ, ◌+◌, ◌≤◌, ◌^◌, ◌<◌, Bool, true, false, ◌&&◌, List, Option, Some, None, refl, sym, ap, subst, ◌∙◌, true≢false, arith}
-use Rattle.std.specs.Prelude.{IfSome, nat_le, nat_lt}
-use Rattle.std.proofs.lemmas.Bool.{and_parts, ltb-true}
+use Rattle.std.proofs.Common.{◌≡◌, ℕ, ◌+◌, ◌≤◌, Bool, true, false, List, Option, Some, None, refl, sym, ap, subst, ◌∙◌, true≢false, arith}
+use Rattle.std.specs.Prelude.{IfSome}
 use Rattle.area_disk.specs.declared.area.Area.{Ghosts}
 use Rattle.gate_journal.specs.Format.{longest_batch}
 use Rattle.cgf_journal.specs.Trail.{waiting_octets}
@@ -11,14 +10,12 @@ use Rattle.gw_base.specs.Observed.{Observed}
 use Rattle.gw_base.specs.declared.address.Addr.{Addr}
 use Rattle.gw_base.specs.declared.history.Caller.{Caller}
 use Rattle.gw_base.specs.declared.history.HistoryAct.{HistoryAct}
-use Rattle.gw_base.specs.declared.history.HistoryAct.TheVariants.{Start, Path, File, Hold, Seal, Release, Cancel, Tick, Close}
 use Rattle.gateway_book.specs.Adding.{AddsIf, IsSame, MayAdd, room_in}
 use Rattle.gateway_book.specs.Answer.{Decided, Given, Drops, Replies, Says, Silent, answer_within, decided, may_record, node_of}
 use Rattle.gateway_book.specs.Answered.{act_decided, act_given}
-use Rattle.gateway_book.specs.Fit.{is_act_fit, is_fresh, is_in_window, is_new, is_packet_fit}
+use Rattle.gateway_book.specs.Fit.{is_act_fit}
 use Rattle.gateway_book.specs.FitLaws.{records_fit}
 use Rattle.gateway_book.specs.Index.{MayCome, observed_by}
-use Rattle.gateway_book.specs.Limits.{has_place, is_in_range, may_hold}
 use Rattle.gateway_book.specs.Preparing.{IsShort, IsWhole, PreparedValue}
 use Rattle.gateway_book.specs.Recording.{Fits, IfRecords}
 use Rattle.gateway_book.specs.RoomAsked.{room_asked}
@@ -31,29 +28,6 @@ recorded_holds : (P : HistoryAct → Type 0) (given : Given) (a : HistoryAct) �
 recorded_holds P (Drops why) a is e = absurd (cc e)
 recorded_holds P (Replies number message None) a is e = absurd (cc e)
 recorded_holds P (Replies number message (Some b)) a is e = let same : b ≡ a = cc e in subst P same is
-
-new_parts : (o : Observed) (x : ℕ) → is_new o x ≡ true → (has_place o ≡ true) × (x < 2 ^ 63)
-new_parts o x new =
-    let a = and_parts (has_place o && is_fresh (o.state x) && is_in_range x) (is_in_window o.top x) new in
-    let b = and_parts (has_place o && is_fresh (o.state x)) (is_in_range x) a.0 in
-    let c = and_parts (has_place o) (is_fresh (o.state x)) b.0 in
-    let d = and_parts (nat_le 32768 x) (nat_lt x (2 ^ 63)) b.1 in
-    (c.0, ltb-true x (2 ^ 63) d.1)
-
--- an act that is fit may come next
-pub fit_may_come : (index : Index) (a : HistoryAct) → is_act_fit (observed_by false index) a ≡ true → MayCome a index
-fit_may_come index Start fit = record { place = refl; low = tt }
-fit_may_come index (Path n port counter) fit = record { place = fit; low = tt }
-fit_may_come index (File n x packet) fit =
-    let parts = new_parts (observed_by false index n) x (and_parts (is_new (observed_by false index n) x) (is_packet_fit packet) fit).0 in record { place = parts.0; low = parts.1 }
-fit_may_come index (Hold n x packet) fit =
-    let both = and_parts (is_new (observed_by false index n) x && is_packet_fit packet) (may_hold (observed_by false index n)) fit in
-    let parts = new_parts (observed_by false index n) x (and_parts (is_new (observed_by false index n) x) (is_packet_fit packet) both.0).0 in record { place = parts.0; low = parts.1 }
-fit_may_come index (Seal n x) fit = let parts = new_parts (observed_by false index n) x fit in record { place = parts.0; low = parts.1 }
-fit_may_come index (Release n xs) fit = record { place = refl; low = tt }
-fit_may_come index (Cancel n xs) fit = record { place = refl; low = tt }
-fit_may_come index Tick fit = record { place = refl; low = tt }
-fit_may_come index Close fit = record { place = refl; low = tt }
 
 module _ {A : Type 0} {tells : Ghosts A} (trail : Trail A tells) (index : Index) (moment : ℕ) (who : Caller) where
   may_add_if : (o : Option HistoryAct) → ((a : HistoryAct) → o ≡ Some a → MayCome a index × IsBrief a) → waiting_octets trail + most_for_one ≤ longest_batch → MayAdd o trail index moment who
@@ -71,7 +45,7 @@ module _ {A : Type 0} {tells : Ghosts A} (trail : Trail A tells) (index : Index)
       facts : (a : HistoryAct) → act_decided decision ≡ Some a → MayCome a index × IsBrief a
       facts a e =
           let recorded : act_given given ≡ Some a = ap (λ (d : Decided). act_decided d) (sym is) ∙ e in (
-            fit_may_come index a (recorded_fits given a (records_fit (observed_by false index) from datagram (λ b. true) whole) recorded),
+            recorded_fits given a (records_fit (observed_by false index) from datagram (λ b. true) whole) recorded,
             recorded_holds IsBrief given a (records_brief (observed_by false index (node_of from)) from datagram (may_record (observed_by false index (node_of from)) (λ b. true)) short) recorded,
           )
         where

@@ -1,12 +1,14 @@
 -- Where held copies lie, entry by entry.
 use Rattle.std.proofs.Common.{◌≡◌, ℕ, zero, suc, ◌+◌, ◌<◌, ◌≤◌, ◌==◌, ◌&&◌, ◌||◌, Bool, true, false, cond, if◌then◌else◌, List, [], ◌∷◌, ◌++◌, length, drop, get_or, Option, Some, None, option_and_then, refl, sym, ap, ◌∙◌, arith}
-use Rattle.std.specs.Prelude.{nat_lt, slice_get}
+use Rattle.std.specs.Prelude.{OnOk, Result, Ok, Err, nat_lt, slice_get}
 use Rattle.std.specs.BTreeMap.{BTreeMap, Updates}
 use Rattle.std.specs.List.{list_any}
 use Rattle.std.specs.Option.{ForSome}
-use Rattle.std.specs.Ordering.{is_eq, nat_cmp}
+use Rattle.std.specs.Ordering.{is_eq, nat_cmp, ordering_then}
+use Rattle.std.specs.declared.cmp.Ordering.{Ordering}
+use Rattle.std.specs.declared.cmp.Ordering.TheVariants.{Less, Equal, Greater}
 use Rattle.std.proofs.Math.Seq.{drop-cons}
-use Rattle.std.proofs.lemmas.Bool.{le-ltb, lt-ltb}
+use Rattle.std.proofs.lemmas.Bool.{eqb-true, le-ltb, lt-ltb, ltb-true}
 use Rattle.std.proofs.lemmas.Option.{none-some}
 use Rattle.gw_base.specs.History.{begins_epoch, names}
 use Rattle.gw_base.specs.declared.address.NodeId.{NodeId}
@@ -17,9 +19,26 @@ use Rattle.gateway_book.specs.Filed.{held_packet, packet_of_hold}
 use Rattle.gateway_book.specs.HeldCopies.{AreBelow, CopyPlaces, HoldCopies, copies_after, copy_at, copy_order, hold_by, hold_in, if_after, packet_at, path_in, with_hold, with_path, without_holds}
 use Rattle.gateway_book.specs.declared.held_copies.CopyKey.{CopyKey}
 use Rattle.gateway_book.proofs.FilingLemmas.{held_packet-push}
-use Rattle.gateway_book.proofs.StatesLemmas.{order_is, then_is}
 
 -- ---- the maps
+
+order_is : (a b : ℕ) → is_eq (nat_cmp a b) ≡ (a == b)
+order_is a b = by_test (nat_lt a b) (a == b) refl refl
+  where
+    by_test : (less same : Bool) → nat_lt a b ≡ less → (a == b) ≡ same → is_eq (cond less Less (cond same Equal Greater)) ≡ same
+    by_test true true l s = absurd (omega (arith, ltb-true a b l, eqb-true a b s))
+    by_test true false l s = refl
+    by_test false true l s = refl
+    by_test false false l s = refl
+
+then_is : (o p : Ordering) → is_eq (ordering_then o p) ≡ (is_eq o && is_eq p)
+then_is Less p = refl
+then_is Equal p = refl
+then_is Greater p = refl
+
+pub on_ok : {T E P Q : Type 0} (r : Result T E) → (P → Q) → OnOk r P → OnOk r Q
+on_ok (Ok x) f p = f p
+on_ok (Err e) f p = tt
 
 copy_order_is : (key other : CopyKey) → is_eq (copy_order key other) ≡ ((key.node == other.node) && (key.number == other.number))
 copy_order_is key other =

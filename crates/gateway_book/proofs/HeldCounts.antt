@@ -25,7 +25,7 @@ count-cons p key keys = sum_by-cons (λ (k : HeldKey). if p k then 1 else 0) key
 pub count-append : (p : HeldKey → Bool) (keys more : List HeldKey) → count_by p (keys ++ more) ≡ count_by p keys + count_by p more
 count-append p keys more = sum_by-append (λ (k : HeldKey). if p k then 1 else 0) keys more
 
-count-filter_le : (p q : HeldKey → Bool) (keys : List HeldKey) → count_by p (filter q keys) ≤ count_by p keys
+pub count-filter_le : (p q : HeldKey → Bool) (keys : List HeldKey) → count_by p (filter q keys) ≤ count_by p keys
 count-filter_le p q [] = omega arith
 count-filter_le p q (key ∷ keys) = by_test (q key) (count-filter_le p q keys)
   where

@@ -1,50 +1,21 @@
 -- What a judge finds fit.
-use Rattle.std.proofs.Common.{◌≡◌, ℕ, ◌+◌, ◌*◌, ◌≤◌, ◌<◌, ◌^◌, ◌&&◌, Bool, true, false, nat_le, nat_lt, List, [], ◌∷◌, ◌++◌, length, refl, sym, ap, ◌∙◌, arith}
-use Rattle.std.proofs.lemmas.Bool.{and_parts, leb-true, le-leb, ltb-true}
+use Rattle.std.proofs.Common.{◌≡◌, ℕ, ◌+◌, ◌*◌, ◌≤◌, ◌<◌, ◌^◌, ◌&&◌, Bool, true, false, if◌then◌else◌, nat_le, List, [], ◌∷◌, ◌++◌, length, sym, ap, ◌∙◌, arith}
+use Rattle.std.proofs.lemmas.Bool.{and_parts, leb-true, le-leb}
 use Rattle.entry_codec.specs.Laws.{costs_of-append}
 use Rattle.entry_codec.specs.Room.{capacity_of, costs_of, has_room}
 use Rattle.entry_codec.specs.Spelling.{cost_of}
-use Rattle.gw_base.specs.HeldKeys.{promised_octets}
+use Rattle.gw_base.specs.HeldKeys.{held_keys, promised_octets}
 use Rattle.gw_base.specs.History.{last_moment}
-use Rattle.gw_base.specs.Observed.{Observed, observed}
-use Rattle.gw_base.specs.declared.address.NodeId.{NodeId}
+use Rattle.gw_base.specs.Observed.{observed}
 use Rattle.gw_base.specs.declared.history.HistoryAct.{HistoryAct}
-use Rattle.gw_base.specs.declared.history.HistoryAct.TheVariants.{Start, Path, File, Hold, Seal, Release, Cancel, Tick, Close}
 use Rattle.gw_base.specs.declared.history.HistoryEntry.{HistoryEntry}
-use Rattle.gateway_book.specs.Fit.{IsFit, is_act_fit, is_fresh, is_in_window, is_new, is_packet_fit, latest_moment}
-use Rattle.gateway_book.specs.Index.{Follows, MayCome, MayGrow, observed_by, side_of}
+use Rattle.gateway_book.specs.Fit.{IsFit, is_act_fit, latest_moment}
+use Rattle.gateway_book.specs.Index.{Follows, MayGrow, observed_by, side_of}
 use Rattle.gateway_book.specs.Judging.{IsJudging, is_within, promised_of}
-use Rattle.gateway_book.specs.Limits.{has_place, is_in_range, least_number, may_hold, numbers_end}
-use Rattle.gateway_book.specs.Sides.{totals_of}
+use Rattle.gateway_book.specs.Tells.{totals_of}
 use Rattle.gateway_book.specs.declared.index.Index.{Index}
 use Rattle.gateway_book.specs.declared.judge.FitJudge.{FitJudge}
 use Rattle.gateway_book.specs.declared.totals.Totals.{Totals}
-
--- ---- what is fit may come
-
-new_parts : (o : Observed) (number : ℕ) → is_new o number ≡ true → (has_place o ≡ true) × (number < 2 ^ 63)
-new_parts o number is =
-    let a = and_parts (has_place o && is_fresh (o.state number) && is_in_range number) (is_in_window o.top number) is in
-    let b = and_parts (has_place o && is_fresh (o.state number)) (is_in_range number) a.0 in
-    let c = and_parts (has_place o) (is_fresh (o.state number)) b.0 in
-    let d = and_parts (nat_le least_number number) (nat_lt number numbers_end) b.1 in
-    (c.0, ltb-true number numbers_end d.1)
-
-pub may_come : (index : Index) (act : HistoryAct) → is_act_fit (observed_by false index) act ≡ true → MayCome act index
-may_come index Start is = record { place = refl; low = tt }
-may_come index (Path n port counter) is = record { place = is; low = tt }
-may_come index (File n x packet) is =
-    let new = new_parts (observed_by false index n) x (and_parts (is_new (observed_by false index n) x) (is_packet_fit packet) is).0 in
-    record { place = new.0; low = new.1 }
-may_come index (Hold n x packet) is =
-    let a = and_parts (is_new (observed_by false index n) x && is_packet_fit packet) (may_hold (observed_by false index n)) is in
-    let new = new_parts (observed_by false index n) x (and_parts (is_new (observed_by false index n) x) (is_packet_fit packet) a.0).0 in
-    record { place = new.0; low = new.1 }
-may_come index (Seal n x) is = let new = new_parts (observed_by false index n) x is in record { place = new.0; low = new.1 }
-may_come index (Release n xs) is = record { place = refl; low = tt }
-may_come index (Cancel n xs) is = record { place = refl; low = tt }
-may_come index Tick is = record { place = refl; low = tt }
-may_come index Close is = record { place = refl; low = tt }
 
 -- ---- lengths
 
@@ -65,11 +36,9 @@ judged judge new h e judging follows sum small = record {
 
 -- ---- the tests of an entry
 
-module _ (observed_is : (index : Index) (h : List HistoryEntry) (node : NodeId) → Follows false index h → observed_by false index node ≡ observed h node)
-    (totals_are : (index : Index) (h : List HistoryEntry) → Follows false index h → (side_of false index).totals ≡ totals_of h) where
-  same_act : (index : Index) (h : List HistoryEntry) (act : HistoryAct) → Follows false index h → is_act_fit (observed_by false index) act ≡ is_act_fit (observed h) act
-  same_act index h act follows = λ i. is_act_fit (λ n. observed_is index h n follows i) act
-
+module _ (same_act : (index : Index) (h : List HistoryEntry) (act : HistoryAct) → Follows false index h → is_act_fit (observed_by false index) act ≡ is_act_fit (observed h) act)
+    (totals_are : (index : Index) (h : List HistoryEntry) → Follows false index h → (side_of false index).totals ≡ totals_of h)
+    (held_are : (index : Index) (h : List HistoryEntry) → Follows false index h → (side_of false index).held.count ≡ length (held_keys h)) where
   same_moment : (index : Index) (h : List HistoryEntry) → Follows false index h → (side_of false index).totals.moment ≡ last_moment h
   same_moment index h follows = ap (λ (t : Totals). t.moment) (totals_are index h follows)
 
@@ -87,9 +56,9 @@ module _ (observed_is : (index : Index) (h : List HistoryEntry) (node : NodeId) 
   -- what the judge counts after an entry is what room asks
   room_is : (new : FitJudge) (h : List HistoryEntry) (size : ℕ) (e : HistoryEntry) → IsJudging new (h ++ e ∷ []) → is_within new size ≡ has_room h e size
   room_is new h size e judging =
-      ap (λ (n : ℕ). nat_le n (capacity_of size)) (same (ap (λ (t : Totals). promised_of t) (totals_are new.index (h ++ e ∷ []) judging.index)))
+      ap (λ (n : ℕ). nat_le n (capacity_of size)) (same (λ i. 76 * held_are new.index (h ++ e ∷ []) judging.index i + (if (totals_are new.index (h ++ e ∷ []) judging.index i).is_close_due then 30 else 0)))
     where
-      same : promised_of (side_of false new.index).totals ≡ promised_octets (h ++ e ∷ []) → new.costs + promised_of (side_of false new.index).totals ≡ costs_of h + cost_of e + promised_octets (h ++ e ∷ [])
+      same : promised_of (side_of false new.index) ≡ promised_octets (h ++ e ∷ []) → new.costs + promised_of (side_of false new.index) ≡ costs_of h + cost_of e + promised_octets (h ++ e ∷ [])
       same promised = omega (arith, promised, judging.cost, costs_of-append h (e ∷ []))
 
   -- one that costs more than any number holds has no room

@@ -1,7 +1,5 @@
 -- What comes of the opening of a book by a plan.
-use Rattle.std.proofs.Common.{◌≡◌, ℕ, zero, suc, Bool, false, List, Result, Ok, Err, refl, sym, ap, subst, ◌∙◌}
-use Rattle.std.specs.Prelude.{IfErr, IfOk}
-use Rattle.std.proofs.lemmas.Bool.{true≢false}
+use Rattle.std.proofs.Common.{◌≡◌, ℕ, zero, suc, Bool, false, List, Ok, Err, refl, sym, ap, subst, ◌∙◌}
 use Rattle.area_disk.specs.Armed.{Armed, Came, IsArmed, after_one, calls_under, one_later, planned_in}
 use Rattle.area_disk.specs.Armed.Armed.{Nothing, Fail, Stop}
 use Rattle.area_disk.specs.Armed.Came.{Ran, FailedAt, StoppedAt}
@@ -28,7 +26,6 @@ use Rattle.gateway_book.specs.Faults.{book_fault}
 use Rattle.gateway_book.specs.OpenPlan.{OpensAsPlanned, is_device_fault, is_memory, is_memory_fault}
 use Rattle.gateway_book.specs.declared.book.Book.{Book}
 use Rattle.gateway_book.specs.declared.outcome.BookFault.{BookFault}
-use Rattle.gateway_book.specs.declared.outcome.BookFault.TheVariants.{NoMemory}
 
 -- ---- calls that all run
 

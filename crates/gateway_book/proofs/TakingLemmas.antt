@@ -1,5 +1,5 @@
 -- What an answer leaves of a book.
-use Rattle.std.proofs.Common.{◌≡◌, ◌≢◌, ℕ, ◌≤◌, true, false, if◌then◌else◌, List, [], ◌∷◌, ◌++◌, Option, Some, None, refl, sym, ap, subst, ◌∙◌, append_assoc, arith}
+use Rattle.std.proofs.Common.{◌≡◌, ◌≢◌, ℕ, ◌≤◌, Bool, true, false, if◌then◌else◌, List, [], ◌∷◌, ◌++◌, Option, Some, None, refl, sym, ap, subst, ◌∙◌, append_assoc, arith}
 use Rattle.area_disk.specs.declared.area.Area.{Ghosts}
 use Rattle.gate_journal.specs.Format.{most_octets}
 use Rattle.gate_journal.specs.Moments.{Told}
@@ -89,9 +89,10 @@ same_room {tells = tells} trail now moment who open_now at = λ i a. (by_parts a
     by_parts a = λ i. has_room (if open_now i then firm_entries trail else all_entries trail) (entry_of (at i) who a) (tells.size (area_of trail))
 
 pub answered_is : {A : Type 0} {tells : Ghosts A} (trail : Trail A tells) (index : Index) (from : Addr) (datagram : PreparedValue) (now moment : ℕ) (who : Caller) → is_closed trail ≡ false → moment ≡ moment_after (all_entries trail) now
-    → observed_by false index (node_of from) ≡ observed (all_entries trail) (node_of from)
+    → ((room : HistoryAct → Bool) → answer_within (observed_by false index (node_of from)) from datagram room ≡ answer_within (observed (all_entries trail) (node_of from)) from datagram room)
     → decided (answer_within (observed_by false index (node_of from)) from datagram (room_told trail moment who)) ≡ decided (answer_to (all_entries trail) from datagram (tells.size (area_of trail)))
-answered_is trail index from datagram now moment who open_now at seen = λ i. decided (answer_within (seen i) from datagram (same_room trail now moment who open_now at i))
+answered_is trail index from datagram now moment who open_now at answers =
+    ap decided (answers (room_told trail moment who)) ∙ (λ i. decided (answer_within (observed (all_entries trail) (node_of from)) from datagram (same_room trail now moment who open_now at i)))
 
 -- what is answered by the same history, octets and size
 pub answered_at : (h g : List HistoryEntry) (from : Addr) (datagram : PreparedValue) (octets : List ℕ) (size other : ℕ) → h ≡ g → datagram ≡ prepared_of octets → size ≡ other

@@ -1,166 +1,270 @@
 -- What a side says of a history it says, after one more entry, of the history with that entry.
-use Rattle.std.proofs.Common.{◌≡◌, ℕ, ◌+◌, ◌^◌, ◌<◌, ◌≤◌, ◌==◌, ◌&&◌, Bool, true, false, cond, if◌then◌else◌, List, [], ◌∷◌, ◌++◌, Option, Some, length, refl, sym, ap, ◌∙◌, true≢false, arith}
-use Rattle.std.proofs.lemmas.List.{append-nil}
+use Rattle.std.proofs.Common.{◌≡◌, ℕ, ◌+◌, ◌^◌, ◌<◌, ◌%◌, ◌==◌, ◌&&◌, ◌||◌, Bool, true, false, cond, if◌then◌else◌, List, [], ◌∷◌, ◌++◌, Option, Some, None, is_some, length, count_by, refl, sym, ap, subst, ◌∙◌, true≢false, arith}
+use Rattle.std.specs.Prelude.{IfSome, nat_le}
+use Rattle.std.specs.List.{list_all, list_any}
+use Rattle.std.proofs.lemmas.Bool.{and_parts, eqb-true, leb-false}
 use Rattle.std.proofs.lemmas.List.Sums.{count_by-le-length}
+use Rattle.gw_base.specs.EntryLaws.{is_close_due-append, known_nodes-append, last_moment-append, last_tick-append, opening_of-append, start_count-append}
+use Rattle.gw_base.specs.Faults.{next_count}
+use Rattle.gw_base.specs.HeldKeys.{held_keys, holds, is_held}
+use Rattle.gw_base.specs.HeldLaws.{stranded-append}
+use Rattle.gw_base.specs.History.{begins_epoch, copies_of, due_after, epoch_of, is_close_due, present_state, state_of, top_of}
+use Rattle.gw_base.specs.Known.{is_known, named_node, with_node}
+use Rattle.gw_base.specs.Observed.{Observed, observed}
+use Rattle.gw_base.specs.Starts.{is_start, opening_after, start_count}
+use Rattle.gw_base.specs.TickDue.{last_tick, tick_after}
+use Rattle.gw_base.specs.View.{strands}
 use Rattle.gw_base.specs.declared.address.NodeId.{NodeId}
-use Rattle.gw_base.specs.declared.history.Caller.{Caller}
+use Rattle.gw_base.specs.declared.held.HeldKey.{HeldKey}
 use Rattle.gw_base.specs.declared.history.HistoryAct.{HistoryAct}
 use Rattle.gw_base.specs.declared.history.HistoryAct.TheVariants.{Start, Path, File, Hold, Seal, Release, Cancel, Tick, Close}
 use Rattle.gw_base.specs.declared.history.HistoryEntry.{HistoryEntry}
+use Rattle.gw_base.specs.declared.history.Opening.{Opening}
 use Rattle.gw_base.specs.declared.key_state.KeyState.{KeyState}
-use Rattle.gw_base.specs.EntryLaws.{is_close_due-append, known_nodes-append, last_moment-append, last_tick-append, start_count-append, state_of-append}
-use Rattle.gw_base.specs.Faults.{next_count}
-use Rattle.gw_base.specs.HeldKeys.{held_by, held_keys}
-use Rattle.gw_base.specs.HeldLaws.{held_keys-append}
-use Rattle.gw_base.specs.History.{begins_epoch, due_after, epoch_of, given_state, is_close_due, names, state_of}
-use Rattle.gw_base.specs.Known.{known_nodes, named_node, with_node}
-use Rattle.gw_base.specs.Lists.{raised}
-use Rattle.gw_base.specs.Starts.{is_start, start_count}
-use Rattle.gw_base.specs.TickDue.{last_tick, tick_after}
-use Rattle.gw_base.specs.View.{NodeView, node_view_after, node_view_of, stays_held}
-use Rattle.gw_base.specs.declared.held.HeldKey.{HeldKey}
-use Rattle.gw_base.specs.ViewLaws.{node_view_of-append}
-use Rattle.gateway_book.specs.Sides.{Side, Tells, acted, all_named, learnt, named, numbered, opened, side_after, topped}
+use Rattle.gw_base.specs.declared.key_state.KeyState.TheVariants.{Fresh, Filed, Held, Sealed, Released, Cancelled}
+use Rattle.seq_window.specs.Histories.{IsFreshAbove, NamesHeld, seen_after, window_of}
+use Rattle.seq_window.specs.Seen.{Seen, is_within}
+use Rattle.transfer_cmd.specs.Lists.{is_held as is_held_state}
+use Rattle.gateway_book.specs.Fit.{are_distinct, is_act_fit, is_fresh, is_in_window, is_list_fit, is_new, is_packet_fit}
+use Rattle.gateway_book.specs.Index.{observed_in}
+use Rattle.gateway_book.specs.Limits.{has_place, half, is_in_range, may_hold}
+use Rattle.gateway_book.specs.Sides.{Side, acted, listed_nodes, numbered_nodes, opened_nodes, side_after, state_in}
+use Rattle.gateway_book.specs.Tells.{Tells}
+use Rattle.gateway_book.specs.Windows.{if_held, narrowed}
 use Rattle.gateway_book.specs.declared.totals.Totals.{Totals}
-use Rattle.gateway_book.proofs.Telling.{CountLaw, HeldLaw, Keeps, known_with, learnt_keeps, named_keeps, topped_keeps}
-use Rattle.gateway_book.proofs.TellingEntries.{NamesAlone, all_of_list, and_false, entry_of, keeps_of_same, list_state, names_alone, none_of_list, opened_keeps, pass_all, unstranded, with_list}
+use Rattle.gateway_book.proofs.HeldCounts.{copies-le, count-cons}
+use Rattle.gateway_book.proofs.HeldLemmas.{NamesFree, held_after, same_numbers}
+use Rattle.gateway_book.proofs.WindowLemmas.{narrowed_fit}
 
--- There are no more epochs than entries.
-abbrev pub EpochLaw : Type 0
-EpochLaw = (node : ℕ) (h : List HistoryEntry) → epoch_of node h ≤ length h
+-- ---- the laws of the layers below
 
-pub keeps_of_tells : (side : Side) (h : List HistoryEntry) → Tells side h → Keeps side h (λ n. node_view_of n h) (known_nodes h)
-keeps_of_tells side h t = record {
-  states = t.states;
-  nodes = t.nodes;
-  counts = t.held;
-  known_is = t.known;
-  unknown = t.unknown;
-  held = ap (λ (v : Totals). v.held) t.totals;
-  stranded = ap (λ (v : Totals). v.stranded) t.totals;
-}
+-- A number is among the held keys exactly where its key is in that state.
+abbrev pub HeldLaw : Type 0
+HeldLaw = (node : NodeId) (number : ℕ) (h : List HistoryEntry) → holds node.0 number (held_keys h) ≡ is_held (state_of (record { node = node; epoch = epoch_of node.0 h; number = number }) h)
 
--- Totals say the same of all but held keys.
+-- A number's present state is that of its key in the node's present epoch.
+abbrev pub PresentLaw : Type 0
+PresentLaw = (node : NodeId) (number : ℕ) (h : List HistoryEntry) → state_of (record { node = node; epoch = epoch_of node.0 h; number = number }) h ≡ present_state node.0 number h
+
+-- there are as many held keys as held copies
+abbrev pub CountLaw : Type 0
+CountLaw = (h : List HistoryEntry) → length (held_keys h) ≡ (copies_of h).held
+
+-- A window follows its node's history, of which nothing above the greatest number has a state.
+pub record WindowLaw : Type 0 where
+  pub follows : (node : ℕ) (h : List HistoryEntry) (e : HistoryEntry) → IsFreshAbove node h → window_of half node (h ++ e ∷ []) ≡ seen_after half node e.act (window_of half node h)
+  pub fresh : (node : ℕ) (h : List HistoryEntry) (e : HistoryEntry) → IsFreshAbove node h → NamesHeld node h e.act → IsFreshAbove node (h ++ e ∷ [])
+
+-- ---- what a side tells of states
+
+held_state : (s : KeyState) → is_held s ≡ true → s ≡ Held
+held_state Held e = refl
+held_state Fresh e = absurd (true≢false (sym e))
+held_state Filed e = absurd (true≢false (sym e))
+held_state Sealed e = absurd (true≢false (sym e))
+held_state Released e = absurd (true≢false (sym e))
+held_state Cancelled e = absurd (true≢false (sym e))
+
+pub same_held : (s : KeyState) → is_held_state s ≡ is_held s
+same_held Fresh = refl
+same_held Filed = refl
+same_held Sealed = refl
+same_held Held = refl
+same_held Released = refl
+same_held Cancelled = refl
+
+module _ (held_law : HeldLaw) (present_law : PresentLaw) (side : Side) (h : List HistoryEntry) (t : Tells side h) where
+  held_there : (node : NodeId) (number : ℕ) → is_some (side.held.place_of node.0 number) ≡ is_held (present_state node.0 number h)
+  held_there node number = t.held.places node.0 number ∙ held_law node number h ∙ ap is_held (present_law node number h)
+
+  -- a number's state is what the history says, as far as the window reaches
+  state_is : (node : NodeId) (number : ℕ) → state_in side node.0 number ≡ (if is_in_window (top_of node.0 h) number then present_state node.0 number h else if_held (present_state node.0 number h))
+  state_is node number = ap (λ (b : Bool). if b then Held else (side.nodes.window node.0).state number) (held_there node number) ∙ by_held (is_held s) refl
+    where
+      s : KeyState
+      s = present_state node.0 number h
+
+      narrow : KeyState
+      narrow = if is_in_window (top_of node.0 h) number then s else if_held s
+
+      any_window : (b : Bool) → s ≡ Held → Held ≡ (if b then s else if_held s)
+      any_window true e = sym e
+      any_window false e = sym (ap if_held e)
+
+      none_held : is_held s ≡ false → if_held s ≡ Fresh
+      none_held e = ap (λ (b : Bool). if b then Held else Fresh) (same_held s ∙ e)
+
+      by_top : is_held s ≡ false → (o : Option ℕ) → top_of node.0 h ≡ o → (if is_within half o number then s else Fresh) ≡ (if is_in_window o number then s else if_held s)
+      by_top none None e = sym (t.above node.0 number (subst (λ (o : Option ℕ). IfSome o (λ top. top < number)) (sym e) tt))
+      by_top none (Some top) e = by_tests (nat_le top (number + half)) (nat_le number top) refl
+        where
+          by_tests : (a b : Bool) → nat_le number top ≡ b → (if a && b then s else Fresh) ≡ (if a then s else if_held s)
+          by_tests true true f = refl
+          by_tests true false f = sym (t.above node.0 number (subst (λ (o : Option ℕ). IfSome o (λ top. top < number)) (sym e) (leb-false number top f)))
+          by_tests false b f = sym (none_held none)
+
+      by_held : (b : Bool) → is_held s ≡ b → (if b then Held else (side.nodes.window node.0).state number) ≡ narrow
+      by_held true e = any_window (is_in_window (top_of node.0 h) number) (held_state s e)
+      by_held false e = ap (λ (seen : Seen). seen.state number) (t.windows node.0) ∙ by_top e (top_of node.0 h) refl
+
+  -- all that an answer asks
+  pub observed_is : (node : NodeId) → observed_in side node ≡ narrowed (observed h node)
+  observed_is node = λ i. record {
+    own = ap (λ (v : Totals). v.starts % 256) t.totals i;
+    opening = t.openings node.0 i;
+    top = ap (λ (seen : Seen). seen.top) (t.windows node.0) i;
+    state = λ number. state_is node number i;
+    is_known = ap (λ (ns : List NodeId). is_known ns node) t.known i;
+    known = ap (λ (ns : List NodeId). length ns) t.known i;
+    held = t.held.count i;
+    moment = ap (λ (v : Totals). v.moment) t.totals i;
+  }
+
+  pub fit_is : (act : HistoryAct) → is_act_fit (observed_in side) act ≡ is_act_fit (observed h) act
+  fit_is act = ap (λ (of : NodeId → Observed). is_act_fit of act) (λ i node. observed_is node i) ∙ narrowed_fit (observed h) act
+
+-- ---- what is fit
+
+-- a number that gets its first state isn't held
+pub new_is_free : (side : Side) (node : NodeId) (number : ℕ) → is_new (observed_in side node) number ≡ true → is_some (side.held.place_of node.0 number) ≡ false
+new_is_free side node number new =
+    let a = and_parts (has_place (observed_in side node) && is_fresh (state_in side node.0 number) && is_in_range number) (is_in_window (observed_in side node).top number) new in
+    let b = and_parts (has_place (observed_in side node) && is_fresh (state_in side node.0 number)) (is_in_range number) a.0 in
+    let c = and_parts (has_place (observed_in side node)) (is_fresh (state_in side node.0 number)) b.0 in
+    by_test (is_some (side.held.place_of node.0 number)) refl c.1
+  where
+    by_test : (b : Bool) → is_some (side.held.place_of node.0 number) ≡ b → is_fresh (if b then Held else (side.nodes.window node.0).state number) ≡ true → b ≡ false
+    by_test true e fresh = absurd (true≢false (sym fresh))
+    by_test false e fresh = refl
+
+names_free : (side : Side) (act : HistoryAct) → is_act_fit (observed_in side) act ≡ true → NamesFree act side.held
+names_free side Start fit = tt
+names_free side (Path n port counter) fit = tt
+names_free side (File n x packet) fit = new_is_free side n x ((and_parts (is_new (observed_in side n) x) (is_packet_fit packet) fit).0)
+names_free side (Hold n x packet) fit =
+    let both = and_parts (is_new (observed_in side n) x && is_packet_fit packet) (may_hold (observed_in side n)) fit in
+    new_is_free side n x ((and_parts (is_new (observed_in side n) x) (is_packet_fit packet) both.0).0)
+names_free side (Seal n x) fit = new_is_free side n x fit
+names_free side (Release n xs) fit = tt
+names_free side (Cancel n xs) fit = tt
+names_free side Tick fit = tt
+names_free side Close fit = tt
+
+-- what holds of all numbers of a list holds of each
+each_of : (p : ℕ → Bool) (xs : List ℕ) (n : ℕ) → list_all p xs ≡ true → list_any (λ x. x == n) xs ≡ true → p n ≡ true
+each_of p [] n all any = absurd (true≢false (sym any))
+each_of p (x ∷ xs) n all any = by_test (x == n) refl any (each_of p xs n)
+  where
+    parts : (p x ≡ true) × (list_all p xs ≡ true)
+    parts = and_parts (p x) (list_all p xs) all
+
+    by_test : (b : Bool) → (x == n) ≡ b → (b || list_any (λ y. y == n) xs) ≡ true → (list_all p xs ≡ true → list_any (λ y. y == n) xs ≡ true → p n ≡ true) → p n ≡ true
+    by_test true e there rest = sym (ap p (eqb-true x n e)) ∙ parts.0
+    by_test false e there rest = rest parts.1 there
+
+list_held : (o : Observed) (xs : List ℕ) (n : ℕ) → is_list_fit o xs ≡ true → list_any (λ x. x == n) xs ≡ true → o.state n ≡ Held
+list_held o [] n fit any = absurd (true≢false (sym fit))
+list_held o (x ∷ xs) n fit any =
+    held_state (o.state n) (sym (same_held (o.state n)) ∙ each_of (λ y. is_held_state (o.state y)) (x ∷ xs) n ((and_parts (list_all (λ y. is_held_state (o.state y)) (x ∷ xs)) (are_distinct (x ∷ xs)) fit).0) any)
+
+named_held : (h : List HistoryEntry) (m : NodeId) (xs : List ℕ) (node n : ℕ) → is_list_fit (observed h m) xs ≡ true → ((m.0 == node) && list_any (λ x. x == n) xs) ≡ true → present_state node n h ≡ Held
+named_held h m xs node n fit named =
+    let parts = and_parts (m.0 == node) (list_any (λ x. x == n) xs) named in
+    ap (λ (k : ℕ). present_state k n h) (sym (eqb-true m.0 node parts.0)) ∙ list_held (observed h m) xs n fit parts.1
+
+names_held : (h : List HistoryEntry) (act : HistoryAct) (node : ℕ) → is_act_fit (observed h) act ≡ true → NamesHeld node h act
+names_held h Start node fit = tt
+names_held h (Path n port counter) node fit = tt
+names_held h (File n x packet) node fit = tt
+names_held h (Hold n x packet) node fit = tt
+names_held h (Seal n x) node fit = tt
+names_held h (Release m xs) node fit = λ n named. named_held h m xs node n fit named
+names_held h (Cancel m xs) node fit = λ n named. named_held h m xs node n fit named
+names_held h Tick node fit = tt
+names_held h Close node fit = tt
+
+-- ---- what an act changes of each part
+
+acted_window : (side : Side) (act : HistoryAct) (node : ℕ) → (acted act side).nodes.window node ≡ seen_after half node act (side.nodes.window node)
+unfolding numbered_nodes listed_nodes opened_nodes
+acted_window side Start node = refl
+acted_window side (Path n port counter) node = refl
+acted_window side (File n x packet) node = refl
+acted_window side (Hold n x packet) node = refl
+acted_window side (Seal n x) node = refl
+acted_window side (Release n xs) node = refl
+acted_window side (Cancel n xs) node = refl
+acted_window side Tick node = refl
+acted_window side Close node = refl
+
+acted_opening : (side : Side) (act : HistoryAct) (node : ℕ) → (acted act side).nodes.opening node ≡ opening_after node (side.nodes.opening node) act
+unfolding numbered_nodes listed_nodes opened_nodes
+acted_opening side Start node = refl
+acted_opening side (Path n port counter) node = refl
+acted_opening side (File n x packet) node = refl
+acted_opening side (Hold n x packet) node = refl
+acted_opening side (Seal n x) node = refl
+acted_opening side (Release n xs) node = refl
+acted_opening side (Cancel n xs) node = refl
+acted_opening side Tick node = refl
+acted_opening side Close node = refl
+
+acted_known : (side : Side) (act : HistoryAct) → (acted act side).nodes.known ≡ with_node side.nodes.known (named_node act)
+unfolding numbered_nodes listed_nodes opened_nodes
+acted_known side Start = refl
+acted_known side (Path n port counter) = refl
+acted_known side (File n x packet) = refl
+acted_known side (Hold n x packet) = refl
+acted_known side (Seal n x) = refl
+acted_known side (Release n xs) = refl
+acted_known side (Cancel n xs) = refl
+acted_known side Tick = refl
+acted_known side Close = refl
+
+-- Totals say the same of all but stranded copies.
 record SameRest (a b : Totals) : Type 0 where
   starts : a.starts ≡ b.starts
   is_close_due : a.is_close_due ≡ b.is_close_due
   last_tick : a.last_tick ≡ b.last_tick
 
-same_rest : (t : Totals) → SameRest t t
-same_rest t = record { starts = refl; is_close_due = refl; last_tick = refl }
-
-list_rest : (node : NodeId) (numbers : List ℕ) (state : KeyState) (side : Side) → SameRest (all_named node numbers state side).totals side.totals
-unfolding all_named named
-list_rest node [] state side = same_rest side.totals
-list_rest node (number ∷ numbers) state side =
-    let rest = list_rest node numbers state (named node number state side) in
-    record { starts = rest.starts; is_close_due = rest.is_close_due; last_tick = rest.last_tick }
-
 acted_rest : (act : HistoryAct) (side : Side) → SameRest (acted act side).totals side.totals
-unfolding named learnt topped opened
-acted_rest Start side = same_rest side.totals
+acted_rest Start side = record { starts = refl; is_close_due = refl; last_tick = refl }
 acted_rest (Path node port counter) side = record { starts = refl; is_close_due = refl; last_tick = refl }
 acted_rest (File node number packet) side = record { starts = refl; is_close_due = refl; last_tick = refl }
 acted_rest (Hold node number packet) side = record { starts = refl; is_close_due = refl; last_tick = refl }
 acted_rest (Seal node number) side = record { starts = refl; is_close_due = refl; last_tick = refl }
-acted_rest (Release node numbers) side = list_rest node numbers (list_state true) side
-acted_rest (Cancel node numbers) side = list_rest node numbers (list_state false) side
-acted_rest Tick side = same_rest side.totals
-acted_rest Close side = same_rest side.totals
+acted_rest (Release node numbers) side = record { starts = refl; is_close_due = refl; last_tick = refl }
+acted_rest (Cancel node numbers) side = record { starts = refl; is_close_due = refl; last_tick = refl }
+acted_rest Tick side = record { starts = refl; is_close_due = refl; last_tick = refl }
+acted_rest Close side = record { starts = refl; is_close_due = refl; last_tick = refl }
 
--- ---- each act
+none_counts : (p : HeldKey → Bool) → ((key : HeldKey) → p key ≡ false) → (keys : List HeldKey) → count_by p keys ≡ 0
+none_counts p none [] = refl
+none_counts p none (key ∷ keys) = let zero : cond {A = ℕ} (p key) 1 0 ≡ 0 = ap (λ (b : Bool). cond {A = ℕ} b 1 0) (none key) in omega (arith, zero, count-cons p key keys, none_counts p none keys)
 
-same_view : (v : NodeView) → record { epoch = v.epoch + 0; opening = v.opening; top = v.top } ≡ v
-same_view v = λ i. record { epoch = zero_more v.epoch i; opening = v.opening; top = v.top }
-  where
-    zero_more : (n : ℕ) → n + 0 ≡ n
-    zero_more n = omega arith
+unstranded : (h : List HistoryEntry) (e : HistoryEntry) → ((m : ℕ) → begins_epoch m e.act ≡ false) → (copies_of (h ++ e ∷ [])).stranded ≡ (copies_of h).stranded
+unstranded h e begins = let none : count_by (λ (key : HeldKey). strands e.act key) (held_keys h) ≡ 0 = none_counts (λ key. strands e.act key) (λ key. begins key.node.0) (held_keys h) in omega (arith, none, stranded-append h e)
 
-raised_view : (v : NodeView) (number : ℕ) (b : Bool) → record { epoch = v.epoch + 0; opening = v.opening; top = if b then raised v.top number else v.top } ≡ (if b then record v { top = raised v.top number } else v)
-raised_view v number true = same_view (record v { top = raised v.top number })
-raised_view v number false = same_view v
+module _ (count_law : CountLaw) (side : Side) (h : List HistoryEntry) (e : HistoryEntry) (fits : length h + 2 < 2 ^ 64) (t : Tells side h) where
+  stranded_is : side.totals.stranded ≡ (copies_of h).stranded
+  stranded_is = ap (λ (v : Totals). v.stranded) t.totals
 
--- what a side keeps after an act that names one number
-one_keeps : HeldLaw → CountLaw → (side : Side) (h : List HistoryEntry) (e : HistoryEntry) (node : NodeId) (number : ℕ) → NamesAlone node number e.act
-    → ((m : ℕ) (v : NodeView) → node_view_after m v e.act ≡ (if node.0 == m then record v { top = raised v.top number } else v)) → length h + 1 < 2 ^ 64
-    → Keeps side h (λ n. node_view_of n h) (known_nodes h) → Keeps (numbered node number (given_state e.act) side) (h ++ e ∷ []) (λ n. node_view_of n (h ++ e ∷ [])) (with_node (known_nodes h) (Some node))
-one_keeps held_law count_law side h e node number alone views fits k =
-    topped_keeps (named node number (given_state e.act) (learnt node side)) (h ++ e ∷ []) (λ n. node_view_of n h) (λ n. node_view_of n (h ++ e ∷ [])) (with_node (known_nodes h) (Some node)) node number (known_with (known_nodes h) node)
-    (λ m. node_view_of-append m h e ∙ views m (node_view_of m h))
-    (named_keeps held_law count_law (learnt node side) h (h ++ e ∷ []) (λ n. node_view_of n h) (with_node (known_nodes h) (Some node)) node number (given_state e.act) fits refl
-    (λ apart. absurd (true≢false (sym (known_with (known_nodes h) node) ∙ apart))) (names_alone node number h e alone)
-    (learnt_keeps side h (λ n. node_view_of n h) (known_nodes h) node k))
+  still : ((m : ℕ) → begins_epoch m e.act ≡ false) → side.totals.stranded ≡ (copies_of (h ++ e ∷ [])).stranded
+  still begins = stranded_is ∙ sym (unstranded h e begins)
 
--- what a side keeps after an act that names nothing and begins no epoch
-none_keeps : (side : Side) (h : List HistoryEntry) (e : HistoryEntry) → ((m x : ℕ) → names m x e.act ≡ false) → ((m : ℕ) → begins_epoch m e.act ≡ false)
-    → held_keys (h ++ e ∷ []) ≡ held_keys h → ((m : ℕ) (v : NodeView) → node_view_after m v e.act ≡ v)
-    → Keeps side h (λ n. node_view_of n h) (known_nodes h) → Keeps side (h ++ e ∷ []) (λ n. node_view_of n (h ++ e ∷ [])) (known_nodes h)
-none_keeps side h e names_none begins held views k =
-    let kept : Keeps side (h ++ e ∷ []) (λ n. node_view_of n h) (known_nodes h) =
-    keeps_of_same side h (h ++ e ∷ []) (λ n. node_view_of n h) (known_nodes h)
-    (λ key. state_of-append key h e ∙ ap (λ (b : Bool). if b then given_state e.act else state_of key h) (ap (λ (b : Bool). (epoch_of key.node.0 h == key.epoch) && b) (names_none key.node.0 key.number) ∙ and_false (epoch_of key.node.0 h == key.epoch)))
-    held (unstranded h e begins) k in
-    record {
-      states = kept.states;
-      nodes = λ m. kept.nodes m ∙ sym (node_view_of-append m h e ∙ views m (node_view_of m h));
-      counts = kept.counts;
-      known_is = kept.known_is;
-      unknown = kept.unknown;
-      held = kept.held;
-      stranded = kept.stranded;
-    }
-
--- the nodes known after an act
-abbrev known_after : HistoryAct → List NodeId → List NodeId
-known_after act known = with_node known (named_node act)
-
-list_keeps : HeldLaw → CountLaw → (release : Bool) (side : Side) (h : List HistoryEntry) (e : HistoryEntry) (node : NodeId) (numbers : List ℕ) → length h + 2 < 2 ^ 64
-    → ((m : ℕ) → node_view_of m (with_list release node numbers e h) ≡ node_view_of m h)
-    → Keeps side h (λ n. node_view_of n h) (known_nodes h)
-    → Keeps (all_named node numbers (list_state release) side) (with_list release node numbers e h) (λ n. node_view_of n (with_list release node numbers e h)) (known_nodes h)
-list_keeps held_law count_law release side h e node numbers fits views k =
-    let kept : Keeps (all_named node numbers (list_state release) side) (with_list release node numbers e h) (λ n. node_view_of n h) (known_nodes h) =
-    all_of_list held_law count_law release node [] numbers e side h (λ n. node_view_of n h) (known_nodes h) fits refl
-    (none_of_list release side node e h (λ n. node_view_of n h) (known_nodes h) k) in
-    record {
-      states = kept.states;
-      nodes = λ m. kept.nodes m ∙ sym (views m);
-      counts = kept.counts;
-      known_is = kept.known_is;
-      unknown = kept.unknown;
-      held = kept.held;
-      stranded = kept.stranded;
-    }
-
-all_stay : (h : List HistoryEntry) (e : HistoryEntry) → ((key : HeldKey) → stays_held e.act key ≡ true) → held_by e.act [] ≡ [] → held_keys (h ++ e ∷ []) ≡ held_keys h
-all_stay h e stay none =
-    held_keys-append h e ∙ (λ i. pass_all (λ key. stays_held e.act key) stay (held_keys h) i ++ none i) ∙ append-nil (held_keys h)
-
-act_keeps : HeldLaw → CountLaw → EpochLaw → (side : Side) (h : List HistoryEntry) (moment : ℕ) (caller : Caller) (act : HistoryAct) → length h + 2 < 2 ^ 64
-    → Keeps side h (λ n. node_view_of n h) (known_nodes h)
-    → Keeps (acted act side) (h ++ entry_of moment caller act ∷ []) (λ n. node_view_of n (h ++ entry_of moment caller act ∷ [])) (known_after act (known_nodes h))
-act_keeps held_law count_law epoch_law side h moment caller Start fits k =
-    none_keeps side h (entry_of moment caller Start) (λ m x. refl) (λ m. refl) (all_stay h (entry_of moment caller Start) (λ key. refl) refl) (λ m v. same_view v) k
-act_keeps held_law count_law epoch_law side h moment caller (Path node port counter) fits k =
-    opened_keeps count_law (learnt node side) h (with_node (known_nodes h) (Some node)) moment caller node port counter (known_with (known_nodes h) node) (omega (arith, fits)) (epoch_law node.0 h)
-    (learnt_keeps side h (λ n. node_view_of n h) (known_nodes h) node k)
-act_keeps held_law count_law epoch_law side h moment caller (File node number packet) fits k =
-    one_keeps held_law count_law side h (entry_of moment caller (File node number packet)) node number (record { begins = λ m. refl; named = λ m x. refl; held = refl })
-    (λ m v. raised_view v number (node.0 == m)) (omega (arith, fits)) k
-act_keeps held_law count_law epoch_law side h moment caller (Hold node number packet) fits k =
-    one_keeps held_law count_law side h (entry_of moment caller (Hold node number packet)) node number (record { begins = λ m. refl; named = λ m x. refl; held = refl })
-    (λ m v. raised_view v number (node.0 == m)) (omega (arith, fits)) k
-act_keeps held_law count_law epoch_law side h moment caller (Seal node number) fits k =
-    one_keeps held_law count_law side h (entry_of moment caller (Seal node number)) node number (record { begins = λ m. refl; named = λ m x. refl; held = refl })
-    (λ m v. raised_view v number (node.0 == m)) (omega (arith, fits)) k
-act_keeps held_law count_law epoch_law side h moment caller (Release node numbers) fits k =
-    list_keeps held_law count_law true side h (entry_of moment caller Start) node numbers fits (λ m. node_view_of-append m h (entry_of moment caller (Release node numbers)) ∙ same_view (node_view_of m h)) k
-act_keeps held_law count_law epoch_law side h moment caller (Cancel node numbers) fits k =
-    list_keeps held_law count_law false side h (entry_of moment caller Start) node numbers fits (λ m. node_view_of-append m h (entry_of moment caller (Cancel node numbers)) ∙ same_view (node_view_of m h)) k
-act_keeps held_law count_law epoch_law side h moment caller Tick fits k =
-    none_keeps side h (entry_of moment caller Tick) (λ m x. refl) (λ m. refl) (all_stay h (entry_of moment caller Tick) (λ key. refl) refl) (λ m v. same_view v) k
-act_keeps held_law count_law epoch_law side h moment caller Close fits k =
-    none_keeps side h (entry_of moment caller Close) (λ m x. refl) (λ m. refl) (all_stay h (entry_of moment caller Close) (λ key. refl) refl) (λ m v. same_view v) k
+  stranded_after : (act : HistoryAct) → e.act ≡ act → (acted act side).totals.stranded ≡ (copies_of (h ++ e ∷ [])).stranded
+  stranded_after Start is = still (λ m. ap (λ a. begins_epoch m a) is)
+  stranded_after (File n x packet) is = still (λ m. ap (λ a. begins_epoch m a) is)
+  stranded_after (Hold n x packet) is = still (λ m. ap (λ a. begins_epoch m a) is)
+  stranded_after (Seal n x) is = still (λ m. ap (λ a. begins_epoch m a) is)
+  stranded_after (Release n xs) is = still (λ m. ap (λ a. begins_epoch m a) is)
+  stranded_after (Cancel n xs) is = still (λ m. ap (λ a. begins_epoch m a) is)
+  stranded_after Tick is = still (λ m. ap (λ a. begins_epoch m a) is)
+  stranded_after Close is = still (λ m. ap (λ a. begins_epoch m a) is)
+  stranded_after (Path n port counter) is =
+      let of : count_by (λ (key : HeldKey). strands e.act key) (held_keys h) ≡ count_by (λ (key : HeldKey). key.node.0 == n.0) (held_keys h) =
+      ap (λ (p : HeldKey → Bool). count_by p (held_keys h)) (λ i key. (ap (λ a. begins_epoch key.node.0 a) is ∙ same_numbers n.0 key.node.0) i) in
+      omega (arith, fits, of, stranded_is, t.held.counts n.0, stranded-append h e, copies-le h, count_law h, count_by-le-length (λ (key : HeldKey). key.node.0 == n.0) (held_keys h))
 
 -- ---- the law
 
@@ -173,31 +277,30 @@ starts_after h e fits false is =
     omega (arith, none, start_count-append h e)
 
 -- the side after one more entry says what the history with that entry says
-pub tells_after : HeldLaw → CountLaw → EpochLaw → (side : Side) (h : List HistoryEntry) (e : HistoryEntry) → length h + 2 < 2 ^ 64 → Tells side h → Tells (side_after e side) (h ++ e ∷ [])
-tells_after held_law count_law epoch_law side h e fits t =
-    let k = act_keeps held_law count_law epoch_law side h e.moment e.caller e.act fits (keeps_of_tells side h t) in
-    let rest = acted_rest e.act side in
-    record {
-      states = k.states;
-      nodes = k.nodes;
-      held = k.counts;
-      known = k.known_is ∙ sym (known_nodes-append h e);
-      unknown = k.unknown;
-      totals = λ i. record {
-        starts = ((λ j. if is_start e.act then next_count (starts j) else starts j) ∙ starts_after h e fits (is_start e.act) refl) i;
-        held = k.held i;
-        stranded = k.stranded i;
-        moment = sym (last_moment-append h e) i;
-        is_close_due = (ap (λ (b : Bool). due_after b e.act) due ∙ sym (is_close_due-append h e)) i;
-        last_tick = (ap (λ (o : Option ℕ). tick_after o e.act e.moment) tick ∙ sym (last_tick-append h e)) i;
-      };
-    }
+pub tells_after : HeldLaw → PresentLaw → CountLaw → WindowLaw → (side : Side) (h : List HistoryEntry) (e : HistoryEntry) → length h + 2 < 2 ^ 64 → is_act_fit (observed_in side) e.act ≡ true → Tells side h → Tells (side_after e side) (h ++ e ∷ [])
+tells_after held_law present_law count_law window_law side h e fits fit t = record {
+  windows = λ node. acted_window side e.act node ∙ ap (λ (seen : Seen). seen_after half node e.act seen) (t.windows node) ∙ sym (window_law.follows node h e (t.above node));
+  openings = λ node. acted_opening side e.act node ∙ ap (λ (o : Option Opening). opening_after node o e.act) (t.openings node) ∙ sym (opening_of-append node h e);
+  known = acted_known side e.act ∙ ap (λ (ns : List NodeId). with_node ns (named_node e.act)) t.known ∙ sym (known_nodes-append h e);
+  held = held_after side h e.moment e.caller e.act (names_free side e.act fit) t.held;
+  totals = λ i. record {
+    starts = ((λ j. if is_start e.act then next_count (starts j) else starts j) ∙ starts_after h e fits (is_start e.act) refl) i;
+    stranded = stranded_after count_law side h e fits t e.act refl i;
+    moment = sym (last_moment-append h e) i;
+    is_close_due = (ap (λ (b : Bool). due_after b e.act) due ∙ sym (is_close_due-append h e)) i;
+    last_tick = (ap (λ (o : Option ℕ). tick_after o e.act e.moment) tick ∙ sym (last_tick-append h e)) i;
+  };
+  above = λ node. window_law.fresh node h e (t.above node) (names_held h e.act node (sym (fit_is held_law present_law side h t e.act) ∙ fit));
+}
   where
+    rest : SameRest (acted e.act side).totals side.totals
+    rest = acted_rest e.act side
+
     starts : (acted e.act side).totals.starts ≡ start_count h
-    starts = (acted_rest e.act side).starts ∙ ap (λ (v : Totals). v.starts) t.totals
+    starts = rest.starts ∙ ap (λ (v : Totals). v.starts) t.totals
 
     due : (acted e.act side).totals.is_close_due ≡ is_close_due h
-    due = (acted_rest e.act side).is_close_due ∙ ap (λ (v : Totals). v.is_close_due) t.totals
+    due = rest.is_close_due ∙ ap (λ (v : Totals). v.is_close_due) t.totals
 
     tick : (acted e.act side).totals.last_tick ≡ last_tick h
-    tick = (acted_rest e.act side).last_tick ∙ ap (λ (v : Totals). v.last_tick) t.totals
+    tick = rest.last_tick ∙ ap (λ (v : Totals). v.last_tick) t.totals

@@ -1,5 +1,5 @@
 -- What each call of a book owes and adds as a turn.
-use Rattle.std.proofs.Common.{◌≡◌, ◌⊎◌, ⊎_elim, inl, inr, ℕ, zero, suc, ◌<◌, ◌≤◌, ◌==◌, ◌&&◌, Bool, true, false, if◌then◌else◌, List, [], ◌∷◌, ◌++◌, length, take, Option, Some, None, refl, sym, ap, subst, ◌∙◌, append_assoc, arith}
+use Rattle.std.proofs.Common.{◌≡◌, ⊎_elim, inl, inr, ℕ, zero, suc, ◌<◌, ◌≤◌, ◌==◌, ◌&&◌, Bool, true, false, if◌then◌else◌, List, [], ◌∷◌, ◌++◌, take, Option, Some, None, refl, sym, ap, subst, ◌∙◌, append_assoc, arith}
 use Rattle.std.proofs.lemmas.Bool.{and_parts, false≢true}
 use Rattle.std.specs.Prelude.{All}
 use Rattle.std.proofs.lemmas.List.{append-nil}
@@ -224,6 +224,7 @@ module _ {A : Type 0} {tells : Ghosts A} where
     turn_of session added stays moves by = record {
       owes = record {
         size = stays.size;
+        name = stays.header;
         faults = cause.later;
         cuts = cause.more;
         cause = uncut;
@@ -330,6 +331,7 @@ pub read_turn : {A : Type 0} {tells : Ghosts A} (old new : Book A tells) (sessio
 read_turn {tells = tells} old new session same later = record {
   owes = record {
     size = same.stays.size;
+    name = same.stays.header;
     faults = later;
     cuts = let cuts = same.cuts in omega (arith, cuts);
     cause = λ stood. same.cuts;

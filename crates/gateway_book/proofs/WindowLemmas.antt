@@ -1,8 +1,7 @@
 -- Answers ask of the numbers alone that a number on the wire may mean.
-use Rattle.std.proofs.Common.{◌≡◌, ℕ, ◌-◌, ◌==◌, ◌&&◌, nat_le, Bool, true, false, if◌then◌else◌, List, [], ◌∷◌, Option, Some, None, map, filter, refl, sym, ap, ◌∙◌, arith}
+use Rattle.std.proofs.Common.{◌≡◌, ℕ, ◌==◌, ◌&&◌, Bool, true, false, if◌then◌else◌, List, [], ◌∷◌, Option, Some, None, map, filter, refl, sym, ap, ◌∙◌, arith}
 use Rattle.std.specs.List.{list_all}
 use Rattle.std.proofs.lemmas.Grind.{common_steps}
-use Rattle.std.proofs.lemmas.Bool.{leb-true}
 use Rattle.gtpp_message.specs.Message.{TransferValue, Send, Possible, Cancel, Release}
 use Rattle.gtpp_message.specs.Packet.{packet_octets}
 use Rattle.gw_base.specs.Lists.{once}
@@ -17,7 +16,7 @@ use Rattle.gw_base.specs.declared.key_state.KeyState.TheVariants.{Fresh, Filed, 
 use Rattle.transfer_cmd.specs.Lists.{is_held, verdict_cause, verdict_of}
 use Rattle.transfer_cmd.specs.Table.{answer_cause, state_given}
 use Rattle.transfer_cmd.specs.declared.decision.Ask.{Ask}
-use Rattle.gateway_book.specs.Answer.{Given, answer_within, asked_by, changes, listed, may_record, node_of, recorded_as, sending, sending_again, sent, tabled}
+use Rattle.gateway_book.specs.Answer.{answer_within, asked_by, changes, listed, may_record, node_of, recorded_as, sending, sending_again, sent, tabled}
 use Rattle.gateway_book.specs.Fit.{are_distinct, is_act_fit, is_fresh, is_in_window, is_list_fit, is_new, is_packet_fit}
 use Rattle.gateway_book.specs.Limits.{has_place, is_in_range, may_hold}
 use Rattle.gateway_book.specs.Preparing.{PreparedValue, Drop, OtherVersion, Refused, Path, Request}
@@ -82,7 +81,7 @@ agreed_answer o p from datagram room agree =
 -- ---- windows
 
 -- a number that is meant lies in the window
-meant_is_near : (top : Option ℕ) (wire : ℕ) → is_in_window top (nearest top wire) ≡ true
+pub meant_is_near : (top : Option ℕ) (wire : ℕ) → is_in_window top (nearest top wire) ≡ true
 meant_is_near None wire = refl
 meant_is_near (Some h) wire = grind (arith, common_steps)
 

@@ -3,8 +3,8 @@ use Rattle.std.specs.Prelude.{◌≡◌, ℕ, ◌+◌, ◌*◌, Bool, false, if�
 use Rattle.entry_codec.specs.Room.{capacity_of, costs_of}
 use Rattle.gw_base.specs.declared.history.HistoryEntry.{HistoryEntry}
 use Rattle.gateway_book.specs.Index.{Follows, side_of}
+use Rattle.gateway_book.specs.Sides.{Side}
 use Rattle.gateway_book.specs.declared.judge.FitJudge.{FitJudge}
-use Rattle.gateway_book.specs.declared.totals.Totals.{Totals}
 
 -- The judge was asked of these entries: its index follows them, and it knows what they cost.
 pub record IsJudging (judge : FitJudge) (h : List HistoryEntry) : Type 0 where
@@ -12,9 +12,9 @@ pub record IsJudging (judge : FitJudge) (h : List HistoryEntry) : Type 0 where
   pub cost : judge.costs ≡ costs_of h
 
 -- the octets that are promised
-abbrev pub promised_of : Totals → ℕ
-promised_of totals = 76 * totals.held + (if totals.is_close_due then 30 else 0)
+abbrev pub promised_of : Side → ℕ
+promised_of side = 76 * side.held.count + (if side.totals.is_close_due then 30 else 0)
 
 -- what a judge's entries cost and promise is within the capacity of a journal on so many octets
 abbrev pub is_within : FitJudge → ℕ → Bool
-is_within judge size = nat_le (judge.costs + promised_of (side_of false judge.index).totals) (capacity_of size)
+is_within judge size = nat_le (judge.costs + promised_of (side_of false judge.index)) (capacity_of size)

@@ -10,12 +10,15 @@ pub mod Decisions
 pub mod Filed
 pub mod Fit
 pub mod FitHistory
+pub mod HeldPairs
+pub mod HeldRoom
 pub mod Index
 pub mod Items
 pub mod Limits
 pub mod Lookups
 pub mod Marks
 pub mod Nodes
+pub mod NodeSides
 pub mod Once
 pub mod OpenPlan
 pub mod Opened
@@ -24,16 +27,18 @@ pub mod Preparing
 pub mod Read
 pub mod Recording
 pub mod Sides
-pub mod States
+pub mod Tells
 pub mod Told
 pub mod Turning
 pub mod Up
 pub mod Value
+pub mod WindowPairs
 pub mod Windows
 -- Laws of these, with their proofs.
 pub mod AnswerLaws
 pub mod EachAnswer
 pub mod FaultLaws
+pub mod FewItemsLaws
 pub mod FiledLaws
 pub mod FitHistoryLaws
 pub mod FitLaws
@@ -63,3 +68,4 @@ pub mod Taking
 pub mod Steps
 pub mod WireMarks
 pub mod Worked
+pub mod WorkedSides

@@ -16,6 +16,10 @@ least_number = 32768
 abbrev pub numbers_end : ℕ
 numbers_end = 2 ^ 63
 
+-- how far below the greatest number of a node's epoch its window reaches
+abbrev pub half : ℕ
+half = 32768
+
 -- whether an entry may bear a number
 abbrev pub is_in_range : ℕ → Bool
 is_in_range number = nat_le least_number number && nat_lt number numbers_end

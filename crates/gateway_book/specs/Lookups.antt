@@ -12,11 +12,11 @@ use Rattle.gateway_book.specs.declared.told.Key.{Key}
 
 -- where a node sends from, if a Path opened its present epoch
 abbrev pub path_in : Side → NodeId → Option Addr
-path_in side node = option_map (λ opening. record { ip = node.0; port = opening.port }) (side.node node.0).opening
+path_in side node = option_map (λ opening. record { ip = node.0; port = opening.port }) (side.nodes.opening node.0)
 
 -- those of all nodes, in the order in which they became known
 abbrev pub paths_in : Side → List Addr
-paths_in side = filter_map (path_in side) side.known
+paths_in side = filter_map (path_in side) side.nodes.known
 
 -- what the number on the wire means in the present epoch of a node of which this is observed: the epoch's start, the
 -- number and its state

@@ -98,7 +98,7 @@ passes q m (x ∷ xs) all any = let parts = and_parts (q x) (list_all q xs) all 
     by_test true e any here rest = subst (λ (n : ℕ). q n ≡ true) (eqb-true x m e) here
     by_test false e any here rest = rest any
 
-not_among : (x m : ℕ) (xs : List ℕ) → list_all (λ y. not (x == y)) xs ≡ true → (x == m) ≡ true → list_any (λ y. y == m) xs ≡ false
+pub not_among : (x m : ℕ) (xs : List ℕ) → list_all (λ y. not (x == y)) xs ≡ true → (x == m) ≡ true → list_any (λ y. y == m) xs ≡ false
 not_among x m xs all is = by_test (list_any (λ y. y == m) xs) refl
   where
     by_test : (b : Bool) → list_any (λ y. y == m) xs ≡ b → b ≡ false
@@ -121,7 +121,7 @@ any_kept p q (x ∷ xs) any = by_test (q x) any (any_kept p q xs)
     by_test true any rest = or_more (p x) (list_any p (filter q xs)) (list_any p xs) rest any
     by_test false any rest = or_second (p x) (list_any p xs) (rest any)
 
-any_once : (p : ℕ → Bool) (xs : List ℕ) → list_any p (once (λ x y. x == y) xs) ≡ true → list_any p xs ≡ true
+pub any_once : (p : ℕ → Bool) (xs : List ℕ) → list_any p (once (λ x y. x == y) xs) ≡ true → list_any p xs ≡ true
 any_once p [] any = any
 any_once p (x ∷ xs) any =
     or_more (p x) (list_any p (filter (λ y. not (x == y)) (once (λ x y. x == y) xs))) (list_any p xs)

@@ -1,129 +1,113 @@
--- What one side of an index says of a history, and how one more entry changes it.
-use Rattle.std.specs.Prelude.{◌≡◌, ℕ, ◌+◌, ◌-◌, ◌^◌, min, ◌==◌, ◌&&◌, Bool, false, if◌then◌else◌, List, [], ◌∷◌, Some, None, length, count_by}
+-- What one side of an index keeps, and how one more entry changes it.
+use Rattle.std.specs.Prelude.{ℕ, ◌+◌, ◌-◌, ◌^◌, min, ◌==◌, false, if◌then◌else◌, List, [], ◌∷◌, Option, Some, None, is_some}
+use Rattle.dup_buffer.specs.Copies.{Copies, with_copy, without_copy, without_node}
 use Rattle.gw_base.specs.declared.address.NodeId.{NodeId}
 use Rattle.gw_base.specs.declared.history.HistoryAct.{HistoryAct}
 use Rattle.gw_base.specs.declared.history.HistoryAct.TheVariants.{Start, Path, File, Hold, Seal, Release, Cancel, Tick, Close}
 use Rattle.gw_base.specs.declared.history.HistoryEntry.{HistoryEntry}
 use Rattle.gw_base.specs.declared.history.Opening.{Opening}
-use Rattle.gw_base.specs.declared.history.PacketKey.{PacketKey}
 use Rattle.gw_base.specs.declared.key_state.KeyState.{KeyState}
 use Rattle.gw_base.specs.declared.key_state.KeyState.TheVariants.{Filed, Held, Sealed, Released, Cancelled}
+use Rattle.gw_base.specs.declared.place.Place.{Place}
 use Rattle.gw_base.specs.Faults.{next_count}
-use Rattle.gw_base.specs.HeldKeys.{held_keys, is_held}
-use Rattle.gw_base.specs.History.{copies_of, due_after, is_close_due, last_moment, state_of}
-use Rattle.gw_base.specs.Known.{is_known, known_nodes, with_node}
-use Rattle.gw_base.specs.Lists.{raised}
-use Rattle.gw_base.specs.Starts.{is_start, start_count}
-use Rattle.gw_base.specs.TickDue.{last_tick, tick_after}
-use Rattle.gw_base.specs.View.{NodeView, node_view_of}
-use Rattle.gateway_book.specs.declared.node_mark.NodeMark.{NodeMark}
+use Rattle.gw_base.specs.History.{due_after}
+use Rattle.gw_base.specs.Known.{with_node}
+use Rattle.gw_base.specs.Starts.{is_start}
+use Rattle.gw_base.specs.TickDue.{tick_after}
+use Rattle.seq_window.specs.Seen.{Seen, nothing_seen, with_state, with_states}
+use Rattle.gateway_book.specs.Limits.{half}
 use Rattle.gateway_book.specs.declared.totals.Totals.{Totals}
 
-abbrev pub same_key : PacketKey → PacketKey → Bool
-same_key key other = (key.node.0 == other.node.0) && ((key.epoch == other.epoch) && (key.number == other.number))
-
--- the states of keys, what is kept of each node, the known nodes, and what is kept of all together
-pub record Side : Type 0 where
-  pub state : PacketKey → KeyState
-  pub node : ℕ → NodeMark
+-- the known nodes, the Path that opened the present epoch of each, and the window of the numbers of that epoch
+pub record NodeSide : Type 0 where
   pub known : List NodeId
+  pub opening : ℕ → Option Opening
+  pub window : ℕ → Seen
+
+-- what is kept of nodes and of held copies, and what is kept of all entries together
+pub record Side : Type 0 where
+  pub nodes : NodeSide
+  pub held : Copies
   pub totals : Totals
 
--- what is kept of a node that isn't known
-abbrev pub no_node : NodeMark
-no_node = record { epoch = 0; opening = None; top = None; held = 0 }
+-- the state of a node's number: that of a copy which is held, and else what the node's window says
+abbrev pub state_in : Side → ℕ → ℕ → KeyState
+state_in side node number = if is_some (side.held.place_of node number) then Held else (side.nodes.window node).state number
 
 -- what is kept of no entry
 abbrev pub no_totals : Totals
-no_totals = record { starts = 0; held = 0; stranded = 0; moment = 0; is_close_due = false; last_tick = None }
-
--- ---- what a history says
-
-abbrev pub totals_of : List HistoryEntry → Totals
-totals_of h = record {
-  starts = start_count h;
-  held = length (held_keys h);
-  stranded = (copies_of h).stranded;
-  moment = last_moment h;
-  is_close_due = is_close_due h;
-  last_tick = last_tick h;
-}
-
-abbrev pub view_of_mark : NodeMark → NodeView
-view_of_mark mark = record { epoch = mark.epoch; opening = mark.opening; top = mark.top }
-
--- how many held keys of present epochs are a node's
-abbrev pub held_of : ℕ → List HistoryEntry → ℕ
-held_of node h = count_by (λ key. key.node.0 == node) (held_keys h)
-
--- A side says of everything what a history says.
-pub record Tells (side : Side) (h : List HistoryEntry) : Type 0 where
-  pub states : (key : PacketKey) → side.state key ≡ state_of key h
-  pub nodes : (node : ℕ) → view_of_mark (side.node node) ≡ node_view_of node h
-  pub held : (node : ℕ) → (side.node node).held ≡ held_of node h
-  pub known : side.known ≡ known_nodes h
-  pub unknown : (node : NodeId) → is_known side.known node ≡ false → side.node node.0 ≡ no_node
-  pub totals : side.totals ≡ totals_of h
+no_totals = record { starts = 0; stranded = 0; moment = 0; is_close_due = false; last_tick = None }
 
 -- ---- one more entry
 
--- the key of a node's number in the node's present epoch
-abbrev pub present_key : Side → NodeId → ℕ → PacketKey
-present_key side node number = record { node = node; epoch = (side.node node.0).epoch; number = number }
+-- the nodes after an entry that gives this state to this number
+unfoldable pub numbered_nodes : NodeId → ℕ → KeyState → NodeSide → NodeSide
+numbered_nodes node number state nodes = record {
+  known = with_node nodes.known (Some node);
+  opening = nodes.opening;
+  window = λ n. if node.0 == n then with_state half number state (nodes.window n) else nodes.window n;
+}
 
--- a count with one less where a key was held, and one more where it is
-abbrev pub recounted : Bool → Bool → ℕ → ℕ
-recounted before after n = if after then next_count (if before then n - 1 else n) else (if before then n - 1 else n)
+-- the nodes after an entry that gives this state to these numbers
+unfoldable pub listed_nodes : NodeId → List ℕ → KeyState → NodeSide → NodeSide
+listed_nodes node numbers state nodes = record {
+  known = nodes.known;
+  opening = nodes.opening;
+  window = λ n. if node.0 == n then with_states half numbers state (nodes.window n) else nodes.window n;
+}
 
--- what is kept of nodes, where one of the known nodes changes
-abbrev pub with_mark : NodeId → NodeMark → Side → ℕ → NodeMark
-with_mark node mark side n = if is_known side.known node && (node.0 == n) then mark else side.node n
+-- the nodes after an entry that begins an epoch of a node
+unfoldable pub opened_nodes : NodeId → Opening → NodeSide → NodeSide
+opened_nodes node opening nodes = record {
+  known = with_node nodes.known (Some node);
+  opening = λ n. if node.0 == n then Some opening else nodes.opening n;
+  window = λ n. if node.0 == n then nothing_seen else nodes.window n;
+}
+
+-- Where a copy lies isn't kept here: the items that are told find it by its entry.
+abbrev pub no_place : Place
+no_place = record { at = 0; length = 0 }
+
+-- the copies but those of these numbers of a node
+unfoldable pub without_copies : ℕ → List ℕ → Copies → Copies
+without_copies node [] copies = copies
+without_copies node (number ∷ numbers) copies = without_copies node numbers (without_copy node number copies)
 
 -- the side after an entry that gives this state to this number
-unfoldable pub named : NodeId → ℕ → KeyState → Side → Side
-named node number state side = record {
-  state = λ key. if same_key (present_key side node number) key then state else side.state key;
-  node = with_mark node (record (side.node node.0) { held = recounted (is_held (side.state (present_key side node number))) (is_held state) (side.node node.0).held }) side;
-  known = side.known;
-  totals = record side.totals { held = recounted (is_held (side.state (present_key side node number))) (is_held state) side.totals.held };
-}
-
--- the side after an entry that gives this state to these numbers
-unfoldable pub all_named : NodeId → List ℕ → KeyState → Side → Side
-all_named node [] state side = side
-all_named node (number ∷ numbers) state side = all_named node numbers state (named node number state side)
-
--- the side after an entry that names a node
-unfoldable pub learnt : NodeId → Side → Side
-learnt node side = record side { known = with_node side.known (Some node) }
-
--- the side after an entry that names the greatest number of a node, or another
-unfoldable pub topped : NodeId → ℕ → Side → Side
-topped node number side = record side { node = with_mark node (record (side.node node.0) { top = raised (side.node node.0).top number }) side }
-
--- the side after an entry that begins an epoch of a node
-unfoldable pub opened : NodeId → Opening → Side → Side
-opened node opening side = record side {
-  node = with_mark node (record { epoch = next_count (side.node node.0).epoch; opening = Some opening; top = None; held = 0 }) side;
-  totals = record side.totals {
-    held = side.totals.held - (side.node node.0).held;
-    stranded = min (side.totals.stranded + (side.node node.0).held) (2 ^ 64 - 1);
-  };
-}
-
--- the side after an entry of one number
 abbrev pub numbered : NodeId → ℕ → KeyState → Side → Side
-numbered node number state side = topped node number (named node number state (learnt node side))
+numbered node number state side = record side { nodes = numbered_nodes node number state side.nodes }
+
+-- the side after an entry that holds a copy
+abbrev pub copied : NodeId → ℕ → Side → Side
+copied node number side = record side {
+  nodes = numbered_nodes node number Held side.nodes;
+  held = with_copy node.0 number no_place side.held;
+}
+
+-- the side after an entry that gives this state to these numbers, which are held
+abbrev pub listed : NodeId → List ℕ → KeyState → Side → Side
+listed node numbers state side = record side {
+  nodes = listed_nodes node numbers state side.nodes;
+  held = without_copies node.0 numbers side.held;
+}
+
+-- the side after an entry that begins an epoch of a node: what was held of it is stranded
+abbrev pub opened : NodeId → Opening → Side → Side
+opened node opening side = record {
+  nodes = opened_nodes node opening side.nodes;
+  held = without_node node.0 side.held;
+  totals = record side.totals { stranded = min (side.totals.stranded + side.held.count_of node.0) (2 ^ 64 - 1) };
+}
 
 -- the side after an act, but for what every entry changes
 abbrev pub acted : HistoryAct → Side → Side
 acted Start side = side
-acted (Path node port counter) side = opened node (record { port = port; counter = counter }) (learnt node side)
+acted (Path node port counter) side = opened node (record { port = port; counter = counter }) side
 acted (File node number packet) side = numbered node number Filed side
-acted (Hold node number packet) side = numbered node number Held side
+acted (Hold node number packet) side = copied node number side
 acted (Seal node number) side = numbered node number Sealed side
-acted (Release node numbers) side = all_named node numbers Released side
-acted (Cancel node numbers) side = all_named node numbers Cancelled side
+acted (Release node numbers) side = listed node numbers Released side
+acted (Cancel node numbers) side = listed node numbers Cancelled side
 acted Tick side = side
 acted Close side = side
 

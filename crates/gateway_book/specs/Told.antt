@@ -38,7 +38,7 @@ key_of h node wire = record {
 pub record AreCounted {A : Type 0} {tells : Ghosts A} (book : Book A tells) (counts : Counts) : Type 0 where
   pub entries : counts.entries ≡ trail.length_of book.trail
   pub firm : counts.firm ≡ trail.firm_length book.trail
-  pub held : counts.held ≡ (side_of (trail.is_closed book.trail) book.index).totals.held
+  pub held : counts.held ≡ (side_of (trail.is_closed book.trail) book.index).held.count
   pub stranded : counts.stranded ≡ (side_of (trail.is_closed book.trail) book.index).totals.stranded
   pub free : counts.free ≡ trail.free_of book.trail
   pub within : counts.firm ≤ counts.entries

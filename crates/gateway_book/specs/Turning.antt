@@ -1,5 +1,5 @@
 -- A book as a value that many use in turn, and what each call owes and adds as a turn.
-use Rattle.std.specs.Prelude.{◌≡◌, ℕ, ◌&&◌, if◌then◌else◌, Bool, true, false, List, [], ◌∷◌, Option, Some, None}
+use Rattle.std.specs.Prelude.{ℕ, ◌&&◌, if◌then◌else◌, Bool, true, false, List, [], ◌∷◌, Option, Some, None}
 use Rattle.area_disk.specs.declared.area.Area.{Ghosts}
 use Rattle.cgf_journal.specs.Trail as trail
 use Rattle.gw_base.specs.Facts.{Facts, WhereTold}
@@ -8,7 +8,7 @@ use Rattle.gw_base.specs.declared.history.Caller.{Caller}
 use Rattle.gw_base.specs.declared.history.HistoryAct.{HistoryAct}
 use Rattle.gw_base.specs.declared.history.HistoryEntry.{HistoryEntry}
 use Rattle.gateway_book.specs.Answered.{entry_by}
-use Rattle.gateway_book.specs.Book.{area_of, fortune_of, length_of, size_of, value_of}
+use Rattle.gateway_book.specs.Book.{area_of, fortune_of, header_of, length_of, size_of, value_of}
 use Rattle.gateway_book.specs.Marks.{Mark, Makes, NoRoom, NotDue}
 use Rattle.gateway_book.specs.Value.{BookValue, Fortune, Gone, Refused, Reopening, Whole, history_of, torn_of}
 use Rattle.gateway_book.specs.declared.book.Book.{Book}
@@ -20,6 +20,7 @@ tells_lists tells = tells.tells_octets && tells.tells_crash
 abbrev pub facts_of : {A : Type 0} {tells : Ghosts A} → Book A tells → Facts
 facts_of {tells = tells} book = record {
   size = size_of book;
+  name = header_of book;
   faults = tells.faults (area_of book);
   cuts = book.cuts;
   entries = trail.length_of book.trail;

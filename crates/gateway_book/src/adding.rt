@@ -13,7 +13,7 @@ ghost use Rattle.gateway_book.specs.Answer.{Says, Silent, decided};
 ghost use Rattle.gateway_book.specs.Answered.{act_decided, act_given};
 ghost use Rattle.gateway_book.specs.Cases.{case_value};
 ghost use Rattle.gateway_book.specs.Decisions.{decision_view};
-ghost use Rattle.gateway_book.specs.Index.{IsReadyFor, MayCome};
+ghost use Rattle.gateway_book.specs.Index.{MayCome};
 ghost use Rattle.gateway_book.specs.Preparing.{IsShort, IsWhole};
 ghost use Rattle.gateway_book.specs.Value.{most_for_one};
 
@@ -28,7 +28,7 @@ use cgf_journal::Trail;
 use gtpp_message::Why;
 use gw_base::{Addr, Caller, Entry, Moment, NoMemory, Short};
 
-/// Adds an entry behind the others, where it waits for a commit. Without memory nothing is added.
+/// Adds an entry behind the others, where it waits for a commit. It takes no memory.
 pub(crate) fn record<A: Area>(
     trail: &mut Trail<A>,
     index: &mut Index,
@@ -41,16 +41,15 @@ pub(crate) fn record<A: Area>(
     ensures ok { OnOk result (IsAdded trail.old trail.new index.old index.new (entry_view entry.now)) }
     ensures err { OnErr result (AreKept trail.old trail.new index.old index.new) }
 {
-    index.reserve(&entry.act)?;
     append(trail, index, entry);
     Ok(())
 }
 
-/// The same where the index needs no memory.
+/// The same, told without a result.
 pub(crate) fn append<A: Area>(trail: &mut Trail<A>, index: &mut Index, entry: &Entry<'_>)
     requires open { is_closed trail.old ≡ false }
     requires room { has_room_of trail.old (entry_view entry.now) ≡ true }
-    requires ready { IsReadyFor (act_view entry.now.act) index.old }
+    requires may_come { MayCome (act_view entry.now.act) index.old }
     requires free { waiting_octets trail.old + entry_length (entry_view entry.now) ≤ longest_batch }
     ensures { IsAdded trail.old trail.new index.old index.new (entry_view entry.now) }
 {

@@ -111,12 +111,12 @@ impl<A: Area> Book<A> {
     {
         an_index_tells_its_history();
         held_keys_are_as_many_as_held_copies();
-        let totals = self.index.totals(self.trail.is_closed());
+        let firm = self.trail.is_closed();
         Counts {
             entries: self.trail.length(),
             firm: self.trail.firm(),
-            held: totals.held,
-            stranded: totals.stranded,
+            held: self.index.held(firm),
+            stranded: self.index.totals(firm).stranded,
             free: self.trail.free(),
         }
     }

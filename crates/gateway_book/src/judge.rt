@@ -14,7 +14,7 @@ use gw_base::{Entry, NoMemory};
 use std::alloc::Global;
 
 /// Judges entries by an index that follows them.
-#[derive(Debug, Drop)]
+#[derive(Drop)]
 pub(crate) struct FitJudge {
     pub(crate) index: Index,
     /// What the entries cost.
@@ -55,8 +55,9 @@ impl FitJudge {
     fn is_within(&self, size: u64) -> bool
         ensures { result ≡ is_within self.now size }
     {
+        let held = self.index.held(false);
         let totals = self.index.totals(false);
-        let taken = u128::from(self.costs) + promised(totals.held, 0, totals.is_close_due);
+        let taken = u128::from(self.costs) + promised(held, 0, totals.is_close_due);
         taken <= u128::from(capacity(size))
     }
 }
@@ -77,7 +78,6 @@ impl Judge for FitJudge {
         let Some(costs) = self.costs.checked_add(cost(entry)) else {
             return Ok(false);
         };
-        self.index.reserve(&entry.act)?;
         self.index.note(entry);
         self.costs = costs;
         Ok(self.is_within(size))

@@ -4,8 +4,8 @@ ghost use Rattle.std.specs.Prelude.{◌≡◌, ◌≢◌, ◌≤◌, [], ◌∷�
 ghost use Rattle.area_disk.specs.Armed.{Armed, ReadsRun};
 ghost use Rattle.area_disk.specs.Course.{IsTied};
 ghost use Rattle.area_disk.specs.declared.plan.Outcome3.{Outcome3};
-ghost use Rattle.entry_codec.specs.Room.{IsWithin};
-ghost use Rattle.gate_journal.specs.Format.{Starts, header};
+ghost use Rattle.entry_codec.specs.Room.{IsWithin, capacity_of, costs_of};
+ghost use Rattle.gate_journal.specs.Format.{Starts, header, most_octets};
 ghost use Rattle.cgf_journal.specs.Trail.{stop_stands};
 ghost use Rattle.gate_journal.specs.Moments.{Kept, Told};
 ghost use Rattle.gate_journal.specs.Planned.{is_new};
@@ -26,7 +26,7 @@ ghost use Rattle.gw_base.specs.declared.history.PacketKey.{PacketKey};
 ghost use Rattle.gw_base.specs.declared.key_state.KeyState.TheVariants.{Fresh};
 ghost use Rattle.gateway_book.specs.Answer.{Replies, answer_by, answer_within, decided};
 ghost use Rattle.gateway_book.specs.Answered.{act_decided, answer_to, entry_by, room_for};
-ghost use Rattle.gateway_book.specs.Book.{HasCause, IsLeft, Stays, area_of, fortune_of, value_of};
+ghost use Rattle.gateway_book.specs.Book.{HasCause, IsLeft, Stays, area_of, fortune_of, size_of, value_of};
 ghost use Rattle.gateway_book.specs.Calls.{cause_in, cause_of, closed, commit_left, given_at, taken, ticked};
 ghost use Rattle.gateway_book.specs.Comes.{AsPlanned, LeavesFit, asked_to_commit, asked_to_ready, plan_of};
 ghost use Rattle.gateway_book.specs.Filed.{along, filed, filed_by};
@@ -150,6 +150,28 @@ pub fn filed_records_stay()
     ensures records { (h g : List HistoryEntry) → filed (h ++ g) ≡ filed h ++ along filed_by h g }
     ensures items { (h g : List HistoryEntry) → items_of (h ++ g) ≡ items_of h ++ along items_by h g }
 {}
+
+/// A history makes no more items than its entries cost of a journal. So one that stands in an area makes no more than the
+/// area has octets behind its header.
+pub fn items_are_fewer_than_octets()
+    ensures costs { (h : List HistoryEntry) → length (items_of h) ≤ costs_of h }
+    ensures stands { (header octets : List ℕ) (h : List HistoryEntry) → StandsFitFor header octets h →
+        length (items_of h) ≤ capacity_of (length octets) }
+{
+    gw_base::scan::held_keys_are_those_in_that_state();
+}
+
+/// The firm entries of a book make no more items than its area, which is no longer than one may be, has octets behind the
+/// header; and its history knows no more nodes than a gateway may.
+pub fn a_book_is_within_the_limits<A: Area>()
+    ensures short { (book : Book A A.Area) → size_of book ≤ most_octets }
+    ensures items { Told A.Area → (book : Book A A.Area) →
+        length (items_of (value_of book).firm) ≤ capacity_of (size_of book) }
+    ensures nodes { Told A.Area → (book : Book A A.Area) →
+        length (known_nodes (history_of (value_of book))) ≤ most_nodes }
+{
+    gw_base::scan::held_keys_are_those_in_that_state();
+}
 
 /// What is armed for the calls of the device decides what a call makes of a gateway that is up, and what it answers.
 pub fn a_gateway_goes_as_armed<A: Area>()

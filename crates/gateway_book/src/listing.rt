@@ -16,8 +16,11 @@ use gw_base::{Absolute, Act, KeyState, NoMemory, NodeId, nearest_number};
 use std::alloc::Global;
 use transfer_cmd::{Verdict, is_held, judge};
 
+/// The most numbers that an element of a message lists: two octets each of the 65,535 that it may have.
+const MOST_NUMBERS: usize = 32_767;
+
 /// The lists in which answers are worked out: the numbers that a request names, their states, and
-/// the held ones. They keep their memory from one answer to the next.
+/// the held ones. They have room for the longest list, which fills a message of 65,541 octets.
 #[derive(Debug, Drop)]
 pub(crate) struct Scratch {
     numbers: Vec<Absolute>,
@@ -28,16 +31,16 @@ pub(crate) struct Scratch {
 }
 
 impl Scratch {
-    /// Empty lists.
+    /// Empty lists, which take the memory for all that they will hold.
     pub(crate) fn new(alloc: Global) -> Result<Scratch, NoMemory>
         ensures numbers { IfOk result (λ scratch. scratch.numbers.items ≡ []) }
         ensures states { IfOk result (λ scratch. scratch.states.items ≡ []) }
         ensures held { IfOk result (λ scratch. scratch.held.items ≡ []) }
     {
         Ok(Scratch {
-            numbers: Vec::new(alloc),
-            states: Vec::new(alloc),
-            held: Vec::new(alloc),
+            numbers: Vec::with_capacity(alloc, MOST_NUMBERS)?,
+            states: Vec::with_capacity(alloc, MOST_NUMBERS)?,
+            held: Vec::with_capacity(alloc, MOST_NUMBERS)?,
             marks: WireMarks::new(alloc)?,
         })
     }

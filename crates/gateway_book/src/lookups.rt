@@ -20,7 +20,7 @@ impl Index {
     fn path_of(&self, firm: bool, node: NodeId) -> Option<Addr>
         ensures { result ≡ path_in (side_of firm self.now) node }
     {
-        match self.nodes.mark(firm, node).opening {
+        match self.nodes.opening(firm, node) {
             Some(opening) => Some(Addr {
                 ip: node.0,
                 port: opening.port,
@@ -45,6 +45,21 @@ impl Index {
             left -= 1;
         }
         None
+    }
+
+    // What a number on the wire means in a node's present epoch.
+    fn key(&self, firm: bool, node: NodeId, wire: u16) -> Key
+        ensures { result ≡ key_seen (observed_by firm self.now node) wire }
+    {
+        let number = nearest_number(self.top(firm, node), wire);
+        Key {
+            start: match self.opening(firm, node) {
+                Some(opening) => opening.counter,
+                None => 0,
+            },
+            number,
+            state: self.state(firm, node, number),
+        }
     }
 }
 
@@ -81,14 +96,6 @@ impl<A: Area> Book<A> {
     {
         an_index_tells_its_history();
         let firm = self.trail.is_closed();
-        let number = nearest_number(self.index.top(firm, node), wire);
-        Key {
-            start: match self.index.opening(firm, node) {
-                Some(opening) => opening.counter,
-                None => 0,
-            },
-            number,
-            state: self.index.state(firm, node, number),
-        }
+        self.index.key(firm, node, wire)
     }
 }

@@ -1,38 +1,45 @@
 // The nodes that an index keeps.
-ghost use Rattle.std.specs.Prelude.{◌≡◌, ◌≤◌, ◌<◌, ◌++◌, false, [], ◌∷◌, ◌==◌, length, slice_get, map, IfOk, Some, vec_capacity};
+ghost use Rattle.std.specs.Prelude.{◌≡◌, ◌≤◌, ◌+◌, ◌<◌, ◌^◌, ◌++◌, Bool, false, [], ◌∷◌, ◌==◌, length, slice_get, map, IfOk, IfSome, Some, vec_capacity};
 ghost use Rattle.std.specs.List.{list_any};
 ghost use Rattle.gw_base.specs.Known.{is_known};
-ghost use Rattle.gateway_book.specs.Nodes.{AreSlots, IsKeeping, IsLearning, IsLow, IsRemarking, fresh_slot, kept_slots, known_at, mark_of, node_at, nodes_of, remarked, settled_slot};
+ghost use Rattle.gateway_book.specs.Limits.{half};
+ghost use Rattle.gateway_book.specs.Nodes.{AreSlots, IsLearnt, fresh_slot, kept_slots, opening_in, opening_at, nodes_of, place_in, reopened, settled_slot};
+ghost use Rattle.gateway_book.specs.Sides.{listed_nodes, numbered_nodes, opened_nodes};
+ghost use Rattle.gateway_book.specs.WindowPairs.{AreBeside};
 
-use crate::node_mark::NodeMark;
-use gw_base::{NoMemory, NodeId};
+use crate::window_pair::WindowPair;
+use crate::windows::{clear_at, keep_all, make, set_at, set_within_at, state_at, top_at};
+use gw_base::{Absolute, KeyState, NoMemory, NodeId, Opening};
 use std::alloc::Global;
 
 /// The most nodes that a gateway knows.
 pub(crate) const MOST_NODES: usize = 64;
 
-/// What is kept of a node on the firm side, and on the live side.
+/// A node, and the Path that opened its present epoch, on the firm side and on the live side.
 #[derive(Clone, Copy, Debug)]
 pub(crate) struct Slot {
     pub(crate) node: NodeId,
-    pub(crate) firm: NodeMark,
-    pub(crate) live: NodeMark,
+    pub(crate) firm: Option<Opening>,
+    pub(crate) live: Option<Opening>,
 }
 
 impl Slot {
     /// The firm side, or else the live side.
-    fn mark(self, firm: bool) -> NodeMark
-        ensures { result ≡ mark_of firm self }
+    fn opening(self, firm: bool) -> Option<Opening>
+        ensures { result ≡ opening_in firm self }
     {
         if firm { self.firm } else { self.live }
     }
 
     /// The slot with another live side, where it is this node's.
-    fn remarked(self, node: NodeId, mark: NodeMark) -> Slot
-        ensures { result ≡ remarked node.0 mark self }
+    fn reopened(self, node: NodeId, opening: Option<Opening>) -> Slot
+        ensures { result ≡ reopened node.0 opening self }
     {
         if self.node.0 == node.0 {
-            Slot { live: mark, ..self }
+            Slot {
+                live: opening,
+                ..self
+            }
         } else {
             self
         }
@@ -42,24 +49,36 @@ impl Slot {
     fn settled(self, firm: bool) -> Slot
         ensures { result ≡ settled_slot firm self }
     {
-        let mark = self.mark(firm);
+        let opening = self.opening(firm);
         Slot {
-            firm: mark,
-            live: mark,
+            firm: opening,
+            live: opening,
             ..self
         }
     }
 }
 
-fn node_at(slots: &[Slot], firm: bool, node: NodeId) -> NodeMark
-    ensures { result ≡ node_at firm slots.now node.0 }
+fn opening_at(slots: &[Slot], firm: bool, node: NodeId) -> Option<Opening>
+    ensures { result ≡ opening_at firm slots.now node.0 }
 {
     for slot in slots {
         if slot.node.0 == node.0 {
-            return slot.mark(firm);
+            return slot.opening(firm);
         }
     }
-    NodeMark::none()
+    None
+}
+
+// The place of a node, and the one behind all slots where it has none.
+fn place_of(slots: &[Slot], node: NodeId) -> usize
+    ensures { result ≡ place_in slots.now node.0 }
+{
+    for place in 0..slots.len() {
+        if slots[place].node.0 == node.0 {
+            return place;
+        }
+    }
+    slots.len()
 }
 
 fn lists(slots: &[Slot], node: NodeId) -> bool
@@ -74,11 +93,11 @@ fn is_known(slots: &[Slot], node: NodeId) -> bool
     lists(slots, node)
 }
 
-fn remark(slots: &mut [Slot], node: NodeId, mark: NodeMark)
-    ensures { slots.new ≡ map (λ slot. remarked node.0 mark slot) slots.old }
+fn reopen(slots: &mut [Slot], node: NodeId, opening: Option<Opening>)
+    ensures { slots.new ≡ map (λ slot. reopened node.0 opening slot) slots.old }
 {
     for slot in slots.iter_mut() {
-        *slot = slot.remarked(node, mark);
+        *slot = slot.reopened(node, opening);
     }
 }
 
@@ -90,8 +109,8 @@ fn push(slots: &mut Vec<Slot>, node: NodeId)
 {
     let slot = Slot {
         node,
-        firm: NodeMark::none(),
-        live: NodeMark::none(),
+        firm: None,
+        live: None,
     };
     match slots.push(slot) {
         Ok(()) => {}
@@ -99,11 +118,11 @@ fn push(slots: &mut Vec<Slot>, node: NodeId)
     }
 }
 
-fn remark_all(slots: &mut Vec<Slot>, node: NodeId, mark: NodeMark)
-    ensures items { slots.new.items ≡ map (λ slot. remarked node.0 mark slot) slots.old.items }
+fn reopen_all(slots: &mut Vec<Slot>, node: NodeId, opening: Option<Opening>)
+    ensures items { slots.new.items ≡ map (λ slot. reopened node.0 opening slot) slots.old.items }
     ensures room { vec_capacity slots.new ≡ vec_capacity slots.old }
 {
-    remark(slots, node, mark);
+    reopen(slots, node, opening);
 }
 
 fn settle(slots: &mut [Slot], firm: bool)
@@ -133,54 +152,73 @@ fn settle_all(slots: &mut Vec<Slot>, firm: bool)
     settle(slots, firm);
 }
 
-/// The known nodes, in the order in which entries first named them.
-#[derive(Debug, Drop)]
+// Makes a node known, if it isn't, and answers its place.
+fn learn(slots: &mut Vec<Slot>, node: NodeId) -> usize
+    requires room { 64 ≤ vec_capacity slots.old }
+    requires place { is_known (nodes_of slots.old.items) node ≡ false → length slots.old.items < 64 }
+    requires bound { length slots.old.items ≤ 64 }
+    ensures learnt { IsLearnt node result slots.old.items slots.new.items }
+    ensures room { vec_capacity slots.old ≤ vec_capacity slots.new }
+{
+    let place = place_of(slots, node);
+    if is_known(slots, node) {
+        return place;
+    }
+    push(slots, node);
+    place
+}
+
+/// The known nodes, in the order in which entries first named them, with a pair of windows for each. All 64 pairs are
+/// made at once.
+#[derive(Drop)]
 pub(crate) struct NodeTable {
     slots: Vec<Slot>,
-    /// How many of them the firm side knows.
+    pairs: Vec<WindowPair>,
+    /// How many of the nodes the firm side knows.
     firm: usize,
     ghost room: { 64 ≤ vec_capacity slots },
     ghost are_slots: { AreSlots firm slots.items },
+    ghost beside: { AreBeside firm (length slots.items) pairs.items },
 }
 
 impl NodeTable {
+    ghost use Rattle.gateway_book.specs.NodeSides.{AreNew, IsNodesStep, MayBeKnown, nodes_in};
+
     /// No nodes, and room for 64.
     pub(crate) fn new(alloc: Global) -> Result<NodeTable, NoMemory>
-        ensures { IfOk result (λ table. table.slots.items ≡ []) }
+        ensures { IfOk result (λ table. (firm : Bool) → AreNew (nodes_in firm table)) }
     {
+        let slots = Vec::with_capacity(alloc, MOST_NODES)?;
+        let pairs = make(alloc, MOST_NODES)?;
         Ok(NodeTable {
-            slots: Vec::with_capacity(alloc, MOST_NODES)?,
+            slots,
+            pairs,
             firm: 0,
         })
     }
 
-    /// What is kept of a node on the firm side, or else on the live side.
-    pub(crate) fn mark(&self, firm: bool, node: NodeId) -> NodeMark
-        ensures mark { result ≡ node_at firm self.now.slots.items node.0 }
-        ensures low { IsLow result }
-    {
-        node_at(&self.slots, firm, node)
-    }
-
     /// How many nodes are known: at most 64.
+    #[tactic(auto, unfolding(crate::specs::NodeSides::nodes_in))]
     pub(crate) fn count(&self, firm: bool) -> usize
-        ensures value { result ≡ length (known_at firm self.now.firm self.now.slots.items) }
+        ensures value { result ≡ length (nodes_in firm self.now).known }
         ensures within { result ≤ 64 }
     {
         if firm { self.firm } else { self.slots.len() }
     }
 
     /// The k-th of them, counted from 0.
+    #[tactic(auto, unfolding(crate::specs::NodeSides::nodes_in))]
     pub(crate) fn node(&self, firm: bool, k: usize) -> NodeId
-        requires { k < length (known_at firm self.now.firm self.now.slots.items) }
-        ensures { slice_get (known_at firm self.now.firm self.now.slots.items) k ≡ Some result }
+        requires { k < length (nodes_in firm self.now).known }
+        ensures { slice_get (nodes_in firm self.now).known k ≡ Some result }
     {
         self.slots[k].node
     }
 
     /// Whether a node is known.
+    #[tactic(auto, unfolding(crate::specs::NodeSides::nodes_in))]
     pub(crate) fn is_known(&self, firm: bool, node: NodeId) -> bool
-        ensures { result ≡ is_known (known_at firm self.now.firm self.now.slots.items) node }
+        ensures { result ≡ is_known (nodes_in firm self.now).known node }
     {
         if firm {
             is_known(&self.slots[..self.firm], node)
@@ -189,32 +227,69 @@ impl NodeTable {
         }
     }
 
-    /// Makes a node known, if it isn't.
-    pub(crate) fn learn(&mut self, node: NodeId)
-        requires { is_known (nodes_of self.old.slots.items) node ≡ false → length self.old.slots.items < 64 }
-        ensures { (self.new.firm ≡ self.old.firm)
-            × IsLearning node self.old.firm self.old.slots.items self.new.slots.items }
+    /// The Path that opened the node's present epoch, where one did.
+    #[tactic(auto, unfolding(crate::specs::NodeSides::nodes_in))]
+    pub(crate) fn opening(&self, firm: bool, node: NodeId) -> Option<Opening>
+        ensures { result ≡ (nodes_in firm self.now).opening node.0 }
     {
-        if is_known(&self.slots, node) {
-            return;
-        }
-        push(&mut self.slots, node);
+        opening_at(&self.slots, firm, node)
     }
 
-    /// Keeps something else of a node, if it is known.
-    pub(crate) fn set(&mut self, node: NodeId, mark: NodeMark)
-        requires { IsLow mark }
-        ensures { (self.new.firm ≡ self.old.firm)
-            × IsRemarking node mark self.old.firm self.old.slots.items self.new.slots.items }
+    /// The greatest number that the node's present epoch names, where it names one.
+    #[tactic(auto, unfolding(crate::specs::NodeSides::nodes_in))]
+    pub(crate) fn top(&self, firm: bool, node: NodeId) -> Option<Absolute>
+        ensures value { result ≡ ((nodes_in firm self.now).window node.0).top }
+        ensures low { IfSome result (λ top. top < 2 ^ 63) }
     {
-        remark_all(&mut self.slots, node, mark);
+        top_at(&self.pairs, firm, place_of(&self.slots, node))
+    }
+
+    /// The state of a node's number by its window.
+    #[tactic(auto, unfolding(crate::specs::NodeSides::nodes_in))]
+    pub(crate) fn state(&self, firm: bool, node: NodeId, number: Absolute) -> KeyState
+        ensures { result ≡ ((nodes_in firm self.now).window node.0).state number }
+    {
+        state_at(&self.pairs, firm, place_of(&self.slots, node), number)
+    }
+
+    /// Gives a state to a number of a node, which is known from then on.
+    pub(crate) fn set(&mut self, node: NodeId, number: Absolute, state: KeyState)
+        requires place { MayBeKnown node (nodes_in false self.old) }
+        requires not_below { IfSome ((nodes_in false self.old).window node.0).top (λ top. top ≤ number + half) }
+        requires high { number < 2 ^ 63 }
+        ensures { IsNodesStep (numbered_nodes node number state) self.old self.new }
+    {
+        let place = learn(&mut self.slots, node);
+        set_at(&mut self.pairs, place, number, state);
+    }
+
+    /// Gives a state to those of these numbers that the node's window holds.
+    pub(crate) fn set_within(&mut self, node: NodeId, numbers: &[Absolute], state: KeyState)
+        ensures { IsNodesStep (listed_nodes node numbers.now state) self.old self.new }
+    {
+        let place = place_of(&self.slots, node);
+        if place >= self.slots.len() {
+            return;
+        }
+        set_within_at(&mut self.pairs, place, numbers, state);
+    }
+
+    /// Begins an epoch of a node, which is known from then on.
+    pub(crate) fn open(&mut self, node: NodeId, opening: Opening)
+        requires { MayBeKnown node (nodes_in false self.old) }
+        ensures { IsNodesStep (opened_nodes node opening) self.old self.new }
+    {
+        let place = learn(&mut self.slots, node);
+        reopen_all(&mut self.slots, node, Some(opening));
+        clear_at(&mut self.pairs, place);
     }
 
     /// Makes both sides what one of them is.
     pub(crate) fn keep(&mut self, firm: bool)
-        ensures { IsKeeping firm self.old.firm self.old.slots.items self.new.firm self.new.slots.items }
+        ensures { (side : Bool) → nodes_in side self.new ≡ nodes_in firm self.old }
     {
         self.firm = cut(&mut self.slots, firm, self.firm);
         settle_all(&mut self.slots, firm);
+        keep_all(&mut self.pairs, firm);
     }
 }

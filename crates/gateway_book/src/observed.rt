@@ -1,77 +1,44 @@
 // What an answer asks of an index.
-ghost use Rattle.std.specs.Prelude.{◌≡◌, ◌<◌, ◌^◌, Bool, List, IfSome};
+ghost use Rattle.std.specs.Prelude.{◌≡◌, Bool, ℕ, List, length};
+ghost use Rattle.gw_base.specs.HeldKeys.{held_keys};
 ghost use Rattle.gw_base.specs.Known.{known_nodes};
 ghost use Rattle.gw_base.specs.Observed.{observed};
+ghost use Rattle.gw_base.specs.declared.address.Addr.{Addr};
 ghost use Rattle.gw_base.specs.declared.address.NodeId.{NodeId};
+ghost use Rattle.gw_base.specs.declared.history.HistoryAct.{HistoryAct};
 ghost use Rattle.gw_base.specs.declared.history.HistoryEntry.{HistoryEntry};
+ghost use Rattle.gateway_book.specs.Answer.{answer_within, node_of};
+ghost use Rattle.gateway_book.specs.Fit.{is_act_fit};
 ghost use Rattle.gateway_book.specs.Index.{Follows, observed_by, side_of};
-ghost use Rattle.gateway_book.specs.Limits.{has_place, may_hold};
-ghost use Rattle.gateway_book.specs.Sides.{totals_of};
+ghost use Rattle.gateway_book.specs.Lookups.{key_seen};
+ghost use Rattle.gateway_book.specs.Preparing.{PreparedValue};
+ghost use Rattle.gateway_book.specs.Tells.{totals_of};
+ghost use Rattle.gateway_book.specs.Told.{key_of};
+ghost use Rattle.gateway_book.specs.Windows.{narrowed};
 ghost use Rattle.gateway_book.specs.declared.index.Index.{Index};
 
-use crate::index::Index;
-use crate::nodes::MOST_NODES;
-use gw_base::scan::present_state_is_that_of_the_epoch;
-use gw_base::{Absolute, KeyState, NodeId, Opening};
+use gw_base::scan::{held_keys_are_those_in_that_state, present_state_is_that_of_the_epoch};
 
-/// The most copies that a gateway holds.
-const MOST_COPIES: u64 = 65_536;
-
-impl Index {
-    /// The gateway's own restart counter.
-    pub fn own(&self, firm: bool) -> u8
-        ensures { (node : NodeId) → result ≡ (observed_by firm self.now node).own }
-    {
-        (self.totals(firm).starts % 256) as u8
-    }
-
-    /// The Path that opened the node's present epoch, where one did.
-    pub fn opening(&self, firm: bool, node: NodeId) -> Option<Opening>
-        ensures { result ≡ (observed_by firm self.now node).opening }
-    {
-        self.nodes.mark(firm, node).opening
-    }
-
-    /// The greatest number that the node's present epoch names, where it names one.
-    pub fn top(&self, firm: bool, node: NodeId) -> Option<Absolute>
-        ensures value { result ≡ (observed_by firm self.now node).top }
-        ensures low { IfSome result (λ t. t < 2 ^ 63) }
-    {
-        self.nodes.mark(firm, node).top
-    }
-
-    /// The state of a number in the node's present epoch.
-    pub fn state(&self, firm: bool, node: NodeId, number: Absolute) -> KeyState
-        ensures { result ≡ (observed_by firm self.now node).state number }
-    {
-        self.states.state(firm, self.key(firm, node, number))
-    }
-
-    /// Whether the node is known or may become so.
-    pub fn has_place(&self, firm: bool, node: NodeId) -> bool
-        ensures { result ≡ has_place (observed_by firm self.now node) }
-    {
-        let is_known = self.nodes.is_known(firm, node);
-        let count = self.nodes.count(firm);
-        is_known || count < MOST_NODES
-    }
-
-    /// Whether one more copy may be held.
-    pub fn may_hold(&self, firm: bool) -> bool
-        ensures { (node : NodeId) → result ≡ may_hold (observed_by firm self.now node) }
-    {
-        self.totals(firm).held < MOST_COPIES
-    }
-}
-
-/// What an index tells is what the history says that it follows.
+/// What an index tells is what the history says that it follows, as far as its windows reach. That is enough for
+/// answers, for what is fit, and for what a number on the wire means.
 pub fn an_index_tells_its_history()
     ensures observed { (firm : Bool) (index : Index) (h : List HistoryEntry) (node : NodeId) →
-        Follows firm index h → observed_by firm index node ≡ observed h node }
+        Follows firm index h → observed_by firm index node ≡ narrowed (observed h node) }
+    ensures answers { (firm : Bool) (index : Index) (h : List HistoryEntry) → Follows firm index h →
+        (from : Addr) (datagram : PreparedValue) (room : HistoryAct → Bool) →
+        answer_within (observed_by firm index (node_of from)) from datagram room
+        ≡ answer_within (observed h (node_of from)) from datagram room }
+    ensures fits { (firm : Bool) (index : Index) (h : List HistoryEntry) (act : HistoryAct) →
+        Follows firm index h → is_act_fit (observed_by firm index) act ≡ is_act_fit (observed h) act }
+    ensures keys { (firm : Bool) (index : Index) (h : List HistoryEntry) (node : NodeId) (wire : ℕ) →
+        Follows firm index h → key_seen (observed_by firm index node) wire ≡ key_of h node wire }
     ensures totals { (firm : Bool) (index : Index) (h : List HistoryEntry) →
         Follows firm index h → (side_of firm index).totals ≡ totals_of h }
+    ensures held { (firm : Bool) (index : Index) (h : List HistoryEntry) →
+        Follows firm index h → (side_of firm index).held.count ≡ length (held_keys h) }
     ensures known { (firm : Bool) (index : Index) (h : List HistoryEntry) →
-        Follows firm index h → (side_of firm index).known ≡ known_nodes h }
+        Follows firm index h → (side_of firm index).nodes.known ≡ known_nodes h }
 {
+    held_keys_are_those_in_that_state();
     present_state_is_that_of_the_epoch();
 }

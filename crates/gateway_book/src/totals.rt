@@ -9,8 +9,6 @@ use gw_base::{Act, Entry, Moment};
 pub struct Totals {
     /// How often the gateway began to run.
     pub starts: u64,
-    /// How many keys of present epochs are held.
-    pub held: u64,
     /// How many keys of earlier epochs are held.
     pub stranded: u64,
     /// The moment of the last entry.
@@ -30,7 +28,6 @@ impl Totals {
         };
         Totals {
             starts: 0,
-            held: 0,
             stranded: 0,
             moment,
             is_close_due: false,

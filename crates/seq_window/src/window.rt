@@ -49,7 +49,8 @@ impl<const HALF: usize> Window<HALF> {
 
     /// The greatest number that was set, where one was.
     pub fn top(&self) -> Option<Absolute>
-        ensures { result ≡ (seen_of HALF self.now).top }
+        ensures value { result ≡ (seen_of HALF self.now).top }
+        ensures low { IfSome result (λ top. top < 2 ^ 63) }
     {
         self.top
     }

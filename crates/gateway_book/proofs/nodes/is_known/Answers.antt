@@ -1,5 +1,5 @@
 use Rattle.std.proofs.Common.{◌∙◌}
-use Rattle.gateway_book.proofs.NodesLemmas.{known_is}
+use Rattle.gateway_book.proofs.SlotLemmas.{known_is}
 use Rattle.gateway_book.proofs.nodes.is_known.Goals as goal
 
 pub returns : goal.returns

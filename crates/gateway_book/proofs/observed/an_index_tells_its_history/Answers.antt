@@ -1,9 +1,23 @@
-use Rattle.gateway_book.proofs.IndexLemmas.{known_are, observed_is, totals_are}
+use Rattle.gateway_book.proofs.IndexLemmas.{answered_as, fit_as, held_are, key_as, known_are, observed_as, totals_are}
 use Rattle.gateway_book.proofs.observed.an_index_tells_its_history.Goals as goal
 
-pub returns : goal.returns
-returns c = record {
-  observed = observed_is c.present_state_is_that_of_the_epoch.ensures;
-  totals = totals_are;
-  known = known_are;
-}
+pub returns-clause-observed : goal.returns-clause-observed
+returns-clause-observed c = observed_as c.held_keys_are_those_in_that_state.ensures c.present_state_is_that_of_the_epoch.ensures
+
+pub returns-clause-answers : goal.returns-clause-answers
+returns-clause-answers c = answered_as c.held_keys_are_those_in_that_state.ensures c.present_state_is_that_of_the_epoch.ensures
+
+pub returns-clause-fits : goal.returns-clause-fits
+returns-clause-fits c = fit_as c.held_keys_are_those_in_that_state.ensures c.present_state_is_that_of_the_epoch.ensures
+
+pub returns-clause-keys : goal.returns-clause-keys
+returns-clause-keys c = key_as c.held_keys_are_those_in_that_state.ensures c.present_state_is_that_of_the_epoch.ensures
+
+pub returns-clause-totals : goal.returns-clause-totals
+returns-clause-totals c = totals_are
+
+pub returns-clause-held : goal.returns-clause-held
+returns-clause-held c = held_are
+
+pub returns-clause-known : goal.returns-clause-known
+returns-clause-known c = known_are

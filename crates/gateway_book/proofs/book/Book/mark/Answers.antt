@@ -8,7 +8,7 @@ use Rattle.gateway_book.specs.Followed.{all_entries}
 use Rattle.gateway_book.specs.Marks.{Mark}
 use Rattle.gateway_book.specs.Value.{BookValue, history_of, recorded}
 use Rattle.gateway_book.specs.declared.outcome.Marked.TheVariants as marked
-use Rattle.gateway_book.proofs.MarkingLemmas.{made_with_room, none_without_room, put_is_recorded, room_of_mark, room_of_open}
+use Rattle.gateway_book.proofs.MarkingLemmas.{made_with_room, mark_may_come, none_without_room, put_is_recorded, room_of_mark, room_of_open}
 use Rattle.gateway_book.proofs.TakingLemmas.{history_is}
 use Rattle.gateway_book.proofs.book.Book.mark.Goals as goal
 
@@ -48,3 +48,6 @@ returns-in-Ok-clause-left g c = λ told some.
           ∙ ap (λ (v : BookValue). marked.Made (length (history_of v)) v.cuts) value
           ∙ ap (λ (m : Mark). (marked_at (value_of book) c.args.now c.args.who m).answer) made;
     }
+
+pub put-requires-clause-may_come : goal.put-requires-clause-may_come
+put-requires-clause-may_come g c = mark_may_come c.args.self.now.index (act_view c.args.act) c.requires.closes

@@ -26,8 +26,8 @@ invariant_of-self g c =
       counts = counting_firm old.trail c.append.new.trail old.cuts old.kept old.counts c.append.ensures.stays;
     }
 
-pub append-requires-clause-ready : goal.append-requires-clause-ready
-append-requires-clause-ready g c = record { may_come = record { place = refl; low = tt }; places = tt }
+pub append-requires-clause-may_come : goal.append-requires-clause-may_come
+append-requires-clause-may_come g c = refl
 
 pub append-requires-clause-free : goal.append-requires-clause-free
 append-requires-clause-free g c = omega (arith, c.requires.emptied)

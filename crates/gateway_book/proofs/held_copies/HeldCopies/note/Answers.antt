@@ -2,8 +2,7 @@ use Rattle.std.proofs.Common.{sym, ap, ◌∙◌}
 use Rattle.gw_base.specs.Entry.{act_view}
 use Rattle.gw_base.specs.declared.entry.Act.{Act}
 use Rattle.gateway_book.specs.HeldCopies.{copies_after, hold_in, path_in, places_of}
-use Rattle.gateway_book.proofs.HeldCopiesLemmas.{cancel_noted, file_noted, hold_noted, path_noted, release_noted, seal_noted}
-use Rattle.gateway_book.proofs.StatesLemmas.{on_ok}
+use Rattle.gateway_book.proofs.HeldCopiesLemmas.{cancel_noted, file_noted, hold_noted, on_ok, path_noted, release_noted, seal_noted}
 use Rattle.gateway_book.proofs.held_copies.HeldCopies.note.Goals as goal
 
 pub returns-in-Path-clause-ok : goal.returns-in-Path-clause-ok

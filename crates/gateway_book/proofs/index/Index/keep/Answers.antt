@@ -8,7 +8,7 @@ returns-then-firm-clause-sides c = kept_sides c.args.firm c.args.self.now _ c.ke
 
 pub returns-then-firm-clause-follows : goal.returns-then-firm-clause-follows
 returns-then-firm-clause-follows c =
-    let now : Index = record { states = c.keep.new.self; nodes = c.keep-2.new.self; firm = c.args.self.now.firm; live = c.args.self.now.firm } in
+    let now : Index = record { nodes = c.keep.new.self; held = c.keep-2.new.self; firm = c.args.self.now.firm; live = c.args.self.now.firm } in
     λ side h. follows_same side c.args.firm c.args.self.now now (kept_sides c.args.firm c.args.self.now now c.keep.ensures c.keep-2.ensures (rw c.if-firm.true refl) (rw c.if-firm.true refl) side) h
 
 pub returns-else-firm-clause-sides : goal.returns-else-firm-clause-sides
@@ -16,5 +16,5 @@ returns-else-firm-clause-sides c = kept_sides c.args.firm c.args.self.now _ c.ke
 
 pub returns-else-firm-clause-follows : goal.returns-else-firm-clause-follows
 returns-else-firm-clause-follows c =
-    let now : Index = record { states = c.keep.new.self; nodes = c.keep-2.new.self; firm = c.args.self.now.live; live = c.args.self.now.live } in
+    let now : Index = record { nodes = c.keep.new.self; held = c.keep-2.new.self; firm = c.args.self.now.live; live = c.args.self.now.live } in
     λ side h. follows_same side c.args.firm c.args.self.now now (kept_sides c.args.firm c.args.self.now now c.keep.ensures c.keep-2.ensures (rw c.if-firm.false refl) (rw c.if-firm.false refl) side) h

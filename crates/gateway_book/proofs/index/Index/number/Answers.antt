@@ -1,11 +1,16 @@
-use Rattle.gateway_book.specs.Sides.{Side, learnt, named, topped}
-use Rattle.gateway_book.proofs.IndexLemmas.{learnt_placed, stepped_twice}
+use Rattle.std.proofs.Common.{refl}
+use Rattle.gateway_book.specs.Sides.{numbered_nodes}
+use Rattle.gateway_book.proofs.IndexLemmas.{new_facts, nodes_stepped}
 use Rattle.gateway_book.proofs.index.Index.number.Goals as goal
 
-pub name-requires : goal.name-requires
-name-requires c = learnt_placed c.args.node c.args.number _ _ c.learn.ensures c.requires.placed
+pub set-requires-clause-place : goal.set-requires-clause-place
+set-requires-clause-place c = (new_facts c.args.self.now c.args.node c.args.number c.requires).place
+
+pub set-requires-clause-not_below : goal.set-requires-clause-not_below
+set-requires-clause-not_below c = (new_facts c.args.self.now c.args.node c.args.number c.requires).not_below
+
+pub set-requires-clause-high : goal.set-requires-clause-high
+set-requires-clause-high c = (new_facts c.args.self.now c.args.node c.args.number c.requires).high
 
 pub returns : goal.returns
-returns c =
-    stepped_twice (λ (side : Side). named c.args.node c.args.number c.args.state (learnt c.args.node side)) (topped c.args.node c.args.number) c.args.self.now c.name.new.self c.raise.new.self
-    (stepped_twice (learnt c.args.node) (named c.args.node c.args.number c.args.state) c.args.self.now c.learn.new.self c.name.new.self c.learn.ensures c.name.ensures) c.raise.ensures
+returns c = nodes_stepped (numbered_nodes c.args.node c.args.number c.args.state) c.args.self.now _ c.set.ensures refl refl refl

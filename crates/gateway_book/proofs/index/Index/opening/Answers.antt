@@ -1,8 +1,6 @@
-use Rattle.std.proofs.Common.{ap}
-use Rattle.gateway_book.specs.declared.node_mark.NodeMark.{NodeMark}
 use Rattle.gateway_book.specs.Index.{observed_by, side_of}
 use Rattle.gateway_book.proofs.index.Index.opening.Goals as goal
 
 pub returns : goal.returns
 unfolding observed_by side_of
-returns c = ap (λ (mark : NodeMark). mark.opening) c.mark.ensures.mark
+returns c = c.opening.ensures

@@ -7,4 +7,4 @@ use Rattle.gateway_book.proofs.index.Index.path.Given as goal
 -- the path that is asked for is so far among those of the nodes that are left
 abbrev pub invariant-loop-place : goal.invariant-loop-place
 invariant-loop-place l =
-    slice_get (filter_map (path_in (side_of l.firm l.self)) (drop l.place (side_of l.firm l.self).known)) l.left ≡ slice_get (paths_in (side_of l.firm l.self)) l.fn.k
+    slice_get (filter_map (path_in (side_of l.firm l.self)) (drop l.place (side_of l.firm l.self).nodes.known)) l.left ≡ slice_get (paths_in (side_of l.firm l.self)) l.fn.k

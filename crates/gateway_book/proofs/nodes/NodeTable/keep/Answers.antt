@@ -1,17 +1,26 @@
-use Rattle.std.proofs.Common.{List, ap, ◌∙◌, arith, length, map}
-use Rattle.gateway_book.specs.Nodes.{settled_slot}
+use Rattle.std.proofs.Common.{◌≡◌, List, sym, ap, subst, ◌∙◌, arith, length, map}
+use Rattle.gateway_book.specs.Nodes.{AreSlots, kept_slots, settled_slot}
+use Rattle.gateway_book.specs.WindowPairs.{AreBeside}
 use Rattle.gateway_book.specs.declared.nodes.Slot.{Slot}
-use Rattle.gateway_book.proofs.NodesLemmas.{keeping, slots_kept}
+use Rattle.gateway_book.proofs.NodeLemmas.{settled_beside, settled_nodes}
+use Rattle.gateway_book.proofs.SlotLemmas.{settled, settled_slots}
 use Rattle.gateway_book.proofs.nodes.NodeTable.keep.Goals as goal
 
 pub invariant_of-self : goal.invariant_of-self
-invariant_of-self c = record {
-  room = omega (arith, c.settle_all.ensures.room, c.cut-self.ensures.room);
-  are_slots = slots_kept c.args.firm c.args.self.now.firm c.args.self.now.slots.items _ _ c.args.self.now.are_slots (c.cut-self.ensures.left ∙ ap (λ (slots : List Slot). length slots) c.cut-self.ensures.items)
-      (c.settle_all.ensures.items ∙ ap (λ (slots : List Slot). map (λ (slot : Slot). settled_slot c.args.firm slot) slots) c.cut-self.ensures.items);
-}
+invariant_of-self c =
+    let old = c.args.self.now in
+    let count : c.cut-self.result ≡ length (kept_slots c.args.firm old.firm old.slots.items) = c.cut-self.ensures.left ∙ ap (λ (slots : List Slot). length slots) c.cut-self.ensures.items in
+    let slots : c.settle_all.new.slots.items ≡ settled c.args.firm old.firm old.slots.items = c.settle_all.ensures.items ∙ ap (λ (xs : List Slot). map (λ (slot : Slot). settled_slot c.args.firm slot) xs) c.cut-self.ensures.items in
+    record {
+      room = omega (arith, c.settle_all.ensures.room, c.cut-self.ensures.room);
+      are_slots = subst (λ (xs : List Slot). AreSlots c.cut-self.result xs) (sym slots) (settled_slots c.args.firm old.firm c.cut-self.result old.slots.items old.are_slots count);
+      beside = subst (λ (xs : List Slot). AreBeside c.cut-self.result (length xs) c.keep_all.new.pairs.items) (sym slots)
+          (settled_beside c.args.firm old.firm old.slots.items old.pairs.items c.keep_all.new.pairs.items old.are_slots old.beside c.keep_all.ensures c.cut-self.result count);
+    }
 
 pub returns : goal.returns
 returns c =
-    keeping c.args.firm c.args.self.now.firm c.args.self.now.slots.items _ _ c.args.self.now.are_slots (c.cut-self.ensures.left ∙ ap (λ (slots : List Slot). length slots) c.cut-self.ensures.items)
-    (c.settle_all.ensures.items ∙ ap (λ (slots : List Slot). map (λ (slot : Slot). settled_slot c.args.firm slot) slots) c.cut-self.ensures.items)
+    let old = c.args.self.now in
+    let count : c.cut-self.result ≡ length (kept_slots c.args.firm old.firm old.slots.items) = c.cut-self.ensures.left ∙ ap (λ (slots : List Slot). length slots) c.cut-self.ensures.items in
+    let slots : c.settle_all.new.slots.items ≡ settled c.args.firm old.firm old.slots.items = c.settle_all.ensures.items ∙ ap (λ (xs : List Slot). map (λ (slot : Slot). settled_slot c.args.firm slot) xs) c.cut-self.ensures.items in
+    settled_nodes c.args.firm old _ count slots c.keep_all.ensures

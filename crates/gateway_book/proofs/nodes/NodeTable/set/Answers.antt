@@ -1,14 +1,24 @@
-use Rattle.std.proofs.Common.{List, sym, subst, refl, arith}
-use Rattle.gateway_book.specs.Nodes.{AreSlots, IsRemarking}
-use Rattle.gateway_book.specs.declared.nodes.Slot.{Slot}
-use Rattle.gateway_book.proofs.NodesLemmas.{remarking, slots_remarked}
+use Rattle.std.proofs.Common.{refl, arith}
+use Rattle.seq_window.specs.Seen.{with_state}
+use Rattle.gateway_book.specs.Limits.{half}
+use Rattle.gateway_book.proofs.NodeLemmas.{learnt_are_slots, learnt_beside, learnt_inside, learnt_not_below, may_room, numbered_step}
 use Rattle.gateway_book.proofs.nodes.NodeTable.set.Goals as goal
+
+pub learn-place-requires-clause-place : goal.learn-place-requires-clause-place
+learn-place-requires-clause-place c = may_room c.args.node c.args.self.now c.requires.place
+
+pub set_at-requires-clause-inside : goal.set_at-requires-clause-inside
+set_at-requires-clause-inside c = learnt_inside c.args.node c.learn-place.result c.args.self.now c.learn-place.new.slots.items c.learn-place.ensures.learnt c.requires.place
+
+pub set_at-requires-clause-not_below : goal.set_at-requires-clause-not_below
+set_at-requires-clause-not_below c = learnt_not_below c.args.node c.learn-place.result c.args.self.now c.learn-place.new.slots.items c.learn-place.ensures.learnt c.requires.place c.args.number c.requires.not_below
 
 pub invariant_of-self : goal.invariant_of-self
 invariant_of-self c = record {
-  room = omega (arith, c.remark_all.ensures.room);
-  are_slots = subst (λ (slots : List Slot). AreSlots c.args.self.now.firm slots) (sym c.remark_all.ensures.items) (slots_remarked c.args.self.now.firm c.args.node.0 c.args.mark c.args.self.now.slots.items c.requires c.args.self.now.are_slots);
+  room = omega (arith, c.learn-place.ensures.room);
+  are_slots = learnt_are_slots c.args.node c.learn-place.result c.args.self.now c.learn-place.new.slots.items c.learn-place.ensures.learnt c.requires.place;
+  beside = learnt_beside c.args.node c.learn-place.result c.args.self.now c.learn-place.new.slots.items c.learn-place.ensures.learnt c.requires.place (with_state half c.args.number c.args.state) c.set_at.new.pairs.items c.set_at.ensures;
 }
 
 pub returns : goal.returns
-returns c = (refl, subst (λ (slots : List Slot). IsRemarking c.args.node c.args.mark c.args.self.now.firm c.args.self.now.slots.items slots) (sym c.remark_all.ensures.items) (remarking c.args.node c.args.mark c.args.self.now.firm c.args.self.now.slots.items))
+returns c = numbered_step c.args.node c.args.number c.args.state c.learn-place.result c.args.self.now _ refl c.learn-place.ensures.learnt c.set_at.ensures

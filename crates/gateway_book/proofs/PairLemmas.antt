@@ -1,0 +1,149 @@
+-- What one step at a place changes of windows.
+use Rattle.std.proofs.Common.{◌≡◌, ℕ, zero, suc, ◌+◌, ◌<◌, ◌≤◌, ◌==◌, Bool, true, false, if◌then◌else◌, List, [], ◌∷◌, ◌++◌, length, length-append, refl, sym, ap, ◌∙◌, true≢false, arith}
+use Rattle.std.specs.Prelude.{nat_lt, slice_index_or, slice_set}
+use Rattle.std.proofs.lemmas.Bool.{eq-eqb, eqb-true, eqb-false, ne_eqb, lt-ltb, ltb-false, ltb-true, le-ltb}
+use Rattle.seq_window.specs.Seen.{Seen, nothing_seen}
+use Rattle.seq_window.specs.Stored.{Stored, seen_of}
+use Rattle.gateway_book.specs.Limits.{half}
+use Rattle.gateway_book.specs.WindowPairs.{AreBlank, AreKeptTo, IsPairStep, IsStepAt, seen_at, seen_in}
+use Rattle.gateway_book.specs.declared.window_pair.WindowPair.{WindowPair}
+
+-- the window at a place is that of the pair there
+pub seen_there : (firm : Bool) (pairs : List WindowPair) (k : ℕ) (d : WindowPair) → k < length pairs → seen_at firm pairs k ≡ seen_in firm (slice_index_or pairs k d)
+unfolding seen_at
+seen_there firm [] k d inside = absurd (omega (arith, inside))
+seen_there firm (pair ∷ pairs) zero d inside = refl
+seen_there firm (pair ∷ pairs) (suc k) d inside = seen_there firm pairs k d (omega (arith, inside))
+
+pub seen_behind : (firm : Bool) (pairs : List WindowPair) (k : ℕ) → length pairs ≤ k → seen_at firm pairs k ≡ nothing_seen
+unfolding seen_at
+seen_behind firm [] k past = refl
+seen_behind firm (pair ∷ pairs) zero past = absurd (omega (arith, past))
+seen_behind firm (pair ∷ pairs) (suc k) past = seen_behind firm pairs k (omega (arith, past))
+
+same_successors : (a b : ℕ) → (a == b) ≡ (suc a == suc b)
+same_successors a b = by_test (a == b) refl
+  where
+    by_test : (t : Bool) → (a == b) ≡ t → t ≡ (suc a == suc b)
+    by_test true e = sym (eq-eqb (suc a) (suc b) (ap suc (eqb-true a b e)))
+    by_test false e = sym (ne_eqb (suc a) (suc b) (λ same. eqb-false a b e (omega (arith, same))))
+
+-- another pair at a place
+pub seen_set : (firm : Bool) (pairs : List WindowPair) (place k : ℕ) (pair : WindowPair) → place < length pairs
+    → seen_at firm (slice_set pairs place pair) k ≡ (if place == k then seen_in firm pair else seen_at firm pairs k)
+unfolding seen_at
+seen_set firm [] place k pair inside = absurd (omega (arith, inside))
+seen_set firm (one ∷ pairs) zero zero pair inside = refl
+seen_set firm (one ∷ pairs) zero (suc k) pair inside = rw (ne_eqb 0 (suc k) (λ same. omega (arith, same))) refl
+seen_set firm (one ∷ pairs) (suc place) zero pair inside = rw (ne_eqb (suc place) 0 (λ same. omega (arith, same))) refl
+seen_set firm (one ∷ pairs) (suc place) (suc k) pair inside =
+    seen_set firm pairs place k pair (omega (arith, inside)) ∙ ap (λ (b : Bool). if b then seen_in firm pair else seen_at firm pairs k) (same_successors place k)
+
+pub length_set : (pairs : List WindowPair) (place : ℕ) (pair : WindowPair) → length (slice_set pairs place pair) ≡ length pairs
+length_set [] place pair = refl
+length_set (one ∷ pairs) zero pair = refl
+length_set (one ∷ pairs) (suc place) pair = ap suc (length_set pairs place pair)
+
+-- a step of the pair at a place
+pub stepped_at : (step : Seen → Seen) (pairs : List WindowPair) (place : ℕ) (d new : WindowPair) → place < length pairs → IsPairStep step (slice_index_or pairs place d) new
+    → IsStepAt place step pairs (slice_set pairs place new)
+stepped_at step pairs place d new inside s = record {
+  count = length_set pairs place new;
+  live = λ k. seen_set false pairs place k new inside ∙ live k (place == k) refl;
+  firm = λ k. seen_set true pairs place k new inside ∙ firm k (place == k) refl;
+}
+  where
+    live : (k : ℕ) (b : Bool) → (place == k) ≡ b → (if b then seen_in false new else seen_at false pairs k) ≡ (if b then step (seen_at false pairs k) else seen_at false pairs k)
+    live k true e = s.live ∙ ap step (sym (seen_there false pairs place d inside) ∙ ap (λ (j : ℕ). seen_at false pairs j) (eqb-true place k e))
+    live k false e = refl
+
+    firm : (k : ℕ) (b : Bool) → (place == k) ≡ b → (if b then seen_in true new else seen_at true pairs k) ≡ seen_at true pairs k
+    firm k true e = s.firm ∙ sym (seen_there true pairs place d inside) ∙ ap (λ (j : ℕ). seen_at true pairs j) (eqb-true place k e)
+    firm k false e = refl
+
+-- ---- making
+
+pub blank_none : AreBlank 0 []
+unfolding seen_at
+blank_none = record { count = refl; blank = λ firm k. refl }
+
+blank_push : (firm : Bool) (pairs : List WindowPair) (pair : WindowPair) → seen_in firm pair ≡ nothing_seen → ((j : ℕ) → seen_at firm pairs j ≡ nothing_seen) → (k : ℕ) → seen_at firm (pairs ++ pair ∷ []) k ≡ nothing_seen
+unfolding seen_at
+blank_push firm [] pair one all zero = one
+blank_push firm [] pair one all (suc k) = refl
+blank_push firm (p ∷ pairs) pair one all zero = all 0
+blank_push firm (p ∷ pairs) pair one all (suc k) = blank_push firm pairs pair one (λ j. all (suc j)) k
+
+pub blank_more : (count : ℕ) (pairs : List WindowPair) (pair : WindowPair) → AreBlank count pairs → ((firm : Bool) → seen_in firm pair ≡ nothing_seen) → AreBlank (count + 1) (pairs ++ pair ∷ [])
+blank_more count pairs pair blank one = record {
+  count = omega (arith, blank.count, length-append pairs (pair ∷ []));
+  blank = λ firm k. blank_push firm pairs pair (one firm) (blank.blank firm) k;
+}
+
+-- ---- both sides one side's
+
+pub kept_none : (firm : Bool) (pairs : List WindowPair) → AreKeptTo 0 firm pairs pairs
+kept_none firm pairs = record { count = refl; kept = λ side k. rw (le-ltb k 0 (omega arith)) refl }
+
+pub kept_more : (firm : Bool) (count : ℕ) (old now : List WindowPair) (d new : WindowPair) → count < length now → AreKeptTo count firm old now
+    → ((side : Bool) → seen_in side new ≡ seen_in firm (slice_index_or now count d)) → AreKeptTo (count + 1) firm old (slice_set now count new)
+kept_more firm count old now d new inside so_far one = record {
+  count = length_set now count new ∙ so_far.count;
+  kept = λ side k. seen_set side now count k new inside ∙ at side k (count == k) (nat_lt k count) refl refl;
+}
+  where
+    here : (side : Bool) → seen_in side new ≡ seen_at firm old count
+    here side = one side ∙ sym (seen_there firm now count d inside) ∙ so_far.kept firm count ∙ rw (le-ltb count count (omega arith)) refl
+
+    at : (side : Bool) (k : ℕ) (same before : Bool) → (count == k) ≡ same → nat_lt k count ≡ before
+        → (if same then seen_in side new else seen_at side now k) ≡ (if nat_lt k (count + 1) then seen_at firm old k else seen_at side old k)
+    at side k true before e f = here side ∙ ap (λ (j : ℕ). seen_at firm old j) (eqb-true count k e) ∙ sym (rw (lt-ltb k (count + 1) (omega (arith, eqb-true count k e))) refl)
+    at side k false true e f = so_far.kept side k ∙ rw (f, lt-ltb k (count + 1) (omega (arith, ltb-true k count f))) refl
+    at side k false false e f = so_far.kept side k ∙ rw (f, le-ltb k (count + 1) (after k e f)) refl
+      where
+        after : (k : ℕ) → (count == k) ≡ false → nat_lt k count ≡ false → count + 1 ≤ k
+        after k e f = omega (arith, eqb-false count k e, ltb-false k count f)
+
+-- all are kept
+pub kept_all : (firm : Bool) (old new : List WindowPair) → AreKeptTo (length old) firm old new → (side : Bool) (k : ℕ) → seen_at side new k ≡ seen_at firm old k
+kept_all firm old new kept side k = kept.kept side k ∙ at (nat_lt k (length old)) refl
+  where
+    at : (b : Bool) → nat_lt k (length old) ≡ b → (if b then seen_at firm old k else seen_at side old k) ≡ seen_at firm old k
+    at true e = refl
+    at false e = let past = ltb-false k (length old) e in seen_behind side old k past ∙ sym (seen_behind firm old k past)
+
+-- ---- one pair
+
+pub blank_in : (pair : WindowPair) → seen_of half pair.firm ≡ nothing_seen → seen_of half pair.live ≡ nothing_seen → (firm : Bool) → seen_in firm pair ≡ nothing_seen
+unfolding seen_in
+blank_in pair firm live true = firm
+blank_in pair firm live false = live
+
+pub pair_stepped : (step : Seen → Seen) (old new : WindowPair) → seen_of half new.live ≡ step (seen_of half old.live) → new.firm ≡ old.firm → IsPairStep step old new
+unfolding seen_in
+pair_stepped step old new live firm = record { live = live; firm = ap (λ (s : Stored). seen_of half s) firm }
+
+-- both sides of a pair are what one of them was
+pub pair_kept : (firm : Bool) (old new : WindowPair) → seen_of half new.firm ≡ (if firm then seen_of half old.firm else seen_of half old.live) → seen_of half new.live ≡ (if firm then seen_of half old.firm else seen_of half old.live)
+    → (side : Bool) → seen_in side new ≡ seen_in firm old
+unfolding seen_in
+pair_kept firm old new f l true = f
+pair_kept firm old new f l false = l
+
+-- a pair that didn't change is so
+pub pair_same : (firm : Bool) (old : WindowPair) → seen_of half old.firm ≡ seen_of half old.live → (side : Bool) → seen_in side old ≡ seen_in firm old
+unfolding seen_in
+pair_same true old same true = refl
+pair_same true old same false = sym same
+pair_same false old same true = same
+pair_same false old same false = refl
+
+pub in_firm : (firm : Bool) (pair : WindowPair) → firm ≡ true → seen_of half pair.firm ≡ seen_in firm pair
+unfolding seen_in
+in_firm true pair e = refl
+in_firm false pair e = absurd (true≢false (sym e))
+
+pub in_live : (firm : Bool) (pair : WindowPair) → firm ≡ false → seen_of half pair.live ≡ seen_in firm pair
+unfolding seen_in
+in_live false pair e = refl
+in_live true pair e = absurd (true≢false e)

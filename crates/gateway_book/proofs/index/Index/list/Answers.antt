@@ -1,0 +1,7 @@
+use Rattle.std.proofs.Common.{refl}
+use Rattle.gateway_book.specs.Sides.{listed_nodes, without_copies}
+use Rattle.gateway_book.proofs.IndexLemmas.{both_stepped}
+use Rattle.gateway_book.proofs.index.Index.list.Goals as goal
+
+pub returns : goal.returns
+returns c = both_stepped (listed_nodes c.args.node c.args.numbers.now c.args.state) (without_copies c.args.node.0 c.args.numbers.now) c.args.self.now _ c.set_within.ensures c.take.ensures refl refl
