@@ -2,7 +2,8 @@
 //! return.
 //!
 //! - `front COUNT TEXT`: so many of this text stand in front of the scripts that follow.
-//! - `script feed TEXT`, `script replay TEXT`: the text of the script as it is printed, or why it is refused.
+//! - `script feed TEXT`, `script replay TEXT`, `script serve TEXT`: the text of the script as it is printed, or why it is
+//!   refused.
 //! - `says feed LINE`, `says replay LINE`: what the line says.
 //! - `sample SEED NODES GATEWAYS PACKETS`: how many lines and octets the text of a sample has, the sum of its octets,
 //!   each times its place from 1, modulo 2^32, and whether it reads as a script that is printed so.
@@ -19,6 +20,7 @@ const MOST_TIMES: u64 = 16_777_216;
 fn kind_of(word: &str) -> ScriptKind {
     match word {
         "feed" => ScriptKind::Feed,
+        "serve" => ScriptKind::Serve,
         _ => ScriptKind::Replay,
     }
 }

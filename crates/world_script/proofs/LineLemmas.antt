@@ -4,7 +4,7 @@ use Rattle.std.specs.List.{list_any}
 use Rattle.std.specs.Option.{option_or}
 use Rattle.std.specs.Str.{bytes_eq}
 use Rattle.route_filter.specs.Words.{words_of}
-use Rattle.world_script.specs.Forms.{feed_form, form_in, gateway_form, is_later_in, is_setting, keyword_of, known, network_form, shared_form}
+use Rattle.world_script.specs.Forms.{feed_form, form_in, gateway_form, is_later_in, is_setting, keyword_of, known, network_form, serve_form, shared_form}
 use Rattle.world_script.specs.Printing.{line_text, words_text}
 use Rattle.world_script.specs.Saying.{rule_said, said_by}
 use Rattle.world_script.specs.Script.{contented, is_action_line, is_end_line, is_rule_line, keyed, progress_of, worded}
@@ -65,6 +65,12 @@ gateway_named word form h =
     (is_named word (codes "fail") form keyword.Fail _ refl (is_named word (codes "settle") form keyword.Settle _ refl
     (no_form word form)))))))) h
 
+serve_named : (word : List ℕ) (form : Keyword) → serve_form word ≡ Some form → word ≡ name form
+serve_named word form h =
+    is_named word (codes "end") form keyword.End _ refl (is_named word (codes "limit") form keyword.Limit _ refl
+    (is_named word (codes "offset") form keyword.Offset _ refl (is_named word (codes "profile") form keyword.Profile _ refl
+    (is_named word (codes "rule") form keyword.Rule _ refl (no_form word form))))) h
+
 either_named : (word : List ℕ) (form : Keyword) (a b : Option Keyword) → (a ≡ Some form → word ≡ name form) →
     (b ≡ Some form → word ≡ name form) →
     option_or a b ≡ Some form → word ≡ name form
@@ -77,6 +83,7 @@ form_named script.Feed word form h =
 form_named script.Replay word form h =
     either_named word form (shared_form word) (option_or (network_form word) (gateway_form word)) (shared_named word form)
     (either_named word form (network_form word) (gateway_form word) (network_named word form) (gateway_named word form)) h
+form_named script.Serve word form h = serve_named word form h
 
 known_form : (o : Option Keyword) (form : Keyword) → known o ≡ Ok form → o ≡ Some form
 known_form None form h = let no : ⊥ = cc in absurd no

@@ -167,6 +167,10 @@ mark_spoken script.Feed [] said are h =
 mark_spoken script.Feed (word ∷ words) said are h = let no : ⊥ = cc in absurd no
 mark_spoken script.Replay words said are h =
     any_number script.Replay keyword.Mark line.Mark (λ m. refl) words said are h (λ rules content. h)
+mark_spoken script.Serve [] said are h =
+    subst (λ (l : Line). IsSpoken script.Serve keyword.Mark [] l) (ok_same (line.Mark 1) said h)
+    (same script.Serve keyword.Mark [] (line.Mark 1) tt refl (λ rules content. refl))
+mark_spoken script.Serve (word ∷ words) said are h = let no : ⊥ = cc in absurd no
 
 pub close_spoken : (of : ScriptKind) (words : List (List ℕ)) (said : Line) → AreWords words →
     said_as line.Close (one_gateway of words) ≡ Ok said → IsSpoken of keyword.Close words said
@@ -176,6 +180,10 @@ close_spoken script.Feed [] said are h =
 close_spoken script.Feed (word ∷ words) said are h = let no : ⊥ = cc in absurd no
 close_spoken script.Replay words said are h =
     any_number script.Replay keyword.Close line.Close (λ m. refl) words said are h (λ rules content. h)
+close_spoken script.Serve [] said are h =
+    subst (λ (l : Line). IsSpoken script.Serve keyword.Close [] l) (ok_same (line.Close 1) said h)
+    (same script.Serve keyword.Close [] (line.Close 1) tt refl (λ rules content. refl))
+close_spoken script.Serve (word ∷ words) said are h = let no : ⊥ = cc in absurd no
 
 -- Limits.
 

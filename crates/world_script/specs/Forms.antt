@@ -11,7 +11,7 @@ use Rattle.world_script.specs.declared.kind.ScriptKind.TheVariants as script
 
 -- Each of these is the form of a line whose first word is this one.
 
--- in scripts of every kind
+-- in feeds and replays
 abbrev pub shared_form : List ℕ → Option Keyword
 shared_form word =
     if bytes_eq word (codes "at") then Some keyword.At
@@ -56,9 +56,20 @@ gateway_form word =
     else if bytes_eq word (codes "settle") then Some keyword.Settle
     else None
 
+-- in the settings of a gateway that serves
+abbrev pub serve_form : List ℕ → Option Keyword
+serve_form word =
+    if bytes_eq word (codes "end") then Some keyword.End
+    else if bytes_eq word (codes "limit") then Some keyword.Limit
+    else if bytes_eq word (codes "offset") then Some keyword.Offset
+    else if bytes_eq word (codes "profile") then Some keyword.Profile
+    else if bytes_eq word (codes "rule") then Some keyword.Rule
+    else None
+
 abbrev pub form_in : ScriptKind → List ℕ → Option Keyword
 form_in script.Feed word = option_or (shared_form word) (feed_form word)
 form_in script.Replay word = option_or (shared_form word) (option_or (network_form word) (gateway_form word))
+form_in script.Serve word = serve_form word
 
 -- a line that isn't built yet: a new journal on a new area
 abbrev pub is_later : List ℕ → Bool
@@ -75,6 +86,7 @@ is_later_in_replay word =
 abbrev pub is_later_in : ScriptKind → List ℕ → Bool
 is_later_in script.Feed word = is_later word
 is_later_in script.Replay word = is_later word || is_later_in_replay word
+is_later_in script.Serve word = false
 
 abbrev pub known : Option Keyword → Result Keyword InputKind
 known None = Err kind.Word

@@ -55,10 +55,11 @@ one_number name n = name ++ words_text (decimal n ∷ [])
 abbrev pub two_numbers : List ℕ → ℕ → ℕ → List ℕ
 two_numbers name n m = name ++ words_text (decimal n ∷ decimal m ∷ [])
 
--- the number of the gateway in a replay; a feed has one gateway and doesn't name it
+-- the number of the gateway in a replay; elsewhere there is one, which isn't named
 abbrev pub gateway_text : ScriptKind → List ℕ → ℕ → List ℕ
 gateway_text script.Feed name gateway = name
 gateway_text script.Replay name gateway = one_number name gateway
+gateway_text script.Serve name gateway = name
 
 abbrev pub redirect_text : ℕ → ℕ → Option ℕ → List ℕ
 redirect_text gateway cause None = two_numbers (codes "redirect") gateway cause

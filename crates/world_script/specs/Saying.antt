@@ -50,11 +50,13 @@ abbrev pub one_between : ℕ → ℕ → List (List ℕ) → Result ℕ InputKin
 one_between least most (number ∷ []) = ok_or (number_between least most number) kind.Number
 one_between least most _ = Err kind.Arity
 
--- a feed has one gateway and doesn't name it, in a replay one number says which
+-- in a replay one number says which gateway; elsewhere there is one, which isn't named
 abbrev pub one_gateway : ScriptKind → List (List ℕ) → Result ℕ InputKind
 one_gateway script.Feed [] = Ok 1
 one_gateway script.Feed (word ∷ words) = Err kind.Arity
 one_gateway script.Replay words = one_number words
+one_gateway script.Serve [] = Ok 1
+one_gateway script.Serve (word ∷ words) = Err kind.Arity
 
 -- `at N`
 abbrev pub at_said : List (List ℕ) → Result Line InputKind

@@ -1,5 +1,5 @@
 ghost use Rattle.std.specs.Prelude.{◌≡◌, Result, Ok, Err};
-ghost use Rattle.world_script.specs.Forms.{feed_form, form_in, gateway_form, is_later, is_later_in, is_later_in_replay, is_setting, keyword_of, network_form, shared_form};
+ghost use Rattle.world_script.specs.Forms.{feed_form, form_in, gateway_form, is_later, is_later_in, is_later_in_replay, is_setting, keyword_of, network_form, serve_form, shared_form};
 
 use crate::fault::InputKind;
 use crate::kind::ScriptKind;
@@ -70,6 +70,9 @@ impl Keyword {
 fn form_in(kind: ScriptKind, word: &[u8]) -> Option<Keyword>
     ensures { result ≡ form_in kind word.now }
 {
+    if kind == ScriptKind::Serve {
+        return serve_form(word);
+    }
     if let Some(form) = shared_form(word) {
         return Some(form);
     }
@@ -82,7 +85,26 @@ fn form_in(kind: ScriptKind, word: &[u8]) -> Option<Keyword>
     gateway_form(word)
 }
 
-/// The forms that scripts of every kind have.
+/// The forms of the settings of a gateway that serves, and of their end.
+fn serve_form(word: &[u8]) -> Option<Keyword>
+    ensures { result ≡ serve_form word.now }
+{
+    if word == b"end".as_slice() {
+        Some(Keyword::End)
+    } else if word == b"limit".as_slice() {
+        Some(Keyword::Limit)
+    } else if word == b"offset".as_slice() {
+        Some(Keyword::Offset)
+    } else if word == b"profile".as_slice() {
+        Some(Keyword::Profile)
+    } else if word == b"rule".as_slice() {
+        Some(Keyword::Rule)
+    } else {
+        None
+    }
+}
+
+/// The forms that feeds and replays have.
 fn shared_form(word: &[u8]) -> Option<Keyword>
     ensures { result ≡ shared_form word.now }
 {
@@ -178,6 +200,7 @@ fn is_later_in(kind: ScriptKind, word: &[u8]) -> bool
     match kind {
         ScriptKind::Feed => is_later(word),
         ScriptKind::Replay => is_later(word) || is_later_in_replay(word),
+        ScriptKind::Serve => false,
     }
 }
 

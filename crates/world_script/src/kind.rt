@@ -5,4 +5,6 @@ pub enum ScriptKind {
     Feed,
     /// What befalls gateways, nodes and the messages between them.
     Replay,
+    /// The settings of a gateway that serves: those of a feed but for the length of its journal.
+    Serve,
 }

@@ -35,4 +35,4 @@ pub use records::Records;
 pub use samples::sample;
 pub use script::{Script, read};
 pub use text::{TextLine, first_line, is_blank};
-pub use values::address;
+pub use values::{address, ipv4};

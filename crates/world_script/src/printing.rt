@@ -139,7 +139,7 @@ fn append_two(
     append_number(alloc, text, second)
 }
 
-/// The name alone in a feed, and the gateway after it in a replay.
+/// The name, with the gateway after it in a replay.
 fn append_gateway(
     alloc: Global,
     text: &mut Vec<u8>,
@@ -150,7 +150,7 @@ fn append_gateway(
     ensures { OnOk result (text.new.items ≡ text.old.items ++ gateway_text kind name.now gateway) }
 {
     match kind {
-        ScriptKind::Feed => append(text, name),
+        ScriptKind::Feed | ScriptKind::Serve => append(text, name),
         ScriptKind::Replay => append_one(alloc, text, name, gateway),
     }
 }

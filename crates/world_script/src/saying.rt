@@ -119,7 +119,7 @@ fn one_between(least: u64, most: u64, words: &[&[u8]]) -> Result<u64, InputKind>
     }
 }
 
-/// A feed has one gateway and doesn't name it; in a replay one number says which.
+/// In a replay one number says which gateway; elsewhere there is one, which isn't named.
 fn one_gateway(kind: ScriptKind, words: &[&[u8]]) -> Result<u64, InputKind>
     ensures { result ≡ one_gateway kind (map (λ word. word.now) words.now) }
 {

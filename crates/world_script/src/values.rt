@@ -32,7 +32,8 @@ pub fn address(word: &[u8]) -> Option<Addr>
     Some(Addr { ip, port })
 }
 
-fn ipv4(text: &[u8]) -> Option<u32>
+/// The IPv4 address that a word says.
+pub fn ipv4(text: &[u8]) -> Option<u32>
     ensures { result ≡ ip_of text.now }
 {
     let (first, rest) = cut(text, b'.')?;
