@@ -92,6 +92,7 @@ stands_same v k g m old new r stands stood has_gateway has_machine rest gateways
       waits = ap (λ (p : Replay). p.waiting.keys) rest ∙ stands.waits;
       sent = stands.sent;
       from_one = stands.from_one;
+      whole = ap (λ (p : Replay). p.has_failed) rest ∙ stands.whole;
       room = record {
         no_areas = ap (λ (p : Replay). p.areas.items) rest ∙ stands.room.no_areas;
         no_shelves = ap (λ (p : Replay). p.shelves.items) rest ∙ stands.room.no_shelves;

@@ -38,8 +38,8 @@ use Rattle.replay_world.specs.declared.machine.Came.{Came}
 use Rattle.replay_world.specs.declared.machine.Came.TheVariants.{Went, Failed}
 use Rattle.replay_world.specs.declared.machine.Machine as real
 use Rattle.replay_world.specs.declared.machine.Sent.{Sent}
-use Rattle.replay_world.specs.declared.machine.Site.{Site}
-use Rattle.replay_world.specs.declared.machine.Site.TheVariants as site
+use Rattle.replay_world.specs.declared.site.Site.{Site}
+use Rattle.replay_world.specs.declared.site.Site.TheVariants as site
 use Rattle.replay_world.specs.declared.taking.Delivery.{Delivery}
 use Rattle.replay_world.specs.declared.taking.Ending.{Ending}
 use Rattle.replay_world.specs.declared.taking.Ending.TheVariants as ending

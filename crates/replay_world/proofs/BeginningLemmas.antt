@@ -1,5 +1,5 @@
 -- A replay that begins.
-use Rattle.std.proofs.Common.{◌≡◌, ◌∙◌, refl, sym, ap, subst, ℕ, zero, suc, ◌+◌, ◌≤◌, List, [], ◌∷◌, ◌++◌, All, length, arith, vec_capacity}
+use Rattle.std.proofs.Common.{◌≡◌, ◌∙◌, refl, sym, ap, subst, ℕ, zero, suc, ◌+◌, ◌≤◌, List, [], ◌∷◌, ◌++◌, All, length, arith, vec_capacity, false}
 use Rattle.node_core.specs.Log.{LogEntry, Began}
 use Rattle.node_core.specs.Value.{NodeValue}
 use Rattle.once_core.specs.Beginning.{first_gateway, times_of}
@@ -82,8 +82,8 @@ pub begun_stands : (s : Setup) (r : Replay) →
     EachStands s 0 (times_of s.gateways (first_gateway (rules_in s))) (times_of s.gateways first_machine) r.gateways.items →
     s.gateways ≤ 255 → s.nodes ≤ 255 → r.nodes.items ≡ nodes_from s.gateways 0 (times_of s.nodes (Began ∷ [])) →
     r.moment ≡ 0 → r.messages.items ≡ [] → r.waiting.keys ≡ [] → r.areas.items ≡ [] → r.shelves.items ≡ [] →
-    s.gateways ≤ vec_capacity r.areas → s.gateways ≤ vec_capacity r.shelves → Stands (begun s) r
-begun_stands s r each few few_nodes nodes moment messages waits no_areas no_shelves areas shelves =
+    s.gateways ≤ vec_capacity r.areas → s.gateways ≤ vec_capacity r.shelves → r.has_failed ≡ false → Stands (begun s) r
+begun_stands s r each few few_nodes nodes moment messages waits no_areas no_shelves areas shelves whole =
     let count : length (times_of s.gateways (first_gateway (rules_in s))) ≡ s.gateways =
     times_length s.gateways (first_gateway (rules_in s)) in
     let machines = (each_lengths s 0 (times_of s.gateways (first_gateway (rules_in s))) (times_of s.gateways first_machine)
@@ -106,4 +106,5 @@ begun_stands s r each few few_nodes nodes moment messages waits no_areas no_shel
         areas = omega (arith, machines, count, areas);
         shelves = omega (arith, machines, count, shelves);
       };
+      whole = whole;
     }

@@ -33,8 +33,8 @@ use Rattle.replay_world.specs.declared.files.Files.{Files}
 use Rattle.replay_world.specs.declared.machine.Came.TheVariants.{Went, Failed, Halted}
 use Rattle.replay_world.specs.declared.machine.Machine as real
 use Rattle.replay_world.specs.declared.machine.Sent.{Sent}
-use Rattle.replay_world.specs.declared.machine.Site.{Site}
-use Rattle.replay_world.specs.declared.machine.Site.TheVariants.{Up, Down}
+use Rattle.replay_world.specs.declared.site.Site.{Site}
+use Rattle.replay_world.specs.declared.site.Site.TheVariants.{Up, Down}
 
 not_true : (b : Bool) → not b ≡ true → b ≡ false
 not_true true is = cc
@@ -235,6 +235,7 @@ module _ (setup : Setup) (place : ℕ) (g : Gateway) (m : Machine) (value : Book
               same writes.unsealed;
           most = omega (arith, writes.most, length-append items more);
         };
+        few = stands.few;
         goes_on = λ n is. (
           (stands.goes_on n is).0,
           subst (λ (xs : List Item). HasTaken settings xs f.writer) same (stands.goes_on n is).1,
@@ -247,13 +248,13 @@ module _ (setup : Setup) (place : ℕ) (g : Gateway) (m : Machine) (value : Book
   book_stands s left result old new up has stays =
       record { stands = has.stands; size = stays.size ∙ up.size; open_time = stays.open_time ∙ up.open_time }
 
-  pub is_called : (s : Sequel) (old new : real.Machine) (book : Book MemoryArea area_tells) →
+  pub is_called : (s : Sequel) (old new : real.Machine) (site : Site) →
       ((h more : List HistoryEntry) → items_of (h ++ more) ≡ items_of h ++ along items_by h more) →
-      MachineStands setup place g m old → g.is_down ≡ false → new ≡ record old { site = Some (Up book) } →
-      BookStands setup place value s book → (more : List HistoryEntry) × (value.firm ≡ g.book.firm ++ more) →
+      MachineStands setup place g m old → g.is_down ≡ false → new ≡ record old { site = Some site } →
+      SiteIsCalled setup place value s (Some site) → (more : List HistoryEntry) × (value.firm ≡ g.book.firm ++ more) →
       (is_stop s ≡ true → (value.firm ≡ g.book.firm) × (value.rest ≡ g.book.rest)) →
       IsCalled setup place g m value s new
-  is_called s old new book more_items stands runs is called grown cut = record {
+  is_called s old new site more_items stands runs is called grown cut = record {
     runs = runs;
     site = subst (λ (r : real.Machine). SiteIsCalled setup place value s r.site) (sym is) called;
     grown = grown;

@@ -34,6 +34,7 @@ passed_stands v number old new stands rest keys = record {
   waits = keys ∙ ap (λ (ks : List ℕ). without number ks) stands.waits;
   sent = All-filter (λ n. not (n == number)) (λ n. n ≤ length v.world.messages) v.waiting stands.sent;
   from_one = All-filter (λ n. not (n == number)) (λ n. 1 ≤ n) v.waiting stands.from_one;
+  whole = ap (λ (r : Replay). r.has_failed) rest ∙ stands.whole;
   room = record {
     no_areas = ap (λ (r : Replay). r.areas.items) rest ∙ stands.room.no_areas;
     no_shelves = ap (λ (r : Replay). r.shelves.items) rest ∙ stands.room.no_shelves;

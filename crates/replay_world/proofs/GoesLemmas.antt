@@ -26,8 +26,8 @@ use Rattle.replay_world.specs.Stands.{MachineStands, SiteStands}
 use Rattle.replay_world.specs.Value.{Machine}
 use Rattle.replay_world.specs.declared.machine.Machine as real
 use Rattle.replay_world.specs.declared.machine.Sent.{Sent}
-use Rattle.replay_world.specs.declared.machine.Site.{Site}
-use Rattle.replay_world.specs.declared.machine.Site.TheVariants.{Up, Down}
+use Rattle.replay_world.specs.declared.site.Site.{Site}
+use Rattle.replay_world.specs.declared.site.Site.TheVariants.{Up, Down}
 use Rattle.replay_world.proofs.BookLemmas.{mark_same, mark_unbroken}
 
 abbrev pub moved : Gateway → List Message → Moved

@@ -3,12 +3,14 @@ mod AgainLemmas
 mod AllLemmas
 mod AnsweredLemmas
 mod AreaLemmas
+mod AskingLemmas
 mod ArrivalLemmas
 mod BeginningLemmas
 mod BookLemmas
 mod CallLemmas
 mod CalmLemmas
 mod CountLemmas
+mod CountedLemmas
 mod DeliverLemmas
 mod DeliveredLemmas
 mod DigitLemmas
@@ -60,5 +62,6 @@ mod TakenScripts
 mod TakenSteps
 mod TakenWorlds
 mod TakingLemmas
+mod TickedLemmas
 mod WriterLemmas
 mod WritingLemmas

@@ -30,6 +30,7 @@ moment_set v moment old new stands rest = record {
   waits = ap (λ (r : Replay). r.waiting.keys) rest ∙ stands.waits;
   sent = stands.sent;
   from_one = stands.from_one;
+  whole = ap (λ (r : Replay). r.has_failed) rest ∙ stands.whole;
   room = record {
     no_areas = ap (λ (r : Replay). r.areas.items) rest ∙ stands.room.no_areas;
     no_shelves = ap (λ (r : Replay). r.shelves.items) rest ∙ stands.room.no_shelves;

@@ -191,4 +191,5 @@ module _ (v : ReplayValue) (e : Event) (number : ℕ) (g : Gateway) (m : Machine
       sent = new_sent;
       from_one = new_from_one;
       room = new_room;
+      whole = ap (λ (p : Replay). p.has_failed) old_rest ∙ stands.whole;
     }

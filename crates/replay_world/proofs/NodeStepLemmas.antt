@@ -227,6 +227,7 @@ module _ (v : ReplayValue) (e : Event) (place : ℕ) (log : List LogEntry) (call
         waits = new_waits;
         sent = new_sent;
         from_one = new_from_one;
+        whole = ap (λ (p : Replay). p.has_failed) old_rest ∙ stands.whole;
         room = record {
           no_areas = ap (λ (p : Replay). p.areas.items) old_rest ∙ stands.room.no_areas;
           no_shelves = ap (λ (p : Replay). p.shelves.items) old_rest ∙ stands.room.no_shelves;

@@ -1,13 +1,13 @@
 -- What a tick makes of a replay, and a node that runs.
-use Rattle.std.proofs.Common.{◌≡◌, ◌∙◌, refl, sym, ap, subst, ℕ, ◌-◌, Bool, true, if◌then◌else◌, List, [], ◌∷◌, length, map, set, Some, None, slice_get, append-nil}
+use Rattle.std.proofs.Common.{◌≡◌, ◌∙◌, refl, sym, ap, subst, ℕ, ◌-◌, Bool, true, if◌then◌else◌, List, length, map, set, Some, None, slice_get, append-nil}
 use Rattle.node_core.specs.Log.{LogEntry, runs}
 use Rattle.node_core.specs.Octets.{outgoing}
 use Rattle.node_core.specs.Reached.{Tick, entries_halted, entries_running}
 use Rattle.node_core.specs.Ticks.{due, tick_entries}
 use Rattle.node_core.specs.Value.{NodeValue, befallen, logged}
-use Rattle.once_core.specs.Expired.{starts_in}
+use Rattle.once_core.specs.NodeMoves.{message_kept}
 use Rattle.once_core.specs.Turn.{at_node, is_none_of, log_in, no_running_node}
-use Rattle.once_core.specs.World.{log_at, message_of, node_value, ticking}
+use Rattle.once_core.specs.World.{log_at, node_value, ticking}
 use Rattle.once_core.specs.declared.event.Event.TheVariants as event
 use Rattle.once_core.specs.declared.message.Message.{Message}
 use Rattle.replay_world.specs.Does.{Does}
@@ -19,10 +19,7 @@ use Rattle.replay_world.specs.declared.replay.Replay.{Replay}
 use Rattle.replay_world.proofs.NodeEventLemmas.{NodeLaw, does_node, log_there, none_both, plain_tick}
 use Rattle.replay_world.proofs.NodeStepLemmas.{IsAtNode, counter_is, counts_plain, follow_all}
 use Rattle.replay_world.proofs.RefusalLemmas.{NodeAt, node_at}
-
-map_map : {A B C : Type 0} (f : B → C) (g : A → B) (xs : List A) → map f (map g xs) ≡ map (λ x. f (g x)) xs
-map_map f g [] = refl
-map_map f g (x ∷ xs) = ap (λ l. f (g x) ∷ l) (map_map f g xs)
+use Rattle.replay_world.proofs.TickedLemmas.{same_messages}
 
 -- the log of a node that is called has a node that runs
 pub running_log : (v : ReplayValue) (number place : ℕ) (n : NodeValue) → number - 1 ≡ place →
@@ -44,19 +41,18 @@ pub ticked : NodeLaw → (v : ReplayValue) (number place : ℕ) (n : NodeValue) 
     number - 1 ≡ place → no_running_node v.world number ≡ None → slice_get old.nodes.items place ≡ Some n →
     mid ≡ record old { nodes = mid.nodes } →
     mid.nodes.items ≡ set old.nodes.items place (befallen (tick_entries n) n) →
-    ((log : List LogEntry) → n.paths.counter ≡ starts_in log →
-    messages ≡ map (message_of place log) (map (outgoing n) (due n))) →
+    messages ≡ map (message_kept place n.paths.counter) (map (outgoing n) (due n)) →
     HasSent messages before after mid new → Does v (Plays (event.Tick number)) before after new
 ticked law v number place n messages before after old mid new stands is none has rest nodes told sends =
     let there : NodeAt v place n = node_at v old stands place n has in
     let gateways : ℕ = length v.world.gateways in
     let log : List LogEntry = there.log in
     let value : NodeValue = node_value gateways place log in
-    let counter : n.paths.counter ≡ starts_in log =
-    ap (λ (m : NodeValue). m.paths.counter) there.is ∙ counter_is gateways place log there.counts in
     let sends_are : messages ≡ (ticking gateways place log).sends =
-    told log counter ∙ map_map (message_of place log) (outgoing n) (due n)
-    ∙ ap (λ (m : NodeValue). map (λ s. message_of place log (outgoing m s)) (due m)) there.is in
+    told ∙ ap (λ (m : NodeValue). map (message_kept place m.paths.counter) (map (outgoing m) (due m))) there.is
+    ∙ ap (λ (k : ℕ). map (message_kept place k) (map (outgoing value) (due value)))
+    (counter_is gateways place log there.counts)
+    ∙ same_messages gateways place stands.few_gateways log (due value) in
     let log_is : (ticking gateways place log).log ≡ logged (tick_entries n) log =
     ap (λ (b : Bool). logged (if b then entries_running value Tick else entries_halted Tick) log)
     (running_log v number place n is none there)

@@ -1,5 +1,5 @@
 -- A gateway that is opened on an empty area.
-use Rattle.std.proofs.Common.{◌≡◌, ◌∙◌, inl, refl, sym, ap, subst, ℕ, ◌≤◌, ◌&&◌, Bool, true, false, true≢false, if◌then◌else◌, List, [], ◌++◌, slice_index, Option, None, Some, Ok, arith, append-nil}
+use Rattle.std.proofs.Common.{◌≡◌, ◌∙◌, inl, refl, sym, ap, subst, ℕ, ◌≤◌, ◌&&◌, Bool, true, false, true≢false, if◌then◌else◌, List, [], ◌++◌, slice_index, Option, None, Some, Result, Ok, Err, arith, append-nil}
 use Rattle.std.proofs.lemmas.List.{get_or-replicate}
 use Rattle.area_disk.specs.Armed.{Armed, IsArmed}
 use Rattle.area_disk.specs.Armed.Armed.{Nothing}
@@ -16,11 +16,13 @@ use Rattle.gateway_book.specs.Book.{area_of, header_of, size_of, value_of}
 use Rattle.gateway_book.specs.Comes.{LeavesFit, asked_to_commit, left_by_stop, plan_of}
 use Rattle.gateway_book.specs.Filed.{along}
 use Rattle.gateway_book.specs.Items.{items_by, items_of}
-use Rattle.gateway_book.specs.OpenPlan.{OpensAsPlanned}
-use Rattle.gateway_book.specs.Opened.{FindsHistory, IsMadeAnew, IsOpened, StandsFitFor}
+use Rattle.gateway_book.specs.OpenPlan.{OpensAsPlanned, is_device, is_memory_fault}
+use Rattle.gateway_book.specs.Opened.{FindsHistory, IsMadeAnew, IsNotOurs, IsOpened, IsRefused, StandsFitFor}
 use Rattle.gateway_book.specs.Up.{GoesOn, IsUp, Sequel, fortune_by, sequel_of}
 use Rattle.gateway_book.specs.Value.{BookValue, after_commit, committed, history_of, opened, recorded, standing_for}
 use Rattle.gateway_book.specs.declared.book.Book.{Book}
+use Rattle.gateway_book.specs.declared.outcome.BookFault.{BookFault}
+use Rattle.gateway_book.specs.declared.outcome.BookFault.TheVariants.{Device, NoMemory, NotOurs}
 use Rattle.gw_base.specs.declared.history.HistoryAct.TheVariants.{Start}
 use Rattle.gw_base.specs.declared.history.HistoryEntry.{HistoryEntry}
 use Rattle.gw_base.specs.declared.item.Item.{Item}
@@ -35,8 +37,8 @@ use Rattle.replay_world.specs.Stands.{MachineStands, SiteStands, StandsDown, Sta
 use Rattle.replay_world.specs.Written.{FilesStand}
 use Rattle.replay_world.specs.Value.{Machine, first_machine}
 use Rattle.replay_world.specs.declared.machine.Machine as real
-use Rattle.replay_world.specs.declared.machine.Site.{Site}
-use Rattle.replay_world.specs.declared.machine.Site.TheVariants.{Up, Down}
+use Rattle.replay_world.specs.declared.site.Site.{Site}
+use Rattle.replay_world.specs.declared.site.Site.TheVariants.{Up, Down}
 use Rattle.replay_world.proofs.CallLemmas.{writes_more}
 
 -- what an empty plan arms
@@ -54,6 +56,41 @@ first_zero : (n : ℕ) → 1 ≤ n → slice_index (zeros n) 0 ≡ 0
 unfolding zeros
 first_zero n le = get_or-replicate n 0 0 0 (omega (arith, le))
 
+-- an opening that was refused
+abbrev pub refused_with : BookFault → MemoryArea → Result (Book MemoryArea area_tells) (BookFault × MemoryArea)
+refused_with fault left = Err (fault, left)
+
+-- what is another's doesn't start
+abbrev pub ForeignAndStarts : Type 0
+ForeignAndStarts = (size address : ℕ) (octets : List ℕ) (at : ℕ) → IsNotOurs (header size address 0) octets at →
+    Starts (header size address 0) octets → ⊥
+
+-- A new area.
+module _ (address size : ℕ) (area : MemoryArea) (plan : Plan) where
+  -- it starts, and nothing is armed
+  pub begun_starts : 100 ≤ size → area_tells.octets area ≡ zeros size → Starts (header (area_tells.size area) address 0) (area_tells.octets area)
+  begun_starts long octets = inl (ap (λ (o : List ℕ). slice_index o 0) octets ∙ first_zero size (omega (arith, long)))
+
+  pub begun_armed : (area_tells.fate area).schedule ≡ schedule_of plan → ArmsNothing → plan.read_fail.items ≡ [] →
+      plan.fail.items ≡ [] → plan.stop ≡ None → IsArmed Nothing (area_tells.fate area).schedule
+  begun_armed planned nothing reads fails stops =
+      subst (λ (q : Schedule). IsArmed Nothing q) (sym planned) (nothing plan (schedule_of plan) refl reads fails stops)
+
+  -- so the device doesn't refuse it, and it isn't another's
+  pub begun_runs : (fault : BookFault) (left : MemoryArea) → 100 ≤ size → area_tells.octets area ≡ zeros size →
+      IsArmed Nothing (area_tells.fate area).schedule →
+      OpensAsPlanned area (refused_with fault left) (header (area_tells.size area) address 0) → fault ≡ Device → ⊥
+  begun_runs fault left long octets is_armed plans is =
+      true≢false (sym (ap (λ (f : BookFault). is_device (refused_with f left)) is)
+      ∙ (plans.anew (refl, refl) (begun_starts long octets) Nothing Nothing is_armed refl).runs)
+
+  pub begun_ours : (fault : BookFault) (left : MemoryArea) (at : ℕ) → 100 ≤ size →
+      area_tells.octets area ≡ zeros size → ForeignAndStarts →
+      IsRefused area_tells area (header (area_tells.size area) address 0) (fault, left) → fault ≡ NotOurs at → ⊥
+  begun_ours fault left at long octets others refused is =
+      others (area_tells.size area) address (area_tells.octets area) at (refused.place (refl, refl) at is)
+      (begun_starts long octets)
+
 module _ (s : Setup) (place address size open_time : ℕ) (area : MemoryArea) (plan : Plan)
     (book : Book MemoryArea area_tells) where
   abbrev front : List ℕ
@@ -68,9 +105,9 @@ module _ (s : Setup) (place address size open_time : ℕ) (area : MemoryArea) (p
   begun_stands address_is open_time_is size_is long area_is octets planned nothing reads fails stops law is_opened anew plans
       kept =
       let starts : Starts front (area_tells.octets area) =
-      inl (ap (λ (o : List ℕ). slice_index o 0) octets ∙ first_zero size (omega (arith, long))) in
+      begun_starts address size area plan long octets in
       let is_armed : IsArmed Nothing (area_tells.fate area).schedule =
-      subst (λ (q : Schedule). IsArmed Nothing q) (sym planned) (nothing plan (schedule_of plan) refl reads fails stops) in
+      begun_armed address size area plan planned nothing reads fails stops in
       let same_size : area_tells.size area ≡ s.size = area_is ∙ size_is in
       let value : value_of book ≡ opened s.size [] =
       (anew starts).value ∙ ap (λ (n : ℕ). opened n []) same_size in
@@ -109,6 +146,18 @@ firm_stands s place book stands =
 
 -- A gateway that was down is opened again.
 
+-- where it isn't refused by the device or as another's it is refused for want of memory
+not_memory : (fault : BookFault) (left area : MemoryArea) (first : List ℕ) → ((at : ℕ) → fault ≡ NotOurs at → ⊥) →
+    is_device (refused_with fault left) ≡ false → is_memory_fault fault ≡ false → ⊥
+not_memory Device left area first ours runs other = true≢false runs
+not_memory (NotOurs at) left area first ours runs other = ours at refl
+not_memory NoMemory left area first ours runs other = true≢false other
+
+-- what stands for a history isn't another's
+abbrev pub StandsAndForeign : Type 0
+StandsAndForeign = (size address : ℕ) (octets : List ℕ) (h : List HistoryEntry) (at : ℕ) →
+    StandsFitFor (header size address 0) octets h → IsNotOurs (header size address 0) octets at → ⊥
+
 -- what stands for a history doesn't start
 abbrev pub StandsAndStarts : Type 0
 StandsAndStarts = (size address : ℕ) (octets : List ℕ) (h : List HistoryEntry) →
@@ -145,6 +194,24 @@ module _ (setup : Setup) (place : ℕ) (g : Gateway) (m : Machine) where
         size = kept ∙ stands.size;
         open_time = is_opened.set ∙ open_time_is;
       }
+
+  -- It is ours, and nothing is armed that would fail.
+  pub never_refused : (address : ℕ) (area : MemoryArea) (fault : BookFault) (left : MemoryArea) →
+      StandsDown setup place g m area_tells area → address ≡ (gateway_address place).ip → StandsAndStarts →
+      StandsAndForeign → IsRefused area_tells area (header (area_tells.size area) address 0) (fault, left) →
+      (is_memory_fault fault ≡ false →
+      OpensAsPlanned area (refused_with fault left) (header (area_tells.size area) address 0)) →
+      is_memory_fault fault ≡ false → ⊥
+  never_refused address area fault left stands address_is apart ours refused plans other =
+      let first : List ℕ = header (area_tells.size area) address 0 in
+      let first_is : first ≡ header_at setup place =
+      ap (λ (n : ℕ). header n address 0) stands.size ∙ ap (λ (a : ℕ). header setup.size a 0) address_is in
+      let fit : StandsFitFor first (area_tells.octets area) h =
+      subst (λ (f : List ℕ). StandsFitFor f (area_tells.octets area) h) (sym first_is) stands.down.stands in
+      not_memory fault left area first
+      (λ at is. ours (area_tells.size area) address (area_tells.octets area) h at fit (refused.place (refl, refl) at is))
+      ((plans other).found (refl, refl) (apart (area_tells.size area) address (area_tells.octets area) h fit) Nothing
+      Nothing stands.is_armed refl).runs other
 
   -- Its book has the history, all of it firm, and isn't broken.
 

@@ -1,9 +1,16 @@
 -- The requests of a gateway to all nodes that it has a path to.
-use Rattle.std.proofs.Common.{◌≡◌, ◌∙◌, refl, sym, ap, ℕ, zero, suc, ◌+◌, ◌%◌, ◌≤◌, false, List, [], ◌∷◌, ◌++◌, length, map, take, Option, Some, None, option_and_then, option_map, slice_get, take_all, arith}
-use Rattle.gateway_book.specs.Told.{paths_of}
+use Rattle.std.proofs.Common.{◌≡◌, ◌∙◌, refl, sym, ap, subst, ℕ, zero, suc, ◌+◌, ◌%◌, ◌≤◌, false, List, [], ◌∷◌, ◌++◌, length, map, take, Option, Some, None, option_and_then, option_map, slice_get, take_all, arith}
+use Rattle.std.specs.List.{cons_option, filter_map}
+use Rattle.area_disk.specs.declared.memory.MemoryArea.{MemoryArea}
+use Rattle.gateway_book.specs.Book.{value_of}
+use Rattle.gateway_book.specs.Limits.{most_nodes}
+use Rattle.gateway_book.specs.Told.{path_of, paths_of}
 use Rattle.gateway_book.specs.Value.{BookValue, history_of}
+use Rattle.gateway_book.specs.declared.book.Book.{Book}
+use Rattle.gw_base.specs.Known.{known_nodes}
 use Rattle.gw_base.specs.Starts.{start_of}
 use Rattle.gw_base.specs.declared.address.Addr.{Addr}
+use Rattle.gw_base.specs.declared.address.NodeId.{NodeId}
 use Rattle.once_core.specs.Answers.{redirected}
 use Rattle.once_core.specs.Gateway.{Gateway}
 use Rattle.once_core.specs.declared.message.Message.{Message}
@@ -11,11 +18,11 @@ use Rattle.replay_world.specs.Called.{book_in}
 use Rattle.replay_world.specs.Redirecting.{asking, path_in}
 use Rattle.replay_world.specs.Moves.{HasMoved}
 use Rattle.replay_world.specs.Setup.{Setup}
-use Rattle.replay_world.specs.Stands.{MachineStands, SiteStands}
+use Rattle.replay_world.specs.Stands.{MachineStands, SiteStands, area_tells}
 use Rattle.replay_world.specs.Value.{Machine}
 use Rattle.replay_world.specs.declared.machine.Machine as real
-use Rattle.replay_world.specs.declared.machine.Site.{Site}
-use Rattle.replay_world.specs.declared.machine.Site.TheVariants.{Up, Down}
+use Rattle.replay_world.specs.declared.site.Site.{Site}
+use Rattle.replay_world.specs.declared.site.Site.TheVariants.{Up, Down}
 
 -- the request to the node with a path
 abbrev pub asks_path : ℕ → ℕ → ℕ → Option ℕ → BookValue → Addr → Message
@@ -87,6 +94,39 @@ module _ (place cause number : ℕ) (to : Option ℕ) (site : Option Site) where
       inv v is
       ∙ ap (λ (paths : List Addr). map (asks_path place cause number to v) paths)
       (take_all k (paths_of (history_of v)) (none_beyond (paths_of (history_of v)) k no_more))
+
+  -- there are no more
+  pub asked_few : (k : ℕ) (messages : List Message) → AskedSoFar place cause number to site k messages →
+      (v : BookValue) → book_in site ≡ Some v → length (paths_of (history_of v)) ≤ k →
+      messages ≡ map (asks_path place cause number to v) (paths_of (history_of v))
+  asked_few k messages inv v is few =
+      inv v is
+      ∙ ap (λ (paths : List Addr). map (asks_path place cause number to v) paths)
+      (take_all k (paths_of (history_of v)) few)
+
+-- A gateway knows few nodes.
+
+fewer_paths : (f : NodeId → Option Addr) (nodes : List NodeId) → length (filter_map f nodes) ≤ length nodes
+fewer_paths f [] = omega arith
+fewer_paths f (n ∷ nodes) = by (f n) (fewer_paths f nodes)
+  where
+    by : (o : Option Addr) → length (filter_map f nodes) ≤ length nodes →
+        length (cons_option o (filter_map f nodes)) ≤ length (n ∷ nodes)
+    by None few = omega (arith, few)
+    by (Some a) few = omega (arith, few)
+
+-- what the law of a book's limits says of the nodes that it knows
+abbrev pub KnowsFew : Type 0
+KnowsFew = (book : Book MemoryArea area_tells) → length (known_nodes (history_of (value_of book))) ≤ most_nodes
+
+pub few_paths : KnowsFew → (setup : Setup) (place : ℕ) (g : Gateway) (m : Machine) (s : Option Site) →
+    g.is_down ≡ false → SiteStands setup place g m s → length (paths_of (history_of g.book)) ≤ most_nodes
+few_paths law setup place g m None runs stands = absurd stands
+few_paths law setup place g m (Some (Up book)) runs stands =
+    subst (λ (v : BookValue). length (paths_of (history_of v)) ≤ most_nodes) stands.up.value
+    (let paths = fewer_paths (path_of (history_of (value_of book))) (known_nodes (history_of (value_of book))) in
+    omega (arith, paths, law book))
+few_paths law setup place g m (Some (Down fallen)) runs stands = absurd (cc (sym runs ∙ stands.stopped))
 
 -- the book of one that runs
 pub book_there : (setup : Setup) (place : ℕ) (g : Gateway) (m : Machine) (s : Option Site) → g.is_down ≡ false →

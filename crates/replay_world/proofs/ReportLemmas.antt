@@ -24,8 +24,8 @@ use Rattle.replay_world.specs.Stands.{SiteStands}
 use Rattle.replay_world.specs.Tally.{Counts, IsTallied, Tells}
 use Rattle.replay_world.specs.Value.{Machine, first_machine}
 use Rattle.replay_world.specs.declared.machine.Machine as real
-use Rattle.replay_world.specs.declared.machine.Site.{Site}
-use Rattle.replay_world.specs.declared.machine.Site.TheVariants.{Up, Down}
+use Rattle.replay_world.specs.declared.site.Site.{Site}
+use Rattle.replay_world.specs.declared.site.Site.TheVariants.{Up, Down}
 use Rattle.replay_world.specs.declared.report.Tally.{Tally}
 use Rattle.replay_world.proofs.OpeningLemmas.{firm_again, site_later}
 

@@ -143,6 +143,7 @@ module _ (v : ReplayValue) (step : Step) (k : ℕ) (g : Gateway) (m : Machine) (
         sent = new_sent;
         from_one = new_from_one;
         room = new_room;
+        whole = ap (λ (p : Replay). p.has_failed) old_rest ∙ stands.whole;
       }
 
       -- What is told of the step is the messages that it sends.

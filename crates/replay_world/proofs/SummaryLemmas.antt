@@ -1,5 +1,5 @@
 -- Sums of what gateways and nodes count.
-use Rattle.std.proofs.Common.{◌≡◌, ◌∙◌, refl, sym, ap, ℕ, zero, suc, ◌+◌, List, [], ◌∷◌, ◌++◌, length, take, sum_by, Option, Some, None, slice_get, arith}
+use Rattle.std.proofs.Common.{◌≡◌, ◌∙◌, refl, sym, ap, ℕ, zero, suc, ◌+◌, ◌-◌, ◌*◌, ◌<◌, ◌^◌, List, [], ◌∷◌, ◌++◌, length, take, sum_by, Option, Some, None, slice_get, arith}
 use Rattle.std.proofs.lemmas.List.Sums.{sum_by-append, sum_by-cons}
 use Rattle.std.specs.List.{enumerate_from}
 use Rattle.node_core.specs.Counting.{counts_of}
@@ -7,7 +7,7 @@ use Rattle.node_core.specs.Log.{LogEntry}
 use Rattle.node_core.specs.declared.counts.NodeCounts.{NodeCounts}
 use Rattle.once_core.specs.Gateway.{Gateway}
 use Rattle.once_core.specs.World.{node_value}
-use Rattle.replay_world.specs.Summary.{TalliesIf, counts_at, filed_of, gateway_sums, held_of, node_sums, stranded_of}
+use Rattle.replay_world.specs.Summary.{AreGatewaySums, AreNodeSums, TalliesIf, counts_at, filed_of, gateway_sums, held_of, node_sums, stranded_of}
 use Rattle.replay_world.specs.declared.report.Tally.{Tally}
 use Rattle.replay_world.specs.declared.summary.GatewaySums.{GatewaySums}
 use Rattle.replay_world.specs.declared.summary.NodeSums.{NodeSums}
@@ -54,7 +54,41 @@ module _ (gs : List Gateway) (k : ℕ) (tally : Tally) (sums more : GatewaySums)
           added ∙ (λ i. record { records = records i; held = held i; stranded = stranded i })
           ∙ ap (λ (n : ℕ). gateway_sums (take n gs)) next
 
+-- The sums of k gateways are no more than k times what a number of 64 bits may be.
+pub gateways_few : (k : ℕ) (sums : GatewaySums) →
+    AreGatewaySums (k * 18446744073709551615 + 18446744073709551615) sums →
+    AreGatewaySums ((k + 1) * 18446744073709551615) sums
+gateways_few k sums few = record {
+  records = omega (arith, few.records);
+  held = omega (arith, few.held);
+  stranded = omega (arith, few.stranded);
+}
+
+pub gateways_more : (k : ℕ) (sums : GatewaySums) → k < 2 ^ 64 - 1 → AreGatewaySums (k * 18446744073709551615) sums →
+    AreGatewaySums (2 ^ 128 - 2 ^ 64) sums
+gateways_more k sums small few = record {
+  records = omega (arith, small, few.records);
+  held = omega (arith, small, few.held);
+  stranded = omega (arith, small, few.stranded);
+}
+
 -- Nodes.
+
+pub nodes_few : (k : ℕ) (sums : NodeSums) → AreNodeSums (k * 18446744073709551615 + 18446744073709551615) sums →
+    AreNodeSums ((k + 1) * 18446744073709551615) sums
+nodes_few k sums few = record {
+  packets = omega (arith, few.packets);
+  resolved = omega (arith, few.resolved);
+  done = omega (arith, few.done);
+}
+
+pub nodes_more : (k : ℕ) (sums : NodeSums) → k < 2 ^ 64 - 1 → AreNodeSums (k * 18446744073709551615) sums →
+    AreNodeSums (2 ^ 128 - 2 ^ 64) sums
+nodes_more k sums small few = record {
+  packets = omega (arith, small, few.packets);
+  resolved = omega (arith, small, few.resolved);
+  done = omega (arith, small, few.done);
+}
 
 -- the k-th of a list with its place
 numbered : {A : Type 0} (a : ℕ) (xs : List A) (k : ℕ) (x : A) → slice_get xs k ≡ Some x →

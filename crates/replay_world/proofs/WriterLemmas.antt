@@ -1,5 +1,5 @@
 -- A writer that begins the items anew and takes all of them, and one that is made.
-use Rattle.std.proofs.Common.{◌≡◌, ◌∙◌, refl, sym, ap, subst, ℕ, zero, suc, ◌+◌, ◌-◌, ◌<◌, ◌≤◌, max, false, List, [], ◌∷◌, ◌++◌, length, take, drop, Ok, Option, Some, None, All, arith, append-nil, length-append}
+use Rattle.std.proofs.Common.{◌≡◌, ◌∙◌, refl, sym, ap, subst, ℕ, zero, suc, ◌+◌, ◌-◌, ◌<◌, ◌≤◌, max, Bool, true, false, List, [], ◌∷◌, ◌++◌, length, take, drop, Result, Ok, Err, Option, Some, None, All, arith, append-nil, length-append}
 use Rattle.std.proofs.lemmas.List.{take-append-drop, take-append-le, take_all}
 use Rattle.std.proofs.lemmas.List.Elements.{All-append, All-nil, All-weaker}
 use Rattle.area_disk.specs.Armed.{Came, IsArmed, calls_under}
@@ -16,9 +16,12 @@ use Rattle.file_writer.specs.Calls.{calls_of, seals}
 use Rattle.file_writer.specs.Files.{AreOfStreams, files_from, later_files, stream_files}
 use Rattle.file_writer.specs.Holding.{HoldsOf, IsBegun, files_after}
 use Rattle.file_writer.specs.Leaving.{AreOpenFiles, LeavesUnsealed}
-use Rattle.file_writer.specs.Making.{Comes, Went}
+use Rattle.file_writer.specs.Calls.{Call}
+use Rattle.file_writer.specs.Making.{Comes, Failed, Went}
 use Rattle.file_writer.specs.Streams.{Settings, closed_of, stream_count, stream_division}
 use Rattle.file_writer.specs.Writer as writer
+use Rattle.file_writer.specs.declared.fault.ShelfFault.{ShelfFault}
+use Rattle.file_writer.specs.declared.fault.ShelfFault.TheVariants.{Device}
 use Rattle.file_writer.specs.declared.writer.Writer.{Writer}
 use Rattle.gateway_book.specs.Items.{IsWritable}
 use Rattle.gw_base.specs.declared.item.Item.{Item}
@@ -307,6 +310,31 @@ module _ (grow : FilesGrow) (within : SealOfStreams) (goes : OpenGoOn) (settings
       WriterStands shelf_tells settings (length items) items new × HasTaken settings (take (length items) items) new
   went_on later are n done =
       went_behind n (subst (λ (xs : List Item). Advances shelf_tells (λ s. 0) front xs old new (Ok n)) are done)
+
+-- No call fails of a shelf for whose calls nothing is armed.
+
+abbrev pub stopped_by : ShelfFault → Result ℕ ShelfFault
+stopped_by fault = Err fault
+
+not_failed : (c : Came) (calls : List Call) (tried : ℕ) (old new : MemoryShelf) → c ≡ Ran Nothing →
+    Comes shelf_tells calls Failed tried old new c → ⊥
+not_failed c calls tried old new is comes =
+    let ran = subst (λ (d : Came). Comes shelf_tells calls Failed tried old new d) is comes in
+    absurd (cc (ran.runs))
+
+pub never_fails : (closed : ℕ → ℕ) (before items : List Item) (old new : Writer MemoryShelf shelf_tells)
+    (fault : ShelfFault) → IsArmed Nothing (shelf_tells.plan (writer.shelf_of old)) →
+    Advances shelf_tells closed before items old new (stopped_by fault) → fault ≡ Device → ⊥
+never_fails closed before items old new fault unarmed done is =
+    let made = subst (λ (f : ShelfFault). Advances shelf_tells closed before items old new (stopped_by f)) is done in
+    let came = made.makes.planned refl refl Nothing unarmed in
+    not_failed _ (calls shelf_tells closed before items old new) made.makes.tried (writer.shelf_of old)
+    (writer.shelf_of new) (under_nothing (length (calls shelf_tells closed before items old new))) came
+
+pub asks_all : (old new : MemoryShelf) (failed : Bool) → IsArmed Nothing (shelf_tells.plan old) →
+    IsAsked shelf_tells failed old new → failed ≡ true → ⊥
+asks_all old new failed unarmed asked is =
+    let none : failed ≡ false = (asked.planned refl Nothing unarmed).0 in absurd (cc (sym is ∙ none))
 
 -- the count that is kept
 pub same_count : (count n whole : ℕ) → Some count ≡ Some n → count ≡ whole → n ≡ whole

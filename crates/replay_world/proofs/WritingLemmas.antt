@@ -1,5 +1,5 @@
 -- The items that a gateway's firm entries make, which are read and written.
-use Rattle.std.proofs.Common.{◌≡◌, ◌∙◌, sym, ap, subst, ℕ, ◌<◌, List, length, take, take_all, length-take, Option, Some, None, arith}
+use Rattle.std.proofs.Common.{◌≡◌, ◌∙◌, sym, ap, subst, ℕ, ◌+◌, ◌<◌, ◌^◌, List, length, take, drop, take_all, length-take, length-drop, Option, Some, None, arith}
 use Rattle.area_disk.specs.declared.memory.MemoryArea.{MemoryArea}
 use Rattle.gateway_book.specs.Items.{items_of}
 use Rattle.gateway_book.specs.Read.{IsUnchanged}
@@ -11,14 +11,21 @@ use Rattle.replay_world.specs.Stands.{MachineStands, SiteStands, StandsUp, area_
 use Rattle.replay_world.specs.Written.{FilesStand}
 use Rattle.replay_world.specs.Value.{Machine}
 use Rattle.replay_world.specs.declared.machine.Machine as real
-use Rattle.replay_world.specs.declared.machine.Site.{Site}
-use Rattle.replay_world.specs.declared.machine.Site.TheVariants.{Up, Down}
+use Rattle.replay_world.specs.declared.site.Site.{Site}
+use Rattle.replay_world.specs.declared.site.Site.TheVariants.{Up, Down}
 
 -- so few items are all
 pub are_all : {A : Type 0} (most : ℕ) (items all : List A) → items ≡ take most all → length items < most → items ≡ all
 are_all most items all is few =
     let count : length items ≡ length (take most all) = ap (λ xs. length xs) is in
     is ∙ take_all most all (omega (arith, count, few, length-take most all))
+
+-- those from one on are few, where all are
+pub few_from : {A : Type 0} (from most : ℕ) (items all : List A) → items ≡ take most (drop from all) →
+    length all < 2 ^ 31 → from < 2 ^ 31 → from + length items < 2 ^ 31
+few_from from most items all is few start =
+    let count : length items ≡ length (take most (drop from all)) = ap (λ xs. length xs) is in
+    omega (arith, count, length-take most (drop from all), length-drop from all, few, start)
 
 -- A book that was read is up as before.
 pub stays_up : (setup : Setup) (place : ℕ) (g : Gateway) (m : Machine) (old new : Book MemoryArea area_tells) →

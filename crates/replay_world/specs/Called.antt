@@ -28,8 +28,8 @@ use Rattle.replay_world.specs.Value.{Machine}
 use Rattle.replay_world.specs.Written.{FilesStand}
 use Rattle.replay_world.specs.declared.machine.Machine as real
 use Rattle.replay_world.specs.declared.machine.Sent.{Sent}
-use Rattle.replay_world.specs.declared.machine.Site.{Site}
-use Rattle.replay_world.specs.declared.machine.Site.TheVariants as site
+use Rattle.replay_world.specs.declared.site.Site.{Site}
+use Rattle.replay_world.specs.declared.site.Site.TheVariants as site
 
 -- what a gateway with this book does once this came of a call
 abbrev pub moved_after : Sequel → BookValue → Gateway → Moved

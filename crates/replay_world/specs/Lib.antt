@@ -13,6 +13,7 @@ pub mod Taken
 pub mod Written
 pub mod Stands
 pub mod Does
+pub mod Failing
 pub mod Settled
 pub mod Played
 pub mod Tally
@@ -22,6 +23,7 @@ pub mod Worked
 pub mod Ends
 pub mod Moves
 pub mod Called
+pub mod Asking
 pub mod Taking
 pub mod Redirecting
 pub mod Opening

@@ -10,8 +10,8 @@ use Rattle.replay_world.specs.Setup.{Setup, rules_in}
 use Rattle.replay_world.specs.Stands.{StandsUp}
 use Rattle.replay_world.specs.Value.{first_machine}
 use Rattle.replay_world.specs.declared.machine.Machine as real
-use Rattle.replay_world.specs.declared.machine.Site.{Site}
-use Rattle.replay_world.specs.declared.machine.Site.TheVariants as site
+use Rattle.replay_world.specs.declared.site.Site.{Site}
+use Rattle.replay_world.specs.declared.site.Site.TheVariants as site
 
 -- the plan has no failure and no stop but the armed one
 abbrev pub ArmsCall : Armed → Plan → Type 0

@@ -1,5 +1,5 @@
 -- When a replay in memory stands for a value.
-use Rattle.std.specs.Prelude.{◌≡◌, ℕ, zero, suc, ◌≤◌, ◌%◌, true, false, if◌then◌else◌, List, [], ◌∷◌, All, length, slice_get, vec_capacity, Option, Some, None}
+use Rattle.std.specs.Prelude.{◌≡◌, ℕ, zero, suc, ◌≤◌, ◌%◌, Bool, true, false, if◌then◌else◌, List, [], ◌∷◌, All, length, slice_get, vec_capacity, Option, Some, None}
 use Rattle.area_disk.specs.Armed.{IsArmed}
 use Rattle.area_disk.specs.Armed.Armed.{Nothing}
 use Rattle.area_disk.specs.contracts.memory.MemoryAreaArea.TheImpl.{ghosts as area_ghosts}
@@ -23,8 +23,8 @@ use Rattle.replay_world.specs.Setup.{Setup, files_in}
 use Rattle.replay_world.specs.Value.{Machine, ReplayValue}
 use Rattle.replay_world.specs.Written.{FilesStand}
 use Rattle.replay_world.specs.declared.machine.Machine as real
-use Rattle.replay_world.specs.declared.machine.Site.{Site}
-use Rattle.replay_world.specs.declared.machine.Site.TheVariants.{Up, Down}
+use Rattle.replay_world.specs.declared.site.Site.{Site}
+use Rattle.replay_world.specs.declared.site.Site.TheVariants.{Up, Down}
 use Rattle.replay_world.specs.declared.replay.Replay.{Replay}
 
 -- what areas in memory tell
@@ -105,7 +105,11 @@ EachStands setup place (g ∷ gs) (m ∷ ms) (r ∷ rs) =
     MachineStands setup place g m r × EachStands setup (suc place) gs ms rs
 EachStands setup place _ _ _ = ⊥
 
--- All gateways, nodes and messages stand for those of the value. A message that waits was sent.
+-- there was no memory for something that it was to do
+abbrev pub has_failed : Replay → Bool
+has_failed replay = replay.has_failed
+
+-- All gateways, nodes and messages stand for those of the value, and nothing lacked memory. A message that waits was sent.
 pub record Stands (v : ReplayValue) (replay : Replay) : Type 0 where
   pub gateways : EachStands v.setup 0 v.world.gateways v.machines replay.gateways.items
   pub few_gateways : length v.world.gateways ≤ 255
@@ -118,3 +122,4 @@ pub record Stands (v : ReplayValue) (replay : Replay) : Type 0 where
   pub sent : All (λ number. number ≤ length v.world.messages) v.waiting
   pub from_one : All (λ number. 1 ≤ number) v.waiting
   pub room : HasRoom replay
+  pub whole : has_failed replay ≡ false

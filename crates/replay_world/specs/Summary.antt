@@ -1,5 +1,5 @@
 -- What all gateways and all nodes of a replay count together.
-use Rattle.std.specs.Prelude.{ℕ, List, [], ◌∷◌, ◌++◌, length, sum_by, slice_get, Option, Some, None, codes}
+use Rattle.std.specs.Prelude.{ℕ, ◌≤◌, List, [], ◌∷◌, ◌++◌, length, sum_by, slice_get, Option, Some, None, codes}
 use Rattle.std.specs.Fmt.{decimal}
 use Rattle.std.specs.List.{enumerate_from}
 use Rattle.gateway_book.specs.Filed.{filed}
@@ -36,6 +36,12 @@ gateway_sums gs = record {
   stranded = sum_by stranded_of gs;
 }
 
+-- each sum is no more than this
+pub record AreGatewaySums (most : ℕ) (sums : GatewaySums) : Type 0 where
+  pub records : sums.records ≤ most
+  pub held : sums.held ≤ most
+  pub stranded : sums.stranded ≤ most
+
 -- the gateway in this place counts this
 abbrev pub TalliesIf : Option Gateway → Tally → Type 0
 TalliesIf None tally = ⊥
@@ -55,6 +61,11 @@ node_sums gateways ns = record {
   resolved = sum_by (λ n. (counts_at gateways n).resolved) ns;
   done = sum_by (λ n. (counts_at gateways n).done) ns;
 }
+
+pub record AreNodeSums (most : ℕ) (sums : NodeSums) : Type 0 where
+  pub packets : sums.packets ≤ most
+  pub resolved : sums.resolved ≤ most
+  pub done : sums.done ≤ most
 
 -- All together.
 abbrev pub summary_of : ReplayValue → Summary

@@ -1,5 +1,5 @@
 -- What of a gateway's items its files have.
-use Rattle.std.specs.Prelude.{◌≡◌, ℕ, ◌<◌, ◌≤◌, List, length, take, Some}
+use Rattle.std.specs.Prelude.{◌≡◌, ℕ, ◌<◌, ◌≤◌, ◌^◌, List, length, take, Some}
 use Rattle.area_disk.specs.Armed.{IsArmed}
 use Rattle.area_disk.specs.Armed.Armed.{Nothing}
 use Rattle.cdr_shelf.specs.contracts.memory.MemoryShelfShelf.TheImpl.{ghosts as shelf_ghosts}
@@ -35,4 +35,5 @@ pub record HasTaken (settings : Settings) (items : List Item) (w : Writer Memory
 -- So many of these items were written. Where the writer goes on it has taken these.
 pub record FilesStand (settings : Settings) (written : ℕ) (items : List Item) (f : Files) : Type 0 where
   pub writes : WriterStands shelf_tells settings written items f.writer
+  pub few : written < 2 ^ 31
   pub goes_on : (n : ℕ) → f.taken ≡ Some n → (n ≡ written) × HasTaken settings (take written items) f.writer

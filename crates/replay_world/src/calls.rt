@@ -1,24 +1,23 @@
 // What a gateway does: it commits, makes marks and redirects, and sends the answers that waited.
-ghost use Rattle.std.specs.Prelude.{◌≡◌, ℕ, IfOk, List, OnOk, [], ◌∷◌, ◌++◌, false, filter, if◌then◌else◌, map, nat_le, not};
-ghost use Rattle.gateway_book.specs.Answered.{no_caller};
-ghost use Rattle.gateway_book.specs.Calls.{closed};
-ghost use Rattle.gateway_book.specs.Comes.{asked_to_commit, asked_to_ready};
+ghost use Rattle.std.specs.Prelude.{◌≡◌, ◌≢◌, ℕ, IfOk, List, OnOk, [], ◌∷◌, ◌++◌, false, filter, if◌then◌else◌, map, nat_le, not};
+ghost use Rattle.gateway_book.specs.Comes.{asked_to_commit};
 ghost use Rattle.gateway_book.specs.Up as up;
 ghost use Rattle.gateway_book.specs.Up.{Sequel, fortune_by};
 ghost use Rattle.gateway_book.specs.Value.{BookValue, after_commit};
 ghost use Rattle.gw_base.specs.declared.history.HistoryEntry.{HistoryEntry};
-ghost use Rattle.once_core.specs.Answers.{making_close, making_tick, marked};
-ghost use Rattle.once_core.specs.Gateway.{Gateway, committing};
+ghost use Rattle.once_core.specs.Gateway.{Gateway};
 ghost use Rattle.once_core.specs.Messages.{failing, is_response};
-ghost use Rattle.replay_world.specs.Called.{AfterCall, BookStands, IsCalled, SiteIsCalled, SiteIsCut, SiteIsDown, firm_in, tick_left};
+ghost use Rattle.replay_world.specs.Asking.{asked_by, asked_move, asked_value};
+ghost use Rattle.replay_world.specs.Called.{AfterCall, BookStands, IsCalled, SiteIsCalled, SiteIsCut, SiteIsDown, firm_in};
 ghost use Rattle.replay_world.specs.Device.{sequel_on};
 ghost use Rattle.replay_world.specs.Moves.{GoesAsArmed, came_of};
-ghost use Rattle.replay_world.specs.Setup.{Setup, rules_in};
+ghost use Rattle.replay_world.specs.Setup.{Setup};
 ghost use Rattle.replay_world.specs.Stands.{MachineStands, StandsUp};
 ghost use Rattle.replay_world.specs.Value.{Machine as MachineValue};
 
-use crate::machine::{Came, Machine, Sent, Site};
+use crate::machine::{Came, Machine, Sent};
 use crate::messages::{failure, kept};
+use crate::site::Site;
 use area_disk::MemoryArea;
 use gateway_book::laws::{a_gateway_goes_as_armed, filed_records_stay, what_a_gateway_leaves};
 use gateway_book::{Book, Marked};
@@ -27,91 +26,40 @@ use once_core::{Message, Waiting};
 use std::alloc::Global;
 use std::mem;
 
+/// What a line asks of a gateway's book.
+#[derive(Clone, Copy)]
+pub(crate) enum GatewayCall {
+    /// To make its history firm, or to open the journal of a broken gateway again.
+    Commit,
+    /// To make a Tick, where one is due.
+    Mark,
+    /// To make a Close, where one is due.
+    Close,
+}
+
 impl Machine {
-    /// Makes the history firm, or opens the journal of a broken gateway again.
-    pub fn commit(&mut self, alloc: Global) -> Result<Sent, NoMemory>
+    /// Its book is asked for this.
+    pub fn ask(&mut self, alloc: Global, call: GatewayCall, now: Moment) -> Result<Sent, NoMemory>
         ensures { (setup : Setup) (place : ℕ) (g : Gateway) (m : MachineValue) →
-            MachineStands setup place g m self.old → g.is_down ≡ false →
-            IfOk result (λ sent. GoesAsArmed setup place
-            (asked_to_commit g.book) committing g m sent self.new) }
+            MachineStands setup place g m self.old → g.is_down ≡ false → IfOk result (λ sent. GoesAsArmed setup place
+            (asked_by call g.book) (asked_move setup now call) g m sent self.new) }
     {
-        self.committed();
+        self.asked(call, now)?;
         self.after_call(alloc)
     }
 
-    // The book is asked to commit.
-    fn committed(&mut self)
-        ensures { (setup : Setup) (place : ℕ) (g : Gateway) (m : MachineValue) →
-            MachineStands setup place g m self.old →
-            g.is_down ≡ false → let sequel = sequel_on m (asked_to_commit g.book) in
-            IsCalled setup place g m (after_commit (fortune_by m.at_last sequel) g.book) sequel self.new }
-    {
-        filed_records_stay();
-        let Some(Site::Up(book)) = self.site.take() else {
-            return;
-        };
-        let mut book = book;
-        commit(&mut book);
-        self.site = Some(Site::Up(book));
-    }
-
-    /// Makes a Tick where one is due.
-    pub fn tick(&mut self, alloc: Global, now: Moment) -> Result<Sent, NoMemory>
+    // The same, before what comes of it is sent.
+    fn asked(&mut self, call: GatewayCall, now: Moment) -> Result<(), NoMemory>
         ensures { (setup : Setup) (place : ℕ) (g : Gateway) (m : MachineValue) →
             MachineStands setup place g m self.old → g.is_down ≡ false →
-            IfOk result (λ sent. GoesAsArmed setup place
-            (asked_to_ready g.book) (λ f. marked (rules_in setup) f (making_tick (rules_in setup) now)) g m sent
-            self.new) }
-    {
-        self.ticked(now)?;
-        self.after_call(alloc)
-    }
-
-    // The book is asked for a Tick.
-    fn ticked(&mut self, now: Moment) -> Result<(), NoMemory>
-        ensures { (setup : Setup) (place : ℕ) (g : Gateway) (m : MachineValue) →
-            MachineStands setup place g m self.old →
-            g.is_down ≡ false → let sequel = sequel_on m (asked_to_ready g.book) in
-            let left = tick_left setup now (fortune_by m.at_last sequel) g.book in
-            OnOk result (IsCalled setup place g m left.value sequel self.new) }
+            let sequel = sequel_on m (asked_by call g.book) in OnOk result (IsCalled setup place g m
+            (asked_value setup now call (fortune_by m.at_last sequel) g.book) sequel self.new) }
     {
         filed_records_stay();
-        let Some(Site::Up(book)) = self.site.take() else {
-            return Ok(());
-        };
-        let mut book = book;
-        let ticked = tick(&mut book, now);
-        self.site = Some(Site::Up(book));
-        ticked
-    }
-
-    /// Makes a Close where one is due.
-    pub fn close(&mut self, alloc: Global, now: Moment) -> Result<Sent, NoMemory>
-        ensures { (setup : Setup) (place : ℕ) (g : Gateway) (m : MachineValue) →
-            MachineStands setup place g m self.old → g.is_down ≡ false →
-            IfOk result (λ sent. GoesAsArmed setup place
-            (asked_to_ready g.book) (λ f. marked (rules_in setup) f (making_close now)) g m sent self.new) }
-    {
-        self.closed(now)?;
-        self.after_call(alloc)
-    }
-
-    // The book is asked for a Close.
-    fn closed(&mut self, now: Moment) -> Result<(), NoMemory>
-        ensures { (setup : Setup) (place : ℕ) (g : Gateway) (m : MachineValue) →
-            MachineStands setup place g m self.old →
-            g.is_down ≡ false → let sequel = sequel_on m (asked_to_ready g.book) in
-            let left = closed (fortune_by m.at_last sequel) now no_caller g.book in
-            OnOk result (IsCalled setup place g m left.value sequel self.new) }
-    {
-        filed_records_stay();
-        let Some(Site::Up(book)) = self.site.take() else {
-            return Ok(());
-        };
-        let mut book = book;
-        let closed = close(&mut book, now);
-        self.site = Some(Site::Up(book));
-        closed
+        match &mut self.site {
+            Some(site) => site.ask(call, now),
+            None => Ok(()),
+        }
     }
 
     /// What a call of the area leads to: answers that are firm now are sent; those of a gateway that broke are failures
@@ -209,31 +157,34 @@ pub(crate) fn commit(book: &mut Book<MemoryArea>)
     let _answer = book.commit();
 }
 
-// A book is asked for a Tick.
-fn tick(book: &mut Book<MemoryArea>, now: Moment) -> Result<(), NoMemory>
+/// A book is asked for this.
+pub(crate) fn ask(
+    book: &mut Book<MemoryArea>,
+    call: GatewayCall,
+    now: Moment,
+) -> Result<(), NoMemory>
     ensures { (setup : Setup) (place : ℕ) (g : Gateway) (m : MachineValue) → StandsUp setup place g m book.old →
-        let sequel = sequel_on m (asked_to_ready g.book) in
-        OnOk result (BookStands setup place (tick_left setup now (fortune_by m.at_last sequel) g.book).value sequel
-        book.new) }
+        let sequel = sequel_on m (asked_by call g.book) in OnOk result
+        (BookStands setup place (asked_value setup now call (fortune_by m.at_last sequel) g.book) sequel book.new) }
 {
     a_gateway_goes_as_armed::<MemoryArea>();
-    match book.tick(now, Caller::NONE) {
-        Marked::NoMemory => Err(NoMemory),
-        _ => Ok(()),
+    match call {
+        GatewayCall::Commit => {
+            commit(book);
+            Ok(())
+        }
+        GatewayCall::Mark => without_memory(book.tick(now, Caller::NONE)),
+        GatewayCall::Close => without_memory(book.close(now, Caller::NONE)),
     }
 }
 
-// A book is asked for a Close.
-fn close(book: &mut Book<MemoryArea>, now: Moment) -> Result<(), NoMemory>
-    ensures { (setup : Setup) (place : ℕ) (g : Gateway) (m : MachineValue) → StandsUp setup place g m book.old →
-        let sequel = sequel_on m (asked_to_ready g.book) in
-        OnOk result (BookStands setup place (closed (fortune_by m.at_last sequel) now no_caller g.book).value sequel
-        book.new) }
+/// Whether there was memory for a mark.
+fn without_memory(marked: Marked) -> Result<(), NoMemory>
+    ensures { OnOk result (marked ≢ Marked.NoMemory) }
 {
-    a_gateway_goes_as_armed::<MemoryArea>();
-    match book.close(now, Caller::NONE) {
+    match marked {
         Marked::NoMemory => Err(NoMemory),
-        _ => Ok(()),
+        Marked::Made { .. } | Marked::NotDue | Marked::NoRoom | Marked::Device => Ok(()),
     }
 }
 

@@ -1,20 +1,18 @@
 // The writer of a gateway's files, which goes on behind the items that it has taken.
-ghost use Rattle.std.specs.Prelude.{◌≡◌, ◌+◌, ◌<◌, ◌≤◌, ◌^◌, ℕ, All, IfSome, List, None, OnOk, drop, false, length};
+ghost use Rattle.std.specs.Prelude.{◌≡◌, ◌+◌, ◌<◌, ◌^◌, ℕ, All, IfSome, List, None, OnOk, Some, drop, false, length};
 ghost use Rattle.std.proofs.Props.{props};
 ghost use Rattle.file_writer.specs.AllStreams.{IsFit};
 ghost use Rattle.file_writer.specs.Streams.{Settings};
 ghost use Rattle.file_writer.specs.Writer.{is_broken, taken_of};
+ghost use Rattle.file_writer.specs.declared.fault.ShelfFault.{ShelfFault};
 ghost use Rattle.gw_base.specs.declared.item.Item.{Item as ItemValue};
 
 use cdr_shelf::MemoryShelf;
-use file_writer::Writer;
 use file_writer::laws::{
     calls_seal_files_of_streams, files_only_grow, first_files_are_counted, open_files_go_on,
 };
+use file_writer::{ShelfFault, Writer};
 use gw_base::{Item, NoMemory};
-
-/// The most items that a writer takes.
-const MOST_ITEMS: u64 = 2_147_483_647;
 
 /// A writer, and how many items it has taken since it recovered; none where it has to recover first.
 #[derive(Drop)]
@@ -39,8 +37,10 @@ impl Files {
         }
     }
 
-    /// It takes these items, which are those behind the items that it has taken.
-    pub fn go_on(&mut self, items: &[Item]) -> Result<(), NoMemory>
+    /// It takes these items, which are those behind the items that it has taken, of which there are so many.
+    pub fn go_on(&mut self, taken: u64, items: &[Item]) -> Result<(), NoMemory>
+        requires taken { self.old.taken ≡ Some taken }
+        requires few { taken + length items.now < 2 ^ 31 }
         requires fit { All IsFit items.now }
         ensures { (settings : Settings) (written : ℕ) (all : List ItemValue) →
             FilesStand settings written all self.old → items.now ≡ drop written all →
@@ -49,18 +49,14 @@ impl Files {
         files_only_grow();
         calls_seal_files_of_streams();
         open_files_go_on();
-        let Some(taken) = self.taken else {
-            return Err(NoMemory);
-        };
-        let Some(count) = count_after(taken, items) else {
-            return Err(NoMemory);
-        };
         self.taken = None;
-        let Ok(_taken) = self.writer.advance(items) else {
-            return Err(NoMemory);
-        };
-        self.taken = Some(count);
-        Ok(())
+        match self.writer.advance(items) {
+            Ok(_taken) => {
+                self.taken = Some(taken + items.len() as u64);
+                Ok(())
+            }
+            Err(fault) => starved(fault),
+        }
     }
 
     /// It begins the items anew, and takes all of them.
@@ -75,25 +71,26 @@ impl Files {
         calls_seal_files_of_streams();
         open_files_go_on();
         self.taken = None;
-        let Ok(()) = self.writer.recover() else {
-            return Err(NoMemory);
-        };
-        let Ok(_taken) = self.writer.advance(items) else {
-            return Err(NoMemory);
-        };
-        self.taken = Some(items.len() as u64);
-        Ok(())
+        match self.writer.recover() {
+            Ok(()) => {}
+            Err(fault) => return starved(fault),
+        }
+        match self.writer.advance(items) {
+            Ok(_taken) => {
+                self.taken = Some(items.len() as u64);
+                Ok(())
+            }
+            Err(fault) => starved(fault),
+        }
     }
 }
 
-/// How many items a writer has taken once it has taken these behind so many, if it may take so many.
-fn count_after(taken: u64, items: &[Item]) -> Option<u64>
-    ensures some { IfSome result (λ n. (n ≡ taken + length items.now) × (n < 2 ^ 31)) }
-    ensures none { result ≡ None → 2 ^ 31 ≤ taken + length items.now }
+/// A fault of the shelf, unless there was no memory. No shelf of a replay has one: nothing is armed for its calls.
+fn starved(fault: ShelfFault) -> Result<(), NoMemory>
+    ensures { OnOk result (fault ≡ ShelfFault.Device) }
 {
-    let count = taken.checked_add(items.len() as u64)?;
-    if count > MOST_ITEMS {
-        return None;
+    match fault {
+        ShelfFault::NoMemory => Err(NoMemory),
+        ShelfFault::Device => Ok(()),
     }
-    Some(count)
 }

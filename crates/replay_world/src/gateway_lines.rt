@@ -3,6 +3,7 @@ ghost use Rattle.std.specs.Prelude.{◌≡◌, ◌-◌, ◌∷◌, ◌++◌, [],
 ghost use Rattle.area_disk.specs.Armed.{Armed};
 ghost use Rattle.once_core.specs.Turn.{no_running_gateway, refusal_of};
 ghost use Rattle.once_core.specs.declared.event.Event.TheVariants as event;
+ghost use Rattle.replay_world.specs.Asking.{event_asked};
 ghost use Rattle.replay_world.specs.Does.{Does, DoesOrEnds};
 ghost use Rattle.replay_world.specs.Moves.{ending_notices};
 ghost use Rattle.replay_world.specs.Notices.{notice_lines};
@@ -12,6 +13,7 @@ ghost use Rattle.replay_world.specs.Stands.{Stands};
 ghost use Rattle.replay_world.specs.Steps.{Arms, Plays, Writes};
 ghost use Rattle.replay_world.specs.Value.{ReplayValue};
 
+use crate::calls::GatewayCall;
 use crate::machine::{Came, Sent};
 use crate::notices::{print_down, print_drop, print_expired, print_fault, print_stopped};
 use crate::replay::Replay;
@@ -21,63 +23,23 @@ use gw_base::{NoMemory, Octets};
 use std::alloc::Global;
 
 impl Replay {
-    /// A commit, or an opening again; whether the line goes on.
-    pub(crate) fn commit(
+    /// A gateway's book is asked for this; whether the line goes on.
+    pub(crate) fn at_gateway(
         &mut self,
         alloc: Global,
         place: u8,
+        call: GatewayCall,
         out: &mut Octets,
     ) -> Result<bool, NoMemory>
         ensures { (v : ReplayValue) (number : ℕ) → Stands v self.old →
             number - 1 ≡ place → no_running_gateway v.world number ≡ None → IfOk result
-            (DoesOrEnds v (Plays (event.Commit number))
-            out.old out.new self.new) }
+            (DoesOrEnds v (Plays (event_asked call number)) out.old out.new self.new) }
     {
         let index = usize::from(place);
         if index >= self.gateways.len() {
             return Ok(true);
         }
-        let sent = self.gateways[index].commit(alloc)?;
-        self.send_moved(alloc, place, sent, out)
-    }
-
-    /// A Tick is asked for; whether the line goes on.
-    pub(crate) fn mark(
-        &mut self,
-        alloc: Global,
-        place: u8,
-        out: &mut Octets,
-    ) -> Result<bool, NoMemory>
-        ensures { (v : ReplayValue) (number : ℕ) → Stands v self.old →
-            number - 1 ≡ place → no_running_gateway v.world number ≡ None → IfOk result
-            (DoesOrEnds v (Plays (event.Mark number))
-            out.old out.new self.new) }
-    {
-        let index = usize::from(place);
-        if index >= self.gateways.len() {
-            return Ok(true);
-        }
-        let sent = self.gateways[index].tick(alloc, self.moment)?;
-        self.send_moved(alloc, place, sent, out)
-    }
-
-    /// A Close is asked for; whether the line goes on.
-    pub(crate) fn close(
-        &mut self,
-        alloc: Global,
-        place: u8,
-        out: &mut Octets,
-    ) -> Result<bool, NoMemory>
-        ensures { (v : ReplayValue) (number : ℕ) → Stands v self.old →
-            number - 1 ≡ place → no_running_gateway v.world number ≡ None → IfOk result
-            (DoesOrEnds v (Plays (event.Close number))
-            out.old out.new self.new) }
-    {
-        let index = usize::from(place);
-        if index >= self.gateways.len() {
-            return Ok(true);
-        }
-        let sent = self.gateways[index].close(alloc, self.moment)?;
+        let sent = self.gateways[index].ask(alloc, call, self.moment)?;
         self.send_moved(alloc, place, sent, out)
     }
 

@@ -1,13 +1,18 @@
 //! Laws of replays. Each stands on a function that does nothing.
 
-ghost use Rattle.std.specs.Prelude.{◌≡◌, ◌≤◌, ℕ, List, None, Ok, false, length, true};
+ghost use Rattle.std.specs.Prelude.{◌≡◌, ◌≤◌, ℕ, List, None, Ok, count_by, false, length, true};
+ghost use Rattle.gateway_book.specs.Filed.{filed};
+ghost use Rattle.gateway_book.specs.Items.{items_of};
+ghost use Rattle.gw_base.specs.History.{is_close_due};
+ghost use Rattle.gw_base.specs.declared.history.HistoryEntry.{HistoryEntry};
+ghost use Rattle.replay_world.specs.Tally.{is_part};
 ghost use Rattle.std.specs.List.{list_any};
 ghost use Rattle.once_core.specs.Once.{Once};
 ghost use Rattle.once_core.specs.StandsOnce.{StandsOnce};
 ghost use Rattle.once_core.specs.Turn.{turns};
 ghost use Rattle.replay_world.specs.Lines.{line_after, refusal_of_line, settled, turns_of};
 ghost use Rattle.replay_world.specs.Report.{lines_after, refused_from, refusal_of_lines, turns_from, turns_of_lines};
-ghost use Rattle.replay_world.specs.Settled.{AreWritten, HaveMachines};
+ghost use Rattle.replay_world.specs.Settled.{AreShut, AreWritten, HaveMachines};
 ghost use Rattle.replay_world.specs.Setup.{Setup, files_in, rules_in, setup_of};
 ghost use Rattle.replay_world.specs.Taken.{Allows, IsAsSaid};
 ghost use Rattle.replay_world.specs.Value.{ReplayValue, begun, replay_of};
@@ -45,14 +50,21 @@ pub fn a_replay_files_each_record_once()
     a_line_is_its_turns();
 }
 
+/// Where no Close is due of a history, none of its records stands in a file that is open, whatever decides the files.
+pub fn no_file_is_open_where_no_close_is_due()
+    ensures { (h : List HistoryEntry) → is_close_due h ≡ false → AreShut (items_of h) }
+{
+    gateway_book::laws::filed_records_stay();
+    file_rotate::division_goes_on::<Octets>();
+}
+
 /// After a settling each gateway runs, its whole history is firm and written, and no file is open: the files that are
 /// sealed have all records that it filed. Each gateway of a replay has a machine.
 pub fn a_settling_writes_all_files()
     ensures written { (v : ReplayValue) → HaveMachines v → AreWritten (settled v) }
     ensures machines { (setup : Setup) (lines : List Line) → HaveMachines (lines_after (begun setup) lines) }
 {
-    gateway_book::laws::filed_records_stay();
-    file_rotate::division_goes_on::<Octets>();
+    no_file_is_open_where_no_close_is_due();
 }
 
 /// The text of a script has no more octets than it may have, and it has no more lines than that.
@@ -95,3 +107,8 @@ pub fn no_line_of_a_sample_is_refused()
     world_script::laws::a_sample_is_taken();
     what_a_world_surely_takes_is_not_refused();
 }
+
+/// Of all items of a history as many are records as it filed.
+pub fn a_history_filed_its_parts()
+    ensures { (h : List HistoryEntry) → count_by is_part (items_of h) ≡ length (filed h) }
+{}

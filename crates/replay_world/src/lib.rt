@@ -29,6 +29,7 @@ mod replay;
 mod report;
 mod settings;
 mod settling;
+mod site;
 mod summary;
 mod taking;
 mod writing;

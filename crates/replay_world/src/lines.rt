@@ -1,11 +1,13 @@
 // The lines of a replay.
-ghost use Rattle.std.specs.Prelude.{◌≡◌, ◌≢◌, ◌↔◌, ◌+◌, ◌-◌, ◌%◌, ◌++◌, [], ℕ, IfOk, OnOk, None, Some, false, option_map};
+ghost use Rattle.std.specs.Prelude.{◌≡◌, ◌≢◌, ◌↔◌, ◌+◌, ◌-◌, ◌%◌, ◌++◌, [], ℕ, IfOk, OnErr, OnOk, None, Some, false, true, option_map};
 ghost use Rattle.replay_world.specs.Does.{LineRan, Makes, RunsIf, end_of, is_at_gateway, is_at_node, is_on_device};
+ghost use Rattle.replay_world.specs.Failing.{Fails, lacks_memory};
 ghost use Rattle.replay_world.specs.Lines.{outcome_in, refusal_of_line, settle_steps};
 ghost use Rattle.replay_world.specs.Report.{report_of};
-ghost use Rattle.replay_world.specs.Stands.{Stands};
+ghost use Rattle.replay_world.specs.Stands.{Stands, has_failed};
 ghost use Rattle.replay_world.specs.Value.{ReplayValue};
 
+use crate::calls::GatewayCall;
 use crate::machine::{failing, stopping};
 use crate::replay::Replay;
 use area_disk::Outcome3;
@@ -21,17 +23,8 @@ pub enum LineEnd {
     Ran,
     /// The world refuses it, and nothing happened.
     Refused(WorldKind),
-    /// There was no memory. A part of the line may have run.
+    /// There was no memory. A part of the line may have run, and the replay has failed.
     NoMemory,
-}
-
-fn ended(ran: Result<(), NoMemory>) -> LineEnd
-    ensures { result ≡ end_of ran }
-{
-    match ran {
-        Ok(()) => LineEnd::Ran,
-        Err(NoMemory) => LineEnd::NoMemory,
-    }
 }
 
 fn outcome_of(mode: Mode) -> Outcome3
@@ -44,6 +37,14 @@ fn outcome_of(mode: Mode) -> Outcome3
 }
 
 impl Replay {
+    /// Whether there was no memory for a line, a settling, a report or a summary, of which a part may have been done. A
+    /// replay that has failed does nothing more: each of these calls leaves it as it is.
+    pub fn has_failed(&self) -> bool
+        ensures { result ≡ has_failed self.now }
+    {
+        self.has_failed
+    }
+
     /// Runs a line of a script, and appends what it prints. A setting does nothing.
     pub fn run_line(&mut self, alloc: Global, line: &Line, out: &mut Octets) -> LineEnd
         // The line's steps were made, and what they tell was printed.
@@ -57,10 +58,32 @@ impl Replay {
         // Nothing happens then.
         ensures kept { (kind : WorldKind) → result ≡ LineEnd.Refused kind →
             (self.new ≡ self.old) × (out.new ≡ out.old) }
+        ensures fails { Fails (lacks_memory result) self.old out.old self.new out.new }
     {
+        if self.has_failed {
+            return LineEnd::NoMemory;
+        }
         match self.refusal(line) {
             Some(kind) => LineEnd::Refused(kind),
-            None => ended(self.run(alloc, line, out)),
+            None => {
+                let ran = self.run(alloc, line, out);
+                self.ended(ran)
+            }
+        }
+    }
+
+    // The end of what ran, or had no memory and so failed.
+    fn ended(&mut self, ran: Result<(), NoMemory>) -> LineEnd
+        ensures end { result ≡ end_of ran }
+        ensures ok { OnOk ran (self.new ≡ self.old) }
+        ensures err { OnErr ran (has_failed self.new ≡ true) }
+    {
+        match ran {
+            Ok(()) => LineEnd::Ran,
+            Err(NoMemory) => {
+                self.has_failed = true;
+                LineEnd::NoMemory
+            }
         }
     }
 
@@ -71,8 +94,13 @@ impl Replay {
             result ≡ LineEnd.Ran → Makes v (settle_steps v)
             out.old out.new self.new }
         ensures ends { (kind : WorldKind) → result ≢ LineEnd.Refused kind }
+        ensures fails { Fails (lacks_memory result) self.old out.old self.new out.new }
     {
-        ended(self.settle_all(alloc, out))
+        if self.has_failed {
+            return LineEnd::NoMemory;
+        }
+        let ran = self.settle_all(alloc, out);
+        self.ended(ran)
     }
 
     /// Appends the files and the counts of all gateways, and the counts of all nodes. Where there is no memory, a part
@@ -82,8 +110,13 @@ impl Replay {
             result ≡ LineEnd.Ran → Stands v self.new ×
             (out.new ≡ out.old ++ report_of v) }
         ensures ends { (kind : WorldKind) → result ≢ LineEnd.Refused kind }
+        ensures fails { Fails (lacks_memory result) self.old out.old self.new out.new }
     {
-        ended(self.report_all(alloc, out))
+        if self.has_failed {
+            return LineEnd::NoMemory;
+        }
+        let ran = self.report_all(alloc, out);
+        self.ended(ran)
     }
 
     /// Runs a line that the world allows.
@@ -174,15 +207,15 @@ impl Replay {
     {
         match line {
             Line::Mark { gateway } => {
-                self.mark(alloc, place(*gateway), out)?;
+                self.at_gateway(alloc, place(*gateway), GatewayCall::Mark, out)?;
                 Ok(true)
             }
             Line::Close { gateway } => {
-                self.close(alloc, place(*gateway), out)?;
+                self.at_gateway(alloc, place(*gateway), GatewayCall::Close, out)?;
                 Ok(true)
             }
             Line::Commit { gateway } => {
-                self.commit(alloc, place(*gateway), out)?;
+                self.at_gateway(alloc, place(*gateway), GatewayCall::Commit, out)?;
                 Ok(true)
             }
             Line::Redirect { gateway, cause, to } => {

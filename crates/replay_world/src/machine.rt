@@ -4,39 +4,31 @@ ghost use Rattle.area_disk.specs.Armed.{Armed};
 ghost use Rattle.area_disk.specs.Armed.Armed.{Nothing};
 ghost use Rattle.gateway_book.specs.Up.{HoldsHistory};
 ghost use Rattle.gw_base.specs.declared.history.HistoryEntry.{HistoryEntry};
-ghost use Rattle.once_core.specs.Addresses.{gateway_address};
 ghost use Rattle.once_core.specs.Beginning.{first_gateway};
 ghost use Rattle.once_core.specs.Gateway.{Gateway, cut, opened};
 ghost use Rattle.replay_world.specs.Called.{SiteIsDown};
 ghost use Rattle.replay_world.specs.Device.{disarmed};
-ghost use Rattle.replay_world.specs.Opening.{ArmsAs, IsOpenedForCounts, begun_gateway};
-ghost use Rattle.replay_world.specs.Played.{IsAreaOf, IsHandedOut};
+ghost use Rattle.replay_world.specs.Opening.{ArmsAs, IsOpenedForCounts};
+ghost use Rattle.replay_world.specs.Played.{IsHandedOut};
 ghost use Rattle.replay_world.specs.Settings.{AreSet, AreSound};
 ghost use Rattle.replay_world.specs.Setup.{Setup as SetupValue, rules_in};
-ghost use Rattle.replay_world.specs.Stands.{MachineStands, SiteStands, StandsUp, area_tells, header_at};
+ghost use Rattle.replay_world.specs.Stands.{MachineStands, area_tells, header_at};
 ghost use Rattle.replay_world.specs.Value.{Machine as MachineValue, first_machine};
 
-use crate::calls::commit;
 use crate::fallen::Fallen;
 use crate::files::Files;
 use crate::settings::Settings;
-use area_disk::laws::{arms_fail, arms_nothing, arms_stop};
+use crate::site::{Site, area_of, opened, reopened};
+use area_disk::laws::arms_nothing;
 use area_disk::{Drill, MemoryArea, Outcome3, Plan, Stop};
 use cdr_shelf::MemoryShelf;
 use file_writer::Writer;
-use gateway_book::laws::{filed_records_stay, what_a_gateway_leaves, what_stands_is_ours};
-use gateway_book::{Book, Setup};
+use gateway_book::Setup;
+use gateway_book::laws::{filed_records_stay, what_a_gateway_leaves};
 use gw_base::NoMemory;
 use once_core::{Message, Waiting, gateway_address};
 use route_filter::Rules;
 use std::alloc::Global;
-
-/// A gateway that is up has its book open; one that is down has an area alone.
-#[derive(Drop)]
-pub(crate) enum Site {
-    Up(Book<MemoryArea>),
-    Down(Fallen),
-}
 
 /// What the area made of a call.
 #[derive(Clone, Copy, PartialEq, Eq)]
@@ -166,15 +158,9 @@ impl Machine {
             MachineStands setup place g (record m { armed = armed })
             self.new }
     {
-        arms_nothing();
-        arms_fail();
-        arms_stop();
-        let Some(Site::Up(book)) = self.site.take() else {
-            return;
-        };
-        let mut book = book;
-        book.arm(plan);
-        self.site = Some(Site::Up(book));
+        if let Some(site) = &mut self.site {
+            site.arm(plan);
+        }
     }
 
     /// Nothing is armed for the calls of its area any more; of one that is down nothing is.
@@ -242,21 +228,12 @@ impl Machine {
             MachineStands setup place g m self.old →
             g.is_down ≡ true → OnOk result (IsOpenedForCounts setup place g self.old self.new) }
     {
-        what_stands_is_ours();
-        what_a_gateway_leaves::<MemoryArea>();
         let Some(Site::Down(fallen)) = self.site.take() else {
             return Ok(());
         };
-        match Book::open(alloc, fallen.area, self.setup) {
-            Ok(book) => {
-                self.site = Some(Site::Up(book));
-                Ok(())
-            }
-            Err((_, area)) => {
-                self.site = Some(Site::Down(Fallen { area }));
-                Err(NoMemory)
-            }
-        }
+        let (site, opened) = reopened(alloc, fallen, self.setup);
+        self.site = Some(site);
+        opened
     }
 
     /// Closes the book again, with nothing but what is firm.
@@ -287,54 +264,5 @@ impl Machine {
             redirects: _,
         } = self;
         (area_of(site), files.writer.into_shelf())
-    }
-}
-
-/// A book that is opened on an empty area of so many octets, from 100 to 268,435,456, whose Start is firm.
-fn opened(alloc: Global, setup: Setup, size: u64) -> Result<Book<MemoryArea>, NoMemory>
-    requires long { 100 ≤ size }
-    requires short { size ≤ 268435456 }
-    ensures { (s : SetupValue) (place : ℕ) → setup ≡ record {
-      address = (gateway_address place).ip;
-      open_time = s.limits.open_time;
-    } → size ≡ s.size → IfOk result
-        (StandsUp s place (first_gateway (rules_in s)) first_machine) }
-{
-    let mut book = begun(alloc, setup, size)?;
-    commit(&mut book);
-    Ok(book)
-}
-
-/// The same, whose Start isn't firm yet.
-fn begun(alloc: Global, setup: Setup, size: u64) -> Result<Book<MemoryArea>, NoMemory>
-    requires long { 100 ≤ size }
-    requires short { size ≤ 268435456 }
-    ensures { (s : SetupValue) (place : ℕ) → setup ≡ record {
-      address = (gateway_address place).ip;
-      open_time = s.limits.open_time;
-    } → size ≡ s.size → IfOk result
-        (StandsUp s place (begun_gateway s) first_machine) }
-{
-    arms_nothing();
-    what_a_gateway_leaves::<MemoryArea>();
-    let plan = calm(alloc);
-    let Ok(area) = MemoryArea::new(alloc, size, plan) else {
-        return Err(NoMemory);
-    };
-    let Ok(book) = Book::open(alloc, area, setup) else {
-        return Err(NoMemory);
-    };
-    Ok(book)
-}
-
-/// The area of a gateway that is somewhere.
-fn area_of(site: Option<Site>) -> Option<MemoryArea>
-    ensures { (setup : SetupValue) (place : ℕ) (g : Gateway) (m : MachineValue) → SiteStands setup place g m site →
-        MatchOption result ⊥ (IsAreaOf setup place g) }
-{
-    match site {
-        Some(Site::Up(book)) => Some(book.into_area()),
-        Some(Site::Down(fallen)) => Some(fallen.area),
-        None => None,
     }
 }

@@ -1,14 +1,13 @@
 // What befalls a node of a replay. One that isn't there is left alone.
-ghost use Rattle.std.specs.Prelude.{◌≡◌, ◌-◌, ◌++◌, [], ℕ, ◌≢◌, IfErr, IfOk, IfSome, OnOk, MatchOption, None, Some, Ok, Err, false, true, map, List};
+ghost use Rattle.std.specs.Prelude.{◌≡◌, ◌-◌, ◌++◌, [], ℕ, ◌≢◌, IfErr, IfOk, IfSome, OnOk, MatchOption, None, Some, Ok, Err, false, true, map};
 ghost use Rattle.node_core.specs.Drafts.{is_without_records, value_octets};
 ghost use Rattle.node_core.specs.declared.fault.DraftFault.TheVariants as draft_fault;
 ghost use Rattle.node_core.specs.declared.fault.SubmitFault.TheVariants as submit_fault;
-ghost use Rattle.node_core.specs.Log.{LogEntry};
 ghost use Rattle.node_core.specs.Submitting.{refusal_of as refusal_by};
-ghost use Rattle.once_core.specs.Expired.{starts_in};
 ghost use Rattle.once_core.specs.Turn.{no_running_node, refusal_of};
 ghost use Rattle.once_core.specs.declared.event.Event.TheVariants as event;
-ghost use Rattle.once_core.specs.World.{answers_of, draft_of, message_of};
+ghost use Rattle.once_core.specs.NodeMoves.{message_kept};
+ghost use Rattle.once_core.specs.World.{answers_of, draft_of};
 ghost use Rattle.once_core.specs.declared.message.Message.{Message as MessageValue};
 ghost use Rattle.replay_world.specs.Does.{Does, DoesAll};
 ghost use Rattle.replay_world.specs.Lines.{submit_steps};
@@ -108,10 +107,10 @@ impl Replay {
         if index >= self.nodes.len() {
             return Ok(());
         }
-        // A node that is halted is given none, and none has so many.
         if !self.nodes[index].runs() {
-            return Err(NoMemory);
+            return Ok(());
         }
+        // None has so many.
         if self.nodes[index].counts().packets >= MOST_SUBMISSIONS {
             return Err(NoMemory);
         }
@@ -261,18 +260,15 @@ fn messages_of(
     start: u8,
     sent: Vec<Outgoing>,
 ) -> Result<Vec<Message>, NoMemory>
-    ensures { (log : List LogEntry) → start ≡ starts_in log →
-        IfOk result (λ messages. messages.items ≡ map (message_of place log) sent.items) }
+    ensures { IfOk result (λ messages. messages.items ≡ map (message_kept place start) sent.items) }
 {
     let mut messages = Vec::new(alloc);
     for datagram in sent {
-        // It is sent to a gateway.
-        let Ok(gateway) = u8::try_from(datagram.to.ip.saturating_sub(gateway_address(0).ip)) else {
-            return Err(NoMemory);
-        };
+        // It is sent to one of fewer than 256 gateways.
+        let gateway = datagram.to.ip.saturating_sub(gateway_address(0).ip) % 256;
         messages.push(Message {
             to_gateway: true,
-            gateway,
+            gateway: gateway as u8,
             node: place,
             port: datagram.port,
             start,

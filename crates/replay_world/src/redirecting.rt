@@ -9,11 +9,17 @@ ghost use Rattle.replay_world.specs.Setup.{Setup};
 ghost use Rattle.replay_world.specs.Stands.{MachineStands};
 ghost use Rattle.replay_world.specs.Value.{Machine as MachineValue};
 
-use crate::machine::{Machine, Site};
+use crate::machine::Machine;
 use crate::messages::kept;
+use crate::site::Site;
+use area_disk::MemoryArea;
+use gateway_book::laws::a_book_is_within_the_limits;
 use gw_base::{Addr, NoMemory, NodeId};
 use once_core::{Message, node_id, port_at, redirection};
 use std::alloc::Global;
+
+/// How many nodes a gateway knows at most.
+const MOST_NODES: usize = 64;
 
 impl Machine {
     /// Asks all nodes that it has a path to to send elsewhere.
@@ -46,17 +52,17 @@ impl Machine {
             MachineStands setup place g m self.now → g.is_down ≡ false →
             IfOk result (λ messages. messages.items ≡ (redirected place cause to g).sends) }
     {
+        a_book_is_within_the_limits::<MemoryArea>();
         let number = self.redirects;
         let mut messages = Vec::new(alloc);
-        for k in 0..usize::MAX {
+        for k in 0..MOST_NODES {
             let Some((path, start)) = self.path(k) else {
                 return Ok(messages);
             };
             let message = redirection_to(alloc, place, number, cause, to, path, start)?;
             messages.push(message)?;
         }
-        // No list is so long.
-        Err(NoMemory)
+        Ok(messages)
     }
 
     // The k-th of the paths that it knows, with the start of its node.

@@ -37,6 +37,8 @@ pub struct Replay {
     /// Places for the areas and the shelves of all gateways, which `into_played` fills.
     pub(crate) areas: Vec<MemoryArea>,
     pub(crate) shelves: Vec<MemoryShelf>,
+    /// Whether there was no memory for something, so that it does nothing more.
+    pub(crate) has_failed: bool,
 }
 
 /// What a replay ran: the areas and the shelves of its gateways, and its nodes, each in order of their numbers.
@@ -73,6 +75,7 @@ impl Replay {
             waiting: IndexSet::new(alloc),
             areas: Vec::with_capacity(alloc, usize::from(settings.gateways))?,
             shelves: Vec::with_capacity(alloc, usize::from(settings.gateways))?,
+            has_failed: false,
         })
     }
 
@@ -122,6 +125,7 @@ impl Replay {
             waiting: _,
             areas,
             shelves,
+            has_failed: _,
         } = self;
         let (areas, shelves) = hand_out(gateways, areas, shelves);
         Played {

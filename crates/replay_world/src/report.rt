@@ -1,8 +1,9 @@
 // The report.
-ghost use Rattle.std.specs.Prelude.{◌≡◌, ◌<◌, ◌++◌, ℕ, IfOk, List, OnOk, false, length, true};
+ghost use Rattle.std.specs.Prelude.{◌≡◌, ◌<◌, ◌++◌, ℕ, IfOk, List, OnOk, count_by, false, length, true};
 ghost use Rattle.std.specs.List.{enumerate_from, flat_map, range_with_len};
 ghost use Rattle.file_writer.specs.Files.{stream_files};
 ghost use Rattle.file_writer.specs.Streams.{stream_count};
+ghost use Rattle.gateway_book.specs.Calls.{counts_of};
 ghost use Rattle.gateway_book.specs.Filed.{filed};
 ghost use Rattle.gateway_book.specs.Items.{items_of};
 ghost use Rattle.gw_base.specs.declared.history.HistoryEntry.{HistoryEntry};
@@ -10,12 +11,13 @@ ghost use Rattle.once_core.specs.Gateway.{Gateway};
 ghost use Rattle.replay_world.specs.Report.{counts_text, digits, file_line, file_lines, file_name, gateway_lines, gateway_text, node_line, node_text, report_of, written_items};
 ghost use Rattle.replay_world.specs.Setup.{Setup, files_in};
 ghost use Rattle.replay_world.specs.Stands.{MachineStands, SiteStands, Stands};
-ghost use Rattle.replay_world.specs.Tally.{IsTallied, Tells};
+ghost use Rattle.replay_world.specs.Tally.{IsTallied, Tells, is_part};
 ghost use Rattle.replay_world.specs.Value.{Machine as MachineValue, ReplayValue};
 
-use crate::machine::{Machine, Site};
+use crate::machine::Machine;
 use crate::replay::Replay;
 use crate::settling::octet;
+use crate::site::Site;
 use cdr_shelf::FileName;
 use gateway_book::Counts;
 use gw_base::{Item, NoMemory, Octets};
@@ -138,15 +140,29 @@ impl Machine {
         ensures rest { self.new ≡ record self.old { site = self.new.site } }
     {
         let items = self.firm_items(alloc, 0)?;
-        let Some(Site::Up(book)) = &self.site else {
-            return Err(NoMemory);
-        };
-        let counts = book.counts();
+        let counts = self.counts();
         Ok(Tally {
             entries: counts.entries,
             records: record_count(&items),
             counts,
         })
+    }
+
+    // What its book counts, of one that is up.
+    fn counts(&self) -> Counts
+        ensures { (setup : Setup) (place : ℕ) (g : Gateway) (m : MachineValue) →
+            SiteStands setup place g m self.now.site → g.is_down ≡ false → result ≡ counts_of g.book setup.size }
+    {
+        let Some(Site::Up(book)) = &self.site else {
+            return Counts {
+                entries: 0,
+                firm: 0,
+                held: 0,
+                stranded: 0,
+                free: 0,
+            };
+        };
+        book.counts()
     }
 
     // The lines of its files.
@@ -180,8 +196,8 @@ impl Machine {
             };
             print_file(alloc, out, place, name, octets)?;
         }
-        // No stream has so many.
-        Err(NoMemory)
+        // No stream has more.
+        Ok(())
     }
 }
 
@@ -228,9 +244,10 @@ fn print_digits(out: &mut Octets, count: u32, number: u32) -> Result<(), NoMemor
     Ok(())
 }
 
-/// How many records a history filed, by its items.
+/// How many records there are among items: of all items of a history, how many it filed.
 pub fn record_count(items: &[Item]) -> usize
-    ensures { (h : List HistoryEntry) → items.now ≡ items_of h → result ≡ length (filed h) }
+    ensures parts { result ≡ count_by is_part items.now }
+    ensures records { (h : List HistoryEntry) → items.now ≡ items_of h → result ≡ length (filed h) }
 {
     let mut records = 0;
     for item in items {

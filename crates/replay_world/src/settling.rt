@@ -11,6 +11,7 @@ ghost use Rattle.replay_world.specs.Stands.{Stands};
 ghost use Rattle.replay_world.specs.Steps.{Arms, Plays, Writes};
 ghost use Rattle.replay_world.specs.Value.{ReplayValue};
 
+use crate::calls::GatewayCall;
 use crate::replay::Replay;
 use gw_base::{NoMemory, Octets};
 use std::alloc::Global;
@@ -92,8 +93,8 @@ impl Replay {
             (Settles v (Plays (event.Commit number) ∷ Plays (event.Close number) ∷ []) number out.old out.new
             self.new) }
     {
-        self.commit(alloc, place, out)?;
-        self.close(alloc, place, out)?;
+        self.at_gateway(alloc, place, GatewayCall::Commit, out)?;
+        self.at_gateway(alloc, place, GatewayCall::Close, out)?;
         Ok(())
     }
 
@@ -108,7 +109,7 @@ impl Replay {
             number - 1 ≡ place → no_running_gateway v.world number ≡ None → OnOk result
             (Settles v (Plays (event.Commit number) ∷ Writes (number - 1) ∷ []) number out.old out.new self.new) }
     {
-        self.commit(alloc, place, out)?;
+        self.at_gateway(alloc, place, GatewayCall::Commit, out)?;
         self.write(alloc, place)
     }
 }

@@ -1,8 +1,9 @@
 // What all gateways and all nodes of a replay count together.
-ghost use Rattle.std.specs.Prelude.{◌≡◌, ◌<◌, ◌++◌, ◌+◌, IfOk, OnOk, length};
+ghost use Rattle.std.specs.Prelude.{◌≡◌, ◌<◌, ◌≤◌, ◌^◌, ◌-◌, ◌++◌, ◌+◌, [], ℕ, IfOk, OnOk, is_err, length};
 ghost use Rattle.std.specs.List.{enumerate_from};
+ghost use Rattle.replay_world.specs.Failing.{Fails};
 ghost use Rattle.replay_world.specs.Stands.{Stands};
-ghost use Rattle.replay_world.specs.Summary.{TalliesAt, gateway_sums, node_sums, sum_line, summary_of, summary_text};
+ghost use Rattle.replay_world.specs.Summary.{AreGatewaySums, AreNodeSums, TalliesAt, gateway_sums, node_sums, sum_line, summary_of, summary_text};
 ghost use Rattle.replay_world.specs.Value.{ReplayValue};
 
 use crate::replay::Replay;
@@ -14,20 +15,20 @@ use std::alloc::Global;
 /// What all nodes count together: packets that were submitted, that became resolved, and that became done.
 #[derive(Clone, Copy, Debug, PartialEq, Eq)]
 pub struct NodeSums {
-    pub packets: u64,
-    pub resolved: u64,
-    pub done: u64,
+    pub packets: u128,
+    pub resolved: u128,
+    pub done: u128,
 }
 
 /// What all gateways count together: records that they filed, copies that they hold, and stranded ones.
 #[derive(Clone, Copy, Debug, PartialEq, Eq)]
 pub struct GatewaySums {
     /// Records that firm entries filed.
-    pub records: u64,
+    pub records: u128,
     /// Copies that are held in the present epochs of their nodes, by all entries, firm or not.
-    pub held: u64,
+    pub held: u128,
     /// Copies of earlier epochs that were neither released nor cancelled, by all entries, firm or not.
-    pub stranded: u64,
+    pub stranded: u128,
 }
 
 /// What a whole network counts.
@@ -39,13 +40,31 @@ pub struct Summary {
 
 impl Replay {
     /// What all gateways and all nodes count together. A gateway that is down is opened for this alone. It fails where
-    /// there is no memory for that, or a sum is 2^64 or more.
+    /// there is no memory for that; then the replay has failed.
     pub fn summary(&mut self, alloc: Global) -> Result<Summary, NoMemory>
+        ensures sums { (v : ReplayValue) → Stands v self.old →
+            IfOk result (λ summary. Stands v self.new × (summary ≡ summary_of v)) }
+        ensures fails { Fails (is_err result) self.old [] self.new [] }
+    {
+        if self.has_failed {
+            return Err(NoMemory);
+        }
+        match self.sum_all(alloc) {
+            Ok(summary) => Ok(summary),
+            Err(NoMemory) => {
+                self.has_failed = true;
+                Err(NoMemory)
+            }
+        }
+    }
+
+    // The sums of all gateways and of all nodes.
+    fn sum_all(&mut self, alloc: Global) -> Result<Summary, NoMemory>
         ensures { (v : ReplayValue) → Stands v self.old →
             IfOk result (λ summary. Stands v self.new × (summary ≡ summary_of v)) }
     {
         let gateways = self.sum_gateways(alloc)?;
-        let nodes = self.sum_nodes()?;
+        let nodes = self.sum_nodes();
         Ok(Summary { nodes, gateways })
     }
 
@@ -61,7 +80,7 @@ impl Replay {
         };
         for index in 0..self.gateways.len() {
             let tally = self.tally_gateway(alloc, index)?;
-            sums = with_tally(sums, &tally)?;
+            sums = with_tally(sums, &tally);
         }
         Ok(sums)
     }
@@ -77,9 +96,9 @@ impl Replay {
     }
 
     // The sums of all nodes.
-    fn sum_nodes(&self) -> Result<NodeSums, NoMemory>
+    fn sum_nodes(&self) -> NodeSums
         ensures { (v : ReplayValue) → Stands v self.now →
-            IfOk result (λ sums. sums ≡ node_sums (length v.world.gateways) (enumerate_from 0 v.world.nodes)) }
+            result ≡ node_sums (length v.world.gateways) (enumerate_from 0 v.world.nodes) }
     {
         let mut sums = NodeSums {
             packets: 0,
@@ -87,45 +106,53 @@ impl Replay {
             done: 0,
         };
         for index in 0..self.nodes.len() {
-            sums = with_counts(sums, self.nodes[index].counts())?;
+            sums = with_counts(sums, self.nodes[index].counts());
         }
-        Ok(sums)
+        sums
     }
 }
 
-/// The sum of two numbers, where it is below 2^64.
-fn plus(a: u64, b: u64) -> Result<u64, NoMemory>
-    ensures { IfOk result (λ sum. sum ≡ a + b) }
+/// A sum with one number more.
+fn plus(sum: u128, more: u64) -> u128
+    requires { sum ≤ 2 ^ 128 - 2 ^ 64 }
+    ensures sum { result ≡ sum + more }
+    ensures few { result ≤ sum + 18446744073709551615 }
 {
-    a.checked_add(b).ok_or(NoMemory)
+    sum + u128::from(more)
 }
 
-fn with_tally(sums: GatewaySums, tally: &Tally) -> Result<GatewaySums, NoMemory>
-    ensures { IfOk result (λ more. more ≡ record {
+/// Sums with what one more gateway counts.
+fn with_tally(sums: GatewaySums, tally: &Tally) -> GatewaySums
+    requires { AreGatewaySums (2 ^ 128 - 2 ^ 64) sums }
+    ensures sums { result ≡ record {
       records = sums.records + tally.now.records;
       held = sums.held + tally.now.counts.held;
       stranded = sums.stranded + tally.now.counts.stranded;
-    }) }
+    } }
+    ensures few { (most : ℕ) → AreGatewaySums most sums → AreGatewaySums (most + 18446744073709551615) result }
 {
-    Ok(GatewaySums {
-        records: plus(sums.records, tally.records as u64)?,
-        held: plus(sums.held, tally.counts.held)?,
-        stranded: plus(sums.stranded, tally.counts.stranded)?,
-    })
+    GatewaySums {
+        records: plus(sums.records, tally.records as u64),
+        held: plus(sums.held, tally.counts.held),
+        stranded: plus(sums.stranded, tally.counts.stranded),
+    }
 }
 
-fn with_counts(sums: NodeSums, counts: NodeCounts) -> Result<NodeSums, NoMemory>
-    ensures { IfOk result (λ more. more ≡ record {
+/// Sums with what one more node counts.
+fn with_counts(sums: NodeSums, counts: NodeCounts) -> NodeSums
+    requires { AreNodeSums (2 ^ 128 - 2 ^ 64) sums }
+    ensures sums { result ≡ record {
       packets = sums.packets + counts.packets;
       resolved = sums.resolved + counts.resolved;
       done = sums.done + counts.done;
-    }) }
+    } }
+    ensures few { (most : ℕ) → AreNodeSums most sums → AreNodeSums (most + 18446744073709551615) result }
 {
-    Ok(NodeSums {
-        packets: plus(sums.packets, counts.packets)?,
-        resolved: plus(sums.resolved, counts.resolved)?,
-        done: plus(sums.done, counts.done)?,
-    })
+    NodeSums {
+        packets: plus(sums.packets, counts.packets),
+        resolved: plus(sums.resolved, counts.resolved),
+        done: plus(sums.done, counts.done),
+    }
 }
 
 /// Appends a summary, one line for each sum. `NoMemory`: there was no memory for all of it; a part of it may have been
@@ -142,7 +169,7 @@ pub fn print_summary(alloc: Global, out: &mut Octets, summary: &Summary) -> Resu
 }
 
 /// A sum's line.
-fn print_sum(alloc: Global, out: &mut Octets, name: &str, sum: u64) -> Result<(), NoMemory>
+fn print_sum(alloc: Global, out: &mut Octets, name: &str, sum: u128) -> Result<(), NoMemory>
     ensures { OnOk result (out.new ≡ out.old ++ sum_line name.now sum) }
 {
     let line = format!(in alloc; "{name} {sum}\n")?;

@@ -14,8 +14,10 @@ ghost use Rattle.replay_world.specs.Setup.{Setup};
 ghost use Rattle.replay_world.specs.Stands.{MachineStands, StandsUp};
 ghost use Rattle.replay_world.specs.Value.{Machine as MachineValue};
 
-use crate::machine::{Came, Machine, Sent, Site};
+use crate::calls::GatewayCall;
+use crate::machine::{Came, Machine, Sent};
 use crate::messages::{Ends, is_expired, kept};
+use crate::site::Site;
 use area_disk::MemoryArea;
 use gateway_book::laws::{a_gateway_goes_as_armed, filed_records_stay};
 use gateway_book::{Book, Outcome, Prepared, Receipt, prepare};
@@ -123,7 +125,7 @@ impl Machine {
             g.is_down ≡ false → g.book.is_broken ≡ true →
             IfOk result (λ delivery. IsDelivered setup place g m now message.now delivery self.new) }
     {
-        let sent = self.commit(alloc)?;
+        let sent = self.ask(alloc, GatewayCall::Commit, now)?;
         match self.met(message) {
             Some(ending) => Ok(Delivery { sent, ending }),
             None => self.take_after(alloc, sent, message, now),
@@ -189,14 +191,11 @@ impl Machine {
     {
         filed_records_stay();
         let request = prepare(message.octets.octets());
-        let Some(Site::Up(book)) = self.site.take() else {
-            return Outcome::NoMemory;
-        };
-        let mut book = book;
         let from = node_address(message.node, message.port);
-        let outcome = take(&mut book, from, &request, now);
-        self.site = Some(Site::Up(book));
-        outcome
+        match &mut self.site {
+            Some(site) => site.take(from, &request, now),
+            None => Outcome::Drop(Why::Device),
+        }
     }
 
     // An answer waits, or is sent at once where all that it rests on is firm, and where the gateway broke; of one that
@@ -255,8 +254,13 @@ fn joined(first: Vec<Message>, later: Vec<Message>) -> Result<Vec<Message>, NoMe
     Ok(all)
 }
 
-// A book takes a datagram.
-fn take(book: &mut Book<MemoryArea>, from: Addr, request: &Prepared<'_>, now: Moment) -> Outcome
+/// A book takes a datagram.
+pub(crate) fn take(
+    book: &mut Book<MemoryArea>,
+    from: Addr,
+    request: &Prepared<'_>,
+    now: Moment,
+) -> Outcome
     ensures { (setup : Setup) (place : ℕ) (g : Gateway) (m : MachineValue) → StandsUp setup place g m book.old →
         result ≢ Outcome.NoMemory → let sequel = ready_sequel_of m.armed m.at_last g.book in
         let left = taken (fortune_by m.at_last sequel) from (prepared_of request.now) setup.size now no_caller g.book in

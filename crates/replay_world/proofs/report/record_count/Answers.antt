@@ -5,8 +5,13 @@ use Rattle.replay_world.specs.Tally.{is_part}
 use Rattle.replay_world.proofs.CountLemmas.{records_filed}
 use Rattle.replay_world.proofs.report.record_count.Goals as goal
 
-pub returns : goal.returns
-returns c = λ h is.
+pub returns-clause-parts : goal.returns-clause-parts
+returns-clause-parts c =
+    c.loop-item.invariant ∙ ap (λ (n : ℕ). count_by is_part (take n c.args.items.now)) (omega arith)
+    ∙ ap (λ (items : List Item). count_by is_part items) (take-length c.args.items.now)
+
+pub returns-clause-records : goal.returns-clause-records
+returns-clause-records c = λ h is.
     c.loop-item.invariant ∙ ap (λ (n : ℕ). count_by is_part (take n c.args.items.now)) (omega arith)
     ∙ ap (λ (items : List Item). count_by is_part items) (take-length c.args.items.now ∙ is)
     ∙ records_filed h

@@ -1,7 +1,7 @@
 use Rattle.std.proofs.Common.{◌≡◌, refl, subst, Option, Some}
 use Rattle.replay_world.specs.Opening.{SiteIsOpened}
-use Rattle.replay_world.specs.declared.machine.Site.{Site}
-use Rattle.replay_world.specs.declared.machine.Site.TheVariants.{Up}
+use Rattle.replay_world.specs.declared.site.Site.{Site}
+use Rattle.replay_world.specs.declared.site.Site.TheVariants.{Up}
 use Rattle.replay_world.proofs.OpeningLemmas.{closed_down, site_later}
 use Rattle.replay_world.proofs.WritingLemmas.{site_set}
 use Rattle.replay_world.proofs.machine.Machine.close_book.Goals as goal

@@ -48,6 +48,7 @@ returns c = λ setup is rules.
             (λ s. ap (λ (shelf : MemoryShelf). shelf_tells.unsealed shelf s) c.new-writer.ensures.shelf
             ∙ c.in-Ok.ensures.unsealed s)
             (items_of (first_gateway (rules_in setup)).book.firm));
+        few = omega arith;
         goes_on = λ n is_some. absurd (cc (sym c.new-files.ensures.begins ∙ is_some));
       };
     }

@@ -1,6 +1,6 @@
-use Rattle.std.proofs.Common.{◌∙◌, ap, ◌++◌, ◌∷◌, []}
+use Rattle.std.proofs.Common.{◌≡◌, ◌∙◌, refl, ap, ◌++◌, ◌∷◌, [], arith}
 use Rattle.once_core.specs.declared.message.Message.{Message}
-use Rattle.replay_world.proofs.RedirectLemmas.{asked_all, asked_as, asked_more, book_there}
+use Rattle.replay_world.proofs.RedirectLemmas.{asked_all, asked_as, asked_few, asked_more, book_there, few_paths}
 use Rattle.replay_world.proofs.machine.Machine.redirections.Goals as goal
 
 pub loop-k-init : goal.loop-k-init
@@ -18,4 +18,14 @@ returns-in_default c = λ setup g m stands runs.
     asked_all c.args.place c.args.cause c.args.self.now.redirects c.args.to c.args.self.now.site c.loop-k.k
     c.loop-k.messages.items c.loop-k.invariant c.in_default.ensures g.book
     (book_there setup c.args.place g m c.args.self.now.site runs stands.site)
+    ∙ asked_as c.args.place c.args.cause c.args.self.now.redirects c.args.to g stands.redirects
+
+pub returns : goal.returns
+returns c = λ setup g m stands runs.
+    let last : c.loop-k.k ≡ 64 = omega arith in
+    let few = few_paths (λ book. c.a_book_is_within_the_limits.ensures.nodes (refl, refl) book) setup c.args.place g m
+    c.args.self.now.site runs stands.site in
+    asked_few c.args.place c.args.cause c.args.self.now.redirects c.args.to c.args.self.now.site c.loop-k.k
+    c.loop-k.messages.items c.loop-k.invariant g.book
+    (book_there setup c.args.place g m c.args.self.now.site runs stands.site) (omega (arith, last, few))
     ∙ asked_as c.args.place c.args.cause c.args.self.now.redirects c.args.to g stands.redirects

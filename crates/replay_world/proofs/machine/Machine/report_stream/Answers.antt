@@ -1,10 +1,14 @@
-use Rattle.std.proofs.Common.{◌∙◌, sym, ap, ◌≤◌, take, append-nil, arith}
-use Rattle.cdr_shelf.specs.Files.{in_stream}
+use Rattle.std.proofs.Common.{◌≡◌, ◌∙◌, sym, ap, ℕ, ◌-◌, ◌≤◌, ◌++◌, List, take, append-nil, arith}
+use Rattle.std.specs.List.{flat_map}
+use Rattle.cdr_shelf.specs.Files.{SealedFile, in_stream}
 use Rattle.cdr_shelf.specs.declared.memory.MemoryShelf.{MemoryShelf}
+use Rattle.file_writer.specs.Files.{stream_files}
 use Rattle.file_writer.specs.Streams.{stream_division}
 use Rattle.gateway_book.specs.Items.{items_of}
+use Rattle.replay_world.specs.Report.{file_line}
 use Rattle.replay_world.specs.Setup.{files_in}
 use Rattle.replay_world.specs.Written.{shelf_tells}
+use Rattle.replay_world.proofs.CountedLemmas.{all_files}
 use Rattle.replay_world.proofs.FileLemmas.{line_more, lines_all}
 use Rattle.replay_world.proofs.machine.Machine.report_stream.Goals as goal
 
@@ -32,3 +36,13 @@ returns-in_default c = λ setup g m small stands.
     ∙ stands.writes.writes.files.each c.args.stream small)
     c.loop-sequence.sequence c.args.out.now c.loop-sequence.out some c.in_default.ensures.octets
     (c.loop-sequence.invariant setup g m small stands)
+
+pub returns : goal.returns
+returns c = λ setup g m small stands.
+    let last : c.loop-sequence.sequence ≡ 4294967295 = omega arith in
+    let settings = files_in setup c.args.place in
+    let files = stream_files settings c.args.stream (take m.written (items_of g.book.firm)) in
+    c.loop-sequence.invariant setup g m small stands
+    ∙ ap (λ (n : ℕ). c.args.out.now ++ flat_map (file_line c.args.place) (take (n - 1) files)) last
+    ∙ ap (λ (all : List SealedFile). c.args.out.now ++ flat_map (file_line c.args.place) all)
+    (all_files settings c.args.stream m.written (items_of g.book.firm) stands.writes.few)

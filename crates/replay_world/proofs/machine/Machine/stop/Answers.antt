@@ -3,8 +3,8 @@ use Rattle.area_disk.specs.declared.memory.MemoryArea.{MemoryArea}
 use Rattle.area_disk.specs.declared.plan.Outcome3.TheVariants.{Old}
 use Rattle.gateway_book.specs.Opened.{StandsFitFor}
 use Rattle.replay_world.specs.Stands.{SiteStands, area_tells, header_at}
-use Rattle.replay_world.specs.declared.machine.Site.{Site}
-use Rattle.replay_world.specs.declared.machine.Site.TheVariants.{Up}
+use Rattle.replay_world.specs.declared.site.Site.{Site}
+use Rattle.replay_world.specs.declared.site.Site.TheVariants.{Up}
 use Rattle.replay_world.proofs.AreaLemmas.{stopped_area}
 use Rattle.replay_world.proofs.CallLemmas.{stopped}
 use Rattle.replay_world.proofs.machine.Machine.stop.Goals as goal

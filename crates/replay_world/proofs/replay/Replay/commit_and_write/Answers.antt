@@ -9,13 +9,13 @@ use Rattle.replay_world.proofs.replay.Replay.commit_and_write.Goals as goal
 pub returns : goal.returns
 returns c = λ v number stands unarmed is none.
     let calm = commit_calm v number c.args.self.now stands unarmed none in
-    let first = settles_one v (Plays (event.Commit number)) number c.args.out.now c.commit.new.out c.commit.new.self _
-    (c.in_ok-commit.ensures v number stands is none) calm.0 calm.1 calm.2 in
+    let first = settles_one v (Plays (event.Commit number)) number c.args.out.now c.at_gateway.new.out c.at_gateway.new.self _
+    (c.in_ok-at_gateway.ensures v number stands is none) calm.0 calm.1 calm.2 in
     let u = after_steps v (Plays (event.Commit number) ∷ []) in
-    let calm_then = write_calm u number c.commit.new.self first.does.makes.stands first.stays.unarmed first.runs in
+    let calm_then = write_calm u number c.at_gateway.new.self first.does.makes.stands first.stays.unarmed first.runs in
     on_ok c.write.result (λ done. settles_then v (Plays (event.Commit number) ∷ []) (Writes (number - 1) ∷ []) number
-    c.args.out.now c.commit.new.out c.commit.new.out c.commit.new.self c.write.new.self first
-    (settles_behind u (Writes (number - 1) ∷ []) number c.commit.new.out c.write.new.self
+    c.args.out.now c.at_gateway.new.out c.at_gateway.new.out c.at_gateway.new.self c.write.new.self first
+    (settles_behind u (Writes (number - 1) ∷ []) number c.at_gateway.new.out c.write.new.self
     (settles_one u (Writes (number - 1)) number [] [] c.write.new.self true (record { does = done; goes = refl }) refl
     calm_then.0 calm_then.1)))
     (c.write.ensures u number first.does.makes.stands is first.runs)

@@ -18,7 +18,7 @@ returns-clause-stands c =
     ∙ ap (λ (n : ℕ). nodes_from n 0 (times_of c.of-settings.result.nodes (Began ∷ []))) (sym set.gateways)
     ∙ ap (λ (n : ℕ). nodes_from s.gateways 0 (times_of n (Began ∷ []))) (sym set.nodes) in
     begun_stands s _ each (search rules) (search rules) nodes (search rules) (search rules) (search rules) (search rules)
-    (search rules) (search rules) (search rules)
+    (search rules) (search rules) (search rules) (search rules)
 
 pub returns-clause-gateways : goal.returns-clause-gateways
 returns-clause-gateways c =

@@ -7,23 +7,32 @@ use Rattle.replay_world.proofs.QuietLemmas.{runs_to_redirect}
 use Rattle.replay_world.proofs.RunLemmas.{gateway_place, line_does, other_placed, such_line}
 use Rattle.replay_world.proofs.replay.Replay.run_at_gateway.Goals as goal
 
-pub returns-in_ok-mark-in-Mark : goal.returns-in_ok-mark-in-Mark
-returns-in_ok-mark-in-Mark c = λ v stands none.
+pub returns-in_ok-at_gateway-in-Mark : goal.returns-in_ok-at_gateway-in-Mark
+returns-in_ok-at_gateway-in-Mark c = λ v stands none.
     let number = c.in-Mark.gateway in
-    such_line v is_at_gateway c.args.line.now (line.Mark number) c.args.out.now c.mark.new.out c.args.self.now
-    c.mark.new.self c.in-Mark.is refl none (λ allowed.
+    such_line v is_at_gateway c.args.line.now (line.Mark number) c.args.out.now c.at_gateway.new.out c.args.self.now
+    c.at_gateway.new.self c.in-Mark.is refl none (λ allowed.
     let is = gateway_place v c.args.self.now number stands allowed ∙ sym c.place.ensures in
-    line_does v (line.Mark number) (Plays (event.Mark number)) c.args.out.now c.mark.new.out c.mark.new.self allowed refl refl
-    (c.in_ok-mark-in-Mark.ensures v number stands is allowed).does)
+    line_does v (line.Mark number) (Plays (event.Mark number)) c.args.out.now c.at_gateway.new.out c.at_gateway.new.self allowed
+    refl refl (c.in_ok-at_gateway-in-Mark.ensures v number stands is allowed).does)
 
-pub returns-in_ok-close-in-Close : goal.returns-in_ok-close-in-Close
-returns-in_ok-close-in-Close c = λ v stands none.
+pub returns-in_ok-at_gateway-in-Close : goal.returns-in_ok-at_gateway-in-Close
+returns-in_ok-at_gateway-in-Close c = λ v stands none.
     let number = c.in-Close.gateway in
-    such_line v is_at_gateway c.args.line.now (line.Close number) c.args.out.now c.close.new.out c.args.self.now
-    c.close.new.self c.in-Close.is refl none (λ allowed.
+    such_line v is_at_gateway c.args.line.now (line.Close number) c.args.out.now c.at_gateway-in-Close.new.out c.args.self.now
+    c.at_gateway-in-Close.new.self c.in-Close.is refl none (λ allowed.
     let is = gateway_place v c.args.self.now number stands allowed ∙ sym c.place-in-Close.ensures in
-    line_does v (line.Close number) (Plays (event.Close number)) c.args.out.now c.close.new.out c.close.new.self allowed refl refl
-    (c.in_ok-close-in-Close.ensures v number stands is allowed).does)
+    line_does v (line.Close number) (Plays (event.Close number)) c.args.out.now c.at_gateway-in-Close.new.out c.at_gateway-in-Close.new.self allowed
+    refl refl (c.in_ok-at_gateway-in-Close.ensures v number stands is allowed).does)
+
+pub returns-in_ok-at_gateway-in-Commit : goal.returns-in_ok-at_gateway-in-Commit
+returns-in_ok-at_gateway-in-Commit c = λ v stands none.
+    let number = c.in-Commit.gateway in
+    such_line v is_at_gateway c.args.line.now (line.Commit number) c.args.out.now c.at_gateway-in-Commit.new.out c.args.self.now
+    c.at_gateway-in-Commit.new.self c.in-Commit.is refl none (λ allowed.
+    let is = gateway_place v c.args.self.now number stands allowed ∙ sym c.place-in-Commit.ensures in
+    line_does v (line.Commit number) (Plays (event.Commit number)) c.args.out.now c.at_gateway-in-Commit.new.out c.at_gateway-in-Commit.new.self allowed
+    refl refl (c.in_ok-at_gateway-in-Commit.ensures v number stands is allowed).does)
 
 pub returns-in_ok-redirect-in-Redirect : goal.returns-in_ok-redirect-in-Redirect
 returns-in_ok-redirect-in-Redirect c = λ v stands none.

@@ -1,4 +1,4 @@
-use Rattle.std.proofs.Common.{◌≡◌, ◌∙◌, refl, sym, ap, ℕ, ◌<◌, false, ◌++◌, length, set, Some, slice_get, arith}
+use Rattle.std.proofs.Common.{◌≡◌, ◌∙◌, refl, sym, ap, ℕ, ◌<◌, false, true≢false, ◌++◌, length, set, Some, slice_get, arith}
 use Rattle.std.proofs.lemmas.Option.{slice_get_read}
 use Rattle.node_core.specs.Drafts.{is_without_records, value_octets}
 use Rattle.node_core.specs.Reached.{most_submissions}
@@ -10,6 +10,7 @@ use Rattle.replay_world.specs.Notices.{Took, notice_line, submit_fault_name}
 use Rattle.replay_world.proofs.GoesLemmas.{on_ok}
 use Rattle.replay_world.proofs.NodeEventLemmas.{no_node_beyond}
 use Rattle.replay_world.proofs.NodeSubmitLemmas.{emptied, refused, submitted}
+use Rattle.replay_world.proofs.NodeTickLemmas.{node_running}
 use Rattle.replay_world.proofs.ReasonLemmas.{reason_there, reason_told}
 use Rattle.replay_world.proofs.replay.Replay.submit_draft.Goals as goal
 
@@ -21,6 +22,17 @@ pub returns-then-index-len : goal.returns-then-index-len
 returns-then-index-len c = λ v number stands is none read.
     no_node_beyond v number c.args.place c.args.self.now stands is none
     (omega (arith, c.if-index-len.true, c.len.ensures, c.from-index.ensures, c.args.self.now.nodes.ok.0))
+
+pub returns-then-not-runs : goal.returns-then-not-runs
+returns-then-not-runs c = λ v number stands is none read.
+    let within : c.from-index.result < length c.args.self.now.nodes.items =
+    omega (arith, c.if-index-len.false, c.len.ensures, c.args.self.now.nodes.ok.0) in
+    let has : slice_get c.args.self.now.nodes.items c.args.place ≡ Some c.index.result.now =
+    ap (λ (k : ℕ). slice_get c.args.self.now.nodes.items k) (sym c.from-index.ensures)
+    ∙ slice_get_read c.args.self.now.nodes.items (length c.args.self.now.nodes.items) c.from-index.result c.index.result.now refl
+    within c.index.ensures in
+    absurd (true≢false (sym (node_running v number c.args.place c.index.result.now c.args.self.now stands is none has)
+    ∙ sym c.runs.ensures ∙ c.if-not-runs.true))
 
 pub returns : goal.returns
 returns c = λ v number stands is none read.

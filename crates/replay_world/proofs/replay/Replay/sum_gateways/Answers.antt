@@ -1,22 +1,32 @@
-use Rattle.std.proofs.Common.{◌≡◌, ◌∙◌, refl, ap, List, take, take_all, arith}
+use Rattle.std.proofs.Common.{◌≡◌, ◌∙◌, ◌*◌, refl, ap, List, take, take_all, arith}
 use Rattle.once_core.specs.Gateway.{Gateway}
 use Rattle.replay_world.specs.Summary.{gateway_sums}
 use Rattle.replay_world.proofs.GatewayEventLemmas.{machines_count}
-use Rattle.replay_world.proofs.SummaryLemmas.{sums_next}
+use Rattle.replay_world.proofs.SummaryLemmas.{gateways_few, gateways_more, sums_next}
 use Rattle.replay_world.proofs.replay.Replay.sum_gateways.Goals as goal
 
 pub loop-index-init : goal.loop-index-init
-loop-index-init c = record { count = refl; done = λ v stands. (stands, refl) }
+loop-index-init c = record {
+  count = refl;
+  few = record { records = omega arith; held = omega arith; stranded = omega arith };
+  done = λ v stands. (stands, refl);
+}
+
+pub with_tally-sums-requires : goal.with_tally-sums-requires
+with_tally-sums-requires c =
+    gateways_more c.loop-index.index c.loop-index.sums (omega (arith, c.len-index-end.ensures)) c.loop-index.invariant.few
 
 pub loop-index-preserved : goal.loop-index-preserved
 loop-index-preserved c = record {
   count = c.in_ok-tally.ensures.count ∙ c.loop-index.invariant.count;
+  few = gateways_few c.loop-index.index c.with_tally-sums.result
+      (c.with_tally-sums.ensures.few (c.loop-index.index * 18446744073709551615) c.loop-index.invariant.few);
   done = λ v stands.
       let so_far = c.loop-index.invariant.done v stands in
       let more = c.in_ok-tally.ensures.tallies v so_far.0 in (
         more.0,
         sums_next v.world.gateways c.loop-index.index c.in_ok-tally.tally c.loop-index.sums
-            c.in_ok-sums.sums more.1 so_far.1 c.in_ok-sums.ensures,
+            c.with_tally-sums.result more.1 so_far.1 c.with_tally-sums.ensures.sums,
       );
 }
 

@@ -1,6 +1,6 @@
-use Rattle.std.proofs.Common.{◌≡◌, length, take}
+use Rattle.std.proofs.Common.{◌≡◌, ◌*◌, length, take}
 use Rattle.replay_world.specs.Stands.{Stands}
-use Rattle.replay_world.specs.Summary.{gateway_sums}
+use Rattle.replay_world.specs.Summary.{AreGatewaySums, gateway_sums}
 use Rattle.replay_world.specs.Value.{ReplayValue}
 use Rattle.replay_world.proofs.replay.Replay.sum_gateways.Given as goal
 
@@ -8,6 +8,7 @@ use Rattle.replay_world.proofs.replay.Replay.sum_gateways.Given as goal
 abbrev pub invariant-loop-index : goal.invariant-loop-index
 invariant-loop-index l = record {
   count : length l.self.gateways.items ≡ length l.fn.self.gateways.items;
+  few : AreGatewaySums (l.index * 18446744073709551615) l.sums;
   done : (v : ReplayValue) → Stands v l.fn.self →
       Stands v l.self × (l.sums ≡ gateway_sums (take l.index v.world.gateways));
 }

@@ -2,7 +2,7 @@ use Rattle.std.proofs.Common.{◌≡◌, ◌∙◌, refl, sym, ap, ℕ, ◌<◌,
 use Rattle.std.proofs.lemmas.Option.{get_or_from_slice_get, slice_get_read}
 use Rattle.node_core.specs.Value.{NodeValue}
 use Rattle.node_core.specs.declared.message.Outgoing.{Outgoing}
-use Rattle.once_core.specs.World.{message_of}
+use Rattle.once_core.specs.NodeMoves.{message_kept}
 use Rattle.replay_world.proofs.GoesLemmas.{on_ok}
 use Rattle.replay_world.proofs.NodeEventLemmas.{no_node_beyond}
 use Rattle.replay_world.proofs.NodeTickLemmas.{node_running, ticked}
@@ -41,7 +41,9 @@ returns c = λ v number stands is none.
     c.send_all.new.self stands is none has refl
     (ap (λ (k : ℕ). set c.args.self.now.nodes.items k c.tick.new.self) c.from-index.ensures
     ∙ ap (λ (n : NodeValue). set c.args.self.now.nodes.items c.args.place n) c.in_ok-sent.ensures.node)
-    (λ log counter. c.in_ok-messages.ensures log
-    (c.counter-start.ensures ∙ ap (λ (n : NodeValue). n.paths.counter) one ∙ counter)
-    ∙ ap (λ (sent : List Outgoing). map (message_of c.args.place log) sent) c.in_ok-sent.ensures.sent) sends)
+    (c.in_ok-messages.ensures
+    ∙ ap (λ (k : ℕ). map (message_kept c.args.place k) c.in_ok-sent.sent.items)
+    (c.counter-start.ensures ∙ ap (λ (n : NodeValue). n.paths.counter) one)
+    ∙ ap (λ (sent : List Outgoing). map (message_kept c.args.place c.index_mut.result.now.paths.counter) sent)
+    c.in_ok-sent.ensures.sent) sends)
     c.send_all.ensures
