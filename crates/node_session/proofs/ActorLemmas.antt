@@ -1,20 +1,24 @@
 -- What a step that takes items to a writer does, by what its parts do.
-use Rattle.std.proofs.Common.{◌≡◌, ℕ, zero, suc, ◌-◌, Bool, List, [], ◌∷◌, ◌++◌, length, take, drop, Option, Some, Result, Ok, Err, refl, sym, ap, subst, ◌∙◌, append_assoc, arith}
+use Rattle.std.proofs.Common.{◌≡◌, ℕ, zero, suc, ◌+◌, ◌-◌, ◌<◌, ◌≤◌, ◌^◌, Bool, false, List, [], ◌∷◌, ◌++◌, length, take, drop, Option, Some, Result, Ok, Err, refl, sym, ap, subst, ◌∙◌, append_assoc, arith}
 use Rattle.std.specs.Prelude.{min, IfOk}
+use Rattle.std.proofs.lemmas.Bool.{and_parts}
 use Rattle.std.proofs.lemmas.List.{append-nil}
 use Rattle.std.proofs.lemmas.List.Elements.{All-cons, All-nil}
 use Rattle.area_disk.specs.declared.area.Area.{Ghosts}
 use Rattle.cdr_shelf.specs.declared.shelf.Shelf as shelf
+use Rattle.gate_journal.specs.Moments.{Told}
+use Rattle.gateway_book.specs.Book.{value_of}
 use Rattle.gateway_book.specs.Filed.{along}
 use Rattle.gateway_book.specs.Items.{items_between, items_by, items_of}
 use Rattle.gateway_book.specs.Turning.{facts_of as book_facts, tells_lists}
+use Rattle.gateway_book.specs.declared.book.Book.{Book}
 use Rattle.gateway_book.specs.declared.outcome.ItemsFault.{ItemsFault}
 use Rattle.gateway_book.specs.declared.outcome.ItemsFault.TheVariants as fault
 use Rattle.gw_base.specs.Facts.{WhereTold}
 use Rattle.gw_base.specs.Owes as owes
 use Rattle.gw_base.specs.declared.history.HistoryEntry.{HistoryEntry}
 use Rattle.gw_base.specs.declared.item.Item.{Item}
-use Rattle.file_writer.specs.Writer.{taken_of}
+use Rattle.file_writer.specs.Writer.{is_broken, taken_of}
 use Rattle.file_writer.specs.declared.writer.Writer.{Writer}
 use Rattle.turn_cell.specs.Cell.{knowledge}
 use Rattle.turn_cell.specs.Knowing.{kept}
@@ -23,11 +27,15 @@ use Rattle.turn_cell.specs.declared.knowing.KeptTurn.{KeptTurn}
 use Rattle.turn_cell.specs.declared.knowing.Knowledge.{Knowledge}
 use Rattle.node_session.specs.Asking.{ListsIn}
 use Rattle.node_session.specs.Passes.{known_by}
-use Rattle.node_session.specs.Writing.{AreNext, HasFailedIn, IsWriterOf, KeepsListing, most_items}
-use Rattle.node_session.proofs.GivenLemmas.{next_ones}
+use Rattle.node_session.specs.Writing.{AreNext, HasFailedIn, HasListedIn, HasTakenOf, IsWriterOf, KeepsListing, most_items}
+use Rattle.node_session.proofs.GivenLemmas.{next_ones, room_within}
 
 abbrev pub Stays : Type 0
 Stays = (h g : List HistoryEntry) → items_of (h ++ g) ≡ items_of h ++ along items_by h g
+
+-- the firm entries of a book make few items
+abbrev pub Limits : {A : Type 0} → Ghosts A → Type 0
+Limits {A} tells = (book : Book A tells) → Told tells → length (items_of (value_of book).firm) < 2 ^ 31
 
 -- a writer that took items of a history took items of a longer one
 pub writer_grows : Stays → {F : Type 0} {tells : shelf.Ghosts F} (w : Writer F tells) (told : Bool) (h g : List HistoryEntry)
@@ -45,6 +53,10 @@ writer_grows stays w told h g grows writer ready =
                 ∙ append_assoc has.items begins.0 (along items_by h more.0),
           );
     }
+
+-- a count that doesn't fall, and stands in between
+pub later_by : (a b c d : ℕ) → a ≤ b → c ≡ b → c ≤ d → a ≤ d
+later_by a b c d first same then = omega (arith, first, same, then)
 
 -- nothing was listed
 pub keeps_none : (before : Knowledge) → KeepsListing before before
@@ -98,10 +110,17 @@ module _ {A R : Type 0} (tells : Ghosts A) (from most : ℕ) (items : R → List
   pub known_grows : WhereTold (tells_lists tells) (owes.Begins before.known after.known)
   known_grows told = subst (λ (h : List HistoryEntry). owes.Begins before.known h) (sym (known_is told)) (lists.legal.known told)
 
-  pub failed_in : result ≡ Err fault.Device → HasFailedIn before after
+  pub listed_in : HasListedIn (tells_lists tells) before after u
+  listed_in = record {
+    turns = ap (λ (k : Knowledge). k.turns) lists.kept;
+    legal = lists.legal;
+    known = known_is;
+  }
+
+  pub failed_in : result ≡ Err fault.Device → HasFailedIn (tells_lists tells) before after
   failed_in failed = record {
     turn = u;
-    turns = ap (λ (k : Knowledge). k.turns) lists.kept;
+    listed = listed_in;
     rose = lists.does_so.device failed;
   }
 
@@ -122,6 +141,16 @@ module _ (stays : Stays) {A R F : Type 0} (tells : Ghosts A) {files : shelf.Ghos
       subst (λ (n : ℕ). AreNext (tells_lists tells) after.known n xs) (at ∙ ap (λ (x : Writer F files). taken_of x) (sym rest))
       (next_ones (tells_lists tells) after.known from most_items xs
       (λ told. same ∙ items_are tells from most_items items before after result lists r is told))
+
+  -- what the writer has taken then, with what was listed, are few
+  pub listed_room : Limits tells → (r : R) → result ≡ Ok r → (xs : List Item) → xs ≡ items r → from ≡ taken_of m → is_broken w ≡ false
+      → WhereTold (tells_lists tells) (taken_of w + length xs < 2 ^ 31)
+  listed_room limits r is xs same at ready told =
+      room_within after.known w most_items xs (subst (λ (b : Bool). HasTakenOf b after.known w) told (listed_writer ready))
+      (same ∙ items_are tells from most_items items before after result lists r is told
+      ∙ ap (λ (n : ℕ). items_between n most_items after.known) (at ∙ ap (λ (x : Writer F files). taken_of x) (sym rest)))
+      (subst (λ (h : List HistoryEntry). length (items_of h) < 2 ^ 31) (sym (known_is tells from most_items items before after result lists told))
+      (limits lists.found (and_parts tells.tells_octets tells.tells_crash told)))
 
   pub listed_count : (r : R) → result ≡ Ok r → (xs : List Item) → xs ≡ items r → (n start : ℕ) → n ≡ length xs → from ≡ start
       → WhereTold (tells_lists tells) (n ≡ min most_items (length (items_of after.known) - start))

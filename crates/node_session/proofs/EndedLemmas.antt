@@ -33,6 +33,9 @@ module _ {A : Type 0} {tells : Ghosts A} where
   pub same_firm : (b c : Book A tells) → IsUnchanged b c → Told tells → (value_of c).firm ≡ (value_of b).firm
   same_firm b c same told = ap (λ (v : BookValue). v.firm) (same.value told)
 
+  pub grows_same : (a b c : Book A tells) → Grows a b → IsUnchanged b c → Grows a c
+  grows_same a b c grows same told = let more = grows told in (more.0, same_firm b c same told ∙ more.1)
+
   pub settled_stays : (a b c : Book A tells) (now : ℕ) (who : Caller) → IsSettled a b now who → IsUnchanged b c → IsSettled a c now who
   settled_stays a b c now who settled same = record {
     drops = settled.drops;

@@ -147,6 +147,16 @@ few_taken zero xs few = absurd (omega (arith, few))
 few_taken (suc n) [] few = refl
 few_taken (suc n) (x ∷ xs) few = ap (λ k. suc k) (few_taken n xs (omega (arith, few)))
 
+left_behind : (n : ℕ) (xs : List Item) → n ≤ length xs → n + length (drop n xs) ≡ length xs
+left_behind zero xs less = omega arith
+left_behind (suc n) [] less = absurd (omega (arith, less))
+left_behind (suc n) (x ∷ xs) less = let more = left_behind n xs (omega (arith, less)) in omega (arith, more)
+
+taken_part : (n : ℕ) (xs : List Item) → length (take n xs) ≤ length xs
+taken_part zero xs = omega arith
+taken_part (suc n) [] = omega arith
+taken_part (suc n) (x ∷ xs) = let less = taken_part n xs in omega (arith, less)
+
 dropped_length : (n : ℕ) (xs : List Item) → length xs ≤ n + length (drop n xs)
 dropped_length zero xs = omega arith
 dropped_length (suc n) [] = omega arith
@@ -167,6 +177,7 @@ all_given h new from most items are few ready count w =
     record {
       ready = ready;
       at = subst (λ (xs : List Item). IsAt new none_closed xs) (sym (begins.1 ∙ ap (λ (xs : List Item). w.items ++ xs) none ∙ append-nil w.items)) w.at;
+      count = let empty : length begins.0 ≡ 0 = ap (λ (xs : List Item). length xs) none in omega (arith, long, is_taken, empty);
     }
 
 taken_within : (n : ℕ) (xs : List Item) → length (take n xs) ≤ n
@@ -181,8 +192,7 @@ pub given_some : {F : Type 0} {tells : Ghosts F} (told : Bool) (h : List History
     → HasGivenSome told h old new (nat_eq n most)
 given_some told h old new most items n long are ready count few writer some = record {
   ready = ready;
-  few = few;
-  moves = λ more. let is = eqb-true n most more in omega (arith, is, long, count, some);
+  moves = λ more. let is = eqb-true n most more in (omega (arith, is, long, count, some), few);
   all = λ less it_is.
       let not : n ≡ most → ⊥ = λ same. true≢false (sym (eq-eqb n most same) ∙ less) in
       let within = taken_within most (drop (taken_of old) (items_of h)) in
@@ -191,3 +201,15 @@ given_some told h old new most items n long are ready count few writer some = re
       all_given h new (taken_of old) most items (are it_is) fewer ready count
       (subst (λ (b : Bool). HasTakenOf b h new) it_is (writer ready));
 }
+
+-- what a writer has taken of a history, and the next items, are fewer than the octets of an area may be
+pub room_within : {F : Type 0} {tells : Ghosts F} (h : List HistoryEntry) (w : Writer F tells) (most : ℕ) (items : List Item)
+    → HasTakenOf true h w → items ≡ items_between (taken_of w) most h → length (items_of h) < 2 ^ 31 → taken_of w + length items < 2 ^ 31
+room_within h w most items has are few =
+    let begins = has.begins refl in
+    let long : length (items_of h) ≡ length has.items + length begins.0 = ap (λ (xs : List Item). length xs) begins.1 ∙ length-append has.items begins.0 in
+    let taken = has.count in
+    let same : length items ≡ length (take most (drop (taken_of w) (items_of h))) = ap (λ (xs : List Item). length xs) are in
+    let within = taken_part most (drop (taken_of w) (items_of h)) in
+    let left = left_behind (taken_of w) (items_of h) (omega (arith, long, taken)) in
+    omega (arith, long, taken, same, within, left, few)

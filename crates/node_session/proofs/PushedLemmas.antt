@@ -1,15 +1,22 @@
 -- What becomes of the passes to inboxes when one of them pushes.
-use Rattle.std.proofs.Common.{◌≡◌, ℕ, zero, suc, ◌<◌, List, [], ◌∷◌, length, Result, Ok, Err, refl, sym, ap, subst, ◌∙◌, arith}
+use Rattle.std.proofs.Common.{◌≡◌, ℕ, zero, suc, ◌<◌, List, [], ◌∷◌, ◌++◌, length, take, Result, Ok, Err, refl, sym, ap, subst, ◌∙◌, arith}
 use Rattle.std.specs.Prelude.{IfErr, OnErr, OnOk, slice_index_or}
 use Rattle.std.specs.List.{insert, remove}
 use Rattle.crossbeam_queue.specs.Fifo.{Held}
+use Rattle.gw_base.specs.Faults.{next_count}
+use Rattle.gw_base.specs.declared.address.Addr.{Addr}
 use Rattle.job_inbox.specs.Hands.{Shows}
 use Rattle.job_inbox.specs.Inbox.{IsPassOf, capacity_of, knowledge, known_by, made_by}
 use Rattle.job_inbox.specs.Rule.{with_put}
+use Rattle.job_inbox.specs.declared.hand.Hand.{Hand}
 use Rattle.job_inbox.specs.declared.inbox.Inbox.{Inbox}
 use Rattle.job_inbox.specs.declared.inbox.InboxPass.{InboxPass}
 use Rattle.job_inbox.specs.declared.job.Job.{Job}
-use Rattle.node_session.specs.Receiving.{AreOfEach, WasFull, with_job}
+use Rattle.net_link.specs.Datagrams.{LinkState, with_one}
+use Rattle.node_session.specs.Receiving.{AreOfEach, ComesOf, HasReceived, IsIdle, IsNextJob, TellsOf, WasFull, hands_of, serial_of, session_for, with_job}
+use Rattle.node_session.specs.declared.dispatched.Dispatched.{Dispatched}
+use Rattle.node_session.specs.declared.dispatched.Dispatched.TheVariants as dispatched
+use Rattle.node_session.specs.declared.dispatcher.Dispatcher.{Dispatcher}
 
 -- as many passes as inboxes
 pub as_many : (inboxes : List Inbox) (passes : List InboxPass) → AreOfEach inboxes passes → length passes ≡ length inboxes
@@ -76,3 +83,47 @@ pub full_where : (r : Result Unit Job) (inboxes : List Inbox) (passes : List Inb
     → OnErr r (Held (capacity_of inbox) (Shows (made_by inbox) (knowledge pass))) → OnErr r (WasFull inboxes k (known_by passes))
 full_where (Ok done) inboxes passes k inbox pass own lt is also full = full
 full_where (Err back) inboxes passes k inbox pass own lt is also full = full_at inboxes passes k inbox pass own lt is also full
+
+-- a buffer that is written whole begins with what was written
+pub written_front : (n : ℕ) (written rest : List ℕ) → length written ≡ n → take n (written ++ rest) ≡ written
+written_front n written rest is = subst (λ (k : ℕ). take k (written ++ rest) ≡ written) is (front written)
+  where
+    front : (xs : List ℕ) → take (length xs) (xs ++ rest) ≡ xs
+    front [] = refl
+    front (x ∷ xs) = ap (λ (ys : List ℕ). x ∷ ys) (front xs)
+
+-- What a step tells of a datagram that was received, by what came of it: nothing but the buffer was changed before.
+module _ (inboxes : List Inbox) (old between new : Dispatcher) (link_old link_new : LinkState) (clock_old clock_new : ℕ) (from : Addr) (octets heard : List ℕ)
+    (hands : hands_of between ≡ hands_of old) (serial : serial_of between ≡ serial_of old)
+    (link : link_new ≡ record link_old { turns = next_count link_old.turns; received = with_one (record { peer = from; octets = heard }) link_old.received }) where
+  abbrev IsOne : Job → Type 0
+  IsOne job = (job.from ≡ from) × (job.octets ≡ octets)
+
+  has_received : octets ≡ heard → (job : Job) → IsOne job → HasReceived link_old job link_new
+  has_received same job is = link ∙ (λ i. record link_old {
+    turns = next_count link_old.turns;
+    received = with_one (record { peer = sym is.0 i; octets = sym (is.1 ∙ same) i }) link_old.received;
+  })
+
+  next_job : octets ≡ heard → (job : Job) → IsNextJob inboxes IsOne between new job → IsNextJob inboxes (λ j. HasReceived link_old j link_new) old new job
+  next_job same job made = record { is = has_received same job made.is; next = made.next ∙ ap (λ (n : ℕ). next_count n) serial; counted = made.counted }
+
+  still_idle : IsIdle between new → IsIdle old new
+  still_idle idle = (idle.0 ∙ hands, idle.1 ∙ serial)
+
+  pub told_of : (d : Dispatched) → ComesOf inboxes IsOne between new clock_old clock_new d → octets ≡ heard → TellsOf inboxes old new link_old link_new clock_old clock_new d
+  told_of dispatched.Pushed comes same = record {
+    job = comes.job;
+    made = next_job same comes.job comes.made;
+    pushed = comes.pushed ∙ ap (λ (hs : List Hand). with_job (session_for comes.job (length inboxes)) comes.job hs) hands;
+  }
+  told_of dispatched.Full comes same = record {
+    job = comes.job;
+    made = next_job same comes.job comes.made;
+    kept = comes.kept ∙ hands;
+    full = subst (λ (hs : List Hand). WasFull inboxes (session_for comes.job (length inboxes)) hs) hands comes.full;
+  }
+  told_of dispatched.Quiet comes same = absurd comes
+  told_of dispatched.Link comes same = absurd comes
+  told_of dispatched.Clock comes same = ((record { peer = from; octets = heard }, link), comes.0, still_idle comes.1)
+  told_of dispatched.NoMemory comes same = ((record { peer = from; octets = heard }, link), still_idle comes)

@@ -208,6 +208,7 @@ module _ {A : Type 0} (tells : Ghosts A) where
           by_case (inl taken) =
               let says = (says_of _ receipt (subst (λ (x : Outcome). turns.Tells (turns.decided_at (history_at t) t.found.size job.from job.octets) x) o taken.tells)).0 in
               inl (record {
+                whole = taken.whole;
                 act = says.0;
                 decides = says.1;
                 adds = taken.adds ∙ ap (λ d. turns.entries_of (history_at t) job.moment (caller_of session job) (act_decided d)) says.1;

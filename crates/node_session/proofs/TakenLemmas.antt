@@ -1,11 +1,11 @@
 -- What a turn that takes a datagram did, by the book's clauses.
-use Rattle.std.proofs.Common.{◌≡◌, ◌≢◌, ◌⊎◌, inl, inr, ℕ, Bool, true, false, if◌then◌else◌, List, [], ◌++◌, Option, None, Some, refl, sym, ap, subst, ◌∙◌, append_assoc}
-use Rattle.std.proofs.lemmas.Bool.{and_parts}
+use Rattle.std.proofs.Common.{◌≡◌, ◌≢◌, ◌⊎◌, inl, inr, ℕ, ◌&&◌, Bool, true, false, if◌then◌else◌, List, [], ◌++◌, Option, None, Some, refl, sym, ap, subst, ◌∙◌, append_assoc}
+use Rattle.std.proofs.lemmas.Bool.{and_parts, true≢false}
 use Rattle.std.proofs.lemmas.List.{append-nil}
 use Rattle.area_disk.specs.declared.area.Area.{Ghosts}
 use Rattle.gate_journal.specs.Moments.{Told}
 use Rattle.cgf_journal.specs.Trail.{is_closed}
-use Rattle.gw_base.specs.Facts.{WhereTold}
+use Rattle.gw_base.specs.Facts.{Facts, WhereTold}
 use Rattle.area_disk.specs.Disk.{Rose}
 use Rattle.gw_base.specs.Owes.{base}
 use Rattle.gw_base.specs.declared.address.Addr.{Addr}
@@ -18,7 +18,7 @@ use Rattle.gateway_book.specs.Book.{HasCause, IsLeft, fortune_of, size_of, value
 use Rattle.gateway_book.specs.Caller.{IsAnswered, IsCounted, IsFailure, IsTold}
 use Rattle.gateway_book.specs.Calls.{given_at, outcome_at, taken}
 use Rattle.gateway_book.specs.Preparing.{prepared_of}
-use Rattle.gateway_book.specs.Turning.{IsTurn, added_to, drops_of, facts_of, tells_lists}
+use Rattle.gateway_book.specs.Turning.{IsTurn, added_to, drops_of, facts_of, is_gone, tells_lists}
 use Rattle.gateway_book.specs.Value.{BookValue, history_of, readied, recorded_if}
 use Rattle.gateway_book.specs.declared.book.Book.{Book}
 use Rattle.gateway_book.specs.declared.outcome.Outcome.{Outcome}
@@ -50,6 +50,16 @@ recorded_history m now who (Some act) runs =
     history_by (recorded_if m now who (Some act)) false runs
     ∙ sym (append_assoc m.firm m.rest (added_to m now who (Some act)))
     ∙ ap (λ (h : List HistoryEntry). h ++ added_to m now who (Some act)) (sym (history_by m false runs))
+
+-- the history behind which a turn adds is the list that it found, where nothing is torn
+base_whole : (v : BookValue) (f : Facts) (drops : Bool) → f.list ≡ history_of v → f.firm ≡ v.firm → (v.is_broken ≡ false → drops ≡ false)
+    → f.torn ≡ [] → base drops f ≡ f.list
+base_whole v f false list firm runs none = ap (λ (xs : List HistoryEntry). f.list ++ xs) none ∙ append-nil f.list
+base_whole v f true list firm runs none = by_test v.is_broken refl
+  where
+    by_test : (b : Bool) → v.is_broken ≡ b → f.firm ≡ f.list
+    by_test false is = absurd (true≢false (runs is))
+    by_test true is = firm ∙ sym (history_by v true is) ∙ sym list
 
 module _ {A : Type 0} {tells : Ghosts A} (old new : Book A tells) (from : Addr) (octets : List ℕ) (now : ℕ) (who : Caller) where
   abbrev ready : BookValue
@@ -106,6 +116,8 @@ module _ {A : Type 0} {tells : Ghosts A} (old new : Book A tells) (from : Addr) 
         ap (λ b. decided (if b then failure_answer (prepared_of octets) else answer_to (history_of ready) from (prepared_of octets) (size_of old))) runs
         ∙ ap (λ g. decided (answer_to g from (prepared_of octets) (size_of old))) h in
         inl (record {
+          whole = base_whole (value_of old) (facts_of old) drops refl refl
+              (λ still. ap (λ b. b && is_gone (fortune_of old new).reopening) still);
           tells = subst (λ (d : Decided). Tells d result) is (subst (λ (o : Outcome). Tells decision o) (sym left.answer) (told_so (recorded_if ready now who (act_decided decision)) decision));
           adds = added_is ready now who (act_decided decision)
               ∙ ap (λ g. entries_of g now who (act_decided decision)) h

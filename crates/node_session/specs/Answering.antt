@@ -52,8 +52,9 @@ module _ (told : Bool) (session : ℕ) (job : Job) where
     pub adds_none : All (λ t. t.added ≡ []) later
 
   -- The reply is the answer's at the history of the turn, and the turn added the entry that it calls for, behind that
-  -- history.
+  -- history. It is the list that the turn found, but for a book with torn entries.
   pub record IsReplyAt (t : KeptTurn) (reply : List ℕ) : Type 0 where
+    pub whole : t.found.torn ≡ [] → history_at t ≡ t.found.list
     pub act : Option HistoryAct
     pub decides : decided_at (history_at t) t.found.size job.from job.octets ≡ Says reply act
     pub adds : t.added ≡ entries_of (history_at t) job.moment (caller_of session job) act

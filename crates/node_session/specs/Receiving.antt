@@ -9,7 +9,7 @@ use Rattle.job_inbox.specs.declared.hand.Hand.{Hand}
 use Rattle.job_inbox.specs.declared.inbox.Inbox.{Inbox}
 use Rattle.job_inbox.specs.declared.inbox.InboxPass.{InboxPass}
 use Rattle.job_inbox.specs.declared.job.Job.{Job}
-use Rattle.net_link.specs.Datagrams.{LinkState, with_one}
+use Rattle.net_link.specs.Datagrams.{Datagram, LinkState, with_one}
 use Rattle.net_link.specs.Steps.{HasFailed}
 use Rattle.node_session.specs.declared.dispatched.Dispatched.{Dispatched}
 use Rattle.node_session.specs.declared.dispatched.Dispatched.TheVariants as dispatched
@@ -47,6 +47,11 @@ HasReceived old job new = new ≡ record old {
   turns = next_count old.turns;
   received = with_one (record { peer = job.from; octets = job.octets }) old.received;
 }
+
+-- some datagram was received
+abbrev pub HasHeardOne : LinkState → LinkState → Type 0
+HasHeardOne old new = (d : Datagram)
+    × (new ≡ record old { turns = next_count old.turns; received = with_one d old.received })
 
 -- at a moment of the call the k-th inbox was full
 abbrev pub WasFull : List Inbox → ℕ → List Hand → Type 0
@@ -86,8 +91,8 @@ module _ (inboxes : List Inbox) (old new : Dispatcher) (link_old link_new : Link
   TellsOf dispatched.Full = WasRefused inboxes (λ job. HasReceived link_old job link_new) old new
   TellsOf dispatched.Quiet = (link_new ≡ record link_old { turns = next_count link_old.turns }) × IsIdle old new
   TellsOf dispatched.Link = HasFailed link_old link_new × IsIdle old new
-  TellsOf dispatched.Clock = Rose clock_old clock_new × IsIdle old new
-  TellsOf dispatched.NoMemory = IsIdle old new
+  TellsOf dispatched.Clock = HasHeardOne link_old link_new × Rose clock_old clock_new × IsIdle old new
+  TellsOf dispatched.NoMemory = HasHeardOne link_old link_new × IsIdle old new
 
 -- What comes of a datagram that was received.
 module _ (inboxes : List Inbox) (received : Job → Type 0) (old new : Dispatcher) (clock_old clock_new : ℕ) where

@@ -1,5 +1,5 @@
 -- How a gateway ends: its history is made firm and closed, and its writer is given all items.
-use Rattle.std.specs.Prelude.{◌≡◌, ℕ, ◌<◌, ◌^◌, Bool, true, false, List, [], ◌++◌}
+use Rattle.std.specs.Prelude.{◌≡◌, ℕ, ◌<◌, ◌^◌, Bool, true, false, List, [], ◌++◌, length}
 use Rattle.area_disk.specs.declared.area.Area.{Ghosts}
 use Rattle.cdr_shelf.specs.declared.shelf.Shelf as shelf
 use Rattle.gate_journal.specs.Moments.{Told}
@@ -65,11 +65,11 @@ pub record HasTakenAll {F : Type 0} {tells : shelf.Ghosts F} (h : List HistoryEn
     : Type 0 where
   pub ready : is_broken writer ≡ false
   pub at : IsAt writer none_closed (items_of h)
+  pub count : taken_of writer ≡ length (items_of h)
 
 -- A writer was given some items of a history: where there may be more, it has taken some, and else it has taken all.
 pub record HasGivenSome {F : Type 0} {tells : shelf.Ghosts F} (told : Bool) (h : List HistoryEntry)
     (old new : Writer F tells) (more : Bool) : Type 0 where
   pub ready : is_broken new ≡ false
-  pub few : taken_of new < 2 ^ 31
-  pub moves : more ≡ true → taken_of old < taken_of new
+  pub moves : more ≡ true → (taken_of old < taken_of new) × (taken_of new < 2 ^ 31)
   pub all : more ≡ false → WhereTold told (HasTakenAll h new)

@@ -53,8 +53,10 @@ IsCountedAt left NoMemory = ⊤
 -- A datagram of this sender was taken, at this moment and by this caller.
 module _ (from : Addr) (octets : List ℕ) (now : ℕ) (who : Caller) (found left : Facts) (added : List HistoryEntry)
     (outcome : Outcome) where
-  -- It was answered by the definition at this history, and the one entry added that the answer calls for, behind it.
+  -- It was answered by the definition at this history, and the one entry added that the answer calls for, behind it. It
+  -- is the list that was found, but for a book with torn entries.
   pub record IsTakenAt (h : List HistoryEntry) : Type 0 where
+    pub whole : found.torn ≡ [] → h ≡ found.list
     pub tells : Tells (decided_at h found.size from octets) outcome
     pub adds : added ≡ called_for h found.size from octets now who
     pub list : left.list ≡ h ++ added

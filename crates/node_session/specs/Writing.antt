@@ -10,6 +10,7 @@ use Rattle.gateway_book.specs.Items.{items_of}
 use Rattle.file_writer.specs.Holding.{IsBegun}
 use Rattle.file_writer.specs.Writer.{Holds, IsAt, is_broken, settings_in, shelf_of, taken_of}
 use Rattle.file_writer.specs.declared.writer.Writer.{Writer}
+use Rattle.turn_cell.specs.Knowing.{IsLegal, facts_of}
 use Rattle.turn_cell.specs.declared.cell.Pass.{Pass}
 use Rattle.turn_cell.specs.declared.cell.TurnCell.{TurnCell}
 use Rattle.turn_cell.specs.declared.knowing.KeptTurn.{KeptTurn}
@@ -78,15 +79,24 @@ pub record KeepsListing (before after : Knowledge) : Type 0 where
   pub one : length later ≤ 1
   pub adds_none : All (λ t. t.added ≡ []) later
 
--- The last turn of the pass is one that failed: the count of the device rose in it.
-pub record HasFailedIn (before after : Knowledge) : Type 0 where
-  pub turn : KeptTurn
+-- The pass keeps one turn more, this one: it was legal for what the pass knew, and behind it the pass knows the firm
+-- entries, as the turn found them.
+pub record HasListedIn (told : Bool) (before after : Knowledge) (turn : KeptTurn) : Type 0 where
   pub turns : after.turns ≡ before.turns ++ turn ∷ []
+  pub legal : IsLegal told before (facts_of turn.found)
+  pub known : WhereTold told (after.known ≡ (facts_of turn.found).firm)
+
+-- The turn failed: the count of the device rose in it.
+pub record HasFailedIn (told : Bool) (before after : Knowledge) : Type 0 where
+  pub turn : KeptTurn
+  pub listed : HasListedIn told before after turn
   pub rose : Rose turn.found.faults turn.left.faults
 
 module _ {F : Type 0} (tells : Ghosts F) (told : Bool) (before after : Knowledge) (old new : Writer F tells) where
   -- So many items were taken: the lesser of 64 and the firm items past those that were taken before.
   pub record HasTakenItems (n : ℕ) : Type 0 where
+    pub turn : KeptTurn
+    pub listed : HasListedIn told before after turn
     pub count : WhereTold told (n ≡ min most_items (length (items_of after.known) - taken_before old))
     pub taken : taken_of new ≡ taken_before old + n
     pub ready : is_broken new ≡ false
@@ -94,7 +104,7 @@ module _ {F : Type 0} (tells : Ghosts F) (told : Bool) (before after : Knowledge
   -- what each answer of a step tells
   abbrev pub TellsOf : Filing → Type 0
   TellsOf (filing.Took items) = HasTakenItems items
-  TellsOf filing.Area = HasFailedIn before after
+  TellsOf filing.Area = HasFailedIn told before after
   TellsOf filing.Shelf = Rose (tells.faults (shelf_of old)) (tells.faults (shelf_of new))
   TellsOf filing.NoMemory = ⊤
 

@@ -2,12 +2,12 @@
 ghost use Rattle.std.specs.Prelude.{◌≡◌, IsSome, Some};
 
 use crate::filing::Filing;
-use crate::giving::{give, make_ready};
+use crate::giving::{MOST_TAKEN, give, make_ready};
 use crate::listing::Listing;
 use area_disk::Area;
 use cdr_shelf::Shelf;
 use file_writer::{ShelfFault, Writer};
-use gateway_book::laws::filed_records_stay;
+use gateway_book::laws::{a_book_is_within_the_limits, filed_records_stay};
 use gateway_book::{Book, ItemsFault};
 use gw_base::Item;
 use std::alloc::Global;
@@ -53,14 +53,17 @@ impl<F: Shelf> FileActor<F> {
 }
 
 impl<F: Shelf> FileActor<F> {
+    ghost use Rattle.std.specs.Prelude.{◌≤◌};
     ghost use Rattle.gateway_book.specs.Turning.{tells_lists};
     ghost use Rattle.gw_base.specs.Facts.{WhereTold};
-    ghost use Rattle.file_writer.specs.Writer.{settings_in, taken_of};
+    ghost use Rattle.gw_base.specs.Owes.{Begins as BeginsWith};
+    ghost use Rattle.file_writer.specs.Writer.{settings_in, shelf_of, taken_of};
     ghost use Rattle.node_session.specs.Asking.{ListsIn};
     ghost use Rattle.node_session.specs.Writing.{IsActorOf, IsWriterOf, KeepsFiles, KeepsListing, TellsOf, knowledge_of, most_items, writer_of};
 
     /// Takes at most 64 firm items in a turn, those behind the items that its writer has taken, and gives them to the
-    /// writer without a turn. A broken writer recovers first, and begins anew.
+    /// writer without a turn. A broken writer recovers first, and begins anew. A writer takes fewer than 2^31 items, and
+    /// the history of an area that tells what it holds has fewer.
     pub fn step<A: Area, R: Wait>(
         &mut self,
         rt: &R,
@@ -72,6 +75,9 @@ impl<F: Shelf> FileActor<F> {
         ensures own { IsActorOf cell.now self.new }
         ensures writer { IsWriterOf (tells_lists A.Area) (knowledge_of self.new).known (writer_of self.new) }
         ensures settings { settings_in (writer_of self.new) ≡ settings_in (writer_of self.old) }
+        ensures later { F.faults (shelf_of (writer_of self.old)) ≤ F.faults (shelf_of (writer_of self.new)) }
+        ensures grows { WhereTold (tells_lists A.Area)
+            (BeginsWith (knowledge_of self.old).known (knowledge_of self.new).known) }
         ensures turns { KeepsListing (knowledge_of self.old) (knowledge_of self.new) }
         ensures tells { TellsOf F.Shelf (tells_lists A.Area) (knowledge_of self.old) (knowledge_of self.new)
             (writer_of self.old) (writer_of self.new) result }
@@ -80,6 +86,7 @@ impl<F: Shelf> FileActor<F> {
             (writer_of self.old) (writer_of self.new)) }
     {
         filed_records_stay();
+        a_book_is_within_the_limits::<A>();
         let Ok(()) = make_ready(&mut self.writer) else {
             return Filing::Shelf;
         };
@@ -88,6 +95,10 @@ impl<F: Shelf> FileActor<F> {
             Err(ItemsFault::Device) => return Filing::Area,
             Err(ItemsFault::NoMemory) => return Filing::NoMemory,
         };
+        let taken = self.writer.taken().saturating_add(items.len() as u64);
+        if taken > MOST_TAKEN {
+            return Filing::Took { items: 0 };
+        }
         match give(&mut self.writer, &items) {
             Ok(()) => Filing::Took {
                 items: items.len() as u64,

@@ -67,6 +67,8 @@ impl Dispatcher {
         ensures own { AreOfEach inboxes.now (passes_of self.new) }
         ensures tells { TellsOf inboxes.now self.old self.new (L.state link.old) (L.state link.new)
             (C.faults clock.old) (C.faults clock.new) result }
+        ensures later { ((L.state link.old).faults ≤ (L.state link.new).faults)
+            × (C.faults clock.old ≤ C.faults clock.new) }
     {
         match link.receive(self.buffer.as_mut_slice()) {
             Ok(Heard::Datagram { from, length }) => self.dispatch(rt, from, length, clock, inboxes),
@@ -88,6 +90,7 @@ impl Dispatcher {
         requires own { AreOfEach inboxes.now (passes_of self.old) }
         requires count { count ≤ most_octets }
         ensures own { AreOfEach inboxes.now (passes_of self.new) }
+        ensures later { C.faults clock.old ≤ C.faults clock.new }
         ensures comes { ComesOf inboxes.now (λ job. (job.from ≡ from) × (job.octets ≡ take count self.old.buffer.items))
             self.old self.new (C.faults clock.old) (C.faults clock.new) result }
     {

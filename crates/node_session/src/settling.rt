@@ -12,11 +12,11 @@ ghost use Rattle.node_session.specs.Settling.{Grows, HasClosed, HasFirmed, HasGi
 ghost use Rattle.node_session.specs.Writing.{IsWriterOf, KeepsFiles};
 ghost use Rattle.node_session.specs.declared.settling.SettleFault.TheVariants as fault;
 
-use crate::giving::{give, make_ready};
+use crate::giving::{MOST_TAKEN, give, make_ready};
 use area_disk::Area;
 use cdr_shelf::Shelf;
 use file_writer::{ShelfFault, Writer};
-use gateway_book::laws::{a_turn_owes, filed_records_stay};
+use gateway_book::laws::{a_book_is_within_the_limits, a_turn_owes, filed_records_stay};
 use gateway_book::{Book, Counts, ItemsFault, Marked};
 use gw_base::{Caller, Moment};
 use std::alloc::Global;
@@ -38,7 +38,8 @@ pub enum SettleFault {
 /// Ends a gateway: makes its history firm, closes the open files, makes that firm, lets a broken writer recover, and
 /// gives the writer all firm items that it doesn't have. It answers the counts of the history.
 ///
-/// The writer is broken, or it has taken items of this book.
+/// The writer is broken, or it has taken items of this book. It takes fewer than 2^31 items, and the history of an area
+/// that tells what it holds has fewer.
 pub fn settle<A: Area, F: Shelf>(
     alloc: Global,
     book: &mut Book<A>,
@@ -49,7 +50,10 @@ pub fn settle<A: Area, F: Shelf>(
     requires { IsWriterOf (tells_lists A.Area) (value_of book.old).firm writer.old }
     ensures settled { IfOk result (λ counts. HasSettled book.old book.new now who counts) }
     ensures all { Told A.Area → OnOk result (HasTakenAll (value_of book.new).firm writer.new) }
+    ensures grows { Grows book.old book.new }
     ensures stays { Stays book.old book.new × (settings_in writer.new ≡ settings_in writer.old) }
+    ensures later { (A.faults (area_of book.old) ≤ A.faults (area_of book.new))
+        × (F.faults (shelf_of writer.old) ≤ F.faults (shelf_of writer.new)) }
     ensures area { result ≡ Err fault.Area → Rose (A.faults (area_of book.old)) (A.faults (area_of book.new)) }
     ensures shelf { result ≡ Err fault.Shelf → Rose (F.faults (shelf_of writer.old)) (F.faults (shelf_of writer.new)) }
     ensures writer { IsWriterOf (tells_lists A.Area) (value_of book.new).firm writer.new }
@@ -125,16 +129,22 @@ fn give_some<A: Area, F: Shelf>(
         writer.new more) }
     ensures still { OnOk result (F.faults (shelf_of writer.new) ≡ F.faults (shelf_of writer.old)) }
     ensures settings { settings_in writer.new ≡ settings_in writer.old }
+    ensures later { F.faults (shelf_of writer.old) ≤ F.faults (shelf_of writer.new) }
     ensures area { result ≡ Err fault.Area → Rose (A.faults (area_of book.old)) (A.faults (area_of book.new)) }
     ensures shelf { result ≡ Err fault.Shelf → Rose (F.faults (shelf_of writer.old)) (F.faults (shelf_of writer.new)) }
     ensures writer { IsWriterOf (tells_lists A.Area) (value_of book.old).firm writer.new }
     ensures files { WhereTold (tells_lists A.Area) (KeepsFiles F.Shelf (value_of book.old).firm writer.old writer.new) }
 {
+    a_book_is_within_the_limits::<A>();
     let items = match book.items(alloc, writer.taken(), MOST_ITEMS) {
         Ok(items) => items,
         Err(ItemsFault::Device) => return Err(SettleFault::Area),
         Err(ItemsFault::NoMemory) => return Err(SettleFault::NoMemory),
     };
+    let taken = writer.taken().saturating_add(items.len() as u64);
+    if taken > MOST_TAKEN {
+        return Ok(false);
+    }
     match give(writer, &items) {
         Ok(()) => Ok(items.len() == MOST_ITEMS as usize),
         Err(ShelfFault::Device) => Err(SettleFault::Shelf),
@@ -152,6 +162,7 @@ fn give_all<A: Area, F: Shelf>(
     ensures same { IsUnchanged book.old book.new × (A.faults (area_of book.old) ≤ A.faults (area_of book.new)) }
     ensures all { Told A.Area → OnOk result (HasTakenAll (value_of book.old).firm writer.new) }
     ensures settings { settings_in writer.new ≡ settings_in writer.old }
+    ensures later { F.faults (shelf_of writer.old) ≤ F.faults (shelf_of writer.new) }
     ensures area { result ≡ Err fault.Area → Rose (A.faults (area_of book.old)) (A.faults (area_of book.new)) }
     ensures shelf { result ≡ Err fault.Shelf → Rose (F.faults (shelf_of writer.old)) (F.faults (shelf_of writer.new)) }
     ensures writer { IsWriterOf (tells_lists A.Area) (value_of book.old).firm writer.new }

@@ -28,3 +28,9 @@ returns-in-Err-clause-shelf g c = λ is taken at. (c.in-Err.ensures.moves _ take
 
 pub returns-in-Ok-clause-still : goal.returns-in-Ok-clause-still
 returns-in-Ok-clause-still g c = λ taken at. (c.in-Ok.ensures.moves _ taken at).makes.faults.still refl
+
+pub returns-in-Ok-clause-later : goal.returns-in-Ok-clause-later
+returns-in-Ok-clause-later g c = λ taken at. (c.in-Ok.ensures.moves _ taken at).makes.faults.later
+
+pub returns-in-Err-clause-later : goal.returns-in-Err-clause-later
+returns-in-Err-clause-later g c = λ taken at. (c.in-Err.ensures.moves _ taken at).makes.faults.later

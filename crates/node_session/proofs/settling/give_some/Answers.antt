@@ -1,10 +1,10 @@
 use Rattle.std.proofs.Common.{◌≡◌, ℕ, Bool, arith, ap, length, subst, ◌∙◌}
-use Rattle.std.proofs.lemmas.Bool.{and_parts}
+use Rattle.std.proofs.lemmas.Bool.{and_parts, false≢true}
 use Rattle.gateway_book.specs.Book.{value_of}
 use Rattle.gateway_book.specs.Turning.{tells_lists}
 use Rattle.gateway_book.specs.Items.{items_between}
-use Rattle.node_session.specs.Writing.{AreNext, IsWriterOf}
-use Rattle.node_session.proofs.GivenLemmas.{given_some, next_ones}
+use Rattle.node_session.specs.Writing.{AreNext, HasTakenOf, IsWriterOf}
+use Rattle.node_session.proofs.GivenLemmas.{given_some, next_ones, room_within}
 use Rattle.node_session.proofs.settling.give_some.Goals as goal
 
 pub returns-in-Ok-give-clause-writer : goal.returns-in-Ok-give-clause-writer
@@ -58,11 +58,34 @@ returns-in-Ok-give-clause-some g c =
     (subst (λ (n : ℕ). AreNext (tells_lists g.A.Area) (value_of c.args.book.now).firm n c.deref.result.now) c.taken.ensures
     (next_ones (tells_lists g.A.Area) (value_of c.args.book.now).firm c.taken.result 4096 c.deref.result.now
     (λ told. c.deref.ensures.value ∙ c.in-Ok.ensures.items (and_parts _ _ told)))) in
-    given_some (tells_lists g.A.Area) (value_of c.args.book.now).firm c.args.writer.now c.give.new.writer 4096 c.deref.result.now c.len.result
-    (let n = c.len.ensures in let v = ap (λ xs. length xs) c.deref.ensures.value in omega (arith, n, v)) (λ told. subst (λ (n : ℕ). c.deref.result.now ≡ items_between n 4096 (value_of c.args.book.now).firm) c.taken.ensures
+    given_some (tells_lists g.A.Area) (value_of c.args.book.now).firm c.args.writer.now c.give.new.writer 4096 c.deref.result.now c.len-in-Ok-give.result
+    (let n = c.len-in-Ok-give.ensures in let v = ap (λ xs. length xs) c.deref.ensures.value in omega (arith, n, v)) (λ told. subst (λ (n : ℕ). c.deref.result.now ≡ items_between n 4096 (value_of c.args.book.now).firm) c.taken.ensures
     (c.deref.ensures.value ∙ c.in-Ok.ensures.items (and_parts _ _ told)))
     c.in-Ok-give.ensures.count.0 c.in-Ok-give.ensures.count.1 c.in-Ok-give.ensures.count.2 writer (omega arith)
 
 pub returns-in-Ok-give-clause-still : goal.returns-in-Ok-give-clause-still
 returns-in-Ok-give-clause-still g c =
     let w = c.requires.writer c.requires.ready in c.in-Ok-give.ensures.still w.items w.at
+
+pub returns-in-Ok-give-clause-later : goal.returns-in-Ok-give-clause-later
+returns-in-Ok-give-clause-later g c = let w = c.requires.writer c.requires.ready in c.give.ensures.later w.items w.at
+
+pub returns-in-Err-Device-give-clause-later : goal.returns-in-Err-Device-give-clause-later
+returns-in-Err-Device-give-clause-later g c = let w = c.requires.writer c.requires.ready in c.give.ensures.later w.items w.at
+
+pub returns-clause-later : goal.returns-clause-later
+returns-clause-later g c = let w = c.requires.writer c.requires.ready in c.give.ensures.later w.items w.at
+
+pub returns-then-taken-gt-MOST_TAKEN-clause-some : goal.returns-then-taken-gt-MOST_TAKEN-clause-some
+returns-then-taken-gt-MOST_TAKEN-clause-some g c = record {
+  ready = c.requires.ready;
+  moves = λ more. absurd (false≢true more);
+  all = λ less told.
+      let both = and_parts _ _ told in
+      let few = room_within (value_of c.args.book.now).firm c.args.writer.now 4096 c.in-Ok.items.items
+      (subst (λ (b : Bool). HasTakenOf b (value_of c.args.book.now).firm c.args.writer.now) told (c.requires.writer c.requires.ready))
+      (◌∙◌ {b = items_between c.taken.result 4096 (value_of c.args.book.now).firm} (c.in-Ok.ensures.items both)
+      (ap (λ (n : ℕ). items_between n 4096 (value_of c.args.book.now).firm) c.taken.ensures))
+      (omega (arith, c.a_book_is_within_the_limits.ensures.items both c.args.book.now, c.a_book_is_within_the_limits.ensures.short c.args.book.now)) in
+      absurd (omega (arith, few, c.if-taken-gt-MOST_TAKEN.true));
+}

@@ -1,5 +1,5 @@
 use Rattle.std.proofs.Common.{rules}
-use Rattle.node_session.proofs.EndedLemmas.{all_same, files_same, rose_from, settled_stays, stays_then, writer_on, writer_same}
+use Rattle.node_session.proofs.EndedLemmas.{all_same, files_same, grows_same, rose_from, settled_stays, stays_then, writer_on, writer_same}
 use Rattle.node_session.proofs.settling.settle.Goals as goal
 
 pub returns-in_err-end-clause-writer : goal.returns-in_err-end-clause-writer
@@ -44,3 +44,10 @@ returns-clause-all g c = λ told. all_same c.end.new.book c.give_all.new.book c.
 
 pub returns-in_err-give_all-clause-area : goal.returns-in_err-give_all-clause-area
 returns-in_err-give_all-clause-area g c = λ is. rose_from _ _ _ c.end.ensures.later (c.give_all.ensures.area (search rules))
+
+pub returns-in_err-give_all-clause-grows : goal.returns-in_err-give_all-clause-grows
+returns-in_err-give_all-clause-grows g c =
+    grows_same c.args.book.now c.end.new.book c.give_all.new.book c.end.ensures.grows c.give_all.ensures.same.0
+
+pub returns-clause-grows : goal.returns-clause-grows
+returns-clause-grows g c = grows_same c.args.book.now c.end.new.book c.give_all.new.book c.end.ensures.grows c.give_all.ensures.same.0

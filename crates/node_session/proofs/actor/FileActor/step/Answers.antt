@@ -1,10 +1,10 @@
-use Rattle.std.proofs.Common.{Err, rules, ap, sym, ◌∙◌, refl, subst}
+use Rattle.std.proofs.Common.{Err, arith, rules, ap, sym, ◌∙◌, refl, subst}
 use Rattle.gateway_book.specs.Turning.{tells_lists}
 use Rattle.area_disk.specs.Disk.{Rose}
 use Rattle.file_writer.specs.Writer.{shelf_of}
 use Rattle.file_writer.specs.declared.writer.Writer.{Writer}
 use Rattle.node_session.specs.Writing.{HoldsFilesOf, IsWriterOf, knowledge_of, writer_of}
-use Rattle.node_session.proofs.ActorLemmas.{failed_in, keeps_one, listed_count, listed_next, listed_writer}
+use Rattle.node_session.proofs.ActorLemmas.{failed_in, keeps_one, known_grows, later_by, listed_count, listed_in, listed_next, listed_room, listed_writer}
 use Rattle.node_session.proofs.actor.FileActor.step.Goals as goal
 
 pub returns-in-Err-Device-clause-writer : goal.returns-in-Err-Device-clause-writer
@@ -105,6 +105,8 @@ returns-clause-files g c = λ told it_is all begins holds.
 pub returns-in-Ok-give-clause-tells : goal.returns-in-Ok-give-clause-tells
 returns-in-Ok-give-clause-tells g c =
     record {
+      turn = _;
+      listed = listed_in g.A.Area _ _ (λ items. items.items) (knowledge_of c.args.self.now) (knowledge_of c.list.new.self) c.list.result c.list.ensures.lists;
       count = listed_count c.filed_records_stay.ensures.items g.A.Area _ (λ items. items.items) (knowledge_of c.args.self.now) (knowledge_of c.list.new.self) c.list.result
           c.list.ensures.lists c.make_ready.new.writer (writer_of c.list.new.self) c.list.ensures.rest
           (c.make_ready.ensures.writer (tells_lists g.A.Area) (knowledge_of c.args.self.now).known c.requires.writer) _ c.in-Ok-list.is c.deref.result.now c.deref.ensures.value
@@ -121,3 +123,76 @@ returns-in-Err-Device-give-clause-tells g c =
     subst (λ n. Rose n (g.F.Shelf.faults (shelf_of c.give.new.writer)))
     (ap (λ (w : Writer _ _). g.F.Shelf.faults (shelf_of w)) c.list.ensures.rest ∙ c.in-Ok.ensures.still)
     (c.give.ensures.shelf (c.in-Err-Device-give.is ∙ ap (λ f. Err f) c.in-Err-Device-give.field-0-is) (writer (search rules)).items (writer (search rules)).at)
+
+pub returns-in-Err-Device-clause-grows : goal.returns-in-Err-Device-clause-grows
+returns-in-Err-Device-clause-grows g c =
+    known_grows g.A.Area _ _ (λ items. items.items) (knowledge_of c.args.self.now) (knowledge_of c.list.new.self) c.list.result c.list.ensures.lists
+
+pub returns-in-Err-NoMemory-clause-grows : goal.returns-in-Err-NoMemory-clause-grows
+returns-in-Err-NoMemory-clause-grows g c =
+    known_grows g.A.Area _ _ (λ items. items.items) (knowledge_of c.args.self.now) (knowledge_of c.list.new.self) c.list.result c.list.ensures.lists
+
+pub returns-in-Ok-give-clause-grows : goal.returns-in-Ok-give-clause-grows
+returns-in-Ok-give-clause-grows g c =
+    known_grows g.A.Area _ _ (λ items. items.items) (knowledge_of c.args.self.now) (knowledge_of c.list.new.self) c.list.result c.list.ensures.lists
+
+pub returns-in-Err-Device-give-clause-grows : goal.returns-in-Err-Device-give-clause-grows
+returns-in-Err-Device-give-clause-grows g c =
+    known_grows g.A.Area _ _ (λ items. items.items) (knowledge_of c.args.self.now) (knowledge_of c.list.new.self) c.list.result c.list.ensures.lists
+
+pub returns-clause-grows : goal.returns-clause-grows
+returns-clause-grows g c =
+    known_grows g.A.Area _ _ (λ items. items.items) (knowledge_of c.args.self.now) (knowledge_of c.list.new.self) c.list.result c.list.ensures.lists
+
+pub returns-in-Ok-give-clause-later : goal.returns-in-Ok-give-clause-later
+returns-in-Ok-give-clause-later g c =
+    let writer = listed_writer c.filed_records_stay.ensures.items g.A.Area _ (λ items. items.items) (knowledge_of c.args.self.now) (knowledge_of c.list.new.self) c.list.result
+    c.list.ensures.lists c.make_ready.new.writer (writer_of c.list.new.self) c.list.ensures.rest
+    (c.make_ready.ensures.writer (tells_lists g.A.Area) (knowledge_of c.args.self.now).known c.requires.writer) (search rules) in
+    later_by _ _ _ _ c.make_ready.ensures.later (ap (λ (w : Writer _ _). g.F.Shelf.faults (shelf_of w)) c.list.ensures.rest)
+    (c.give.ensures.later writer.items writer.at)
+
+pub returns-in-Err-Device-give-clause-later : goal.returns-in-Err-Device-give-clause-later
+returns-in-Err-Device-give-clause-later g c =
+    let writer = listed_writer c.filed_records_stay.ensures.items g.A.Area _ (λ items. items.items) (knowledge_of c.args.self.now) (knowledge_of c.list.new.self) c.list.result
+    c.list.ensures.lists c.make_ready.new.writer (writer_of c.list.new.self) c.list.ensures.rest
+    (c.make_ready.ensures.writer (tells_lists g.A.Area) (knowledge_of c.args.self.now).known c.requires.writer) (search rules) in
+    later_by _ _ _ _ c.make_ready.ensures.later (ap (λ (w : Writer _ _). g.F.Shelf.faults (shelf_of w)) c.list.ensures.rest)
+    (c.give.ensures.later writer.items writer.at)
+
+pub returns-clause-later : goal.returns-clause-later
+returns-clause-later g c =
+    let writer = listed_writer c.filed_records_stay.ensures.items g.A.Area _ (λ items. items.items) (knowledge_of c.args.self.now) (knowledge_of c.list.new.self) c.list.result
+    c.list.ensures.lists c.make_ready.new.writer (writer_of c.list.new.self) c.list.ensures.rest
+    (c.make_ready.ensures.writer (tells_lists g.A.Area) (knowledge_of c.args.self.now).known c.requires.writer) (search rules) in
+    later_by _ _ _ _ c.make_ready.ensures.later (ap (λ (w : Writer _ _). g.F.Shelf.faults (shelf_of w)) c.list.ensures.rest)
+    (c.give.ensures.later writer.items writer.at)
+
+pub returns-then-taken-gt-MOST_TAKEN-clause-writer : goal.returns-then-taken-gt-MOST_TAKEN-clause-writer
+returns-then-taken-gt-MOST_TAKEN-clause-writer g c =
+    listed_writer c.filed_records_stay.ensures.items g.A.Area _ (λ items. items.items) (knowledge_of c.args.self.now) (knowledge_of c.list.new.self) c.list.result
+    c.list.ensures.lists c.make_ready.new.writer (writer_of c.list.new.self) c.list.ensures.rest
+    (c.make_ready.ensures.writer (tells_lists g.A.Area) (knowledge_of c.args.self.now).known c.requires.writer)
+
+pub returns-then-taken-gt-MOST_TAKEN-clause-turns : goal.returns-then-taken-gt-MOST_TAKEN-clause-turns
+returns-then-taken-gt-MOST_TAKEN-clause-turns g c =
+    keeps_one g.A.Area _ _ (λ items. items.items) (knowledge_of c.args.self.now) (knowledge_of c.list.new.self) c.list.result c.list.ensures.lists
+
+pub returns-then-taken-gt-MOST_TAKEN-clause-grows : goal.returns-then-taken-gt-MOST_TAKEN-clause-grows
+returns-then-taken-gt-MOST_TAKEN-clause-grows g c =
+    known_grows g.A.Area _ _ (λ items. items.items) (knowledge_of c.args.self.now) (knowledge_of c.list.new.self) c.list.result c.list.ensures.lists
+
+pub returns-then-taken-gt-MOST_TAKEN-clause-tells : goal.returns-then-taken-gt-MOST_TAKEN-clause-tells
+returns-then-taken-gt-MOST_TAKEN-clause-tells g c =
+    let few = listed_room c.filed_records_stay.ensures.items g.A.Area _ (λ items. items.items) (knowledge_of c.args.self.now) (knowledge_of c.list.new.self) c.list.result
+    c.list.ensures.lists c.make_ready.new.writer (writer_of c.list.new.self) c.list.ensures.rest
+    (c.make_ready.ensures.writer (tells_lists g.A.Area) (knowledge_of c.args.self.now).known c.requires.writer)
+    (λ book told. omega (arith, c.a_book_is_within_the_limits.ensures.items told book, c.a_book_is_within_the_limits.ensures.short book))
+    _ c.in-Ok-list.is c.in-Ok-list.items.items refl refl (search rules) in
+    record {
+      turn = _;
+      listed = listed_in g.A.Area _ _ (λ items. items.items) (knowledge_of c.args.self.now) (knowledge_of c.list.new.self) c.list.result c.list.ensures.lists;
+      count = λ told. absurd (omega (arith, few told, c.if-taken-gt-MOST_TAKEN.true));
+      taken = search rules;
+      ready = search rules;
+    }
