@@ -1,0 +1,302 @@
+-- What each who serves has done at first: nothing.
+use Rattle.std.proofs.Common.{◌≡◌, ℕ, ◌<◌, ◌^◌, Bool, false, List, [], ◌∷◌, length, Option, None, Some, refl, sym, ap, subst, ◌∙◌, arith}
+use Rattle.std.specs.Prelude.{All, IfSome, map}
+use Rattle.std.proofs.lemmas.List.Elements.{All-cons, All-head, All-nil, All-tail}
+use Rattle.cdr_shelf.specs.declared.shelf.Shelf as shelves
+use Rattle.file_writer.specs.declared.writer.Writer.{Writer}
+use Rattle.gw_base.specs.Facts.{Facts}
+use Rattle.gw_base.specs.declared.address.Addr.{Addr}
+use Rattle.job_inbox.specs.Inbox as inboxes
+use Rattle.job_inbox.specs.Rule.{idle}
+use Rattle.job_inbox.specs.declared.hand.Hand.{Hand}
+use Rattle.job_inbox.specs.declared.inbox.Inbox.{Inbox}
+use Rattle.job_inbox.specs.declared.inbox.InboxPass.{InboxPass}
+use Rattle.net_link.specs.Datagrams.{Datagram, IsNewAt}
+use Rattle.net_link.specs.declared.link.Link as paths
+use Rattle.node_session.specs.Answering.{AddsAnswers, IsAnswerTo}
+use Rattle.node_session.specs.Passes.{IsOf, known_by, pass_of}
+use Rattle.node_session.specs.Receiving.{AreOfEach, hands_of}
+use Rattle.node_session.specs.Writing as writing
+use Rattle.node_session.specs.declared.actor.FileActor.{FileActor}
+use Rattle.turn_cell.specs.Cell as cells
+use Rattle.turn_cell.specs.Knowing.{newcomer, newcomers}
+use Rattle.turn_cell.specs.declared.cell.Pass.{Pass}
+use Rattle.turn_cell.specs.declared.cell.TurnCell.{TurnCell}
+use Rattle.turn_cell.specs.declared.knowing.KeptTurn.{KeptTurn}
+use Rattle.turn_cell.specs.declared.knowing.Knowledge.{Knowledge}
+use Rattle.session_run.specs.Desks.{AreRepliesTo, HasWorked, IsReplyTo, IsSince, began_at, hand_at, known_at, link_at}
+use Rattle.session_run.specs.Ending.{AreNumbered, IsSeated, known_among, links_of, passes_among}
+use Rattle.session_run.specs.Filing.{HasWritten}
+use Rattle.session_run.specs.Reception.{CountsTurns, HasDispatched, IfTurns, PushedOfTold, link_of}
+use Rattle.session_run.specs.Running.{IsFew}
+use Rattle.session_run.specs.Team.{AreDesksOf, HaveServed, IsReady, IsTeamOf}
+use Rattle.session_run.specs.declared.desk.Desk.{Desk}
+use Rattle.session_run.specs.declared.reception.Reception.{Reception}
+use Rattle.session_run.specs.declared.round.Team.{Team}
+use Rattle.session_run.specs.declared.running.Seats.{Seats}
+use Rattle.session_run.specs.declared.until.Until.{Until}
+use Rattle.session_run.specs.declared.until.Until.TheVariants as until
+use Rattle.session_run.proofs.ReceptionLemmas.{pushed_idle}
+
+none_sent : (jobs : List _) (k : Knowledge) (sent : Option (List Datagram)) → IfSome sent (λ list. list ≡ []) → AreRepliesTo jobs k sent
+none_sent jobs k None is = tt
+none_sent jobs k (Some list) is = subst (All (IsReplyTo jobs k)) (sym is) (All-nil (IsReplyTo jobs k))
+
+none_added : (jobs : List _) (k : Knowledge) → k.turns ≡ [] → AddsAnswers jobs k
+none_added jobs k none = subst (λ (ts : List KeptTurn). All (IsAnswerTo k.size k.number jobs) ts) (sym none) (All-nil (IsAnswerTo k.size k.number jobs))
+
+module _ {L : Type 0} (tells : paths.Ghosts L) (told : Bool) (at : Addr) (start : Facts) where
+  -- a session that has taken no job
+  pub desk_begun : (n : ℕ) (desk : Desk L) → known_at desk ≡ newcomer n start → hand_at desk ≡ idle → IsNewAt at (link_at tells desk)
+      → desk.stop ≡ None → HasWorked tells told at (began_at start n) desk
+  desk_begun n desk knows hand new runs = record {
+    number = ap (λ (k : Knowledge). k.number) knows;
+    size = ap (λ (k : Knowledge). k.size) knows;
+    faults = ap (λ (k : Knowledge). k.faults) knows;
+    since = subst (λ (ts : List KeptTurn). All (IsSince start.faults) ts) (sym (ap (λ (k : Knowledge). k.turns) knows)) (All-nil (IsSince start.faults));
+    none_put = ap (λ (h : Hand). h.put) hand;
+    answers = λ y. none_added (hand_at desk).taken (known_at desk) (ap (λ (k : Knowledge). k.turns) knows);
+    replies = λ y. none_sent (hand_at desk).taken (known_at desk) (link_at tells desk).sent new.sent;
+    link = record { address = new.at; turns = new.turns; received = new.received };
+    cause = λ is. absurd (cc (sym runs ∙ is));
+    no_clock = λ is. cc (sym runs ∙ is);
+  }
+
+  all_idle : (hands : List Hand) (told' : Option (List Datagram)) → hands ≡ idle ∷ idle ∷ idle ∷ idle ∷ [] → All (PushedOfTold told') hands
+  all_idle hands told' is = subst (All (PushedOfTold told')) (sym is)
+      (All-cons (PushedOfTold told') idle (idle ∷ idle ∷ idle ∷ []) (pushed_idle told')
+      (All-cons (PushedOfTold told') idle (idle ∷ idle ∷ []) (pushed_idle told')
+      (All-cons (PushedOfTold told') idle (idle ∷ []) (pushed_idle told')
+      (All-cons (PushedOfTold told') idle [] (pushed_idle told') (All-nil (PushedOfTold told'))))))
+
+  -- a reception that has received nothing
+  pub reception_begun : (reception : Reception L) → hands_of reception.dispatcher ≡ idle ∷ idle ∷ idle ∷ idle ∷ []
+      → IsNewAt at (link_of tells reception) → reception.stop ≡ None → HasDispatched tells at reception
+  reception_begun reception hands new runs = record {
+    pushed = all_idle (hands_of reception.dispatcher) (link_of tells reception).received hands;
+    address = new.at;
+    unsent = new.sent;
+    cause = λ is. absurd (cc (sym runs ∙ is));
+  }
+
+counts_begun : {L : Type 0} (tells : paths.Ghosts L) (at : Addr) (reception : Reception L) (n : ℕ) → n < 2 ^ 63 → reception.left ≡ n → reception.is_over ≡ false
+    → IsNewAt at (link_of tells reception) → CountsTurns tells n reception
+counts_begun tells at reception n few left over new = record {
+  few = few;
+  turns = λ none. let a = new.turns in omega (arith, a, left);
+  over = λ is. absurd (cc (sym over ∙ is));
+}
+
+-- who writes, before its first step
+pub writer_begun : {F : Type 0} (files : shelves.Ghosts F) (told : Bool) (start : Facts) (n : ℕ) (actor : FileActor F files) → writing.knowledge_of actor ≡ newcomer n start
+    → IsReady told actor → HasWritten files told (began_at start n) (writing.writer_of actor) actor
+writer_begun files told start n actor knows ready = record {
+  number = ap (λ (k : Knowledge). k.number) knows;
+  size = ap (λ (k : Knowledge). k.size) knows;
+  adds = none_added [] (writing.knowledge_of actor) (ap (λ (k : Knowledge). k.turns) knows);
+  keeps = record {
+    settings = refl;
+    later = omega arith;
+    taken = ready;
+    files = λ y shown all begins holds. holds;
+  };
+}
+
+abbrev head_or : {X : Type 0} → X → List X → X
+head_or d [] = d
+head_or d (x ∷ xs) = x
+
+abbrev tail_or : {X : Type 0} → List X → List X
+tail_or [] = []
+tail_or (x ∷ xs) = xs
+
+same_head : {X : Type 0} (x y : X) (xs ys : List X) → x ∷ xs ≡ y ∷ ys → x ≡ y
+same_head x y xs ys is = ap (λ l. head_or x l) is
+
+same_tail : {X : Type 0} (x y : X) (xs ys : List X) → x ∷ xs ≡ y ∷ ys → xs ≡ ys
+same_tail x y xs ys is = ap (λ l. tail_or l) is
+
+-- what is known by passes that some have
+known_as : (passes : List Pass) (some : List (Option Pass)) → some ≡ map Some passes → map known_by some ≡ cells.known_by passes
+known_as passes some is = ap (λ (l : List (Option Pass)). map known_by l) is ∙ known_some passes
+  where
+    known_some : (ps : List Pass) → map known_by (map Some ps) ≡ cells.known_by ps
+    known_some [] = refl
+    known_some (p ∷ ps) = ap (λ (l : List Knowledge). cells.knowledge p ∷ l) (known_some ps)
+
+module _ {F L : Type 0} (files : shelves.Ghosts F) (tells : paths.Ghosts L) (told : Bool) (at : Addr) (start : Facts)
+    (passes : List Pass) (links : List L) (pops : List InboxPass) (writer : Writer F files) (seats : Seats F L files)
+    (seated : IsSeated passes links pops writer seats) where
+  abbrev team : Team F L files
+  team = seats.team
+
+  abbrev IsNew : L → Type 0
+  IsNew link = IsNewAt at (tells.state link)
+
+  abbrev Runs : Desk L → Type 0
+  Runs desk = desk.stop ≡ None
+
+  -- the links and the desks after the first ones
+  abbrev links3 : List L
+  links3 = team.second.0.link ∷ team.second.1.link ∷ []
+
+  abbrev links2 : List L
+  links2 = team.first.1.link ∷ links3
+
+  abbrev links1 : List L
+  links1 = team.first.0.link ∷ links2
+
+  abbrev desks2 : List (Desk L)
+  desks2 = team.second.0 ∷ team.second.1 ∷ []
+
+  abbrev desks1 : List (Desk L)
+  desks1 = team.first.1 ∷ desks2
+
+  module _ (knows : cells.known_by passes ≡ newcomers start 5) (hands : inboxes.known_by pops ≡ idle ∷ idle ∷ idle ∷ idle ∷ [])
+      (new : All IsNew links) (none_pushed : hands_of seats.reception.dispatcher ≡ idle ∷ idle ∷ idle ∷ idle ∷ [])
+      (runs : seats.reception.stop ≡ None) (ready : writing.IsWriterOf told start.firm writer) where
+    known : known_among team ≡ newcomer 0 start ∷ newcomer 1 start ∷ newcomer 2 start ∷ newcomer 3 start ∷ newcomer 4 start ∷ []
+    known = known_as passes (passes_among team) seated.has ∙ knows
+
+    known1 : known_at team.first.1 ∷ known_at team.second.0 ∷ known_at team.second.1 ∷ writing.knowledge_of team.actor ∷ []
+        ≡ newcomer 1 start ∷ newcomer 2 start ∷ newcomer 3 start ∷ newcomer 4 start ∷ []
+    known1 = ap (λ (l : List Knowledge). tail_or l) known
+
+    known2 : known_at team.second.0 ∷ known_at team.second.1 ∷ writing.knowledge_of team.actor ∷ [] ≡ newcomer 2 start ∷ newcomer 3 start ∷ newcomer 4 start ∷ []
+    known2 = ap (λ (l : List Knowledge). tail_or l) known1
+
+    known3 : known_at team.second.1 ∷ writing.knowledge_of team.actor ∷ [] ≡ newcomer 3 start ∷ newcomer 4 start ∷ []
+    known3 = ap (λ (l : List Knowledge). tail_or l) known2
+
+    known4 : writing.knowledge_of team.actor ∷ [] ≡ newcomer 4 start ∷ []
+    known4 = ap (λ (l : List Knowledge). tail_or l) known3
+
+    taken : hand_at team.first.0 ∷ hand_at team.first.1 ∷ hand_at team.second.0 ∷ hand_at team.second.1 ∷ [] ≡ idle ∷ idle ∷ idle ∷ idle ∷ []
+    taken = ap inboxes.known_by seated.takes ∙ hands
+
+    taken1 : hand_at team.first.1 ∷ hand_at team.second.0 ∷ hand_at team.second.1 ∷ [] ≡ idle ∷ idle ∷ idle ∷ []
+    taken1 = ap (λ (l : List Hand). tail_or l) taken
+
+    taken2 : hand_at team.second.0 ∷ hand_at team.second.1 ∷ [] ≡ idle ∷ idle ∷ []
+    taken2 = ap (λ (l : List Hand). tail_or l) taken1
+
+    taken3 : hand_at team.second.1 ∷ [] ≡ idle ∷ []
+    taken3 = ap (λ (l : List Hand). tail_or l) taken2
+
+    new0 : All IsNew (links_of seats.reception team)
+    new0 = subst (All IsNew) (sym seated.sends) new
+
+    new1 : All IsNew links1
+    new1 = All-tail IsNew seats.reception.link links1 new0
+
+    new2 : All IsNew links2
+    new2 = All-tail IsNew team.first.0.link links2 new1
+
+    new3 : All IsNew links3
+    new3 = All-tail IsNew team.first.1.link links3 new2
+
+    new4 : All IsNew (team.second.1.link ∷ [])
+    new4 = All-tail IsNew team.second.0.link (team.second.1.link ∷ []) new3
+
+    runs1 : All Runs desks1
+    runs1 = All-tail Runs team.first.0 desks1 seated.runs
+
+    runs2 : All Runs desks2
+    runs2 = All-tail Runs team.first.1 desks2 runs1
+
+    runs3 : All Runs (team.second.1 ∷ [])
+    runs3 = All-tail Runs team.second.0 (team.second.1 ∷ []) runs2
+
+    knows_firm : writing.knowledge_of team.actor ≡ newcomer 4 start
+    knows_firm = same_head (writing.knowledge_of team.actor) (newcomer 4 start) [] [] known4
+
+    pub is_ready : IsReady told team.actor
+    is_ready = subst (λ (w : Writer F files). writing.IsWriterOf told (writing.knowledge_of team.actor).known w) (sym seated.writes)
+        (subst (λ (k : Knowledge). writing.IsWriterOf told k.known writer) (sym knows_firm) ready)
+
+    pub all_begun : HaveServed files tells told at start writer seats.reception team
+    all_begun = record {
+      dispatched = reception_begun tells told at start seats.reception none_pushed (All-head IsNew seats.reception.link links1 new0) runs;
+      one = desk_begun tells told at start 0 team.first.0 (same_head (known_at team.first.0) (newcomer 0 start) _ _ known)
+          (same_head (hand_at team.first.0) idle _ _ taken) (All-head IsNew team.first.0.link links2 new1) (All-head Runs team.first.0 desks1 seated.runs);
+      two = desk_begun tells told at start 1 team.first.1 (same_head (known_at team.first.1) (newcomer 1 start) _ _ known1)
+          (same_head (hand_at team.first.1) idle _ _ taken1) (All-head IsNew team.first.1.link links3 new2) (All-head Runs team.first.1 desks2 runs1);
+      three = desk_begun tells told at start 2 team.second.0 (same_head (known_at team.second.0) (newcomer 2 start) _ _ known2)
+          (same_head (hand_at team.second.0) idle _ _ taken2) (All-head IsNew team.second.0.link (team.second.1.link ∷ []) new3) (All-head Runs team.second.0 (team.second.1 ∷ []) runs2);
+      four = desk_begun tells told at start 3 team.second.1 (same_head (known_at team.second.1) (newcomer 3 start) _ _ known3)
+          (same_head (hand_at team.second.1) idle _ _ taken3) (All-head IsNew team.second.1.link [] new4) (All-head Runs team.second.1 [] runs3);
+      written = subst (λ (w : Writer F files). HasWritten files told (began_at start 4) w team.actor) seated.writes
+          (writer_begun files told start 4 team.actor knows_firm is_ready);
+    }
+
+-- each has a pass of the cell
+module _ {V : Type 0} (cell : TurnCell V) where
+  all_of : (passes : List Pass) → cells.ArePassesOf cell passes → All (IsOf cell) (map Some passes)
+  all_of [] all = All-nil (IsOf cell)
+  all_of (p ∷ ps) all = All-cons (IsOf cell) (Some p) (map Some ps) (All-head (cells.IsPassOf cell) p ps all) (all_of ps (All-tail (cells.IsPassOf cell) p ps all))
+
+  desks_of : {L : Type 0} (list : List Inbox) (a b c d : Desk L) → AreOfEach list (a.pass ∷ b.pass ∷ c.pass ∷ d.pass ∷ [])
+      → IsOf cell a.worker.pass → IsOf cell b.worker.pass → IsOf cell c.worker.pass → IsOf cell d.worker.pass → AreDesksOf cell list (a, b) (c, d)
+  desks_of (i ∷ j ∷ k ∷ l ∷ []) a b c d pops wa wb wc wd =
+      let p1 : AreOfEach (j ∷ k ∷ l ∷ []) (b.pass ∷ c.pass ∷ d.pass ∷ []) = pops.1 in
+      let p2 : AreOfEach (k ∷ l ∷ []) (c.pass ∷ d.pass ∷ []) = p1.1 in
+      let p3 : AreOfEach (l ∷ []) (d.pass ∷ []) = p2.1 in (
+        (record { worker = wa; pass = pops.0 }, record { worker = wb; pass = p1.0 }),
+        (record { worker = wc; pass = p2.0 }, record { worker = wd; pass = p3.0 }),
+      )
+  desks_of [] a b c d pops wa wb wc wd = absurd pops
+  desks_of (i ∷ []) a b c d pops wa wb wc wd = absurd pops.1
+  desks_of (i ∷ j ∷ []) a b c d pops wa wb wc wd = absurd pops.1.1
+  desks_of (i ∷ j ∷ k ∷ []) a b c d pops wa wb wc wd = absurd pops.1.1.1
+  desks_of (i ∷ j ∷ k ∷ l ∷ m ∷ list) a b c d pops wa wb wc wd = absurd pops.1.1.1.1
+
+  pub team_of : {F L : Type 0} (files : shelves.Ghosts F) (list : List Inbox) (passes : List Pass) (links : List L) (pops : List InboxPass) (writer : Writer F files)
+      (seats : Seats F L files) → IsSeated passes links pops writer seats → cells.ArePassesOf cell passes → AreOfEach list pops → IsTeamOf cell list seats.team
+  team_of files list passes links pops writer seats seated own of_each =
+      let team = seats.team in
+      let all : All (IsOf cell) (passes_among team) = subst (All (IsOf cell)) (sym seated.has) (all_of passes own) in
+      let p4 : List (Option Pass) = writing.pass_of team.actor ∷ [] in
+      let p3 : List (Option Pass) = pass_of team.second.1.worker ∷ p4 in
+      let p2 : List (Option Pass) = pass_of team.second.0.worker ∷ p3 in
+      let p1 : List (Option Pass) = pass_of team.first.1.worker ∷ p2 in
+      let all1 : All (IsOf cell) p1 = All-tail (IsOf cell) (pass_of team.first.0.worker) p1 all in
+      let all2 : All (IsOf cell) p2 = All-tail (IsOf cell) (pass_of team.first.1.worker) p2 all1 in
+      let all3 : All (IsOf cell) p3 = All-tail (IsOf cell) (pass_of team.second.0.worker) p3 all2 in
+      let all4 : All (IsOf cell) p4 = All-tail (IsOf cell) (pass_of team.second.1.worker) p4 all3 in
+      record {
+        desks = desks_of list team.first.0 team.first.1 team.second.0 team.second.1 (subst (AreOfEach list) (sym seated.takes) of_each)
+            (All-head (IsOf cell) (pass_of team.first.0.worker) p1 all) (All-head (IsOf cell) (pass_of team.first.1.worker) p2 all1)
+            (All-head (IsOf cell) (pass_of team.second.0.worker) p3 all2) (All-head (IsOf cell) (pass_of team.second.1.worker) p4 all3);
+        actor = All-head (IsOf cell) (writing.pass_of team.actor) [] all4;
+      }
+
+-- new passes are numbered in their order
+pub numbered : (start : Facts) (passes : List Pass) → cells.known_by passes ≡ newcomers start 5 → AreNumbered passes
+numbered start passes knows = by_known passes ∙ ap (λ (ks : List Knowledge). map (λ (k : Knowledge). k.number) ks) knows
+  where
+    by_known : (ps : List Pass) → map (λ pass. (cells.knowledge pass).number) ps ≡ map (λ (k : Knowledge). k.number) (cells.known_by ps)
+    by_known [] = refl
+    by_known (p ∷ ps) = ap (λ (ns : List ℕ). (cells.knowledge p).number ∷ ns) (by_known ps)
+
+pub five_of : (start : Facts) (passes : List Pass) → cells.known_by passes ≡ newcomers start 5 → length passes ≡ 5
+five_of start passes knows = let n = ap (λ (ks : List Knowledge). length ks) knows in let m = as_many passes in omega (arith, n, m)
+  where
+    as_many : (ps : List Pass) → length (cells.known_by ps) ≡ length ps
+    as_many [] = refl
+    as_many (p ∷ ps) = let n = as_many ps in omega (arith, n)
+
+-- the turns of a reception that began, and served until it was to end
+pub counted : {L : Type 0} (tells : paths.Ghosts L) (at : Addr) (r r' : Reception L) (ends : Until) → IsFew ends → IfTurns ends (λ n. r.left ≡ n)
+    → r.is_over ≡ false → IsNewAt at (link_of tells r) → IfTurns ends (λ n. CountsTurns tells n r → CountsTurns tells n r')
+    → IfTurns ends (λ n. CountsTurns tells n r')
+counted tells at r r' (until.Turns n) few left over new counts = counts (counts_begun tells at r n few left over new)
+counted tells at r r' (until.QuietAfter count all) few left over new counts = tt
+
+-- who receives has the first of the links
+pub receiver_new : {F L : Type 0} (files : shelves.Ghosts F) (tells : paths.Ghosts L) (at : Addr) (passes : List Pass) (links : List L) (pops : List InboxPass)
+    (writer : Writer F files) (seats : Seats F L files) → IsSeated passes links pops writer seats → All (λ link. IsNewAt at (tells.state link)) links
+    → IsNewAt at (link_of tells seats.reception)
+receiver_new files tells at passes links pops writer seats seated new =
+    let team = seats.team in
+    All-head (λ link. IsNewAt at (tells.state link)) seats.reception.link (team.first.0.link ∷ team.first.1.link ∷ team.second.0.link ∷ team.second.1.link ∷ [])
+    (subst (All (λ link. IsNewAt at (tells.state link))) (sym seated.sends) new)

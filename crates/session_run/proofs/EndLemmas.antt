@@ -1,0 +1,248 @@
+-- What a gateway hands back that served, or that had no memory to.
+use Rattle.std.proofs.Common.{◌≡◌, inl, inr, ℕ, Bool, true, false, if◌then◌else◌, List, [], ◌∷◌, ◌++◌, length, Option, None, Some, refl, sym, ap, subst, ◌∙◌, arith}
+use Rattle.std.specs.Prelude.{All, IfSome}
+use Rattle.std.specs.Option.{option_or}
+use Rattle.std.proofs.lemmas.List.{append-nil}
+use Rattle.std.proofs.lemmas.List.Elements.{All-cons, All-head, All-nil, All-tail}
+use Rattle.cdr_shelf.specs.declared.shelf.Shelf as shelves
+use Rattle.file_writer.specs.declared.writer.Writer.{Writer}
+use Rattle.gateway_book.specs.Value.{BookValue, history_of, torn_of}
+use Rattle.gw_base.specs.Facts.{Facts, joined}
+use Rattle.gw_base.specs.Faults.{Rose}
+use Rattle.gw_base.specs.Owes.{Begins}
+use Rattle.gw_base.specs.declared.address.Addr.{Addr}
+use Rattle.gw_base.specs.declared.history.HistoryEntry.{HistoryEntry}
+use Rattle.net_link.specs.Datagrams.{Datagram, IsNewAt}
+use Rattle.net_link.specs.declared.link.Link as paths
+use Rattle.job_inbox.specs.Inbox as inboxes
+use Rattle.job_inbox.specs.declared.inbox.Inbox.{Inbox}
+use Rattle.job_inbox.specs.declared.inbox.InboxPass.{InboxPass}
+use Rattle.node_session.specs.Passes.{IsOf, known_by}
+use Rattle.node_session.specs.Receiving.{AreOfEach}
+use Rattle.node_session.specs.Writing as writing
+use Rattle.turn_cell.specs.Cell as cells
+use Rattle.turn_cell.specs.Passes.{Ended}
+use Rattle.turn_cell.specs.declared.cell.Pass.{Pass}
+use Rattle.turn_cell.specs.declared.cell.TurnCell.{TurnCell}
+use Rattle.turn_cell.specs.declared.knowing.Knowledge.{Knowledge}
+use Rattle.session_run.specs.Desks.{HasWorked, HearsNothing, began_at}
+use Rattle.session_run.specs.Ending.{AreAllSettled, ArePassesFor, ArePopsOf, AreSettledWith, HasEnded, known_among, links_of}
+use Rattle.session_run.specs.Filing.{KeepsWriter}
+use Rattle.session_run.specs.History.{GoesOn, IsCalledFor, IsReply}
+use Rattle.session_run.specs.Reception.{CountsTurns, HasDispatched, IfTurns}
+use Rattle.session_run.specs.Running.{AnyOf, AreFiveOf, AreNewAt, AreReplies, HasFailed, HasStopCause, StaysAs, turns_by}
+use Rattle.session_run.specs.Team.{AreDesksOf, HaveServed, Pair, TeamWorksOn, stop_among}
+use Rattle.session_run.specs.declared.desk.Desk.{Desk}
+use Rattle.session_run.specs.declared.reception.Reception.{Reception}
+use Rattle.session_run.specs.declared.round.Team.{Team}
+use Rattle.session_run.specs.declared.stop.Stop.{Stop}
+use Rattle.session_run.specs.declared.stop.Stop.TheVariants as stop
+use Rattle.session_run.specs.declared.until.Until.{Until}
+use Rattle.session_run.specs.declared.until.Until.TheVariants as until
+
+module _ {F L : Type 0} (files : shelves.Ghosts F) (tells : paths.Ghosts L) (told : Bool) (at : Addr) (start : Facts) (writer : Writer F files) where
+  -- what all have done they have done still
+  pub have_served : (r r' : Reception L) (team team' : Team F L files) → HaveServed files tells told at start writer r team
+      → TeamWorksOn files tells told team team' → ((a : Addr) → HasDispatched tells a r → HasDispatched tells a r')
+      → HaveServed files tells told at start writer r' team'
+  have_served r r' team team' s works receives = record {
+    dispatched = receives at s.dispatched;
+    one = works.one at (began_at start 0) s.one;
+    two = works.two at (began_at start 1) s.two;
+    three = works.three at (began_at start 2) s.three;
+    four = works.four at (began_at start 3) s.four;
+    written = works.writes (began_at start 4) writer s.written;
+  }
+
+  module _ (r : Reception L) (team : Team F L files) (s : HaveServed files tells told at start writer r team) where
+    abbrev links : List L
+    links = links_of r team
+
+    pub are_five : AreFiveOf tells at links
+    are_five =
+        let Hears : L → Type 0 = λ link. HearsNothing at (tells.state link) in (
+          refl,
+          record { address = s.dispatched.address; sent = s.dispatched.unsent },
+          All-cons Hears team.first.0.link (team.first.1.link ∷ team.second.0.link ∷ team.second.1.link ∷ []) s.one.link
+              (All-cons Hears team.first.1.link (team.second.0.link ∷ team.second.1.link ∷ []) s.two.link
+              (All-cons Hears team.second.0.link (team.second.1.link ∷ []) s.three.link
+              (All-cons Hears team.second.1.link [] s.four.link (All-nil Hears)))),
+        )
+
+    -- the turns that were to be taken were taken, unless something stopped it
+    pub turns_taken : (ends : Until) → IfTurns ends (λ n. CountsTurns tells n r) → (result : Option Stop)
+        → result ≡ option_or r.stop (stop_among team) → (r.stop ≡ None → stop_among team ≡ None → r.is_over ≡ true)
+        → IfTurns ends (λ n. result ≡ None → turns_by tells links ≡ n)
+    turns_taken (until.QuietAfter count all) counts result is over = tt
+    turns_taken (until.Turns n) counts result is over = λ none. taken (sym is ∙ none) r.stop (stop_among team) refl refl
+      where
+        taken : option_or r.stop (stop_among team) ≡ None → (a b : Option Stop) → r.stop ≡ a → stop_among team ≡ b → turns_by tells links ≡ n
+        taken none None None ra rb =
+            let left = counts.over (over ra rb) in let total = counts.turns ra in omega (arith, left, total)
+        taken none None (Some x) ra rb = absurd (cc (sym (ap (λ (a : Option Stop). option_or a (stop_among team)) ra ∙ rb) ∙ none))
+        taken none (Some x) b ra rb = absurd (cc (sym (ap (λ (a : Option Stop). option_or a (stop_among team)) ra) ∙ none))
+
+    module _ (clock clock' : ℕ) (by_clock : r.stop ≡ Some stop.Clock → Rose clock clock') where
+      abbrev Caused : Option Stop → Type 0
+      Caused result = HasStopCause tells clock clock' links result
+
+      by_desk : (began : _) (desk : Desk L) → HasWorked tells told at began desk → (HasFailed tells desk.link → AnyOf (HasFailed tells) links)
+          → Caused desk.stop
+      by_desk began desk w among = by desk.stop refl
+        where
+          by : (s : Option Stop) → desk.stop ≡ s → Caused s
+          by None is = tt
+          by (Some stop.Link) is = among (w.cause is)
+          by (Some stop.Clock) is = absurd (w.no_clock is)
+          by (Some stop.NoMemory) is = tt
+
+      by_reception : (s : Option Stop) → r.stop ≡ s → Caused s
+      by_reception None is = tt
+      by_reception (Some stop.Link) is = inl (s.dispatched.cause is)
+      by_reception (Some stop.Clock) is = by_clock is
+      by_reception (Some stop.NoMemory) is = tt
+
+      or_other : (a b : Option Stop) → Caused a → Caused b → Caused (option_or a b)
+      or_other None b ca cb = cb
+      or_other (Some x) b ca cb = ca
+
+      pub has_cause : (result : Option Stop) → result ≡ option_or r.stop (stop_among team) → Caused result
+      has_cause result is = subst Caused (sym is)
+          (or_other r.stop (stop_among team) (by_reception r.stop refl)
+          (or_other (option_or (option_or team.first.0.stop team.first.1.stop) team.second.0.stop) team.second.1.stop
+          (or_other (option_or team.first.0.stop team.first.1.stop) team.second.0.stop
+          (or_other team.first.0.stop team.first.1.stop
+          (by_desk (began_at start 0) team.first.0 s.one (λ f. inr (inl f)))
+          (by_desk (began_at start 1) team.first.1 s.two (λ f. inr (inr (inl f)))))
+          (by_desk (began_at start 2) team.second.0 s.three (λ f. inr (inr (inr (inl f))))))
+          (by_desk (began_at start 3) team.second.1 s.four (λ f. inr (inr (inr (inr (inl f))))))))
+
+-- ---- where nobody served
+
+-- the firm part of a book begins its history with the torn entries
+pub value_begins : (v : BookValue) → Begins v.firm (history_of v ++ torn_of v)
+value_begins v = by v.is_broken
+  where
+    by : (b : Bool) → Begins v.firm ((if b then v.firm else v.firm ++ v.rest) ++ (if b then v.rest else []))
+    by true = (v.rest, refl)
+    by false = (v.rest, append-nil (v.firm ++ v.rest))
+
+begins_itself : (xs : List HistoryEntry) → Begins xs xs
+begins_itself xs = ([], sym (append-nil xs))
+
+-- a history that nobody added to
+pub goes_nowhere : (heard : Option (List Datagram)) (f : Facts) → Begins f.firm (joined f) → GoesOn heard f f
+goes_nowhere heard f firm = record {
+  stood = joined f;
+  tail = [];
+  whole = sym (append-nil (joined f));
+  stood_is = begins_itself (joined f);
+  firm = firm;
+  begins = begins_itself f.firm;
+  first = firm;
+  answers = All-nil (IsCalledFor f.size heard);
+}
+
+pub stays_itself : (f : Facts) → StaysAs f f
+stays_itself f = record { size = refl; name = refl; later = omega arith }
+
+pub keeps_itself : {F : Type 0} (files : shelves.Ghosts F) (told : Bool) (firm : List HistoryEntry) (writer : Writer F files)
+    → writing.IsWriterOf told firm writer → KeepsWriter files told firm writer writer
+keeps_itself files told firm writer ready = record {
+  settings = refl;
+  later = omega arith;
+  taken = ready;
+  files = λ y shown all begins holds. holds;
+}
+
+module _ {L : Type 0} (tells : paths.Ghosts L) (at : Addr) where
+  abbrev IsNew : L → Type 0
+  IsNew link = IsNewAt at (tells.state link)
+
+  -- new links have sent nothing
+  pub none_replied : (heard : Option (List Datagram)) (start now : Facts) (all : List L) → All IsNew all → AreReplies tells heard start now all
+  none_replied heard start now [] new = All-nil (λ (x : L). IfSome (tells.state x).sent (All (IsReply heard start.size now.firm start.faults now.faults)))
+  none_replied heard start now (link ∷ others) new =
+      All-cons (λ (x : L). IfSome (tells.state x).sent (All (IsReply heard start.size now.firm start.faults now.faults))) link others
+      (unsent (tells.state link).sent (All-head IsNew link others new).sent) (none_replied heard start now others (All-tail IsNew link others new))
+    where
+      unsent : (sent : Option (List Datagram)) → IfSome sent (λ list. list ≡ []) → IfSome sent (All (IsReply heard start.size now.firm start.faults now.faults))
+      unsent None is = tt
+      unsent (Some list) is = subst (All (IsReply heard start.size now.firm start.faults now.faults)) (sym is) (All-nil (IsReply heard start.size now.firm start.faults now.faults))
+
+  abbrev Hears : L → Type 0
+  Hears link = HearsNothing at (tells.state link)
+
+  hear_nothing : (all : List L) → All IsNew all → All Hears all
+  hear_nothing [] new = All-nil Hears
+  hear_nothing (link ∷ others) new =
+      let first = All-head IsNew link others new in
+      All-cons Hears link others (record { address = first.at; turns = first.turns; received = first.received }) (hear_nothing others (All-tail IsNew link others new))
+
+  -- five new links are five of the address
+  pub new_five : (all : List L) → AreNewAt tells at all → AreFiveOf tells at all
+  new_five [] are = absurd (let n = are.count in omega (arith, n))
+  new_five (link ∷ others) are =
+      let first = All-head IsNew link others are.new in (
+        (let n = are.count in omega (arith, n)),
+        record { address = first.at; sent = first.sent },
+        hear_nothing others (All-tail IsNew link others are.new),
+      )
+
+-- ---- how what served is taken apart
+
+-- as many passes as inboxes
+pub each_length : (list : List Inbox) (passes : List InboxPass) → AreOfEach list passes → length passes ≡ length list
+each_length [] [] of_each = refl
+each_length [] (p ∷ passes) of_each = absurd of_each
+each_length (i ∷ list) [] of_each = absurd of_each
+each_length (i ∷ list) (p ∷ passes) of_each = let n = each_length list passes of_each.1 in omega (arith, n)
+
+module _ {V : Type 0} (cell : TurnCell V) {L : Type 0} where
+  pub pops_of : (list : List Inbox) (first second : Pair L) → AreDesksOf cell list first second → ArePopsOf list first second
+  pops_of (a ∷ b ∷ c ∷ d ∷ []) first second desks = (desks.0.0.pass, desks.0.1.pass, desks.1.0.pass, desks.1.1.pass)
+  pops_of [] first second desks = absurd desks
+  pops_of (a ∷ []) first second desks = absurd desks
+  pops_of (a ∷ b ∷ []) first second desks = absurd desks
+  pops_of (a ∷ b ∷ c ∷ []) first second desks = absurd desks
+  pops_of (a ∷ b ∷ c ∷ d ∷ e ∷ list) first second desks = absurd desks
+
+  -- the passes that the desks and who writes give back are those of the cell
+  pub passes_of_cell : (list : List Inbox) (first second : Pair L) (passes : Pass × Pass × Pass × Pass) (has : Option Pass) (last : Pass)
+      → AreDesksOf cell list first second → ArePassesFor passes first second → IsOf cell has → has ≡ Some last
+      → cells.ArePassesOf cell (passes.0 ∷ passes.1 ∷ passes.2 ∷ passes.3 ∷ last ∷ [])
+  passes_of_cell (i ∷ j ∷ k ∷ l ∷ []) first second passes has last desks are own is =
+      let Own : Pass → Type 0 = cells.IsPassOf cell in
+      All-cons Own passes.0 (passes.1 ∷ passes.2 ∷ passes.3 ∷ last ∷ []) (subst (IsOf cell) are.0 desks.0.0.worker)
+      (All-cons Own passes.1 (passes.2 ∷ passes.3 ∷ last ∷ []) (subst (IsOf cell) are.1 desks.0.1.worker)
+      (All-cons Own passes.2 (passes.3 ∷ last ∷ []) (subst (IsOf cell) are.2 desks.1.0.worker)
+      (All-cons Own passes.3 (last ∷ []) (subst (IsOf cell) are.3 desks.1.1.worker)
+      (All-cons Own last [] (subst (IsOf cell) is own) (All-nil Own)))))
+  passes_of_cell [] first second passes has last desks are own is = absurd desks
+  passes_of_cell (a ∷ []) first second passes has last desks are own is = absurd desks
+  passes_of_cell (a ∷ b ∷ []) first second passes has last desks are own is = absurd desks
+  passes_of_cell (a ∷ b ∷ c ∷ []) first second passes has last desks are own is = absurd desks
+  passes_of_cell (a ∷ b ∷ c ∷ d ∷ e ∷ list) first second passes has last desks are own is = absurd desks
+
+module _ {F L : Type 0} (files : shelves.Ghosts F) (team : Team F L files) where
+  pub known_is : (passes : Pass × Pass × Pass × Pass) (last : Pass) → ArePassesFor passes team.first team.second → writing.pass_of team.actor ≡ Some last
+      → cells.known_by (passes.0 ∷ passes.1 ∷ passes.2 ∷ passes.3 ∷ last ∷ []) ≡ known_among team
+  known_is passes last are is = λ i.
+      known_by (sym are.0 i) ∷ known_by (sym are.1 i) ∷ known_by (sym are.2 i) ∷ known_by (sym are.3 i) ∷ known_by (sym is i) ∷ []
+
+  -- the cell was ended with what all know
+  pub has_ended : (told : Bool) (start now : Facts) (passes : Pass × Pass × Pass × Pass) (last : Pass) → ArePassesFor passes team.first team.second
+      → writing.pass_of team.actor ≡ Some last → Ended told start now (cells.known_by (passes.0 ∷ passes.1 ∷ passes.2 ∷ passes.3 ∷ last ∷ []))
+      → HasEnded told start now team
+  has_ended told start now passes last are is ended = subst (λ (ks : List Knowledge). Ended told start now ks) (known_is passes last are is) ended
+
+  pub all_settled : (all : List InboxPass) (pushes : InboxPass × InboxPass × InboxPass × InboxPass) → all ≡ pushes.0 ∷ pushes.1 ∷ pushes.2 ∷ pushes.3 ∷ []
+      → AreSettledWith pushes team.first team.second → AreAllSettled (inboxes.known_by all) team
+  all_settled all pushes is settled = subst (λ (ps : List InboxPass). AreAllSettled (inboxes.known_by ps) team) (sym is) settled
+
+-- a list without elements to which five were pushed has these
+pub five_pushed : {X : Type 0} (l0 l1 l2 l3 l4 l5 : List X) (a b c d e : X) → length l0 ≡ 0 → l1 ≡ l0 ++ a ∷ [] → l2 ≡ l1 ++ b ∷ []
+    → l3 ≡ l2 ++ c ∷ [] → l4 ≡ l3 ++ d ∷ [] → l5 ≡ l4 ++ e ∷ [] → l5 ≡ a ∷ b ∷ c ∷ d ∷ e ∷ []
+five_pushed [] l1 l2 l3 l4 l5 a b c d e none p1 p2 p3 p4 p5 =
+    p5 ∙ ap (λ l. l ++ e ∷ []) (p4 ∙ ap (λ l. l ++ d ∷ []) (p3 ∙ ap (λ l. l ++ c ∷ []) (p2 ∙ ap (λ l. l ++ b ∷ []) p1)))
+five_pushed (x ∷ l0) l1 l2 l3 l4 l5 a b c d e none p1 p2 p3 p4 p5 = absurd (omega (arith, none))

@@ -1,0 +1,9 @@
+pub mod BegunLemmas
+pub mod DeskLemmas
+pub mod DeskSteps
+pub mod EndLemmas
+pub mod InboxLemmas
+pub mod ReceptionLemmas
+pub mod RunLemmas
+pub mod TeamLemmas
+pub mod WriterLemmas

@@ -1,0 +1,14 @@
+use Rattle.file_writer.specs.declared.writer.Writer.{Writer}
+use Rattle.gateway_book.specs.Turning.{tells_lists}
+use Rattle.node_session.specs.Writing.{IsActorOf, IsWriterOf, knowledge_of, writer_of}
+use Rattle.session_run.specs.Desks.{Began}
+use Rattle.session_run.specs.Filing.{HasWritten}
+use Rattle.session_run.proofs.filing.write_files.Given as goal
+
+abbrev pub invariant-loop : goal.invariant-loop
+invariant-loop g l = record {
+  own : IsActorOf l.cell l.actor;
+  writer : IsWriterOf (tells_lists g.A.Area) (knowledge_of l.actor).known (writer_of l.actor);
+  written : (began : Began) (first : Writer _ g.F.Shelf) → HasWritten g.F.Shelf (tells_lists g.A.Area) began first l.fn.actor
+      → HasWritten g.F.Shelf (tells_lists g.A.Area) began first l.actor;
+}

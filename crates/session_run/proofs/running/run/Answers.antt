@@ -1,0 +1,230 @@
+use Rattle.std.proofs.Common.{◌≡◌, ℕ, List, None, ap, arith, subst, sym, ◌∙◌}
+use Rattle.gateway_book.specs.Book.{value_of}
+use Rattle.gateway_book.specs.Turning.{facts_of, tells_lists}
+use Rattle.gateway_book.specs.declared.book.Book.{Book}
+use Rattle.gw_base.specs.Facts.{WhereTold}
+use Rattle.file_writer.specs.declared.writer.Writer.{Writer}
+use Rattle.node_session.specs.Receiving.{AreOfEach, hands_of, passes_of}
+use Rattle.node_session.specs.declared.dispatcher.Dispatcher.{Dispatcher}
+use Rattle.session_run.specs.Ending.{HasEnded}
+use Rattle.session_run.specs.Filing.{KeepsWriter}
+use Rattle.session_run.specs.History.{GoesOn}
+use Rattle.session_run.specs.Making.{pops_in}
+use Rattle.session_run.specs.Reception.{IfTurns}
+use Rattle.session_run.specs.Running.{AreFiveOf, AreReplies, HasStopCause, heard_by, turns_by}
+use Rattle.session_run.specs.Team.{HaveServed}
+use Rattle.session_run.specs.declared.gateway.Gateway.{Gateway}
+use Rattle.session_run.proofs.BegunLemmas.{all_begun, counted, five_of, is_ready, numbered, receiver_new, team_of}
+use Rattle.session_run.proofs.EndLemmas.{are_five, goes_nowhere, has_cause, have_served, new_five, turns_taken, value_begins}
+use Rattle.session_run.proofs.RunLemmas.{run_goes_on, run_replies, run_stays, run_writer}
+use Rattle.session_run.proofs.running.run.Goals as goal
+
+pub returns-in_default-clause-history : goal.returns-in_default-clause-history
+returns-in_default-clause-history g c = λ told.
+    let w = c.args.gateway in
+    subst (λ (x : Gateway _ _ _ g.A.Area g.F.Shelf). GoesOn (heard_by g.L.Link x.links.items) (facts_of w.book) (facts_of x.book)) (sym c.unserved.ensures.gateway)
+    (goes_nowhere (heard_by g.L.Link w.links.items) (facts_of w.book) (value_begins (value_of w.book)))
+
+pub returns-in_default-clause-links : goal.returns-in_default-clause-links
+returns-in_default-clause-links g c =
+    let w = c.args.gateway in
+    subst (λ (x : Gateway _ _ _ g.A.Area g.F.Shelf). AreFiveOf g.L.Link w.address x.links.items) (sym c.unserved.ensures.gateway) (new_five g.L.Link w.address w.links.items c.requires.links)
+
+pub returns-in-Err-clause-history : goal.returns-in-Err-clause-history
+returns-in-Err-clause-history g c = λ told.
+    let w = c.args.gateway in
+    subst (λ (x : Gateway _ _ _ g.A.Area g.F.Shelf). GoesOn (heard_by g.L.Link x.links.items) (facts_of w.book) (facts_of x.book)) (sym c.unserved-in-Err.ensures.gateway)
+    (subst (λ (b : Book _ g.A.Area). GoesOn (heard_by g.L.Link w.links.items) (facts_of w.book) (facts_of b)) (sym c.in-Err.ensures.err)
+    (goes_nowhere (heard_by g.L.Link w.links.items) (facts_of w.book) (value_begins (value_of w.book))))
+
+pub returns-in-Err-clause-links : goal.returns-in-Err-clause-links
+returns-in-Err-clause-links g c =
+    let w = c.args.gateway in
+    subst (λ (x : Gateway _ _ _ g.A.Area g.F.Shelf). AreFiveOf g.L.Link w.address x.links.items) (sym c.unserved-in-Err.ensures.gateway) (new_five g.L.Link w.address w.links.items c.requires.links)
+
+pub seat-seats-requires-clause-passes : goal.seat-seats-requires-clause-passes
+seat-seats-requires-clause-passes g c =
+    let start = facts_of c.args.gateway.book in
+    let passes = c.in-Ok-new.passes in
+    let five = five_of start passes.items c.in-Ok-new.ensures.passes.1 in (
+      record {
+        count = omega (arith, five, passes.ok.0);
+        items = five;
+        room = omega (arith, five, passes.ok.0, passes.ok.1);
+      },
+      numbered start passes.items c.in-Ok-new.ensures.passes.1,
+    )
+
+pub serve-served-requires-clause-own : goal.serve-served-requires-clause-own
+serve-served-requires-clause-own g c κs within =
+    let made = c.in-Ok-new in
+    let hall = c.in-Ok.hall in (
+      subst (λ (d : Dispatcher). AreOfEach hall.inboxes (passes_of d)) (sym c.seat-seats.ensures.reception.0) c.in-Ok.ensures.pushes,
+      team_of made.cell g.F.Shelf hall.inboxes made.passes.items c.args.gateway.links.items (pops_in hall.pops) c.args.gateway.writer c.seat-seats.result
+          c.seat-seats.ensures.seated made.ensures.passes.0 c.in-Ok.ensures.pops,
+    )
+
+pub serve-served-requires-clause-writer : goal.serve-served-requires-clause-writer
+serve-served-requires-clause-writer g c κs within =
+    let w = c.args.gateway in
+    let start = facts_of w.book in
+    let made = c.in-Ok-new in
+    let hall = c.in-Ok.hall in
+    let seats = c.seat-seats.result in
+    is_ready g.F.Shelf g.L.Link (tells_lists g.A.Area) w.address start made.passes.items w.links.items (pops_in hall.pops) w.writer seats c.seat-seats.ensures.seated
+    made.ensures.passes.1 c.in-Ok.ensures.none_popped c.requires.links.new
+    (ap (λ (d : Dispatcher). hands_of d) c.seat-seats.ensures.reception.0 ∙ c.in-Ok.ensures.none_pushed) c.seat-seats.ensures.reception.3 c.requires.writer
+
+pub returns-in-Ok-new-clause-history : goal.returns-in-Ok-new-clause-history
+returns-in-Ok-new-clause-history g c =
+    let w = c.args.gateway in
+    let start = facts_of w.book in
+    let made = c.in-Ok-new in
+    let hall = c.in-Ok.hall in
+    let seats = c.seat-seats.result in
+    let begun : HaveServed g.F.Shelf g.L.Link (tells_lists g.A.Area) w.address start w.writer seats.reception seats.team =
+    all_begun g.F.Shelf g.L.Link (tells_lists g.A.Area) w.address start made.passes.items w.links.items (pops_in hall.pops) w.writer seats c.seat-seats.ensures.seated
+    made.ensures.passes.1 c.in-Ok.ensures.none_popped c.requires.links.new
+    (ap (λ (d : Dispatcher). hands_of d) c.seat-seats.ensures.reception.0 ∙ c.in-Ok.ensures.none_pushed) c.seat-seats.ensures.reception.3 c.requires.writer in
+    let now = facts_of c.end.result.gateway.book in
+    let r = c.serve-served.result.0 in
+    let team = c.serve-served.result.1 in
+    let s : HaveServed g.F.Shelf g.L.Link (tells_lists g.A.Area) w.address start w.writer r team =
+    have_served g.F.Shelf g.L.Link (tells_lists g.A.Area) w.address start w.writer seats.reception r seats.team team begun
+    c.serve-served.ensures.worked c.serve-served.ensures.dispatched in
+    let ended : HasEnded (tells_lists g.A.Area) start now team =
+    subst (λ (b : Book _ g.A.Area). HasEnded (tells_lists g.A.Area) (facts_of b) now team) made.ensures.cell.1 c.end.ensures.ended in
+    subst (λ (l : List _). WhereTold (tells_lists g.A.Area) (GoesOn (heard_by g.L.Link l) start now)) (sym c.end.ensures.links)
+    (run_goes_on g.F.Shelf g.L.Link (tells_lists g.A.Area) w.address start now w.writer r team s ended c.end.ensures.settled c.each_entry_is_an_answer.ensures)
+
+pub returns-in-Ok-new-clause-replies : goal.returns-in-Ok-new-clause-replies
+returns-in-Ok-new-clause-replies g c =
+    let w = c.args.gateway in
+    let start = facts_of w.book in
+    let made = c.in-Ok-new in
+    let hall = c.in-Ok.hall in
+    let seats = c.seat-seats.result in
+    let begun : HaveServed g.F.Shelf g.L.Link (tells_lists g.A.Area) w.address start w.writer seats.reception seats.team =
+    all_begun g.F.Shelf g.L.Link (tells_lists g.A.Area) w.address start made.passes.items w.links.items (pops_in hall.pops) w.writer seats c.seat-seats.ensures.seated
+    made.ensures.passes.1 c.in-Ok.ensures.none_popped c.requires.links.new
+    (ap (λ (d : Dispatcher). hands_of d) c.seat-seats.ensures.reception.0 ∙ c.in-Ok.ensures.none_pushed) c.seat-seats.ensures.reception.3 c.requires.writer in
+    let now = facts_of c.end.result.gateway.book in
+    let r = c.serve-served.result.0 in
+    let team = c.serve-served.result.1 in
+    let s : HaveServed g.F.Shelf g.L.Link (tells_lists g.A.Area) w.address start w.writer r team =
+    have_served g.F.Shelf g.L.Link (tells_lists g.A.Area) w.address start w.writer seats.reception r seats.team team begun
+    c.serve-served.ensures.worked c.serve-served.ensures.dispatched in
+    let ended : HasEnded (tells_lists g.A.Area) start now team =
+    subst (λ (b : Book _ g.A.Area). HasEnded (tells_lists g.A.Area) (facts_of b) now team) made.ensures.cell.1 c.end.ensures.ended in
+    subst (λ (l : List _). WhereTold (tells_lists g.A.Area) (AreReplies g.L.Link (heard_by g.L.Link l) start now l)) (sym c.end.ensures.links)
+    (run_replies g.F.Shelf g.L.Link (tells_lists g.A.Area) w.address start now w.writer r team s ended c.end.ensures.settled)
+
+pub returns-in-Ok-new-clause-book : goal.returns-in-Ok-new-clause-book
+returns-in-Ok-new-clause-book g c =
+    let w = c.args.gateway in
+    let start = facts_of w.book in
+    let made = c.in-Ok-new in
+    let hall = c.in-Ok.hall in
+    let seats = c.seat-seats.result in
+    let begun : HaveServed g.F.Shelf g.L.Link (tells_lists g.A.Area) w.address start w.writer seats.reception seats.team =
+    all_begun g.F.Shelf g.L.Link (tells_lists g.A.Area) w.address start made.passes.items w.links.items (pops_in hall.pops) w.writer seats c.seat-seats.ensures.seated
+    made.ensures.passes.1 c.in-Ok.ensures.none_popped c.requires.links.new
+    (ap (λ (d : Dispatcher). hands_of d) c.seat-seats.ensures.reception.0 ∙ c.in-Ok.ensures.none_pushed) c.seat-seats.ensures.reception.3 c.requires.writer in
+    let now = facts_of c.end.result.gateway.book in
+    let r = c.serve-served.result.0 in
+    let team = c.serve-served.result.1 in
+    let s : HaveServed g.F.Shelf g.L.Link (tells_lists g.A.Area) w.address start w.writer r team =
+    have_served g.F.Shelf g.L.Link (tells_lists g.A.Area) w.address start w.writer seats.reception r seats.team team begun
+    c.serve-served.ensures.worked c.serve-served.ensures.dispatched in
+    let ended : HasEnded (tells_lists g.A.Area) start now team =
+    subst (λ (b : Book _ g.A.Area). HasEnded (tells_lists g.A.Area) (facts_of b) now team) made.ensures.cell.1 c.end.ensures.ended in
+    run_stays g.F.Shelf g.L.Link (tells_lists g.A.Area) w.address start now w.writer r team s ended c.end.ensures.settled
+
+pub returns-in-Ok-new-clause-links : goal.returns-in-Ok-new-clause-links
+returns-in-Ok-new-clause-links g c =
+    let w = c.args.gateway in
+    let start = facts_of w.book in
+    let made = c.in-Ok-new in
+    let hall = c.in-Ok.hall in
+    let seats = c.seat-seats.result in
+    let begun : HaveServed g.F.Shelf g.L.Link (tells_lists g.A.Area) w.address start w.writer seats.reception seats.team =
+    all_begun g.F.Shelf g.L.Link (tells_lists g.A.Area) w.address start made.passes.items w.links.items (pops_in hall.pops) w.writer seats c.seat-seats.ensures.seated
+    made.ensures.passes.1 c.in-Ok.ensures.none_popped c.requires.links.new
+    (ap (λ (d : Dispatcher). hands_of d) c.seat-seats.ensures.reception.0 ∙ c.in-Ok.ensures.none_pushed) c.seat-seats.ensures.reception.3 c.requires.writer in
+    let now = facts_of c.end.result.gateway.book in
+    let r = c.serve-served.result.0 in
+    let team = c.serve-served.result.1 in
+    let s : HaveServed g.F.Shelf g.L.Link (tells_lists g.A.Area) w.address start w.writer r team =
+    have_served g.F.Shelf g.L.Link (tells_lists g.A.Area) w.address start w.writer seats.reception r seats.team team begun
+    c.serve-served.ensures.worked c.serve-served.ensures.dispatched in
+    subst (λ (l : List _). AreFiveOf g.L.Link w.address l) (sym c.end.ensures.links)
+    (are_five g.F.Shelf g.L.Link (tells_lists g.A.Area) w.address start w.writer r team s)
+
+pub returns-in-Ok-new-clause-turns : goal.returns-in-Ok-new-clause-turns
+returns-in-Ok-new-clause-turns g c =
+    let w = c.args.gateway in
+    let start = facts_of w.book in
+    let made = c.in-Ok-new in
+    let hall = c.in-Ok.hall in
+    let seats = c.seat-seats.result in
+    let begun : HaveServed g.F.Shelf g.L.Link (tells_lists g.A.Area) w.address start w.writer seats.reception seats.team =
+    all_begun g.F.Shelf g.L.Link (tells_lists g.A.Area) w.address start made.passes.items w.links.items (pops_in hall.pops) w.writer seats c.seat-seats.ensures.seated
+    made.ensures.passes.1 c.in-Ok.ensures.none_popped c.requires.links.new
+    (ap (λ (d : Dispatcher). hands_of d) c.seat-seats.ensures.reception.0 ∙ c.in-Ok.ensures.none_pushed) c.seat-seats.ensures.reception.3 c.requires.writer in
+    let now = facts_of c.end.result.gateway.book in
+    let r = c.serve-served.result.0 in
+    let team = c.serve-served.result.1 in
+    let s : HaveServed g.F.Shelf g.L.Link (tells_lists g.A.Area) w.address start w.writer r team =
+    have_served g.F.Shelf g.L.Link (tells_lists g.A.Area) w.address start w.writer seats.reception r seats.team team begun
+    c.serve-served.ensures.worked c.serve-served.ensures.dispatched in
+    subst (λ (l : List _). IfTurns c.args.until (λ n. c.end.result.stop ≡ None → turns_by g.L.Link l ≡ n)) (sym c.end.ensures.links)
+    (turns_taken g.F.Shelf g.L.Link (tells_lists g.A.Area) w.address start w.writer r team s c.args.until
+    (counted g.L.Link w.address seats.reception r c.args.until c.requires.few
+    (subst (λ (k : ℕ). IfTurns c.args.until (λ n. k ≡ n)) (sym c.seat-seats.ensures.reception.1) c.turns_in.ensures)
+    c.seat-seats.ensures.reception.2 (receiver_new g.F.Shelf g.L.Link w.address made.passes.items w.links.items (pops_in hall.pops) w.writer seats
+    c.seat-seats.ensures.seated c.requires.links.new) c.serve-served.ensures.turns)
+    c.end.result.stop c.end.ensures.stop c.serve-served.ensures.over)
+
+pub returns-in-Ok-new-clause-writer : goal.returns-in-Ok-new-clause-writer
+returns-in-Ok-new-clause-writer g c =
+    let w = c.args.gateway in
+    let start = facts_of w.book in
+    let made = c.in-Ok-new in
+    let hall = c.in-Ok.hall in
+    let seats = c.seat-seats.result in
+    let begun : HaveServed g.F.Shelf g.L.Link (tells_lists g.A.Area) w.address start w.writer seats.reception seats.team =
+    all_begun g.F.Shelf g.L.Link (tells_lists g.A.Area) w.address start made.passes.items w.links.items (pops_in hall.pops) w.writer seats c.seat-seats.ensures.seated
+    made.ensures.passes.1 c.in-Ok.ensures.none_popped c.requires.links.new
+    (ap (λ (d : Dispatcher). hands_of d) c.seat-seats.ensures.reception.0 ∙ c.in-Ok.ensures.none_pushed) c.seat-seats.ensures.reception.3 c.requires.writer in
+    let now = facts_of c.end.result.gateway.book in
+    let r = c.serve-served.result.0 in
+    let team = c.serve-served.result.1 in
+    let s : HaveServed g.F.Shelf g.L.Link (tells_lists g.A.Area) w.address start w.writer r team =
+    have_served g.F.Shelf g.L.Link (tells_lists g.A.Area) w.address start w.writer seats.reception r seats.team team begun
+    c.serve-served.ensures.worked c.serve-served.ensures.dispatched in
+    let ended : HasEnded (tells_lists g.A.Area) start now team =
+    subst (λ (b : Book _ g.A.Area). HasEnded (tells_lists g.A.Area) (facts_of b) now team) made.ensures.cell.1 c.end.ensures.ended in
+    subst (λ (x : Writer _ g.F.Shelf). KeepsWriter g.F.Shelf (tells_lists g.A.Area) now.firm w.writer x) (sym c.end.ensures.writer.0)
+    (run_writer g.F.Shelf g.L.Link (tells_lists g.A.Area) w.address start now w.writer r team s ended c.end.ensures.settled c.filed_records_stay.ensures.items)
+
+pub returns-in-Ok-new-clause-cause : goal.returns-in-Ok-new-clause-cause
+returns-in-Ok-new-clause-cause g c =
+    let w = c.args.gateway in
+    let start = facts_of w.book in
+    let made = c.in-Ok-new in
+    let hall = c.in-Ok.hall in
+    let seats = c.seat-seats.result in
+    let begun : HaveServed g.F.Shelf g.L.Link (tells_lists g.A.Area) w.address start w.writer seats.reception seats.team =
+    all_begun g.F.Shelf g.L.Link (tells_lists g.A.Area) w.address start made.passes.items w.links.items (pops_in hall.pops) w.writer seats c.seat-seats.ensures.seated
+    made.ensures.passes.1 c.in-Ok.ensures.none_popped c.requires.links.new
+    (ap (λ (d : Dispatcher). hands_of d) c.seat-seats.ensures.reception.0 ∙ c.in-Ok.ensures.none_pushed) c.seat-seats.ensures.reception.3 c.requires.writer in
+    let now = facts_of c.end.result.gateway.book in
+    let r = c.serve-served.result.0 in
+    let team = c.serve-served.result.1 in
+    let s : HaveServed g.F.Shelf g.L.Link (tells_lists g.A.Area) w.address start w.writer r team =
+    have_served g.F.Shelf g.L.Link (tells_lists g.A.Area) w.address start w.writer seats.reception r seats.team team begun
+    c.serve-served.ensures.worked c.serve-served.ensures.dispatched in
+    subst (λ (l : List _). HasStopCause g.L.Link (g.C.Clock.faults c.args.clock.now) (g.C.Clock.faults c.serve-served.new.clock) l c.end.result.stop)
+    (sym c.end.ensures.links)
+    (has_cause g.F.Shelf g.L.Link (tells_lists g.A.Area) w.address start w.writer r team s (g.C.Clock.faults c.args.clock.now)
+    (g.C.Clock.faults c.serve-served.new.clock) c.serve-served.ensures.cause c.end.result.stop c.end.ensures.stop)

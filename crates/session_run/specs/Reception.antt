@@ -1,0 +1,62 @@
+-- What who receives has done: what its link heard was pushed, and nothing else.
+use Rattle.std.specs.Prelude.{◌≡◌, ℕ, ◌+◌, ◌<◌, ◌^◌, true, List, [], All, Option, None, Some, ⊤}
+use Rattle.std.specs.List.{Contains}
+use Rattle.gw_base.specs.Faults.{Rose}
+use Rattle.gw_base.specs.declared.address.Addr.{Addr}
+use Rattle.job_inbox.specs.declared.hand.Hand.{Hand}
+use Rattle.net_link.specs.Datagrams.{Datagram, IsEmpty, LinkState}
+use Rattle.net_link.specs.declared.link.Link.{Ghosts}
+use Rattle.node_session.specs.Receiving.{hands_of}
+use Rattle.node_session.specs.declared.dispatched.Dispatched.{Dispatched}
+use Rattle.node_session.specs.declared.dispatched.Dispatched.TheVariants as dispatched
+use Rattle.session_run.specs.History.{datagram_of}
+use Rattle.session_run.specs.declared.reception.Reception.{Reception}
+use Rattle.session_run.specs.declared.stop.Stop.{Stop}
+use Rattle.session_run.specs.declared.stop.Stop.TheVariants as stop
+use Rattle.session_run.specs.declared.until.Until.{Until}
+use Rattle.session_run.specs.declared.until.Until.TheVariants as until
+
+-- why the reception stops behind a step, if it does
+abbrev pub stop_behind : Dispatched → Option Stop
+stop_behind dispatched.Link = Some stop.Link
+stop_behind dispatched.Clock = Some stop.Clock
+stop_behind dispatched.NoMemory = Some stop.NoMemory
+stop_behind dispatched.Pushed = None
+stop_behind dispatched.Full = None
+stop_behind dispatched.Quiet = None
+
+-- each job that a pass pushed is a datagram among these, and it took none
+pub record PushedOf (heard : List Datagram) (hand : Hand) : Type 0 where
+  pub jobs : All (λ job. Contains heard (datagram_of job)) hand.put
+  pub none_taken : hand.taken ≡ []
+
+-- the same of datagrams that a link tells it received
+abbrev pub PushedOfTold : Option (List Datagram) → Hand → Type 0
+PushedOfTold (Some heard) hand = PushedOf heard hand
+PushedOfTold None hand = hand.taken ≡ []
+
+module _ {L : Type 0} (tells : Ghosts L) where
+  abbrev pub link_of : Reception L → LinkState
+  link_of reception = tells.state reception.link
+
+  abbrev pub turns_of : Reception L → ℕ
+  turns_of reception = (link_of reception).turns
+
+  -- Since its link was made at this address, each job that it pushed is a datagram that the link received, and it sent
+  -- nothing. Where the link stopped it, its count of faults rose.
+  pub record HasDispatched (at : Addr) (reception : Reception L) : Type 0 where
+    pub pushed : All (PushedOfTold (link_of reception).received) (hands_of reception.dispatcher)
+    pub address : (link_of reception).address ≡ at
+    pub unsent : IsEmpty (link_of reception).sent
+    pub cause : reception.stop ≡ Some stop.Link → Rose 0 (link_of reception).faults
+
+  -- Of so many turns those are left that the link didn't take, unless it stopped; it is over where none is.
+  pub record CountsTurns (n : ℕ) (reception : Reception L) : Type 0 where
+    pub few : n < 2 ^ 63
+    pub turns : reception.stop ≡ None → turns_of reception + reception.left ≡ n
+    pub over : reception.is_over ≡ true → reception.left ≡ 0
+
+-- a fact of how many turns are taken, where they are counted
+abbrev pub IfTurns : Until → (ℕ → Type 0) → Type 0
+IfTurns (until.Turns n) P = P n
+IfTurns (until.QuietAfter count all) P = ⊤
