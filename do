@@ -9,7 +9,7 @@
 #                       speak of it; also a lemma, test, edit or file of that name; NAME may have a crate, and a
 #                       type or a file, in front, which say where it stands: gw_base::Moment::of; a number, as of a
 #                       cause, finds its constants
-#   ./do map [CRATE]    what each file of the crates, or of one, holds: its first line
+#   ./do map [CRATE]    what the crates, or one, stand on, and what each file of it holds: its first line
 #   ./do proved [CRATE] the public calls with their clauses, made from the sources
 #   ./do stories        puts the stories in examples/ behind those of crates/story_runs, where they have changed
 #   ./do docs           what the documents say that the sources don't; silent where there is nothing
@@ -50,10 +50,10 @@ definitions() {
 . tools/program.sh
 . tools/install.sh
 
-# The first line of each file of a crate: of its definitions, then of its sources.
+# What a crate stands on, and the first line of each file of it: of its definitions, then of its sources.
 map() {
     local file
-    echo "$1"
+    grep -E "^$1( staticlib)?:" crates.txt
     for file in $(specs "$1" | grep -v /Lib.antt) $(sources "$1"); do
         printf '    %-34s %s\n' "${file#crates/"$1"/}" "$(sed -n '/^\(--\|\/\/[!\/]\)/ { s/^\(--\|\/\/[!\/]\) *//; p; q }' "$file")"
     done

@@ -5,30 +5,41 @@
 //! code is the number of the status.
 #![tactic(auto)]
 
-ghost use Rattle.std.specs.Prelude.{◌≡◌, ◌≢◌, ◌⊎◌, None, map, string_bytes, true};
+ghost use Rattle.std.specs.Prelude.{◌≡◌, ◌≢◌, ◌⊎◌, ◌≤◌, None, map, string_bytes, true};
 ghost use Rattle.std.specs.Io.KnownBytes.{Appends};
 ghost use Rattle.std.specs.Process.{exit_status};
+ghost use Rattle.gate_journal.specs.Format.{fewest_octets, most_octets};
 ghost use Rattle.cgf_top.specs.Command.{command_of};
 ghost use Rattle.cgf_top.specs.Ending.{HasCause, WordsDecide};
 ghost use Rattle.cgf_top.specs.Job.{job_of};
 ghost use Rattle.cgf_top.specs.Run.{HasRead, is_reported, report_of, status_number};
+ghost use Rattle.cgf_top.specs.Serving.{serving_of};
 
 #[cfg(test)]
 mod tests;
 
-use cgf_edge::{BehindProgress, FileSource, Line, Progress, ReaderSource, WriterSink};
-use cgf_top::{Status, Watch, run_watched};
+use area_disk::{Area, QuietArea};
+use cdr_shelf::{QuietShelf, Shelf};
+use cgf_edge::{
+    BehindProgress, FileArea, FileSource, FolderShelf, Line, Progress, ReaderSource, SystemClock,
+    Trouble, WriterSink,
+};
+use cgf_top::{Ended, Places, Status, Watch, run_watched, serve_places};
 use gw_base::{Sink, Source};
+use net_link::UdpLinks;
 use std::env;
 use std::io::{ErrorKind, IsTerminal, Stderr, Write};
 use std::process::ExitCode;
+use std::sync::Wait;
+use std::thread::Threads;
+use std::time::Clock;
 
 /// The word that names the standard input.
 const STANDARD_INPUT: &str = "-";
 
 fn main(rt: HostRuntime) -> ExitCode {
     let status = match words(&rt) {
-        Ok(words) => run(&rt, &words),
+        Ok(words) => run(&rt, &rt, &words),
         Err(status) => status,
     };
     ended(&rt, status)
@@ -65,12 +76,76 @@ fn without_words(kind: ErrorKind) -> Status
     }
 }
 
-/// Runs the job over the file that the second word names, which is opened once it is to be read. Where the standard
-/// error is a terminal, it shows there how far a long job is, and the line is empty before anything is written.
-fn run(rt: &HostRuntime, words: &[String]) -> Status
-    ensures words { result ≡ Status.Words → command_of (map string_bytes words.now) ≡ None }
-    ensures told { command_of (map string_bytes words.now) ≡ None →
+/// How many octets the area has of a job that uses none.
+const UNUSED: u64 = 100;
+
+/// Runs the job. Its outside is real for `serve` alone: the area in the file and the shelf in the folder that its words
+/// name, both opened once they are used, links over UDP and the system's clock. `main` alone can hand on the threads of its
+/// handle, so they come as a handle of their own.
+fn run<R: Threads + Wait + Clock + Sync>(threads: &R, rt: &HostRuntime, words: &[String]) -> Status
+    ensures words { result ≡ Status.Words →
+        (command_of (map string_bytes words.now) ≡ None) × (serving_of (map string_bytes words.now) ≡ None) }
+    ensures told { command_of (map string_bytes words.now) ≡ None → serving_of (map string_bytes words.now) ≡ None →
         (result ≡ Status.Words) ⊎ (result ≡ Status.Memory) }
+{
+    match serve_places(words) {
+        Some(places) => run_served(threads, rt, words, places),
+        None => {
+            let Ok(area) = QuietArea::new(rt.alloc(), UNUSED) else {
+                return Status::Memory;
+            };
+            let ended = run_with(threads, rt, words, area, QuietShelf::new(rt.alloc()));
+            ended.status
+        }
+    }
+}
+
+/// Serves with a real area and a real shelf. Where one of them failed, one line on the standard error says which, and with
+/// what.
+fn run_served<R: Threads + Wait + Clock + Sync>(
+    threads: &R,
+    rt: &HostRuntime,
+    words: &[String],
+    places: Places<'_>,
+) -> Status
+    requires long { fewest_octets ≤ places.length }
+    requires short { places.length ≤ most_octets }
+    ensures words { result ≡ Status.Words →
+        (command_of (map string_bytes words.now) ≡ None) × (serving_of (map string_bytes words.now) ≡ None) }
+{
+    let Ok(shelf) = FolderShelf::new(rt.alloc(), rt, places.folder) else {
+        return Status::Memory;
+    };
+    let area = FileArea::new(rt, places.area, places.length);
+    let ended = run_with(threads, rt, words, area, shelf);
+    tell(rt, "area", places.area, ended.area.trouble());
+    tell(rt, "folder", places.folder, ended.shelf.trouble());
+    ended.status
+}
+
+/// Says on the standard error what an object has failed with, where it has.
+fn tell(rt: &HostRuntime, object: &str, path: &str, trouble: Option<Trouble>) {
+    if let Some(trouble) = trouble {
+        let _ = eprintln!(rt; "cgf: {object} {path}: {trouble}");
+    }
+}
+
+/// Runs the job over the file that the second word names, which is opened once it is to be read, with this area and this
+/// shelf. Where the standard error is a terminal, it shows there how far a long job is, and the line is empty before
+/// anything is written.
+fn run_with<A: Area + Send, F: Shelf + Send, R: Threads + Wait + Clock + Sync>(
+    threads: &R,
+    rt: &HostRuntime,
+    words: &[String],
+    area: A,
+    shelf: F,
+) -> Ended<A, F>
+    requires long { fewest_octets ≤ A.size area }
+    requires short { A.size area ≤ most_octets }
+    ensures words { result.status ≡ Status.Words →
+        (command_of (map string_bytes words.now) ≡ None) × (serving_of (map string_bytes words.now) ≡ None) }
+    ensures told { command_of (map string_bytes words.now) ≡ None → serving_of (map string_bytes words.now) ≡ None →
+        (result.status ≡ Status.Words) ⊎ (result.status ≡ Status.Memory) }
 {
     let line = Line::new();
     let mut sink = BehindProgress::new(WriterSink::new(rt.stdout()), &line, terminal(rt));
@@ -78,34 +153,79 @@ fn run(rt: &HostRuntime, words: &[String]) -> Status
     match words {
         [_, file] if file.as_str() != STANDARD_INPUT => {
             let mut source = FileSource::new(rt, file.as_str());
-            run_over(rt, words, &mut source, &mut sink, &mut watch)
+            run_over(
+                threads,
+                rt,
+                words,
+                &mut source,
+                &mut sink,
+                area,
+                shelf,
+                &mut watch,
+            )
         }
         _ => {
             let mut source = ReaderSource::new(rt.stdin());
-            run_over(rt, words, &mut source, &mut sink, &mut watch)
+            run_over(
+                threads,
+                rt,
+                words,
+                &mut source,
+                &mut sink,
+                area,
+                shelf,
+                &mut watch,
+            )
         }
     }
 }
 
-/// Runs the job over a source and a sink, and shows how far it is.
-fn run_over<S: Source, K: Sink, W: Write + Drop>(
+/// Runs the job over a source and a sink, an area and a shelf, and shows how far it is.
+fn run_over<
+    S: Source,
+    K: Sink,
+    A: Area + Send,
+    F: Shelf + Send,
+    W: Write + Drop,
+    R: Threads + Wait + Clock + Sync,
+>(
+    threads: &R,
     rt: &HostRuntime,
     words: &[String],
     source: &mut S,
     sink: &mut K,
+    area: A,
+    shelf: F,
     watch: &mut Shown<'_, W>,
-) -> Status
-    ensures words { WordsDecide (command_of (map string_bytes words.now)) result source.old source.new }
-    ensures report { is_reported result ≡ true →
+) -> Ended<A, F>
+    requires long { fewest_octets ≤ A.size area }
+    requires short { A.size area ≤ most_octets }
+    ensures words { serving_of (map string_bytes words.now) ≡ None →
+        WordsDecide (command_of (map string_bytes words.now)) result.status source.old source.new }
+    ensures known { result.status ≡ Status.Words → serving_of (map string_bytes words.now) ≡ None }
+    ensures report { serving_of (map string_bytes words.now) ≡ None → is_reported result.status ≡ true →
         let job = job_of S.Source K.Sink (map string_bytes words.now) source.old source.new sink.old sink.new in
-        (input : HasRead job result) ×
+        (input : HasRead job result.status) ×
         Appends (K.written sink.old) (K.written sink.new) (report_of input.command input.octets) }
-    ensures cause { HasCause result (S.faults source.old) (S.faults source.new) (K.faults sink.old)
+    ensures cause { HasCause result.status (S.faults source.old) (S.faults source.new) (K.faults sink.old)
         (K.faults sink.new) }
 {
-    let ended = run_watched(rt.alloc(), words, source, sink, watch);
+    let mut links = UdpLinks::new(rt.alloc(), rt);
+    let mut clock = SystemClock::new(rt);
+    let ended = run_watched(
+        threads,
+        rt.alloc(),
+        words,
+        source,
+        sink,
+        area,
+        shelf,
+        &mut links,
+        &mut clock,
+        watch,
+    );
     watch.0.clear();
-    ended.status
+    ended
 }
 
 /// Who shows how far a job is.

@@ -1,6 +1,9 @@
-use cgf_edge::WriterSink;
-use cgf_top::{InputKind, Status, WorldKind, run_cgf};
+use area_disk::QuietArea;
+use cdr_shelf::QuietShelf;
+use cgf_edge::{SystemClock, WriterSink};
+use cgf_top::{InputKind, Status, run_cgf};
 use gw_base::{MemorySource, Octets};
+use net_link::MemoryLinks;
 use std::io;
 use std::io::Write;
 use std::test::Fail;
@@ -35,7 +38,7 @@ fn a_sink_that_fails_in_the_middle_ends_the_job(rt: HostRuntime) -> Result<(), F
             "at 5\nin 10.0.1.1:40001 4EF0000500007E02FC0000\nat 4\nend\n",
             Status::Input {
                 place: 3,
-                kind: InputKind::World(WorldKind::Earlier),
+                kind: InputKind::Earlier,
             },
         ),
     ];
@@ -47,7 +50,20 @@ fn a_sink_that_fails_in_the_middle_ends_the_job(rt: HostRuntime) -> Result<(), F
         let script = Octets::of(alloc, script.as_bytes())?;
         let mut source = MemorySource::new(script, 7, Vec::new(alloc));
         let mut sink = WriterSink::new(FullWriter { calls: 0 });
-        let ended = run_cgf(alloc, &words, &mut source, &mut sink);
+        let area = QuietArea::new(alloc, 100).map_err(|_| "no area")?;
+        let mut links = MemoryLinks::new(alloc, Vec::new(alloc), 0, Vec::new(alloc))?;
+        let mut clock = SystemClock::new(&rt);
+        let ended = run_cgf(
+            &rt,
+            alloc,
+            &words,
+            &mut source,
+            &mut sink,
+            area,
+            QuietShelf::new(alloc),
+            &mut links,
+            &mut clock,
+        );
         assert_eq!(rt; ended.status, status);
     }
     Ok(())

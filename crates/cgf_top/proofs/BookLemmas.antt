@@ -1,5 +1,5 @@
 -- The book of a gateway whose device never fails: before each call and after it all entries are firm.
-use Rattle.std.proofs.Common.{◌≡◌, ◌≢◌, ℕ, ◌<◌, min, Bool, true, false, if◌then◌else◌, List, [], ◌∷◌, ◌++◌, length, get_or, take, Option, Some, None, refl, ap, sym, ◌∙◌, arith, append-nil, zero, suc, inl, inr}
+use Rattle.std.proofs.Common.{◌≡◌, ◌≢◌, ℕ, ◌<◌, ◌^◌, min, Bool, true, false, if◌then◌else◌, List, [], ◌∷◌, ◌++◌, length, get_or, take, Option, Some, None, refl, ap, sym, ◌∙◌, arith, append-nil, zero, suc, inl, inr}
 use Rattle.std.specs.Prelude.{All, slice_index}
 use Rattle.std.proofs.lemmas.Bool.{false≢true}
 use Rattle.std.proofs.lemmas.List.{length-take, take_min}
@@ -259,6 +259,11 @@ is_fit (item.Close moment) h = h
 
 pub all_fit : (items : List Item) → All IsWritable items → All IsFit items
 all_fit items h = λ k d within. is_fit (get_or items k d) (h k d within)
+
+-- what is asked for is few where all are
+pub few_items : (max : ℕ) (h : List HistoryEntry) (items : List Item) → items ≡ items_between 0 max h → length (items_of h) < 2 ^ 31 → length items < 2 ^ 31
+few_items max h items is few =
+    let long : length items ≡ min max (length (items_of h)) = ap length is ∙ length-take max (items_of h) in omega (arith, long, few)
 
 -- fewer items than were asked for are all
 pub all_items : (max : ℕ) (h : List HistoryEntry) (items : List Item) → items ≡ items_between 0 max h → length items < max → items ≡ items_of h

@@ -8,7 +8,7 @@ use Rattle.cgf_top.specs.declared.command.Command.{Command}
 use Rattle.cgf_top.specs.declared.status.Status.{Status}
 use Rattle.cgf_top.specs.declared.status.Status.TheVariants as status
 
-read_whole : (most : ℕ) (octets read : List ℕ) (rest_left : Option (List ℕ)) → length octets < most → IsRead most (Some octets) rest_left read → read ≡ octets
+pub read_whole : (most : ℕ) (octets read : List ℕ) (rest_left : Option (List ℕ)) → length octets < most → IsRead most (Some octets) rest_left read → read ≡ octets
 read_whole most octets read None h r = absurd r.consumed
 read_whole most octets read (Some rest) h r =
     elim r.whole [

@@ -12,6 +12,7 @@ use Rattle.gw_base.specs.declared.history.HistoryEntry.{HistoryEntry}
 use Rattle.gw_base.specs.declared.item.Item.{Item}
 use Rattle.world_script.specs.Script.{Refusal as LineRefusal, script_of}
 use Rattle.world_script.specs.declared.line.Line.{Line}
+use Rattle.cgf_top.proofs.KindLemmas.{line_not_of_run}
 use Rattle.cgf_top.specs.FeedReport.{Fed, FeedState, after_line, begun, end_lines, fed_from, fed_of, is_earlier, printed_for, with_print}
 use Rattle.cgf_top.specs.Gateway.{after_close}
 use Rattle.cgf_top.specs.NetworkReport.{HandsBack, lines_run}
@@ -24,7 +25,7 @@ use Rattle.replay_world.specs.declared.settings.Settings.{Settings}
 use Rattle.route_filter.specs.declared.rule.Rule.{Rule}
 use Rattle.cgf_top.specs.Steps.{IsFed, IsRefusal, IsReport, ended_by, refusal_at, setup_seen}
 use Rattle.cgf_top.specs.declared.command.Command.TheVariants.{Feed}
-use Rattle.cgf_top.specs.declared.input_kind.InputKind.TheVariants.{Script}
+use Rattle.cgf_top.specs.Kinds.{of_line}
 use Rattle.cgf_top.specs.declared.report.Refusal.{Refusal}
 use Rattle.cgf_top.specs.declared.report.Report.{Report}
 use Rattle.cgf_top.proofs.ReportLemmas.{line_refused, line_run}
@@ -148,9 +149,9 @@ fed_is_report text lines report read fed = record {
 }
 
 -- the refusal of one that it doesn't take
-pub refused_is : (text : List ℕ) (refusal : LineRefusal) → script_of text ≡ Err refusal → IsRefusal Feed text (record { place = refusal.place; kind = Script refusal.kind })
+pub refused_is : (text : List ℕ) (refusal : LineRefusal) → script_of text ≡ Err refusal → IsRefusal Feed text (record { place = refusal.place; kind = of_line refusal.kind })
 refused_is text refusal read = record {
   ended = ap (λ (r : Result (List Line) LineRefusal). script_end r) (sym read);
   none = ap (λ (r : Result (List Line) LineRefusal). script_report r) read;
-  untaken = ap (λ (r : Result (List Line) LineRefusal). may_have_written (script_end r)) read;
+  untaken = ap (λ (r : Result (List Line) LineRefusal). may_have_written (script_end r)) read ∙ line_not_of_run refusal.kind;
 }

@@ -19,7 +19,7 @@ use Rattle.gw_base.specs.declared.item.Item.{Item}
 pub never_rose : Rose 0 0 → ⊥
 never_rose rose = omega (arith, rose)
 
-length-files_from : (settings : FileSettings) (s sequence : ℕ) (runs : List (ClosedRun (List ℕ))) → length (files_from settings s sequence runs) ≡ length runs
+pub length-files_from : (settings : FileSettings) (s sequence : ℕ) (runs : List (ClosedRun (List ℕ))) → length (files_from settings s sequence runs) ≡ length runs
 length-files_from settings s sequence [] = refl
 length-files_from settings s sequence (run ∷ runs) = ap (λ (n : ℕ). suc n) (length-files_from settings s (sequence + 1) runs)
 

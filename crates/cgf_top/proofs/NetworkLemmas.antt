@@ -16,13 +16,14 @@ use Rattle.world_script.specs.Script.{Refusal as LineRefusal, script_in}
 use Rattle.world_script.specs.declared.fault.InputKind.{InputKind as LineKind}
 use Rattle.world_script.specs.declared.kind.ScriptKind.TheVariants as kind
 use Rattle.world_script.specs.declared.line.Line.{Line}
+use Rattle.cgf_top.proofs.KindLemmas.{world_of_run, line_not_of_run}
 use Rattle.cgf_top.specs.NetworkReport.{EndsByReport, HandsBack, lines_ok, lines_run, network_end, replay_end, replay_report, seeded_lines}
 use Rattle.cgf_top.specs.NetworkSteps.{HasDrilled, HasRun, IsAt, IsReplayed, PlayedOf, lines_unless, refusal_at_line}
 use Rattle.cgf_top.specs.Run.{may_have_written}
 use Rattle.cgf_top.specs.Steps.{IsRefusal, IsReport, ended_by}
 use Rattle.cgf_top.specs.declared.command.Command.TheVariants.{Drill, Replay as OfReplay}
 use Rattle.cgf_top.specs.declared.command.Seeded.{Seeded}
-use Rattle.cgf_top.specs.declared.input_kind.InputKind.TheVariants.{Script as OfScript, World}
+use Rattle.cgf_top.specs.Kinds.{of_line, of_world}
 use Rattle.cgf_top.specs.declared.report.Refusal.{Refusal}
 use Rattle.cgf_top.specs.declared.report.Report.{Report}
 use Rattle.cgf_top.proofs.EndingLemmas.{some_is_none}
@@ -158,7 +159,7 @@ replayed_front lines report refusal some printed refused played = record {
 
 -- the refusal of a line at a place from 0
 pub refused_at : (at : ℕ) (kind : WorldKind) (refused : Option Refusal) →
-    refused ≡ Some (record { place = at + 1; kind = World kind }) →
+    refused ≡ Some (record { place = at + 1; kind = of_world kind }) →
     refused ≡ refusal_at_line (Some (record { place = suc at; kind = kind }))
 refused_at at kind refused is =
     is ∙ ap (λ (n : ℕ). refusal_at_line (Some (record { place = n; kind = kind }))) (one_more at)
@@ -170,7 +171,7 @@ refused_at at kind refused is =
 
 written_at : (o : Option WorldRefusal) → may_have_written (network_end o) ≡ true
 written_at None = refl
-written_at (Some refusal) = refl
+written_at (Some refusal) = world_of_run refusal.kind
 
 ends_at : (o : Option WorldRefusal) → ended_by (refusal_at_line o) ≡ network_end o
 ends_at None = refl
@@ -197,11 +198,11 @@ replayed_is_report text lines report read is = record {
 
 pub replay_refused : (text : List ℕ) (place : ℕ) (why : LineKind) →
     script_in kind.Replay text ≡ Err (record { place = place; kind = why }) →
-    IsRefusal OfReplay text (record { place = place; kind = OfScript why })
+    IsRefusal OfReplay text (record { place = place; kind = of_line why })
 replay_refused text place why read = record {
   ended = ap (λ (r : Result (List Line) LineRefusal). replay_end r) (sym read);
   none = ap (λ (r : Result (List Line) LineRefusal). replay_report r) read;
-  untaken = ap (λ (r : Result (List Line) LineRefusal). may_have_written (replay_end r)) read;
+  untaken = ap (λ (r : Result (List Line) LineRefusal). may_have_written (replay_end r)) read ∙ line_not_of_run why;
 }
 
 -- The report of a drill.

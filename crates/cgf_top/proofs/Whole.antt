@@ -13,6 +13,7 @@ use Rattle.replay_world.specs.declared.replay.Played.{Played}
 use Rattle.world_script.specs.Script.{Refusal as LineRefusal, script_in}
 use Rattle.world_script.specs.declared.kind.ScriptKind.TheVariants as kind
 use Rattle.world_script.specs.declared.line.Line.{Line}
+use Rattle.cgf_top.proofs.KindLemmas.{file_not_of_run}
 use Rattle.cgf_top.specs.Command.{command_of, has_input, most_read}
 use Rattle.cgf_top.specs.Job.{Job}
 use Rattle.cgf_top.specs.Run.{HasRead, HasReported, IsRead, WritesFront, end_of, is_reported, may_have_written, report_of, shown_end}
@@ -22,7 +23,7 @@ use Rattle.cgf_top.specs.Steps.{IsRefusal, IsReport, ended_by}
 use Rattle.cgf_top.specs.declared.command.Command.TheVariants.{Drill, Replay, Show}
 use Rattle.cgf_top.specs.declared.command.Command.{Command}
 use Rattle.cgf_top.specs.declared.command.Seeded.{Seeded}
-use Rattle.cgf_top.specs.declared.input_kind.InputKind.TheVariants.{File}
+use Rattle.cgf_top.specs.Kinds.{of_file}
 use Rattle.cgf_top.specs.declared.report.Refusal.{Refusal}
 use Rattle.cgf_top.specs.declared.report.Report.{Report}
 use Rattle.cgf_top.specs.declared.status.Status.{Status}
@@ -106,6 +107,8 @@ hands_none (status.Input place kind) command octets played hands other = hands
 hands_none status.Read command octets played hands other = hands
 hands_none status.Write command octets played hands other = hands
 hands_none status.Memory command octets played hands other = hands
+hands_none (status.Store why) command octets played hands other = hands
+hands_none status.Link command octets played hands other = hands
 
 -- a job that isn't done hands nothing back
 pub keeps_none : (command : Command) (octets : List ℕ) (report : Report) → IsReport command octets report →
@@ -155,12 +158,14 @@ shown_none (status.Input place kind) octets = refl
 shown_none status.Read octets = refl
 shown_none status.Write octets = refl
 shown_none status.Memory octets = refl
+shown_none (status.Store why) octets = refl
+shown_none status.Link octets = refl
 
 -- the refusal of octets that are no file
 pub shown_refusal : (octets : List ℕ) (place : ℕ) (kind : FileKind) → file_in octets ≡ Err (fault.Bad place kind)
-    → IsRefusal Show octets (record { place = place; kind = File kind })
+    → IsRefusal Show octets (record { place = place; kind = of_file kind })
 shown_refusal octets place kind read = record {
   ended = ap (λ (r : Result CdrFile FileFault). shown_end r) (sym read);
   none = ap (λ (r : Result CdrFile FileFault). listed r) read;
-  untaken = ap (λ (r : Result CdrFile FileFault). may_have_written (shown_end r)) read;
+  untaken = ap (λ (r : Result CdrFile FileFault). may_have_written (shown_end r)) read ∙ file_not_of_run kind;
 }

@@ -1,5 +1,6 @@
 -- what public clauses cite
 pub mod Words
+pub mod Kinds
 pub mod Command
 pub mod Job
 pub mod Run
@@ -9,7 +10,11 @@ pub mod Gateway
 pub mod FeedReport
 pub mod ShowReport
 pub mod NetworkReport
+pub mod Serving
+pub mod Served
+pub mod ServeEnds
 -- steps of proofs
 pub mod BookSteps
 pub mod NetworkSteps
+pub mod ServeSteps
 pub mod Steps

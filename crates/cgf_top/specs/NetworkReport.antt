@@ -17,7 +17,7 @@ use Rattle.cgf_top.specs.Command.{extent_of}
 use Rattle.cgf_top.specs.declared.command.Command.{Command}
 use Rattle.cgf_top.specs.declared.command.Command.TheVariants.{Feed, Show, Replay, Sample, Drill}
 use Rattle.cgf_top.specs.declared.command.Seeded.{Seeded}
-use Rattle.cgf_top.specs.declared.input_kind.InputKind.TheVariants as input
+use Rattle.cgf_top.specs.Kinds.{of_line, of_world}
 use Rattle.cgf_top.specs.declared.status.Status.{Status}
 use Rattle.cgf_top.specs.declared.status.Status.TheVariants as status
 
@@ -25,13 +25,13 @@ use Rattle.cgf_top.specs.declared.status.Status.TheVariants as status
 
 abbrev pub network_end : Option WorldRefusal → Status
 network_end None = status.Done
-network_end (Some refusal) = status.Input refusal.place (input.World refusal.kind)
+network_end (Some refusal) = status.Input refusal.place (of_world refusal.kind)
 
 -- the lines of a script are run, all of them or up to the first that the world refuses; or the first that the grammar
 -- refuses is named
 abbrev pub replay_end : Result (List Line) LineRefusal → Status
 replay_end (Ok lines) = network_end (refusal_of_lines lines)
-replay_end (Err refusal) = status.Input refusal.place (input.Script refusal.kind)
+replay_end (Err refusal) = status.Input refusal.place (of_line refusal.kind)
 
 abbrev pub replay_report : Result (List Line) LineRefusal → List ℕ
 replay_report (Ok lines) = report_of_lines lines
@@ -87,6 +87,8 @@ lines_run (status.Input place kind) command text = None
 lines_run status.Read command text = None
 lines_run status.Write command text = None
 lines_run status.Memory command text = None
+lines_run (status.Store why) command text = None
+lines_run status.Link command text = None
 
 -- the network that ran is handed back, and nothing else is
 abbrev pub HandsBack : Option (List Line) → Option Played → Type 0

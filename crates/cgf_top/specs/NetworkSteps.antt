@@ -12,7 +12,7 @@ use Rattle.replay_world.specs.declared.replay.Played.{Played}
 use Rattle.replay_world.specs.declared.replay.Replay.{Replay}
 use Rattle.world_script.specs.declared.line.Line.{Line}
 use Rattle.cgf_top.specs.NetworkReport.{HandsBack}
-use Rattle.cgf_top.specs.declared.input_kind.InputKind.TheVariants.{World}
+use Rattle.cgf_top.specs.Kinds.{of_world}
 use Rattle.cgf_top.specs.declared.report.Refusal.{Refusal}
 use Rattle.cgf_top.specs.declared.report.Report.{Report}
 
@@ -32,7 +32,7 @@ pub record HasRun (lines : List Line) (at : ℕ) (replay : Replay) (printed : Li
 -- the line that the world refuses, as it is said of an input
 abbrev pub refusal_at_line : Option WorldRefusal → Option Refusal
 refusal_at_line None = None
-refusal_at_line (Some refusal) = Some (record { place = refusal.place; kind = World refusal.kind })
+refusal_at_line (Some refusal) = Some (record { place = refusal.place; kind = of_world refusal.kind })
 
 -- what is handed back stands for this; where all files are written, no file of its shelves is unsealed
 abbrev pub PlayedOf : ReplayValue → Option Played → Type 0

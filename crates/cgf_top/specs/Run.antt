@@ -12,14 +12,13 @@ use Rattle.world_script.specs.declared.kind.ScriptKind.TheVariants as kind
 use Rattle.world_script.specs.declared.line.Line.{Line}
 use Rattle.cgf_top.specs.FeedReport.{fed_of}
 use Rattle.cgf_top.specs.Job.{Job}
+use Rattle.cgf_top.specs.Kinds.{is_of_run, of_file, of_line, of_world}
 use Rattle.cgf_top.specs.NetworkReport.{HandsBack, drill_report, lines_run, replay_end, replay_report, sample_report}
 use Rattle.cgf_top.specs.ShowReport.{show_report}
 use Rattle.once_core.specs.declared.event.WorldKind.TheVariants.{Earlier}
 use Rattle.replay_world.specs.declared.replay.Played.{Played}
 use Rattle.cgf_top.specs.declared.command.Command.{Command}
 use Rattle.cgf_top.specs.declared.command.Command.TheVariants.{Feed, Show, Replay, Sample, Drill}
-use Rattle.cgf_top.specs.declared.input_kind.InputKind.{InputKind}
-use Rattle.cgf_top.specs.declared.input_kind.InputKind.TheVariants as input
 use Rattle.cgf_top.specs.declared.status.Status.{Status}
 use Rattle.cgf_top.specs.declared.status.Status.TheVariants as status
 
@@ -28,12 +27,12 @@ use Rattle.cgf_top.specs.declared.status.Status.TheVariants as status
 -- the lines of a script are run, all of them or up to the first that goes back in time
 abbrev pub run_end : Option ℕ → Status
 run_end None = status.Done
-run_end (Some place) = status.Input place (input.World Earlier)
+run_end (Some place) = status.Input place (of_world Earlier)
 
 -- a script is fed, or its first faulty line is named
 abbrev pub script_end : Result (List Line) Refusal → Status
 script_end (Ok lines) = run_end (fed_of lines).refused
-script_end (Err refusal) = status.Input refusal.place (input.Script refusal.kind)
+script_end (Err refusal) = status.Input refusal.place (of_line refusal.kind)
 
 abbrev pub script_report : Result (List Line) Refusal → List ℕ
 script_report (Ok lines) = (fed_of lines).printed
@@ -42,7 +41,7 @@ script_report (Err refusal) = []
 -- a file is listed, or its first fault is named, with its octet; the reading of octets itself never lacks memory
 abbrev pub shown_end : Result CdrFile FileFault → Status
 shown_end (Ok file) = status.Done
-shown_end (Err (fault.Bad place kind)) = status.Input place (input.File kind)
+shown_end (Err (fault.Bad place kind)) = status.Input place (of_file kind)
 shown_end (Err fault.NoMemory) = status.Memory
 
 abbrev pub end_of : Command → List ℕ → Status
@@ -61,12 +60,6 @@ report_of Replay text = replay_report (script_in kind.Replay text)
 report_of (Sample of) octets = sample_report of
 report_of (Drill of) octets = drill_report of
 
--- whether a line is refused for what was run before it, and not by the grammar
-abbrev pub is_of_run : InputKind → Bool
-is_of_run (input.Script kind) = false
-is_of_run (input.File kind) = false
-is_of_run (input.World kind) = true
-
 -- whether the job may have written something when it ends in this way
 abbrev pub may_have_written : Status → Bool
 may_have_written status.Done = true
@@ -75,6 +68,8 @@ may_have_written (status.Input place kind) = is_of_run kind
 may_have_written status.Read = false
 may_have_written status.Write = true
 may_have_written status.Memory = false
+may_have_written (status.Store why) = false
+may_have_written status.Link = false
 
 -- What is read.
 
@@ -118,6 +113,8 @@ is_reported status.Words = false
 is_reported status.Read = false
 is_reported status.Write = false
 is_reported status.Memory = false
+is_reported (status.Store why) = false
+is_reported status.Link = false
 
 -- the number that the program ends with
 abbrev pub status_number : Status → ℕ
@@ -127,3 +124,5 @@ status_number (status.Input place kind) = 2
 status_number status.Read = 3
 status_number status.Write = 4
 status_number status.Memory = 5
+status_number (status.Store why) = 6
+status_number status.Link = 7

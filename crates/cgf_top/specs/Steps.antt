@@ -12,7 +12,7 @@ use Rattle.cgf_top.specs.NetworkReport.{HandsBack, lines_run}
 use Rattle.cgf_top.specs.Run.{end_of, may_have_written, report_of}
 use Rattle.cgf_top.specs.declared.command.Command.{Command}
 use Rattle.cgf_top.specs.declared.feed.Feed.{Feed}
-use Rattle.cgf_top.specs.declared.input_kind.InputKind.TheVariants.{World}
+use Rattle.cgf_top.specs.Kinds.{of_world}
 use Rattle.cgf_top.specs.declared.report.Refusal.{Refusal}
 use Rattle.cgf_top.specs.declared.report.Report.{Report}
 use Rattle.cgf_top.specs.declared.status.Status.{Status}
@@ -51,7 +51,7 @@ outcome_line outcome.NoMemory = []
 -- the line with this number that can't be run
 abbrev pub refusal_at : Option ℕ → Option Refusal
 refusal_at None = None
-refusal_at (Some place) = Some (record { place = place; kind = World Earlier })
+refusal_at (Some place) = Some (record { place = place; kind = of_world Earlier })
 
 -- a report is what is printed for lines
 pub record IsFed (fed : Fed) (report : Report) : Type 0 where

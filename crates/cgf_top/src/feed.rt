@@ -14,7 +14,6 @@ use crate::input_kind::InputKind;
 use crate::printing::{print_counts, print_outcome, print_stream};
 use crate::report::{Refusal, Report};
 use gw_base::{Addr, Item, Moment, NoMemory};
-use once_core::WorldKind;
 use replay_world::{Settings, record_count, rules_of};
 use route_filter::Rules;
 use std::alloc::Global;
@@ -123,7 +122,7 @@ impl Feed {
             printed: self.printed,
             refused: Some(Refusal {
                 place: at as u64 + 1,
-                kind: InputKind::World(WorldKind::Earlier),
+                kind: InputKind::Earlier,
             }),
             played: None,
         }

@@ -11,13 +11,11 @@ ghost use Rattle.cgf_top.specs.Gateway.{after_close, after_datagram, after_tick,
 ghost use Rattle.cgf_top.specs.Steps.{outcome_line};
 
 use area_disk::QuietArea;
-use gateway_book::{Book, BookFault, Counts, Marked, Outcome, Setup, prepare};
+use gateway_book::laws::a_book_is_within_the_limits;
+use gateway_book::{Book, BookFault, Counts, ItemsFault, Marked, Outcome, Setup, prepare};
 use gw_base::{Addr, Caller, Item, Moment, NoMemory};
 use std::alloc::Global;
 use std::marker::Model;
-
-/// How many items a gateway tells at most: a list of so many would have more than 2^36 octets.
-const MOST_ITEMS: u32 = 0x7FFF_FFFF;
 
 /// The gateway's IPv4 address, 10.0.0.1.
 pub const GATEWAY: u32 = 0x0A00_0001;
@@ -104,13 +102,13 @@ impl Gateway {
         ensures fit { IfOk result (λ items. All IsFit items.items) }
         ensures same { self.new ≡ self.old }
     {
+        a_book_is_within_the_limits::<QuietArea>();
         let book = &mut self.book;
-        let Ok(items) = book.items(alloc, 0, MOST_ITEMS) else {
-            return Err(NoMemory);
+        let items = match book.items(alloc, 0, u32::MAX) {
+            Ok(items) => items,
+            Err(ItemsFault::NoMemory) => return Err(NoMemory),
+            Err(ItemsFault::Device) => unreachable!(),
         };
-        if items.len() >= MOST_ITEMS as usize {
-            return Err(NoMemory);
-        }
         Ok(items)
     }
 

@@ -4,11 +4,13 @@
 //! `report_of` of `specs/Run.antt`. The contract is that of `run_cgf`: what is written is the
 //! report of what was read.
 //!
-//!     let ended = run_cgf(alloc, &words, &mut source, &mut sink);
+//!     let ended = run_cgf(&rt, alloc, &words, &mut source, &mut sink, area, shelf, &mut links, &mut clock);
 #![tactic(auto)]
 
-ghost use Rattle.std.specs.Prelude.{◌≡◌, ◌≢◌, ◌<◌, ℕ, List, Some, false, true, None, Ok, Err, IfOk, IsSomeAnd, OnOk, length, map, string_bytes};
+ghost use Rattle.std.specs.Prelude.{◌≡◌, ◌≢◌, ◌<◌, ◌≤◌, ◌^◌, ℕ, List, Some, false, true, None, Ok, Err, IfOk, IsSomeAnd, OnOk, length, map, string_bytes};
+ghost use Rattle.gate_journal.specs.Format.{fewest_octets, most_octets};
 ghost use Rattle.gw_base.specs.Faults.{Rose};
+ghost use Rattle.gw_base.specs.declared.address.Addr.{Addr};
 ghost use Rattle.world_script.specs.Script.{script_in};
 ghost use Rattle.world_script.specs.declared.kind.ScriptKind.{ScriptKind};
 ghost use Rattle.world_script.specs.declared.line.Line.{Line};
@@ -17,9 +19,12 @@ ghost use Rattle.cgf_top.specs.Ending.{DoesJob, HasCause, IsBounded, IsComplete,
 ghost use Rattle.cgf_top.specs.Job.{job_of};
 ghost use Rattle.cgf_top.specs.NetworkReport.{RanNetwork, seeded_lines};
 ghost use Rattle.cgf_top.specs.Run.{HasReported, WritesFront, is_reported, may_have_written};
+ghost use Rattle.cgf_top.specs.ServeEnds.{IsUntouched, Serves, may_have_served};
+ghost use Rattle.cgf_top.specs.Serving.{serving_of};
 ghost use Rattle.cgf_top.specs.Steps.{IsRefusal, IsReport, ended_by};
 ghost use Rattle.cgf_top.specs.declared.command.Seeded.{Seeded};
 ghost use Rattle.cgf_top.specs.declared.report.Refusal.{Refusal};
+ghost use Rattle.cgf_top.specs.declared.serving.Serving.{Serving};
 
 mod command;
 mod feed;
@@ -31,6 +36,9 @@ mod network;
 mod output;
 mod printing;
 mod report;
+mod serve;
+mod serving;
+mod settling;
 mod show;
 mod status;
 mod watch;
@@ -40,23 +48,31 @@ use crate::command::Command;
 use crate::input::{ReadEnd, read_input};
 use crate::output::write_all;
 use crate::report::{NoReport, Refusal, Report};
+use crate::serve::serve_gateway;
 use crate::watch::Nobody;
-pub use cdr_file::FileKind;
+use area_disk::Area;
+use cdr_shelf::Shelf;
 use gw_base::{NoMemory, Sink, Source};
 pub use input_kind::InputKind;
-pub use once_core::WorldKind;
+use net_link::Links;
 pub use replay_world::Played;
 use replay_world::laws::a_script_is_short;
-pub use status::Status;
+pub use serving::{Places, Serving, serve_places};
+pub use status::{Status, StoreFault};
 use std::alloc::Global;
+use std::sync::Wait;
+use std::thread::Threads;
+use std::time::Clock;
 pub use watch::Watch;
-pub use world_script::InputKind as LineKind;
 use world_script::{InputFault, Script};
 
 /// How a job ended, and what it ran.
 #[derive(Drop)]
-pub struct Ended {
+pub struct Ended<A: Area, F: Shelf> {
     pub status: Status,
+    /// The area and the shelf that were handed in, as the job left them. `serve` alone uses them.
+    pub area: A,
+    pub shelf: F,
     /// The network of a `replay` or a `drill` that is done: its areas, its shelves and its nodes.
     pub played: Option<Played>,
 }
@@ -68,20 +84,44 @@ pub struct Ended {
 /// PACKETS` reads nothing, and writes the script that the seed gives; `drill SEED NODES GATEWAYS PACKETS` runs that
 /// script, and writes what all gateways and nodes count together then.
 ///
-/// A network that ran to its end is handed back.
+/// `serve IP PORT TURNS LENGTH AREA FOLDER` reads settings, opens the area and the shelf that were handed in, serves at
+/// the address with four sessions on threads for so many turns of its link, settles, and writes the gateway's counts. The
+/// area, the shelf, the links and the clock are its own; every other job leaves them as they are.
+///
+/// A network that ran to its end is handed back, and the area and the shelf always are.
 ///
 /// An input that the grammar refuses writes nothing. A line of a script that can't be run, since it sets a moment before
 /// the present one, or the world refuses it, ends the job: what was printed for the lines before it is written.
-pub fn run_cgf<S: Source, K: Sink>(
+pub fn run_cgf<
+    S: Source,
+    K: Sink,
+    A: Area + Send,
+    F: Shelf + Send,
+    L: Links,
+    C: gw_base::Clock,
+    R: Threads + Wait + Clock + Sync,
+>(
+    rt: &R,
     alloc: Global,
     words: &[String],
     source: &mut S,
     sink: &mut K,
-) -> Ended
+    area: A,
+    shelf: F,
+    links: &mut L,
+    clock: &mut C,
+) -> Ended<A, F>
+where
+    L::Link: Send,
+    requires long { fewest_octets ≤ A.size area }
+    requires short { A.size area ≤ most_octets }
+    requires turns { (at : Addr) → (L.state links.old).turns at < 2 ^ 63 }
+
     // A replay that is done hands back the network that its script is. In the files of all its gateways each record of
     // each packet that its node ever resolved stands at exactly one place of its own, and each record of any other
     // packet at one at most; no copy that is held or was cancelled puts one there, and the files have no other record.
-    // Each file is sealed, and no shelf has another. What is printed ends with these files.
+    // Each file is sealed, and no shelf has another. What its lines print, which `job` says is written, ends with these
+    // files.
     ensures once { (text : List ℕ) (lines : List Line) →
         command_of (map string_bytes words.now) ≡ Some Command.Replay → S.left source.old ≡ Some text →
         script_in ScriptKind.Replay text ≡ Ok lines → result.status ≡ Status.Done →
@@ -89,27 +129,115 @@ pub fn run_cgf<S: Source, K: Sink>(
     // So does a drill, which prints sums instead: the script is that of its seed.
     ensures drilled { (of : Seeded) → command_of (map string_bytes words.now) ≡ Some (Command.Drill of) →
         result.status ≡ Status.Done → IsSomeAnd result.played (RanNetwork (seeded_lines of)) }
-
-    // What was read and written, what is handed back, and why the job ended so.
-    ensures job { DoesJob (job_of S.Source K.Sink (map string_bytes words.now) source.old source.new sink.old sink.new)
+    // A gateway that served hands back the area of a history that has grown from the one handed in by answers to
+    // datagrams that its links received, and the shelf with just its files; each reply that they sent rests on it.
+    ensures serves { (of : Serving) → serving_of (map string_bytes words.now) ≡ Some of → Serves A.Area F.Shelf of
+        (job_of S.Source K.Sink (map string_bytes words.now) source.old source.new sink.old sink.new)
+        area result.area shelf result.shelf (L.state links.old) (L.state links.new) (C.faults clock.old)
+        (C.faults clock.new) result.status result.played }
+    // Every other job, and one that ends before the gateway is opened, leaves the outside as it is.
+    ensures outside { may_have_served (serving_of (map string_bytes words.now)) result.status ≡ false →
+        IsUntouched area result.area shelf result.shelf links.old links.new clock.old clock.new }
+    // What was read and written, what is handed back, and why every other job ended so.
+    ensures job { serving_of (map string_bytes words.now) ≡ None → DoesJob
+        (job_of S.Source K.Sink (map string_bytes words.now) source.old source.new sink.old sink.new)
         result.status result.played }
     // Words that are none of the forms end as `Words`, and no others do, unless there is no memory to parse them. Nothing
     // is read of them, nor where the command has no input. Nothing is written but at `Done`, at `Write`, and at a line
     // that can't be run.
-    ensures words { WordsDecide (command_of (map string_bytes words.now)) result.status source.old source.new }
+    ensures words { serving_of (map string_bytes words.now) ≡ None →
+        WordsDecide (command_of (map string_bytes words.now)) result.status source.old source.new }
     ensures untouched { may_have_written result.status ≡ false → sink.new ≡ sink.old }
 {
-    run_watched(alloc, words, source, sink, &mut Nobody)
+    run_watched(
+        rt,
+        alloc,
+        words,
+        source,
+        sink,
+        area,
+        shelf,
+        links,
+        clock,
+        &mut Nobody,
+    )
 }
 
 /// The same, and tells `watch` how far the lines of a network are.
-pub fn run_watched<S: Source, K: Sink, W: Watch>(
+pub fn run_watched<
+    S: Source,
+    K: Sink,
+    A: Area + Send,
+    F: Shelf + Send,
+    L: Links,
+    C: gw_base::Clock,
+    W: Watch,
+    R: Threads + Wait + Clock + Sync,
+>(
+    rt: &R,
+    alloc: Global,
+    words: &[String],
+    source: &mut S,
+    sink: &mut K,
+    area: A,
+    shelf: F,
+    links: &mut L,
+    clock: &mut C,
+    watch: &mut W,
+) -> Ended<A, F>
+where
+    L::Link: Send,
+    requires long { fewest_octets ≤ A.size area }
+    requires short { A.size area ≤ most_octets }
+    requires turns { (at : Addr) → (L.state links.old).turns at < 2 ^ 63 }
+    ensures once { (text : List ℕ) (lines : List Line) →
+        command_of (map string_bytes words.now) ≡ Some Command.Replay → S.left source.old ≡ Some text →
+        script_in ScriptKind.Replay text ≡ Ok lines → result.status ≡ Status.Done →
+        IsSomeAnd result.played (RanNetwork lines) }
+    ensures drilled { (of : Seeded) → command_of (map string_bytes words.now) ≡ Some (Command.Drill of) →
+        result.status ≡ Status.Done → IsSomeAnd result.played (RanNetwork (seeded_lines of)) }
+    ensures serves { (of : Serving) → serving_of (map string_bytes words.now) ≡ Some of → Serves A.Area F.Shelf of
+        (job_of S.Source K.Sink (map string_bytes words.now) source.old source.new sink.old sink.new)
+        area result.area shelf result.shelf (L.state links.old) (L.state links.new) (C.faults clock.old)
+        (C.faults clock.new) result.status result.played }
+    ensures outside { may_have_served (serving_of (map string_bytes words.now)) result.status ≡ false →
+        IsUntouched area result.area shelf result.shelf links.old links.new clock.old clock.new }
+    ensures job { serving_of (map string_bytes words.now) ≡ None → DoesJob
+        (job_of S.Source K.Sink (map string_bytes words.now) source.old source.new sink.old sink.new)
+        result.status result.played }
+    ensures words { serving_of (map string_bytes words.now) ≡ None →
+        WordsDecide (command_of (map string_bytes words.now)) result.status source.old source.new }
+    ensures untouched { may_have_written result.status ≡ false → sink.new ≡ sink.old }
+{
+    match Serving::of(words) {
+        Some(serving) => serve_gateway(rt, alloc, serving, source, sink, area, shelf, links, clock),
+        None => {
+            let JobEnd { status, played } = do_job(alloc, words, source, sink, watch);
+            Ended {
+                status,
+                area,
+                shelf,
+                played,
+            }
+        }
+    }
+}
+
+/// How a job over files ended, and what it ran.
+#[derive(Drop)]
+struct JobEnd {
+    status: Status,
+    played: Option<Played>,
+}
+
+/// Does a job over files, and no other.
+fn do_job<S: Source, K: Sink, W: Watch>(
     alloc: Global,
     words: &[String],
     source: &mut S,
     sink: &mut K,
     watch: &mut W,
-) -> Ended
+) -> JobEnd
     ensures once { (text : List ℕ) (lines : List Line) →
         command_of (map string_bytes words.now) ≡ Some Command.Replay → S.left source.old ≡ Some text →
         script_in ScriptKind.Replay text ≡ Ok lines → result.status ≡ Status.Done →
@@ -132,7 +260,7 @@ fn run<S: Source, K: Sink, W: Watch>(
     source: &mut S,
     sink: &mut K,
     watch: &mut W,
-) -> Ended
+) -> JobEnd
     ensures words { WordsDecide (command_of (map string_bytes words.now)) result.status source.old source.new }
     ensures untouched { may_have_written result.status ≡ false → sink.new ≡ sink.old }
     ensures report { is_reported result.status ≡ true → HasReported
@@ -150,22 +278,22 @@ fn run<S: Source, K: Sink, W: Watch>(
 {
     let command = match Command::of(alloc, words) {
         Ok(Some(command)) => command,
-        Ok(None) => return Ended {
+        Ok(None) => return JobEnd {
             status: Status::Words,
             played: None,
         },
-        Err(NoMemory) => return Ended {
+        Err(NoMemory) => return JobEnd {
             status: Status::Memory,
             played: None,
         },
     };
     let octets = match read_input(alloc, source, command.most_read()) {
         Ok(octets) => octets,
-        Err(ReadEnd::Failed) => return Ended {
+        Err(ReadEnd::Failed) => return JobEnd {
             status: Status::Read,
             played: None,
         },
-        Err(ReadEnd::NoMemory) => return Ended {
+        Err(ReadEnd::NoMemory) => return JobEnd {
             status: Status::Memory,
             played: None,
         },
@@ -178,22 +306,22 @@ fn run<S: Source, K: Sink, W: Watch>(
                 played,
             },
         ) => match write_all(sink, &printed) {
-            Ok(()) => Ended {
+            Ok(()) => JobEnd {
                 status: ended_by(refused),
                 played,
             },
-            Err(_) => Ended {
+            Err(_) => JobEnd {
                 status: Status::Write,
                 played: None,
             },
         },
         Err(NoReport::Refused(Refusal { place, kind })) => {
-            Ended {
+            JobEnd {
                 status: Status::Input { place, kind },
                 played: None,
             }
         }
-        Err(NoReport::NoMemory) => Ended {
+        Err(NoReport::NoMemory) => JobEnd {
             status: Status::Memory,
             played: None,
         },
@@ -247,7 +375,7 @@ fn feed_report_of(alloc: Global, text: Vec<u8>) -> Result<Report, NoReport>
     match read {
         Ok(script) => Ok(feed::report(alloc, script)?),
         Err(InputFault::Bad { place, kind }) => {
-            let kind = InputKind::Script(kind);
+            let kind = InputKind::from(kind);
             Err(NoReport::Refused(Refusal { place, kind }))
         }
         Err(InputFault::NoMemory) => Err(NoReport::NoMemory),

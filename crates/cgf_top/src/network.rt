@@ -5,6 +5,7 @@ ghost use Rattle.replay_world.specs.Report.{refusal_of_lines};
 ghost use Rattle.replay_world.specs.Stands.{Stands};
 ghost use Rattle.replay_world.specs.Value.{ReplayValue};
 ghost use Rattle.world_script.specs.Script.{most_text};
+ghost use Rattle.cgf_top.specs.Kinds.{of_world};
 ghost use Rattle.cgf_top.specs.Command.{IsExtent, most_read};
 ghost use Rattle.cgf_top.specs.NetworkSteps.{HasDrilled, IsReplayed, PlayedOf};
 ghost use Rattle.cgf_top.specs.Steps.{IsRefusal, IsReport};
@@ -43,7 +44,7 @@ pub fn replay_report_of<W: Watch>(
     match read {
         Ok(script) => Ok(replay(alloc, &script, watch)?),
         Err(InputFault::Bad { place, kind }) => {
-            let kind = InputKind::Script(kind);
+            let kind = InputKind::from(kind);
             Err(NoReport::Refused(Refusal { place, kind }))
         }
         Err(InputFault::NoMemory) => Err(NoReport::NoMemory),
@@ -123,14 +124,14 @@ fn ended(printed: Octets, replay: Replay) -> Report
 fn refused(printed: Octets, at: usize, kind: WorldKind) -> Report
     requires { at + 1 < 2 ^ 64 }
     ensures printed { result.printed.items ≡ printed }
-    ensures refused { result.refused ≡ Some (record { place = at + 1; kind = InputKind.World kind }) }
+    ensures refused { result.refused ≡ Some (record { place = at + 1; kind = of_world kind }) }
     ensures played { result.played ≡ None }
 {
     Report {
         printed: printed.into_vec(),
         refused: Some(Refusal {
             place: at as u64 + 1,
-            kind: InputKind::World(kind),
+            kind: InputKind::from(kind),
         }),
         played: None,
     }

@@ -31,7 +31,7 @@ pub fn report(alloc: Global, octets: Vec<u8>) -> Result<Report, NoReport>
             })
         }
         Err(FileFault::Bad { place, kind }) => {
-            let kind = InputKind::File(kind);
+            let kind = InputKind::from(kind);
             Err(NoReport::Refused(Refusal { place, kind }))
         }
         Err(FileFault::NoMemory) => Err(NoReport::NoMemory),

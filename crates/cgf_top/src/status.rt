@@ -4,6 +4,15 @@ ghost use Rattle.cgf_top.specs.Run.{status_number};
 use crate::input_kind::InputKind;
 use std::fmt;
 
+/// Why a gateway's store failed it.
+#[derive(Clone, Copy, Debug, PartialEq, Eq)]
+pub enum StoreFault {
+    /// The device of the area or that of the shelf failed.
+    Device,
+    /// The area is of another format, or another gateway's: this octet of it shows that. It stays as it was.
+    NotOurs { at: u64 },
+}
+
 /// How the job ended.
 #[derive(Clone, Copy, Debug, PartialEq, Eq)]
 pub enum Status {
@@ -20,6 +29,10 @@ pub enum Status {
     Write,
     /// There was no memory for the job. Nothing was written.
     Memory,
+    /// A gateway's journal or its files failed it, as it was opened or as it settled. Nothing was written.
+    Store(StoreFault),
+    /// A link or the clock failed a gateway that served. Nothing was written.
+    Link,
 }
 
 impl Status {
@@ -34,6 +47,8 @@ impl Status {
             Status::Read => 3,
             Status::Write => 4,
             Status::Memory => 5,
+            Status::Store(_) => 6,
+            Status::Link => 7,
         }
     }
 }
@@ -52,6 +67,9 @@ impl fmt::Display for Status {
             Status::Read => write!(f, "cgf: read"),
             Status::Write => write!(f, "cgf: write"),
             Status::Memory => write!(f, "cgf: memory"),
+            Status::Store(StoreFault::Device) => write!(f, "cgf: store"),
+            Status::Store(StoreFault::NotOurs { at }) => write!(f, "cgf: store {at}"),
+            Status::Link => write!(f, "cgf: link"),
         }
     }
 }

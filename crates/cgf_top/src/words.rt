@@ -10,7 +10,7 @@ use clap::{Arg, ArgAction, ArgMatches, Command, Error};
 use std::alloc::{AllocError, Global};
 
 /// Whether a word is an option: it begins with a minus sign, and isn't that sign alone, which names the standard input.
-fn is_option(word: &[u8]) -> bool
+pub fn is_option(word: &[u8]) -> bool
     ensures { result ≡ is_option word.now }
 {
     match word {

@@ -1,15 +1,24 @@
 //! A job over words and an input in memory.
 
+use area_disk::QuietArea;
+use cdr_shelf::QuietShelf;
 use cgf_top::{Ended, Played, Status, run_cgf};
-use gw_base::{MemorySink, MemorySource, Octets};
+use gw_base::{MemoryClock, MemorySink, MemorySource, Moment, Octets};
+use net_link::MemoryLinks;
 use std::alloc::Global;
 use std::io;
 use std::io::{Error, ErrorKind};
+use std::sync::Wait;
+use std::thread::Threads;
+use std::time::Clock;
 
 /// How many octets the source gives a call, and how many the job may write.
 const PIECE: usize = 65_536;
 
 const MOST_WRITTEN: usize = 1_100_000;
+
+/// How many octets the area has of a job that uses none.
+const UNUSED: u64 = 100;
 
 /// What stands in front of an input in hexadecimal.
 const OCTETS: &str = "octets ";
@@ -23,7 +32,12 @@ pub(crate) struct Done {
 }
 
 /// The job over these words, with single spaces between them, and this input.
-pub(crate) fn run(alloc: Global, words: &str, input: &str) -> io::Result<Done> {
+pub(crate) fn run<R: Threads + Wait + Clock + Sync + Alloc<A = Global>>(
+    rt: &R,
+    words: &str,
+    input: &str,
+) -> io::Result<Done> {
+    let alloc = rt.alloc();
     let mut given = Vec::new(alloc);
     for word in words.split(' ') {
         given.push(String::from_str(alloc, word)?)?;
@@ -32,12 +46,42 @@ pub(crate) fn run(alloc: Global, words: &str, input: &str) -> io::Result<Done> {
     let mut source = MemorySource::new(input, PIECE, Vec::new(alloc));
     let sink = MemorySink::new(alloc, MOST_WRITTEN, Vec::new(alloc));
     let mut sink = sink.map_err(|_| Error::from(ErrorKind::OutOfMemory))?;
-    let Ended { status, played } = run_cgf(alloc, &given, &mut source, &mut sink);
+    let Ok(area) = QuietArea::new(alloc, UNUSED) else {
+        return Err(Error::from(ErrorKind::OutOfMemory));
+    };
+    let shelf = QuietShelf::new(alloc);
+    let links = MemoryLinks::new(alloc, Vec::new(alloc), 0, Vec::new(alloc));
+    let mut links = links.map_err(|_| Error::from(ErrorKind::OutOfMemory))?;
+    let mut clock = MemoryClock::new(vec![in alloc; first_moment()]?, Vec::new(alloc));
+    let Ended {
+        status,
+        area: _,
+        shelf: _,
+        played,
+    } = run_cgf(
+        rt,
+        alloc,
+        &given,
+        &mut source,
+        &mut sink,
+        area,
+        shelf,
+        &mut links,
+        &mut clock,
+    );
     Ok(Done {
         status,
         printed: sink.octets().to_vec(alloc)?,
         played: played.map(handed_back),
     })
+}
+
+/// The moment 0.
+fn first_moment() -> Moment {
+    let Some(moment) = Moment::of(0) else {
+        unreachable!();
+    };
+    moment
 }
 
 /// The octets of an input.

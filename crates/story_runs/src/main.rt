@@ -9,8 +9,12 @@
 mod job;
 
 use crate::job::{Done, run};
+use std::alloc::Global;
 use std::io;
-use std::io::{Error, ErrorKind, Write};
+use std::io::{Error, ErrorKind};
+use std::sync::Wait;
+use std::thread::Threads;
+use std::time::Clock;
 
 /// What stands in front of the name of each story.
 const NAME: &str = "\n== ";
@@ -25,16 +29,19 @@ fn main(rt: HostRuntime) -> io::Result<()> {
 }
 
 /// Runs a story and prints its name, what the job writes, its status, and what it hands back.
-fn tell(rt: &HostRuntime, story: &str) -> io::Result<()> {
+fn tell<R: Threads + Wait + Clock + Sync + Print + Alloc<A = Global>>(
+    rt: &R,
+    story: &str,
+) -> io::Result<()> {
     let (name, rest) = first_line(story)?;
     let (words, input) = first_line(rest)?;
     let Done {
         status,
         printed,
         played,
-    } = run(rt.alloc(), words, input)?;
+    } = run(rt, words, input)?;
     print!(rt; "{NAME}{name}\n")?;
-    rt.stdout().write_all(&printed)?;
+    rt.write_all(&printed)?;
     println!(rt; "status {}, {status}", status.number())?;
     if let Some((areas, shelves, nodes)) = played {
         println!(rt; "handed back: areas {areas}, shelves {shelves}, nodes {nodes}")?;

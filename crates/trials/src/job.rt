@@ -4,10 +4,16 @@
 
 ghost use Rattle.std.specs.Prelude.{◌≤◌};
 
-use cgf_top::{Ended, InputKind, LineKind, Played, Status, WorldKind, run_cgf};
-use gw_base::{MemorySink, MemorySource, Octets};
+use area_disk::QuietArea;
+use cdr_shelf::QuietShelf;
+use cgf_top::{Ended, InputKind, Played, Status, run_cgf};
+use gw_base::{MemoryClock, MemorySink, MemorySource, Moment, Octets};
+use net_link::MemoryLinks;
 use std::alloc::Global;
+use std::sync::Wait;
 use std::test::Fail;
+use std::thread::Threads;
+use std::time::Clock;
 
 /// A script that sends a packet of one record.
 const FIRST: &str =
@@ -41,10 +47,13 @@ pub(crate) struct Done {
     pub(crate) handed: Option<(usize, usize, usize)>,
 }
 
+/// How many octets the area has of a job that uses none.
+const UNUSED: u64 = 100;
+
 /// A job over these words, where the source gives pieces of this size, and source and sink fail at these calls. Each
 /// test of a job comes here.
-pub(crate) fn job(
-    alloc: Global,
+pub(crate) fn job<R: Threads + Wait + Clock + Sync + Alloc<A = Global>>(
+    rt: &R,
     words: &[&str],
     input: &[u8],
     piece: usize,
@@ -53,6 +62,7 @@ pub(crate) fn job(
 ) -> Result<Done, Fail>
     requires { 1 ≤ piece }
 {
+    let alloc = rt.alloc();
     let mut given = Vec::new(alloc);
     for word in words {
         given.push(String::from_str(alloc, word)?)?;
@@ -60,12 +70,42 @@ pub(crate) fn job(
     let input = Octets::of(alloc, input)?;
     let mut source = MemorySource::new(input, piece, fail_source.to_vec(alloc)?);
     let mut sink = MemorySink::new(alloc, 1_100_000, fail_sink.to_vec(alloc)?)?;
-    let Ended { status, played } = run_cgf(alloc, &given, &mut source, &mut sink);
+    let Ok(area) = QuietArea::new(alloc, UNUSED) else {
+        return Err(Fail::from("no area"));
+    };
+    let shelf = QuietShelf::new(alloc);
+    let links = MemoryLinks::new(alloc, Vec::new(alloc), 0, Vec::new(alloc));
+    let mut links = links?;
+    let mut clock = MemoryClock::new(vec![in alloc; first_moment()]?, Vec::new(alloc));
+    let Ended {
+        status,
+        area: _,
+        shelf: _,
+        played,
+    } = run_cgf(
+        rt,
+        alloc,
+        &given,
+        &mut source,
+        &mut sink,
+        area,
+        shelf,
+        &mut links,
+        &mut clock,
+    );
     Ok(Done {
         status,
         printed: sink.octets().to_vec(alloc)?,
         handed: handed(played),
     })
+}
+
+/// The moment 0.
+fn first_moment() -> Moment {
+    let Some(moment) = Moment::of(0) else {
+        unreachable!();
+    };
+    moment
 }
 
 /// How many gateways, as areas and as shelves, and nodes were handed back.
@@ -84,7 +124,7 @@ fn an_input_comes_in_pieces(rt: HostRuntime) -> Result<(), Fail> {
     ];
     for (command, input, told) in inputs {
         for piece in [4096, 1] {
-            let done = job(rt.alloc(), &[command, "-"], input, piece, &[], &[])?;
+            let done = job(&rt, &[command, "-"], input, piece, &[], &[])?;
             assert_eq!(rt; done.status, Status::Done);
             assert_eq!(rt; done.printed.as_slice(), told.as_bytes());
         }
@@ -127,7 +167,7 @@ fn words_decide_before_anything_is_read(rt: HostRuntime) -> Result<(), Fail> {
         &["samples", "7", "1", "1", "1"],
     ];
     for words in lists {
-        let done = job(rt.alloc(), words, FIRST.as_bytes(), 4096, &[1], &[1])?;
+        let done = job(&rt, words, FIRST.as_bytes(), 4096, &[1], &[1])?;
         assert_eq!(rt; done.status, Status::Words);
         assert!(rt; done.printed.is_empty());
         assert_eq!(rt; done.handed, None);
@@ -144,7 +184,7 @@ fn the_script_of_a_seed_has_no_input(rt: HostRuntime) -> Result<(), Fail> {
         (["sample", "18446744073709551615", "16", "8", "1"], None),
     ];
     for (words, handed) in lists {
-        let done = job(rt.alloc(), &words, b"frob\n", 4096, &[1], &[])?;
+        let done = job(&rt, &words, b"frob\n", 4096, &[1], &[])?;
         assert_eq!(rt; done.status, Status::Done);
         assert_eq!(rt; done.handed, handed);
     }
@@ -193,7 +233,7 @@ fn a_fault_of_the_input_or_the_output_is_told(rt: HostRuntime) -> Result<(), Fai
         ),
     ];
     for (words, input, fail_source, fail_sink, status) in cases {
-        let done = job(rt.alloc(), words, input, 20, fail_source, fail_sink)?;
+        let done = job(&rt, words, input, 20, fail_source, fail_sink)?;
         assert_eq!(rt; done.status, status);
         assert!(rt; done.printed.is_empty());
         assert_eq!(rt; done.handed, None);
@@ -222,20 +262,13 @@ fn sum_of(octets: &[u8]) -> u64 {
 #[test]
 fn a_sample_of_2000_packets_runs_as_the_plain_model_runs_it(rt: HostRuntime) -> Result<(), Fail> {
     let words = ["sample", "7", "4", "3", "2000"];
-    let sample = job(rt.alloc(), &words, b"", 4096, &[], &[])?;
+    let sample = job(&rt, &words, b"", 4096, &[], &[])?;
     assert_eq!(rt; sample.status, Status::Done);
     assert_eq!(rt;
         (sample.printed.len(), sum_of(&sample.printed)),
         LARGE_SAMPLE
     );
-    let done = job(
-        rt.alloc(),
-        &["replay", "-"],
-        &sample.printed,
-        65_536,
-        &[],
-        &[],
-    )?;
+    let done = job(&rt, &["replay", "-"], &sample.printed, 65_536, &[], &[])?;
     assert_eq!(rt; done.status, Status::Done);
     assert_eq!(rt; (done.printed.len(), sum_of(&done.printed)), LARGE_REPLAY);
     assert_eq!(rt; done.handed, Some((3, 3, 4)));
@@ -246,11 +279,11 @@ fn a_sample_of_2000_packets_runs_as_the_plain_model_runs_it(rt: HostRuntime) -> 
 fn each_status_has_its_number_and_its_line(rt: HostRuntime) -> Result<(), Fail> {
     let earlier = Status::Input {
         place: 1,
-        kind: InputKind::World(WorldKind::Earlier),
+        kind: InputKind::Earlier,
     };
     let too_long = Status::Input {
         place: 16_777_217,
-        kind: InputKind::Script(LineKind::TooLong),
+        kind: InputKind::TooLong,
     };
     let lines = [
         (Status::Words, 1, "cgf: words"),

@@ -71,14 +71,7 @@ fn the_largest_datagram_is_filed(rt: HostRuntime) -> Result<(), Fail> {
         00000001000000010400000000000000000000FFFF0A000001000000000000000000FFD26020{record}\n\
         gateway 1 entries 3 records 1 held 0 stranded 0\n"
     )?;
-    let done = job(
-        rt.alloc(),
-        &["feed", "-"],
-        script.as_bytes(),
-        4096,
-        &[],
-        &[],
-    )?;
+    let done = job(&rt, &["feed", "-"], script.as_bytes(), 4096, &[], &[])?;
     assert_eq!(rt; done.status, Status::Done);
     assert_eq!(rt; done.printed.as_slice(), report.as_bytes());
     Ok(())

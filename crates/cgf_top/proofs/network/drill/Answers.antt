@@ -48,7 +48,7 @@ returns g c =
     let none = sym c.in_default.ensures in
     let here = c.loop-line.invariant.run in
     let stands = at_end lines at none c.loop-line.replay here in
-    let summed = c.in_ok-summary.ensures _ stands in
+    let summed = c.in_ok-summary.ensures.sums _ stands in
     record {
       printed = c.ended.ensures.printed ∙ c.in_ok-print_summary.ensures
           ∙ ap (λ (text : List ℕ). text ++ summary_text c.in_ok-summary.summary)

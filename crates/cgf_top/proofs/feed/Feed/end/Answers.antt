@@ -14,6 +14,6 @@ returns-clause-printed c =
     (c.in_ok-items.ensures.items ∙ ap (λ (g : GatewayValue). items_of g.history) c.in_ok-close.ensures)
     c.in_ok-print_files.ensures
     (c.counts-counts.ensures ∙ ap (λ (g : GatewayValue). counts_of (standing_for g.history) c.items.new.self.reserved) (c.in_ok-items.ensures.same ∙ c.in_ok-close.ensures))
-    (c.record_count-records.ensures (after_close c.args.self.gateway c.args.self.moment).history
+    (c.record_count-records.ensures.records (after_close c.args.self.gateway c.args.self.moment).history
     (c.deref.ensures.value ∙ c.in_ok-items.ensures.items ∙ ap (λ (g : GatewayValue). items_of g.history) c.in_ok-close.ensures))
     c.in_ok-print_counts.ensures

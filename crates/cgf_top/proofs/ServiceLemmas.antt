@@ -1,0 +1,63 @@
+-- What a service comes to, by what was run and what was given back.
+use Rattle.std.proofs.Common.{◌≡◌, ◌⊎◌, ⊎_elim, inl, inr, ℕ, ◌≤◌, Bool, true, List, [], ◌∷◌, arith, ◌++◌, Option, None, Some, refl, sym, ap, subst, ◌∙◌, append_assoc}
+use Rattle.std.specs.Prelude.{All, IfSome}
+use Rattle.std.proofs.lemmas.List.{append-nil}
+use Rattle.std.proofs.lemmas.List.Elements.{All-nil, All-weaker}
+use Rattle.area_disk.specs.Disk.{Rose}
+use Rattle.gw_base.specs.Facts.{AreSound, Facts, WhereTold, joined}
+use Rattle.gw_base.specs.Owes.{Begins}
+use Rattle.gw_base.specs.declared.history.HistoryEntry.{HistoryEntry}
+use Rattle.net_link.specs.Datagrams.{Datagram}
+use Rattle.node_session.specs.Turns.{entries_of}
+use Rattle.session_run.specs.History.{GoesOn, IsAnswered, IsCalledFor, IsReply, TellsFailure}
+use Rattle.session_run.specs.Running.{StaysAs}
+use Rattle.turn_cell.specs.Placed.{placed}
+
+begins_self : (xs : List HistoryEntry) → Begins xs xs
+begins_self xs = ([], sym (append-nil xs))
+
+begins_then : (xs ys zs : List HistoryEntry) → Begins xs ys → Begins ys zs → Begins xs zs
+begins_then xs ys zs p q = (p.0 ++ q.0, q.1 ∙ ap (λ (l : List HistoryEntry). l ++ q.0) p.1 ∙ append_assoc xs p.0 q.0)
+
+firm_first : (told : Bool) (f : Facts) → AreSound told f → told ≡ true → Begins f.firm (joined f)
+firm_first told f sound y =
+    let b = sound.begins y in
+    (b.0 ++ f.torn, ap (λ (l : List HistoryEntry). l ++ f.torn) b.1 ∙ append_assoc f.firm b.0 f.torn)
+
+-- a history that nothing befell goes on
+pub nothing_befell : (told : Bool) (heard : Option (List Datagram)) (f : Facts) → AreSound told f → WhereTold told (GoesOn heard f f)
+nothing_befell told heard f sound y = record {
+  stood = joined f;
+  tail = [];
+  whole = sym (append-nil (joined f));
+  stood_is = begins_self (joined f);
+  firm = firm_first told f sound y;
+  begins = begins_self f.firm;
+  first = firm_first told f sound y;
+  answers = All-nil (IsCalledFor f.size heard);
+}
+
+pub same_facts : (f : Facts) → StaysAs f f
+same_facts f = record { size = refl; name = refl; later = omega arith }
+
+-- a reply that rests on what was firm rests on what is firm later, and a count that rose has risen still
+pub reply_later : (heard : Option (List Datagram)) (size : ℕ) (firm history : List HistoryEntry) (before now later : ℕ)
+    → Begins firm history → ((Rose before now) → Rose before later) → (sent : Datagram)
+    → IsReply heard size firm before now sent → IsReply heard size history before later sent
+reply_later heard size firm history before now later grows rose sent r = record {
+  asked = r.asked;
+  was_heard = r.was_heard;
+  peer = r.peer;
+  says = ⊎_elim
+      (λ (a : IsAnswered size firm r.asked sent.octets).
+      inl (record {
+        history = a.history;
+        act = a.act;
+        says = a.says;
+        now = a.now;
+        who = a.who;
+        rests = begins_then (a.history ++ entries_of a.history a.now a.who a.act) firm history a.rests grows;
+      }))
+      (λ (f : TellsFailure r.asked sent.octets × Rose before now). inr (f.0, rose f.1))
+      r.says;
+}

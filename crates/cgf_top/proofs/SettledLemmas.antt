@@ -1,0 +1,172 @@
+-- How a gateway that was to serve ends: it wasn't opened, or it was settled.
+use Rattle.std.proofs.Common.{◌≡◌, ◌⊎◌, ⊎_elim, inl, inr, ℕ, ◌+◌, ◌≤◌, true, false, List, Option, None, Some, Result, Ok, Err, IfErr, IfOk, IsErrAnd, OnOk, refl, sym, ap, subst, ◌∙◌, arith}
+use Rattle.area_disk.specs.AreaLaws.{AreaLaws}
+use Rattle.area_disk.specs.Disk.{Rose}
+use Rattle.area_disk.specs.declared.area.Area as areas
+use Rattle.cdr_shelf.specs.declared.shelf.Shelf as shelves
+use Rattle.file_writer.specs.Streams.{Settings}
+use Rattle.file_writer.specs.Writer.{is_broken, settings_in, shelf_of}
+use Rattle.file_writer.specs.declared.writer.Writer.{Writer}
+use Rattle.gate_journal.specs.Format.{Starts}
+use Rattle.gate_journal.specs.Moments.{Told}
+use Rattle.gateway_book.specs.Book.{area_of, value_of}
+use Rattle.gateway_book.specs.Comes.{LeavesFit}
+use Rattle.gateway_book.specs.FitHistory.{StandsFitFor}
+use Rattle.gateway_book.specs.Items.{items_of}
+use Rattle.gateway_book.specs.Opened.{IsNotOurs, IsOpened, IsRefused, RefusesForeign}
+use Rattle.gateway_book.specs.Turning.{tells_lists}
+use Rattle.gateway_book.specs.declared.book.Book.{Book}
+use Rattle.gateway_book.specs.declared.outcome.BookFault.{BookFault}
+use Rattle.gateway_book.specs.declared.outcome.BookFault.TheVariants as of_book
+use Rattle.gw_base.specs.History.{is_close_due}
+use Rattle.gw_base.specs.declared.history.HistoryEntry.{HistoryEntry}
+use Rattle.net_link.specs.Making.{LinksState}
+use Rattle.replay_world.specs.Settled.{AreShut}
+use Rattle.replay_world.specs.Setup.{Setup}
+use Rattle.cgf_top.specs.ServeSteps.{AreOf, HasLine, HasNoLine, HasServedAt, HasSettledAll, NeverFalls, RefusesAsForeign, StopsServing, status_by}
+use Rattle.cgf_top.specs.Served.{HasServed, files_at, header_for, served_line}
+use Rattle.cgf_top.specs.Serving.{address_in}
+use Rattle.cgf_top.specs.declared.serve.FileSettings.{FileSettings}
+use Rattle.cgf_top.specs.declared.serving.Serving.{Serving}
+use Rattle.cgf_top.specs.declared.settling.Service.{Service}
+use Rattle.cgf_top.specs.declared.status.Status.{Status}
+use Rattle.cgf_top.specs.declared.status.Status.TheVariants as status
+use Rattle.cgf_top.specs.declared.status.StoreFault.TheVariants as fault
+use Rattle.cgf_top.proofs.ServedLemmas.{FilesGrow, ItemsStay, has_served, settings_at, told_lists}
+
+-- ---- it wasn't opened
+
+module _ {A F : Type 0} (tells : areas.Ghosts A) (files : shelves.Ghosts F) (of : Serving) (area : A) (shelf : F)
+    (links : LinksState) (clock : ℕ) where
+  pub unopened_stops : (why : BookFault) (area' : A) (ended : Status) → ended ≡ status_by why → IsRefused tells area (header_for tells area of) (why, area')
+      → StopsServing tells files of area area' shelf shelf links links clock clock ended
+  unopened_stops why area' ended is refused =
+      subst (λ (s : Status). StopsServing tells files of area area' shelf shelf links links clock clock s) (sym is) (by_fault why refused)
+    where
+      by_fault : (w : BookFault) → IsRefused tells area (header_for tells area of) (w, area')
+          → StopsServing tells files of area area' shelf shelf links links clock clock (status_by w)
+      by_fault of_book.Device refused = inl (refused.cause refl)
+      by_fault (of_book.NotOurs at) refused = λ told. (refused.place told at refl, refused.unwritten told (λ is. cc is))
+      by_fault of_book.NoMemory refused = tt
+
+  pub unopened_stays : (why : BookFault) (area' : A) → IsRefused tells area (header_for tells area of) (why, area')
+      → tells.size area' ≡ tells.size area → NeverFalls tells files of area area' shelf shelf links links clock clock
+  unopened_stays why area' refused sized = record {
+    device = refused.faults;
+    shelf_too = omega arith;
+    link = omega arith;
+    time = omega arith;
+    size = sized;
+  }
+
+  pub unopened_foreign : {X : Type 0} (opened : Result (Book A tells) (BookFault × A)) (why : BookFault) (area' : A)
+      → opened ≡ Err (why, area') → ((at : ℕ) → IsNotOurs (header_for tells area of) (tells.octets area) at → RefusesForeign area opened at)
+      → RefusesAsForeign {X = X} tells of area (Err (status_by why))
+  unopened_foreign {X = X} opened why area' is refuses at foreign =
+      ⊎_elim (λ (e : why ≡ of_book.NotOurs at). inl (ap ended e))
+      (λ (o : (why ≡ of_book.Device) ⊎ (why ≡ of_book.NoMemory)). inr (⊎_elim
+      (λ (e : why ≡ of_book.Device). inl (ap ended e)) (λ (e : why ≡ of_book.NoMemory). inr (ap ended e)) o)) place
+    where
+      ended : BookFault → Result X Status
+      ended b = Err (status_by b)
+
+      place : (why ≡ of_book.NotOurs at) ⊎ ((why ≡ of_book.Device) ⊎ (why ≡ of_book.NoMemory))
+      place = subst (λ (o : Result (Book A tells) (BookFault × A)). IsErrAnd o
+          (λ f. (f.0 ≡ of_book.NotOurs at) ⊎ ((f.0 ≡ of_book.Device) ⊎ (f.0 ≡ of_book.NoMemory)))) is (refuses at foreign).place
+
+-- ---- it was settled
+
+module _ {A F : Type 0} (tells : areas.Ghosts A) (files : shelves.Ghosts F) (of : Serving) (area : A) (shelf : F)
+    (book book' book'' : Book A tells) (writer writer' writer'' : Writer F files)
+    (links links' : LinksState) (clock clock' : ℕ) (service : Service) (open_time : ℕ)
+    {X : Type 0} (octets : X → List ℕ) (result : Result X Status)
+    (sized : tells.size (area_of book) ≡ tells.size area) (opens : IsOpened (header_for tells area of) area open_time book)
+    (on : shelf_of writer ≡ shelf) (serves : HasServedAt tells files of book book' writer writer' links links' clock clock' service)
+    (settles : HasSettledAll tells files octets service book' book'' writer' writer'' result) where
+  device : tells.faults area ≤ tells.faults (area_of book')
+  device = let same = opens.faults in let up = serves.stays.later in omega (arith, same, up)
+
+  shelf_up : files.faults shelf ≤ files.faults (shelf_of writer')
+  shelf_up = subst (λ (f : F). files.faults f ≤ files.faults (shelf_of writer')) on serves.kept.later
+
+  pub settled_stays : NeverFalls tells files of area (area_of book'') shelf (shelf_of writer'') links links' clock clock'
+  settled_stays = record {
+    device = let a = device in let b = settles.later.0 in omega (arith, a, b);
+    shelf_too = let a = shelf_up in let b = settles.later.1 in omega (arith, a, b);
+    link = serves.later.0;
+    time = serves.later.1;
+    size = settles.stays.0.size ∙ serves.stays.size ∙ sized;
+  }
+
+  stops : (ended : Status) → HasNoLine tells files service book' book'' writer' writer'' ended
+      → StopsServing tells files of area (area_of book'') shelf (shelf_of writer'') links links' clock clock' ended
+  stops status.Link none = ⊎_elim (λ is. inl (serves.link is)) (λ is. inr (serves.time is)) none
+  stops (status.Store fault.Device) none = ⊎_elim
+      (λ (r : Rose (tells.faults (area_of book')) (tells.faults (area_of book''))). inl (let a = device in omega (arith, a, r)))
+      (λ (r : Rose (files.faults (shelf_of writer')) (files.faults (shelf_of writer''))). inr (let a = shelf_up in omega (arith, a, r))) none
+  stops status.Memory none = tt
+  stops (status.Store (fault.NotOurs at)) none = absurd none
+  stops status.Done none = absurd none
+  stops status.Words none = absurd none
+  stops (status.Input place kind) none = absurd none
+  stops status.Read none = absurd none
+  stops status.Write none = absurd none
+
+  by_err : (r : Result X Status) → IfErr r (HasNoLine tells files service book' book'' writer' writer'')
+      → IfErr r (StopsServing tells files of area (area_of book'') shelf (shelf_of writer'') links links' clock clock')
+  by_err (Ok x) none = tt
+  by_err (Err ended) none = stops ended none
+
+  pub settled_stops : IfErr result (StopsServing tells files of area (area_of book'') shelf (shelf_of writer'') links links' clock clock')
+  settled_stops = by_err result settles.err
+
+  -- of the area and the shelf as they were handed back
+  pub stops_as : (area'' : A) (shelf'' : F) → area'' ≡ area_of book'' → shelf'' ≡ shelf_of writer''
+      → IfErr result (StopsServing tells files of area area'' shelf shelf'' links links' clock clock')
+  stops_as area'' shelf'' is_area is_shelf =
+      subst (λ (a : A). IfErr result (StopsServing tells files of area a shelf shelf'' links links' clock clock')) (sym is_area)
+      (subst (λ (f : F). IfErr result (StopsServing tells files of area (area_of book'') shelf f links links' clock clock')) (sym is_shelf) settled_stops)
+
+  by_turns : (r : Result X Status) → IfOk r (λ x. HasLine tells files service book' book'' writer'' (octets x))
+      → OnOk r (links'.turns (address_in of) ≡ links.turns (address_in of) + of.turns)
+  by_turns (Ok x) has = serves.turns has.runs
+  by_turns (Err ended) has = tt
+
+  pub settled_turns : OnOk result (links'.turns (address_in of) ≡ links.turns (address_in of) + of.turns)
+  settled_turns = by_turns result settles.ok
+
+  -- an area that was opened isn't another's
+  pub settled_foreign : ((octets : List ℕ) (h : List HistoryEntry) (at : ℕ) → StandsFitFor (header_for tells area of) octets h
+      → ¬ (IsNotOurs (header_for tells area of) octets at))
+      → ((octets : List ℕ) (at : ℕ) → IsNotOurs (header_for tells area of) octets at → ¬ (Starts (header_for tells area of) octets))
+      → Told tells → RefusesAsForeign tells of area result
+  settled_foreign ours others told at foreign = ⊎_elim
+      (λ (s : StandsFitFor (header_for tells area of) (tells.octets area) (opens.found told).0). absurd (ours (tells.octets area) (opens.found told).0 at s foreign))
+      (λ s. absurd (others (tells.octets area) at foreign s.0)) (opens.found told).1
+
+  module _ (setup : Setup) (told : Told tells) (laws : AreaLaws tells) (stay : ItemsStay) (grow : FilesGrow)
+      (shuts : (h : List HistoryEntry) → is_close_due h ≡ false → AreShut (items_of h)) (fresh : is_broken writer ≡ true)
+      (by : settings_in writer ≡ files_at of setup) (leaves : LeavesFit book'') where
+    by_ok : (r : Result X Status) → IfOk r (λ x. HasLine tells files service book' book'' writer'' (octets x))
+        → IfOk r (λ x. (history : List HistoryEntry) × HasServed tells files of setup area (area_of book'') shelf (shelf_of writer'') links links' history
+        × (octets x ≡ served_line history))
+    by_ok (Err ended) has = tt
+    by_ok (Ok x) has = (
+      (value_of book'').firm,
+      has_served tells files of setup told laws stay grow shuts area shelf book book' book'' writer writer' writer'' links links' clock clock' service open_time (octets x)
+          sized opens fresh on by serves settles.stays.0 settles.later.0 settles.stays.1 (settles.files_stay (told_lists tells told)) has leaves,
+      has.line_is told,
+    )
+
+    pub settled_serves : IfOk result (λ x. (history : List HistoryEntry) × HasServed tells files of setup area (area_of book'') shelf (shelf_of writer'') links links' history
+        × (octets x ≡ served_line history))
+    settled_serves = by_ok result settles.ok
+
+    pub serves_as : (area'' : A) (shelf'' : F) → area'' ≡ area_of book'' → shelf'' ≡ shelf_of writer''
+        → IfOk result (λ x. (history : List HistoryEntry) × HasServed tells files of setup area area'' shelf shelf'' links links' history
+        × (octets x ≡ served_line history))
+    serves_as area'' shelf'' is_area is_shelf =
+        subst (λ (a : A). IfOk result (λ x. (history : List HistoryEntry) × HasServed tells files of setup area a shelf shelf'' links links' history
+        × (octets x ≡ served_line history))) (sym is_area)
+        (subst (λ (f : F). IfOk result (λ x. (history : List HistoryEntry) × HasServed tells files of setup area (area_of book'') shelf f links links' history
+        × (octets x ≡ served_line history))) (sym is_shelf) settled_serves)

@@ -1,0 +1,93 @@
+-- What `serve` hands back: the journal's area, the shelf and the links of a gateway that served, and what it wrote.
+use Rattle.std.specs.Prelude.{◌≡◌, ◌⊎◌, ℕ, ◌+◌, ◌<◌, ◌≤◌, IsTrue, List, [], ◌∷◌, ◌++◌, All, IfSome, Option, Some, length}
+use Rattle.area_disk.specs.declared.area.Area as areas
+use Rattle.cdr_shelf.specs.Files.{SealedFile, in_stream}
+use Rattle.cdr_shelf.specs.declared.shelf.Shelf as shelves
+use Rattle.file_writer.specs.Files.{stream_files}
+use Rattle.file_writer.specs.Holding.{IsBegun}
+use Rattle.file_writer.specs.Streams.{Settings, stream_count}
+use Rattle.gate_journal.specs.Format.{header}
+use Rattle.gateway_book.specs.Answered.{entry_by, no_caller}
+use Rattle.gateway_book.specs.FitHistory.{StandsFitFor}
+use Rattle.gateway_book.specs.Items.{items_of}
+use Rattle.gateway_book.specs.Opened.{StandsOrStarts}
+use Rattle.gateway_book.specs.Value.{standing_for}
+use Rattle.gw_base.specs.Owes.{Begins}
+use Rattle.gw_base.specs.declared.history.HistoryAct.TheVariants as act
+use Rattle.gw_base.specs.declared.history.HistoryEntry.{HistoryEntry}
+use Rattle.net_link.specs.Datagrams.{Datagram}
+use Rattle.net_link.specs.Making.{LinksState}
+use Rattle.node_session.specs.Writing.{none_closed, none_stood}
+use Rattle.replay_world.specs.Report.{counts_line}
+use Rattle.replay_world.specs.Settled.{AreShut}
+use Rattle.replay_world.specs.Setup.{Setup}
+use Rattle.session_run.specs.History.{IsCalledFor, IsReply}
+use Rattle.turn_cell.specs.Placed.{placed}
+use Rattle.cgf_top.specs.Serving.{address_in}
+use Rattle.cgf_top.specs.declared.serving.Serving.{Serving}
+
+-- there is at most this entry
+abbrev pub IsAtMost : HistoryEntry → List HistoryEntry → Type 0
+IsAtMost entry entries = Begins entries (entry ∷ [])
+
+-- A history is another with at most the Start of the opening behind it, then entries each of which is the answer, at the
+-- entries in front of it, to a datagram that was heard, and then at most one Close, of some moment. No session made the
+-- Start or the Close.
+pub record HasGrown (size : ℕ) (heard : Option (List Datagram)) (start history : List HistoryEntry) : Type 0 where
+  pub opened : List HistoryEntry
+  pub answers : List HistoryEntry
+  pub closed : List HistoryEntry
+  pub whole : history ≡ ((start ++ opened) ++ answers) ++ closed
+  pub one_start : IsAtMost (entry_by start 0 no_caller act.Start) opened
+  pub each : All (IsCalledFor size heard) (placed (start ++ opened) answers)
+  pub now : ℕ
+  pub one_close : IsAtMost (entry_by ((start ++ opened) ++ answers) now no_caller act.Close) closed
+
+-- the settings of the files of a gateway that serves, by those of its script
+abbrev pub files_at : Serving → Setup → Settings
+files_at of s = record {
+  rules = s.rules;
+  limits = s.limits;
+  profile = s.profile;
+  file = record { offset = s.offset; address = of.ip };
+}
+
+-- Of each of the sixteen streams the first ones of the files stand that a history closes, and no others.
+abbrev pub HasFirstFiles : Settings → List HistoryEntry → List SealedFile → Type 0
+HasFirstFiles settings h sealed = IsBegun settings none_closed none_stood (items_of h) sealed
+
+-- Of each of the sixteen streams just the files stand that a history closes.
+abbrev pub HasAllFiles : Settings → List HistoryEntry → List SealedFile → Type 0
+HasAllFiles settings h sealed =
+    (s : ℕ) → s < stream_count → in_stream s sealed ≡ stream_files settings s (items_of h)
+
+-- What an address was sent behind what it had been sent before, where that is told, holds of each.
+abbrev pub AllBehind : Option (List Datagram) → Option (List Datagram) → (Datagram → Type 0) → Type 0
+AllBehind before after P = (old all : List Datagram) → before ≡ Some old → after ≡ Some all
+    → (more : List Datagram) × (all ≡ old ++ more) × All P more
+
+-- the header of the journal of a gateway that serves on this area
+abbrev pub header_for : {A : Type 0} (tells : areas.Ghosts A) → A → Serving → List ℕ
+header_for tells area of = header (tells.size area) of.ip 0
+
+module _ {A F : Type 0} (tells : areas.Ghosts A) (files : shelves.Ghosts F) (of : Serving) (setup : Setup)
+    (area area' : A) (shelf shelf' : F) (links links' : LinksState) where
+  -- The area handed in stood for a history, or started, and had none; the one handed back stands for one that has grown
+  -- from it, now and after any crash. Each datagram that was sent is a reply that rests on it. Where the shelf had the
+  -- first ones of the files that the handed-in history closes, it has just those that this one closes; and these have
+  -- all records of the history, none of which stands in a file that is open.
+  pub record HasServed (history : List HistoryEntry) : Type 0 where
+    pub start : List HistoryEntry
+    pub found : StandsOrStarts (header_for tells area of) (tells.octets area) start
+    pub stands : StandsFitFor (header_for tells area of) (tells.octets area') history
+    pub crash : (c : List ℕ) → tells.may_leave area' c → StandsFitFor (header_for tells area of) c history
+    pub grown : HasGrown (tells.size area) (links'.received (address_in of)) start history
+    pub replies : AllBehind (links.sent (address_in of)) (links'.sent (address_in of))
+        (IsReply (links'.received (address_in of)) (tells.size area) history (tells.faults area) (tells.faults area'))
+    pub sealed : IsTrue files.tells_files → HasFirstFiles (files_at of setup) start (files.files shelf)
+        → HasAllFiles (files_at of setup) history (files.files shelf')
+    pub shut : AreShut (items_of history)
+
+-- what is written of a history: its counts
+abbrev pub served_line : List HistoryEntry → List ℕ
+served_line history = counts_line 0 (standing_for history)

@@ -1,0 +1,345 @@
+//! A gateway that serves, from the opening of its journal to its settling.
+ghost use Rattle.std.specs.Prelude.{◌≡◌, ◌≢◌, ◌+◌, ◌≤◌, ◌<◌, ◌^◌, ℕ, List, [], All, false, IfErr, IfOk, None, OnOk, length, true, vec_capacity, vec_len};
+ghost use Rattle.cgf_journal.specs.Trail.{is_closed};
+ghost use Rattle.file_writer.specs.Writer.{is_broken};
+ghost use Rattle.gate_journal.specs.Format.{fewest_octets, most_octets};
+ghost use Rattle.gate_journal.specs.Moments.{Told};
+ghost use Rattle.gateway_book.specs.Book.{area_of, size_of, value_of};
+ghost use Rattle.gateway_book.specs.Calls.{counts_of};
+ghost use Rattle.gateway_book.specs.Items.{items_of};
+ghost use Rattle.gateway_book.specs.Read.{IsUnchanged};
+ghost use Rattle.gateway_book.specs.Turning.{tells_lists};
+ghost use Rattle.gw_base.specs.Faults.{Rose};
+ghost use Rattle.gw_base.specs.declared.address.Addr.{Addr as Address};
+ghost use Rattle.gw_base.specs.declared.history.HistoryEntry.{HistoryEntry};
+ghost use Rattle.net_link.specs.Datagrams.{IsNewAt};
+ghost use Rattle.replay_world.specs.Settings.{AreSound};
+ghost use Rattle.session_run.specs.Running.{AreNewAt};
+ghost use Rattle.replay_world.specs.Setup.{Setup as SetupValue};
+ghost use Rattle.node_session.specs.Writing.{IsWriterOf};
+ghost use Rattle.cgf_top.specs.Served.{HasServed, served_line};
+ghost use Rattle.cgf_top.specs.ServeSteps.{AreOf, FailsBy, GivesBack, HasMade, HasServedAt, HasSettledAll, IsIdleAt, NeverFalls, RefusesAsForeign, StopsServing, part_count, status_by, stopped_by};
+ghost use Rattle.cgf_top.specs.Serving.{IsServingWithin, address_in};
+
+use crate::printing::print_counts;
+use crate::serve::FileSettings;
+use crate::serving::Serving;
+use crate::status::{Status, StoreFault};
+use area_disk::Area;
+use area_disk::laws::area_laws;
+use cdr_shelf::Shelf;
+use file_writer::Writer;
+use file_writer::laws::files_only_grow;
+use gateway_book::laws::{a_book_is_within_the_limits, filed_records_stay, what_stands_is_ours};
+use gateway_book::{Book, BookFault, Counts, ItemsFault, Setup};
+use gw_base::{Addr, Caller, Counted, Moment, NoMemory};
+use net_link::{Link, LinkStop, Links};
+use node_session::{SettleFault, settle};
+use replay_world::laws::{a_history_filed_its_parts, no_file_is_open_where_no_close_is_due};
+use replay_world::record_count;
+use session_run::{Gateway, Ran, Stop, Until, run};
+use std::alloc::Global;
+use std::sync::Wait;
+use std::thread::Threads;
+use std::time::Clock;
+
+/// How many links a gateway has: one to receive, and one for each of four sessions.
+const LINKS: usize = 5;
+
+/// How many items are read at once.
+const PIECE: u32 = 4096;
+
+/// A history has no more items than the longest area has octets.
+const MOST_ITEMS: u64 = 268_435_456;
+
+/// How a gateway served: the latest moment of a job, and why it ended before it was told to, if it did.
+#[derive(Clone, Copy)]
+struct Service {
+    last: Option<Moment>,
+    stop: Option<Stop>,
+}
+
+/// Opens a gateway on an area and a shelf, lets it serve and settles it: the line of its counts, or how the job ends that
+/// has none, with the area and the shelf.
+pub(crate) fn serve_by<
+    A: Area + Send,
+    F: Shelf + Send,
+    L: Links,
+    C: gw_base::Clock,
+    R: Threads + Wait + Clock + Sync,
+>(
+    rt: &R,
+    alloc: Global,
+    serving: Serving,
+    by: FileSettings,
+    area: A,
+    shelf: F,
+    links: &mut L,
+    clock: &mut C,
+) -> (Result<Vec<u8>, Status>, A, F)
+where
+    L::Link: Send,
+    requires within { IsServingWithin serving }
+    requires long { fewest_octets ≤ A.size area }
+    requires short { A.size area ≤ most_octets }
+    requires turns { (at : Addr) → (L.state links.old).turns at < 2 ^ 63 }
+    requires sound { AreSound by.settings }
+    ensures ok { Told A.Area → (setup : SetupValue) → AreOf setup by → IfOk result.0 (λ line. (history : List HistoryEntry)
+        × HasServed A.Area F.Shelf serving setup area result.1 shelf result.2 (L.state links.old) (L.state links.new)
+        history × (line.items ≡ served_line history)) }
+    ensures turns { OnOk result.0 ((L.state links.new).turns (address_in serving)
+        ≡ (L.state links.old).turns (address_in serving) + serving.turns) }
+    ensures err { IfErr result.0 (StopsServing A.Area F.Shelf serving area result.1 shelf result.2
+        (L.state links.old) (L.state links.new) (C.faults clock.old) (C.faults clock.new)) }
+    ensures foreign { Told A.Area → RefusesAsForeign A.Area serving area result.0 }
+    ensures later { NeverFalls A.Area F.Shelf serving area result.1 shelf result.2 (L.state links.old) (L.state links.new)
+        (C.faults clock.old) (C.faults clock.new) }
+{
+    area_laws::<A>();
+    files_only_grow();
+    filed_records_stay();
+    no_file_is_open_where_no_close_is_due();
+    what_stands_is_ours();
+    let FileSettings { settings, rules } = by;
+    let setup = Setup {
+        address: serving.ip,
+        open_time: settings.limits.open_time,
+    };
+    let book = match Book::open(alloc, area, setup) {
+        Ok(book) => book,
+        Err((fault, area)) => return (Err(status_of(fault)), area, shelf),
+    };
+    let writer = Writer::new(
+        shelf,
+        rules,
+        settings.limits,
+        settings.offset,
+        serving.ip,
+        settings.profile,
+    );
+    let (service, (book, writer)) = serve_at(rt, alloc, serving, book, writer, links, clock);
+    let (line, (book, writer)) = settle_all(alloc, book, writer, service);
+    (line, book.into_area(), writer.into_shelf())
+}
+
+/// How the job ends whose gateway wasn't opened.
+fn status_of(fault: BookFault) -> Status
+    ensures { result ≡ status_by fault }
+{
+    match fault {
+        BookFault::Device => Status::Store(StoreFault::Device),
+        BookFault::NotOurs { at } => Status::Store(StoreFault::NotOurs { at }),
+        BookFault::NoMemory => Status::Memory,
+    }
+}
+
+/// Lets a gateway serve on links of its address, and gives the links back.
+fn serve_at<
+    A: Area + Send,
+    F: Shelf + Send,
+    L: Links,
+    C: gw_base::Clock,
+    R: Threads + Wait + Clock + Sync,
+>(
+    rt: &R,
+    alloc: Global,
+    serving: Serving,
+    book: Book<A>,
+    writer: Writer<F>,
+    links: &mut L,
+    clock: &mut C,
+) -> (Service, (Book<A>, Writer<F>))
+where
+    L::Link: Send,
+    requires within { IsServingWithin serving }
+    requires broken { is_broken writer ≡ true }
+    requires turns { (at : Address) → (L.state links.old).turns at < 2 ^ 63 }
+    ensures { HasServedAt A.Area F.Shelf serving book result.1.0 writer result.1.1 (L.state links.old) (L.state links.new)
+        (C.faults clock.old) (C.faults clock.new) result.0 }
+{
+    let address = Addr {
+        ip: serving.ip,
+        port: serving.port,
+    };
+    let (made, stop) = make_links(alloc, links, address);
+    if let Some(stop) = stop {
+        // Its clause says that its numbers and its lists fit together.
+        let _length = book.length();
+        give_back(links, made, address);
+        let service = Service {
+            last: None,
+            stop: Some(stop),
+        };
+        return (service, (book, writer));
+    }
+    let gateway = Gateway {
+        book,
+        writer,
+        address,
+        links: made,
+    };
+    let Ran {
+        gateway,
+        last,
+        stop,
+    } = run(rt, alloc, gateway, clock, Until::Turns(serving.turns));
+    let Gateway {
+        book,
+        writer,
+        address: _,
+        links: made,
+    } = gateway;
+    give_back(links, made, address);
+    (Service { last, stop }, (book, writer))
+}
+
+/// Five links of an address, or those that could be made, and why there aren't all.
+fn make_links<L: Links>(alloc: Global, links: &mut L, address: Addr) -> (Vec<L::Link>, Option<Stop>)
+    ensures made { HasMade L.Link.Link address (L.state links.old) (L.state links.new) result.0.items result.1 }
+    ensures five { result.1 ≡ None → AreNewAt L.Link.Link address result.0.items }
+{
+    let Ok(mut made) = Vec::with_capacity(alloc, LINKS) else {
+        return (Vec::new(alloc), Some(Stop::NoMemory));
+    };
+    let mut first = match links.make(address) {
+        Ok(link) => link,
+        Err(stop) => return (made, Some(stop_of(stop))),
+    };
+    let stop = split_all(&mut first, &mut made);
+    made.push_reserved(first);
+    (made, stop)
+}
+
+/// Four more links of the address of a new one, or those that could be made, and why there aren't all.
+fn split_all<K: Link>(first: &mut K, made: &mut Vec<K>) -> Option<Stop>
+    requires none { made.old.items ≡ [] }
+    requires room { vec_capacity made.old ≡ 5 }
+    ensures new { (at : Address) → IsNewAt at (K.state first.old) → All (λ link. IsNewAt at (K.state link)) made.new.items }
+    ensures first { (at : Address) → IsNewAt at (K.state first.old) → IsIdleAt at (K.state first.new) }
+    ensures four { result ≡ None → (length made.new.items ≡ 4) × (K.state first.new ≡ K.state first.old) }
+    ensures room { (vec_len made.new < 5) × (vec_capacity made.new ≡ 5) }
+    ensures cause { result ≡ Some Stop.Link → Rose (K.state first.old).faults (K.state first.new).faults }
+    ensures clock { result ≢ Some Stop.Clock }
+{
+    'splits: while made.len() < LINKS - 1 {
+        match first.split() {
+            Ok(link) => made.push_reserved(link),
+            Err(stop) => return Some(stop_of(stop)),
+        }
+    }
+    None
+}
+
+/// Why a gateway stops whose link stopped.
+fn stop_of(stop: LinkStop) -> Stop
+    ensures { result ≡ stopped_by stop }
+{
+    match stop {
+        LinkStop::Failed => Stop::Link,
+        LinkStop::NoMemory => Stop::NoMemory,
+    }
+}
+
+/// Gives links back.
+fn give_back<L: Links>(links: &mut L, mut made: Vec<L::Link>, address: Addr)
+    requires made { All (λ link. (L.Link.state link).address ≡ address) made.items }
+    requires known { 0 < length made.items → (L.state links.old).IsMade address }
+    ensures { GivesBack L.Link.Link address (L.state links.old) (L.state links.new) made.items }
+{
+    while let Some(link) = made.pop() {
+        links.back(link);
+    }
+}
+
+/// Settles a gateway that served, and gives it back.
+fn settle_all<A: Area, F: Shelf>(
+    alloc: Global,
+    mut book: Book<A>,
+    mut writer: Writer<F>,
+    service: Service,
+) -> (Result<Vec<u8>, Status>, (Book<A>, Writer<F>))
+    requires { IsWriterOf (tells_lists A.Area) (value_of book).firm writer }
+    ensures { HasSettledAll A.Area F.Shelf (λ line. line.items) service book result.1.0 writer result.1.1 result.0 }
+{
+    let line = settled_line(alloc, &mut book, &mut writer, service);
+    (line, (book, writer))
+}
+
+/// Settles a gateway that served, and gives the line of its counts, or tells how the job ends that has none.
+fn settled_line<A: Area, F: Shelf>(
+    alloc: Global,
+    book: &mut Book<A>,
+    writer: &mut Writer<F>,
+    service: Service,
+) -> Result<Vec<u8>, Status>
+    requires { IsWriterOf (tells_lists A.Area) (value_of book.old).firm writer.old }
+    ensures { HasSettledAll A.Area F.Shelf (λ line. line.items) service book.old book.new writer.old writer.new result }
+{
+    let settled = settle(alloc, book, writer, moment_of(service.last), Caller::NONE);
+    match service.stop {
+        Some(Stop::Link) => return Err(Status::Link),
+        Some(Stop::Clock) => return Err(Status::Link),
+        Some(Stop::NoMemory) => return Err(Status::Memory),
+        None => {}
+    }
+    match settled {
+        Ok(counts) => line_of(alloc, book, counts),
+        Err(SettleFault::NoMemory) => Err(Status::Memory),
+        Err(SettleFault::Area) => Err(Status::Store(StoreFault::Device)),
+        Err(SettleFault::Shelf) => Err(Status::Store(StoreFault::Device)),
+    }
+}
+
+/// The moment of a Close behind the last job: its own, and 0 where there was none.
+fn moment_of(last: Option<Moment>) -> Moment {
+    match last {
+        Some(moment) => moment,
+        None => {
+            let Some(first) = Moment::of(0) else {
+                unreachable!();
+            };
+            first
+        }
+    }
+}
+
+/// The line of a gateway's counts.
+fn line_of<A: Area>(alloc: Global, book: &mut Book<A>, counts: Counts) -> Result<Vec<u8>, Status>
+    ensures line { Told A.Area → is_closed book.old.trail ≡ false → (value_of book.old).rest ≡ [] →
+        counts ≡ counts_of (value_of book.old) (size_of book.old) →
+        IfOk result (λ line. line.items ≡ served_line (value_of book.old).firm) }
+    ensures err { IfErr result (FailsBy A.Area book.old book.new) }
+    ensures same { IsUnchanged book.old book.new × (A.faults (area_of book.old) ≤ A.faults (area_of book.new)) }
+{
+    a_history_filed_its_parts();
+    let records = count_records(alloc, book)?;
+    let mut line = Vec::new(alloc);
+    match print_counts(alloc, &mut line, counts, records) {
+        Ok(()) => Ok(line),
+        Err(NoMemory) => Err(Status::Memory),
+    }
+}
+
+/// How many records a gateway's history has filed.
+fn count_records<A: Area>(alloc: Global, book: &mut Book<A>) -> Result<usize, Status>
+    ensures records { Told A.Area → IfOk result (λ n. n ≡ part_count (items_of (value_of book.old).firm)) }
+    ensures err { IfErr result (FailsBy A.Area book.old book.new) }
+    ensures same { IsUnchanged book.old book.new × (A.faults (area_of book.old) ≤ A.faults (area_of book.new)) }
+{
+    a_book_is_within_the_limits::<A>();
+    let mut from = 0u64;
+    let mut records = 0usize;
+    'pieces: while from <= MOST_ITEMS {
+        let items = match book.items(alloc, from, PIECE) {
+            Ok(items) => items,
+            Err(ItemsFault::Device) => return Err(Status::Store(StoreFault::Device)),
+            Err(ItemsFault::NoMemory) => return Err(Status::Memory),
+        };
+        records = records.saturating_add(record_count(&items));
+        if items.len() < PIECE as usize {
+            return Ok(records);
+        }
+        from += PIECE as u64;
+    }
+    Ok(records)
+}
