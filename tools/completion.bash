@@ -2,7 +2,10 @@
 _cgf() {
     local word=${COMP_WORDS[COMP_CWORD]} command=${COMP_WORDS[1]}
     if [ "$COMP_CWORD" = 1 ]; then
-        mapfile -t COMPREPLY < <(compgen -W "feed replay sample drill show" -- "$word")
+        mapfile -t COMPREPLY < <(compgen -W "feed replay sample drill show serve" -- "$word")
+    elif [ "$command" = serve ] && [[ $COMP_CWORD =~ ^[67]$ ]]; then
+        mapfile -t COMPREPLY < <(compgen -f -- "$word")
+        compopt -o filenames 2>/dev/null
     elif [ "$COMP_CWORD" = 2 ] && [[ $command =~ ^(feed|replay|show)$ ]]; then
         mapfile -t COMPREPLY < <(compgen -f -- "$word"; compgen -W - -- "$word")
         compopt -o filenames 2>/dev/null

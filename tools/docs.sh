@@ -12,7 +12,6 @@ docs() {
     work=$(mktemp -d)
     trap 'rm -rf "$work"' EXIT
     check_map "$work"
-    check_uses "$work"
     check_libraries "$work"
     check_picture "$work"
     for page in stdin stdout; do
@@ -27,7 +26,7 @@ docs() {
         cat crates.txt do cgf
         sources
         specs
-        ls -R bench examples docs
+        ls -R bench examples docs crates/*/must-fail
     } | grep -oE '[A-Za-z_][A-Za-z0-9_]*' | sort -u >"$work/words"
     clauses_of_all | sort -u >"$work/clauses"
     for page in README.md CONTRIBUTING.md CHANGELOG.md docs/*.md docs/*/*.md bench/README.md examples/README.md; do
@@ -60,27 +59,13 @@ check_map() {
     done
 }
 
-# The map says of each crate that it stands on what crates.txt says.
-check_uses() {
-    local work=$1 crate uses
-    sed 's/#.*//; s/ staticlib:/:/; /:/!d; s/://' crates.txt | sorted_words >"$work/uses"
-    awk '/^#+ / {
-            print ""; crate = ""
-            if (match($0, /`[a-z_0-9]+`/)) { crate = substr($0, RSTART + 1, RLENGTH - 2); printf "%s ", crate }
-            next
-        }
-        crate != "" { printf "%s ", $0 }' docs/ARCHITECTURE.md | grep -oE '^[a-z_0-9]+ .*Stands on [^.]*' |
-        sed -E 's/^([a-z_0-9]+) .*Stands on (.*)/\1 \2/; s/,//g; s/ nothing$//' | sorted_words >"$work/told"
-    comm -3 "$work/uses" "$work/told" | tr -d '\t' | cut -d ' ' -f 1 | sort -u |
-        sed 's,.*,docs/ARCHITECTURE.md: crates.txt says otherwise of what & stands on,'
-}
-
 # Each library that the files of a crate name is on its line of crates.txt, and no other is.
 check_libraries() {
     local work=$1 crate libraries
+    sed 's/#.*//; s/ staticlib:/:/; /:/!d; s/://' crates.txt >"$work/uses"
     tr ' ' '\n' <"$work/uses" | sort -u >"$work/libraries"
     while read -r crate libraries; do
-        tr ' ' '\n' <<<"$libraries" | sed '/^$/d' >"$work/listed"
+        tr ' ' '\n' <<<"$libraries" | sed '/^$/d' | sort >"$work/listed"
         {
             sources "$crate" | xargs sed 's,//.*,,'
             { specs "$crate"; proofs "$crate"; } | xargs -r sed 's,--.*,,'
@@ -137,14 +122,6 @@ check_picture() {
         }' "$work/pairs" - | sort
 }
 
-# Lines of a crate and what it stands on, each in one order.
-sorted_words() {
-    local crate uses
-    while read -r crate uses; do
-        echo "$crate" $(tr ' ' '\n' <<<"$uses" | sort)
-    done | sort
-}
-
 # The spans between backquotes outside of blocks of code, as LINE SPAN.
 spans() {
     awk '/^```/ { block = !block; next } !block && !/^    [^ -]/ {
@@ -156,7 +133,8 @@ spans() {
     }' "$1"
 }
 
-# Paths that a page names and links that it has: they are there. A bare name behind a path is of that path's folder.
+# Paths that a page names and links that it has: they are there. A bare name behind a path is of that path's folder, and
+# one that begins with src, specs, proofs or must-fail is of its crate.
 check_paths() {
     local page=$1 line target anchor file folder=
     awk '/^\[[^]]+\]: / { print FNR "\t" $NF; next }
@@ -179,6 +157,12 @@ check_paths() {
             [[ $target =~ ^[A-Za-z0-9_./-]+$ && $target != /* ]] || continue
             [[ $target =~ ^[A-Za-z]+\.antt$ ]] && [ "$page" = docs/ARCHITECTURE.md ] && continue
             [[ $target != */* && -n $folder && -e $folder/$target ]] && continue
+            if [[ $target =~ ^(src|specs|proofs|must-fail)/. && $page != docs/ARCHITECTURE.md && $folder == crates/*/* ]]; then
+                file=crates/$(cut -d / -f 2 <<<"$folder")/$target
+                [ -e "$file" ] || echo "$page:$line: no such path $target"
+                folder=$(dirname "$file")
+                continue
+            fi
             for file in "$target" "crates/$target" "docs/$target" "$(dirname "$page")/$target" crates/*/"$target"; do
                 [ -e "$file" ] || continue
                 folder=$(dirname "$file")

@@ -153,20 +153,28 @@ where() {
         cut -d / -f 2 | sort -u)" | paste -sd ' ' | fold -s -w 100)"
 }
 
-# Where a number stands as a constant: its lines, and where the first such constant is used.
+# Where a number stands as a constant, a definition or the value of a field: its lines, and where the constants and the
+# definitions are used.
 numbered() {
-    local constants names
-    constants=$(sources | xargs grep -nE "const [A-Z_0-9]+: [a-z0-9]+ = $(sed 's/[0-9]/&_?/g' <<<"$1");")
+    local constants names fields digits
+    digits=$(sed 's/[0-9]/&_?/g' <<<"$1")
+    constants=$(sources | xargs grep -nE "const [A-Z_0-9]+: [a-z0-9]+ = $digits;")
     names=$(specs | xargs grep -nE "^[a-z_0-9]+ = $1\$")
-    if [ -z "$constants$names" ]; then
+    fields=$({ sources | xargs grep -nE "(^|[ {(])[a-z_0-9]+: $digits( }|[,;]|\$)"
+        specs | xargs grep -nE "[a-z_0-9]+ = $1( }|;|\$)" | grep -vE "^[^:]*:[0-9]+:[a-z_0-9]+ = "; })
+    if [ -z "$constants$names$fields" ]; then
         echo "no constant is $1" >&2
         return 1
     fi
     show "constants that are $1" "$constants"
     show "definitions that are $1" "$names"
-    show documents "$(grep -rnwE --include='*.md' -- "$(rev <<<"$1" | sed -E 's/([0-9]{3})([0-9])/\1?,\2/g' | rev)" \
+    show "fields that are $1" "$fields"
+    show documents "$(grep -rnwE --include='*.md' --include='cgf.1' -- \
+        "$(rev <<<"$1" | sed -E 's/([0-9]{3})([0-9])/\1?,\2/g' | rev)" \
         README.md CONTRIBUTING.md docs | cut -c 1-110)"
-    sed -E 's/^.*const ([A-Z_0-9]+):.*/\1/; s/^[^:]*:[0-9]+:([a-z_0-9]+) = .*/\1/' <<<"$constants${constants:+
+    # each with its crate, as another one may have a constant of that name that is another number
+    sed -E -e 's,^crates/([^/]*)/.*const ([A-Z_0-9]+):.*,\1::\2,' \
+        -e 's,^crates/([^/]*)/[^:]*:[0-9]+:([a-z_0-9]+) = .*,\1::\2,' <<<"$constants${constants:+
 }$names" | grep . | sort -u | while read -r name; do
         echo
         echo "== $name"

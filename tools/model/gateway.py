@@ -15,7 +15,8 @@ HEAD, HELD_PROMISE, CLOSE_PROMISE = 33, 76, 30
 
 class Entry(NamedTuple):
     """An entry: its moment, its kind (Start, Path, File, Hold, Seal, Release, Cancel, Tick or Close), and what it
-    names: a node by its address, absolute numbers, a packet, a port and a restart counter."""
+    names: a node by its address, absolute numbers, a packet, a port and a restart counter; and who made it: a session
+    and the serial of its job."""
 
     moment: int
     kind: str
@@ -24,6 +25,8 @@ class Entry(NamedTuple):
     packet: Optional[wire.Packet] = None
     port: int = 0
     counter: int = 0
+    session: int = 0
+    serial: int = 0
 
     def cost(self):
         """Its octets in the journal with the five of a batch of its own."""

@@ -1,10 +1,12 @@
 """Worked values: scripts with the output that the rules give for them, computed by hand. `python3 rows.py` is silent
 where the models agree."""
 
+import feed_scripts
 from feed import feed
 from once import violations
 from sample import sample
-from script import print_, read
+from script import LAST_MOMENT, print_, read
+from serve import Datagram, serve
 from world import play, replay
 
 P = "01010600 0005 A003800105"
@@ -206,6 +208,54 @@ def samples():
     expect("no message", [refused_line[2].decode()], "cgf: input 30: NoMessage\n")
 
 
+WORDS = ("serve", "10.0.0.1", "3386", "4", "16777216", "area", "cdrs")
+NODES = (10 << 24 | 257, 40_001), (10 << 24 | 258, 40_001)
+
+
+def served(*heard, file=None, words=WORDS, settings=("end",)):
+    """How a run of `serve` ends that hears these datagrams, each a sender, octets and a moment, in a folder that is
+    empty."""
+    return serve(words, text(*settings), file, {}, [Datagram(*each) for each in heard])
+
+
+def servings():
+    plain = bytes.fromhex(PLAIN)
+    ended = served((NODES[0], plain), (NODES[0], plain), (NODES[1], plain))
+    expect("serving", [reply[7] for reply in ended.replies], 128, 253, 128)
+    expect("serving", [ended.status, ended.output.decode()], 0, gateway(4, 2) + "\n")
+    again = serve(WORDS, b"end", ended.area, ended.folder, [Datagram(NODES[1], plain)])
+    expect("served again", [again.replies[0][7], again.output.decode()], 253, gateway(5, 2) + "\n")
+    expect("served again", [again.folder], ended.folder)
+    small = ("serve", "10.0.0.1", "3386", "1", "1000", "area", "cdrs")
+    for file, place in ((b"\xff" + bytes(999), 0), (b"C\xff" + bytes(998), 1), (again.area[:1000], 12)):
+        ended = served(file=file, words=small)
+        expect("no journal", [*ended[:3], ended.area == file], 6, b"", b"cgf: store %d\n" % place, True)
+    for line in ("reserve 500", "at 5", "mark", "renew 1000", "gateways 1", "frob"):
+        expect(line, served(settings=(line, "end"))[:4], 2, b"", b"cgf: input 1: Word\n", None)
+    for at, word in ((1, "10.0.0"), (2, "65536"), (3, "0"), (4, "99"), (5, "-x"), (6, "-")):
+        status = served(words=[*WORDS[:at], word, *WORDS[at + 1 :]]).status
+        expect(f"the word {word}", [status], 0 if word == "-" else 1)
+
+
+def fed_and_served():
+    """A feed and `serve` answer the same datagrams alike, and file the same."""
+    for number in range(40):
+        made = feed_scripts.Feed(number)
+        settings = [line for line in (made.setting() for _ in range(6)) if not line.startswith("reserve")]
+        nodes = [(10 << 24 | net << 8 | node, 40_001) for net, node in made.senders]
+        heard = [(made.pick(*nodes), made.mutated(made.datagram())) for _ in range(20)]
+        heard = [(node, octets, min(made.moment + 60 * at, LAST_MOMENT)) for at, (node, octets) in enumerate(heard)]
+        lines = [f"in 10.0.{node >> 8 & 255}.{node & 255}:{port} {octets.hex()}" for (node, port), octets, _ in heard]
+        moments = [f"at {moment}" for *_, moment in heard]
+        script = [*settings, *(line for pair in zip(moments, lines) for line in pair), "end"]
+        written = feed(text("reserve 2000", *script))[0].decode().splitlines()
+        ended = served(*heard, words=[*WORDS[:4], "2000", *WORDS[5:]], settings=[*settings, "end"])
+        found = [reply.hex().upper() if reply else "-" for reply in ended.replies]
+        found += [f"file 1 {name} {octets.hex().upper()}" for name, octets in ended.folder.items()]
+        wanted = [line if line[:2] != "- " else "-" for line in written]
+        expect(f"feed {number}", found + ended.output.decode().splitlines(), *wanted)
+
+
 if __name__ == "__main__":
     feeds()
     closings()
@@ -213,3 +263,5 @@ if __name__ == "__main__":
     stops()
     stories()
     samples()
+    servings()
+    fed_and_served()

@@ -1,4 +1,4 @@
-"""Scripts: the lines of feeds and of replays, and the first line that the grammar refuses.
+"""Scripts: the lines of feeds, of replays and of what serves, and the first line that the grammar refuses.
 
 A line is a tuple: its first word, for a setting `limit` the words `limit records` and so on, and then its values in
 their order; an empty line or a comment is ("blank",). Addresses are pairs of numbers, octets are bytes.
@@ -122,8 +122,10 @@ LATER = {
     "feed": (b"renew",),
     "replay": (b"armshelf", b"failshelf", b"renew", b"store", b"nodestop", b"nodeopen", b"nodearm")
     + (b"nodefail", b"standby", b"ship", b"takeover"),
+    "serve": (),
 }
-FORMS = {"feed": {**SETTINGS, **BOTH, **FEED}, "replay": {**SETTINGS, **COUNTS, **BOTH, **REPLAY}}
+SERVE = {form: SETTINGS[form] for form in (b"limit", b"offset", b"profile", b"rule")} | {b"end": []}
+FORMS = {"feed": {**SETTINGS, **BOTH, **FEED}, "replay": {**SETTINGS, **COUNTS, **BOTH, **REPLAY}, "serve": SERVE}
 
 
 class Rule(NamedTuple):
@@ -213,7 +215,8 @@ class _Text:
 
 
 def read(text, kind):
-    """The lines of a text of the kind "feed" or "replay"; raises the fault of the first line that is refused."""
+    """The lines of a text of the kind "feed", "replay" or "serve"; raises the fault of the first line that is
+    refused."""
     parts = text.split(b"\n")
     is_cut = parts[-1] != b""
     if not is_cut:
