@@ -5,7 +5,7 @@
 cd "$(dirname "$0")/.." || exit 1
 work=$(mktemp -d)
 trap 'rm -rf "$work"' EXIT
-mkdir -p "$work/crates/turns_bench/src"
+mkdir -p "$work/crates/turns_bench/src" "$work/crates/turns_bench/proofs/raise_many"
 cp HANDLES "$work/"
 for crate in gw_base turn_cell; do
     grep "^$crate:" crates.txt
@@ -13,6 +13,7 @@ for crate in gw_base turn_cell; do
 done >"$work/crates.txt"
 echo 'turns_bench: gw_base turn_cell' >>"$work/crates.txt"
 cp bench/turns/main.rt.txt "$work/crates/turns_bench/src/main.rt"
+cp bench/turns/Invariants.antt.txt "$work/crates/turns_bench/proofs/raise_many/Invariants.antt"
 cd "$work/crates/turns_bench" || exit 1
 rt run >"$work/log" 2>&1 || { cat "$work/log"; exit 1; }
 out/turns_bench
