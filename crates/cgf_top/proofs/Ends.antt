@@ -1,5 +1,5 @@
 -- What was read decides how the job ends, and an input that is shorter than the bound is read whole.
-use Rattle.std.proofs.Common.{◌≡◌, ℕ, ◌<◌, ◌⊎◌, inl, inr, List, ◌++◌, length, Option, Some, None, ap, sym, ◌∙◌, subst, arith, length-append, append-nil}
+use Rattle.std.proofs.Common.{◌≡◌, ℕ, ◌<◌, ◌⊎◌, inl, inr, List, [], ◌∷◌, ◌++◌, length, take, take_all, Option, Some, None, refl, ap, sym, ◌∙◌, subst, arith, length-append, append-nil}
 use Rattle.std.proofs.lemmas.Option.{same_Some}
 use Rattle.cgf_top.specs.Command.{command_of, most_read}
 use Rattle.cgf_top.specs.Ending.{EndsByInput, EndsByWhole, IsBounded, IsComplete}
@@ -14,6 +14,20 @@ read_whole most octets read (Some rest) h r =
     elim r.whole [
       | inl long ↦ (let no : ⊥ = omega (arith, h, long, ap length r.consumed, length-append read rest) in absurd no)
       | inr none ↦ sym (r.consumed ∙ ap (λ x. read ++ x) none ∙ append-nil read)
+    ]
+
+front_taken : (xs ys : List ℕ) → take (length xs) (xs ++ ys) ≡ xs
+front_taken [] ys = refl
+front_taken (x ∷ xs) ys = ap (λ (l : List ℕ). x ∷ l) (front_taken xs ys)
+
+-- what was read of an input is its first octets, as many as are read at most
+pub read_front : (most : ℕ) (octets read : List ℕ) (rest_left : Option (List ℕ)) → IsRead most (Some octets) rest_left read → read ≡ take most octets
+read_front most octets read None r = absurd r.consumed
+read_front most octets read (Some rest) r =
+    elim r.whole [
+      | inl long ↦ sym (ap (λ (n : ℕ). take n octets) (sym long) ∙ ap (λ (l : List ℕ). take (length read) l) r.consumed ∙ front_taken read rest)
+      | inr none ↦ sym (ap (λ (l : List ℕ). take most l) (r.consumed ∙ ap (λ (x : List ℕ). read ++ x) none ∙ append-nil read)
+          ∙ take_all most read r.bounded)
     ]
 
 -- two commands of the same words are one

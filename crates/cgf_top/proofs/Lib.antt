@@ -8,8 +8,10 @@ pub mod FeedLemmas
 pub mod FileLemmas
 pub mod GivenBackLemmas
 pub mod GrownLemmas
+pub mod KeptLemmas
 pub mod KindLemmas
 pub mod LineLemmas
+pub mod LookLemmas
 pub mod MadeLemmas
 pub mod NetworkLemmas
 pub mod PlaceLemmas

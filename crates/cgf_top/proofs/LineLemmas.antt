@@ -19,7 +19,7 @@ use Rattle.gateway_book.specs.declared.book.Book.{Book}
 use Rattle.gateway_book.specs.declared.told.Counts.{Counts}
 use Rattle.gw_base.specs.Facts.{WhereTold}
 use Rattle.gw_base.specs.declared.history.HistoryEntry.{HistoryEntry}
-use Rattle.node_session.specs.Settling.{HasSettled, HasTakenAll}
+use Rattle.node_session.specs.Settling.{Grows, HasSettled, HasTakenAll}
 use Rattle.node_session.specs.Writing.{KeepsFiles}
 use Rattle.replay_world.specs.Report.{counts_line, counts_text}
 use Rattle.replay_world.specs.Tally.{is_part}
@@ -57,7 +57,7 @@ module _ {A F : Type 0} (tells : areas.Ghosts A) (files : shelves.Ghosts F) wher
   -- settled, and then the line was read of the book, or not
   pub line_settled : {X : Type 0} (octets : X → List ℕ) (service : Service) (book a b : Book A tells) (writer w : Writer F files) (now : ℕ)
       (counts : Counts) (result : Result X Status) → service.stop ≡ None → HasSettled book a now no_caller counts
-      → (Told tells → HasTakenAll (value_of a).firm w) → (Stays book a × (settings_in w ≡ settings_in writer))
+      → (Told tells → HasTakenAll (value_of a).firm w) → Grows book a → (Stays book a × (settings_in w ≡ settings_in writer))
       → ((tells.faults (area_of book) ≤ tells.faults (area_of a)) × (files.faults (shelf_of writer) ≤ files.faults (shelf_of w)))
       → WhereTold (tells_lists tells) (KeepsFiles files (value_of a).firm writer w)
       → (Told tells → is_closed a.trail ≡ false → (value_of a).rest ≡ [] → counts ≡ counts_of (value_of a) (size_of a)
@@ -65,7 +65,7 @@ module _ {A F : Type 0} (tells : areas.Ghosts A) (files : shelves.Ghosts F) wher
       → IfErr result (FailsBy tells a b) → (IsUnchanged a b × (tells.faults (area_of a) ≤ tells.faults (area_of b)))
       → (both_told : tells_lists tells ≡ true → Told tells)
       → HasSettledAll tells files octets service book b writer w result
-  line_settled {X = X} octets service book a b writer w now counts result runs settled all stays later keeps line err same both_told = record {
+  line_settled {X = X} octets service book a b writer w now counts result runs settled all grows stays later keeps line err same both_told = record {
     stays = (
       record {
         size = same.0.stays.size ∙ stays.0.size;
@@ -74,6 +74,7 @@ module _ {A F : Type 0} (tells : areas.Ghosts A) (files : shelves.Ghosts F) wher
       },
       stays.1,
     );
+    grows = λ told. ((grows told).0, firm told ∙ (grows told).1);
     later = (let x = later.0 in let y = same.1 in omega (arith, x, y), later.1);
     files_stay = λ told. subst (λ (h : List HistoryEntry). KeepsFiles files h writer w) (sym (firm (both_told told))) (keeps told);
     ok = by_ok result line;

@@ -1,5 +1,5 @@
 -- What `serve` does, by what it read, how the gateway served, and what was written.
-use Rattle.std.proofs.Common.{◌≡◌, ◌≢◌, ◌⊎◌, ⊎_elim, inl, inr, ℕ, ◌+◌, ◌<◌, ◌≤◌, Bool, true, false, true≢false, List, [], ◌∷◌, ◌++◌, length, Option, None, Some, Result, Ok, Err, IfErr, IfOk, OnOk, refl, sym, ap, subst, ◌∙◌, arith, append-nil, length-append}
+use Rattle.std.proofs.Common.{◌≡◌, ◌≢◌, ◌⊎◌, ⊎_elim, inl, inr, ℕ, ◌+◌, Bool, true, false, true≢false, List, [], ◌∷◌, take, Option, None, Some, Result, Ok, Err, IfErr, IfOk, OnOk, refl, sym, ap, subst, ◌∙◌}
 use Rattle.std.specs.Io.KnownBytes.{Appends}
 use Rattle.std.proofs.lemmas.Option.{same_Some}
 use Rattle.area_disk.specs.declared.area.Area as areas
@@ -24,7 +24,7 @@ use Rattle.cgf_top.specs.Kinds.{of_line}
 use Rattle.cgf_top.specs.Run.{IsRead, TakesUpTo, may_have_written}
 use Rattle.cgf_top.specs.ServeEnds.{EndsBy, IsCalm, IsRefusedAt, ServedBy, Serves, may_have_opened}
 use Rattle.cgf_top.specs.ServeSteps.{AreOf, CausesRead, IsSetBy, RefusesAsForeign, RefusesSettings, RefusesText, StopsServing, WritesLine}
-use Rattle.cgf_top.specs.Served.{HasServed, header_for, served_line}
+use Rattle.cgf_top.specs.Served.{HasServed, LosesNothing, header_for, served_line}
 use Rattle.cgf_top.specs.Serving.{address_in, serving_of}
 use Rattle.cgf_top.specs.declared.input_kind.InputKind.{InputKind}
 use Rattle.cgf_top.specs.declared.serve.FileSettings.{FileSettings}
@@ -33,7 +33,7 @@ use Rattle.cgf_top.specs.declared.status.Status.{Status}
 use Rattle.cgf_top.specs.declared.status.Status.TheVariants as status
 use Rattle.cgf_top.specs.declared.status.StoreFault.TheVariants as fault
 use Rattle.cgf_top.proofs.EndingLemmas.{some_is_none}
-use Rattle.cgf_top.proofs.Ends.{read_whole}
+use Rattle.cgf_top.proofs.Ends.{read_front}
 
 -- words of `serve` are none of the other forms
 pub no_command : (words : List (List ℕ)) (of : Serving) → serving_of words ≡ Some of → command_of words ≡ None
@@ -108,26 +108,26 @@ module _ {A F : Type 0} (tells : areas.Ghosts A) (files : shelves.Ghosts F) (of 
   refused_cause status.Link r same = absurd r
 
   refused_complete : (ended : Status) → Refuses job ended → IsCalm tells files of job area area' shelf shelf' links links' clock clock' ended
-      → (text : List ℕ) → job.left ≡ Some text → length text < most_text + 1
-      → EndsBy tells files of job area area' shelf shelf' links links' clock clock' ended (script_in kind.Serve text)
-  refused_complete status.Read r calm text left short = absurd (calm.source r)
-  refused_complete status.Memory r calm text left short = by_script (script_in kind.Serve text)
+      → (text : List ℕ) → job.left ≡ Some text
+      → EndsBy tells files of job area area' shelf shelf' links links' clock clock' ended (script_in kind.Serve (take (most_text + 1) text))
+  refused_complete status.Read r calm text left = absurd (calm.source r)
+  refused_complete status.Memory r calm text left = by_script (script_in kind.Serve (take (most_text + 1) text))
     where
       by_script : (s : Result (List Line) Refusal) → EndsBy tells files of job area area' shelf shelf' links links' clock clock' status.Memory s
       by_script (Ok lines) = (λ h stands. inl refl, λ at foreign. inl refl)
       by_script (Err refusal) = inl refl
-  refused_complete (status.Input place why) r calm text left short =
+  refused_complete (status.Input place why) r calm text left =
       let read = r.1 in
       let bad = read.2 in
-      let same : read.0 ≡ text = read_whole (most_text + 1) text read.0 job.rest short
+      let same : read.0 ≡ take (most_text + 1) text = read_front (most_text + 1) text read.0 job.rest
       (subst (λ (o : Option (List ℕ)). IsRead (most_text + 1) o job.rest read.0) left read.1) in
       subst (λ (s : Result (List Line) Refusal). EndsBy tells files of job area area' shelf shelf' links links' clock clock' (status.Input place why) s)
       (sym (sym (ap (λ (t : List ℕ). script_in kind.Serve t) same) ∙ bad.1)) (inr bad.2)
-  refused_complete status.Done r calm text left short = absurd r
-  refused_complete status.Words r calm text left short = absurd r
-  refused_complete status.Write r calm text left short = absurd r
-  refused_complete (status.Store why) r calm text left short = absurd r
-  refused_complete status.Link r calm text left short = absurd r
+  refused_complete status.Done r calm text left = absurd r
+  refused_complete status.Words r calm text left = absurd r
+  refused_complete status.Write r calm text left = absurd r
+  refused_complete (status.Store why) r calm text left = absurd r
+  refused_complete status.Link r calm text left = absurd r
 
   refused_at : (ended : Status) → Refuses job ended → (place : ℕ) (why : InputKind) → ended ≡ status.Input place why
       → (text : List ℕ) × IsRead (most_text + 1) job.left job.rest text × IsRefusedAt (script_in kind.Serve text) ended
@@ -139,12 +139,14 @@ module _ {A F : Type 0} (tells : areas.Ghosts A) (files : shelves.Ghosts F) (of 
 
   pub refused_serves : {X : Type 0} (ended : Status) → RefusesSettings job.left job.rest ended
       → CausesRead {X = X} job.read_before job.read_after (Err ended) → TakesUpTo (most_text + 1) job.left job.rest
-      → job.written_after ≡ job.written_before → Serves tells files of job area area' shelf shelf' links links' clock clock' ended None
-  refused_serves ended refuses causes bound same =
+      → job.written_after ≡ job.written_before → LosesNothing tells of area area' links links'
+      → Serves tells files of job area area' shelf shelf' links links' clock clock' ended None
+  refused_serves ended refuses causes bound same keeps =
       let r = refuses_by job ended refuses causes in
       record {
         done = λ is. absurd (subst (Refuses job) is r);
         front = λ is. absurd (subst (Refuses job) is r);
+        keeps = keeps;
         refused = refused_at ended r;
         device = λ is. absurd (subst (Refuses job) is r);
         foreign = λ at is told. absurd (subst (Refuses job) is r);
@@ -153,7 +155,7 @@ module _ {A F : Type 0} (tells : areas.Ghosts A) (files : shelves.Ghosts F) (of 
         known = λ is. absurd (subst (Refuses job) is r);
         bound = bound;
         none = refl;
-        complete = λ calm told text left short. refused_complete ended r calm text left short;
+        complete = λ calm told text left. refused_complete ended r calm text left;
       }
 
   -- ---- the gateway has no line
@@ -204,21 +206,23 @@ module _ {A F : Type 0} (tells : areas.Ghosts A) (files : shelves.Ghosts F) (of 
   stopped_calmly ours others status.Words s calm told h stands = absurd s
   stopped_calmly ours others status.Write s calm told h stands = absurd s
 
-  -- what was read is what was left
+  -- what was read is the first of what was left
   same_script : (text left : List ℕ) (lines : List Line) → script_in kind.Serve text ≡ Ok lines → IsRead (most_text + 1) job.left job.rest text
-      → job.left ≡ Some left → length left < most_text + 1 → Ok lines ≡ script_in kind.Serve left
-  same_script text left lines set read is short =
-      sym (sym (ap (λ (t : List ℕ). script_in kind.Serve t) (read_whole (most_text + 1) left text job.rest short
+      → job.left ≡ Some left → Ok lines ≡ script_in kind.Serve (take (most_text + 1) left)
+  same_script text left lines set read is =
+      sym (sym (ap (λ (t : List ℕ). script_in kind.Serve t) (read_front (most_text + 1) left text job.rest
       (subst (λ (o : Option (List ℕ)). IsRead (most_text + 1) o job.rest text) is read))) ∙ set)
 
   pub stopped_serves : {X : Type 0} (result : Result X Status) (ended : Status) (text : List ℕ) (by : FileSettings)
       → IsRead (most_text + 1) job.left job.rest text → IsSetBy text by → result ≡ Err ended
       → IfErr result (λ e. Stops e) → (Told tells → RefusesAsForeign tells of area result) → Ours → Others
       → job.read_after ≡ job.read_before → TakesUpTo (most_text + 1) job.left job.rest → job.written_after ≡ job.written_before
+      → LosesNothing tells of area area' links links'
       → Serves tells files of job area area' shelf shelf' links links' clock clock' ended None
-  stopped_serves {X = X} result ended text by read set is_err stops foreign_so ours others unread bound same = record {
+  stopped_serves {X = X} result ended text by read set is_err stops foreign_so ours others unread bound same keeps = record {
     done = λ is. absurd (subst (λ (e : Status). Stops e) is s);
     front = λ is. absurd (subst (λ (e : Status). Stops e) is s);
+    keeps = keeps;
     refused = λ place why is. absurd (subst (λ (e : Status). Stops e) is s);
     device = λ is. subst (λ (e : Status). Stops e) is s;
     foreign = λ at is told. (subst (λ (e : Status). Stops e) is s) told;
@@ -227,9 +231,9 @@ module _ {A F : Type 0} (tells : areas.Ghosts A) (files : shelves.Ghosts F) (of 
     known = λ is. absurd (subst (λ (e : Status). Stops e) is s);
     bound = bound;
     none = refl;
-    complete = λ calm told left is short.
+    complete = λ calm told left is.
         subst (λ (r : Result (List Line) Refusal). EndsBy tells files of job area area' shelf shelf' links links' clock clock' ended r)
-        (same_script text left set.0 set.1 read is short)
+        (same_script text left set.0 set.1 read is)
         (λ h stands. stopped_calmly ours others ended s calm told h stands, λ at not_ours. by_foreign calm at (foreign told at not_ours));
   }
     where
@@ -336,12 +340,14 @@ module _ {A F : Type 0} (tells : areas.Ghosts A) (files : shelves.Ghosts F) (of 
         none_of (inr (inr e)) = true≢false (ap is_ok_of e)
 
     pub written_serves : job.read_after ≡ job.read_before → TakesUpTo (most_text + 1) job.left job.rest
+        → LosesNothing tells of area area' links links'
         → Serves tells files of job area area' shelf shelf' links links' clock clock' ended None
-    written_serves unread bound =
+    written_serves unread bound keeps =
         let w = writes_by job line ended writes in
         record {
           done = λ is. (served_by (λ l. Appends job.before job.after l) (subst (Writes job line) is w).0, turns);
           front = λ is. served_by (λ l. AppendsFront job.before job.after l) (subst (Writes job line) is w).0;
+          keeps = keeps;
           refused = λ place why is. absurd (subst (Writes job line) is w);
           device = λ is. absurd (subst (Writes job line) is w);
           foreign = λ at is told. absurd (subst (Writes job line) is w);
@@ -350,8 +356,8 @@ module _ {A F : Type 0} (tells : areas.Ghosts A) (files : shelves.Ghosts F) (of 
           known = λ is. absurd (subst (Writes job line) is w);
           bound = bound;
           none = refl;
-          complete = λ calm told left is short.
+          complete = λ calm told left is.
               subst (λ (r : Result (List Line) Refusal). EndsBy tells files of job area area' shelf shelf' links links' clock clock' ended r)
-              (same_script text left set.0 set.1 read is short)
+              (same_script text left set.0 set.1 read is)
               (λ h stands. inr (written_calmly line ended w calm), λ at not_ours. absurd (not_foreign told at not_ours));
         }

@@ -1,10 +1,8 @@
 -- What a gateway hands back that was opened, served and was settled.
-use Rattle.std.proofs.Common.{◌≡◌, ℕ, ◌+◌, ◌<◌, ◌≤◌, Bool, true, false, if◌then◌else◌, ◌&&◌, List, [], ◌∷◌, ◌++◌, length, Option, Some, refl, sym, ap, subst, ◌∙◌, true≢false, arith}
-use Rattle.std.specs.Prelude.{All, IfSome, IsTrue}
+use Rattle.std.proofs.Common.{◌≡◌, ℕ, ◌+◌, ◌<◌, ◌≤◌, Bool, true, false, if◌then◌else◌, List, [], ◌∷◌, ◌++◌, length, refl, sym, ap, subst, ◌∙◌, true≢false, arith}
+use Rattle.std.specs.Prelude.{IsTrue}
 use Rattle.std.proofs.lemmas.List.{append-nil}
-use Rattle.std.proofs.lemmas.List.Elements.{All-weaker}
 use Rattle.area_disk.specs.AreaLaws.{AreaLaws}
-use Rattle.area_disk.specs.Disk.{Rose}
 use Rattle.area_disk.specs.declared.area.Area as areas
 use Rattle.cdr_shelf.specs.Files.{SealedFile, in_stream}
 use Rattle.cdr_shelf.specs.declared.shelf.Shelf as shelves
@@ -16,7 +14,7 @@ use Rattle.file_writer.specs.Writer.{is_broken, settings_in, shelf_of, taken_of}
 use Rattle.file_writer.specs.declared.writer.Writer.{Writer}
 use Rattle.gate_journal.specs.Moments.{Told}
 use Rattle.gateway_book.specs.Answered.{entry_by, no_caller}
-use Rattle.gateway_book.specs.Book.{Stays, area_of, header_of, size_of, value_of}
+use Rattle.gateway_book.specs.Book.{Stays, area_of, header_of, value_of}
 use Rattle.gateway_book.specs.Comes.{LeavesFit}
 use Rattle.gateway_book.specs.Filed.{along}
 use Rattle.gateway_book.specs.FitHistory.{StandsFitFor}
@@ -31,7 +29,6 @@ use Rattle.gw_base.specs.Owes.{Begins, base}
 use Rattle.gw_base.specs.declared.history.HistoryAct.TheVariants as act
 use Rattle.gw_base.specs.declared.history.HistoryEntry.{HistoryEntry}
 use Rattle.gw_base.specs.declared.item.Item.{Item}
-use Rattle.net_link.specs.Datagrams.{Datagram}
 use Rattle.net_link.specs.Making.{LinksState}
 use Rattle.node_session.specs.Settling.{closed_behind}
 use Rattle.node_session.specs.Writing as writing
@@ -46,21 +43,13 @@ use Rattle.cgf_top.specs.declared.serving.Serving.{Serving}
 use Rattle.cgf_top.specs.declared.settling.Service.{Service}
 use Rattle.cgf_top.proofs.FileLemmas.{length-files_from}
 use Rattle.cgf_top.proofs.GrownLemmas as grow
+use Rattle.cgf_top.proofs.KeptLemmas.{replies_rest, told_lists}
 use Rattle.cgf_top.proofs.SealedLemmas.{all_sealed, begun_on}
-use Rattle.cgf_top.proofs.ServiceLemmas.{reply_later}
-
-pub told_lists : {A : Type 0} (tells : areas.Ghosts A) → Told tells → tells_lists tells ≡ true
-told_lists tells told = ap (λ (b : Bool). b && tells.tells_crash) told.0 ∙ told.1
 
 -- the facts of a book that isn't broken have its firm entries, and then those that wait
 joined_whole : (v : BookValue) → v.is_broken ≡ false → history_of v ++ torn_of v ≡ v.firm ++ v.rest
 joined_whole v whole =
     ap (λ (b : Bool). (if b then v.firm else v.firm ++ v.rest) ++ (if b then v.rest else [])) whole ∙ append-nil (v.firm ++ v.rest)
-
-all_behind_weaker : (before after : Option (List Datagram)) (P Q : Datagram → Type 0) → ((d : Datagram) → P d → Q d)
-    → AllBehind before after P → AllBehind before after Q
-all_behind_weaker before after P Q more each old all was is =
-    let e = each old all was is in (e.0, e.1, All-weaker P Q more e.0 e.2)
 
 -- the settings of the files
 pub settings_at : (of : Serving) (setup : Setup) (by : FileSettings) → AreOf setup by → ◌≡◌ {A = Settings} (record {
@@ -132,24 +121,10 @@ module _ {A F : Type 0} (tells : areas.Ghosts A) (files : shelves.Ghosts F) (of 
   begins = grow.firm_begins (tells.size area) (links'.received (address_in of)) start (value_of book).rest (facts_of book) (facts_of book')
       is_fresh.firm list_is sized is_fresh.rest goes has.drops has.now history (has.firm told)
 
-  rose : Rose (tells.faults (area_of book)) (tells.faults (area_of book')) → Rose (tells.faults (area_of book)) (tells.faults (area_of book''))
-  rose up = omega (arith, up, later)
-
-  rests : (d : Datagram)
-      → IsReply (links'.received (address_in of)) (size_of book) (value_of book').firm (tells.faults (area_of book)) (tells.faults (area_of book')) d
-      → IsReply (links'.received (address_in of)) (size_of book) history (tells.faults area) (tells.faults (area_of book'')) d
-  rests d r = subst (λ (n : ℕ). IsReply (links'.received (address_in of)) (size_of book) history n (tells.faults (area_of book'')) d) opens.faults
-      (reply_later (links'.received (address_in of)) (size_of book) (value_of book').firm history (tells.faults (area_of book)) (tells.faults (area_of book'))
-      (tells.faults (area_of book'')) begins rose d r)
-
   replies : AllBehind (links.sent (address_in of)) (links'.sent (address_in of))
       (IsReply (links'.received (address_in of)) (tells.size area) history (tells.faults area) (tells.faults (area_of book'')))
-  replies = subst (λ (size : ℕ). AllBehind (links.sent (address_in of)) (links'.sent (address_in of))
-      (IsReply (links'.received (address_in of)) size history (tells.faults area) (tells.faults (area_of book'')))) sized
-      (all_behind_weaker (links.sent (address_in of)) (links'.sent (address_in of))
-      (IsReply (links'.received (address_in of)) (size_of book) (value_of book').firm (tells.faults (area_of book)) (tells.faults (area_of book')))
-      (IsReply (links'.received (address_in of)) (size_of book) history (tells.faults area) (tells.faults (area_of book'')))
-      rests (serves.replies lists))
+  replies = replies_rest tells files of told area book book' book'' writer writer' links links' clock clock' service open_time sized opens serves later
+      history begins
 
   settings_are : settings_in writer'' ≡ files_at of setup
   settings_are = set ∙ serves.kept.settings ∙ by

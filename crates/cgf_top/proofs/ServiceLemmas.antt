@@ -13,10 +13,10 @@ use Rattle.session_run.specs.History.{GoesOn, IsAnswered, IsCalledFor, IsReply, 
 use Rattle.session_run.specs.Running.{StaysAs}
 use Rattle.turn_cell.specs.Placed.{placed}
 
-begins_self : (xs : List HistoryEntry) → Begins xs xs
+pub begins_self : (xs : List HistoryEntry) → Begins xs xs
 begins_self xs = ([], sym (append-nil xs))
 
-begins_then : (xs ys zs : List HistoryEntry) → Begins xs ys → Begins ys zs → Begins xs zs
+pub begins_then : (xs ys zs : List HistoryEntry) → Begins xs ys → Begins ys zs → Begins xs zs
 begins_then xs ys zs p q = (p.0 ++ q.0, q.1 ∙ ap (λ (l : List HistoryEntry). l ++ q.0) p.1 ∙ append_assoc xs p.0 q.0)
 
 firm_first : (told : Bool) (f : Facts) → AreSound told f → told ≡ true → Begins f.firm (joined f)

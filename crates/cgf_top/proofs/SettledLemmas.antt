@@ -1,5 +1,5 @@
 -- How a gateway that was to serve ends: it wasn't opened, or it was settled.
-use Rattle.std.proofs.Common.{◌≡◌, ◌⊎◌, ⊎_elim, inl, inr, ℕ, ◌+◌, ◌≤◌, true, false, List, Option, None, Some, Result, Ok, Err, IfErr, IfOk, IsErrAnd, OnOk, refl, sym, ap, subst, ◌∙◌, arith}
+use Rattle.std.proofs.Common.{◌≡◌, ◌⊎◌, ⊎_elim, inl, inr, ℕ, ◌+◌, ◌≤◌, true, false, List, [], ◌++◌, Option, None, Some, Result, Ok, Err, IfErr, IfOk, IsErrAnd, OnOk, refl, sym, ap, subst, ◌∙◌, arith}
 use Rattle.area_disk.specs.AreaLaws.{AreaLaws}
 use Rattle.area_disk.specs.Disk.{Rose}
 use Rattle.area_disk.specs.declared.area.Area as areas
@@ -7,24 +7,27 @@ use Rattle.cdr_shelf.specs.declared.shelf.Shelf as shelves
 use Rattle.file_writer.specs.Streams.{Settings}
 use Rattle.file_writer.specs.Writer.{is_broken, settings_in, shelf_of}
 use Rattle.file_writer.specs.declared.writer.Writer.{Writer}
+use Rattle.cgf_journal.specs.Format.{StandsFor}
 use Rattle.gate_journal.specs.Format.{Starts}
 use Rattle.gate_journal.specs.Moments.{Told}
-use Rattle.gateway_book.specs.Book.{area_of, value_of}
+use Rattle.gateway_book.specs.Book.{area_of, header_of, value_of}
 use Rattle.gateway_book.specs.Comes.{LeavesFit}
 use Rattle.gateway_book.specs.FitHistory.{StandsFitFor}
 use Rattle.gateway_book.specs.Items.{items_of}
-use Rattle.gateway_book.specs.Opened.{IsNotOurs, IsOpened, IsRefused, RefusesForeign}
+use Rattle.gateway_book.specs.Opened.{FindsHistory, IsMadeAnew, IsNotOurs, IsOpened, IsRefused, RefusesForeign, StandsOrStarts}
 use Rattle.gateway_book.specs.Turning.{tells_lists}
+use Rattle.gateway_book.specs.Value.{BookValue}
 use Rattle.gateway_book.specs.declared.book.Book.{Book}
 use Rattle.gateway_book.specs.declared.outcome.BookFault.{BookFault}
 use Rattle.gateway_book.specs.declared.outcome.BookFault.TheVariants as of_book
 use Rattle.gw_base.specs.History.{is_close_due}
+use Rattle.gw_base.specs.Owes.{Begins}
 use Rattle.gw_base.specs.declared.history.HistoryEntry.{HistoryEntry}
 use Rattle.net_link.specs.Making.{LinksState}
 use Rattle.replay_world.specs.Settled.{AreShut}
 use Rattle.replay_world.specs.Setup.{Setup}
 use Rattle.cgf_top.specs.ServeSteps.{AreOf, HasLine, HasNoLine, HasServedAt, HasSettledAll, NeverFalls, RefusesAsForeign, StopsServing, status_by}
-use Rattle.cgf_top.specs.Served.{HasServed, files_at, header_for, served_line}
+use Rattle.cgf_top.specs.Served.{GoesOnIn, HasServed, LosesNothing, files_at, header_for, served_line}
 use Rattle.cgf_top.specs.Serving.{address_in}
 use Rattle.cgf_top.specs.declared.serve.FileSettings.{FileSettings}
 use Rattle.cgf_top.specs.declared.serving.Serving.{Serving}
@@ -32,7 +35,10 @@ use Rattle.cgf_top.specs.declared.settling.Service.{Service}
 use Rattle.cgf_top.specs.declared.status.Status.{Status}
 use Rattle.cgf_top.specs.declared.status.Status.TheVariants as status
 use Rattle.cgf_top.specs.declared.status.StoreFault.TheVariants as fault
-use Rattle.cgf_top.proofs.ServedLemmas.{FilesGrow, ItemsStay, has_served, settings_at, told_lists}
+use Rattle.cgf_top.proofs.GrownLemmas.{opened_is_fresh}
+use Rattle.cgf_top.proofs.KeptLemmas.{goes_on_unsent, replies_rest, told_lists}
+use Rattle.cgf_top.proofs.ServedLemmas.{FilesGrow, ItemsStay, has_served}
+use Rattle.cgf_top.proofs.ServiceLemmas.{begins_self, begins_then}
 
 -- ---- it wasn't opened
 
@@ -73,6 +79,30 @@ module _ {A F : Type 0} (tells : areas.Ghosts A) (files : shelves.Ghosts F) (of 
       place : (why ≡ of_book.NotOurs at) ⊎ ((why ≡ of_book.Device) ⊎ (why ≡ of_book.NoMemory))
       place = subst (λ (o : Result (Book A tells) (BookFault × A)). IsErrAnd o
           (λ f. (f.0 ≡ of_book.NotOurs at) ⊎ ((f.0 ≡ of_book.Device) ⊎ (f.0 ≡ of_book.NoMemory)))) is (refuses at foreign).place
+
+  -- what a crash leaves of an area whose opening failed stands as it did, or starts, where it was to be made anew
+  pub unopened_keeps : (why : BookFault) (area' : A) → AreaLaws tells
+      → (Told tells → (h : List HistoryEntry) → StandsFitFor (header_for tells area of) (tells.octets area) h → FindsHistory {tells = tells} area (Err (why, area')) h)
+      → (Told tells → Starts (header_for tells area of) (tells.octets area) → IsMadeAnew {tells = tells} area (Err (why, area')) (header_for tells area of))
+      → LosesNothing tells of area area' links links
+  unopened_keeps why area' laws reads anew told start holds = record {
+    now = goes_on (tells.octets area') (laws.holds area');
+    crash = goes_on;
+  }
+    where
+      left : (c : List ℕ) → tells.may_leave area' c → StandsOrStarts (header_for tells area of) (tells.octets area) start
+          → StandsOrStarts (header_for tells area of) c start
+      left c may (inl stands) = holds.crash c ((reads told start stands).moments.now c may)
+      left c may (inr starts) = ⊎_elim
+          (λ (old : tells.may_leave area c). holds.crash c old)
+          (λ (made : Starts (header_for tells area of) c ⊎ StandsFor (header_for tells area of) c []). ⊎_elim
+          (λ (s : Starts (header_for tells area of) c). inr (s, starts.1))
+          (λ (s : StandsFor (header_for tells area of) c []). inl (subst (λ (h : List HistoryEntry). StandsFitFor (header_for tells area of) c h) (sym starts.1)
+          (record { stands = s; fit = tt }))) made)
+          ((anew told starts.0).moments.now c may)
+
+      goes_on : (c : List ℕ) → tells.may_leave area' c → GoesOnIn tells of area area' links links start c
+      goes_on c may = goes_on_unsent tells of area area' links start c (left c may holds.now)
 
 -- ---- it was settled
 
@@ -170,3 +200,47 @@ module _ {A F : Type 0} (tells : areas.Ghosts A) (files : shelves.Ghosts F) (of 
         × (octets x ≡ served_line history))) (sym is_area)
         (subst (λ (f : F). IfOk result (λ x. (history : List HistoryEntry) × HasServed tells files of setup area (area_of book'') shelf f links links' history
         × (octets x ≡ served_line history))) (sym is_shelf) settled_serves)
+
+  -- Nothing is lost.
+
+  module _ (laws : AreaLaws tells) (leaves : LeavesFit book'')
+      (reads : Told tells → (h : List HistoryEntry) → StandsFitFor (header_for tells area of) (tells.octets area) h → FindsHistory {tells = tells} area (Ok book) h)
+      (anew : Told tells → Starts (header_for tells area of) (tells.octets area) → IsMadeAnew {tells = tells} area (Ok book) (header_for tells area of)) where
+    found_is : Told tells → (start : List HistoryEntry) → StandsOrStarts (header_for tells area of) (tells.octets area) start → (value_of book).firm ≡ start
+    found_is told start (inl stands) =
+        ap (λ (v : BookValue). v.firm) (reads told start stands).value ∙ (opened_is_fresh (tells.size area) start).firm
+    found_is told start (inr starts) =
+        ap (λ (v : BookValue). v.firm) (anew told starts.0).value ∙ (opened_is_fresh (tells.size area) []).firm ∙ sym starts.1
+
+    goes_on_in : Told tells → (start : List HistoryEntry) → StandsOrStarts (header_for tells area of) (tells.octets area) start
+        → (c : List ℕ) → tells.may_leave (area_of book'') c → GoesOnIn tells of area (area_of book'') links links' start c
+    goes_on_in told start found c may = ⊎_elim
+        (λ (s : StandsFitFor (header_of book'') c (value_of book'').firm). stands_for (value_of book'').firm (begins_self (value_of book'').firm) s)
+        (λ (s : StandsFitFor (header_of book'') c ((value_of book'').firm ++ (value_of book'').rest)).
+        stands_for ((value_of book'').firm ++ (value_of book'').rest) ((value_of book'').rest, refl) s)
+        (leaves.any told c may)
+      where
+        named : header_of book'' ≡ header_for tells area of
+        named = settles.stays.0.header ∙ serves.stays.name ∙ opens.named
+
+        served : Begins start (value_of book').firm
+        served = subst (λ (h : List HistoryEntry). Begins h (value_of book').firm) (found_is told start found) (serves.goes_on (told_lists tells told)).begins
+
+        stands_for : (history : List HistoryEntry) → Begins (value_of book'').firm history → StandsFitFor (header_of book'') c history
+            → GoesOnIn tells of area (area_of book'') links links' start c
+        stands_for history begins stands =
+            let behind : Begins (value_of book').firm history = begins_then (value_of book').firm (value_of book'').firm history (settles.grows told) begins in
+            record {
+              history = history;
+              stands = inl (subst (λ (h : List ℕ). StandsFitFor h c history) named stands);
+              begins = begins_then start (value_of book').firm history served behind;
+              replies = replies_rest tells files of told area book book' book'' writer writer' links links' clock clock' service open_time sized opens serves
+                  settles.later.0 history behind;
+            }
+
+    pub keeps_as : (area'' : A) → area'' ≡ area_of book'' → LosesNothing tells of area area'' links links'
+    keeps_as area'' is_area told start holds = record { now = all (tells.octets area'') (laws.holds area''); crash = all }
+      where
+        all : (c : List ℕ) → tells.may_leave area'' c → GoesOnIn tells of area area'' links links' start c
+        all = subst (λ (a : A). (c : List ℕ) → tells.may_leave a c → GoesOnIn tells of area a links links' start c) (sym is_area)
+            (goes_on_in told start holds.now)

@@ -1,5 +1,5 @@
 -- How `serve` ends, and why.
-use Rattle.std.specs.Prelude.{◌≡◌, ◌≢◌, ◌⊎◌, ℕ, ◌+◌, ◌<◌, Bool, true, false, List, length, Option, Some, None, Result, Ok, Err}
+use Rattle.std.specs.Prelude.{◌≡◌, ◌≢◌, ◌⊎◌, ℕ, ◌+◌, Bool, true, false, List, take, Option, Some, None, Result, Ok, Err}
 use Rattle.std.specs.Io.KnownBytes.{Appends}
 use Rattle.area_disk.specs.Disk as disk
 use Rattle.area_disk.specs.declared.area.Area as areas
@@ -19,7 +19,7 @@ use Rattle.cgf_top.specs.Ending.{HasCause}
 use Rattle.cgf_top.specs.Job.{Job}
 use Rattle.cgf_top.specs.Kinds.{of_line}
 use Rattle.cgf_top.specs.Run.{IsRead, TakesUpTo}
-use Rattle.cgf_top.specs.Served.{HasServed, header_for, served_line}
+use Rattle.cgf_top.specs.Served.{HasServed, LosesNothing, header_for, served_line}
 use Rattle.cgf_top.specs.Serving.{address_in}
 use Rattle.cgf_top.specs.declared.input_kind.InputKind.{InputKind}
 use Rattle.cgf_top.specs.declared.serving.Serving.{Serving}
@@ -94,6 +94,8 @@ module _ {A F : Type 0} (tells : areas.Ghosts A) (files : shelves.Ghosts F) (of 
         × (links'.turns (address_in of) ≡ links.turns (address_in of) + of.turns)
     -- At `Write` a front of these is written.
     pub front : ended ≡ status.Write → ServedBy (λ line. AppendsFront job.before job.after line)
+    -- However it ends, nothing is lost of the history that its area held, nor of what it answered.
+    pub keeps : LosesNothing tells of area area' links links'
     -- At `Input` the line is the first of what was read that the grammar of settings refuses.
     pub refused : (place : ℕ) (why : InputKind) → ended ≡ status.Input place why →
         (text : List ℕ) × IsRead (most_text + 1) job.left job.rest text × IsRefusedAt (script_in kind.Serve text) ended
@@ -109,6 +111,7 @@ module _ {A F : Type 0} (tells : areas.Ghosts A) (files : shelves.Ghosts F) (of 
     pub known : ended ≢ status.Words
     pub bound : TakesUpTo (most_text + 1) job.left job.rest
     pub none : played ≡ None
-    -- Where nothing fails, settings and area decide how it ends, unless memory runs out.
-    pub complete : IsCalm → Told tells → (text : List ℕ) → job.left ≡ Some text → length text < most_text + 1 →
-        EndsBy (script_in kind.Serve text)
+    -- Where nothing fails, the settings and the area decide how it ends, unless memory runs out: of what the source has,
+    -- the first 16,777,217 octets.
+    pub complete : IsCalm → Told tells → (text : List ℕ) → job.left ≡ Some text →
+        EndsBy (script_in kind.Serve (take (most_text + 1) text))

@@ -26,7 +26,7 @@ use Rattle.net_link.specs.Making.{Keeps, LinksState}
 use Rattle.net_link.specs.declared.link.Link as paths
 use Rattle.net_link.specs.declared.link.LinkStop.{LinkStop}
 use Rattle.net_link.specs.declared.link.LinkStop.TheVariants as of_link
-use Rattle.node_session.specs.Settling.{HasTakenAll, closed_behind}
+use Rattle.node_session.specs.Settling.{Grows, HasTakenAll, closed_behind}
 use Rattle.node_session.specs.Writing.{KeepsFiles}
 use Rattle.replay_world.specs.Settings.{AreSet, AreSound}
 use Rattle.replay_world.specs.Setup.{Setup, setup_of}
@@ -189,6 +189,7 @@ module _ {A F : Type 0} (tells : areas.Ghosts A) (files : shelves.Ghosts F) wher
   pub record HasSettledAll {X : Type 0} (octets : X → List ℕ) (service : Service) (book book' : Book A tells)
       (writer writer' : Writer F files) (result : Result X Status) : Type 0 where
     pub stays : Stays book book' × (settings_in writer' ≡ settings_in writer)
+    pub grows : Grows book book'
     pub later : (tells.faults (area_of book) ≤ tells.faults (area_of book'))
         × (files.faults (shelf_of writer) ≤ files.faults (shelf_of writer'))
     pub files_stay : WhereTold (tells_lists tells) (KeepsFiles files (value_of book').firm writer writer')

@@ -7,6 +7,7 @@ use Rattle.file_writer.specs.Files.{stream_files}
 use Rattle.file_writer.specs.Holding.{IsBegun}
 use Rattle.file_writer.specs.Streams.{Settings, stream_count}
 use Rattle.gate_journal.specs.Format.{header}
+use Rattle.gate_journal.specs.Moments.{Told}
 use Rattle.gateway_book.specs.Answered.{entry_by, no_caller}
 use Rattle.gateway_book.specs.FitHistory.{StandsFitFor}
 use Rattle.gateway_book.specs.Items.{items_of}
@@ -87,6 +88,31 @@ module _ {A F : Type 0} (tells : areas.Ghosts A) (files : shelves.Ghosts F) (of 
     pub sealed : IsTrue files.tells_files → HasFirstFiles (files_at of setup) start (files.files shelf)
         → HasAllFiles (files_at of setup) history (files.files shelf')
     pub shut : AreShut (items_of history)
+
+-- An area stands for a history, or starts, and it has none; so it does after any crash.
+pub record HoldsHistory {A : Type 0} (tells : areas.Ghosts A) (name : List ℕ) (area : A) (h : List HistoryEntry) : Type 0 where
+  pub now : StandsOrStarts name (tells.octets area) h
+  pub crash : (c : List ℕ) → tells.may_leave area c → StandsOrStarts name c h
+
+module _ {A : Type 0} (tells : areas.Ghosts A) (of : Serving) (area area' : A) (links links' : LinksState) where
+  -- These octets stand for a history that begins with this one, or start, where it has no entry. Each datagram that was
+  -- sent is a reply that rests on the history for which they stand.
+  pub record GoesOnIn (start : List HistoryEntry) (octets : List ℕ) : Type 0 where
+    pub history : List HistoryEntry
+    pub stands : StandsOrStarts (header_for tells area of) octets history
+    pub begins : Begins start history
+    pub replies : AllBehind (links.sent (address_in of)) (links'.sent (address_in of))
+        (IsReply (links'.received (address_in of)) (tells.size area) history (tells.faults area) (tells.faults area'))
+
+  -- A history goes on in the area that is handed back, and in what any crash leaves of it.
+  pub record KeepsHistory (start : List HistoryEntry) : Type 0 where
+    pub now : GoesOnIn start (tells.octets area')
+    pub crash : (c : List ℕ) → tells.may_leave area' c → GoesOnIn start c
+
+  -- Nothing is lost, however the gateway ends: neither the history that the area held, nor what was answered.
+  abbrev pub LosesNothing : Type 0
+  LosesNothing = Told tells → (start : List HistoryEntry) → HoldsHistory tells (header_for tells area of) area start
+      → KeepsHistory start
 
 -- what is written of a history: its counts
 abbrev pub served_line : List HistoryEntry → List ℕ

@@ -130,7 +130,8 @@ where
     ensures drilled { (of : Seeded) → command_of (map string_bytes words.now) ≡ Some (Command.Drill of) →
         result.status ≡ Status.Done → IsSomeAnd result.played (RanNetwork (seeded_lines of)) }
     // A gateway that served hands back the area of a history that has grown from the one handed in by answers to
-    // datagrams that its links received, and the shelf with just its files; each reply that they sent rests on it.
+    // datagrams that its links received, and the shelf with just its files, stream by stream; each reply that they sent
+    // rests on it. However it ends, neither the history that was handed in nor what was answered is lost.
     ensures serves { (of : Serving) → serving_of (map string_bytes words.now) ≡ Some of → Serves A.Area F.Shelf of
         (job_of S.Source K.Sink (map string_bytes words.now) source.old source.new sink.old sink.new)
         area result.area shelf result.shelf (L.state links.old) (L.state links.new) (C.faults clock.old)

@@ -1,5 +1,5 @@
 //! A gateway that serves, from the opening of its journal to its settling.
-ghost use Rattle.std.specs.Prelude.{◌≡◌, ◌≢◌, ◌+◌, ◌≤◌, ◌<◌, ◌^◌, ℕ, List, [], All, false, IfErr, IfOk, None, OnOk, length, true, vec_capacity, vec_len};
+ghost use Rattle.std.specs.Prelude.{◌≡◌, ◌≢◌, ◌+◌, ◌≤◌, ◌<◌, ◌^◌, List, [], All, false, IfErr, IfOk, None, OnOk, length, true, vec_capacity, vec_len};
 ghost use Rattle.cgf_journal.specs.Trail.{is_closed};
 ghost use Rattle.file_writer.specs.Writer.{is_broken};
 ghost use Rattle.gate_journal.specs.Format.{fewest_octets, most_octets};
@@ -17,7 +17,7 @@ ghost use Rattle.replay_world.specs.Settings.{AreSound};
 ghost use Rattle.session_run.specs.Running.{AreNewAt};
 ghost use Rattle.replay_world.specs.Setup.{Setup as SetupValue};
 ghost use Rattle.node_session.specs.Writing.{IsWriterOf};
-ghost use Rattle.cgf_top.specs.Served.{HasServed, served_line};
+ghost use Rattle.cgf_top.specs.Served.{HasServed, LosesNothing, served_line};
 ghost use Rattle.cgf_top.specs.ServeSteps.{AreOf, FailsBy, GivesBack, HasMade, HasServedAt, HasSettledAll, IsIdleAt, NeverFalls, RefusesAsForeign, StopsServing, part_count, status_by, stopped_by};
 ghost use Rattle.cgf_top.specs.Serving.{IsServingWithin, address_in};
 
@@ -60,8 +60,50 @@ struct Service {
 }
 
 /// Opens a gateway on an area and a shelf, lets it serve and settles it: the line of its counts, or how the job ends that
-/// has none, with the area and the shelf.
+/// has none, with the area and the shelf. It looks at the shelf before all: where that fails, the area isn't touched.
 pub(crate) fn serve_by<
+    A: Area + Send,
+    F: Shelf + Send,
+    L: Links,
+    C: gw_base::Clock,
+    R: Threads + Wait + Clock + Sync,
+>(
+    rt: &R,
+    alloc: Global,
+    serving: Serving,
+    by: FileSettings,
+    area: A,
+    mut shelf: F,
+    links: &mut L,
+    clock: &mut C,
+) -> (Result<Vec<u8>, Status>, A, F)
+where
+    L::Link: Send,
+    requires within { IsServingWithin serving }
+    requires long { fewest_octets ≤ A.size area }
+    requires short { A.size area ≤ most_octets }
+    requires turns { (at : Addr) → (L.state links.old).turns at < 2 ^ 63 }
+    requires sound { AreSound by.settings }
+    ensures ok { Told A.Area → (setup : SetupValue) → AreOf setup by → IfOk result.0 (λ line. (history : List HistoryEntry)
+        × HasServed A.Area F.Shelf serving setup area result.1 shelf result.2 (L.state links.old) (L.state links.new)
+        history × (line.items ≡ served_line history)) }
+    ensures turns { OnOk result.0 ((L.state links.new).turns (address_in serving)
+        ≡ (L.state links.old).turns (address_in serving) + serving.turns) }
+    ensures keeps { LosesNothing A.Area serving area result.1 (L.state links.old) (L.state links.new) }
+    ensures err { IfErr result.0 (StopsServing A.Area F.Shelf serving area result.1 shelf result.2
+        (L.state links.old) (L.state links.new) (C.faults clock.old) (C.faults clock.new)) }
+    ensures foreign { Told A.Area → RefusesAsForeign A.Area serving area result.0 }
+    ensures later { NeverFalls A.Area F.Shelf serving area result.1 shelf result.2 (L.state links.old) (L.state links.new)
+        (C.faults clock.old) (C.faults clock.new) }
+{
+    match shelf.sealed(0) {
+        Ok(_) => serve_on(rt, alloc, serving, by, area, shelf, links, clock),
+        Err(_) => (Err(Status::Store(StoreFault::Device)), area, shelf),
+    }
+}
+
+/// The same, on a shelf that didn't fail as it was looked at.
+fn serve_on<
     A: Area + Send,
     F: Shelf + Send,
     L: Links,
@@ -89,6 +131,7 @@ where
         history × (line.items ≡ served_line history)) }
     ensures turns { OnOk result.0 ((L.state links.new).turns (address_in serving)
         ≡ (L.state links.old).turns (address_in serving) + serving.turns) }
+    ensures keeps { LosesNothing A.Area serving area result.1 (L.state links.old) (L.state links.new) }
     ensures err { IfErr result.0 (StopsServing A.Area F.Shelf serving area result.1 shelf result.2
         (L.state links.old) (L.state links.new) (C.faults clock.old) (C.faults clock.new)) }
     ensures foreign { Told A.Area → RefusesAsForeign A.Area serving area result.0 }

@@ -1,26 +1,26 @@
-use Rattle.std.proofs.Common.{◌∙◌, refl}
-use Rattle.cgf_top.proofs.ServedLemmas.{settings_at}
-use Rattle.cgf_top.proofs.SettledLemmas.{serves_as, settled_foreign, stops_as, unopened_stops}
+use Rattle.std.proofs.Common.{inl, inr, refl}
+use Rattle.cgf_top.proofs.KeptLemmas.{untouched_keeps}
+use Rattle.cgf_top.proofs.LookLemmas.{never_fell_before, served_before, stopped_before}
 use Rattle.cgf_top.proofs.settling.serve_by.Goals as goal
 
+pub returns-in-Ok-clause-ok : goal.returns-in-Ok-clause-ok
+returns-in-Ok-clause-ok g c told setup are =
+    served_before _ _ _ _ _ _ _ _ _ _ (λ line. line.items) _ _ c.in-Ok.ensures.files (c.serve_on.ensures.ok told setup are)
+
+pub returns-in-Ok-clause-err : goal.returns-in-Ok-clause-err
+returns-in-Ok-clause-err g c =
+    stopped_before g.A.Area g.F.Shelf c.args.serving c.args.area c.serve_on.result.1 c.args.shelf _ c.serve_on.result.2
+    (g.L.Links.state c.args.links.now) (g.L.Links.state c.serve_on.new.links) (g.C.Clock.faults c.args.clock.now)
+    (g.C.Clock.faults c.serve_on.new.clock) c.serve_on.result.0 c.in-Ok.ensures.cause.ok c.serve_on.ensures.err
+
+pub returns-in-Ok-clause-later : goal.returns-in-Ok-clause-later
+returns-in-Ok-clause-later g c = never_fell_before _ _ _ _ _ _ _ _ _ _ _ _ c.in-Ok.ensures.cause.ok c.serve_on.ensures.later
+
 pub returns-in-Err-clause-err : goal.returns-in-Err-clause-err
-returns-in-Err-clause-err g c = unopened_stops g.A.Area g.F.Shelf c.args.serving c.args.area c.args.shelf (g.L.Links.state c.args.links.now) (g.C.Clock.faults c.args.clock.now)
-    c.in-Err.fault c.in-Err.area c.status_of.result c.status_of.ensures c.in-Err.ensures.err
+returns-in-Err-clause-err g c = inr c.in-Err.ensures.cause.failed
 
-pub returns-clause-ok : goal.returns-clause-ok
-returns-clause-ok g c told setup are =
-    serves_as _ _ _ _ _ _ _ _ _ _ _ _ _ _ _ _ _ _ _ c.in-Ok.ensures.size c.in-Ok.ensures.ok c.new-writer.ensures.shelf c.serve_at-service.ensures c.settle_all-line.ensures
-    setup told c.area_laws.ensures c.filed_records_stay.ensures.items c.files_only_grow.ensures c.no_file_is_open_where_no_close_is_due.ensures
-    c.new-writer.ensures.broken (c.new-writer.ensures.settings ∙ settings_at c.args.serving setup c.args.by are) c.into_area.ensures.leaves
-    c.into_area.result c.into_shelf.result c.into_area.ensures.area c.into_shelf.ensures
+pub returns-in-Err-clause-foreign : goal.returns-in-Err-clause-foreign
+returns-in-Err-clause-foreign g c told at foreign = inr (inl refl)
 
-pub returns-clause-err : goal.returns-clause-err
-returns-clause-err g c =
-    stops_as _ _ _ _ _ _ _ _ _ _ _ _ _ _ _ _ _ _ _ c.in-Ok.ensures.size c.in-Ok.ensures.ok c.new-writer.ensures.shelf c.serve_at-service.ensures c.settle_all-line.ensures
-    c.into_area.result c.into_shelf.result c.into_area.ensures.area c.into_shelf.ensures
-
-pub returns-clause-foreign : goal.returns-clause-foreign
-returns-clause-foreign g c told =
-    settled_foreign _ _ _ _ _ _ _ _ _ _ _ _ _ _ _ _ _ _ _ c.in-Ok.ensures.size c.in-Ok.ensures.ok c.new-writer.ensures.shelf c.serve_at-service.ensures c.settle_all-line.ensures
-    (c.what_stands_is_ours.ensures.ours (g.A.Area.size c.args.area) c.args.serving.ip)
-    (c.what_stands_is_ours.ensures.others (g.A.Area.size c.args.area) c.args.serving.ip) told
+pub returns-in-Err-clause-keeps : goal.returns-in-Err-clause-keeps
+returns-in-Err-clause-keeps g c = untouched_keeps g.A.Area c.args.serving c.args.area (g.L.Links.state c.args.links.now)
