@@ -119,9 +119,11 @@ not_had() {
     LENGTH=999999 try 'an area of another length' 6 same \
         'cgf: area area: another length: 1000000 octets; cgf: store' serve
     ip=127.0.0.2 try "another gateway's area" 6 same 'cgf: store 1[6-9]' serve
-    try 'a folder that is locked' 6 grown 'cgf: folder cdrs: locked by another process; cgf: store' locked cdrs serve
-    folder=none try 'a folder that is missing' 6 grown 'cgf: folder none: .*; cgf: store' serve
-    folder=out try 'a folder that is a file' 6 grown 'cgf: folder out: .*; cgf: store' serve
+    # told at once, however many turns there are
+    turns=1000000 try 'a folder that is locked' 6 same 'cgf: folder cdrs: locked by another process; cgf: store' \
+        locked cdrs serve
+    turns=1000000 folder=none try 'a folder that is missing' 6 same 'cgf: folder none: .*; cgf: store' serve
+    turns=1000000 folder=out try 'a folder that is a file' 6 same 'cgf: folder out: .*; cgf: store' serve
     try 'a port that is taken' 7 grown 'cgf: link' bound serve
     anew
     ip=192.0.2.1 try "an address that isn't the machine's" 7 grown 'cgf: link' serve

@@ -133,7 +133,7 @@ def serve(words, text, file, folder, heard=(), is_bound=True):
     except script.Fault as fault:
         return Ended(2, b"", f"cgf: input {fault.place}: {fault.kind}\n".encode(), file, folder)
     area = area_of(file, said.length)
-    if area is None:
+    if folder is None or area is None:
         return Ended(6, b"", b"cgf: store\n", file, folder)
     try:
         served = Served(area, said.ip)
@@ -146,11 +146,9 @@ def settled(said, settings, served, folder, replies, is_bound):
     """How a run ends that has heard all."""
     served.settle()
     area = bytes(served.area)
-    left = None if folder is None else sealed(folder, served.history, settings, said.ip)
+    left = sealed(folder, served.history, settings, said.ip)
     if not is_bound:
         return Ended(7, b"", b"cgf: link\n", area, left, replies)
-    if folder is None:
-        return Ended(6, b"", b"cgf: store\n", area, left, replies)
     line = feed.gateway_line(1, served.history).encode() + b"\n"
     return Ended(0, line, b"", area, left, replies)
 

@@ -271,7 +271,7 @@ class Maker:
             self.length = self.pick(200_000, 16_777_216)
         text = self.whole_text()
         file = self.pick(None, None, bytes(self.served().area))
-        return Case(self.words(1), text, file, self.folder(text, file) if file else {}, self.heard())
+        return Case(self.words(1), text, file, (self.folder(text, file) or {}) if file else {}, self.heard())
 
 
     def crowd_case(self):
