@@ -7,19 +7,21 @@ use Rattle.std.proofs.lemmas.List.Elements.{All-head, All-nil, All-push, All-tai
 use Rattle.std.specs.List.{All}
 use Rattle.atomic_table.specs.Seated.{TableId}
 use Rattle.atomic_table.specs.Table.{Allows, Joins, Splits, Step, rest, step}
-use Rattle.gw_base.specs.Facts.{AreSound, Facts}
+use Rattle.gw_base.specs.Facts.{AreSound, Facts, WhereTold}
 use Rattle.gw_base.specs.declared.history.HistoryEntry.{HistoryEntry}
 use Rattle.turn_cell.proofs.Joins.{joins, splits}
 use Rattle.turn_cell.proofs.Keeps.{R, calls, draws, leaves, looks, settles}
 use Rattle.turn_cell.proofs.Lists.{all_first, head_of}
 use Rattle.turn_cell.specs.Cell.{AreIn, AreNew, IsPassIn, known_by, knowledge}
-use Rattle.turn_cell.specs.Knowing.{IsLegal, after_turn, facts_of, first_of, newcomer, newcomers_from, standing}
+use Rattle.turn_cell.specs.Knowing.{IsLegal, after_turn, facts_of, first_of, kept, newcomer, newcomers_from, standing}
 use Rattle.gw_base.specs.Owes.{Owes}
-use Rattle.turn_cell.specs.Passes.{IsOwnSession, Took}
+use Rattle.turn_cell.specs.Passes.{FoundInPlace, IsOwnSession, Took}
+use Rattle.turn_cell.specs.Placed.{IsPlaced}
 use Rattle.turn_cell.specs.Rule.{seat}
 use Rattle.turn_cell.specs.Steps.{Did, Seated, behind_first, both, called, drew, first_alone, left, looked, settled, without_first}
 use Rattle.turn_cell.specs.Taking.{HasCome, HasTaken, IsSettled}
 use Rattle.turn_cell.specs.declared.cell.Pass.{Pass}
+use Rattle.turn_cell.specs.declared.knowing.KeptTurn.{KeptTurn}
 use Rattle.turn_cell.specs.declared.knowing.Knowledge.{Knowledge}
 use Rattle.turn_cell.specs.declared.knowing.SeatView.{SeatView}
 use Rattle.turn_cell.specs.declared.knowing.Stage.TheVariants.{Resting, Waiting, Holding, Leaving}
@@ -32,10 +34,16 @@ module _ {V : Type 0} (told : Bool) (made : ℕ) (facts : V → Facts) (start : 
       subst (λ (m : Seated V). Allows (R told made facts start) slots id m 0 (λ n. either (eqb n next) (next + 1) n) (drew (step slots 0 next (next + 1) none) m)) (sym is)
       (draws told made facts start slots id next ks)
 
-  pub calls_at : (slots id t : ℕ) (n : Knowledge) (me : Seated V) → me ≡ (seat (Waiting t) (n ∷ []), [])
-      → Allows (R told made facts start) slots id me 1 (λ x. x) (called facts told (step slots 1 0 0 none) me)
-  calls_at slots id t n me is =
-      subst (λ (m : Seated V). Allows (R told made facts start) slots id m 1 (λ x. x) (called facts told (step slots 1 0 0 none) m)) (sym is) (calls told made facts start slots id t n)
+  pub calls_at : (slots id t : ℕ) (n : Knowledge) (me : Seated V) (many : ℕ) (first : Facts) → many ≡ made → first ≡ start → me ≡ (seat (Waiting t) (n ∷ []), [])
+      → Allows (R told made facts start) slots id me 1 (λ x. x) (called facts told many first (step slots 1 0 0 none) me)
+  calls_at slots id t n me many first as_made as_first is =
+      subst (λ (m : Seated V). Allows (R told made facts start) slots id m 1 (λ x. x) (called facts told many first (step slots 1 0 0 none) m)) (sym is)
+      (subst (λ (k : ℕ). Allows (R told made facts start) slots id waits 1 (λ x. x) (called facts told k first (step slots 1 0 0 none) waits)) (sym as_made)
+      (subst (λ (f : Facts). Allows (R told made facts start) slots id waits 1 (λ x. x) (called facts told made f (step slots 1 0 0 none) waits)) (sym as_first)
+      (calls told made facts start slots id t n)))
+    where
+      waits : Seated V
+      waits = (seat (Waiting t) (n ∷ []), [])
 
   pub leaves_at : (slots id t : ℕ) (v : V) (ks : List Knowledge) (me : Seated V) → me ≡ (seat (Leaving t (standing (facts v))) ks, (0, Some v) ∷ [])
       → Allows (R told made facts start) slots id me 1 (λ _. t + 1) (λ _. left (step slots 1 (t + 1) 0 none) me (t + 1))
@@ -101,10 +109,10 @@ slot_is {S} l x y e f = ap (λ (m : List (ℕ × S)). (head_of (0, y) m).1) (sym
 
 module _ {V A : Type 0} (told : Bool) (facts : V → Facts) (session : Option ℕ) (does : V → V → A → Bool → List HistoryEntry → Type 0) where
   -- a turn that was taken with a value that may come to it
-  pub took_is : (ticket : ℕ) (x : V) (answer : A) (m0 m1 m2 : Seated V) → HasCome facts told ticket m0 → m0.1 ≡ (0, Some x) ∷ rest m0.1 → m1.0 ≡ m0.0
+  pub took_is : (made : ℕ) (start : Facts) (ticket : ℕ) (x : V) (answer : A) (m0 m1 m2 : Seated V) → HasCome facts told made start ticket m0 → m0.1 ≡ (0, Some x) ∷ rest m0.1 → m1.0 ≡ m0.0
       → HasTaken facts told session does ticket x (first_of m1.0.passes) answer m2
       → Took told facts session does (first_of m0.0.passes) answer (first_of m2.0.passes)
-  took_is ticket x answer m0 m1 m2 comes slot mid taken =
+  took_is made start ticket x answer m0 m1 m2 comes slot mid taken =
       let v : V = comes.0 in
       let here : m0.1 ≡ (0, Some v) ∷ [] = ap (λ (m : Seated V). m.1) comes.1 in
       let is : Some x ≡ Some v = slot_is m0.1 (Some v) (Some x) here slot in
@@ -121,6 +129,22 @@ module _ {V A : Type 0} (told : Bool) (facts : V → Facts) (session : Option �
         adds = taken.adds;
         does_so = taken.does_so;
         kept = taken.after ∙ ap (λ (k : Knowledge). after_turn k (facts x) (facts taken.left) taken.drops taken.added) know;
+      }
+
+  -- which found the entries of its pass in their places
+  pub placed_is : (made : ℕ) (start : Facts) (ticket : ℕ) (x : V) (answer : A) (m0 m1 m2 : Seated V) → HasCome facts told made start ticket m0 → m0.1 ≡ (0, Some x) ∷ rest m0.1 → m1.0 ≡ m0.0
+      → HasTaken facts told session does ticket x (first_of m1.0.passes) answer m2
+      → WhereTold told (FoundInPlace made start (first_of m0.0.passes) (first_of m2.0.passes))
+  placed_is made start ticket x answer m0 m1 m2 comes slot mid taken told_it =
+      let v : V = comes.0 in
+      let here : m0.1 ≡ (0, Some v) ∷ [] = ap (λ (m : Seated V). m.1) comes.1 in
+      let is : Some x ≡ Some v = slot_is m0.1 (Some v) (Some x) here slot in
+      let same : x ≡ v = cc is in
+      let turn : KeptTurn = kept (facts x) (facts taken.left) taken.drops taken.added in
+      record {
+        turn = turn;
+        one_more = ap (λ (k : Knowledge). k.turns) taken.after ∙ ap (λ (d : SeatView). (first_of d.passes).turns ++ turn ∷ []) mid;
+        placed = subst (λ (y : V). IsPlaced made start (facts y) (first_of m0.0.passes)) (sym same) (comes.4 told_it);
       }
 
 -- what all of a list are, its last is

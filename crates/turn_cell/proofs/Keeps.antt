@@ -19,7 +19,7 @@ use Rattle.turn_cell.proofs.TurnLemmas.{cut_at, knowing, legal_on, legal_own, le
 use Rattle.turn_cell.specs.Knowing.{IsLegal, Saw, after_turn, facts_of, standing}
 use Rattle.gw_base.specs.Owes.{Adds, Begins, Owes}
 use Rattle.turn_cell.specs.Passes.{IsOwnSession}
-use Rattle.turn_cell.specs.Placed.{Owns, Stands}
+use Rattle.turn_cell.specs.Placed.{IsPlaced, Owns, Stands}
 use Rattle.turn_cell.specs.Rule.{Course, HasIt, HasTicket, IsAway, IsHome, IsKept, Rule, Runs, seat}
 use Rattle.turn_cell.specs.Steps.{Did, called, drew, left, looked, settled}
 use Rattle.turn_cell.specs.declared.knowing.Knowledge.{Knowledge}
@@ -111,7 +111,7 @@ module _ {V : Type 0} (told : Bool) (made : ℕ) (facts : V → Facts) (start : 
 
   -- the turn comes
   pub calls : (slots id t : ℕ) (n : Knowledge)
-      → Allows R slots id (seat (Waiting t) (n ∷ []), []) 1 (λ x. x) (called facts told (step slots 1 0 0 none) (seat (Waiting t) (n ∷ []), []))
+      → Allows R slots id (seat (Waiting t) (n ∷ []), []) 1 (λ x. x) (called facts told made start (step slots 1 0 0 none) (seat (Waiting t) (n ∷ []), []))
   calls slots id t n s r _ at _ =
       let d : SeatView = seat (Waiting t) (n ∷ []) in
       let x : ℕ = get_or s.words 1 0 in
@@ -123,6 +123,7 @@ module _ {V : Type 0} (told : Bool) (made : ℕ) (facts : V → Facts) (start : 
       (λ (hit : x ≡ t).
       let turn : t ≡ c.served = sym hit ∙ is in
       let free = none_has c s k id t d at fits.stage turn (λ it. it) in
+      let mine = All-head (IsKept told made c id) n [] fits.passes in
       ⊎_elim
       (λ (home : IsHome facts c.now s.homes s.views).
       let v : V = home.0 in
@@ -152,6 +153,8 @@ module _ {V : Type 0} (told : Bool) (made : ℕ) (facts : V → Facts) (start : 
             refl,
             All-weaker (IsKept told made c id) (λ (m : Knowledge). IsLegal told m (facts v)) (λ (m : Knowledge) h. subst (IsLegal told m) (sym home.2) h.legal) (n ∷ []) fits.passes,
             subst (AreSound told) (sym home.2) k.sound,
+            λ told_it. subst (λ (f : Facts). IsPlaced made start f n) (sym home.2)
+                (record { stood = c.stood; tail = c.tail; stands = k.stands told_it; owns = mine.owns told_it }),
           ),
           λ miss. absurd (miss hit),
         ),

@@ -59,8 +59,14 @@ pub record IsLegal (told : Bool) (k : Knowledge) (now : Facts) : Type 0 where
 
 -- what a pass knows at first of a value with these facts
 abbrev pub newcomer : ℕ → Facts → Knowledge
-newcomer number start =
-    record { number = number; size = start.size; faults = start.faults; seen = start.length; known = start.firm; turns = [] }
+newcomer number start = record {
+  number = number;
+  size = start.size;
+  faults = start.faults;
+  seen = start.length;
+  known = start.firm;
+  turns = [];
+}
 
 -- what so many passes know at first, numbered from the first number on
 abbrev pub newcomers_from : Facts → ℕ → ℕ → List Knowledge

@@ -1,10 +1,11 @@
 -- What contracts see of a pass that took a turn, and of the passes that a cell is ended with.
-use Rattle.std.specs.Prelude.{◌≡◌, ℕ, Bool, List, length, All, Option, Some, None, ⊤}
+use Rattle.std.specs.Prelude.{◌≡◌, ℕ, Bool, List, [], ◌∷◌, ◌++◌, length, All, Option, Some, None, ⊤}
 use Rattle.gw_base.specs.Facts.{AreSound, Facts, WhereTold}
 use Rattle.gw_base.specs.declared.history.HistoryEntry.{HistoryEntry}
-use Rattle.turn_cell.specs.Knowing.{IsLegal, after_turn}
+use Rattle.turn_cell.specs.Knowing.{IsLegal, after_turn, facts_of}
 use Rattle.gw_base.specs.Owes.{Adds, Owes}
-use Rattle.turn_cell.specs.Placed.{HasNumber, Owns, Stands}
+use Rattle.turn_cell.specs.Placed.{HasNumber, IsPlaced, Owns, Stands}
+use Rattle.turn_cell.specs.declared.knowing.KeptTurn.{KeptTurn}
 use Rattle.turn_cell.specs.declared.knowing.Knowledge.{Knowledge}
 
 -- a session that a turn names is the number of the pass
@@ -26,6 +27,12 @@ pub record Took {V A : Type 0} (told : Bool) (facts : V → Facts) (session : Op
   pub adds : WhereTold told (Adds session (facts found) (facts left) drops added)
   pub does_so : does found left answer drops added
   pub kept : after ≡ after_turn before (facts found) (facts left) drops added
+
+-- The pass keeps one turn more, which found the entries in their places.
+pub record FoundInPlace (made : ℕ) (start : Facts) (before after : Knowledge) : Type 0 where
+  pub turn : KeptTurn
+  pub one_more : after.turns ≡ before.turns ++ turn ∷ []
+  pub placed : IsPlaced made start (facts_of turn.found) before
 
 -- these entries, which a value has past those that it began with, were added by these passes
 pub record AreOwned (start now : Facts) (passes : List Knowledge) : Type 0 where

@@ -45,3 +45,11 @@ HasNumber n (k ∷ ks) = (k.number ≡ n) ⊎ HasNumber n ks
 -- of these, those of a pass are among the entries that it keeps, in order, each behind what it was put behind
 abbrev pub Owns : List HistoryEntry → List HistoryEntry → Knowledge → Type 0
 Owns stood tail k = IsSublist (by_session k.number (placed stood tail)) (added_by k.turns)
+
+-- A value of a cell, and a pass of it: what stands behind the entries at first was added by passes of the cell, and
+-- what this one added of it stands where it put it.
+pub record IsPlaced (made : ℕ) (start now : Facts) (k : Knowledge) : Type 0 where
+  pub stood : List HistoryEntry
+  pub tail : List HistoryEntry
+  pub stands : Stands made start now stood tail
+  pub owns : Owns stood tail k

@@ -5,6 +5,7 @@ use Rattle.gw_base.specs.Facts.{AreSound, Facts, WhereTold}
 use Rattle.gw_base.specs.declared.history.HistoryEntry.{HistoryEntry}
 use Rattle.turn_cell.specs.Knowing.{IsLegal, Saw, after_turn, first_of, standing}
 use Rattle.gw_base.specs.Owes.{Adds}
+use Rattle.turn_cell.specs.Placed.{IsPlaced}
 use Rattle.turn_cell.specs.Rule.{found_at, seat, ticket_at}
 use Rattle.turn_cell.specs.declared.knowing.Knowledge.{Knowledge}
 use Rattle.turn_cell.specs.declared.knowing.SeatView.{SeatView}
@@ -24,16 +25,19 @@ module _ {V : Type 0} where
   left s m found m' = m' ≡ (seat Resting m.0.passes, rest m.1)
 
   module _ (facts : V → Facts) (told : Bool) where
-    -- the value was taken, which is so, and may come to a turn of the pass
-    abbrev pub Takes : ℕ → Seated V → Seated V → Type 0
-    Takes ticket m m' =
-        (v : V) × (m' ≡ (seat (Holding ticket (standing (facts v))) m.0.passes, (0, Some v) ∷ m.1))
-        × All (λ k. IsLegal told k (facts v)) m.0.passes × AreSound told (facts v)
+    module _ (made : ℕ) (start : Facts) where
+      -- the value was taken, which is so, and may come to a turn of the pass; what the pass added of it stands in its
+      -- place
+      abbrev pub Takes : ℕ → Seated V → Seated V → Type 0
+      Takes ticket m m' =
+          (v : V) × (m' ≡ (seat (Holding ticket (standing (facts v))) m.0.passes, (0, Some v) ∷ m.1))
+          × All (λ k. IsLegal told k (facts v)) m.0.passes × AreSound told (facts v)
+          × WhereTold told (IsPlaced made start (facts v) (first_of m.0.passes))
 
-    -- it was this ticket's turn, and the value was taken; or nothing was done
-    abbrev pub called : Step (Option V) → Seated V → ℕ → Seated V → Type 0
-    called s m found m' =
-        (found ≡ ticket_at m.0.stage → Takes (ticket_at m.0.stage) m m') × (found ≢ ticket_at m.0.stage → m' ≡ m)
+      -- it was this ticket's turn, and the value was taken; or nothing was done
+      abbrev pub called : Step (Option V) → Seated V → ℕ → Seated V → Type 0
+      called s m found m' =
+          (found ≡ ticket_at m.0.stage → Takes (ticket_at m.0.stage) m m') × (found ≢ ticket_at m.0.stage → m' ≡ m)
 
     -- the length was seen
     abbrev pub looked : Step (Option V) → Seated V → ℕ → Seated V → Type 0

@@ -11,8 +11,9 @@ use Rattle.turn_cell.specs.declared.knowing.Stage.TheVariants.{Leaving, Waiting}
 
 module _ {V : Type 0} (facts : V → Facts) (told : Bool) where
   -- the seat has taken a value that may come to a turn of its pass
-  abbrev pub HasCome : ℕ → Seated V → Type 0
-  HasCome ticket m = Takes facts told ticket (seat (Waiting ticket) (first_of m.0.passes ∷ []), []) m
+  abbrev pub HasCome : ℕ → Facts → ℕ → Seated V → Type 0
+  HasCome made start ticket m =
+      Takes facts told made start ticket (seat (Waiting ticket) (first_of m.0.passes ∷ []), []) m
 
   -- the seat has this value, which is about to be put back
   abbrev pub IsLeaving : ℕ → V → Seated V → Type 0

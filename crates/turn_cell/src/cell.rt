@@ -8,6 +8,7 @@ use crate::rule::{Begun, CellRule};
 use atomic_table::{Badge, Seat, Shared, Table};
 use gw_base::Counted;
 use std::alloc::Global;
+use std::sync::atomic::AtomicU64;
 
 /// A pass to a cell: who has it can take turns, one after the other. It takes no memory.
 #[derive(Drop)]
@@ -23,11 +24,13 @@ pub(crate) type Words<V> = Shared<Option<V>, SeatView, Begun<V>, CellRule>;
 
 pub(crate) type CellTable<V> = Table<Option<V>, SeatView, Begun<V>, CellRule, Global>;
 
-/// One value that many passes take in turn, in the order in which they asked for it.
+/// One value that many passes take in turn, in the order in which they asked for it. It knows how many of them sleep
+/// until their turn comes.
 #[derive(Drop)]
 pub struct TurnCell<V: Counted> {
     pub(crate) table: CellTable<V>,
     pub(crate) made: u32,
+    pub(crate) sleepers: AtomicU64,
     ghost sized: { (table.shared.table_id.words ≡ 3) × (table.shared.table_id.slots ≡ 1) },
     ghost counted: { made ≡ table.shared.key.passes },
     ghost some: { 0 < made },

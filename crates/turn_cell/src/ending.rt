@@ -73,7 +73,11 @@ impl<V: Counted> TurnCell<V> {
             };
             return Err((missing, self, passes));
         }
-        let TurnCell { table, made: _ } = self;
+        let TurnCell {
+            table,
+            made: _,
+            sleepers: _,
+        } = self;
         let place = whole(&table.shared, passes);
         Ok(close(table, place))
     }

@@ -25,8 +25,8 @@ pub struct KeptTurn {
     pub added: LinkedList<HistoryEntry>,
 }
 
-/// What one pass knows: its number, the size of the value, the count of faults that its cell was made with, the greatest
-/// length that it has seen or raised, the firm entries that it has learnt of, and its turns.
+/// What one pass knows: its number, the size of the value, the count of faults that its cell was made with, the
+/// greatest length that it has seen or raised, the firm entries that it has learnt of, and its turns.
 pub struct Knowledge {
     pub number: u64,
     pub size: u64,

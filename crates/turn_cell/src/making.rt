@@ -9,6 +9,7 @@ use atomic_table::{Refused, Table};
 use gw_base::Counted;
 use std::alloc::Global;
 use std::snapshot::Snapshot;
+use std::sync::atomic::AtomicU64;
 
 impl Pass {
     // The pass in its cell.
@@ -94,6 +95,7 @@ impl<V: Counted> TurnCell<V> {
         let cell = TurnCell {
             table,
             made: passes,
+            sleepers: AtomicU64::new(0),
         };
         Ok((cell, all))
     }

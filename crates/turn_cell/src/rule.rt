@@ -1,8 +1,9 @@
 //! The rule that the words, the slot and the seats of a cell keep, and what each step on them tells. These types are
 //! for the proofs alone.
-ghost use Rattle.std.specs.Prelude.{[], Option, None};
+ghost use Rattle.std.specs.Prelude.{ℕ, [], Option, None};
+ghost use Rattle.gw_base.specs.Facts.{Facts};
 ghost use Rattle.turn_cell.specs.Knowing.{newcomers};
-ghost use Rattle.turn_cell.specs.Rule.{Rule, seat};
+ghost use Rattle.turn_cell.specs.Rule.{Rule, nothing, seat};
 ghost use Rattle.turn_cell.specs.Steps.{both, called, drew, first_alone, left, looked, settled, without_first};
 ghost use Rattle.turn_cell.specs.declared.knowing.Stage.TheVariants.{Resting};
 
@@ -46,16 +47,31 @@ impl<T, V, A> Named<T, V, A> for Brand {
     ghost answer = { None };
 }
 
+/// How many passes a cell was made with, and the facts of its value then: what a step is told for the proof alone.
+pub trait Origin {
+    ghost made: { ℕ };
+
+    ghost start: { Facts };
+}
+
+impl Origin for Brand {
+    ghost made = { 0 };
+
+    ghost start = { nothing };
+}
+
 pub(crate) struct Draw;
 
 impl<V> Play<Option<V>, SeatView> for Draw {
     ghost then = { drew };
 }
 
-pub(crate) struct Call;
+pub(crate) struct Call<J> {
+    of: PhantomData<J>,
+}
 
-impl<V: Counted> Play<Option<V>, SeatView> for Call {
-    ghost then = { called V.facts V.told };
+impl<V: Counted, J: Origin> Play<Option<V>, SeatView> for Call<J> {
+    ghost then = { called V.facts V.told J.made J.start };
 }
 
 pub(crate) struct Settle<T, J> {

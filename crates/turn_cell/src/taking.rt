@@ -1,25 +1,29 @@
 //! How a pass takes a turn, and how it sees the length.
 ghost use Rattle.std.specs.Prelude.{◌≡◌, ◌<◌, ◌^◌, ℕ, [], ◌∷◌, Some, None};
-ghost use Rattle.gw_base.specs.Facts.{AreSound};
-ghost use Rattle.turn_cell.specs.Cell.{IsPassOf, IsResting, knowledge, known_at};
+ghost use Rattle.gw_base.specs.Facts.{AreSound, WhereTold};
+ghost use Rattle.turn_cell.specs.Cell.{IsPassOf, IsResting, begun, knowledge, known_at, made_by};
 ghost use Rattle.turn_cell.specs.Knowing.{Saw, standing};
 ghost use Rattle.gw_base.specs.Owes.{Owes};
-ghost use Rattle.turn_cell.specs.Passes.{IsOwnSession, Took};
+ghost use Rattle.turn_cell.specs.Passes.{FoundInPlace, IsOwnSession, Took};
 ghost use Rattle.turn_cell.specs.Rule.{found_at, seat};
 ghost use Rattle.turn_cell.specs.Steps.{Did, Takes};
 ghost use Rattle.turn_cell.specs.Taking.{HasCome, HasTaken, IsLeaving, IsSettled};
 ghost use Rattle.turn_cell.specs.declared.knowing.Stage.TheVariants.{Holding, Waiting};
 
 use crate::cell::{DRAWN, LENGTH, Pass, Place, SERVED, TurnCell};
-use crate::rule::{Call, Draw, Leave, Look, Named, Settle};
+use crate::rule::{Call, Draw, Leave, Look, Named, Origin, Settle};
 use crate::turn::Turn;
 use gw_base::Counted;
 use std::marker::Brand;
 use std::sync::Wait;
+use std::sync::atomic::Ordering;
 use std::thread;
 
 // Tickets end here: who would draw a later one waits for ever.
 const LAST_TICKET: u64 = 1 << 62;
+
+// How often a pass looks whether its turn has come before it sleeps.
+const LOOKS: u32 = 512;
 
 impl<V: Counted> TurnCell<V> {
     // Draws the next ticket.
@@ -46,19 +50,45 @@ impl<V: Counted> TurnCell<V> {
         unreachable!()
     }
 
+    // Lets a pass wait that has looked so often, and found the serving word so: it sleeps in the end, until that word
+    // changes. It counts one look more, and begins anew once it has slept.
+    fn look_away<R: Wait>(&self, rt: &R, serves: u64, looks: u32) -> u32 {
+        if looks < LOOKS {
+            thread::yield_now();
+            return looks + 1;
+        }
+        let _before = self.sleepers.fetch_add(1, Ordering::SeqCst);
+        self.table
+            .shared
+            .park(rt, SERVED, (serves & 0xffff_ffff) as u32);
+        let _before = self.sleepers.fetch_sub(1, Ordering::SeqCst);
+        0
+    }
+
+    // Wakes those who sleep until the serving word changes. Who is about to sleep has said so before it compares the
+    // word.
+    fn wake(&self) {
+        if self.sleepers.load(Ordering::SeqCst) > 0 {
+            self.table.shared.wake_all(SERVED);
+        }
+    }
+
     // Waits until it is this ticket's turn, and takes the value.
-    fn wait<R: Wait>(&self, rt: &R, place: &mut Place<V>, ticket: u64)
+    fn wait<J: Origin, R: Wait>(&self, rt: &R, place: &mut Place<V>, ticket: u64)
         requires own { place.old.table_id ≡ self.now.table.shared.table_id }
+        requires origin { (J.made ≡ made_by self.now) × (J.start ≡ V.facts (begun self.now)) }
         requires waits { place.old.me ≡ (seat (Waiting ticket) (known_at place.old ∷ []), []) }
         ensures same { place.new.table_id ≡ place.old.table_id }
-        ensures takes { HasCome V.facts V.told ticket place.new.me × (known_at place.new ≡ known_at place.old) }
+        ensures takes { HasCome V.facts V.told J.made J.start ticket place.new.me
+            × (known_at place.new ≡ known_at place.old) }
     {
+        let mut looks = 0;
         for _ in rt.forever() {
-            let serves = self.table.shared.load::<Call>(place, SERVED);
+            let serves = self.table.shared.load::<Call<J>>(place, SERVED);
             if serves == ticket {
                 return;
             }
-            thread::yield_now();
+            looks = self.look_away(rt, serves, looks);
         }
         unreachable!()
     }
@@ -125,11 +155,13 @@ impl<V: Counted> TurnCell<V> {
     // Takes the turn, with the value in the slot that the pass has.
     fn turn_at<T: Turn<V>>(&self, place: &mut Place<V>, ticket: u64, turn: T) -> T::Answer
         requires own { place.old.table_id ≡ self.now.table.shared.table_id }
-        requires comes { HasCome V.facts V.told ticket place.old.me }
+        requires comes { HasCome V.facts V.told (made_by self.now) (V.facts (begun self.now)) ticket place.old.me }
         requires session { IsOwnSession (T.session turn) (known_at place.old) }
         ensures same { place.new.table_id ≡ place.old.table_id }
         ensures took { Took V.told V.facts (T.session turn) (T.does turn)
             (known_at place.old) result (known_at place.new) }
+        ensures placed { WhereTold V.told (FoundInPlace (made_by self.now) (V.facts (begun self.now))
+            (known_at place.old) (known_at place.new)) }
         ensures leaves { (left : V) × IsLeaving V.facts V.told ticket left place.new.me }
     {
         let Some(value) = self.table.shared.exchange(place, 0, None) else {
@@ -147,19 +179,23 @@ impl<V: Counted> TurnCell<V> {
         ensures rests { IsResting place.new (known_at place.old) }
     {
         self.table.shared.store::<Leave>(place, SERVED, ticket + 1);
+        self.wake();
     }
 
-    /// Waits for its turn, and takes it. Turns come in the order in which they were asked for. It takes no memory.
+    /// Waits for its turn, and takes it. Turns come in the order in which they were asked for. Where its turn is long
+    /// in coming, the thread sleeps. It takes no memory.
     pub fn with<T: Turn<V>, R: Wait>(&self, rt: &R, pass: Pass, turn: T) -> (T::Answer, Pass)
         requires own { IsPassOf self.now pass }
         requires session { IsOwnSession (T.session turn) (knowledge pass) }
         ensures own { IsPassOf self.now result.1 }
         ensures took { Took V.told V.facts (T.session turn) (T.does turn)
             (knowledge pass) result.0 (knowledge result.1) }
+        ensures placed { WhereTold V.told (FoundInPlace (made_by self.now) (V.facts (begun self.now))
+            (knowledge pass) (knowledge result.1)) }
     {
         let mut place = pass.into_place();
         let ticket = self.draw(rt, &mut place);
-        self.wait(rt, &mut place, ticket);
+        self.wait::<Brand, R>(rt, &mut place, ticket);
         let answer = self.turn_at(&mut place, ticket, turn);
         self.leave(&mut place, ticket);
         (answer, Pass::of(place))

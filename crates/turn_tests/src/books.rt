@@ -100,7 +100,6 @@ fn accepted(outcome: Outcome) -> Option<Receipt> {
             }
         }
         Outcome::Drop(_) => None,
-        Outcome::NoMemory => None,
     }
 }
 
