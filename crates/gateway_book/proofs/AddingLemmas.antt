@@ -72,13 +72,6 @@ pub answer_alike : (o : Observed) (from : Addr) (datagram : PreparedValue) (room
     → decided (answer_within o from datagram room) ≡ decided (answer_within o from datagram other)
 answer_alike o from datagram room other alike = ap decided (room_asked o from datagram room other alike)
 
--- what was done isn't what was not
-pub apart_in_some : {A : Type 0} (r : Option A) (x y : A) → r ≡ Some x → (x ≡ y → ⊥) → r ≡ Some y → ⊥
-apart_in_some r x y is apart e = let both : Some x ≡ Some y = sym is ∙ e in let same : x ≡ y = cc both in apart same
-
-pub apart_in_none : {A : Type 0} (r : Option A) (y : A) → r ≡ None → r ≡ Some y → ⊥
-apart_in_none {A} r y is e = let both : ◌≡◌ {A = Option A} None (Some y) = sym is ∙ e in cc both
-
 if_some : (P : HistoryAct → Type 0) (o : Option HistoryAct) (a : HistoryAct) → IfSome o P → o ≡ Some a → P a
 if_some P None a is e = absurd (cc e)
 if_some P (Some b) a is e = let same : b ≡ a = cc e in subst P same is

@@ -1,5 +1,5 @@
 -- What a book's calls tell their caller.
-use Rattle.std.proofs.Common.{◌≡◌, ◌≢◌, ⊎_elim, inr, ℕ, Bool, true, false, List, [], ◌∷◌, Option, refl, sym, ap, ◌∙◌, arith}
+use Rattle.std.proofs.Common.{◌≡◌, ⊎_elim, inr, ℕ, Bool, true, false, List, [], ◌∷◌, Option, refl, sym, ap, ◌∙◌, arith}
 use Rattle.std.proofs.lemmas.Bool.{false≢true}
 use Rattle.entry_codec.specs.Room.{IsWithin}
 use Rattle.gtpp_message.specs.Message.{Cancel, MessageValue, Release, TransferValue, EchoRequest, EchoResponse, VersionNotSupported, NodeAliveRequest, NodeAliveResponse, RedirectionRequest, RedirectionResponse, TransferRequest, TransferResponse}
@@ -24,7 +24,7 @@ use Rattle.gateway_book.specs.Value.{BookValue}
 use Rattle.gateway_book.specs.declared.adding.Done.{Done}
 use Rattle.gateway_book.specs.declared.adding.Done.TheVariants as done
 use Rattle.gateway_book.specs.declared.outcome.Outcome.{Outcome}
-use Rattle.gateway_book.specs.declared.outcome.Outcome.TheVariants.{Answer, Drop, NoMemory}
+use Rattle.gateway_book.specs.declared.outcome.Outcome.TheVariants.{Answer, Drop}
 use Rattle.gateway_book.specs.declared.outcome.Receipt.{Receipt}
 
 -- ---- the cause that a reply's octets tell
@@ -86,22 +86,20 @@ module _ (from : Addr) (octets : List ℕ) where
       let same : receipt ≡ by.1.0 = cc (by.1.1) in
       never_failed (answer_within is.1.0 from (prepared_of octets) is.1.1) (running_tells_none is.1.0 from octets (may_record is.1.0 is.1.1)) by.0 receipt.reply is.0 is.1.2
       (ap (λ (r : Receipt). r.reply) same ∙ by.1.2))
-  running_is_sound NoMemory is = ⊎_elim (λ e. cc e) (λ by. cc (by.1.1))
 
 -- what was done is what the definition decides by an index
 pub done_by : (from : Addr) (datagram : PreparedValue) (o : Observed) (room : HistoryAct → Bool) (finished : Done) → ((why : Why) → finished ≡ done.Silent why → decided (answer_within o from datagram room) ≡ Silent why)
     → ((reply : List ℕ) → finished ≡ done.Said reply → (a : Option HistoryAct) × (decided (answer_within o from datagram room) ≡ Says reply a)) → IsDoneBy from datagram finished
 done_by from datagram o room (done.Silent why) silent said = (o, room, silent why refl)
 done_by from datagram o room (done.Said reply) silent said = ((said reply refl).0, (o, room, (said reply refl).1))
-done_by from datagram o room done.NoMemory silent said = tt
 
 -- ---- what is stored leaves room
 
-never_refused : (given : Given) → is_without_resources given ≡ false → (after : BookValue) (result : Outcome) → (result ≢ NoMemory → result ≡ outcome_at after (decided given)) → (number : ℕ) → ¬ (AnswersBy number NO_RESOURCES result)
+never_refused : (given : Given) → is_without_resources given ≡ false → (after : BookValue) (result : Outcome) → result ≡ outcome_at after (decided given) → (number : ℕ) → ¬ (AnswersBy number NO_RESOURCES result)
 never_refused (Drops why) has after result is number by =
-    let dropped : Answer by.0 ≡ Drop why = sym by.1 ∙ is (λ (none : result ≡ NoMemory). let both : Answer by.0 ≡ NoMemory = sym by.1 ∙ none in cc both) in cc dropped
+    let dropped : Answer by.0 ≡ Drop why = sym by.1 ∙ is in cc dropped
 never_refused (Replies n message act) has after result is number by =
-    let same : Answer by.0 ≡ outcome_at after (Says (written n message) act) = sym by.1 ∙ is (λ (none : result ≡ NoMemory). let both : Answer by.0 ≡ NoMemory = sym by.1 ∙ none in cc both) in
+    let same : Answer by.0 ≡ outcome_at after (Says (written n message) act) = sym by.1 ∙ is in
     let reply : by.0.reply ≡ written n message = cc same in
     false≢true (sym has ∙ lacks_by n message act (by_octets number n NO_RESOURCES message (sym reply ∙ by.2)))
 
@@ -110,7 +108,7 @@ abbrev pub HasResources : (List ℕ → TransferValue) → Type 0
 HasResources asked = (h : List HistoryEntry) (size : ℕ) (from : Addr) (number : ℕ) (numbers : List ℕ) → IsWithin h size → is_without_resources (answer_to h from (Request number (asked numbers)) size) ≡ false
 
 module _ (release : HasResources Release) (cancel : HasResources Cancel) (h : List HistoryEntry) (size : ℕ) (from : Addr) (datagram : PreparedValue) (after : BookValue) (result : Outcome)
-    (within : IsWithin h size) (is : result ≢ NoMemory → result ≡ outcome_at after (decided (answer_to h from datagram size))) (runs : ¬ (TellsFault result)) where
+    (within : IsWithin h size) (is : result ≡ outcome_at after (decided (answer_to h from datagram size))) (runs : ¬ (TellsFault result)) where
   served : (number : ℕ) → is_without_resources (answer_to h from datagram size) ≡ false → IsServed number result
   served number has = (never_refused (answer_to h from datagram size) has after result is number, λ by. runs (inr (number, by)))
 

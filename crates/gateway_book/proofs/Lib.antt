@@ -6,6 +6,8 @@ pub mod Committing
 pub mod Crashing
 pub mod CursorLemmas
 pub mod GatheringLemmas
+pub mod FewItems
+pub mod FiledCounts
 pub mod FilingLemmas
 pub mod FitLemmas
 pub mod HeldCopiesLemmas
@@ -29,6 +31,7 @@ pub mod PlaceLemmas
 pub mod PlainLemmas
 pub mod ReadLemmas
 pub mod RecordsLemmas
+pub mod ReleasedCounts
 pub mod SlotLemmas
 pub mod StandingLemmas
 pub mod TakingLemmas

@@ -1,7 +1,7 @@
 -- Lemmas on the request numbers that a list names, for the loops that go over it.
-use Rattle.std.proofs.Common.{◌≡◌, ℕ, suc, ◌+◌, ◌<◌, ◌==◌, ◌&&◌, not, Bool, true, false, cond, if◌then◌else◌, List, [], ◌∷◌, ◌++◌, length, get_or, drop, filter, fold, map, Option, refl, ap, sym, ◌∙◌, arith, append_assoc}
+use Rattle.std.proofs.Common.{◌≡◌, ℕ, suc, ◌+◌, ◌<◌, ◌≤◌, ◌==◌, ◌&&◌, not, Bool, true, false, cond, if◌then◌else◌, List, [], ◌∷◌, ◌++◌, length, get_or, drop, filter, fold, map, Option, refl, ap, sym, ◌∙◌, arith, append_assoc}
 use Rattle.std.proofs.lemmas.Bool.{eqb-true}
-use Rattle.std.proofs.lemmas.List.{append-nil}
+use Rattle.std.proofs.lemmas.List.{append-nil, length-map}
 use Rattle.std.proofs.lemmas.List.Elements.{filter-append}
 use Rattle.std.proofs.Math.Seq.{drop-cons}
 use Rattle.std.specs.List.{list_any}
@@ -24,6 +24,12 @@ step_numbers top numbers place number front new h is grown =
     ∙ append_assoc front (number ∷ []) (map (nearest top) (drop (suc place) numbers))
     ∙ ap (λ n. front ++ n ∷ map (nearest top) (drop (suc place) numbers)) is
     ∙ ap (λ xs. front ++ map (nearest top) xs) (sym rest))
+
+-- the numbers that a short list names are as few
+pub named_are_few : (top : Option ℕ) (wires found : List ℕ) → found ≡ map (nearest top) wires → length wires ≤ 32767 → length found ≤ 32767
+named_are_few top wires found is short =
+    let count : length found ≡ length wires = ap length is ∙ length-map wires (nearest top) in
+    omega (arith, count, short)
 
 -- equality of numbers is a test of sameness
 same_numbers : IsSameness (λ (x : ℕ) (y : ℕ). x == y)

@@ -1,23 +1,19 @@
 -- How a mark is added to a book.
-use Rattle.std.proofs.Common.{◌≡◌, ℕ, ◌≤◌, inl, inr, Bool, true, false, if◌then◌else◌, List, Result, Ok, Err, refl, sym, ap, subst, ◌∙◌, arith}
-use Rattle.std.specs.Prelude.{OnOk, OnErr}
+use Rattle.std.proofs.Common.{◌≡◌, ℕ, inl, inr, Bool, true, false, if◌then◌else◌, List, refl, sym, ap, subst, ◌∙◌, arith}
 use Rattle.area_disk.specs.declared.area.Area.{Ghosts}
 use Rattle.entry_codec.specs.Room.{has_room}
-use Rattle.gate_journal.specs.Moments.{Told}
-use Rattle.cgf_journal.specs.Outcomes.{FirmStays}
-use Rattle.cgf_journal.specs.Trail.{area_of, entries, firm_entries, is_closed, length_of}
+use Rattle.cgf_journal.specs.Trail.{area_of, entries, firm_entries, is_closed}
 use Rattle.cgf_journal.specs.declared.trail.Trail.{Trail}
 use Rattle.gw_base.specs.History.{is_close_due, moment_after}
 use Rattle.gw_base.specs.declared.history.Caller.{Caller}
 use Rattle.gw_base.specs.declared.history.HistoryAct.{HistoryAct}
 use Rattle.gw_base.specs.declared.history.HistoryAct.TheVariants.{Close}
 use Rattle.gw_base.specs.declared.history.HistoryEntry.{HistoryEntry}
-use Rattle.gateway_book.specs.Adding.{AreKept, IsAdded, entry_of}
+use Rattle.gateway_book.specs.Adding.{entry_of}
 use Rattle.gateway_book.specs.Answered.{room_for}
 use Rattle.gateway_book.specs.Calls.{Left, marked_at, marked_if_ready, ticked}
-use Rattle.gateway_book.specs.Fit.{IsFit}
 use Rattle.gateway_book.specs.FitLaws.{room_is_for_each}
-use Rattle.gateway_book.specs.Followed.{IsFollowed, all_entries}
+use Rattle.gateway_book.specs.Followed.{all_entries}
 use Rattle.gateway_book.specs.Index.{MayCome}
 use Rattle.gateway_book.specs.Marking.{IsMark, OnlyAdds, with_entry}
 use Rattle.gateway_book.specs.Marks.{Mark, NotDue, NoRoom, Makes, close_mark, made_if, tick_mark}
@@ -26,7 +22,6 @@ use Rattle.gateway_book.specs.declared.book.Book.{Book}
 use Rattle.gateway_book.specs.declared.index.Index.{Index}
 use Rattle.gateway_book.specs.declared.outcome.Marked.{Marked}
 use Rattle.gateway_book.specs.declared.outcome.Marked.TheVariants as marked
-use Rattle.gateway_book.proofs.TakingLemmas.{followed_added, followed_kept}
 
 -- a mark may always come
 pub mark_may_come : (index : Index) (act : HistoryAct) → IsMark act → MayCome act index
@@ -39,20 +34,6 @@ room_of_open {tells = tells} trail e open_now = ap (λ b. has_room (if b then fi
 
 pub room_of_mark : (size : ℕ) (h : List HistoryEntry) (now moment : ℕ) (who : Caller) (act : HistoryAct) → moment ≡ moment_after h now → has_room h (entry_of moment who act) size ≡ room_for h size act
 room_of_mark size h now moment who act at = ap (λ (m : ℕ). has_room h (entry_of m who act) size) at ∙ room_is_for_each h size now who act
-
--- what was put
-module _ {A : Type 0} {tells : Ghosts A} {F : Type 0} (old new : Trail A tells) (before after : Index) (e : HistoryEntry) where
-  pub followed_put : (r : Result (Unit {0}) F) → IsFollowed old before → OnOk r (IsAdded old new before after e) → OnErr r (AreKept old new before after) → (Told tells → IsFit (tells.size (area_of old)) (all_entries old) e) → IsFollowed new after
-  followed_put (Ok x) followed ok err fits = followed_added old new before after e followed ok fits
-  followed_put (Err f) followed ok err fits = followed_kept old new before after followed err
-
-  pub firm_put : (r : Result (Unit {0}) F) → OnOk r (IsAdded old new before after e) → OnErr r (AreKept old new before after) → FirmStays old new
-  firm_put (Ok x) ok err = ok.stays
-  firm_put (Err f) ok err = err.stays
-
-  pub more_put : (r : Result (Unit {0}) F) → OnOk r (IsAdded old new before after e) → OnErr r (AreKept old new before after) → length_of old ≤ length_of new
-  more_put (Ok x) ok err = let count = ok.pushed.count in omega (arith, count)
-  more_put (Err f) ok err = let count = err.kept.length in omega (arith, count)
 
 -- nothing was done
 pub adds_nothing : {A : Type 0} {tells : Ghosts A} (book : Book A tells) → OnlyAdds book book

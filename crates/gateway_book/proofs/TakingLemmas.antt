@@ -1,5 +1,5 @@
 -- What an answer leaves of a book.
-use Rattle.std.proofs.Common.{◌≡◌, ◌≢◌, ℕ, ◌≤◌, Bool, true, false, if◌then◌else◌, List, [], ◌∷◌, ◌++◌, Option, Some, None, refl, sym, ap, subst, ◌∙◌, append_assoc, arith}
+use Rattle.std.proofs.Common.{◌≡◌, ℕ, ◌≤◌, Bool, true, false, if◌then◌else◌, List, [], ◌∷◌, ◌++◌, Option, Some, None, refl, sym, ap, subst, ◌∙◌, append_assoc, arith}
 use Rattle.area_disk.specs.declared.area.Area.{Ghosts}
 use Rattle.gate_journal.specs.Format.{most_octets}
 use Rattle.gate_journal.specs.Moments.{Told}
@@ -14,7 +14,7 @@ use Rattle.gw_base.specs.declared.address.Addr.{Addr}
 use Rattle.gw_base.specs.declared.history.Caller.{Caller}
 use Rattle.gw_base.specs.declared.history.HistoryAct.{HistoryAct}
 use Rattle.gw_base.specs.declared.history.HistoryEntry.{HistoryEntry}
-use Rattle.gateway_book.specs.Adding.{AddsIf, AreKept, IsAdded, IsSame, entry_of, room_told}
+use Rattle.gateway_book.specs.Adding.{AddsIf, IsAdded, IsSame, entry_of, room_told}
 use Rattle.gateway_book.specs.Answer.{Decided, Given, Drops, Replies, Says, Silent, answer_within, decided, node_of}
 use Rattle.gateway_book.specs.Answered.{act_decided, answer, answer_to, entry_by, room_for}
 use Rattle.gateway_book.specs.Calls.{left_by, outcome_at}
@@ -54,26 +54,13 @@ module _ {A : Type 0} {tells : Ghosts A} (old new : Trail A tells) (before after
   pub followed_same : IsFollowed old before → IsSame old new before after → IsFollowed new after
   followed_same followed same = subst (λ (t : Trail A tells). IsFollowed t after) (sym same.trail) (subst (λ (x : Index). IsFollowed old x) (sym same.index) followed)
 
-  pub followed_kept : IsFollowed old before → AreKept old new before after → IsFollowed new after
-  followed_kept followed kept = record {
-    short = subst (λ (n : ℕ). n ≤ most_octets) (sym (same_area kept.stays.area)) followed.short;
-    firm = λ told. subst (λ (h : List HistoryEntry). Follows true after h) (sym kept.stays.listed) (kept.follows true (firm_entries old) (followed.firm told));
-    live = λ told. subst (λ (h : List HistoryEntry). Follows false after h) (sym all) (kept.follows false (all_entries old) (followed.live told));
-    fit = λ told. subst (λ (n : ℕ). AllFit n (all_entries new)) (sym (same_area kept.stays.area)) (subst (λ (h : List HistoryEntry). AllFit (tells.size (area_of old)) h) (sym all) (followed.fit told));
-  }
-    where
-      all : all_entries new ≡ all_entries old
-      all = λ i. kept.stays.listed i ++ kept.kept.waiting i
-
   -- whatever an answer did, the index follows the trail
   pub followed_answer : (moment : ℕ) (who : Caller) (decision : Decided) (finished : Done) → IsFollowed old before
       → ((why : Why) → finished ≡ done.Silent why → (decision ≡ Silent why) × IsSame old new before after)
       → ((reply : List ℕ) → finished ≡ done.Said reply → (a : Option HistoryAct) × (decision ≡ Says reply a) × AddsIf old new before after moment who a)
-      → (finished ≡ done.NoMemory → AreKept old new before after)
       → (Told tells → (reply : List ℕ) (a : HistoryAct) → finished ≡ done.Said reply → decision ≡ Says reply (Some a) → IsFit (tells.size (area_of old)) (all_entries old) (entry_of moment who a)) → IsFollowed new after
-  followed_answer moment who decision (done.Silent why) followed silent said no_memory fits = followed_same followed (silent why refl).1
-  followed_answer moment who decision done.NoMemory followed silent said no_memory fits = followed_kept followed (no_memory refl)
-  followed_answer moment who decision (done.Said reply) followed silent said no_memory fits = by_act (said reply refl).0 (said reply refl).1 (said reply refl).2
+  followed_answer moment who decision (done.Silent why) followed silent said fits = followed_same followed (silent why refl).1
+  followed_answer moment who decision (done.Said reply) followed silent said fits = by_act (said reply refl).0 (said reply refl).1 (said reply refl).2
     where
       by_act : (a : Option HistoryAct) → decision ≡ Says reply a → AddsIf old new before after moment who a → IsFollowed new after
       by_act None is same = followed_same followed same
@@ -117,9 +104,6 @@ history_is trail cuts open_now = λ i. if open_now i then firm_entries trail els
 pub stands_same : {A : Type 0} {tells : Ghosts A} (old new : Trail A tells) (cuts : ℕ) → new ≡ old → standing new cuts ≡ standing old cuts
 stands_same {A} {tells} old new cuts e = ap (λ (t : Trail A tells). standing t cuts) e
 
-pub stands_kept : {A : Type 0} {tells : Ghosts A} (old new : Trail A tells) (before after : Index) (cuts : ℕ) → AreKept old new before after → standing new cuts ≡ standing old cuts
-stands_kept old new before after cuts kept = λ i. record { firm = kept.stays.listed i; rest = kept.kept.waiting i; cuts = cuts; is_broken = kept.stays.opened i }
-
 pub stands_after : {A : Type 0} {tells : Ghosts A} (old new : Trail A tells) (before after : Index) (cuts now moment : ℕ) (who : Caller) (a : Option HistoryAct) → is_closed old ≡ false → moment ≡ moment_after (all_entries old) now
     → AddsIf old new before after moment who a → standing new cuts ≡ recorded_if (standing old cuts) now who a
 stands_after old new before after cuts now moment who None open_now at same = stands_same old new cuts same.trail
@@ -143,11 +127,9 @@ module _ {A : Type 0} {tells : Ghosts A} (old new : Trail A tells) (before after
 
   pub firm_stays : (finished : Done)
       → ((why : Why) → finished ≡ done.Silent why → (decision ≡ Silent why) × IsSame old new before after)
-      → ((reply : List ℕ) → finished ≡ done.Said reply → (a : Option HistoryAct) × (decision ≡ Says reply a) × AddsIf old new before after moment who a)
-      → (finished ≡ done.NoMemory → AreKept old new before after) → FirmStays old new
-  firm_stays (done.Silent why) silent said no_memory = firm_same (silent why refl).1.trail
-  firm_stays (done.Said reply) silent said no_memory = firm_if (said reply refl).0 (said reply refl).2
-  firm_stays done.NoMemory silent said no_memory = (no_memory refl).stays
+      → ((reply : List ℕ) → finished ≡ done.Said reply → (a : Option HistoryAct) × (decision ≡ Says reply a) × AddsIf old new before after moment who a) → FirmStays old new
+  firm_stays (done.Silent why) silent said = firm_same (silent why refl).1.trail
+  firm_stays (done.Said reply) silent said = firm_if (said reply refl).0 (said reply refl).2
 
   -- and no entry is lost
   more_if : (a : Option HistoryAct) → AddsIf old new before after moment who a → length_of old ≤ length_of new
@@ -156,26 +138,19 @@ module _ {A : Type 0} {tells : Ghosts A} (old new : Trail A tells) (before after
 
   pub none_is_lost : (finished : Done)
       → ((why : Why) → finished ≡ done.Silent why → (decision ≡ Silent why) × IsSame old new before after)
-      → ((reply : List ℕ) → finished ≡ done.Said reply → (a : Option HistoryAct) × (decision ≡ Says reply a) × AddsIf old new before after moment who a)
-      → (finished ≡ done.NoMemory → AreKept old new before after) → length_of old ≤ length_of new
-  none_is_lost (done.Silent why) silent said no_memory = omega (arith, ap (λ (t : Trail A tells). length_of t) (silent why refl).1.trail)
-  none_is_lost (done.Said reply) silent said no_memory = more_if (said reply refl).0 (said reply refl).2
-  none_is_lost done.NoMemory silent said no_memory = let count = (no_memory refl).kept.length in omega (arith, count)
+      → ((reply : List ℕ) → finished ≡ done.Said reply → (a : Option HistoryAct) × (decision ≡ Says reply a) × AddsIf old new before after moment who a) → length_of old ≤ length_of new
+  none_is_lost (done.Silent why) silent said = omega (arith, ap (λ (t : Trail A tells). length_of t) (silent why refl).1.trail)
+  none_is_lost (done.Said reply) silent said = more_if (said reply refl).0 (said reply refl).2
 
   -- what was done is what was decided
   pub done_is : (now cuts : ℕ) (told_decision : Decided) (finished : Done) → is_closed old ≡ false → moment ≡ moment_after (all_entries old) now
-      → (finished ≢ done.NoMemory → decision ≡ told_decision)
+      → decision ≡ told_decision
       → ((why : Why) → finished ≡ done.Silent why → (decision ≡ Silent why) × IsSame old new before after)
-      → ((reply : List ℕ) → finished ≡ done.Said reply → (a : Option HistoryAct) × (decision ≡ Says reply a) × AddsIf old new before after moment who a)
-      → (finished ≡ done.NoMemory → AreKept old new before after) → IsDone finished (standing old cuts) (standing new cuts) now who told_decision
-  done_is now cuts told_decision (done.Silent why) open_now at is silent said no_memory =
-      (sym (is (λ e. cc)) ∙ (silent why refl).0, stands_same old new cuts (silent why refl).1.trail)
-  done_is now cuts told_decision (done.Said reply) open_now at is silent said no_memory =
-      ((said reply refl).0, sym (is (λ e. cc)) ∙ (said reply refl).1, stands_after old new before after cuts now moment who (said reply refl).0 open_now at (said reply refl).2)
-  done_is now cuts told_decision done.NoMemory open_now at is silent said no_memory = stands_kept old new before after cuts (no_memory refl)
-
-pub said_is_some : (finished : Done) (reply : List ℕ) → finished ≡ done.Said reply → finished ≢ done.NoMemory
-said_is_some finished reply is none = let both : done.Said reply ≡ done.NoMemory = sym is ∙ none in cc both
+      → ((reply : List ℕ) → finished ≡ done.Said reply → (a : Option HistoryAct) × (decision ≡ Says reply a) × AddsIf old new before after moment who a) → IsDone finished (standing old cuts) (standing new cuts) now who told_decision
+  done_is now cuts told_decision (done.Silent why) open_now at is silent said =
+      (sym is ∙ (silent why refl).0, stands_same old new cuts (silent why refl).1.trail)
+  done_is now cuts told_decision (done.Said reply) open_now at is silent said =
+      ((said reply refl).0, sym is ∙ (said reply refl).1, stands_after old new before after cuts now moment who (said reply refl).0 open_now at (said reply refl).2)
 
 -- what an answer records is fit
 pub recorded_is_fit : (size : ℕ) (h : List HistoryEntry) (from : Addr) (datagram : PreparedValue) (now moment : ℕ) (who : Caller) (decision : Decided) (reply : List ℕ) (a : HistoryAct)

@@ -1,7 +1,7 @@
 -- How an answer adds to a trail and its index.
 use Rattle.std.specs.Prelude.{◌≡◌, ◌≤◌, ◌+◌, ℕ, Bool, true, false, List, [], ◌∷◌, ◌++◌, Option, Some, None}
 use Rattle.area_disk.specs.declared.area.Area.{Ghosts}
-use Rattle.cgf_journal.specs.Outcomes.{FirmStays, IsKept, IsPushed}
+use Rattle.cgf_journal.specs.Outcomes.{FirmStays, IsPushed}
 use Rattle.cgf_journal.specs.Trail.{area_of, entries, has_room_of, waiting_octets}
 use Rattle.entry_codec.specs.Room.{has_room}
 use Rattle.entry_codec.specs.Spelling.{entry_length}
@@ -32,12 +32,6 @@ module _ {A : Type 0} {tells : Ghosts A} (old new : Trail A tells) (before after
   pub record IsSame : Type 0 where
     pub trail : new ≡ old
     pub index : after ≡ before
-
-  -- What they hold is as before.
-  pub record AreKept : Type 0 where
-    pub kept : IsKept old new
-    pub stays : FirmStays old new
-    pub follows : (firm : Bool) (h : List HistoryEntry) → Follows firm before h → Follows firm after h
 
   -- They have one more entry where an act is recorded.
   abbrev pub AddsIf : ℕ → Caller → Option HistoryAct → Type 0

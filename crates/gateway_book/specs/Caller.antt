@@ -20,7 +20,7 @@ use Rattle.gateway_book.specs.declared.outcome.Broken.{Broken}
 use Rattle.gateway_book.specs.declared.outcome.Marked.{Marked}
 use Rattle.gateway_book.specs.declared.outcome.Marked.TheVariants as marked
 use Rattle.gateway_book.specs.declared.outcome.Outcome.{Outcome}
-use Rattle.gateway_book.specs.declared.outcome.Outcome.TheVariants.{Answer, Drop, NoMemory}
+use Rattle.gateway_book.specs.declared.outcome.Outcome.TheVariants.{Answer, Drop}
 use Rattle.gateway_book.specs.declared.outcome.Receipt.{Receipt}
 
 -- the caller is told that the request with this number is answered by this cause
@@ -41,14 +41,12 @@ IsDecided from datagram decision =
 abbrev pub IsAnswered : Addr → PreparedValue → Outcome → Type 0
 IsAnswered from datagram (Drop why) = IsDecided from datagram (Silent why)
 IsAnswered from datagram (Answer receipt) = (act : Option HistoryAct) × IsDecided from datagram (Says receipt.reply act)
-IsAnswered from datagram NoMemory = ⊤
 
 -- what the caller is told is the answer where the device fails: a request is failed, all else is dropped
 abbrev pub IsFailure : PreparedValue → Outcome → Type 0
 IsFailure datagram (Drop why) = decided (failure_answer datagram) ≡ Silent why
 IsFailure datagram (Answer receipt) =
     (act : Option HistoryAct) × (decided (failure_answer datagram) ≡ Says receipt.reply act)
-IsFailure datagram NoMemory = ⊥
 
 module _ {A : Type 0} {tells : Ghosts A} (new : Book A tells) where
   -- an answer with these octets, made now
@@ -59,15 +57,13 @@ module _ {A : Type 0} {tells : Ghosts A} (new : Book A tells) where
   abbrev pub IsCounted : Outcome → Type 0
   IsCounted (Drop why) = ⊤
   IsCounted (Answer receipt) = (receipt.front ≡ length_of new.trail) × (receipt.faults ≡ new.cuts)
-  IsCounted NoMemory = ⊤
 
   -- What the sender of a datagram is told: what the definition decides where the book goes on, and where it is broken
-  -- then the answer of a failed device, which is told nowhere else; and want of memory only where the book goes on.
+  -- then the answer of a failed device, which is told nowhere else.
   pub record IsTold (from : Addr) (datagram : PreparedValue) (result : Outcome) : Type 0 where
     pub answered : is_closed new.trail ≡ false → IsAnswered from datagram result
     pub failed : is_closed new.trail ≡ true → IsFailure datagram result
     pub fault : TellsFault result → is_closed new.trail ≡ true
-    pub memory : result ≡ NoMemory → is_closed new.trail ≡ false
     pub counts : IsCounted result
 
   -- a mark that was made tells the same
@@ -76,13 +72,10 @@ module _ {A : Type 0} {tells : Ghosts A} (new : Book A tells) where
   IsMarkCounted marked.NotDue = ⊤
   IsMarkCounted marked.NoRoom = ⊤
   IsMarkCounted marked.Device = ⊤
-  IsMarkCounted marked.NoMemory = ⊤
 
-  -- What is told of a mark: that the device failed exactly where the book is broken then, and want of memory only where
-  -- it goes on.
+  -- What is told of a mark: that the device failed exactly where the book is broken then.
   pub record IsMarkTold (result : Marked) : Type 0 where
     pub device : (result ≡ marked.Device) ↔ (is_closed new.trail ≡ true)
-    pub memory : result ≡ marked.NoMemory → is_closed new.trail ≡ false
     pub counts : IsMarkCounted result
 
   -- what is told of a commit: how many entries are firm, which are all of them, or how many commits and openings again

@@ -38,7 +38,6 @@ pub mod Windows
 pub mod AnswerLaws
 pub mod EachAnswer
 pub mod FaultLaws
-pub mod FewItemsLaws
 pub mod FiledLaws
 pub mod FitHistoryLaws
 pub mod FitLaws

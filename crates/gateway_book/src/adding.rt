@@ -1,5 +1,5 @@
 // What an answer adds.
-ghost use Rattle.std.specs.Prelude.{◌≡◌, ◌≢◌, ◌≤◌, ◌+◌, true, false, Some, None, Option, List, ℕ, IfOk, IfSome, OnOk, OnErr};
+ghost use Rattle.std.specs.Prelude.{◌≡◌, ◌≤◌, ◌+◌, true, false, Some, None, Option, List, ℕ, IfSome};
 ghost use Rattle.entry_codec.specs.Spelling.{entry_length};
 ghost use Rattle.gate_journal.specs.Format.{longest_batch};
 ghost use Rattle.entry_codec.specs.Room.{has_room};
@@ -8,7 +8,7 @@ ghost use Rattle.cgf_journal.specs.Trail.{area_of, entries, has_room_of, is_clos
 ghost use Rattle.gw_base.specs.Entry.{act_view, entry_view};
 ghost use Rattle.gw_base.specs.declared.history.HistoryAct.{HistoryAct};
 ghost use Rattle.gtpp_message.specs.declared.reading.Why.{Why};
-ghost use Rattle.gateway_book.specs.Adding.{AddsIf, AreKept, IsAdded, IsSame, MayAdd, given_by, room_in, room_told};
+ghost use Rattle.gateway_book.specs.Adding.{AddsIf, IsAdded, IsSame, MayAdd, given_by, room_in, room_told};
 ghost use Rattle.gateway_book.specs.Answer.{Says, Silent, decided};
 ghost use Rattle.gateway_book.specs.Answered.{act_decided, act_given};
 ghost use Rattle.gateway_book.specs.Cases.{case_value};
@@ -26,27 +26,10 @@ use crate::seen::Seen;
 use area_disk::Area;
 use cgf_journal::Trail;
 use gtpp_message::Why;
-use gw_base::{Addr, Caller, Entry, Moment, NoMemory, Short};
+use gw_base::{Addr, Caller, Entry, Moment, Short};
 
 /// Adds an entry behind the others, where it waits for a commit. It takes no memory.
-pub(crate) fn record<A: Area>(
-    trail: &mut Trail<A>,
-    index: &mut Index,
-    entry: &Entry<'_>,
-) -> Result<(), NoMemory>
-    requires open { is_closed trail.old ≡ false }
-    requires room { has_room_of trail.old (entry_view entry.now) ≡ true }
-    requires may_come { MayCome (act_view entry.now.act) index.old }
-    requires free { waiting_octets trail.old + entry_length (entry_view entry.now) ≤ longest_batch }
-    ensures ok { OnOk result (IsAdded trail.old trail.new index.old index.new (entry_view entry.now)) }
-    ensures err { OnErr result (AreKept trail.old trail.new index.old index.new) }
-{
-    append(trail, index, entry);
-    Ok(())
-}
-
-/// The same, told without a result.
-pub(crate) fn append<A: Area>(trail: &mut Trail<A>, index: &mut Index, entry: &Entry<'_>)
+pub(crate) fn record<A: Area>(trail: &mut Trail<A>, index: &mut Index, entry: &Entry<'_>)
     requires open { is_closed trail.old ≡ false }
     requires room { has_room_of trail.old (entry_view entry.now) ≡ true }
     requires may_come { MayCome (act_view entry.now.act) index.old }
@@ -66,12 +49,11 @@ pub(crate) enum Done {
     Silent(Why),
     /// These octets go back, and what the answer records was added.
     Said(Short),
-    /// There was no memory, and nothing was added.
-    NoMemory,
 }
 
 /// Answers a datagram by an index, as if there were room for no act.
 fn answer_without_room(index: &Index, scratch: &mut Scratch, from: Addr, case: &Case<'_>) -> Done
+    requires { IsShort (case_value case.now) }
     ensures silent { (why : Why) → result ≡ Done.Silent why →
         decided (given_by index.now from (case_value case.now) (λ act. false)) ≡ Silent why }
     ensures said { (reply : List ℕ) → result ≡ Done.Said reply → (act : Option HistoryAct)
@@ -82,9 +64,8 @@ fn answer_without_room(index: &Index, scratch: &mut Scratch, from: Addr, case: &
         has_room: false,
     };
     match answer_by(&seen, from, case, scratch) {
-        Ok(Decision::Drop(why)) => Done::Silent(why),
-        Ok(Decision::Reply { reply, act: _ }) => Done::Said(reply),
-        Err(NoMemory) => Done::NoMemory,
+        Decision::Drop(why) => Done::Silent(why),
+        Decision::Reply { reply, act: _ } => Done::Said(reply),
     }
 }
 
@@ -104,17 +85,14 @@ fn add<A: Area>(
     ensures never_silent { (why : Why) → ¬ (result ≡ Some (Done.Silent why)) }
     ensures no_room { result ≡ None → (has_room_of trail.old (entry_view entry.now) ≡ false)
         × IsSame trail.old trail.new index.old index.new }
-    ensures no_memory { result ≡ Some Done.NoMemory → AreKept trail.old trail.new index.old index.new }
     ensures told { Told A.Area → has_room_of trail.old (entry_view entry.now) ≡
         has_room (entries trail.old) (entry_view entry.now) (A.size (area_of trail.old)) }
 {
     if !trail.room(entry) {
         return None;
     }
-    match record(trail, index, entry) {
-        Ok(()) => Some(Done::Said(reply)),
-        Err(NoMemory) => Some(Done::NoMemory),
-    }
+    record(trail, index, entry);
+    Some(Done::Said(reply))
 }
 
 /// The answer to a datagram by an index, as if there were room for any act.
@@ -123,9 +101,9 @@ fn propose<'a, 'p: 'a>(
     scratch: &'a mut Scratch,
     from: Addr,
     case: &Case<'p>,
-) -> Result<Decision<'a>, NoMemory>
-    ensures { IfOk result (λ decision. decision_view decision
-        ≡ decided (given_by index.now from (case_value case.now) (λ act. true))) }
+) -> Decision<'a>
+    requires { IsShort (case_value case.now) }
+    ensures { decision_view result ≡ decided (given_by index.now from (case_value case.now) (λ act. true)) }
 {
     let seen = Seen {
         index,
@@ -153,7 +131,6 @@ fn conclude<A: Area>(
     ensures no_room { result ≡ None → (reply : List ℕ) × (act : HistoryAct) × (decision_view decision.entry ≡
         Says reply (Some act))
         × (room_in trail.old moment who act ≡ false) × IsSame trail.old trail.new index.old index.new }
-    ensures no_memory { result ≡ Some Done.NoMemory → AreKept trail.old trail.new index.old index.new }
     ensures told { (a : HistoryAct) → act_decided (decision_view decision.entry) ≡ Some a → Told A.Area →
         room_in trail.old moment who a ≡ room_told trail.old moment who a }
 {
@@ -197,15 +174,11 @@ fn answer_with_room<A: Area>(
     ensures no_room { result ≡ None → (reply : List ℕ) × (act : HistoryAct)
         × (decided (given_by index.old from (case_value case.now) (λ act. true)) ≡ Says reply (Some act))
         × (room_in trail.old moment who act ≡ false) × IsSame trail.old trail.new index.old index.new }
-    ensures no_memory { result ≡ Some Done.NoMemory → AreKept trail.old trail.new index.old index.new }
-    ensures told { result ≢ Some Done.NoMemory → (a : HistoryAct) →
-        act_given (given_by index.old from (case_value case.now) (λ act. true)) ≡ Some a →
-        Told A.Area → room_in trail.old moment who a ≡ room_told trail.old moment who a }
+    ensures told { (a : HistoryAct) → act_given (given_by index.old from (case_value case.now) (λ act. true)) ≡
+        Some a → Told A.Area → room_in trail.old moment who a ≡ room_told trail.old moment who a }
 {
-    match propose(index, scratch, from, case) {
-        Ok(decision) => conclude(trail, index, decision, moment, who),
-        Err(NoMemory) => Some(Done::NoMemory),
-    }
+    let decision = propose(index, scratch, from, case);
+    conclude(trail, index, decision, moment, who)
 }
 
 /// Answers a datagram by an open trail and its index, and adds what the answer records.
@@ -227,8 +200,7 @@ pub(crate) fn answer<A: Area>(
     ensures said { (reply : List ℕ) → result ≡ Done.Said reply → (act : Option HistoryAct)
         × (decided (given_by index.old from (case_value case.now) (room_in trail.old moment who)) ≡ Says reply act)
         × AddsIf trail.old trail.new index.old index.new moment who act }
-    ensures no_memory { result ≡ Done.NoMemory → AreKept trail.old trail.new index.old index.new }
-    ensures told { Told A.Area → result ≢ Done.NoMemory →
+    ensures told { Told A.Area →
         decided (given_by index.old from (case_value case.now) (room_in trail.old moment who))
         ≡ decided (given_by index.old from (case_value case.now) (room_told trail.old moment who)) }
 {

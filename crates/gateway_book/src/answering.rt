@@ -1,4 +1,4 @@
-ghost use Rattle.std.specs.Prelude.{◌≡◌, ◌≤◌, length, IfOk};
+ghost use Rattle.std.specs.Prelude.{◌≡◌, ◌≤◌, length};
 ghost use Rattle.std.specs.Option.{option_map};
 ghost use Rattle.gtpp_message.specs.Values.{message_value, packet_value, transfer_value};
 ghost use Rattle.gtpp_message.specs.Writing.{written};
@@ -7,7 +7,7 @@ ghost use Rattle.gateway_book.specs.Answer.{Replies, act_of, answer_within, aske
 ghost use Rattle.gateway_book.specs.Cases.{case_value};
 ghost use Rattle.gateway_book.specs.Decisions.{decision_view};
 ghost use Rattle.gateway_book.specs.Limits.{is_in_range, within_limits};
-ghost use Rattle.gateway_book.specs.Preparing.{prepared_of};
+ghost use Rattle.gateway_book.specs.Preparing.{IsShort, IsShortTransfer, prepared_of};
 
 use crate::case::Case;
 use crate::decision::Decision;
@@ -16,7 +16,7 @@ use crate::observe::Observe;
 use crate::preparing::Prepared;
 use gtpp_elements::Numbers;
 use gtpp_message::{Message, Packet, Transfer, Why};
-use gw_base::{Absolute, Act, Addr, KeyState, NoMemory, NodeId, Short, cause, nearest_number};
+use gw_base::{Absolute, Act, Addr, KeyState, NodeId, Short, cause, nearest_number};
 use path_mgmt::{GatewayPath, PathAnswer, PathEvent};
 use transfer_cmd::{Ask, decide};
 
@@ -254,21 +254,22 @@ pub fn failure(request: &Prepared<'_>) -> Option<Short>
     }
 }
 
-/// The answer to what was made of a datagram from this sender. Without memory none is made.
+/// The answer to what was made of a datagram from this sender. It takes no memory.
 pub(crate) fn answer_by<'a, 'p: 'a, O: Observe>(
     seen: &O,
     from: Addr,
     case: &Case<'p>,
     scratch: &'a mut Scratch,
-) -> Result<Decision<'a>, NoMemory>
-    ensures { IfOk result (λ decision. decision_view decision
-        ≡ decided (answer_within (O.seen seen.now (node_of from)) from (case_value case.now) (O.room seen.now))) }
+) -> Decision<'a>
+    requires { IsShort (case_value case.now) }
+    ensures { decision_view result
+        ≡ decided (answer_within (O.seen seen.now (node_of from)) from (case_value case.now) (O.room seen.now)) }
 {
     match case {
-        Case::Drop(why) => Ok(Decision::Drop(*why)),
-        Case::OtherVersion { number } => Ok(reply(*number, &Message::VersionNotSupported, None)),
-        Case::Refused { cause, number } => Ok(responding(*number, *cause, None)),
-        Case::Path(event) => Ok(path_given(seen, from, *event)),
+        Case::Drop(why) => Decision::Drop(*why),
+        Case::OtherVersion { number } => reply(*number, &Message::VersionNotSupported, None),
+        Case::Refused { cause, number } => responding(*number, *cause, None),
+        Case::Path(event) => path_given(seen, from, *event),
         Case::Request { number, body } => asked_by(seen, NodeId(from.ip), *number, body, scratch),
     }
 }
@@ -280,19 +281,20 @@ fn asked_by<'a, 'p: 'a, O: Observe>(
     number: u16,
     body: &Transfer<'p>,
     scratch: &'a mut Scratch,
-) -> Result<Decision<'a>, NoMemory>
-    ensures { IfOk result (λ decision. decision_view decision
+) -> Decision<'a>
+    requires { IsShortTransfer (transfer_value body.now) }
+    ensures { decision_view result
         ≡ decided (asked_by (O.seen seen.now node) (may_record (O.seen seen.now node) (O.room seen.now)) node number
-        (transfer_value body.now))) }
+        (transfer_value body.now)) }
 {
     match body {
         Transfer::Send(packet) => {
             let ask = sending(*packet);
-            Ok(sent(seen, node, number, ask, packet.octets()))
+            sent(seen, node, number, ask, packet.octets())
         }
         Transfer::Possible(packet) => {
             let ask = sending_again(*packet);
-            Ok(sent(seen, node, number, ask, packet.octets()))
+            sent(seen, node, number, ask, packet.octets())
         }
         Transfer::Cancel(numbers) => listed(seen, node, number, false, numbers, scratch),
         Transfer::Release(numbers) => listed(seen, node, number, true, numbers, scratch),

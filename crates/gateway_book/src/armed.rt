@@ -13,7 +13,6 @@ ghost use Rattle.gateway_book.specs.Opened.{StandsFitFor};
 ghost use Rattle.gateway_book.specs.Preparing.{prepared_of};
 ghost use Rattle.gateway_book.specs.Up.{HasLeft, HoldsHistory, IsCut, IsUp, commit_sequel_of, fortune_by, ready_sequel_of};
 ghost use Rattle.gateway_book.specs.Value.{BookValue};
-ghost use Rattle.gateway_book.specs.declared.outcome.Outcome.TheVariants.{NoMemory};
 
 use crate::book::Book;
 use crate::laws::{
@@ -43,7 +42,7 @@ fn delivered<A: Area>(
     now: Moment,
     who: Caller,
 ) -> Outcome
-    ensures { Told A.Area → IsTrue A.tells_fate → result ≢ NoMemory → (header : List ℕ) (v : BookValue)
+    ensures { Told A.Area → IsTrue A.tells_fate → (header : List ℕ) (v : BookValue)
         (armed : Armed) (at_last : Bool) → IsUp header v armed at_last book.old →
         let sequel = ready_sequel_of armed at_last v in HasLeft header sequel
         (taken (fortune_by at_last sequel) from (prepared_of request.now) (size_of book.old) now who v) book.new

@@ -45,6 +45,7 @@ mod plain;
 mod preparing;
 mod reading;
 mod readying;
+mod reserved;
 mod seen;
 mod taking;
 mod told;

@@ -1,5 +1,5 @@
 // The answers to requests that name lists of numbers.
-ghost use Rattle.std.specs.Prelude.{◌≡◌, ◌<◌, ◌^◌, ℕ, [], ◌∷◌, ◌++◌, map, Option, IfOk, IfSome, OnOk};
+ghost use Rattle.std.specs.Prelude.{◌≡◌, ◌<◌, ◌≤◌, ◌+◌, ◌^◌, ℕ, [], ◌∷◌, ◌++◌, length, map, Option, IfOk, IfSome};
 ghost use Rattle.gw_base.specs.Entry.{act_view};
 ghost use Rattle.gw_base.specs.Nearest.{nearest};
 ghost use Rattle.gateway_book.specs.Answer.{changing, decided, held_ones, listed, may_record};
@@ -10,22 +10,20 @@ ghost use Rattle.gateway_book.specs.WireMarks.{AreMarked};
 use crate::answering::tabled;
 use crate::decision::Decision;
 use crate::observe::Observe;
+use crate::reserved::Reserved;
 use crate::wire_marks::WireMarks;
 use gtpp_elements::Numbers;
 use gw_base::{Absolute, Act, KeyState, NoMemory, NodeId, nearest_number};
 use std::alloc::Global;
 use transfer_cmd::{Verdict, is_held, judge};
 
-/// The most numbers that an element of a message lists: two octets each of the 65,535 that it may have.
-const MOST_NUMBERS: usize = 32_767;
-
 /// The lists in which answers are worked out: the numbers that a request names, their states, and
 /// the held ones. They have room for the longest list, which fills a message of 65,541 octets.
-#[derive(Debug, Drop)]
+#[derive(Drop)]
 pub(crate) struct Scratch {
-    numbers: Vec<Absolute>,
-    states: Vec<KeyState>,
-    held: Vec<Absolute>,
+    numbers: Reserved<Absolute>,
+    states: Reserved<KeyState>,
+    held: Reserved<Absolute>,
     /// The sequence numbers of the held ones that were found.
     marks: WireMarks,
 }
@@ -33,20 +31,20 @@ pub(crate) struct Scratch {
 impl Scratch {
     /// Empty lists, which take the memory for all that they will hold.
     pub(crate) fn new(alloc: Global) -> Result<Scratch, NoMemory>
-        ensures numbers { IfOk result (λ scratch. scratch.numbers.items ≡ []) }
-        ensures states { IfOk result (λ scratch. scratch.states.items ≡ []) }
-        ensures held { IfOk result (λ scratch. scratch.held.items ≡ []) }
+        ensures numbers { IfOk result (λ scratch. scratch.numbers.items.items ≡ []) }
+        ensures states { IfOk result (λ scratch. scratch.states.items.items ≡ []) }
+        ensures held { IfOk result (λ scratch. scratch.held.items.items ≡ []) }
     {
         Ok(Scratch {
-            numbers: Vec::with_capacity(alloc, MOST_NUMBERS)?,
-            states: Vec::with_capacity(alloc, MOST_NUMBERS)?,
-            held: Vec::with_capacity(alloc, MOST_NUMBERS)?,
+            numbers: Reserved::new(alloc)?,
+            states: Reserved::new(alloc)?,
+            held: Reserved::new(alloc)?,
             marks: WireMarks::new(alloc)?,
         })
     }
 }
 
-/// The answer to a request that releases, or else cancels, the packets of a list of numbers.
+/// The answer to a request that releases, or else cancels, the packets of a list of numbers. It takes no memory.
 pub(crate) fn listed<'a, O: Observe>(
     seen: &O,
     node: NodeId,
@@ -54,24 +52,25 @@ pub(crate) fn listed<'a, O: Observe>(
     release: bool,
     numbers: &Numbers<'_>,
     scratch: &'a mut Scratch,
-) -> Result<Decision<'a>, NoMemory>
-    ensures { IfOk result (λ decision. decision_view decision
+) -> Decision<'a>
+    requires { length numbers.now ≤ 32767 }
+    ensures { decision_view result
         ≡ decided (listed (O.seen seen.now node) (may_record (O.seen seen.now node) (O.room seen.now)) node number
-        release numbers.now)) }
+        release numbers.now) }
 {
     let top = seen.top(node);
-    name_numbers(top, numbers, &mut scratch.numbers)?;
-    find_states(seen, node, &scratch.numbers, &mut scratch.states)?;
-    let verdict = judge(&scratch.states, release);
+    let (named, states) = (&mut scratch.numbers, &mut scratch.states);
+    name_numbers(top, numbers, named);
+    find_states(seen, node, &named.items, states);
+    let verdict = judge(&states.items, release);
     match verdict {
-        Verdict::Wrong | Verdict::Before => {
-            Ok(tabled(seen, node, number, verdict.cause(), None))
-        }
+        Verdict::Wrong | Verdict::Before => tabled(seen, node, number, verdict.cause(), None),
         Verdict::Change => {
             let (held, marks) = (&mut scratch.held, &mut scratch.marks);
-            find_held(seen, node, top, numbers, held, marks)?;
-            let act = changing(release, node, &scratch.held);
-            Ok(tabled(seen, node, number, verdict.cause(), Some(act)))
+            find_held(seen, node, top, numbers, held, marks);
+            let found = &scratch.held;
+            let act = changing(release, node, &found.items);
+            tabled(seen, node, number, verdict.cause(), Some(act))
         }
     }
 }
@@ -89,19 +88,15 @@ fn changing(release: bool, node: NodeId, numbers: &[Absolute]) -> Act<'_>
 
 /// The request numbers that a list names.
 #[tactic(auto, using(crate::proofs::ListsLemmas::step_numbers))]
-fn name_numbers(
-    top: Option<Absolute>,
-    numbers: &Numbers<'_>,
-    into: &mut Vec<Absolute>,
-) -> Result<(), NoMemory>
-    requires { IfSome top (λ t. t < 2 ^ 63) }
-    ensures { OnOk result (into.new.items ≡ map (nearest top) numbers.now) }
+fn name_numbers(top: Option<Absolute>, numbers: &Numbers<'_>, into: &mut Reserved<Absolute>)
+    requires bounded { IfSome top (λ t. t < 2 ^ 63) }
+    requires short { length numbers.now ≤ 32767 }
+    ensures { into.new.items.items ≡ map (nearest top) numbers.now }
 {
     into.clear();
     for place in 0..numbers.count() {
-        into.push(nearest_number(top, numbers.at(place)))?;
+        into.push(nearest_number(top, numbers.at(place)));
     }
-    Ok(())
 }
 
 /// The states of these numbers.
@@ -109,15 +104,15 @@ fn find_states<O: Observe>(
     seen: &O,
     node: NodeId,
     numbers: &[Absolute],
-    into: &mut Vec<KeyState>,
-) -> Result<(), NoMemory>
-    ensures { OnOk result (into.new.items ≡ map ((O.seen seen.now node).state) numbers.now) }
+    into: &mut Reserved<KeyState>,
+)
+    requires { length numbers.now ≤ 32767 }
+    ensures { into.new.items.items ≡ map ((O.seen seen.now node).state) numbers.now }
 {
     into.clear();
     for number in numbers {
-        into.push(seen.state(node, *number))?;
+        into.push(seen.state(node, *number));
     }
-    Ok(())
 }
 
 /// The held ones of the numbers that a list names, each once.
@@ -127,18 +122,18 @@ fn find_held<O: Observe>(
     node: NodeId,
     top: Option<Absolute>,
     numbers: &Numbers<'_>,
-    into: &mut Vec<Absolute>,
+    into: &mut Reserved<Absolute>,
     marks: &mut WireMarks,
-) -> Result<(), NoMemory>
-    requires { IfSome top (λ t. t < 2 ^ 63) }
-    ensures { OnOk result (into.new.items ≡ held_ones (O.seen seen.now node) (map (nearest top) numbers.now)) }
+)
+    requires bounded { IfSome top (λ t. t < 2 ^ 63) }
+    requires short { length numbers.now ≤ 32767 }
+    ensures { into.new.items.items ≡ held_ones (O.seen seen.now node) (map (nearest top) numbers.now) }
 {
     into.clear();
     marks.clear();
     for place in 0..numbers.count() {
-        keep_held(seen, node, top, numbers.at(place), into, marks)?;
+        keep_held(seen, node, top, numbers.at(place), into, marks);
     }
-    Ok(())
 }
 
 /// Appends the number that is meant, where it is held and isn't there yet.
@@ -147,34 +142,32 @@ fn keep_held<O: Observe>(
     node: NodeId,
     top: Option<Absolute>,
     wire: u16,
-    into: &mut Vec<Absolute>,
+    into: &mut Reserved<Absolute>,
     marks: &mut WireMarks,
-) -> Result<(), NoMemory>
+)
     requires bounded { IfSome top (λ t. t < 2 ^ 63) }
-    requires found { AreMarked top marks.old into.old.items }
-    ensures kept { OnOk result (into.new.items ≡ with_held (O.seen seen.now node) into.old.items (nearest top wire)) }
-    ensures marked { OnOk result (AreMarked top marks.new into.new.items) }
+    requires found { AreMarked top marks.old into.old.items.items }
+    requires few { length into.old.items.items < 32767 }
+    ensures kept { into.new.items.items
+        ≡ with_held (O.seen seen.now node) into.old.items.items (nearest top wire) }
+    ensures marked { AreMarked top marks.new into.new.items.items }
+    ensures count { length into.new.items.items ≤ length into.old.items.items + 1 }
 {
     let number = nearest_number(top, wire);
     if is_held(seen.state(node, number)) && !marks.has(wire) {
-        add(number, wire, into, marks)?;
+        add(number, wire, into, marks);
     }
-    Ok(())
 }
 
 /// Appends a number that isn't there, which a sequence number means, and marks that.
-fn add(
-    number: Absolute,
-    wire: u16,
-    into: &mut Vec<Absolute>,
-    marks: &mut WireMarks,
-) -> Result<(), NoMemory>
-    ensures added { OnOk result (into.new.items ≡ into.old.items ++ number ∷ []) }
-    ensures marked { OnOk result ((top : Option ℕ) → number ≡ nearest top wire →
-        AreMarked top marks.old into.old.items → AreMarked top marks.new into.new.items) }
+fn add(number: Absolute, wire: u16, into: &mut Reserved<Absolute>, marks: &mut WireMarks)
+    requires { length into.old.items.items < 32767 }
+    ensures added { into.new.items.items ≡ into.old.items.items ++ number ∷ [] }
+    ensures count { length into.new.items.items ≡ length into.old.items.items + 1 }
+    ensures marked { (top : Option ℕ) → number ≡ nearest top wire →
+        AreMarked top marks.old into.old.items.items → AreMarked top marks.new into.new.items.items }
 {
     gw_base::nearest_keeps_apart();
-    into.push(number)?;
+    into.push(number);
     marks.set(wire);
-    Ok(())
 }

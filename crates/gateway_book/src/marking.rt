@@ -1,5 +1,5 @@
 //! The marks that close files.
-ghost use Rattle.std.specs.Prelude.{◌≡◌, ◌≢◌, ◌≤◌, ◌+◌, OnOk, OnErr, true, false};
+ghost use Rattle.std.specs.Prelude.{◌≡◌, ◌≢◌, ◌≤◌, ◌+◌, true, false};
 ghost use Rattle.gate_journal.specs.Format.{longest_batch};
 ghost use Rattle.gate_journal.specs.Moments.{Told};
 ghost use Rattle.entry_codec.specs.Spelling.{entry_length};
@@ -25,7 +25,7 @@ use crate::laws::a_due_close_has_room;
 use crate::observed::an_index_tells_its_history;
 use area_disk::Area;
 use gw_base::scan::is_long_ago;
-use gw_base::{Act, Caller, Entry, Moment, NoMemory};
+use gw_base::{Act, Caller, Entry, Moment};
 
 impl<A: Area> Book<A> {
     ghost use Rattle.gateway_book.specs.Book.{CrashLeaves, HasCause, IsLeft, Stays, fortune_of, open_time_of, size_of, value_of};
@@ -35,13 +35,11 @@ impl<A: Area> Book<A> {
     /// made since the last Close, or the last one at least the open time ago. A broken book is opened again first, with
     /// one call of the device; one of whose batch fewer than 270,000 octets are free commits first, with four.
     ///
-    /// After `Device` the book is broken. After `NoMemory` nothing was added, and the book isn't broken.
+    /// It takes no memory. After `Device` the book is broken.
     pub fn tick(&mut self, now: Moment, who: Caller) -> Marked
-        ensures ticked { Told A.Area → result ≢ Marked.NoMemory → IsLeft self.old self.new
+        ensures ticked { Told A.Area → IsLeft self.old self.new
             (ticked (fortune_of self.old self.new) (open_time_of self.old) (size_of self.old) now who
             (value_of self.old)) result }
-        ensures no_memory { Told A.Area → result ≡ Marked.NoMemory → (is_closed self.new.trail ≡ false)
-            × (value_of self.new ≡ readied (fortune_of self.old self.new) (value_of self.old)) }
         // A crash at any moment of the call leaves the firm entries, or these with those behind them.
         ensures any_moment { CrashLeaves self.old self.new }
         ensures stays { Stays self.old self.new }
@@ -60,12 +58,10 @@ impl<A: Area> Book<A> {
     /// book is opened again first, with one call of the device; one of whose batch fewer than 270,000 octets are free
     /// commits first, with four.
     ///
-    /// After `Device` the book is broken. After `NoMemory` nothing was added, and the book isn't broken.
+    /// It takes no memory. After `Device` the book is broken.
     pub fn close(&mut self, now: Moment, who: Caller) -> Marked
-        ensures closed { Told A.Area → result ≢ Marked.NoMemory → IsLeft self.old self.new
+        ensures closed { Told A.Area → IsLeft self.old self.new
             (closed (fortune_of self.old self.new) now who (value_of self.old)) result }
-        ensures no_memory { Told A.Area → result ≡ Marked.NoMemory → (is_closed self.new.trail ≡ false)
-            × (value_of self.new ≡ readied (fortune_of self.old self.new) (value_of self.old)) }
         // A crash at any moment of the call leaves the firm entries, or these with those behind them.
         ensures any_moment { CrashLeaves self.old self.new }
         ensures stays { Stays self.old self.new }
@@ -107,10 +103,9 @@ impl<A: Area> Book<A> {
     fn tick_if_due(&mut self, now: Moment, who: Caller) -> Marked
         requires ready { is_closed self.old.trail ≡ false }
         requires free { waiting_octets self.old.trail + most_for_one ≤ longest_batch }
-        ensures left { Told A.Area → result ≢ Marked.NoMemory → IsLeft self.old self.new
+        ensures left { Told A.Area → IsLeft self.old self.new
             (marked_at (value_of self.old) now who (tick_mark (open_time_of self.old) now
             (history_of (value_of self.old)) (size_of self.old))) result }
-        ensures no_memory { Told A.Area → result ≡ Marked.NoMemory → value_of self.new ≡ value_of self.old }
         ensures adds { OnlyAdds self.old self.new }
         ensures stays { Stays self.old self.new }
         ensures quiet { IsQuiet self.new result }
@@ -125,9 +120,8 @@ impl<A: Area> Book<A> {
     fn close_if_due(&mut self, now: Moment, who: Caller) -> Marked
         requires ready { is_closed self.old.trail ≡ false }
         requires free { waiting_octets self.old.trail + most_for_one ≤ longest_batch }
-        ensures left { Told A.Area → result ≢ Marked.NoMemory → IsLeft self.old self.new
+        ensures left { Told A.Area → IsLeft self.old self.new
             (marked_at (value_of self.old) now who (close_mark (history_of (value_of self.old)))) result }
-        ensures no_memory { Told A.Area → result ≡ Marked.NoMemory → value_of self.new ≡ value_of self.old }
         ensures adds { OnlyAdds self.old self.new }
         ensures stays { Stays self.old self.new }
         ensures quiet { IsQuiet self.new result }
@@ -149,11 +143,10 @@ impl<A: Area> Book<A> {
         requires ready { is_closed self.old.trail ≡ false }
         requires free { waiting_octets self.old.trail + most_for_one ≤ longest_batch }
         requires closes { IsMark (act_view act) }
-        ensures left { Told A.Area → result ≢ Marked.NoMemory → IsLeft self.old self.new
+        ensures left { Told A.Area → IsLeft self.old self.new
             (marked_at (value_of self.old) now who (made_if
             (room_for (all_entries self.old.trail) (size_of self.old) (act_view act.entry)) (act_view act.entry)))
             result }
-        ensures no_memory { Told A.Area → result ≡ Marked.NoMemory → value_of self.new ≡ value_of self.old }
         ensures adds { OnlyAdds self.old self.new }
         ensures stays { Stays self.old self.new }
         ensures quiet { IsQuiet self.new result }
@@ -167,28 +160,25 @@ impl<A: Area> Book<A> {
         if !self.trail.room(&entry) {
             return Marked::NoRoom;
         }
-        match self.put(&entry) {
-            Ok(()) => Marked::Made {
-                front: self.trail.length(),
-                faults: self.cuts,
-            },
-            Err(_) => Marked::NoMemory,
+        self.put(&entry);
+        Marked::Made {
+            front: self.trail.length(),
+            faults: self.cuts,
         }
     }
 
-    // Adds an entry that is fit, for which there is room. Without memory nothing is added.
-    fn put(&mut self, entry: &Entry<'_>) -> Result<(), NoMemory>
+    // Adds an entry that is fit, for which there is room. It takes no memory.
+    fn put(&mut self, entry: &Entry<'_>)
         requires ready { is_closed self.old.trail ≡ false }
         requires room { has_room_of self.old.trail (entry_view entry.now) ≡ true }
         requires may_come { MayCome (act_view entry.now.act) self.old.index }
         requires free { waiting_octets self.old.trail + entry_length (entry_view entry.now) ≤ longest_batch }
         requires fit { Told A.Area → IsFit (size_of self.old) (all_entries self.old.trail) (entry_view entry.now) }
-        ensures ok { OnOk result (value_of self.new ≡ with_entry (value_of self.old) (entry_view entry.now)) }
-        ensures err { OnErr result (value_of self.new ≡ value_of self.old) }
+        ensures added { value_of self.new ≡ with_entry (value_of self.old) (entry_view entry.now) }
         ensures adds { OnlyAdds self.old self.new }
         ensures stays { Stays self.old self.new }
     {
         let (trail, index) = (&mut self.trail, &mut self.index);
-        record(trail, index, entry)
+        record(trail, index, entry);
     }
 }

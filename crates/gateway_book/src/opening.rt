@@ -11,7 +11,7 @@ ghost use Rattle.gateway_book.specs.Judging.{IsJudging};
 ghost use Rattle.gateway_book.specs.OpenPlan.{OpensAsPlanned, is_memory};
 ghost use Rattle.gateway_book.specs.Opened.{FindsHistory, IsMadeAnew, IsNotOurs, IsOpened, IsRefused, OnArea, RefusesForeign, StandsFitFor};
 
-use crate::adding::append;
+use crate::adding::record;
 use crate::book::Book;
 use crate::cursor::Cursor;
 use crate::judge::FitJudge;
@@ -122,7 +122,7 @@ impl<A: Area> Book<A> {
         if !self.trail.room(&entry) {
             return;
         }
-        append(&mut self.trail, &mut self.index, &entry);
+        record(&mut self.trail, &mut self.index, &entry);
     }
 }
 

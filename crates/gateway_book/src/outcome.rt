@@ -32,8 +32,6 @@ pub enum Outcome {
     Answer(Receipt),
     /// It isn't answered.
     Drop(Why),
-    /// There was no memory. No entry was added.
-    NoMemory,
 }
 
 /// An answer, and when it may be sent.
@@ -65,8 +63,6 @@ pub enum Marked {
     NoRoom,
     /// The device failed, and nothing was recorded.
     Device,
-    /// There was no memory, and nothing was recorded.
-    NoMemory,
 }
 
 /// What has become of an answer by now.

@@ -46,7 +46,7 @@ pub fn answer(
 {
     let seen = Listed::of(alloc, history, size)?;
     let mut scratch = Scratch::new(alloc)?;
-    let decision = answer_by(&seen, from, datagram.case(), &mut scratch)?;
+    let decision = answer_by(&seen, from, datagram.case(), &mut scratch);
     owned(alloc, decision)
 }
 

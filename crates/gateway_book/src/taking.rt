@@ -1,5 +1,5 @@
 // What a gateway answers to a datagram.
-ghost use Rattle.std.specs.Prelude.{◌≡◌, ◌≢◌, ◌≤◌, ◌+◌, Option, false};
+ghost use Rattle.std.specs.Prelude.{◌≡◌, ◌≤◌, ◌+◌, Option, false};
 ghost use Rattle.gate_journal.specs.Format.{longest_batch};
 ghost use Rattle.gate_journal.specs.Moments.{Told};
 ghost use Rattle.cgf_journal.specs.Trail.{is_closed, waiting_octets};
@@ -17,7 +17,6 @@ ghost use Rattle.gateway_book.specs.Marking.{OnlyAdds};
 ghost use Rattle.gateway_book.specs.Preparing.{IsShort, IsWhole, prepared_of};
 ghost use Rattle.gateway_book.specs.Taking.{IsDone, IsDoneBy};
 ghost use Rattle.gateway_book.specs.Value.{history_of, most_for_one, readied};
-ghost use Rattle.gateway_book.specs.declared.outcome.Outcome.TheVariants.{NoMemory};
 
 use crate::adding::{Done, answer};
 use crate::answering::failure_answer;
@@ -48,16 +47,14 @@ impl<A: Area> Book<A> {
 
     /// Takes a datagram of this sender. A broken book is opened again first, with one call of the device; one of whose
     /// batch fewer than 270,000 octets are free commits first, with four. Then it answers, and adds what the answer
-    /// records, at the moment and by the caller: the entry waits for a commit.
+    /// records, at the moment and by the caller: the entry waits for a commit. It takes no memory.
     ///
     /// Where the device fails a request is answered by the cause system failure, all else is dropped, and the book is
-    /// broken. After `NoMemory` nothing was added, and the book isn't broken.
+    /// broken.
     pub fn take(&mut self, from: Addr, request: &Prepared<'_>, now: Moment, who: Caller) -> Outcome
-        ensures taken { Told A.Area → result ≢ NoMemory → IsLeft self.old self.new
+        ensures taken { Told A.Area → IsLeft self.old self.new
             (taken (fortune_of self.old self.new) from (prepared_of request.now) (size_of self.old) now who
             (value_of self.old)) result }
-        ensures no_memory { Told A.Area → result ≡ NoMemory → (is_closed self.new.trail ≡ false)
-            × (value_of self.new ≡ readied (fortune_of self.old self.new) (value_of self.old)) }
         // A crash at any moment of the call leaves the firm entries, or these with those behind them.
         ensures any_moment { CrashLeaves self.old self.new }
         ensures stays { Stays self.old self.new }
@@ -100,7 +97,6 @@ impl<A: Area> Book<A> {
             result ≡ outcome_at (value_of self.now) (decided (failure_answer (case_value case.now))) }
         ensures counted { IsCounted self.now result }
         ensures failed { IsFailure (case_value case.now) result }
-        ensures never_memory { result ≢ NoMemory }
     {
         match failure_answer(case) {
             Decision::Drop(why) => Outcome::Drop(why),
@@ -140,10 +136,9 @@ impl<A: Area> Book<A> {
         requires open { is_closed self.old.trail ≡ false }
         requires free { waiting_octets self.old.trail + most_for_one ≤ longest_batch }
         requires prepared { IsWhole (case_value case.now) × IsShort (case_value case.now) }
-        ensures left { Told A.Area → result ≢ NoMemory → IsLeft self.old self.new
+        ensures left { Told A.Area → IsLeft self.old self.new
             (left_by (value_of self.old) now who (decided
             (answer_to (history_of (value_of self.old)) from (case_value case.now) (size_of self.old)))) result }
-        ensures no_memory { Told A.Area → result ≡ NoMemory → value_of self.new ≡ value_of self.old }
         ensures told { IsAnswered from (case_value case.now) result × IsCounted self.new result }
         ensures adds { OnlyAdds self.old self.new }
         ensures stays { Stays self.old self.new }
@@ -151,7 +146,6 @@ impl<A: Area> Book<A> {
         match self.add_answer(from, case, now, who) {
             Done::Silent(why) => Outcome::Drop(why),
             Done::Said(reply) => self.receipt(reply),
-            Done::NoMemory => Outcome::NoMemory,
         }
     }
 }

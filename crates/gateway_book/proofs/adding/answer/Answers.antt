@@ -4,8 +4,7 @@ use Rattle.gateway_book.specs.Answer.{node_of}
 use Rattle.gateway_book.specs.Cases.{case_value}
 use Rattle.gateway_book.specs.Index.{observed_by}
 use Rattle.gateway_book.specs.declared.adding.Done.{Done}
-use Rattle.gateway_book.specs.declared.adding.Done.TheVariants as done
-use Rattle.gateway_book.proofs.AddingLemmas.{answer_alike, apart_in_none, apart_in_some, said_with, said_without, silent_with, silent_without}
+use Rattle.gateway_book.proofs.AddingLemmas.{answer_alike, said_with, said_without, silent_with, silent_without}
 use Rattle.gateway_book.proofs.adding.answer.Goals as goal
 
 pub returns-in-Some-clause-silent : goal.returns-in-Some-clause-silent
@@ -29,11 +28,11 @@ returns-in-None-clause-said g c = λ reply e.
     (c.answer_with_room.ensures.no_room c.in-None.is) (c.answer_without_room.ensures.said reply e)
 
 pub returns-in-Some-clause-told : goal.returns-in-Some-clause-told
-returns-in-Some-clause-told g c = λ told some.
+returns-in-Some-clause-told g c = λ told.
     answer_alike (observed_by false c.args.index.now (node_of c.args.from)) c.args.from (case_value c.args.case.now) (room_in c.args.trail.now c.args.moment c.args.who) (room_told c.args.trail.now c.args.moment c.args.who)
-    (λ a given. c.answer_with_room.ensures.told (apart_in_some c.answer_with_room.result c.in-Some.done done.NoMemory c.in-Some.is some) a given told)
+    (λ a given. c.answer_with_room.ensures.told a given told)
 
 pub returns-in-None-clause-told : goal.returns-in-None-clause-told
-returns-in-None-clause-told g c = λ told some.
+returns-in-None-clause-told g c = λ told.
     answer_alike (observed_by false c.args.index.now (node_of c.args.from)) c.args.from (case_value c.args.case.now) (room_in c.args.trail.now c.args.moment c.args.who) (room_told c.args.trail.now c.args.moment c.args.who)
-    (λ a given. c.answer_with_room.ensures.told (apart_in_none c.answer_with_room.result done.NoMemory c.in-None.is) a given told)
+    (λ a given. c.answer_with_room.ensures.told a given told)

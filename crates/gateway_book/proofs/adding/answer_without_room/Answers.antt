@@ -6,8 +6,8 @@ use Rattle.gateway_book.specs.Decisions.{decision_view}
 use Rattle.gateway_book.specs.declared.decision.Decision.{Decision}
 use Rattle.gateway_book.proofs.adding.answer_without_room.Goals as goal
 
-pub returns-in-Ok-Reply-clause-said : goal.returns-in-Ok-Reply-clause-said
-returns-in-Ok-Reply-clause-said c = λ reply same. (
-  option_map act_view c.in-Ok-Reply.field-0-1,
-  sym c.in-Ok-Reply.ensures ∙ ap (λ (d : Decision). decision_view d) c.in-Ok-Reply.field-0-is ∙ (let e : ◌≡◌ {A = List ℕ} c.in-Ok-Reply.reply reply = cc same in ap (λ (octets : List ℕ). Says octets (option_map act_view c.in-Ok-Reply.field-0-1)) e),
+pub returns-in-Reply-clause-said : goal.returns-in-Reply-clause-said
+returns-in-Reply-clause-said c = λ reply same. (
+  option_map act_view c.in-Reply.act,
+  sym c.answer_by.ensures ∙ ap (λ (d : Decision). decision_view d) c.in-Reply.is ∙ (let e : ◌≡◌ {A = List ℕ} c.in-Reply.reply reply = cc same in ap (λ (octets : List ℕ). Says octets (option_map act_view c.in-Reply.act)) e),
 )

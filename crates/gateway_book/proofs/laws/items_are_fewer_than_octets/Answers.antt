@@ -1,5 +1,5 @@
 use Rattle.std.proofs.Common.{arith}
-use Rattle.gateway_book.specs.FewItemsLaws.{few_items}
+use Rattle.gateway_book.proofs.FewItems.{few_items}
 use Rattle.gateway_book.proofs.laws.items_are_fewer_than_octets.Goals as goal
 
 pub returns-clause-costs : goal.returns-clause-costs

@@ -8,6 +8,6 @@ use Rattle.gateway_book.proofs.plain.answer.Goals as goal
 pub returns : goal.returns
 returns c =
     subst (λ (d : Decided). IfOk c.owned.result (λ found. answer_view found ≡ d))
-    (c.in_ok-decision.ensures
+    (c.answer_by-decision.ensures
     ∙ answered_at _ c.args.history.now c.args.from _ c.args.datagram.now _ c.args.size c.in_ok-seen.ensures.0 c.case.ensures.value c.in_ok-seen.ensures.1)
     c.owned.ensures

@@ -10,7 +10,7 @@ use Rattle.gateway_book.specs.Index.{observed_by}
 use Rattle.gateway_book.specs.Value.{history_of}
 use Rattle.gateway_book.proofs.CallerLemmas.{done_by}
 use Rattle.gateway_book.proofs.StandingLemmas.{counting_firm, stands_firm}
-use Rattle.gateway_book.proofs.TakingLemmas.{answered_is, done_is, firm_stays, followed_answer, history_is, none_is_lost, recorded_is_fit, said_is_some}
+use Rattle.gateway_book.proofs.TakingLemmas.{answered_is, done_is, firm_stays, followed_answer, history_is, none_is_lost, recorded_is_fit}
 use Rattle.gateway_book.proofs.book.Book.add_answer.Goals as goal
 
 pub invariant_of-self : goal.invariant_of-self
@@ -21,16 +21,16 @@ invariant_of-self g c =
     let moment = c.moment_after-moment.result in
     let decision = decided (answer_within (observed_by false book.index (node_of from)) from datagram (room_in book.trail moment c.args.who)) in
     record {
-      followed = followed_answer book.trail c.answer.new.trail book.index c.answer.new.index moment c.args.who decision c.answer.result book.followed c.answer.ensures.silent c.answer.ensures.said c.answer.ensures.no_memory
+      followed = followed_answer book.trail c.answer.new.trail book.index c.answer.new.index moment c.args.who decision c.answer.result book.followed c.answer.ensures.silent c.answer.ensures.said
           (λ told reply a is says.
           let at = c.moment_after-moment.ensures.after told in
           let seen = c.an_index_tells_its_history.ensures.answers false book.index (all_entries book.trail) (book.followed.live told) from datagram in
           recorded_is_fit (size_of book) (all_entries book.trail) from datagram c.args.now moment c.args.who decision reply a (book.followed.fit told) c.requires.prepared.0 c.moment_after-moment.ensures.within at
-          (c.answer.ensures.told told (said_is_some c.answer.result reply is) ∙ answered_is book.trail book.index from datagram c.args.now moment c.args.who c.requires.open at seen) says);
+          (c.answer.ensures.told told ∙ answered_is book.trail book.index from datagram c.args.now moment c.args.who c.requires.open at seen) says);
       stands = stands_firm book.trail c.answer.new.trail book.cursor book.stands
-          (firm_stays book.trail c.answer.new.trail book.index c.answer.new.index moment c.args.who decision c.answer.result c.answer.ensures.silent c.answer.ensures.said c.answer.ensures.no_memory);
+          (firm_stays book.trail c.answer.new.trail book.index c.answer.new.index moment c.args.who decision c.answer.result c.answer.ensures.silent c.answer.ensures.said);
       counts = counting_firm book.trail c.answer.new.trail book.cuts book.kept book.counts
-          (firm_stays book.trail c.answer.new.trail book.index c.answer.new.index moment c.args.who decision c.answer.result c.answer.ensures.silent c.answer.ensures.said c.answer.ensures.no_memory);
+          (firm_stays book.trail c.answer.new.trail book.index c.answer.new.index moment c.args.who decision c.answer.result c.answer.ensures.silent c.answer.ensures.said);
     }
 
 pub returns-clause-moved : goal.returns-clause-moved
@@ -43,11 +43,10 @@ returns-clause-moved g c = λ told.
     let at = c.moment_after-moment.ensures.after told in
     let seen = c.an_index_tells_its_history.ensures.answers false book.index (all_entries book.trail) (book.followed.live told) from datagram in
     done_is book.trail c.answer.new.trail book.index c.answer.new.index moment c.args.who decision c.args.now book.cuts (decided (answer_to (history_of (value_of book)) from datagram (size_of book))) c.answer.result c.requires.open at
-    (λ some.
-    c.answer.ensures.told told some
+    (c.answer.ensures.told told
     ∙ answered_is book.trail book.index from datagram c.args.now moment c.args.who c.requires.open at seen
     ∙ ap (λ (h : List HistoryEntry). decided (answer_to h from datagram (size_of book))) (sym (history_is book.trail book.cuts c.requires.open)))
-    c.answer.ensures.silent c.answer.ensures.said c.answer.ensures.no_memory
+    c.answer.ensures.silent c.answer.ensures.said
 
 pub returns-clause-adds : goal.returns-clause-adds
 returns-clause-adds g c =
@@ -55,8 +54,8 @@ returns-clause-adds g c =
     let moment = c.moment_after-moment.result in
     let decision = decided (answer_within (observed_by false book.index (node_of c.args.from)) c.args.from (case_value c.args.case.now) (room_in book.trail moment c.args.who)) in
     record {
-      stays = firm_stays book.trail c.answer.new.trail book.index c.answer.new.index moment c.args.who decision c.answer.result c.answer.ensures.silent c.answer.ensures.said c.answer.ensures.no_memory;
-      entries = none_is_lost book.trail c.answer.new.trail book.index c.answer.new.index moment c.args.who decision c.answer.result c.answer.ensures.silent c.answer.ensures.said c.answer.ensures.no_memory;
+      stays = firm_stays book.trail c.answer.new.trail book.index c.answer.new.index moment c.args.who decision c.answer.result c.answer.ensures.silent c.answer.ensures.said;
+      entries = none_is_lost book.trail c.answer.new.trail book.index c.answer.new.index moment c.args.who decision c.answer.result c.answer.ensures.silent c.answer.ensures.said;
       uncut = refl;
       kept = refl;
     }

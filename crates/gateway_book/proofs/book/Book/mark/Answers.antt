@@ -13,7 +13,7 @@ use Rattle.gateway_book.proofs.TakingLemmas.{history_is}
 use Rattle.gateway_book.proofs.book.Book.mark.Goals as goal
 
 pub returns-then-not-room-clause-left : goal.returns-then-not-room-clause-left
-returns-then-not-room-clause-left g c = λ told some.
+returns-then-not-room-clause-left g c = λ told.
     let book = c.args.self.now in
     let act = act_view c.args.act in
     let moment = c.moment_after-moment.result in
@@ -27,8 +27,8 @@ returns-then-not-room-clause-left g c = λ told some.
       answer = ap (λ (m : Mark). (marked_at (value_of book) c.args.now c.args.who m).answer) made;
     }
 
-pub returns-in-Ok-clause-left : goal.returns-in-Ok-clause-left
-returns-in-Ok-clause-left g c = λ told some.
+pub returns-clause-left : goal.returns-clause-left
+returns-clause-left g c = λ told.
     let book = c.args.self.now in
     let new = c.put.new.self in
     let act = act_view c.args.act in
@@ -40,7 +40,7 @@ returns-in-Ok-clause-left g c = λ told some.
     ∙ sym (c.room.ensures.room told) ∙ c.if-not-room.false in
     let made = made_with_room (room_for all (size_of book) act) act room in
     let value : value_of new ≡ recorded (value_of book) c.args.now c.args.who act =
-    c.in-Ok.ensures.ok ∙ put_is_recorded (value_of book) all c.args.now moment c.args.who act (history_is book.trail book.cuts c.requires.ready) at in
+    c.put.ensures.added ∙ put_is_recorded (value_of book) all c.args.now moment c.args.who act (history_is book.trail book.cuts c.requires.ready) at in
     record {
       value = value ∙ ap (λ (m : Mark). (marked_at (value_of book) c.args.now c.args.who m).value) made;
       answer =

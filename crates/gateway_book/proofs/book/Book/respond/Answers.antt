@@ -9,7 +9,7 @@ use Rattle.gateway_book.proofs.TakingLemmas.{left_answer, left_value}
 use Rattle.gateway_book.proofs.book.Book.respond.Goals as goal
 
 pub returns-in-Said-clause-left : goal.returns-in-Said-clause-left
-returns-in-Said-clause-left g c = λ told some.
+returns-in-Said-clause-left g c = λ told.
     let old = value_of c.args.self.now in
     let new = value_of c.add_answer.new.self in
     let decision = decided (answer_to (history_of old) c.args.from (case_value c.args.case.now) (size_of c.args.self.now)) in

@@ -17,25 +17,25 @@ invariant_of-self g c =
     let size = g.A.Area.size (area_of old.trail) in
     let e : HistoryEntry = record { moment = c.totals.result.moment; caller = record { session = 0; serial = 0 }; act = Start } in
     record {
-      followed = followed_added old.trail c.append.new.trail old.index c.append.new.index e old.followed c.append.ensures
+      followed = followed_added old.trail c.record.new.trail old.index c.record.new.index e old.followed c.record.ensures
           (λ told.
           start_is_fit size (all_entries old.trail) e (old.followed.fit told)
           (ap (λ (t : Totals). t.moment) (c.totals.ensures ∙ c.an_index_tells_its_history.ensures.totals false old.index (all_entries old.trail) (old.followed.live told))) refl
           (ap (λ b. has_room (if b then firm_entries old.trail else all_entries old.trail) e size) (sym c.requires.ready) ∙ sym (c.room.ensures.room told) ∙ c.if-not-room.false));
-      stands = stands_firm old.trail c.append.new.trail old.cursor old.stands c.append.ensures.stays;
-      counts = counting_firm old.trail c.append.new.trail old.cuts old.kept old.counts c.append.ensures.stays;
+      stands = stands_firm old.trail c.record.new.trail old.cursor old.stands c.record.ensures.stays;
+      counts = counting_firm old.trail c.record.new.trail old.cuts old.kept old.counts c.record.ensures.stays;
     }
 
-pub append-requires-clause-may_come : goal.append-requires-clause-may_come
-append-requires-clause-may_come g c = refl
+pub record-requires-clause-may_come : goal.record-requires-clause-may_come
+record-requires-clause-may_come g c = refl
 
-pub append-requires-clause-free : goal.append-requires-clause-free
-append-requires-clause-free g c = omega (arith, c.requires.emptied)
+pub record-requires-clause-free : goal.record-requires-clause-free
+record-requires-clause-free g c = omega (arith, c.requires.emptied)
 
 pub returns : goal.returns
 returns g c =
     let old = c.args.self.now in
-    let added = c.append.ensures in
+    let added = c.record.ensures in
     let size = g.A.Area.size (area_of old.trail) in
     let e : HistoryEntry = record { moment = c.totals.result.moment; caller = record { session = 0; serial = 0 }; act = Start } in
     record {

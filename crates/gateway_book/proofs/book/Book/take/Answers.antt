@@ -27,7 +27,6 @@ returns-in-Ok-clause-told g c =
       answered = λ runs. answered;
       failed = λ broken. absurd (false≢true (sym goes ∙ broken));
       fault = λ tells. absurd (running_is_sound c.args.from c.args.request.now c.respond.result answered tells);
-      memory = λ none. goes;
       counts = c.respond.ensures.told.1;
     }
 
@@ -38,7 +37,6 @@ returns-in-Err-clause-told g c =
       answered = λ runs. absurd (false≢true (sym runs ∙ broken));
       failed = λ closed. subst (λ (d : PreparedValue). IsFailure d c.fail.result) c.case-case.ensures.value c.fail.ensures.failed;
       fault = λ tells. broken;
-      memory = λ none. absurd (c.fail.ensures.never_memory none);
       counts = c.fail.ensures.counted;
     }
 
@@ -57,7 +55,7 @@ returns-in-Ok-clause-storage g c = λ told runs.
     let answered = subst (λ (d : PreparedValue). IsAnswered from d c.respond.result) c.case-case.ensures.value c.respond.ensures.told.0 in
     let stored : HasStorage (history_of v) from (case_value c.case-case.result.now) size c.respond.result = has_storage c.what_is_held_can_be_released.ensures.release c.what_is_held_can_be_released.ensures.cancel (history_of v) size from
     (case_value c.case-case.result.now) (recorded_if v c.args.now c.args.who (act_decided (decided (answer_to (history_of v) from (case_value c.case-case.result.now) size)))) c.respond.result within
-    (λ some. (c.respond.ensures.left told some).answer) (running_is_sound from c.args.request.now c.respond.result answered) in
+    (c.respond.ensures.left told).answer (running_is_sound from c.args.request.now c.respond.result answered) in
     subst (λ (h : List HistoryEntry). HasStorage h from (prepared_of c.args.request.now) (size_of old) c.respond.result)
     (ap history_of same ∙ sym (ap (λ (b : Bool). history_of (readied (record { fails = b; reopening = reopening_of b (torn_stands old.trail) }) (value_of old))) opened))
     (subst (λ (n : ℕ). HasStorage (history_of v) from (prepared_of c.args.request.now) n c.respond.result) c.ready.ensures.stays.size
