@@ -1,5 +1,5 @@
--- Why an answer isn't pending behind a turn that commits, and is lost only where the device failed.
-use Rattle.std.proofs.Common.{◌≡◌, ◌≢◌, ℕ, ◌<◌, ◌≤◌, ◌^◌, ◌-◌, ◌==◌, ◌||◌, Bool, true, false, if◌then◌else◌, List, [], ◌∷◌, ◌++◌, length, refl, sym, ap, subst, ◌∙◌, append_assoc, arith}
+-- Why an answer isn't pending behind a turn that commits where it has to, and is lost only where the device failed.
+use Rattle.std.proofs.Common.{◌≡◌, ◌≢◌, ℕ, ◌<◌, ◌≤◌, ◌^◌, ◌-◌, ◌==◌, ◌||◌, Bool, true, false, if◌then◌else◌, List, [], ◌∷◌, ◌++◌, length, refl, sym, ap, subst, ◌∙◌, append_assoc, arith, inl, inr}
 use Rattle.std.specs.Prelude.{nat_lt}
 use Rattle.std.specs.List.{Contains}
 use Rattle.std.proofs.lemmas.Bool.{true≢false, ltb-false, ltb-true, eq-eqb, eqb-true}
@@ -11,15 +11,15 @@ use Rattle.gw_base.specs.Facts.{AreSound, Facts}
 use Rattle.gw_base.specs.Faults.{Stood}
 use Rattle.gw_base.specs.Owes.{Begins, Owes}
 use Rattle.gw_base.specs.declared.history.HistoryEntry.{HistoryEntry}
-use Rattle.gateway_book.specs.Calls.{is_above}
+use Rattle.gateway_book.specs.Calls.{is_above, settled_by}
 use Rattle.gateway_book.specs.declared.outcome.Settled.{Settled}
 use Rattle.gateway_book.specs.declared.outcome.Settled.TheVariants.{Firm, NotYet, Lost}
 use Rattle.turn_cell.specs.Knowing.{Follows, Saw, after_turn, facts_of, kept}
 use Rattle.turn_cell.specs.declared.knowing.KeptTurn.{KeptTurn}
 use Rattle.turn_cell.specs.declared.knowing.Knowledge.{Knowledge}
-use Rattle.node_session.specs.Asking.{CommitsIn}
+use Rattle.node_session.specs.Asking.{SettlesIn}
 use Rattle.node_session.specs.Learning.{IsCountedBy, Learns}
-use Rattle.node_session.specs.Turns.{HasCommitted}
+use Rattle.node_session.specs.Turns.{HasCommitted, IsToldAt, Settles}
 
 pub begins_then : (xs ys zs : List HistoryEntry) → Begins xs ys → Begins ys zs → Begins xs zs
 begins_then xs ys zs a b = (a.0 ++ b.0, b.1 ∙ ap (λ (h : List HistoryEntry). h ++ b.0) a.1 ∙ append_assoc xs a.0 b.0)
@@ -56,10 +56,36 @@ risen_by before after later moved = by_tests (nat_lt before after) refl
     by_tests true lt = let more = ltb-true before after lt in omega (arith, more)
     by_tests false lt = last_by (nat_lt before (2 ^ 64 - 1)) refl (ltb-false before after lt)
 
+-- of two beginnings of one list the shorter one begins the other
+begins_shorter : (xs ys rest : List HistoryEntry) → Begins xs (ys ++ rest) → length xs ≤ length ys → Begins xs ys
+begins_shorter [] ys rest begins short = (ys, refl)
+begins_shorter (x ∷ xs) [] rest begins short = absurd (omega (arith, short))
+begins_shorter (x ∷ xs) (y ∷ ys) rest begins short =
+    let is : y ∷ (ys ++ rest) ≡ x ∷ (xs ++ begins.0) = begins.1 in
+    let first : y ≡ x = cc is in
+    let later : ys ++ rest ≡ xs ++ begins.0 = cc is in
+    let more = begins_shorter xs ys rest (begins.0, later) (omega (arith, short)) in
+    (more.0, λ i. first i ∷ more.1 i)
+
+-- where an answer is told to be firm, so many entries are firm
+firm_reaches : (cuts firm front faults : ℕ) → settled_by cuts firm front faults ≡ Firm → front ≤ firm
+firm_reaches cuts firm front faults is = by_tests (is_above cuts faults) (nat_lt firm front) refl refl
+  where
+    by_tests : (a b : Bool) → is_above cuts faults ≡ a → nat_lt firm front ≡ b → front ≤ firm
+    by_tests true b above short = absurd (cc ((λ i. if sym above i then Lost cuts else (if nat_lt firm front then NotYet firm else Firm)) ∙ is))
+    by_tests false true above short =
+        absurd (cc ((λ i. if sym above i then Lost cuts else (if sym short i then NotYet firm else Firm)) ∙ is))
+    by_tests false false above short = ltb-false firm front short
+
+-- where nothing failed and too few entries are firm, it is told so
+told_by : (settled : Settled) (cuts firm front faults : ℕ) → settled ≡ settled_by cuts firm front faults
+    → is_above cuts faults ≡ false → nat_lt firm front ≡ true → settled ≡ NotYet firm
+told_by settled cuts firm front faults is above short = is ∙ (λ i. if above i then Lost cuts else (if short i then NotYet firm else Firm))
+
 module _ (told : Bool) (front faults : ℕ) (t : KeptTurn) (found left : Facts) (settled : Settled) (drops : Bool)
     (added : List HistoryEntry) (few : faults < 2 ^ 64) (is : IsCountedBy told front faults t)
     (follows : Follows told (facts_of t.left) found) (owes : Owes told found left) (sound : AreSound told left)
-    (commits : HasCommitted told front faults found left settled added) where
+    (settles : Settles told front faults found left settled added) where
   -- where no commit and no opening again failed since, both counts stood
   stood_first : is_above left.cuts faults ≡ false → Stood t.left.cuts found.cuts
   stood_first not =
@@ -73,8 +99,9 @@ module _ (told : Bool) (front faults : ℕ) (t : KeptTurn) (found left : Facts) 
       let most = no_greater left.cuts faults not in let low = not_last left.cuts faults not in
       (omega (arith, a, b, c, most), omega (arith, a, b, c, most, low, few))
 
-  goes_on : is_above left.cuts faults ≡ false → commits.is_broken ≡ false
-  goes_on not = by_state commits.is_broken refl
+  goes_on : (commits : HasCommitted told front faults found left settled added) → is_above left.cuts faults ≡ false
+      → commits.is_broken ≡ false
+  goes_on commits not = by_state commits.is_broken refl
     where
       by_state : (b : Bool) → commits.is_broken ≡ b → commits.is_broken ≡ false
       by_state true broken =
@@ -83,17 +110,39 @@ module _ (told : Bool) (front faults : ℕ) (t : KeptTurn) (found left : Facts) 
       by_state false goes = goes
 
   -- a commit made all that the answer rests on firm
-  long_enough : is_above left.cuts faults ≡ false → front ≤ commits.firm
-  long_enough not =
-      let firm = (commits.all (goes_on not)).0 in
+  long_enough : (commits : HasCommitted told front faults found left settled added) → is_above left.cuts faults ≡ false
+      → front ≤ commits.tells.firm
+  long_enough commits not =
+      let firm = (commits.all (goes_on commits not)).0 in
       let more = owes.entries (stood_then not) in
       let first = follows.entries (stood_first not) in
       let at = is.front_is in
       omega (arith, firm, more, first, at)
 
-  begins_firm : told ≡ true → is_above left.cuts faults ≡ false → Begins t.left.list left.firm
-  begins_firm tells not = subst (λ (h : List HistoryEntry). Begins t.left.list h) ((commits.all (goes_on not)).1 tells)
-      (begins_then t.left.list found.list left.list (follows.goes_on tells (stood_first not)) (owes.list tells (stood_then not)))
+  -- what was told, of what is firm now
+  abbrev tells_of : Settles told front faults found left settled added → IsToldAt told front faults left settled
+  tells_of (inl asked) = asked.tells
+  tells_of (inr commits) = commits.tells
+
+  abbrev tells : IsToldAt told front faults left settled
+  tells = tells_of settles
+
+  -- an answer isn't pending behind the turn
+  not_short : (s : Settles told front faults found left settled added) → is_above left.cuts faults ≡ false
+      → nat_lt (tells_of s).firm front ≡ true → ⊥
+  not_short (inl asked) not short =
+      asked.sure asked.tells.firm (told_by settled left.cuts asked.tells.firm front faults asked.tells.is not short)
+  not_short (inr commits) not short =
+      let long = long_enough commits not in let lt = ltb-true commits.tells.firm front short in omega (arith, long, lt)
+
+  begins_firm : told ≡ true → is_above left.cuts faults ≡ false → settled ≡ Firm → Begins t.left.list left.firm
+  begins_firm it_is not firm =
+      begins_shorter t.left.list left.firm (sound.begins it_is).0
+      (let whole = begins_then t.left.list found.list left.list (follows.goes_on it_is (stood_first not)) (owes.list it_is (stood_then not)) in
+      (whole.0, sym (sound.begins it_is).1 ∙ whole.1))
+      (let at = is.long it_is in
+      let long = firm_reaches left.cuts (length left.firm) front faults (sym (tells.counts it_is) ∙ firm) in
+      omega (arith, at, long))
 
   -- where the device didn't fail since, nothing is lost
   no_loss : is_above left.cuts faults ≡ true → ¬ (Stood t.left.faults left.faults)
@@ -109,11 +158,11 @@ module _ (told : Bool) (front faults : ℕ) (t : KeptTurn) (found left : Facts) 
   -- what the pass learns, once it keeps the turn
   pub learns_then : (before after : Knowledge) → after ≡ after_turn before found left drops added
       → Learns told t before after settled
-  learns_then before after is_after = by_state (is_above left.cuts faults) (nat_lt commits.firm front) refl refl
+  learns_then before after is_after = by_state (is_above left.cuts faults) (nat_lt tells.firm front) refl refl
     where
-      answered : (a b : Bool) → is_above left.cuts faults ≡ a → nat_lt commits.firm front ≡ b
-          → settled ≡ (if a then Lost left.cuts else (if b then NotYet commits.firm else Firm))
-      answered a b above short = commits.settled_is ∙ (λ i. if above i then Lost left.cuts else (if short i then NotYet commits.firm else Firm))
+      answered : (a b : Bool) → is_above left.cuts faults ≡ a → nat_lt tells.firm front ≡ b
+          → settled ≡ (if a then Lost left.cuts else (if b then NotYet tells.firm else Firm))
+      answered a b above short = tells.is ∙ (λ i. if above i then Lost left.cuts else (if short i then NotYet tells.firm else Firm))
 
       later : t.left.faults ≤ left.faults
       later = let a = follows.faults in let b = owes.faults in omega (arith, a, b)
@@ -121,11 +170,11 @@ module _ (told : Bool) (front faults : ℕ) (t : KeptTurn) (found left : Facts) 
       u : KeptTurn
       u = kept found left drops added
 
-      by_state : (a b : Bool) → is_above left.cuts faults ≡ a → nat_lt commits.firm front ≡ b → Learns told t before after settled
+      by_state : (a b : Bool) → is_above left.cuts faults ≡ a → nat_lt tells.firm front ≡ b → Learns told t before after settled
       by_state true b above short =
           let is_lost : settled ≡ Lost left.cuts = answered true b above short in
           record {
-            firm = λ firm tells. absurd (cc (sym is_lost ∙ firm));
+            firm = λ firm it_is. absurd (cc (sym is_lost ∙ firm));
             never = λ n not. absurd (cc (sym is_lost ∙ not));
             lost = λ n lost. record {
               second = u;
@@ -134,12 +183,11 @@ module _ (told : Bool) (front faults : ℕ) (t : KeptTurn) (found left : Facts) 
               rose = risen_by t.left.faults left.faults later (no_loss above);
             };
           }
-      by_state false true above short =
-          let long = long_enough above in let lt = ltb-true commits.firm front short in absurd (omega (arith, long, lt))
+      by_state false true above short = absurd (not_short settles above short)
       by_state false false above short =
           let is_firm : settled ≡ Firm = answered false false above short in
           record {
-            firm = λ firm tells. subst (λ (k : Knowledge). Begins t.left.list k.known) (sym is_after) (begins_firm tells above);
+            firm = λ firm it_is. subst (λ (k : Knowledge). Begins t.left.list k.known) (sym is_after) (begins_firm it_is above firm);
             never = λ n not. absurd (cc (sym is_firm ∙ not));
             lost = λ n lost. absurd (cc (sym is_firm ∙ lost));
           }
@@ -156,10 +204,10 @@ learns_at_once told front faults seen t before after is le saw has = record {
   lost = λ n lost. absurd (cc lost);
 }
 
--- a pass that takes a turn that commits learns what has become of the answer
+-- a pass that takes a turn that asks, and commits where it has to, learns what has become of the answer
 pub learns_asked : {A : Type 0} (tells : Ghosts A) (front faults seen : ℕ) (t : KeptTurn) (before looked after : Knowledge) (settled : Settled)
     → faults < 2 ^ 64 → IsCountedBy (tells_lists tells) front faults t → Saw (tells_lists tells) seen before looked → Contains before.turns t
-    → CommitsIn tells front faults looked settled after → Learns (tells_lists tells) t before after settled
+    → SettlesIn tells front faults looked settled after → Learns (tells_lists tells) t before after settled
 learns_asked tells front faults seen t before looked after settled few is saw has took =
     let told = tells_lists tells in
     let same : looked.turns ≡ before.turns = ap (λ (k : Knowledge). k.turns) saw.same in

@@ -8,3 +8,4 @@ pub mod PushedLemmas
 pub mod ServedLemmas
 pub mod SettledLemmas
 pub mod TakenLemmas
+pub mod TogetherLemmas

@@ -5,7 +5,7 @@ use Rattle.std.specs.List.{Contains}
 use Rattle.std.proofs.lemmas.List.{append-nil}
 use Rattle.std.proofs.lemmas.List.Elements.{All-append, All-cons, All-nil, Contains-append_left, Contains-push}
 use Rattle.area_disk.specs.declared.area.Area.{Ghosts}
-use Rattle.gw_base.specs.Facts.{WhereTold}
+use Rattle.gw_base.specs.Facts.{Facts, WhereTold}
 use Rattle.gateway_book.specs.Answer.{Decided, Says, Silent, failure_reply}
 use Rattle.gateway_book.specs.Answered.{act_decided}
 use Rattle.gateway_book.specs.Caller as caller
@@ -20,6 +20,7 @@ use Rattle.gateway_book.specs.declared.outcome.Settled.TheVariants as settled
 use Rattle.gw_base.specs.declared.address.Addr.{Addr}
 use Rattle.gw_base.specs.declared.history.Caller.{Caller}
 use Rattle.gw_base.specs.declared.history.HistoryAct.{HistoryAct}
+use Rattle.gw_base.specs.declared.history.HistoryEntry.{HistoryEntry}
 use Rattle.job_inbox.specs.declared.job.Job.{Job}
 use Rattle.net_link.specs.Datagrams.{LinkState}
 use Rattle.net_link.specs.Steps.{Sends}
@@ -30,8 +31,8 @@ use Rattle.turn_cell.specs.Knowing.{kept}
 use Rattle.turn_cell.specs.declared.cell.Pass.{Pass}
 use Rattle.turn_cell.specs.declared.knowing.KeptTurn.{KeptTurn}
 use Rattle.turn_cell.specs.declared.knowing.Knowledge.{Knowledge}
-use Rattle.node_session.specs.Answering.{AddsAnswers, HasSent, IsAnswerTo, IsFaultAt, IsReplyAt, KeepsTurns, MayHave, Tells, called_at, history_at}
-use Rattle.node_session.specs.Asking.{CommitsIn, IsAsked, TakesIn}
+use Rattle.node_session.specs.Answering.{AddsAnswers, HasSent, IsAnswerTo, IsFaultAt, IsReplyAt, KeepsTurns, MayHave, Tells, TellsBehind, called_at, history_at}
+use Rattle.node_session.specs.Asking.{IsAsked, SettlesIn, TakesIn}
 use Rattle.node_session.specs.Learning.{HasTurnFor, IsCountedBy, Learns}
 use Rattle.node_session.specs.Passes.{known_by}
 use Rattle.node_session.specs.Serving.{Concludes, GoesOn, IsServed, SendsFor, SendsTo, caller_of, once_sent}
@@ -52,7 +53,7 @@ says_of (Says octets act) receipt told =
     ((act, ap (λ (o : List ℕ). Says o act) (sym reply)), cause ∙ ap cause_in (sym reply))
 
 -- what a pass did behind its first turn: at most one turn more, which added nothing
-record Later (taken after : Knowledge) : Type 0 where
+pub record Later (taken after : Knowledge) : Type 0 where
   pub later : List KeptTurn
   pub turns : after.turns ≡ taken.turns ++ later
   pub number : after.number ≡ taken.number
@@ -81,12 +82,18 @@ own_turn tells from octets now who before taken o first receipt is =
       record { front_is = counts.0; faults_is = counts.1; long = λ it_is. counts.0 ∙ first.sound.1.counted it_is },
     )
 
+-- a turn that asks what has become of an answer adds nothing
+none_settled : {told : Bool} {front faults : ℕ} {found left : Facts} {s : Settled} {added : List HistoryEntry}
+    → turns.Settles told front faults found left s added → added ≡ []
+none_settled (inl asked) = asked.adds
+none_settled (inr commits) = commits.adds
+
 module _ {A : Type 0} (tells : Ghosts A) where
   later_asked : (front faults : ℕ) (taken after : Knowledge) (s : Settled) → IsAsked tells front faults taken s after → Later taken after
   later_asked front faults taken after s asked = by_end asked.ends
     where
       by_end : ((front ≤ asked.seen) × (s ≡ settled.Firm) × (after ≡ asked.looked))
-          ⊎ ((asked.seen < front) × CommitsIn tells front faults asked.looked s after) → Later taken after
+          ⊎ ((asked.seen < front) × SettlesIn tells front faults asked.looked s after) → Later taken after
       by_end (inl seen) = record {
         later = [];
         turns = ap (λ (k : Knowledge). k.turns) (seen.2 ∙ asked.saw.same) ∙ sym (append-nil taken.turns);
@@ -104,14 +111,12 @@ module _ {A : Type 0} (tells : Ghosts A) where
             number = ap (λ (k : Knowledge). k.number) took.kept ∙ ap (λ (k : Knowledge). k.number) asked.saw.same;
             size = ap (λ (k : Knowledge). k.size) took.kept ∙ ap (λ (k : Knowledge). k.size) asked.saw.same;
             one_more = omega arith;
-            adds_none = All-cons (λ (t : KeptTurn). t.added ≡ []) u [] took.does_so.adds (All-nil (λ (t : KeptTurn). t.added ≡ []));
+            adds_none = All-cons (λ (t : KeptTurn). t.added ≡ []) u [] (none_settled took.does_so) (All-nil (λ (t : KeptTurn). t.added ≡ []));
           }
 
   module _ (may : ℕ → ℕ → Go → Type 0) (session : ℕ) (job : Job) (old new : LinkState) (result : Served) where
-    later_on : (taken after : Knowledge) (o : Outcome) → GoesOn tells may session job old new result taken after o → Later taken after
+    pub later_on : (taken after : Knowledge) (o : Outcome) → GoesOn tells may session job old new result taken after o → Later taken after
     later_on taken after (outcome.Drop why) goes = later_none taken after goes.1
-    later_on taken after outcome.NoMemory (inl over) = later_none taken after over.1.1
-    later_on taken after outcome.NoMemory (inr on) = later_none taken after on.1.1
     later_on taken after (outcome.Answer receipt) (inl over) = later_none taken after over.1.1
     later_on taken after (outcome.Answer receipt) (inr on) =
         later_asked receipt.front receipt.faults taken after on.1.settled on.1.asked
@@ -130,8 +135,7 @@ module _ {A : Type 0} (tells : Ghosts A) where
       where
         by_case : IsFirstOf is → ((first_of is).added ≡ []) ⊎ ((first_of is).added ≡ called_at (tells_lists tells) session job (first_of is))
         by_case (inl taken) = inr taken.adds
-        by_case (inr (inl failed)) = inl failed.adds
-        by_case (inr (inr none)) = inl none.adds
+        by_case (inr failed) = inl failed.adds
 
     pub keeps_turns : (before after : Knowledge) → IsServed tells may session job old new result before after
         → KeepsTurns (tells_lists tells) session job before after
@@ -168,32 +172,50 @@ module _ {A : Type 0} (tells : Ghosts A) where
     may_for receipt (settled.Lost n) sends on = may_to (failure_reply (prepared_of job.octets)) served.Lost sends on on
     may_for receipt (settled.NotYet n) sends on = absurd sends
 
-    may_on : (taken after : Knowledge) (o : Outcome) → GoesOn tells may session job old new result taken after o → MayHave (may session job.serial) result
+    pub may_on : (taken after : Knowledge) (o : Outcome) → GoesOn tells may session job old new result taken after o → MayHave (may session job.serial) result
     may_on taken after (outcome.Drop why) goes = subst (λ (r : Served). MayHave (may session job.serial) r) (sym goes.0) tt
-    may_on taken after outcome.NoMemory (inl over) = subst (λ (r : Served). MayHave (may session job.serial) r) (sym over.1.0) over.0
-    may_on taken after outcome.NoMemory (inr on) = subst (λ (r : Served). MayHave (may session job.serial) r) (sym on.1.0) on.0
     may_on taken after (outcome.Answer receipt) (inl over) = subst (λ (r : Served). MayHave (may session job.serial) r) (sym over.1.0) over.0
     may_on taken after (outcome.Answer receipt) (inr on) = may_for receipt on.1.settled on.1.sends on.0
 
     pub may_have : (before after : Knowledge) → IsServed tells may session job old new result before after → MayHave (may session job.serial) result
     may_have before after is = may_on is.taken after is.outcome is.goes_on
 
+    -- The session went on with a job behind turns that its pass took for other jobs.
+    pub record IsServedBehind (between : List KeptTurn) (before now after : Knowledge) : Type 0 where
+      pub outcome : Outcome
+      pub taken : Knowledge
+      pub first : TakesIn tells job.from job.octets job.moment (caller_of session job) before outcome taken
+      pub behind : now.turns ≡ taken.turns ++ between
+      pub goes_on : GoesOn tells may session job old new result now after outcome
+
     -- what each answer tells
-    module _ {before after : Knowledge} (is : IsServed tells may session job old new result before after) where
+    module _ {between : List KeptTurn} {before now after : Knowledge} (is : IsServedBehind between before now after) where
       abbrev told : Bool
       told = tells_lists tells
 
       abbrev t : KeptTurn
-      t = first_of is
+      t = kept (book_facts is.first.found) (book_facts is.first.left) is.first.drops is.first.added
+
+      abbrev IsFirst : Type 0
+      IsFirst = turns.IsOneOf job.from job.octets job.moment (caller_of session job) (book_facts is.first.found)
+          (book_facts is.first.left) is.first.added is.outcome is.first.drops
 
       abbrev TellsSo : Served → Type 0
-      TellsSo r = Tells told session job before after old new r
+      TellsSo r = TellsBehind told session job between before after old new r
 
       taken_turns : is.taken.turns ≡ before.turns ++ t ∷ []
       taken_turns = ap (λ (k : Knowledge). k.turns) is.first.kept
 
-      turns_behind : (later : List KeptTurn) → after.turns ≡ is.taken.turns ++ later → after.turns ≡ before.turns ++ t ∷ later
-      turns_behind later then = then ∙ ap (λ (ts : List KeptTurn). ts ++ later) taken_turns ∙ append_assoc before.turns (t ∷ []) later
+      now_turns : now.turns ≡ before.turns ++ t ∷ between
+      now_turns = is.behind ∙ ap (λ (ts : List KeptTurn). ts ++ between) taken_turns ∙ append_assoc before.turns (t ∷ []) between
+
+      turns_behind : (later : List KeptTurn) → after.turns ≡ now.turns ++ later → after.turns ≡ before.turns ++ t ∷ (between ++ later)
+      turns_behind later then = then ∙ ap (λ (ts : List KeptTurn). ts ++ later) now_turns ∙ append_assoc before.turns (t ∷ between) later
+
+      has_first : Contains now.turns t
+      has_first = subst (λ (ts : List KeptTurn). Contains ts t) (sym is.behind)
+          (Contains-append_left is.taken.turns between t
+          (subst (λ (ts : List KeptTurn). Contains ts t) (sym taken_turns) (Contains-push before.turns t)))
 
       counted : (receipt : Receipt) → is.outcome ≡ outcome.Answer receipt → IsCountedBy told receipt.front receipt.faults t
       counted receipt o =
@@ -204,7 +226,7 @@ module _ {A : Type 0} (tells : Ghosts A) where
           (IsReplyAt told session job t receipt.reply ⊎ IsFaultAt told session job t receipt.reply)
       answers_of receipt o it_is = by_case (is.first.does_so.answers it_is)
         where
-          by_case : IsFirstOf is → IsReplyAt told session job t receipt.reply ⊎ IsFaultAt told session job t receipt.reply
+          by_case : IsFirst → IsReplyAt told session job t receipt.reply ⊎ IsFaultAt told session job t receipt.reply
           by_case (inl taken) =
               let says = (says_of _ receipt (subst (λ (x : Outcome). turns.Tells (turns.decided_at (history_at t) t.found.size job.from job.octets) x) o taken.tells)).0 in
               inl (record {
@@ -214,38 +236,37 @@ module _ {A : Type 0} (tells : Ghosts A) where
                 adds = taken.adds ∙ ap (λ d. turns.entries_of (history_at t) job.moment (caller_of session job) (act_decided d)) says.1;
                 list = taken.list;
               })
-          by_case (inr (inl failed)) =
+          by_case (inr failed) =
               let says = (says_of _ receipt (subst (λ (x : Outcome). turns.Tells (turns.decided_by_fault job.octets) x) o failed.tells)).0 in
               inr (record { act = says.0; rose = failed.rose; decides = says.1; adds = failed.adds })
-          by_case (inr (inr none)) = absurd (cc (sym o ∙ none.tells))
 
       cause_of : (receipt : Receipt) → is.outcome ≡ outcome.Answer receipt → WhereTold told (receipt.cause ≡ cause_in receipt.reply)
       cause_of receipt o it_is = by_case (is.first.does_so.answers it_is)
         where
-          by_case : IsFirstOf is → receipt.cause ≡ cause_in receipt.reply
+          by_case : IsFirst → receipt.cause ≡ cause_in receipt.reply
           by_case (inl taken) = (says_of _ receipt (subst (λ (x : Outcome). turns.Tells (turns.decided_at (history_at t) t.found.size job.from job.octets) x) o taken.tells)).1
-          by_case (inr (inl failed)) = (says_of _ receipt (subst (λ (x : Outcome). turns.Tells (turns.decided_by_fault job.octets) x) o failed.tells)).1
-          by_case (inr (inr none)) = absurd (cc (sym o ∙ none.tells))
+          by_case (inr failed) = (says_of _ receipt (subst (λ (x : Outcome). turns.Tells (turns.decided_by_fault job.octets) x) o failed.tells)).1
 
-      module _ (receipt : Receipt) (o : is.outcome ≡ outcome.Answer receipt) (on : Concludes tells job old new result is.taken after receipt) where
-        abbrev learnt : Learns told t is.taken after on.settled
-        learnt = on.learns t (subst (λ (ts : List KeptTurn). Contains ts t) (sym taken_turns) (Contains-push before.turns t)) (counted receipt o)
+      module _ (receipt : Receipt) (o : is.outcome ≡ outcome.Answer receipt) (on : Concludes tells job old new result now after receipt) where
+        abbrev learnt : Learns told t now after on.settled
+        learnt = on.learns t has_first (counted receipt o)
 
-        abbrev then : Later is.taken after
-        then = later_asked receipt.front receipt.faults is.taken after on.settled on.asked
+        abbrev then : Later now after
+        then = later_asked receipt.front receipt.faults now after on.settled on.asked
 
         sent_by : (answer : Served) (octets : List ℕ) (sent : Result Unit LinkStop) → Sends old job.from octets sent new
-            → (HasSent told session job before after old new octets → TellsSo answer) → TellsSo (once_sent answer sent)
+            → (HasSent told session job old new octets → TellsSo answer) → TellsSo (once_sent answer sent)
         sent_by answer octets (Ok done) sends so = so sends.ok
         sent_by answer octets (Err stop.Failed) sends so = sends.stops.failed refl
         sent_by answer octets (Err stop.NoMemory) sends so = sends.stops.no_memory refl
 
-        replied : on.settled ≡ settled.Firm → HasSent told session job before after old new receipt.reply
+        replied : on.settled ≡ settled.Firm → HasSent told session job old new receipt.reply
             → TellsSo (served.Replied receipt.cause receipt.front)
         replied firm sent = record {
           first = t;
           later = then.later;
           turns = turns_behind then.later then.turns;
+          size = is.first.legal.size;
           reply = receipt.reply;
           sent = sent;
           front_is = (counted receipt o).front_is;
@@ -257,7 +278,7 @@ module _ {A : Type 0} (tells : Ghosts A) where
         }
 
         lost : (n : ℕ) → on.settled ≡ settled.Lost n
-            → MatchOption (failure_reply (prepared_of job.octets)) (new ≡ old) (HasSent told session job before after old new) → TellsSo served.Lost
+            → MatchOption (failure_reply (prepared_of job.octets)) (new ≡ old) (HasSent told session job old new) → TellsSo served.Lost
         lost n is_lost sent =
             let cut = learnt.lost n is_lost in
             record { first = t; second = cut.second; turns = turns_behind (cut.second ∷ []) cut.turns; cut = cut.cut; rose = cut.rose; sent = sent }
@@ -265,9 +286,9 @@ module _ {A : Type 0} (tells : Ghosts A) where
         lost_to : (n : ℕ) → on.settled ≡ settled.Lost n → (octets : Option (List ℕ)) → failure_reply (prepared_of job.octets) ≡ octets
             → SendsTo job old new result octets served.Lost → TellsSo result
         lost_to n is_lost None none sends = subst (λ (r : Served). TellsSo r) (sym sends.0)
-            (lost n is_lost (subst (λ x. MatchOption x (new ≡ old) (HasSent told session job before after old new)) (sym none) sends.1))
+            (lost n is_lost (subst (λ x. MatchOption x (new ≡ old) (HasSent told session job old new)) (sym none) sends.1))
         lost_to n is_lost (Some octets) some sends = subst (λ (r : Served). TellsSo r) (sym sends.2) (sent_by served.Lost octets sends.0 sends.1
-            (λ sent. lost n is_lost (subst (λ x. MatchOption x (new ≡ old) (HasSent told session job before after old new)) (sym some) sent)))
+            (λ sent. lost n is_lost (subst (λ x. MatchOption x (new ≡ old) (HasSent told session job old new)) (sym some) sent)))
 
         concluded : (s : Settled) → on.settled ≡ s → SendsFor job old new result receipt s → TellsSo result
         concluded settled.Firm firm sends = subst (λ (r : Served). TellsSo r) (sym sends.2)
@@ -275,27 +296,36 @@ module _ {A : Type 0} (tells : Ghosts A) where
         concluded (settled.Lost n) is_lost sends = lost_to n is_lost (failure_reply (prepared_of job.octets)) refl sends
         concluded (settled.NotYet n) not sends = absurd sends
 
-      tells_on : (o : Outcome) → is.outcome ≡ o → GoesOn tells may session job old new result is.taken after o → TellsSo result
+      tells_on : (o : Outcome) → is.outcome ≡ o → GoesOn tells may session job old new result now after o → TellsSo result
       tells_on (outcome.Drop why) o goes = subst (λ (r : Served). TellsSo r) (sym goes.0) (record {
         first = t;
-        turns = ap (λ (k : Knowledge). k.turns) goes.1 ∙ taken_turns;
+        turns = ap (λ (k : Knowledge). k.turns) goes.1 ∙ now_turns;
         unsent = goes.2;
         fault = λ device. is.first.does_so.fault (subst (λ (x : Outcome). caller.TellsFault x) (sym o) (inl (ap (λ w. outcome.Drop w) device)));
       })
-      tells_on outcome.NoMemory o (inl over) = subst (λ (r : Served). TellsSo r) (sym over.1.0) over.1.2
-      tells_on outcome.NoMemory o (inr on) = subst (λ (r : Served). TellsSo r) (sym on.1.0) on.1.2
       tells_on (outcome.Answer receipt) o (inl over) = subst (λ (r : Served). TellsSo r) (sym over.1.0) over.1.2
       tells_on (outcome.Answer receipt) o (inr on) = concluded receipt o on.1 on.1.settled refl on.1.sends
 
-      pub tells_so : TellsSo result
-      tells_so = tells_on is.outcome refl is.goes_on
+      pub tells_behind : TellsSo result
+      tells_behind = tells_on is.outcome refl is.goes_on
+
+    -- a job that is served by itself
+    pub tells_so : {before after : Knowledge} → IsServed tells may session job old new result before after
+        → Tells (tells_lists tells) session job before after old new result
+    tells_so {before = before} {after = after} is = tells_behind {between = []} {before = before} {now = is.taken} {after = after} (record {
+      outcome = is.outcome;
+      taken = is.taken;
+      first = is.first;
+      behind = sym (append-nil is.taken.turns);
+      goes_on = is.goes_on;
+    })
 
 -- the entries that a pass added, with those of one job more
-more_jobs : (size session : ℕ) (jobs : List Job) (job : Job) (t : KeptTurn) → IsAnswerTo size session jobs t → IsAnswerTo size session (jobs ++ job ∷ []) t
+pub more_jobs : (size session : ℕ) (jobs : List Job) (job : Job) (t : KeptTurn) → IsAnswerTo size session jobs t → IsAnswerTo size session (jobs ++ job ∷ []) t
 more_jobs size session jobs job t (inl none) = inl none
 more_jobs size session jobs job t (inr is) = inr (is.0, Contains-append_left jobs (job ∷ []) is.0 is.1, is.2)
 
-none_added : (size session : ℕ) (jobs : List Job) (later : List KeptTurn) → All (λ t. t.added ≡ []) later → All (IsAnswerTo size session jobs) later
+pub none_added : (size session : ℕ) (jobs : List Job) (later : List KeptTurn) → All (λ t. t.added ≡ []) later → All (IsAnswerTo size session jobs) later
 none_added size session jobs later none k d lt = inl (none k d lt)
 
 pub adds_answers : (told : Bool) (session : ℕ) (job : Job) (before after : Knowledge) → KeepsTurns told session job before after → told ≡ true

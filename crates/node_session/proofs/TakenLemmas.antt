@@ -1,5 +1,5 @@
 -- What a turn that takes a datagram did, by the book's clauses.
-use Rattle.std.proofs.Common.{◌≡◌, ◌≢◌, ◌⊎◌, inl, inr, ℕ, ◌&&◌, Bool, true, false, if◌then◌else◌, List, [], ◌++◌, Option, None, Some, refl, sym, ap, subst, ◌∙◌, append_assoc}
+use Rattle.std.proofs.Common.{◌≡◌, ◌⊎◌, inl, inr, ℕ, ◌&&◌, Bool, true, false, if◌then◌else◌, List, [], ◌++◌, Option, None, Some, refl, sym, ap, subst, ◌∙◌, append_assoc}
 use Rattle.std.proofs.lemmas.Bool.{and_parts, true≢false}
 use Rattle.std.proofs.lemmas.List.{append-nil}
 use Rattle.area_disk.specs.declared.area.Area.{Ghosts}
@@ -18,11 +18,11 @@ use Rattle.gateway_book.specs.Book.{HasCause, IsLeft, fortune_of, size_of, value
 use Rattle.gateway_book.specs.Caller.{IsAnswered, IsCounted, IsFailure, IsTold}
 use Rattle.gateway_book.specs.Calls.{given_at, outcome_at, taken}
 use Rattle.gateway_book.specs.Preparing.{prepared_of}
-use Rattle.gateway_book.specs.Turning.{IsTurn, added_to, drops_of, facts_of, is_gone, tells_lists}
+use Rattle.gateway_book.specs.Turning.{added_to, drops_of, facts_of, is_gone, tells_lists}
 use Rattle.gateway_book.specs.Value.{BookValue, history_of, readied, recorded_if}
 use Rattle.gateway_book.specs.declared.book.Book.{Book}
 use Rattle.gateway_book.specs.declared.outcome.Outcome.{Outcome}
-use Rattle.gateway_book.specs.declared.outcome.Outcome.TheVariants.{Answer, Drop, NoMemory}
+use Rattle.gateway_book.specs.declared.outcome.Outcome.TheVariants.{Answer, Drop}
 use Rattle.node_session.specs.Turns.{HasTaken, IsCountedAt, IsFailed, IsOneOf, IsTakenAt, Tells, decided_at, entries_of}
 
 -- what a caller is told of what was decided
@@ -74,21 +74,9 @@ module _ {A : Type 0} {tells : Ghosts A} (old new : Book A tells) (from : Addr) 
   abbrev drops : Bool
   drops = drops_of (fortune_of old new) (value_of old)
 
-  -- the entries that were added, by the outcome
-  abbrev pub added_for : Outcome → List HistoryEntry
-  added_for NoMemory = []
-  added_for (Answer receipt) = added_to ready now who (act_decided decision)
-  added_for (Drop why) = added_to ready now who (act_decided decision)
-
-  -- as a turn, also where there was no memory
-  pub taking_turn : ((Told tells → value_of new ≡ ready) → IsTurn old new (Some who.session) [])
-      → ((result : Outcome) → (Told tells → Left result) → IsTurn old new (Some who.session) (added_to ready now who (act_decided decision)))
-      → (result : Outcome) → (Told tells → result ≢ NoMemory → Left result)
-      → (Told tells → result ≡ NoMemory → (is_closed new.trail ≡ false) × (value_of new ≡ ready))
-      → IsTurn old new (Some who.session) (added_for result)
-  taking_turn is_ready take NoMemory is_taken no_memory = is_ready (λ told. (no_memory told refl).1)
-  taking_turn is_ready take (Answer receipt) is_taken no_memory = take (Answer receipt) (λ told. is_taken told (λ not. absurd (cc not)))
-  taking_turn is_ready take (Drop why) is_taken no_memory = take (Drop why) (λ told. is_taken told (λ not. absurd (cc not)))
+  -- the entries that were added
+  abbrev pub added_now : List HistoryEntry
+  added_now = added_to ready now who (act_decided decision)
 
   module _ (cause : HasCause old new)
       (behind : ready.is_broken ≡ false → history_of ready ≡ base drops (facts_of old))
@@ -126,19 +114,10 @@ module _ {A : Type 0} {tells : Ghosts A} (old new : Book A tells) (from : Addr) 
               ∙ ap (λ g. g ++ added_to ready now who (act_decided decision)) h;
         })
 
-    one_of : (result : Outcome) → IsTakenAt from octets now who (facts_of old) (facts_of new) (added_for result) result (base drops (facts_of old))
-        ⊎ IsFailed from octets now who (facts_of old) (facts_of new) (added_for result) result
-        → IsOneOf from octets now who (facts_of old) (facts_of new) (added_for result) result drops
-    one_of result (inl taken) = inl taken
-    one_of result (inr failed) = inr (inl failed)
-
-    answered : (result : Outcome) → (Told tells → result ≢ NoMemory → Left result)
-        → WhereTold (tells_lists tells) (IsOneOf from octets now who (facts_of old) (facts_of new) (added_for result) result drops)
-    answered NoMemory is_taken told = inr (inr (record { tells = refl; adds = refl }))
-    answered (Answer receipt) is_taken told = one_of (Answer receipt) (answered_by (is_closed new.trail) refl (Answer receipt)
-        (is_taken (and_parts tells.tells_octets tells.tells_crash told) (λ not. absurd (cc not))))
-    answered (Drop why) is_taken told = one_of (Drop why) (answered_by (is_closed new.trail) refl (Drop why)
-        (is_taken (and_parts tells.tells_octets tells.tells_crash told) (λ not. absurd (cc not))))
+    answered : (result : Outcome) → (Told tells → Left result)
+        → WhereTold (tells_lists tells) (IsOneOf from octets now who (facts_of old) (facts_of new) added_now result drops)
+    answered result is_taken told =
+        answered_by (is_closed new.trail) refl result (is_taken (and_parts tells.tells_octets tells.tells_crash told))
 
     decides : (b : Bool) → is_closed new.trail ≡ b → (result : Outcome) → IsTold new from (prepared_of octets) result
         → IsAnswered from (prepared_of octets) result
@@ -149,10 +128,9 @@ module _ {A : Type 0} {tells : Ghosts A} (old new : Book A tells) (from : Addr) 
     counted : (result : Outcome) → IsCounted new result → IsCountedAt (facts_of new) result
     counted (Answer receipt) is = is
     counted (Drop why) is = is
-    counted NoMemory is = is
 
-    pub has_taken : (result : Outcome) → (Told tells → result ≢ NoMemory → Left result) → IsTold new from (prepared_of octets) result
-        → HasTaken from octets now who (facts_of old) (facts_of new) (added_for result) result (tells_lists tells) drops
+    pub has_taken : (result : Outcome) → (Told tells → Left result) → IsTold new from (prepared_of octets) result
+        → HasTaken from octets now who (facts_of old) (facts_of new) added_now result (tells_lists tells) drops
     has_taken result is_taken told = record {
       answers = answered result is_taken;
       decides = decides (is_closed new.trail) refl result told;

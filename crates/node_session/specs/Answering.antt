@@ -67,18 +67,21 @@ module _ (told : Bool) (session : ℕ) (job : Job) where
     pub decides : decided_by_fault job.octets ≡ Says reply act
     pub adds : t.added ≡ []
 
-  module _ (before after : Knowledge) (old new : LinkState) where
-    -- this one datagram was sent, to the job's sender
-    abbrev pub HasSent : List ℕ → Type 0
-    HasSent octets = new ≡ record old { sent = with_one (record { peer = job.from; octets = octets }) old.sent }
+  -- this one datagram was sent, to the job's sender
+  abbrev pub HasSent : LinkState → LinkState → List ℕ → Type 0
+  HasSent old new octets = new ≡ record old { sent = with_one (record { peer = job.from; octets = octets }) old.sent }
 
+  -- What is told where the pass took these turns for other jobs between the turn that took this one's datagram and what
+  -- followed it: none where the job is served by itself.
+  module _ (between : List KeptTurn) (before after : Knowledge) (old new : LinkState) where
     -- A reply was sent, and all that it rests on was known to be firm before.
-    pub record HasReplied (cause : Option ℕ) (front : ℕ) : Type 0 where
+    pub record HasRepliedBehind (cause : Option ℕ) (front : ℕ) : Type 0 where
       pub first : KeptTurn
       pub later : List KeptTurn
-      pub turns : after.turns ≡ before.turns ++ first ∷ later
+      pub turns : after.turns ≡ before.turns ++ first ∷ (between ++ later)
+      pub size : first.found.size ≡ before.size
       pub reply : List ℕ
-      pub sent : HasSent reply
+      pub sent : HasSent old new reply
       pub front_is : front ≡ first.left.entries
       pub cause_is : WhereTold told (cause ≡ cause_in reply)
       pub answers : WhereTold told (IsReplyAt first reply ⊎ IsFaultAt first reply)
@@ -89,30 +92,44 @@ module _ (told : Bool) (session : ℕ) (job : Job) where
           → Rose first.found.faults first.left.faults
 
     -- Nothing was sent; a datagram is dropped as the device failed only where its count rose in the turn.
-    pub record HasDropped (why : Why) : Type 0 where
+    pub record HasDroppedBehind (why : Why) : Type 0 where
       pub first : KeptTurn
-      pub turns : after.turns ≡ before.turns ++ first ∷ []
+      pub turns : after.turns ≡ before.turns ++ first ∷ between
       pub unsent : new ≡ old
       pub fault : why ≡ Device → Rose first.found.faults first.left.faults
 
     -- A commit or an opening again failed since the answer was made, and the count of the device rose in or between the
-    -- two turns of the call. A request is told so, anything else isn't answered.
-    pub record HasLost : Type 0 where
+    -- first turn and the last one. A request is told so, anything else isn't answered.
+    pub record HasLostBehind : Type 0 where
       pub first : KeptTurn
       pub second : KeptTurn
-      pub turns : after.turns ≡ before.turns ++ first ∷ second ∷ []
+      pub turns : after.turns ≡ before.turns ++ first ∷ (between ++ second ∷ [])
       pub cut : is_above second.left.cuts first.left.cuts ≡ true
       pub rose : Rose first.left.faults second.left.faults
-      pub sent : MatchOption (failure_reply (prepared_of job.octets)) (new ≡ old) HasSent
+      pub sent : MatchOption (failure_reply (prepared_of job.octets)) (new ≡ old) (HasSent old new)
 
     -- what each answer tells
+    abbrev pub TellsBehind : Served → Type 0
+    TellsBehind (served.Replied cause front) = HasRepliedBehind cause front
+    TellsBehind (served.Dropped why) = HasDroppedBehind why
+    TellsBehind served.Lost = HasLostBehind
+    TellsBehind served.Link = HasFailed old new
+    TellsBehind served.Over = new ≡ old
+    TellsBehind served.NoMemory = new ≡ old
+
+  -- the same of a job that is served by itself
+  module _ (before after : Knowledge) (old new : LinkState) where
+    abbrev pub HasReplied : Option ℕ → ℕ → Type 0
+    HasReplied cause front = HasRepliedBehind [] before after old new cause front
+
+    abbrev pub HasDropped : Why → Type 0
+    HasDropped why = HasDroppedBehind [] before after old new why
+
+    abbrev pub HasLost : Type 0
+    HasLost = HasLostBehind [] before after old new
+
     abbrev pub Tells : Served → Type 0
-    Tells (served.Replied cause front) = HasReplied cause front
-    Tells (served.Dropped why) = HasDropped why
-    Tells served.Lost = HasLost
-    Tells served.Link = HasFailed old new
-    Tells served.Over = new ≡ old
-    Tells served.NoMemory = new ≡ old
+    Tells answer = TellsBehind [] before after old new answer
 
 -- What the gate may have answered, by what became of the job.
 abbrev pub MayHave : (Go → Type 0) → Served → Type 0

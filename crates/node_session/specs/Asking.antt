@@ -13,7 +13,7 @@ use Rattle.gateway_book.specs.declared.outcome.Settled.TheVariants.{Firm}
 use Rattle.turn_cell.specs.Knowing.{Saw}
 use Rattle.turn_cell.specs.Passes.{Took}
 use Rattle.turn_cell.specs.declared.knowing.Knowledge.{Knowledge}
-use Rattle.node_session.specs.Turns.{HasCommitted, HasListed, HasTaken}
+use Rattle.node_session.specs.Turns.{HasListed, HasTaken, Settles}
 
 module _ {A : Type 0} (tells : Ghosts A) where
   -- a datagram was taken in a turn
@@ -24,12 +24,13 @@ module _ {A : Type 0} (tells : Ghosts A) where
       HasTaken from octets now who (facts_of found) (facts_of left) added answer (tells_lists tells) drops)
       before outcome after
 
-  -- the history was made firm in a turn, which names no session
-  abbrev pub CommitsIn : ℕ → ℕ → Knowledge → Settled → Knowledge → Type 0
-  CommitsIn front faults before settled after =
+  -- it was asked in a turn what has become of an answer, and the history made firm where it wasn't yet; it names no
+  -- session
+  abbrev pub SettlesIn : ℕ → ℕ → Knowledge → Settled → Knowledge → Type 0
+  SettlesIn front faults before settled after =
       Took {V = Book A tells} (tells_lists tells) (λ book. facts_of book) None
       (λ found left answer drops added.
-      HasCommitted (tells_lists tells) front faults (facts_of found) (facts_of left) answer added)
+      Settles (tells_lists tells) front faults (facts_of found) (facts_of left) answer added)
       before settled after
 
   -- items were told in a turn, which names no session
@@ -41,10 +42,11 @@ module _ {A : Type 0} (tells : Ghosts A) where
       before answer after
 
   -- What has become of an answer: the pass looked at the length that never falls, and where that had reached the front,
-  -- all is firm that the answer rests on. Else it took a turn that commits, and asked the book.
+  -- all is firm that the answer rests on. Else it took a turn that asks the book, and commits where the front isn't
+  -- firm.
   pub record IsAsked (front faults : ℕ) (before : Knowledge) (settled : Settled) (after : Knowledge) : Type 0 where
     pub seen : ℕ
     pub looked : Knowledge
     pub saw : Saw (tells_lists tells) seen before looked
     pub ends : ((front ≤ seen) × (settled ≡ Firm) × (after ≡ looked))
-        ⊎ ((seen < front) × CommitsIn front faults looked settled after)
+        ⊎ ((seen < front) × SettlesIn front faults looked settled after)

@@ -60,7 +60,8 @@ module _ {A : Type 0} (tells : Ghosts A) where
     pub settled : Settled
     pub asked : IsAsked tells receipt.front receipt.faults taken settled after
     pub learns : (t : KeptTurn) → Contains taken.turns t
-        → IsCountedBy (tells_lists tells) receipt.front receipt.faults t → Learns (tells_lists tells) t taken after settled
+        → IsCountedBy (tells_lists tells) receipt.front receipt.faults t
+        → Learns (tells_lists tells) t taken after settled
     pub sends : SendsFor job old new result receipt settled
 
   module _ (may : ℕ → ℕ → Go → Type 0) (session : ℕ) (job : Job) (old new : LinkState) (result : Served) where
@@ -78,8 +79,8 @@ module _ {A : Type 0} (tells : Ghosts A) where
     -- What follows the first turn, by its outcome.
     abbrev pub GoesOn : Knowledge → Knowledge → Outcome → Type 0
     GoesOn taken after (outcome.Drop why) = EndsWith taken after (served.Dropped why)
-    GoesOn taken after outcome.NoMemory = IsOver taken after ⊎ (IsOn × EndsWith taken after served.NoMemory)
-    GoesOn taken after (outcome.Answer receipt) = IsOver taken after ⊎ (IsOn × Concludes job old new result taken after receipt)
+    GoesOn taken after (outcome.Answer receipt) =
+        IsOver taken after ⊎ (IsOn × Concludes job old new result taken after receipt)
 
     -- A session with a pass that knew so much served the job: it took the datagram in a first turn, and went on.
     pub record IsServed (before after : Knowledge) : Type 0 where

@@ -1,5 +1,5 @@
 -- What a session's turns do to a value that stands for a gateway's history.
-use Rattle.std.specs.Prelude.{◌≡◌, ◌≢◌, ◌⊎◌, ℕ, Bool, true, false, List, [], ◌∷◌, ◌++◌, Option, None, Some, Result, Err, IfOk, All, ⊤}
+use Rattle.std.specs.Prelude.{◌≡◌, ◌≢◌, ◌⊎◌, ℕ, Bool, true, false, List, [], ◌∷◌, ◌++◌, Option, None, Some, Result, Err, IfOk, All, length, ⊤}
 use Rattle.area_disk.specs.Disk.{Rose, counted}
 use Rattle.gw_base.specs.Facts.{Facts, WhereTold}
 use Rattle.gw_base.specs.Owes.{base}
@@ -17,9 +17,10 @@ use Rattle.gateway_book.specs.Preparing.{prepared_of}
 use Rattle.gateway_book.specs.declared.outcome.ItemsFault.{ItemsFault}
 use Rattle.gateway_book.specs.declared.outcome.ItemsFault.TheVariants as fault
 use Rattle.gateway_book.specs.declared.outcome.Outcome.{Outcome}
-use Rattle.gateway_book.specs.declared.outcome.Outcome.TheVariants.{Answer, Drop, NoMemory}
+use Rattle.gateway_book.specs.declared.outcome.Outcome.TheVariants.{Answer, Drop}
 use Rattle.gateway_book.specs.declared.outcome.Receipt.{Receipt}
 use Rattle.gateway_book.specs.declared.outcome.Settled.{Settled}
+use Rattle.gateway_book.specs.declared.outcome.Settled.TheVariants.{NotYet}
 
 -- what a gateway with this history, on so many octets, decides on the octets of a datagram from this sender
 abbrev pub decided_at : List HistoryEntry → ℕ → Addr → List ℕ → Decided
@@ -38,7 +39,8 @@ entries_of h now who (Some act) = entry_by h now who act ∷ []
 abbrev pub called_for : List HistoryEntry → ℕ → Addr → List ℕ → ℕ → Caller → List HistoryEntry
 called_for h size from octets now who = entries_of h now who (act_decided (decided_at h size from octets))
 
--- A caller is told what was decided: that nothing is answered, or a receipt with the octets of the reply and their cause.
+-- A caller is told what was decided: that nothing is answered, or a receipt with the octets of the reply and their
+-- cause.
 abbrev pub Tells : Decided → Outcome → Type 0
 Tells (Silent why) outcome = outcome ≡ Drop why
 Tells (Says octets act) outcome =
@@ -48,7 +50,6 @@ Tells (Says octets act) outcome =
 abbrev pub IsCountedAt : Facts → Outcome → Type 0
 IsCountedAt left (Answer receipt) = (receipt.front ≡ left.entries) × (receipt.faults ≡ left.cuts)
 IsCountedAt left (Drop why) = ⊤
-IsCountedAt left NoMemory = ⊤
 
 -- A datagram of this sender was taken, at this moment and by this caller.
 module _ (from : Addr) (octets : List ℕ) (now : ℕ) (who : Caller) (found left : Facts) (added : List HistoryEntry)
@@ -67,14 +68,9 @@ module _ (from : Addr) (octets : List ℕ) (now : ℕ) (who : Caller) (found lef
     pub tells : Tells (decided_by_fault octets) outcome
     pub adds : added ≡ []
 
-  -- There was no memory, and nothing was added.
-  pub record IsWithoutMemory : Type 0 where
-    pub tells : outcome ≡ NoMemory
-    pub adds : added ≡ []
-
   -- The history is the list that was found, with the torn entries of a broken book taken in or dropped.
   abbrev pub IsOneOf : Bool → Type 0
-  IsOneOf drops = IsTakenAt (base drops found) ⊎ (IsFailed ⊎ IsWithoutMemory)
+  IsOneOf drops = IsTakenAt (base drops found) ⊎ IsFailed
 
   -- The turn that took the datagram.
   pub record HasTaken (told : Bool) (drops : Bool) : Type 0 where
@@ -85,19 +81,40 @@ module _ (from : Addr) (octets : List ℕ) (now : ℕ) (who : Caller) (found lef
     pub fault : TellsFault outcome → Rose found.faults left.faults
     pub counts : IsCountedAt left outcome
 
--- The turn that made the history firm, or left the book broken, and then asked what has become of an answer with this
--- front, given when so many commits and openings again had failed.
-pub record HasCommitted (told : Bool) (front faults : ℕ) (found left : Facts) (settled : Settled)
-    (added : List HistoryEntry) : Type 0 where
-  -- so many entries are firm then
-  pub firm : ℕ
-  pub is_broken : Bool
-  pub settled_is : settled ≡ settled_by left.cuts firm front faults
-  pub all : is_broken ≡ false → (firm ≡ left.entries) × WhereTold told (left.list ≡ left.firm)
-  pub uncut : is_broken ≡ false → left.cuts ≡ found.cuts
-  pub cut : is_broken ≡ true → left.cuts ≡ counted 1 found.cuts
-  pub rose : is_broken ≡ true → Rose found.faults left.faults
-  pub adds : added ≡ []
+-- A turn that asks what has become of an answer with this front, given when so many commits and openings again had
+-- failed.
+module _ (told : Bool) (front faults : ℕ) where
+  -- What is told at a value with these facts, of which so many entries are firm: over every area as many as the length
+  -- that never falls, while no commit failed.
+  pub record IsToldAt (now : Facts) (settled : Settled) : Type 0 where
+    pub firm : ℕ
+    pub calm : now.cuts ≡ 0 → firm ≡ now.length
+    pub is : settled ≡ settled_by now.cuts firm front faults
+    pub counts : WhereTold told (settled ≡ settled_by now.cuts (length now.firm) front faults)
+
+  module _ (found left : Facts) (settled : Settled) (added : List HistoryEntry) where
+    -- It could be told at once, and nothing was done.
+    pub record HasAsked : Type 0 where
+      pub tells : IsToldAt left settled
+      pub sure : (n : ℕ) → settled ≢ NotYet n
+      pub still : left ≡ found
+      pub adds : added ≡ []
+
+    -- It wasn't firm yet. So the turn made the history firm, or left the book broken, and then it was told.
+    pub record HasCommitted : Type 0 where
+      pub short : ℕ
+      pub waited : IsToldAt found (NotYet short)
+      pub tells : IsToldAt left settled
+      pub is_broken : Bool
+      pub all : is_broken ≡ false → (tells.firm ≡ left.entries) × WhereTold told (left.list ≡ left.firm)
+      pub uncut : is_broken ≡ false → left.cuts ≡ found.cuts
+      pub cut : is_broken ≡ true → left.cuts ≡ counted 1 found.cuts
+      pub rose : is_broken ≡ true → Rose found.faults left.faults
+      pub adds : added ≡ []
+
+    -- the turn commits only where the answer isn't firm yet
+    abbrev pub Settles : Type 0
+    Settles = HasAsked ⊎ HasCommitted
 
 -- The turn that told a writer of files the firm items from a number on, so many at most, and changed nothing.
 pub record HasListed {R : Type 0} (told : Bool) (from max : ℕ) (found left : Facts) (answer : Result R ItemsFault)

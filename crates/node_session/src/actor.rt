@@ -62,8 +62,8 @@ impl<F: Shelf> FileActor<F> {
     ghost use Rattle.node_session.specs.Writing.{IsActorOf, IsWriterOf, KeepsFiles, KeepsListing, TellsOf, knowledge_of, most_items, writer_of};
 
     /// Takes at most 64 firm items in a turn, those behind the items that its writer has taken, and gives them to the
-    /// writer without a turn. A broken writer recovers first, and begins anew. A writer takes fewer than 2^31 items, and
-    /// the history of an area that tells what it holds has fewer.
+    /// writer without a turn. A broken writer recovers first, and begins anew. A writer takes fewer than 2^31 items,
+    /// and the history of an area that tells what it holds has fewer.
     pub fn step<A: Area, R: Wait>(
         &mut self,
         rt: &R,
@@ -81,7 +81,8 @@ impl<F: Shelf> FileActor<F> {
         ensures turns { KeepsListing (knowledge_of self.old) (knowledge_of self.new) }
         ensures tells { TellsOf F.Shelf (tells_lists A.Area) (knowledge_of self.old) (knowledge_of self.new)
             (writer_of self.old) (writer_of self.new) result }
-        // The files of the shelf stay the first ones of those that the items of the history, and more, are divided into.
+        // The files of the shelf stay the first ones of those that the items of the history, and more, are divided
+        // into.
         ensures files { WhereTold (tells_lists A.Area) (KeepsFiles F.Shelf (knowledge_of self.new).known
             (writer_of self.old) (writer_of self.new)) }
     {

@@ -13,7 +13,7 @@ use std::sync::Wait;
 use turn_cell::{Pass, TurnCell};
 
 /// What has become of an answer with the numbers of this receipt: the pass looks at the length that never falls, and
-/// where that isn't enough takes a turn that commits.
+/// where that isn't enough takes a turn that asks the book, and commits where the front isn't firm yet.
 pub(crate) fn ask<A: Area, R: Wait>(
     rt: &R,
     cell: &TurnCell<Book<A>>,

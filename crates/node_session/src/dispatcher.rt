@@ -53,8 +53,8 @@ impl Dispatcher {
     ghost use Rattle.std.specs.Prelude.{OnErr, OnOk, take};
     ghost use Rattle.node_session.specs.Receiving.{AreOfEach, ComesOf, TellsOf, WasFull, hands_of, passes_of, with_job};
 
-    /// Waits for a datagram for a while, and pushes it, as a job with the next serial, to the inbox of its node's session.
-    /// Serials begin at 1, and stay at 2^64 - 1 once there. The passes are one of each inbox, in their order.
+    /// Waits for a datagram for a while, and pushes it, as a job with the next serial, to the inbox of its node's
+    /// session. Serials begin at 1, and stay at 2^64 - 1 once there. The passes are one of each inbox, in their order.
     pub fn step<L: Link, C: Clock, R: Wait>(
         &mut self,
         rt: &R,

@@ -4,8 +4,8 @@ use gtpp_message::Why;
 /// What became of a job that a session served.
 #[derive(Clone, Copy, Debug, PartialEq, Eq)]
 pub enum Served {
-    /// A reply went to its sender: its cause, where it is a Data Record Transfer Response, and the length of the history
-    /// that it rests on, which was firm before.
+    /// A reply went to its sender: its cause, where it is a Data Record Transfer Response, and the length of the
+    /// history that it rests on, which was firm before.
     Replied { cause: Option<u8>, front: u64 },
     /// It isn't answered.
     Dropped(Why),

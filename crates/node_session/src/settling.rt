@@ -98,7 +98,6 @@ fn close<A: Area>(book: &mut Book<A>, now: Moment, who: Caller) -> Result<(), Se
         Marked::NotDue => Ok(()),
         Marked::NoRoom => unreachable!(),
         Marked::Device => Err(SettleFault::Area),
-        Marked::NoMemory => Err(SettleFault::NoMemory),
     }
 }
 

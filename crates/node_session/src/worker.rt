@@ -4,8 +4,10 @@ ghost use Rattle.std.proofs.Props.{props};
 ghost use Rattle.turn_cell.specs.Cell.{knowledge};
 
 use crate::gate::Gate;
+use crate::job_batch::JobBatch;
 use crate::served::Served;
 use crate::serving::serve;
+use crate::together::{go_on_each, take_each};
 use area_disk::Area;
 use gateway_book::Book;
 use job_inbox::Job;
@@ -58,9 +60,9 @@ impl Worker {
     ghost use Rattle.node_session.specs.Passes.{IsWorkerOf, knowledge_of, session_of};
     ghost use Rattle.node_session.specs.Serving.{IsServed};
 
-    /// Serves a job on a link. It prepares the datagram without a turn, takes it in one turn, enters the gate, and looks
-    /// at the length that never falls. Where that hasn't reached the front of its answer, it takes a second turn, which
-    /// commits. A reply goes out once all that it rests on is firm.
+    /// Serves a job on a link. It prepares the datagram without a turn, takes it in one turn, enters the gate, and
+    /// looks at the length that never falls. Where that hasn't reached the front of its answer, it takes a second turn,
+    /// which commits where the front isn't firm yet. A reply goes out once all that it rests on is firm.
     pub fn serve_one<A: Area, G: Gate, L: Link, R: Wait>(
         &mut self,
         rt: &R,
@@ -92,5 +94,74 @@ impl Worker {
         let (served, pass) = serve(rt, cell, pass, self.session, &job, gate, link);
         self.pass = Some(pass);
         served
+    }
+}
+
+impl Worker {
+    ghost use Rattle.std.specs.Prelude.{List, ℕ, ◌++◌};
+    ghost use Rattle.gateway_book.specs.Turning.{tells_lists};
+    ghost use Rattle.gw_base.specs.Facts.{WhereTold};
+    ghost use Rattle.job_inbox.specs.declared.job.Job.{Job};
+    ghost use Rattle.node_session.specs.Answering.{AddsAnswers};
+    ghost use Rattle.node_session.specs.Batches.{HasRoomFor, jobs_of, served_of};
+    ghost use Rattle.node_session.specs.Passes.{IsWorkerOf, knowledge_of, session_of};
+    ghost use Rattle.node_session.specs.Together.{AreServed, EachMayHave, KeepsTurnsOf, TellTogether};
+
+    /// Serves the jobs of a batch on a link, so that one commit makes all their answers firm: it takes each datagram in
+    /// a turn, as `serve_one` does, and once all are taken it goes on with each as that does, in order. What became of
+    /// each is in the batch then. It takes no memory, but where the link does.
+    pub fn serve_batch<A: Area, G: Gate, L: Link, R: Wait>(
+        &mut self,
+        rt: &R,
+        cell: &TurnCell<Book<A>>,
+        batch: &mut JobBatch,
+        gate: &G,
+        link: &mut L,
+    )
+        requires own { IsWorkerOf cell.now self.old }
+        ensures own { IsWorkerOf cell.now self.new × (session_of self.new ≡ session_of self.old) }
+        ensures jobs { jobs_of batch.new ≡ jobs_of batch.old }
+        ensures room { (n : ℕ) → HasRoomFor batch.old n → HasRoomFor batch.new n }
+        // What it did, step by step: a job is dropped exactly where its turn dropped it, and lost exactly where the
+        // book told so and no send failed.
+        ensures served { AreServed A.Area (G.may gate.now) (session_of self.old) (jobs_of batch.old) (L.state link.old)
+            (L.state link.new) (served_of batch.new) (knowledge_of self.old) (knowledge_of self.new) }
+        // The turns that its pass keeps of the call, and which entries they added: at most one for each job.
+        ensures turns { KeepsTurnsOf (tells_lists A.Area) (session_of self.old) (jobs_of batch.old)
+            (knowledge_of self.old) (knowledge_of self.new) }
+        // What was sent for each, and what stands: no reply goes before its front.
+        ensures tells { TellTogether (tells_lists A.Area) (session_of self.old) (jobs_of batch.old)
+            (served_of batch.new) (knowledge_of self.old) (knowledge_of self.new) (L.state link.old)
+            (L.state link.new) }
+        ensures gate { EachMayHave (G.may gate.now) (session_of self.old) (jobs_of batch.old) (served_of batch.new) }
+        // All that it added are answers to its jobs.
+        ensures answers { WhereTold (tells_lists A.Area) ((jobs : List Job) → AddsAnswers jobs (knowledge_of self.old) →
+            AddsAnswers (jobs ++ jobs_of batch.old) (knowledge_of self.new)) }
+    {
+        let Some(pass) = self.pass.take() else {
+            unreachable!();
+        };
+        batch.outcomes.clear();
+        batch.served.clear();
+        let pass = take_each(
+            rt,
+            cell,
+            pass,
+            self.session,
+            batch.jobs.as_slice(),
+            &mut batch.outcomes,
+        );
+        let pass = go_on_each(
+            rt,
+            cell,
+            pass,
+            gate,
+            self.session,
+            link,
+            batch.jobs.as_slice(),
+            batch.outcomes.as_slice(),
+            &mut batch.served,
+        );
+        self.pass = Some(pass);
     }
 }

@@ -1,0 +1,405 @@
+-- What a session tells of jobs that it served together, by what it did step by step.
+use Rattle.std.proofs.Common.{◌≡◌, ◌⊎◌, inl, inr, ℕ, ◌≤◌, Bool, true, List, [], ◌∷◌, ◌++◌, ◌+◌, ◌<◌, length, take, Option, Some, refl, sym, ap, subst, ◌∙◌, append_assoc, arith}
+use Rattle.std.specs.Prelude.{All, slice_index_or}
+use Rattle.std.specs.List.{Contains}
+use Rattle.std.proofs.lemmas.List.{append-nil, length-append, take_more}
+use Rattle.std.proofs.lemmas.List.Elements.{All-append, All-cons, All-nil, Contains-append_left, Contains-push}
+use Rattle.area_disk.specs.declared.area.Area.{Ghosts}
+use Rattle.gw_base.specs.Facts.{Facts, WhereTold}
+use Rattle.gw_base.specs.Owes.{Begins}
+use Rattle.gw_base.specs.declared.history.HistoryEntry.{HistoryEntry}
+use Rattle.gateway_book.specs.Turning.{facts_of as book_facts, tells_lists}
+use Rattle.gateway_book.specs.declared.outcome.Outcome.{Outcome}
+use Rattle.gateway_book.specs.declared.outcome.Outcome.TheVariants as outcome
+use Rattle.gateway_book.specs.declared.outcome.Settled.{Settled}
+use Rattle.gateway_book.specs.declared.outcome.Settled.TheVariants.{Firm}
+use Rattle.job_inbox.specs.declared.job.Job.{Job}
+use Rattle.net_link.specs.Datagrams.{LinkState}
+use Rattle.turn_cell.specs.Cell.{knowledge}
+use Rattle.turn_cell.specs.Knowing.{Saw, kept}
+use Rattle.turn_cell.specs.Passes.{Took}
+use Rattle.turn_cell.specs.declared.cell.Pass.{Pass}
+use Rattle.turn_cell.specs.declared.knowing.KeptTurn.{KeptTurn}
+use Rattle.turn_cell.specs.declared.knowing.Knowledge.{Knowledge}
+use Rattle.node_session.specs.Answering.{AddsAnswers, IsAnswerTo, called_at, history_at}
+use Rattle.node_session.specs.Asking.{IsAsked, SettlesIn, TakesIn}
+use Rattle.node_session.specs.Learning.{HasTurnFor}
+use Rattle.node_session.specs.Passes.{known_by}
+use Rattle.node_session.specs.Serving.{GoesOn, caller_of}
+use Rattle.node_session.specs.Together.{AreFirstsOf, AreServed, AreTaken, EachMayHave, EachTells, GoOn, GoesFrom, HaveTurnsFor, KeepsTurnsOf, TellTogether}
+use Rattle.node_session.specs.Turns as turns
+use Rattle.node_session.specs.declared.gate.Go.{Go}
+use Rattle.node_session.specs.declared.served.Served.{Served}
+use Rattle.node_session.proofs.AskingLemmas.{begins_then}
+use Rattle.node_session.proofs.ServedLemmas.{Later, later_on, may_on, none_added, tells_behind}
+
+-- what becomes of what a pass knows: it began with as many faults, and it knows no less
+record OnFrom (told : Bool) (before after : Knowledge) : Type 0 where
+  pub faults : after.faults ≡ before.faults
+  pub known : WhereTold told (Begins before.known after.known)
+
+on_then : (told : Bool) (one two three : Knowledge) → OnFrom told one two → OnFrom told two three → OnFrom told one three
+on_then told one two three p q = record {
+  faults = q.faults ∙ p.faults;
+  known = λ y. begins_then one.known two.known three.known (p.known y) (q.known y);
+}
+
+on_same : (told : Bool) (one two : Knowledge) → two ≡ one → OnFrom told one two
+on_same told one two is = subst (λ (k : Knowledge). OnFrom told one k) (sym is)
+    (record { faults = refl; known = λ y. ([], sym (append-nil one.known)) })
+
+on_took : {V R : Type 0} (told : Bool) (facts : V → Facts) (session : Option ℕ) (does : V → V → R → Bool → List HistoryEntry → Type 0)
+    (before : Knowledge) (answer : R) (after : Knowledge) → Took told facts session does before answer after → OnFrom told before after
+on_took told facts session does before answer after t = record {
+  faults = ap (λ (k : Knowledge). k.faults) t.kept;
+  known = λ y. subst (λ (h : List HistoryEntry). Begins before.known h) (sym (ap (λ (k : Knowledge). k.known) t.kept))
+      (begins_then before.known (facts t.found).firm (facts t.left).firm (t.legal.known y) (t.owes.firm y));
+}
+
+on_saw : (told : Bool) (seen : ℕ) (before after : Knowledge) → Saw told seen before after → OnFrom told before after
+on_saw told seen before after s = record { faults = ap (λ (k : Knowledge). k.faults) s.same; known = s.grows }
+
+module _ {A : Type 0} (tells : Ghosts A) (session : ℕ) where
+  abbrev told : Bool
+  told = tells_lists tells
+
+  abbrev Takes : Job → Knowledge → Outcome → Knowledge → Type 0
+  Takes job before outcome after = TakesIn tells job.from job.octets job.moment (caller_of session job) before outcome after
+
+  -- one datagram more was taken
+  pub taken_more : (jobs : List Job) (outcomes : List Outcome) (before now after : Knowledge) (job : Job) (outcome : Outcome)
+      → AreTaken tells session jobs outcomes before now → Takes job now outcome after
+      → AreTaken tells session (jobs ++ job ∷ []) (outcomes ++ outcome ∷ []) before after
+  taken_more [] [] before now after job outcome taken more =
+      (after, subst (λ (k : Knowledge). Takes job k outcome after) taken more, refl)
+  taken_more [] (o ∷ outcomes) before now after job outcome taken more = absurd taken
+  taken_more (j ∷ jobs) [] before now after job outcome taken more = absurd taken
+  taken_more (j ∷ jobs) (o ∷ outcomes) before now after job outcome taken more =
+      (taken.0, taken.1, taken_more jobs outcomes taken.0 now after job outcome taken.2 more)
+
+  pub taken_next : (jobs : List Job) (i : ℕ) (job : Job) (outcomes : List Outcome) (before now after : Knowledge) (outcome : Outcome)
+      → i < length jobs → job ≡ slice_index_or jobs i job → AreTaken tells session (take i jobs) outcomes before now
+      → Takes job now outcome after → AreTaken tells session (take (i + 1) jobs) (outcomes ++ outcome ∷ []) before after
+  taken_next jobs i job outcomes before now after outcome within read taken more =
+      subst (λ (js : List Job). AreTaken tells session js (outcomes ++ outcome ∷ []) before after)
+      (sym (take_more jobs i job within ∙ ap (λ (j : Job). take i jobs ++ j ∷ []) (sym read)))
+      (taken_more (take i jobs) outcomes before now after job outcome taken more)
+
+  -- a turn, as the pass keeps it
+  abbrev pub turn_of : {job : Job} {before after : Knowledge} {outcome : Outcome} → Takes job before outcome after → KeptTurn
+  turn_of took = kept (book_facts took.found) (book_facts took.left) took.drops took.added
+
+  pub turns_with : {job : Job} {before after : Knowledge} {outcome : Outcome} (took : Takes job before outcome after)
+      → after.turns ≡ before.turns ++ turn_of {job = job} took ∷ []
+  turns_with took = ap (λ (k : Knowledge). k.turns) took.kept
+
+  -- what the turn added that took a datagram
+  adds_first : (job : Job) (before after : Knowledge) (outcome : Outcome) (took : Takes job before outcome after)
+      → WhereTold told (((turn_of {job = job} took).added ≡ [])
+      ⊎ ((turn_of {job = job} took).added ≡ called_at told session job (turn_of {job = job} took)))
+  adds_first job before after outcome took it_is = by_case (took.does_so.answers it_is)
+    where
+      by_case : turns.IsOneOf job.from job.octets job.moment (caller_of session job) (book_facts took.found) (book_facts took.left) took.added outcome took.drops
+          → ((turn_of {job = job} took).added ≡ []) ⊎ ((turn_of {job = job} took).added ≡ called_at told session job (turn_of {job = job} took))
+      by_case (inl taken) = inr taken.adds
+      by_case (inr failed) = inl failed.adds
+
+  -- the turns that took datagrams, one for each job
+  record Firsts (jobs : List Job) (before after : Knowledge) : Type 0 where
+    pub firsts : List KeptTurn
+    pub turns : after.turns ≡ before.turns ++ firsts
+    pub number : after.number ≡ before.number
+    pub size : after.size ≡ before.size
+    pub each : AreFirstsOf told session before.size jobs firsts
+
+  firsts_of : (jobs : List Job) (outcomes : List Outcome) (before after : Knowledge)
+      → AreTaken tells session jobs outcomes before after → Firsts jobs before after
+  firsts_of [] [] before after taken = record {
+    firsts = [];
+    turns = ap (λ (k : Knowledge). k.turns) taken ∙ sym (append-nil before.turns);
+    number = ap (λ (k : Knowledge). k.number) taken;
+    size = ap (λ (k : Knowledge). k.size) taken;
+    each = refl;
+  }
+  firsts_of [] (o ∷ outcomes) before after taken = absurd taken
+  firsts_of (job ∷ jobs) [] before after taken = absurd taken
+  firsts_of (job ∷ jobs) (outcome ∷ outcomes) before after taken =
+      let took = taken.1 in
+      let t : KeptTurn = turn_of {job = job} took in
+      let rest : Firsts jobs taken.0 after = firsts_of jobs outcomes taken.0 after taken.2 in
+      let size : taken.0.size ≡ before.size = ap (λ (k : Knowledge). k.size) took.kept in
+      record {
+        firsts = t ∷ rest.firsts;
+        turns = rest.turns ∙ ap (λ (ts : List KeptTurn). ts ++ rest.firsts) (turns_with {job = job} took)
+            ∙ append_assoc before.turns (t ∷ []) rest.firsts;
+        number = rest.number ∙ ap (λ (k : Knowledge). k.number) took.kept;
+        size = rest.size ∙ size;
+        each = (
+          took.legal.size,
+          adds_first job before taken.0 outcome took,
+          subst (λ (n : ℕ). AreFirstsOf told session n jobs rest.firsts) size rest.each,
+        );
+      }
+
+  -- it knows no less behind the turns that took datagrams
+  on_taken : (jobs : List Job) (outcomes : List Outcome) (before after : Knowledge) → AreTaken tells session jobs outcomes before after
+      → OnFrom told before after
+  on_taken [] [] before after taken = on_same told before after taken
+  on_taken [] (o ∷ outcomes) before after taken = absurd taken
+  on_taken (job ∷ jobs) [] before after taken = absurd taken
+  on_taken (job ∷ jobs) (o ∷ outcomes) before after taken =
+      on_then told before taken.0 after (on_took told (λ book. book_facts book) _ _ before o taken.0 taken.1)
+      (on_taken jobs outcomes taken.0 after taken.2)
+
+  from_taken : (jobs : List Job) (outcomes : List Outcome) (before after : Knowledge) → AreTaken tells session jobs outcomes before after
+      → GoesFrom told before after
+  from_taken jobs outcomes before after taken =
+      let first : Firsts jobs before after = firsts_of jobs outcomes before after taken in
+      let on : OnFrom told before after = on_taken jobs outcomes before after taken in
+      record { number = first.number; size = first.size; faults = on.faults; known = on.known; later = first.firsts; turns = first.turns }
+
+  module _ (may : ℕ → ℕ → Go → Type 0) where
+    on_asked : (front faults : ℕ) (before : Knowledge) (settled : Settled) (after : Knowledge)
+        → IsAsked tells front faults before settled after → OnFrom told before after
+    on_asked front faults before settled after a =
+        on_then told before a.looked after (on_saw told a.seen before a.looked a.saw) (by_end a.ends)
+      where
+        by_end : ((front ≤ a.seen) × (settled ≡ Firm) × (after ≡ a.looked)) ⊎ ((a.seen < front) × SettlesIn tells front faults a.looked settled after)
+            → OnFrom told a.looked after
+        by_end (inl firm) = on_same told a.looked after firm.2
+        by_end (inr second) = on_took told (λ book. book_facts book) _ _ a.looked settled after second.1
+
+    on_goes : (job : Job) (old new : LinkState) (result : Served) (taken after : Knowledge) (o : Outcome)
+        → GoesOn tells may session job old new result taken after o → OnFrom told taken after
+    on_goes job old new result taken after (outcome.Drop why) e = on_same told taken after e.1
+    on_goes job old new result taken after (outcome.Answer receipt) (inl over) = on_same told taken after over.1.1
+    on_goes job old new result taken after (outcome.Answer receipt) (inr on) =
+        on_asked receipt.front receipt.faults taken on.1.settled after on.1.asked
+
+    abbrev Goes : Job → LinkState → LinkState → Served → Knowledge → Knowledge → Outcome → Type 0
+    Goes job old new result now after outcome = GoesOn tells may session job old new result now after outcome
+
+    -- the session went on with one job more
+    pub gone_more : (jobs : List Job) (outcomes : List Outcome) (results : List Served) (taken now after : Knowledge)
+        (old sent new : LinkState) (job : Job) (outcome : Outcome) (result : Served)
+        → GoOn tells may session jobs outcomes results taken now old sent → Goes job sent new result now after outcome
+        → GoOn tells may session (jobs ++ job ∷ []) (outcomes ++ outcome ∷ []) (results ++ result ∷ []) taken after old new
+    gone_more [] [] [] taken now after old sent new job outcome result goes more = (
+      after,
+      new,
+      subst (λ (k : Knowledge). Goes job old new result k after outcome) goes.2
+          (subst (λ (s : LinkState). Goes job s new result now after outcome) goes.3 more),
+      (refl, refl, refl, refl),
+    )
+    gone_more [] (o ∷ outcomes) results taken now after old sent new job outcome result goes more = absurd (cc goes.0)
+    gone_more [] [] (r ∷ results) taken now after old sent new job outcome result goes more = absurd (cc goes.1)
+    gone_more (j ∷ jobs) [] results taken now after old sent new job outcome result goes more = absurd goes
+    gone_more (j ∷ jobs) (o ∷ outcomes) [] taken now after old sent new job outcome result goes more = absurd goes
+    gone_more (j ∷ jobs) (o ∷ outcomes) (r ∷ results) taken now after old sent new job outcome result goes more = (
+      goes.0,
+      goes.1,
+      goes.2,
+      gone_more jobs outcomes results goes.0 now after goes.1 sent new job outcome result goes.3 more,
+    )
+
+    pub gone_next : (jobs : List Job) (outcomes : List Outcome) (i : ℕ) (job : Job) (outcome : Outcome) (results : List Served)
+        (taken now after : Knowledge) (old sent new : LinkState) (result : Served)
+        → i < length jobs → i < length outcomes → job ≡ slice_index_or jobs i job → outcome ≡ slice_index_or outcomes i outcome
+        → GoOn tells may session (take i jobs) (take i outcomes) results taken now old sent → Goes job sent new result now after outcome
+        → GoOn tells may session (take (i + 1) jobs) (take (i + 1) outcomes) (results ++ result ∷ []) taken after old new
+    gone_next jobs outcomes i job outcome results taken now after old sent new result within inside read told goes more =
+        subst (λ (js : List Job). GoOn tells may session js (take (i + 1) outcomes) (results ++ result ∷ []) taken after old new)
+        (sym (take_more jobs i job within ∙ ap (λ (j : Job). take i jobs ++ j ∷ []) (sym read)))
+        (subst (λ (os : List Outcome). GoOn tells may session (take i jobs ++ job ∷ []) os (results ++ result ∷ []) taken after old new)
+        (sym (take_more outcomes i outcome inside ∙ ap (λ (o : Outcome). take i outcomes ++ o ∷ []) (sym told)))
+        (gone_more (take i jobs) (take i outcomes) results taken now after old sent new job outcome result goes more))
+
+    -- the outcomes of turns that the pass keeps stay so while the session goes on
+    pub turns_stay : (job : Job) (old new : LinkState) (result : Served) (now after : Knowledge) (outcome : Outcome) (outcomes : List Outcome)
+        → Goes job old new result now after outcome → HaveTurnsFor told outcomes now → HaveTurnsFor told outcomes after
+    turns_stay job old new result now after outcome outcomes goes have =
+        let one : Later now after = later_on tells may session job old new result now after outcome goes in
+        λ k d lt receipt at. let t = have k d lt receipt at in (
+          t.0,
+          subst (λ (ts : List KeptTurn). Contains ts t.0) (sym one.turns) (Contains-append_left now.turns one.later t.0 t.1),
+          t.2,
+        )
+
+    -- the turns behind those that took the datagrams: at most one for each job, which added nothing
+    record Laters (jobs : List Job) (taken after : Knowledge) : Type 0 where
+      pub later : List KeptTurn
+      pub turns : after.turns ≡ taken.turns ++ later
+      pub number : after.number ≡ taken.number
+      pub size : after.size ≡ taken.size
+      pub one_each : length later ≤ length jobs
+      pub adds_none : All (λ t. t.added ≡ []) later
+
+    laters_of : (jobs : List Job) (outcomes : List Outcome) (results : List Served) (taken after : Knowledge) (old new : LinkState)
+        → GoOn tells may session jobs outcomes results taken after old new → Laters jobs taken after
+    laters_of [] outcomes results taken after old new goes = record {
+      later = [];
+      turns = ap (λ (k : Knowledge). k.turns) goes.2 ∙ sym (append-nil taken.turns);
+      number = ap (λ (k : Knowledge). k.number) goes.2;
+      size = ap (λ (k : Knowledge). k.size) goes.2;
+      one_each = omega arith;
+      adds_none = All-nil (λ (t : KeptTurn). t.added ≡ []);
+    }
+    laters_of (job ∷ jobs) [] results taken after old new goes = absurd goes
+    laters_of (job ∷ jobs) (o ∷ outcomes) [] taken after old new goes = absurd goes
+    laters_of (job ∷ jobs) (o ∷ outcomes) (r ∷ results) taken after old new goes =
+        let one : Later taken goes.0 = later_on tells may session job old goes.1 r taken goes.0 o goes.2 in
+        let rest : Laters jobs goes.0 after = laters_of jobs outcomes results goes.0 after goes.1 new goes.3 in
+        record {
+          later = one.later ++ rest.later;
+          turns = rest.turns ∙ ap (λ (ts : List KeptTurn). ts ++ rest.later) one.turns ∙ append_assoc taken.turns one.later rest.later;
+          number = rest.number ∙ one.number;
+          size = rest.size ∙ one.size;
+          one_each = let a = one.one_more in let b = rest.one_each in let both = length-append one.later rest.later in omega (arith, a, b, both);
+          adds_none = All-append (λ (t : KeptTurn). t.added ≡ []) one.later rest.later one.adds_none rest.adds_none;
+        }
+
+    -- the pass knows no less behind what followed for a job
+    goes_from : (job : Job) (old new : LinkState) (result : Served) (now after : Knowledge) (outcome : Outcome)
+        → Goes job old new result now after outcome → GoesFrom told now after
+    goes_from job old new result now after outcome goes =
+        let one : Later now after = later_on tells may session job old new result now after outcome goes in
+        let on : OnFrom told now after = on_goes job old new result now after outcome goes in
+        record { number = one.number; size = one.size; faults = on.faults; known = on.known; later = one.later; turns = one.turns }
+
+    -- what is told of each
+    each_tells : (jobs : List Job) (outcomes : List Outcome) (results : List Served) (before taken now after : Knowledge)
+        (old new : LinkState) (more : List KeptTurn) → now.turns ≡ taken.turns ++ more
+        → AreTaken tells session jobs outcomes before taken → GoOn tells may session jobs outcomes results now after old new
+        → EachTells told session jobs results before now after old new
+    each_tells [] outcomes results before taken now after old new more is takes goes = (goes.1, goes.2, goes.3)
+    each_tells (job ∷ jobs) [] results before taken now after old new more is takes goes = absurd goes
+    each_tells (job ∷ jobs) (o ∷ outcomes) [] before taken now after old new more is takes goes = absurd goes
+    each_tells (job ∷ jobs) (o ∷ outcomes) (r ∷ results) before taken now after old new more is takes goes =
+        let rest : Firsts jobs takes.0 taken = firsts_of jobs outcomes takes.0 taken takes.2 in
+        let between : List KeptTurn = rest.firsts ++ more in
+        let behind : now.turns ≡ takes.0.turns ++ between =
+        is ∙ ap (λ (ts : List KeptTurn). ts ++ more) rest.turns ∙ append_assoc takes.0.turns rest.firsts more in
+        let one : GoesFrom told now goes.0 = goes_from job old goes.1 r now goes.0 o goes.2 in (
+          takes.0,
+          goes.0,
+          goes.1,
+          record {
+            first = turn_of {job = job} takes.1;
+            turns = turns_with {job = job} takes.1;
+            size = ap (λ (k : Knowledge). k.size) takes.1.kept;
+            between = between;
+            goes = one;
+            tells = tells_behind tells may session job old goes.1 r {between = between} {before = before} {now = now} {after = goes.0}
+                (record { outcome = o; taken = takes.0; first = takes.1; behind = behind; goes_on = goes.2 });
+          },
+          each_tells jobs outcomes results takes.0 taken goes.0 after goes.1 new (more ++ one.later)
+              (one.turns ∙ ap (λ (ts : List KeptTurn). ts ++ one.later) is ∙ append_assoc taken.turns more one.later) takes.2 goes.3,
+        )
+
+    each_may_have : (jobs : List Job) (outcomes : List Outcome) (results : List Served) (taken after : Knowledge) (old new : LinkState)
+        → GoOn tells may session jobs outcomes results taken after old new → EachMayHave may session jobs results
+    each_may_have [] outcomes results taken after old new goes = goes.1
+    each_may_have (job ∷ jobs) [] results taken after old new goes = absurd goes
+    each_may_have (job ∷ jobs) (o ∷ outcomes) [] taken after old new goes = absurd goes
+    each_may_have (job ∷ jobs) (o ∷ outcomes) (r ∷ results) taken after old new goes = (
+      may_on tells may session job old goes.1 r taken goes.0 o goes.2,
+      each_may_have jobs outcomes results goes.0 after goes.1 new goes.3,
+    )
+
+    module _ (jobs : List Job) (old new : LinkState) (results : List Served) (before after : Knowledge)
+        (is : AreServed tells may session jobs old new results before after) where
+      pub tell_together : TellTogether told session jobs results before after old new
+      tell_together = record {
+        taken = is.taken;
+        goes = from_taken jobs is.outcomes before is.taken is.first;
+        each = each_tells jobs is.outcomes results before is.taken is.taken after old new [] (sym (append-nil is.taken.turns)) is.first is.go_on;
+      }
+
+      pub all_may_have : EachMayHave may session jobs results
+      all_may_have = each_may_have jobs is.outcomes results is.taken after old new is.go_on
+
+      pub keeps_turns_of : KeepsTurnsOf told session jobs before after
+      keeps_turns_of =
+          let first : Firsts jobs before is.taken = firsts_of jobs is.outcomes before is.taken is.first in
+          let then : Laters jobs is.taken after = laters_of jobs is.outcomes results is.taken after old new is.go_on in
+          record {
+            firsts = first.firsts;
+            later = then.later;
+            turns = then.turns ∙ ap (λ (ts : List KeptTurn). ts ++ then.later) first.turns ∙ append_assoc before.turns first.firsts then.later;
+            number = then.number ∙ first.number;
+            size = then.size ∙ first.size;
+            each = first.each;
+            one_each = then.one_each;
+            adds_none = then.adds_none;
+          }
+
+-- the same of the pass that a session has, with the lists as the parts of the call were lent them
+pub are_served : {A : Type 0} (tells : Ghosts A) (may : ℕ → ℕ → Go → Type 0) (session : ℕ) (jobs : List Job) (outcomes : List Outcome)
+    (results : List Served) (p : Option Pass) (pass : Pass) (taken after : Knowledge) (old new : LinkState) → p ≡ Some pass
+    → (js ks : List Job) (os : List Outcome) → js ≡ jobs → ks ≡ jobs → os ≡ outcomes
+    → AreTaken tells session js outcomes (knowledge pass) taken → GoOn tells may session ks os results taken after old new
+    → AreServed tells may session jobs old new results (known_by p) after
+are_served tells may session jobs outcomes results p pass taken after old new is js ks os first second third takes goes =
+    subst (λ (k : Knowledge). AreServed tells may session jobs old new results k after) (ap known_by (sym is)) (record {
+      outcomes = outcomes;
+      taken = taken;
+      first = subst (λ (x : List Job). AreTaken tells session x outcomes (knowledge pass) taken) first takes;
+      go_on = subst (λ (x : List Job). GoOn tells may session x outcomes results taken after old new) second
+          (subst (λ (o : List Outcome). GoOn tells may session ks o results taken after old new) third goes);
+    })
+
+-- the outcomes of turns that the pass keeps, with one more
+pub turns_more : (told : Bool) (outcomes : List Outcome) (outcome : Outcome) (before after : Knowledge) (more : List KeptTurn)
+    → after.turns ≡ before.turns ++ more → HaveTurnsFor told outcomes before → HasTurnFor told outcome after
+    → HaveTurnsFor told (outcomes ++ outcome ∷ []) after
+turns_more told outcomes outcome before after more is have has =
+    All-append (λ (o : Outcome). HasTurnFor told o after) outcomes (outcome ∷ [])
+    (λ k d lt receipt at. let t = have k d lt receipt at in (
+      t.0,
+      subst (λ (ts : List KeptTurn). Contains ts t.0) (sym is) (Contains-append_left before.turns more t.0 t.1),
+      t.2,
+    ))
+    (All-cons (λ (o : Outcome). HasTurnFor told o after) outcome [] has (All-nil (λ (o : Outcome). HasTurnFor told o after)))
+
+-- what was added to several jobs' answers stands among those to more
+module _ (told : Bool) (session size : ℕ) where
+  firsts_answer : (earlier jobs later : List Job) (firsts : List KeptTurn) → told ≡ true
+      → AreFirstsOf told session size jobs firsts → All (IsAnswerTo size session (earlier ++ (jobs ++ later))) firsts
+  firsts_answer earlier [] later firsts it_is each =
+      subst (λ (ts : List KeptTurn). All (IsAnswerTo size session (earlier ++ later)) ts) (sym each)
+      (All-nil (IsAnswerTo size session (earlier ++ later)))
+  firsts_answer earlier (job ∷ jobs) later [] it_is each = absurd each
+  firsts_answer earlier (job ∷ jobs) later (t ∷ firsts) it_is each =
+      All-cons (IsAnswerTo size session (earlier ++ (job ∷ (jobs ++ later)))) t firsts (by_case (each.1 it_is))
+      (subst (λ (js : List Job). All (IsAnswerTo size session js) firsts) (append_assoc earlier (job ∷ []) (jobs ++ later))
+      (firsts_answer (earlier ++ job ∷ []) jobs later firsts it_is each.2))
+    where
+      by_case : (t.added ≡ []) ⊎ (t.added ≡ called_at told session job t)
+          → IsAnswerTo size session (earlier ++ (job ∷ (jobs ++ later))) t
+      by_case (inl none) = inl none
+      by_case (inr is) = inr (
+        job,
+        subst (λ (js : List Job). Contains js job) (append_assoc earlier (job ∷ []) (jobs ++ later))
+            (Contains-append_left (earlier ++ job ∷ []) (jobs ++ later) job (Contains-push earlier job)),
+        is ∙ (λ i. turns.called_for (history_at t) (each.0 i) job.from job.octets job.moment (caller_of session job)),
+      )
+
+-- a pass that added answers to some jobs added answers to these and the ones behind them
+pub adds_answers_of : (told : Bool) (session : ℕ) (jobs : List Job) (before after : Knowledge) → KeepsTurnsOf told session jobs before after
+    → told ≡ true → session ≡ before.number → (earlier : List Job) → AddsAnswers earlier before → AddsAnswers (earlier ++ jobs) after
+adds_answers_of told session jobs before after keeps it_is own earlier adds =
+    subst (λ (ts : List KeptTurn). All (IsAnswerTo after.size after.number (earlier ++ jobs)) ts) (sym keeps.turns)
+    (subst (λ (n : ℕ). All (IsAnswerTo n after.number (earlier ++ jobs)) (before.turns ++ (keeps.firsts ++ keeps.later))) (sym keeps.size)
+    (subst (λ (n : ℕ). All (IsAnswerTo before.size n (earlier ++ jobs)) (before.turns ++ (keeps.firsts ++ keeps.later))) (sym keeps.number)
+    (All-append (IsAnswerTo before.size before.number (earlier ++ jobs)) before.turns (keeps.firsts ++ keeps.later)
+    (λ k d lt. more_answers (slice_index_or before.turns k d) (adds k d lt))
+    (All-append (IsAnswerTo before.size before.number (earlier ++ jobs)) keeps.firsts keeps.later
+    (subst (λ (js : List Job). All (IsAnswerTo before.size before.number (earlier ++ js)) keeps.firsts) (append-nil jobs)
+    (subst (λ (n : ℕ). All (IsAnswerTo before.size n (earlier ++ (jobs ++ []))) keeps.firsts) own
+    (firsts_answer told session before.size earlier jobs [] keeps.firsts it_is keeps.each)))
+    (none_added before.size before.number (earlier ++ jobs) keeps.later keeps.adds_none)))))
+  where
+    more_answers : (t : KeptTurn) → IsAnswerTo before.size before.number earlier t
+        → IsAnswerTo before.size before.number (earlier ++ jobs) t
+    more_answers t (inl none) = inl none
+    more_answers t (inr is) = inr (is.0, Contains-append_left earlier jobs is.0 is.1, is.2)

@@ -1,0 +1,18 @@
+-- What contracts see of a batch of jobs.
+use Rattle.std.specs.Prelude.{ℕ, ◌≤◌, Bool, List, nat_le, vec_capacity, vec_len}
+use Rattle.job_inbox.specs.declared.job.Job.{Job}
+use Rattle.node_session.specs.declared.job_batch.JobBatch.{JobBatch}
+use Rattle.node_session.specs.declared.served.Served.{Served}
+
+abbrev pub jobs_of : JobBatch → List Job
+jobs_of batch = batch.jobs.items
+
+-- what became of each, once they were served
+abbrev pub served_of : JobBatch → List Served
+served_of batch = batch.served.items
+
+abbrev pub HasRoomFor : JobBatch → ℕ → Type 0
+HasRoomFor batch n = n ≤ vec_capacity batch.jobs
+
+abbrev pub is_full : JobBatch → Bool
+is_full batch = nat_le (vec_capacity batch.jobs) (vec_len batch.jobs)
