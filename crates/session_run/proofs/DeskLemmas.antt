@@ -1,9 +1,9 @@
--- What a session has done at its desk behind one more job.
+-- What a session has done at its desk behind jobs that it served together.
 use Rattle.std.proofs.Common.{◌≡◌, ◌⊎◌, ⊎_elim, inl, inr, ℕ, ◌<◌, ◌≤◌, Bool, true, List, [], ◌∷◌, ◌++◌, Option, None, Some, refl, sym, ap, subst, ◌∙◌, append_assoc, arith}
 use Rattle.std.specs.Prelude.{All, IfSome, MatchOption}
 use Rattle.std.specs.List.{Contains}
 use Rattle.std.proofs.lemmas.List.{append-nil}
-use Rattle.std.proofs.lemmas.List.Elements.{All-push, All-weaker, Contains-append_left, Contains-append_right, Contains-push}
+use Rattle.std.proofs.lemmas.List.Elements.{All-push, All-weaker, Contains-append_left, Contains-append_right}
 use Rattle.area_disk.specs.Disk as disk
 use Rattle.area_disk.specs.declared.area.Area.{Ghosts}
 use Rattle.gateway_book.specs.Answer.{Says, failure_reply, reply_in}
@@ -16,9 +16,10 @@ use Rattle.gw_base.specs.declared.address.Addr.{Addr}
 use Rattle.gw_base.specs.declared.history.HistoryEntry.{HistoryEntry}
 use Rattle.job_inbox.specs.declared.job.Job.{Job}
 use Rattle.net_link.specs.Datagrams.{Datagram, LinkState, with_one}
-use Rattle.node_session.specs.Answering.{HasLost, HasReplied, IsFaultAt, IsReplyAt, KeepsTurns, Tells, history_at}
+use Rattle.node_session.specs.Answering.{HasLostBehind, HasRepliedBehind, IsFaultAt, IsReplyAt, TellsBehind, history_at}
 use Rattle.node_session.specs.Asking.{IsAsked}
-use Rattle.node_session.specs.Serving.{GoesOn, IsServed, caller_of}
+use Rattle.node_session.specs.Serving.{GoesOn, caller_of}
+use Rattle.node_session.specs.Together.{AreServed, AreTaken, GoOn, GoesFrom}
 use Rattle.node_session.specs.Turns.{decided_at, entries_of}
 use Rattle.node_session.specs.declared.gate.Go.{Go}
 use Rattle.node_session.specs.declared.served.Served.{Served}
@@ -95,99 +96,107 @@ module _ {A : Type 0} (tells : Ghosts A) where
       (λ second. on_took (tells_lists tells) (λ book. book_facts book) _ _ a.looked settled after second.1)
       a.ends)
 
-  module _ (may : ℕ → ℕ → Go → Type 0) (session : ℕ) (job : Job) (old new : LinkState) (result : Served) where
-    on_goes : (taken after : Knowledge) (o : Outcome) → GoesOn tells may session job old new result taken after o → OnFrom (tells_lists tells) taken after
-    on_goes taken after (outcome.Drop why) e = on_same (tells_lists tells) taken after e.1
-    on_goes taken after outcome.NoMemory (inl over) = on_same (tells_lists tells) taken after over.1.1
-    on_goes taken after outcome.NoMemory (inr on) = on_same (tells_lists tells) taken after on.1.1
-    on_goes taken after (outcome.Answer receipt) (inl over) = on_same (tells_lists tells) taken after over.1.1
-    on_goes taken after (outcome.Answer receipt) (inr on) =
+  module _ (may : ℕ → ℕ → Go → Type 0) (session : ℕ) where
+    on_goes : (job : Job) (old new : LinkState) (result : Served) (taken after : Knowledge) (o : Outcome)
+        → GoesOn tells may session job old new result taken after o → OnFrom (tells_lists tells) taken after
+    on_goes job old new result taken after (outcome.Drop why) e = on_same (tells_lists tells) taken after e.1
+    on_goes job old new result taken after (outcome.Answer receipt) (inl over) = on_same (tells_lists tells) taken after over.1.1
+    on_goes job old new result taken after (outcome.Answer receipt) (inr on) =
         on_asked receipt.front receipt.faults taken on.1.settled after on.1.asked
 
-    -- behind a job that was served
-    pub on_served : (before after : Knowledge) → IsServed tells may session job old new result before after → OnFrom (tells_lists tells) before after
-    on_served before after s =
+    on_taken : (jobs : List Job) (outcomes : List Outcome) (before after : Knowledge) → AreTaken tells session jobs outcomes before after
+        → OnFrom (tells_lists tells) before after
+    on_taken [] [] before after taken = on_same (tells_lists tells) before after taken
+    on_taken [] (o ∷ outcomes) before after taken = absurd taken
+    on_taken (job ∷ jobs) [] before after taken = absurd taken
+    on_taken (job ∷ jobs) (o ∷ outcomes) before after taken =
+        on_then (tells_lists tells) before taken.0 after
+        (on_took (tells_lists tells) (λ book. book_facts book) _ _ before o taken.0 taken.1)
+        (on_taken jobs outcomes taken.0 after taken.2)
+
+    on_gone : (jobs : List Job) (outcomes : List Outcome) (results : List Served) (taken after : Knowledge) (old new : LinkState)
+        → GoOn tells may session jobs outcomes results taken after old new → OnFrom (tells_lists tells) taken after
+    on_gone [] outcomes results taken after old new goes = on_same (tells_lists tells) taken after goes.2
+    on_gone (job ∷ jobs) [] results taken after old new goes = absurd goes
+    on_gone (job ∷ jobs) (o ∷ outcomes) [] taken after old new goes = absurd goes
+    on_gone (job ∷ jobs) (o ∷ outcomes) (r ∷ results) taken after old new goes =
+        on_then (tells_lists tells) taken goes.0 after (on_goes job old goes.1 r taken goes.0 o goes.2)
+        (on_gone jobs outcomes results goes.0 after goes.1 new goes.3)
+
+    -- behind jobs that were served together
+    pub on_served : (jobs : List Job) (old new : LinkState) (results : List Served) (before after : Knowledge)
+        → AreServed tells may session jobs old new results before after → OnFrom (tells_lists tells) before after
+    on_served jobs old new results before after s =
         on_then (tells_lists tells) before s.taken after
-        (on_took (tells_lists tells) (λ book. book_facts book) _ _ before s.outcome s.taken s.first)
-        (on_goes s.taken after s.outcome s.goes_on)
+        (on_taken jobs s.outcomes before s.taken s.first)
+        (on_gone jobs s.outcomes results s.taken after old new s.go_on)
 
 -- ---- what was sent
 
-module _ (told : Bool) (session : ℕ) (job : Job) (jobs : List Job) (before after : Knowledge) (on : OnFrom told before after)
-    (keeps : KeepsTurns told session job before after) where
-  more_turns : (t : KeptTurn) → Contains before.turns t → Contains after.turns t
-  more_turns t has = subst (λ (ts : List KeptTurn). Contains ts t) (sym keeps.turns) (Contains-append_left before.turns (keeps.first ∷ keeps.later) t has)
+abbrev pub Within : List Job → List Job → Type 0
+Within jobs all = (j : Job) → Contains jobs j → Contains all j
 
+pub more_turns : (told : Bool) (before after : Knowledge) → GoesFrom told before after → (t : KeptTurn) → Contains before.turns t
+    → Contains after.turns t
+more_turns told before after goes t has =
+    subst (λ (ts : List KeptTurn). Contains ts t) (sym goes.turns) (Contains-append_left before.turns goes.later t has)
+
+module _ (told : Bool) (jobs all : List Job) (within : Within jobs all) (before after : Knowledge) (goes : GoesFrom told before after) where
   -- a reply stays one
-  reply_stays : told ≡ true → (d : Datagram) → IsReplyTo jobs before d → IsReplyTo (jobs ++ job ∷ []) after d
+  reply_stays : told ≡ true → (d : Datagram) → IsReplyTo jobs before d → IsReplyTo all after d
   reply_stays y d r = record {
     job = r.job;
-    was_taken = Contains-append_left jobs (job ∷ []) r.job r.was_taken;
+    was_taken = within r.job r.was_taken;
     peer = r.peer;
     says = ⊎_elim
         (λ (a : IsAnswered before.size before.known (datagram_of r.job) d.octets).
-        inl (subst (λ (n : ℕ). IsAnswered n after.known (datagram_of r.job) d.octets) (sym keeps.size.0)
+        inl (subst (λ (n : ℕ). IsAnswered n after.known (datagram_of r.job) d.octets) (sym goes.size)
         (record {
           history = a.history;
           act = a.act;
           says = a.says;
           now = a.now;
           who = a.who;
-          rests = begins_then (a.history ++ entries_of a.history a.now a.who a.act) before.known after.known a.rests (on.known y);
+          rests = begins_then (a.history ++ entries_of a.history a.now a.who a.act) before.known after.known a.rests (goes.known y);
         })))
         (λ (f : TellsFailure (datagram_of r.job) d.octets × HasFailedSince before).
-        inr (f.0, (f.1.0, more_turns f.1.0 f.1.1, subst (λ (n : ℕ). disk.Rose n f.1.0.left.faults) (sym on.faults) f.1.2)))
+        inr (f.0, (f.1.0, more_turns told before after goes f.1.0 f.1.1, subst (λ (n : ℕ). disk.Rose n f.1.0.left.faults) (sym goes.faults) f.1.2)))
         r.says;
   }
 
-  replies_stay : told ≡ true → (sent : Option (List Datagram)) → AreRepliesTo jobs before sent → AreRepliesTo (jobs ++ job ∷ []) after sent
+  pub replies_stay : told ≡ true → (sent : Option (List Datagram)) → AreRepliesTo jobs before sent → AreRepliesTo all after sent
   replies_stay y None are = tt
-  replies_stay y (Some list) are = All-weaker (IsReplyTo jobs before) (IsReplyTo (jobs ++ job ∷ []) after) (reply_stays y) list are
+  replies_stay y (Some list) are = All-weaker (IsReplyTo jobs before) (IsReplyTo all after) (reply_stays y) list are
 
-  one_more : told ≡ true → (sent : Option (List Datagram)) (d : Datagram) → IsReplyTo (jobs ++ job ∷ []) after d → AreRepliesTo jobs before sent
-      → AreRepliesTo (jobs ++ job ∷ []) after (with_one d sent)
+-- Behind one of the jobs: it is among all that were taken, `before` is in front of its first turn, `taken` in front of what
+-- followed, and `after` behind that.
+module _ (told : Bool) (session : ℕ) (job : Job) (jobs : List Job) (has_job : Contains jobs job) (between : List KeptTurn)
+    (before taken after : Knowledge) (goes : GoesFrom told taken after) (same_size : before.size ≡ after.size)
+    (all_at : (t : KeptTurn) → Contains after.turns t → IsSince after.faults t) (old new : LinkState) where
+  stay : told ≡ true → (sent : Option (List Datagram)) → AreRepliesTo jobs taken sent → AreRepliesTo jobs after sent
+  stay y sent are = replies_stay told jobs jobs (λ j has. has) taken after goes y sent are
+
+  one_more : told ≡ true → (sent : Option (List Datagram)) (d : Datagram) → IsReplyTo jobs after d → AreRepliesTo jobs taken sent
+      → AreRepliesTo jobs after (with_one d sent)
   one_more y None d is are = tt
-  one_more y (Some list) d is are =
-      All-push (IsReplyTo (jobs ++ job ∷ []) after) list d (replies_stay y (Some list) are) is
+  one_more y (Some list) d is are = All-push (IsReplyTo jobs after) list d (stay y (Some list) are) is
 
   new_reply : (octets : List ℕ) → IsAnswered after.size after.known (datagram_of job) octets
       ⊎ (TellsFailure (datagram_of job) octets × HasFailedSince after)
-      → IsReplyTo (jobs ++ job ∷ []) after (record { peer = job.from; octets = octets })
-  new_reply octets says = record { job = job; was_taken = Contains-push jobs job; peer = refl; says = says }
+      → IsReplyTo jobs after (record { peer = job.from; octets = octets })
+  new_reply octets says = record { job = job; was_taken = has_job; peer = refl; says = says }
 
-  -- a turn of the call that stands in what the pass keeps
+  -- a turn of the job that stands in what the pass keeps
   kept_turn : (first : KeptTurn) (later : List KeptTurn) → after.turns ≡ before.turns ++ first ∷ later → Contains after.turns first
   kept_turn first later is = subst (λ (ts : List KeptTurn). Contains ts first) (sym is)
       (Contains-append_right before.turns (first ∷ later) first (0, omega arith, refl))
 
--- what follows a common beginning is the same
-abbrev rest_of : {A : Type 0} → List A → List A
-rest_of [] = []
-rest_of (x ∷ xs) = xs
-
-abbrev head_of : {A : Type 0} → A → List A → A
-head_of a [] = a
-head_of a (x ∷ xs) = x
-
-after_same : {A : Type 0} (xs ys zs : List A) → xs ++ ys ≡ xs ++ zs → ys ≡ zs
-after_same [] ys zs e = e
-after_same (x ∷ xs) ys zs e = after_same xs ys zs (ap (λ l. rest_of l) e)
-
-module _ (told : Bool) (session : ℕ) (job : Job) (jobs : List Job) (before after : Knowledge) (on : OnFrom told before after)
-    (keeps : KeepsTurns told session job before after) (since : All (IsSince after.faults) after.turns) (old new : LinkState) where
-  all_at : (t : KeptTurn) → Contains after.turns t → IsSince after.faults t
-  all_at t has = subst (IsSince after.faults) has.2 (since has.0 t has.1)
-
-  same_first : (first : KeptTurn) (later : List KeptTurn) → after.turns ≡ before.turns ++ first ∷ later → first ≡ keeps.first
-  same_first first later is =
-      ap (λ (ts : List KeptTurn). head_of first ts) (after_same before.turns (first ∷ later) (keeps.first ∷ keeps.later) (sym is ∙ keeps.turns))
-
-  replied_says : (cause : Option ℕ) (front : ℕ) → told ≡ true → (r : HasReplied told session job before after old new cause front)
+  replied_says : (cause : Option ℕ) (front : ℕ) → told ≡ true
+      → (r : HasRepliedBehind told session job between before after old new cause front)
       → IsAnswered after.size after.known (datagram_of job) r.reply ⊎ (TellsFailure (datagram_of job) r.reply × HasFailedSince after)
   replied_says cause front y r =
-      let size : r.first.found.size ≡ after.size =
-      ap (λ (t : KeptTurn). t.found.size) (same_first r.first r.later r.turns) ∙ keeps.size.1 ∙ sym keeps.size.0 in
-      let has = kept_turn told session job jobs before after on keeps r.first r.later r.turns in
+      let size : r.first.found.size ≡ after.size = r.size ∙ same_size in
+      let has = kept_turn r.first (between ++ r.later) r.turns in
       ⊎_elim
       (λ (a : IsReplyAt told session job r.first r.reply). inl (record {
         history = history_at r.first;
@@ -203,77 +212,99 @@ module _ (told : Bool) (session : ℕ) (job : Job) (jobs : List Job) (before aft
       ))
       (r.answers y)
 
-  lost_on : told ≡ true → (l : HasLost told session job before after old new) → AreRepliesTo jobs before old.sent
-      → AreRepliesTo (jobs ++ job ∷ []) after new.sent
+  lost_on : told ≡ true → (l : HasLostBehind told session job between before after old new) → AreRepliesTo jobs taken old.sent
+      → AreRepliesTo jobs after new.sent
   lost_on y l are = by_reply (failure_reply (prepared_of job.octets)) refl l.sent
     where
       by_reply : (o : Option (List ℕ)) → failure_reply (prepared_of job.octets) ≡ o
           → MatchOption o (new ≡ old) (λ octets. new ≡ record old { sent = with_one (record { peer = job.from; octets = octets }) old.sent })
-          → AreRepliesTo (jobs ++ job ∷ []) after new.sent
+          → AreRepliesTo jobs after new.sent
       by_reply None is same =
-          subst (λ (s : LinkState). AreRepliesTo (jobs ++ job ∷ []) after s.sent) (sym same)
-          (replies_stay told session job jobs before after on keeps y old.sent are)
+          subst (λ (s : LinkState). AreRepliesTo jobs after s.sent) (sym same) (stay y old.sent are)
       by_reply (Some octets) is sent =
-          let has = kept_turn told session job jobs before after on keeps l.first (l.second ∷ []) l.turns in
+          let has = kept_turn l.first (between ++ l.second ∷ []) l.turns in
           let also : Contains after.turns l.second = subst (λ (ts : List KeptTurn). Contains ts l.second) (sym l.turns)
-          (Contains-append_right before.turns (l.first ∷ l.second ∷ []) l.second (1, omega arith, refl)) in
+          (Contains-append_right before.turns (l.first ∷ (between ++ l.second ∷ [])) l.second
+          (Contains-append_right (l.first ∷ between) (l.second ∷ []) l.second (0, omega arith, refl))) in
           let first = all_at l.first has in
           let rose : disk.Rose after.faults l.second.left.faults =
           device_rose_since after.faults l.first.left.faults l.second.left.faults
           (let a = first.found in let b = first.left in omega (arith, a, b)) l.rose in
-          subst (λ (s : LinkState). AreRepliesTo (jobs ++ job ∷ []) after s.sent) (sym sent)
-          (one_more told session job jobs before after on keeps y old.sent (record { peer = job.from; octets = octets })
-          (new_reply told session job jobs before after on keeps octets (inr (is, (l.second, also, rose)))) are)
+          subst (λ (s : LinkState). AreRepliesTo jobs after s.sent) (sym sent)
+          (one_more y old.sent (record { peer = job.from; octets = octets })
+          (new_reply octets (inr (is, (l.second, also, rose)))) are)
 
-  unsent : told ≡ true → new.sent ≡ old.sent → AreRepliesTo jobs before old.sent → AreRepliesTo (jobs ++ job ∷ []) after new.sent
-  unsent y same are = subst (λ s. AreRepliesTo (jobs ++ job ∷ []) after s) (sym same)
-      (replies_stay told session job jobs before after on keeps y old.sent are)
+  unsent : told ≡ true → new.sent ≡ old.sent → AreRepliesTo jobs taken old.sent → AreRepliesTo jobs after new.sent
+  unsent y same are = subst (λ s. AreRepliesTo jobs after s) (sym same) (stay y old.sent are)
 
   -- what was sent stays replies to jobs that were taken
-  pub sent_on : (result : Served) → Tells told session job before after old new result → told ≡ true → AreRepliesTo jobs before old.sent
-      → AreRepliesTo (jobs ++ job ∷ []) after new.sent
+  pub sent_on : (result : Served) → TellsBehind told session job between before after old new result → told ≡ true
+      → AreRepliesTo jobs taken old.sent → AreRepliesTo jobs after new.sent
   sent_on (served.Replied cause front) r y are =
-      subst (λ (s : LinkState). AreRepliesTo (jobs ++ job ∷ []) after s.sent) (sym r.sent)
-      (one_more told session job jobs before after on keeps y old.sent (record { peer = job.from; octets = r.reply })
-      (new_reply told session job jobs before after on keeps r.reply (replied_says cause front y r)) are)
+      subst (λ (s : LinkState). AreRepliesTo jobs after s.sent) (sym r.sent)
+      (one_more y old.sent (record { peer = job.from; octets = r.reply }) (new_reply r.reply (replied_says cause front y r)) are)
   sent_on (served.Dropped why) d y are = unsent y (ap (λ (s : LinkState). s.sent) d.unsent) are
   sent_on served.Lost l y are = lost_on y l are
   sent_on served.Link f y are = unsent y (ap (λ (s : LinkState). s.sent) f.rest) are
   sent_on served.Over same y are = unsent y (ap (λ (s : LinkState). s.sent) same) are
   sent_on served.NoMemory same y are = unsent y (ap (λ (s : LinkState). s.sent) same) are
 
--- a link by which a session sends hears nothing still
-module _ (told : Bool) (session : ℕ) (job : Job) (before after : Knowledge) (at : Addr) (old new : LinkState) where
-  as_before : new.address ≡ old.address → new.turns ≡ old.turns → new.received ≡ old.received → HearsNothing at old → HearsNothing at new
-  as_before address turns received h = record {
-    address = address ∙ h.address;
-    turns = turns ∙ h.turns;
-    received = subst (λ r. IfSome r (λ list. list ≡ [])) (sym received) h.received;
+-- a link by which a session sends hears nothing still, and failed where it had
+module _ (told : Bool) (session : ℕ) (job : Job) (between : List KeptTurn) (before after : Knowledge) (old new : LinkState) where
+  abbrev pub TellsOf : Served → Type 0
+  TellsOf result = TellsBehind told session job between before after old new result
+
+  -- the link's address, turns, datagrams heard and faults are as before
+  record SamePath : Type 0 where
+    pub address : new.address ≡ old.address
+    pub turns : new.turns ≡ old.turns
+    pub received : new.received ≡ old.received
+
+  path_of : (x : LinkState) → new ≡ x → x.address ≡ old.address → x.turns ≡ old.turns → x.received ≡ old.received → SamePath
+  path_of x is a t r = record {
+    address = ap (λ (s : LinkState). s.address) is ∙ a;
+    turns = ap (λ (s : LinkState). s.turns) is ∙ t;
+    received = ap (λ (s : LinkState). s.received) is ∙ r;
   }
 
-  same_path : (x : LinkState) → x.address ≡ old.address → x.turns ≡ old.turns → x.received ≡ old.received → new ≡ x → HearsNothing at old → HearsNothing at new
-  same_path x a t r is = as_before (ap (λ (s : LinkState). s.address) is ∙ a) (ap (λ (s : LinkState). s.turns) is ∙ t) (ap (λ (s : LinkState). s.received) is ∙ r)
+  lost_path : (o : Option (List ℕ))
+      → MatchOption o (new ≡ old) (λ octets. new ≡ record old { sent = with_one (record { peer = job.from; octets = octets }) old.sent })
+      → SamePath × (new.faults ≡ old.faults)
+  lost_path None same = (path_of old same refl refl refl, ap (λ (s : LinkState). s.faults) same)
+  lost_path (Some octets) sent = (
+    path_of (record old { sent = with_one (record { peer = job.from; octets = octets }) old.sent }) sent refl refl refl,
+    ap (λ (s : LinkState). s.faults) sent,
+  )
 
-  pub hears_on : (result : Served) → Tells told session job before after old new result → HearsNothing at old → HearsNothing at new
-  hears_on (served.Replied cause front) r h =
-      same_path (record old { sent = with_one (record { peer = job.from; octets = r.reply }) old.sent }) refl refl refl r.sent h
-  hears_on (served.Dropped why) d h = same_path old refl refl refl d.unsent h
-  hears_on served.Lost l h = by_reply (failure_reply (prepared_of job.octets)) l.sent
-    where
-      by_reply : (o : Option (List ℕ))
-          → MatchOption o (new ≡ old) (λ octets. new ≡ record old { sent = with_one (record { peer = job.from; octets = octets }) old.sent })
-          → HearsNothing at new
-      by_reply None same = same_path old refl refl refl same h
-      by_reply (Some octets) sent =
-          same_path (record old { sent = with_one (record { peer = job.from; octets = octets }) old.sent }) refl refl refl sent h
-  hears_on served.Link f h = same_path (record old { faults = new.faults }) refl refl refl f.rest h
-  hears_on served.Over same h = same_path old refl refl refl same h
-  hears_on served.NoMemory same h = same_path old refl refl refl same h
+  same_path : (result : Served) → TellsOf result → SamePath
+  same_path (served.Replied cause front) r =
+      path_of (record old { sent = with_one (record { peer = job.from; octets = r.reply }) old.sent }) r.sent refl refl refl
+  same_path (served.Dropped why) d = path_of old d.unsent refl refl refl
+  same_path served.Lost l = (lost_path (failure_reply (prepared_of job.octets)) l.sent).0
+  same_path served.Link f = path_of (record old { faults = new.faults }) f.rest refl refl refl
+  same_path served.Over same = path_of old same refl refl refl
+  same_path served.NoMemory same = path_of old same refl refl refl
 
-  pub failed_on : (result : Served) → Tells told session job before after old new result → result ≡ served.Link → Rose 0 new.faults
-  failed_on served.Link f is = rose_since 0 old.faults new.faults (omega arith) f.rose
-  failed_on (served.Replied cause front) r is = absurd (cc is)
-  failed_on (served.Dropped why) r is = absurd (cc is)
-  failed_on served.Lost r is = absurd (cc is)
-  failed_on served.Over r is = absurd (cc is)
-  failed_on served.NoMemory r is = absurd (cc is)
+  pub hears_on : (at : Addr) (result : Served) → TellsOf result → HearsNothing at old → HearsNothing at new
+  hears_on at result tells h =
+      let same = same_path result tells in
+      record {
+        address = same.address ∙ h.address;
+        turns = same.turns ∙ h.turns;
+        received = subst (λ r. IfSome r (λ list. list ≡ [])) (sym same.received) h.received;
+      }
+
+  as_failed : new.faults ≡ old.faults → Rose 0 old.faults → Rose 0 new.faults
+  as_failed same rose = subst (λ (n : ℕ). Rose 0 n) (sym same) rose
+
+  -- a link that had failed has failed
+  pub fails_still : (result : Served) → TellsOf result → Rose 0 old.faults → Rose 0 new.faults
+  fails_still (served.Replied cause front) r rose = as_failed (ap (λ (s : LinkState). s.faults) r.sent) rose
+  fails_still (served.Dropped why) d rose = as_failed (ap (λ (s : LinkState). s.faults) d.unsent) rose
+  fails_still served.Lost l rose = as_failed (lost_path (failure_reply (prepared_of job.octets)) l.sent).1 rose
+  fails_still served.Link f rose = rose_since 0 old.faults new.faults (omega arith) f.rose
+  fails_still served.Over same rose = as_failed (ap (λ (s : LinkState). s.faults) same) rose
+  fails_still served.NoMemory same rose = as_failed (ap (λ (s : LinkState). s.faults) same) rose
+
+  pub failed_on : TellsOf served.Link → Rose 0 new.faults
+  failed_on f = rose_since 0 old.faults new.faults (omega arith) f.rose

@@ -1,53 +1,141 @@
--- A session's desk behind one more job.
-use Rattle.std.proofs.Common.{◌≡◌, ◌≢◌, ℕ, List, [], ◌∷◌, ◌++◌, Some, refl, sym, ap, subst, ◌∙◌}
+-- A session's desk behind jobs that it served together.
+use Rattle.std.proofs.Common.{◌≡◌, ◌≢◌, ⊎_elim, ℕ, Bool, true, List, [], ◌∷◌, ◌++◌, Some, refl, sym, ap, subst, ◌∙◌, append_assoc, arith}
 use Rattle.std.specs.Prelude.{All}
+use Rattle.std.specs.List.{Contains}
+use Rattle.std.specs.Option.{option_or}
+use Rattle.std.proofs.lemmas.List.{append-nil}
+use Rattle.std.proofs.lemmas.List.Elements.{Contains-append_left, Contains-append_right}
 use Rattle.area_disk.specs.declared.area.Area as area
 use Rattle.gateway_book.specs.Turning.{tells_lists}
 use Rattle.gw_base.specs.Facts.{WhereTold}
+use Rattle.gw_base.specs.Faults.{Rose}
 use Rattle.gw_base.specs.declared.address.Addr.{Addr}
-use Rattle.job_inbox.specs.Rule.{with_taken}
 use Rattle.job_inbox.specs.declared.hand.Hand.{Hand}
 use Rattle.job_inbox.specs.declared.job.Job.{Job}
+use Rattle.net_link.specs.Datagrams.{LinkState}
 use Rattle.net_link.specs.declared.link.Link.{Ghosts}
-use Rattle.node_session.specs.Answering.{AddsAnswers, KeepsTurns, Tells}
-use Rattle.node_session.specs.Serving.{IsServed}
+use Rattle.node_session.specs.Answering.{AddsAnswers}
+use Rattle.node_session.specs.Together.{AreServed, EachTells, GoesFrom, KeepsTurnsOf, TellTogether}
 use Rattle.node_session.specs.declared.gate.Go.{Go}
 use Rattle.node_session.specs.declared.served.Served.{Served}
 use Rattle.node_session.specs.declared.served.Served.TheVariants as served
-use Rattle.session_run.specs.Desks.{AreRepliesTo, Began, HasWorked, IsSince, hand_at, known_at, link_at, stop_of}
+use Rattle.turn_cell.specs.declared.knowing.KeptTurn.{KeptTurn}
+use Rattle.turn_cell.specs.declared.knowing.Knowledge.{Knowledge}
+use Rattle.session_run.specs.Desks.{AreRepliesTo, Began, HasWorked, HearsNothing, IsSince, first_stop, hand_at, known_at, link_at, with_all_taken}
 use Rattle.session_run.specs.declared.desk.Desk.{Desk}
 use Rattle.session_run.specs.declared.stop.Stop.TheVariants as stop
-use Rattle.session_run.proofs.DeskLemmas.{OnFrom, failed_on, hears_on, on_served, sent_on}
+use Rattle.session_run.proofs.DeskLemmas.{OnFrom, Within, begins_then, failed_on, fails_still, hears_on, more_turns, on_served, replies_stay, sent_on}
+use Rattle.session_run.proofs.StopLemmas.{never_clock, one_of}
 
--- only a link that failed is told as one that stopped the session, and a session isn't stopped by the clock
-link_stopped : (result : Served) → stop_of result ≡ Some stop.Link → result ≡ served.Link
-link_stopped served.Link is = refl
-link_stopped served.NoMemory is = absurd (cc is)
-link_stopped (served.Replied cause front) is = absurd (cc is)
-link_stopped (served.Dropped why) is = absurd (cc is)
-link_stopped served.Lost is = absurd (cc is)
-link_stopped served.Over is = absurd (cc is)
+from_then : (told : Bool) (one two three : Knowledge) → GoesFrom told one two → GoesFrom told two three → GoesFrom told one three
+from_then told one two three p q = record {
+  number = q.number ∙ p.number;
+  size = q.size ∙ p.size;
+  faults = q.faults ∙ p.faults;
+  known = λ y. begins_then one.known two.known three.known (p.known y) (q.known y);
+  later = p.later ++ q.later;
+  turns = q.turns ∙ ap (λ (ts : List KeptTurn). ts ++ q.later) p.turns ∙ append_assoc one.turns p.later q.later;
+}
 
-never_clock : (result : Served) → stop_of result ≢ Some stop.Clock
-never_clock served.Link is = absurd (cc is)
-never_clock served.NoMemory is = absurd (cc is)
-never_clock (served.Replied cause front) is = absurd (cc is)
-never_clock (served.Dropped why) is = absurd (cc is)
-never_clock served.Lost is = absurd (cc is)
-never_clock served.Over is = absurd (cc is)
+from_same : (told : Bool) (one two : Knowledge) → two ≡ one → GoesFrom told one two
+from_same told one two is = subst (λ (k : Knowledge). GoesFrom told one k) (sym is) (record {
+  number = refl;
+  size = refl;
+  faults = refl;
+  known = λ y. ([], sym (append-nil one.known));
+  later = [];
+  turns = sym (append-nil one.turns);
+})
 
-module _ {A L : Type 0} (device : area.Ghosts A) (tells : Ghosts L) (may : ℕ → ℕ → Go → Type 0) (session : ℕ) (job : Job)
-    (old new : Desk L) (result : Served)
-    (took : hand_at new ≡ with_taken job (hand_at old))
-    (serves : IsServed device may session job (link_at tells old) (link_at tells new) result (known_at old) (known_at new))
-    (keeps : KeepsTurns (tells_lists device) session job (known_at old) (known_at new))
-    (told : Tells (tells_lists device) session job (known_at old) (known_at new) (link_at tells old) (link_at tells new) result)
-    (adds : WhereTold (tells_lists device) ((jobs : List Job) → AddsAnswers jobs (known_at old) → AddsAnswers (jobs ++ job ∷ []) (known_at new)))
-    (stops : new.stop ≡ stop_of result) (at : Addr) (began : Began) (w : HasWorked tells (tells_lists device) at began old) where
+-- each turn that a pass keeps found the count of faults at least at the one that it began with
+abbrev AllSince : Knowledge → Type 0
+AllSince k = (t : KeptTurn) → Contains k.turns t → IsSince k.faults t
+
+module _ (told : Bool) (session : ℕ) where
+  abbrev Each : List Job → List Served → Knowledge → Knowledge → Knowledge → LinkState → LinkState → Type 0
+  Each jobs results before taken after old new = EachTells told session jobs results before taken after old new
+
+  -- the pass knows no less behind all jobs
+  each_from : (jobs : List Job) (results : List Served) (before taken after : Knowledge) (old new : LinkState)
+      → Each jobs results before taken after old new → GoesFrom told taken after
+  each_from [] results before taken after old new each = from_same told taken after each.1
+  each_from (job ∷ jobs) [] before taken after old new each = absurd each
+  each_from (job ∷ jobs) (r ∷ results) before taken after old new each =
+      from_then told taken each.1 after each.3.goes (each_from jobs results each.0 each.1 after each.2 new each.4)
+
+  -- what was sent stays replies to jobs that were taken
+  each_sent : (all jobs : List Job) (results : List Served) (before taken after : Knowledge) (old new : LinkState)
+      → Within jobs all → Each jobs results before taken after old new → before.size ≡ after.size → AllSince after → told ≡ true
+      → AreRepliesTo all taken old.sent → AreRepliesTo all after new.sent
+  each_sent all [] results before taken after old new within each size since y are =
+      subst (λ (s : LinkState). AreRepliesTo all after s.sent) (sym each.2)
+      (subst (λ (k : Knowledge). AreRepliesTo all k old.sent) (sym each.1) are)
+  each_sent all (job ∷ jobs) [] before taken after old new within each size since y are = absurd each
+  each_sent all (job ∷ jobs) (r ∷ results) before taken after old new within each size since y are =
+      let next = each.0 in
+      let now = each.1 in
+      let sent = each.2 in
+      let one = each.3 in
+      let rest : GoesFrom told now after = each_from jobs results next now after sent new each.4 in
+      let since_now : AllSince now =
+      λ t has. subst (λ (n : ℕ). IsSince n t) rest.faults (since t (more_turns told now after rest t has)) in
+      each_sent all jobs results next now after sent new
+      (λ j has. within j (Contains-append_right (job ∷ []) jobs j has)) each.4 (one.size ∙ size) since y
+      (sent_on told session job all (within job (0, omega arith, refl)) one.between before taken now one.goes (size ∙ rest.size)
+      since_now old sent r one.tells y are)
+
+  -- the link hears nothing still
+  each_hears : (at : Addr) (jobs : List Job) (results : List Served) (before taken after : Knowledge) (old new : LinkState)
+      → Each jobs results before taken after old new → HearsNothing at old → HearsNothing at new
+  each_hears at [] results before taken after old new each h = subst (λ (s : LinkState). HearsNothing at s) (sym each.2) h
+  each_hears at (job ∷ jobs) [] before taken after old new each h = absurd each
+  each_hears at (job ∷ jobs) (r ∷ results) before taken after old new each h =
+      each_hears at jobs results each.0 each.1 after each.2 new each.4
+      (hears_on told session job each.3.between before each.1 old each.2 at r each.3.tells h)
+
+  -- a link that had failed has failed
+  each_fails : (jobs : List Job) (results : List Served) (before taken after : Knowledge) (old new : LinkState)
+      → Each jobs results before taken after old new → Rose 0 old.faults → Rose 0 new.faults
+  each_fails [] results before taken after old new each rose = subst (λ (s : LinkState). Rose 0 s.faults) (sym each.2) rose
+  each_fails (job ∷ jobs) [] before taken after old new each rose = absurd each
+  each_fails (job ∷ jobs) (r ∷ results) before taken after old new each rose =
+      each_fails jobs results each.0 each.1 after each.2 new each.4
+      (fails_still told session job each.3.between before each.1 old each.2 r each.3.tells rose)
+
+  -- a link that is told to have stopped the session has failed
+  each_failed : (jobs : List Job) (results : List Served) (before taken after : Knowledge) (old new : LinkState)
+      → Each jobs results before taken after old new → first_stop results ≡ Some stop.Link → Rose 0 new.faults
+  each_failed [] results before taken after old new each is = absurd (cc (sym (ap (λ (rs : List Served). first_stop rs) each.0) ∙ is))
+  each_failed (job ∷ jobs) [] before taken after old new each is = absurd each
+  each_failed (job ∷ jobs) (served.Link ∷ results) before taken after old new each is =
+      each_fails jobs results each.0 each.1 after each.2 new each.4
+      (failed_on told session job each.3.between before each.1 old each.2 each.3.tells)
+  each_failed (job ∷ jobs) (served.NoMemory ∷ results) before taken after old new each is = absurd (cc is)
+  each_failed (job ∷ jobs) (served.Replied cause front ∷ results) before taken after old new each is =
+      each_failed jobs results each.0 each.1 after each.2 new each.4 is
+  each_failed (job ∷ jobs) (served.Dropped why ∷ results) before taken after old new each is =
+      each_failed jobs results each.0 each.1 after each.2 new each.4 is
+  each_failed (job ∷ jobs) (served.Lost ∷ results) before taken after old new each is =
+      each_failed jobs results each.0 each.1 after each.2 new each.4 is
+  each_failed (job ∷ jobs) (served.Over ∷ results) before taken after old new each is =
+      each_failed jobs results each.0 each.1 after each.2 new each.4 is
+
+module _ {A L : Type 0} (device : area.Ghosts A) (tells : Ghosts L) (may : ℕ → ℕ → Go → Type 0) (session : ℕ) (jobs : List Job)
+    (old new : Desk L) (results : List Served)
+    (took : hand_at new ≡ with_all_taken jobs (hand_at old))
+    (serves : AreServed device may session jobs (link_at tells old) (link_at tells new) results (known_at old) (known_at new))
+    (keeps : KeepsTurnsOf (tells_lists device) session jobs (known_at old) (known_at new))
+    (told : TellTogether (tells_lists device) session jobs results (known_at old) (known_at new) (link_at tells old) (link_at tells new))
+    (adds : WhereTold (tells_lists device) ((earlier : List Job) → AddsAnswers earlier (known_at old) → AddsAnswers (earlier ++ jobs) (known_at new)))
+    (stops : new.stop ≡ option_or old.stop (first_stop results)) (at : Addr) (began : Began)
+    (w : HasWorked tells (tells_lists device) at began old) where
   on : OnFrom (tells_lists device) (known_at old) (known_at new)
-  on = on_served device may session job (link_at tells old) (link_at tells new) result (known_at old) (known_at new) serves
+  on = on_served device may session jobs (link_at tells old) (link_at tells new) results (known_at old) (known_at new) serves
 
-  taken_is : (hand_at new).taken ≡ (hand_at old).taken ++ job ∷ []
+  abbrev before_all : List Job
+  before_all = (hand_at old).taken
+
+  taken_is : (hand_at new).taken ≡ before_all ++ jobs
   taken_is = ap (λ (h : Hand). h.taken) took
 
   since_old : All (IsSince (known_at old).faults) (known_at old).turns
@@ -56,22 +144,42 @@ module _ {A L : Type 0} (device : area.Ghosts A) (tells : Ghosts L) (may : ℕ �
   since_new : All (IsSince (known_at new).faults) (known_at new).turns
   since_new = subst (λ (n : ℕ). All (IsSince n) (known_at new).turns) (sym on.faults) (on.since since_old)
 
+  all_since : AllSince (known_at new)
+  all_since t has = subst (IsSince (known_at new).faults) has.2 (since_new has.0 t has.1)
+
+  sent_all : tells_lists device ≡ true → AreRepliesTo before_all (known_at old) (link_at tells old).sent
+      → AreRepliesTo (before_all ++ jobs) (known_at new) (link_at tells new).sent
+  sent_all y are =
+      each_sent (tells_lists device) session (before_all ++ jobs) jobs results (known_at old) told.taken (known_at new) (link_at tells old) (link_at tells new)
+      (λ j has. Contains-append_right before_all jobs j has) told.each (sym keeps.size) all_since y
+      (replies_stay (tells_lists device) before_all (before_all ++ jobs) (λ j has. Contains-append_left before_all jobs j has)
+      (known_at old) told.taken told.goes y (link_at tells old).sent are)
+
+  link_failed : new.stop ≡ Some stop.Link → Rose 0 (link_at tells new).faults
+  link_failed is = ⊎_elim
+      (λ (earlier : old.stop ≡ Some stop.Link).
+      each_fails (tells_lists device) session jobs results (known_at old) told.taken (known_at new) (link_at tells old) (link_at tells new) told.each
+      (w.cause earlier))
+      (λ (now : first_stop results ≡ Some stop.Link).
+      each_failed (tells_lists device) session jobs results (known_at old) told.taken (known_at new) (link_at tells old) (link_at tells new) told.each now)
+      (one_of old.stop (first_stop results) stop.Link (sym stops ∙ is))
+
+  not_clock : new.stop ≢ Some stop.Clock
+  not_clock is = ⊎_elim
+      (λ (earlier : old.stop ≡ Some stop.Clock). w.no_clock earlier)
+      (λ (now : first_stop results ≡ Some stop.Clock). never_clock results now)
+      (one_of old.stop (first_stop results) stop.Clock (sym stops ∙ is))
+
   pub worked_on : HasWorked tells (tells_lists device) at began new
   worked_on = record {
     number = keeps.number ∙ w.number;
-    size = keeps.size.0 ∙ w.size;
+    size = keeps.size ∙ w.size;
     faults = on.faults ∙ w.faults;
     since = subst (λ (n : ℕ). All (IsSince n) (known_at new).turns) (on.faults ∙ w.faults) since_new;
     none_put = ap (λ (h : Hand). h.put) took ∙ w.none_put;
-    answers = λ y. subst (λ (js : List Job). AddsAnswers js (known_at new)) (sym taken_is) (adds y (hand_at old).taken (w.answers y));
-    replies = λ y. subst (λ (js : List Job). Sent js) (sym taken_is)
-        (sent_on (tells_lists device) session job (hand_at old).taken (known_at old) (known_at new) on keeps since_new (link_at tells old) (link_at tells new)
-        result told y (w.replies y));
-    link = hears_on (tells_lists device) session job (known_at old) (known_at new) at (link_at tells old) (link_at tells new) result told w.link;
-    cause = λ is. failed_on (tells_lists device) session job (known_at old) (known_at new) at (link_at tells old) (link_at tells new) result told
-        (link_stopped result (sym stops ∙ is));
-    no_clock = λ is. never_clock result (sym stops ∙ is);
+    answers = λ y. subst (λ (js : List Job). AddsAnswers js (known_at new)) (sym taken_is) (adds y before_all (w.answers y));
+    replies = λ y. subst (λ (js : List Job). AreRepliesTo js (known_at new) (link_at tells new).sent) (sym taken_is) (sent_all y (w.replies y));
+    link = each_hears (tells_lists device) session at jobs results (known_at old) told.taken (known_at new) (link_at tells old) (link_at tells new) told.each w.link;
+    cause = link_failed;
+    no_clock = not_clock;
   }
-    where
-      Sent : List Job → Type 0
-      Sent js = AreRepliesTo js (known_at new) (link_at tells new).sent

@@ -189,6 +189,10 @@ module _ {L : Type 0} (tells : paths.Ghosts L) (at : Addr) where
         hear_nothing others (All-tail IsNew link others are.new),
       )
 
+-- who had no memory isn't one whom nothing stopped
+pub never_served : (stopped : Option Stop) → stopped ≡ Some stop.NoMemory → (n m : ℕ) → stopped ≡ None → n ≡ m
+never_served stopped is n m none = absurd (cc (sym is ∙ none))
+
 -- ---- how what served is taken apart
 
 -- as many passes as inboxes

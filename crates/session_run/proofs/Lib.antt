@@ -3,7 +3,9 @@ pub mod DeskLemmas
 pub mod DeskSteps
 pub mod EndLemmas
 pub mod InboxLemmas
+pub mod NumberLemmas
 pub mod ReceptionLemmas
 pub mod RunLemmas
+pub mod StopLemmas
 pub mod TeamLemmas
 pub mod WriterLemmas

@@ -1,9 +1,13 @@
 -- What a team has done in one round, and in the next.
-use Rattle.std.proofs.Common.{Bool, ℕ}
+use Rattle.std.proofs.Common.{◌≡◌, Bool, ℕ, List, [], ◌∷◌, subst, sym}
+use Rattle.std.specs.Prelude.{slice_index_or}
 use Rattle.cdr_shelf.specs.declared.shelf.Shelf as shelves
 use Rattle.net_link.specs.declared.link.Link as paths
+use Rattle.job_inbox.specs.declared.inbox.Inbox.{Inbox}
+use Rattle.turn_cell.specs.declared.cell.TurnCell.{TurnCell}
+use Rattle.session_run.specs.Desks.{IsDeskOf}
 use Rattle.session_run.specs.Reception.{CountsTurns, IfTurns}
-use Rattle.session_run.specs.Team.{TeamWorksOn}
+use Rattle.session_run.specs.Team.{AreDesksOf, ArePairOf, Pair, TeamWorksOn}
 use Rattle.session_run.specs.declared.reception.Reception.{Reception}
 use Rattle.session_run.specs.declared.round.Team.{Team}
 use Rattle.session_run.specs.declared.until.Until.{Until}
@@ -30,3 +34,31 @@ module _ {L : Type 0} (tells : paths.Ghosts L) where
 pub if_turns : (ends : Until) (P : ℕ → Type 0) → ((n : ℕ) → P n) → IfTurns ends P
 if_turns (until.Turns n) P all = all n
 if_turns (until.QuietAfter count all) P p = tt
+
+-- the desks of four sessions, by twos
+module _ {V : Type 0} (cell : TurnCell V) {L : Type 0} where
+  same_pair : (a b one two : Inbox) (pair : Pair L) → one ≡ a → two ≡ b → ArePairOf cell a b pair → ArePairOf cell one two pair
+  same_pair a b one two pair is also own =
+      (subst (λ (i : Inbox). IsDeskOf cell i pair.0) (sym is) own.0, subst (λ (i : Inbox). IsDeskOf cell i pair.1) (sym also) own.1)
+
+  pub by_twos : (list : List Inbox) (first second : Pair L) → AreDesksOf cell list first second → (one two three four a b c d : Inbox)
+      → one ≡ slice_index_or list 0 a → two ≡ slice_index_or list 1 b → three ≡ slice_index_or list 2 c → four ≡ slice_index_or list 3 d
+      → ArePairOf cell one two first × ArePairOf cell three four second
+  by_twos (w ∷ x ∷ y ∷ z ∷ []) first second own one two three four a b c d p q r s =
+      (same_pair w x one two first p q own.0, same_pair y z three four second r s own.1)
+  by_twos [] first second own one two three four a b c d p q r s = absurd own
+  by_twos (w ∷ []) first second own one two three four a b c d p q r s = absurd own
+  by_twos (w ∷ x ∷ []) first second own one two three four a b c d p q r s = absurd own
+  by_twos (w ∷ x ∷ y ∷ []) first second own one two three four a b c d p q r s = absurd own
+  by_twos (w ∷ x ∷ y ∷ z ∷ v ∷ more) first second own one two three four a b c d p q r s = absurd own
+
+  pub of_all : (list : List Inbox) (before also first second : Pair L) → AreDesksOf cell list before also → (one two three four a b c d : Inbox)
+      → one ≡ slice_index_or list 0 a → two ≡ slice_index_or list 1 b → three ≡ slice_index_or list 2 c → four ≡ slice_index_or list 3 d
+      → ArePairOf cell one two first × ArePairOf cell three four second → AreDesksOf cell list first second
+  of_all (w ∷ x ∷ y ∷ z ∷ []) before also first second own one two three four a b c d p q r s pairs =
+      (same_pair one two w x first (sym p) (sym q) pairs.0, same_pair three four y z second (sym r) (sym s) pairs.1)
+  of_all [] before also first second own one two three four a b c d p q r s pairs = absurd own
+  of_all (w ∷ []) before also first second own one two three four a b c d p q r s pairs = absurd own
+  of_all (w ∷ x ∷ []) before also first second own one two three four a b c d p q r s pairs = absurd own
+  of_all (w ∷ x ∷ y ∷ []) before also first second own one two three four a b c d p q r s pairs = absurd own
+  of_all (w ∷ x ∷ y ∷ z ∷ v ∷ more) before also first second own one two three four a b c d p q r s pairs = absurd own

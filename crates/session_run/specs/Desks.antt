@@ -1,11 +1,13 @@
 -- What a session has done at its desk: what it added are answers to jobs that it took, and what it sent are replies to them.
-use Rattle.std.specs.Prelude.{◌≡◌, ◌≢◌, ◌⊎◌, ◌≤◌, ℕ, Bool, List, [], All, Option, None, Some, IfSome}
+use Rattle.std.specs.Prelude.{◌≡◌, ◌≢◌, ◌⊎◌, ◌≤◌, ℕ, Bool, List, [], ◌∷◌, ◌++◌, All, Option, None, Some, IfSome}
 use Rattle.std.specs.List.{Contains}
+use Rattle.std.specs.Option.{option_or}
 use Rattle.area_disk.specs.Disk as disk
 use Rattle.gw_base.specs.Faults.{Rose}
 use Rattle.gw_base.specs.Facts.{Facts, WhereTold}
 use Rattle.gw_base.specs.declared.address.Addr.{Addr}
 use Rattle.job_inbox.specs.Inbox.{IsPassOf, knowledge}
+use Rattle.job_inbox.specs.Rule.{hand}
 use Rattle.job_inbox.specs.declared.hand.Hand.{Hand}
 use Rattle.job_inbox.specs.declared.inbox.Inbox.{Inbox}
 use Rattle.job_inbox.specs.declared.job.Job.{Job}
@@ -31,6 +33,15 @@ stop_of (served.Replied cause front) = None
 stop_of (served.Dropped why) = None
 stop_of served.Lost = None
 stop_of served.Over = None
+
+-- the same of a session that served several: the first cause
+abbrev pub first_stop : List Served → Option Stop
+first_stop [] = None
+first_stop (result ∷ results) = option_or (stop_of result) (first_stop results)
+
+-- what a pass to an inbox pushed and took, once it took these jobs more
+abbrev pub with_all_taken : List Job → Hand → Hand
+with_all_taken jobs h = hand h.put (h.taken ++ jobs)
 
 -- What a session began with: its number, the size of the book, and how often the device had failed.
 pub record Began : Type 0 where

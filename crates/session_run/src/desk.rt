@@ -1,15 +1,15 @@
 // What a session has of its own while it serves.
 ghost use Rattle.std.specs.Prelude.{◌≡◌};
-ghost use Rattle.session_run.specs.Desks.{stop_of};
+ghost use Rattle.session_run.specs.Desks.{first_stop, stop_of};
 
 use crate::stop::Stop;
 use gw_base::Moment;
 use job_inbox::InboxPass;
 use net_link::Link;
-use node_session::{Served, Worker};
+use node_session::{JobBatch, Served, Worker};
 
 /// What a session has of its own while it serves: itself, its pass to its inbox, its link, the latest moment of a job
-/// that it took, and why it stopped, if it did.
+/// that it took, why it stopped, if it did, and room for the jobs that it serves together.
 #[derive(Drop)]
 pub(crate) struct Desk<L: Link> {
     pub worker: Worker,
@@ -17,6 +17,7 @@ pub(crate) struct Desk<L: Link> {
     pub link: L,
     pub last: Option<Moment>,
     pub stop: Option<Stop>,
+    pub batch: JobBatch,
 }
 
 /// Why a session stops that served a job, if it does.
@@ -28,6 +29,17 @@ pub(crate) fn stop_of(served: Served) -> Option<Stop>
         Served::NoMemory => Some(Stop::NoMemory),
         Served::Replied { .. } | Served::Dropped(_) | Served::Lost | Served::Over => None,
     }
+}
+
+/// Why a session stops that served jobs, if it does: the first cause.
+pub(crate) fn first_stop(served: &[Served]) -> Option<Stop>
+    ensures { result ≡ first_stop served.now }
+{
+    let mut stop = None;
+    for answer in served {
+        stop = stop.or(stop_of(*answer));
+    }
+    stop
 }
 
 /// The later of two moments, where there are any.

@@ -52,6 +52,7 @@ pub(crate) fn leave<L: Link>(
         link,
         last: _,
         stop: _,
+        batch: _,
     } = desk;
     finish_inbox(inbox, list, push, pass);
     (worker.into_pass(), link)

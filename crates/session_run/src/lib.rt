@@ -17,6 +17,7 @@ mod desks;
 mod ending;
 mod filing;
 mod gateway;
+mod gathering;
 mod making;
 mod receiving;
 mod reception;

@@ -102,7 +102,8 @@ fn receive_turns<L: Link, C: gw_base::Clock, R: Wait>(
     let mut reception = reception;
     while reception.left > 0 && !signals.is_stopped() {
         reception.left -= 1;
-        let _quiet = reception.step(rt, inboxes, clock);
+        let is_quiet = reception.step(rt, inboxes, clock);
+        signals.call_behind(is_quiet);
         if reception.stop.is_some() {
             return reception;
         }
@@ -136,6 +137,7 @@ fn receive_until_quiet<L: Link, C: gw_base::Clock, R: Wait>(
         }
         let is_last = count.load(Ordering::SeqCst) >= all;
         let is_quiet = reception.step(rt, inboxes, clock);
+        signals.call_behind(is_quiet);
         if reception.stop.is_some() {
             break;
         }

@@ -96,21 +96,21 @@ fn work_two<A: Area + Send, L: Link + Send, R: Threads + Wait + Clock + Sync>(
 fn work_four<A: Area + Send, L: Link + Send, R: Threads + Wait + Clock + Sync>(
     rt: &R,
     cell: &TurnCell<Book<A>>,
-    inboxes: &[Inbox],
+    one: &Inbox,
+    two: &Inbox,
+    three: &Inbox,
+    four: &Inbox,
     signals: &Signals,
     first: (Desk<L>, Desk<L>),
     second: (Desk<L>, Desk<L>),
 ) -> ((Desk<L>, Desk<L>), (Desk<L>, Desk<L>))
-    requires own { AreDesksOf cell.now inboxes.now first second }
-    ensures own { AreDesksOf cell.now inboxes.now result.0 result.1 }
+    requires own { ArePairOf cell.now one.now two.now first × ArePairOf cell.now three.now four.now second }
+    ensures own { ArePairOf cell.now one.now two.now result.0 × ArePairOf cell.now three.now four.now result.1 }
     ensures first { WorksOn L.Link (tells_lists A.Area) first.0 result.0.0
         × WorksOn L.Link (tells_lists A.Area) first.1 result.0.1 }
     ensures second { WorksOn L.Link (tells_lists A.Area) second.0 result.1.0
         × WorksOn L.Link (tells_lists A.Area) second.1 result.1.1 }
 {
-    let [one, two, three, four] = inboxes else {
-        unreachable!();
-    };
     let (second, first) = thread::join(
         rt,
         move || -> (Desk<L>, Desk<L>)
@@ -127,6 +127,28 @@ fn work_four<A: Area + Send, L: Link + Send, R: Threads + Wait + Clock + Sync>(
         { work_two(rt, cell, one, two, signals, first) },
     );
     (first, second)
+}
+
+// Four sessions serve, with the inboxes of a list.
+fn work_all<A: Area + Send, L: Link + Send, R: Threads + Wait + Clock + Sync>(
+    rt: &R,
+    cell: &TurnCell<Book<A>>,
+    inboxes: &[Inbox],
+    signals: &Signals,
+    first: (Desk<L>, Desk<L>),
+    second: (Desk<L>, Desk<L>),
+) -> ((Desk<L>, Desk<L>), (Desk<L>, Desk<L>))
+    requires own { AreDesksOf cell.now inboxes.now first second }
+    ensures own { AreDesksOf cell.now inboxes.now result.0 result.1 }
+    ensures first { WorksOn L.Link (tells_lists A.Area) first.0 result.0.0
+        × WorksOn L.Link (tells_lists A.Area) first.1 result.0.1 }
+    ensures second { WorksOn L.Link (tells_lists A.Area) second.0 result.1.0
+        × WorksOn L.Link (tells_lists A.Area) second.1 result.1.1 }
+{
+    let [one, two, three, four] = inboxes else {
+        unreachable!();
+    };
+    work_four(rt, cell, one, two, three, four, signals, first, second)
 }
 
 // The sessions serve, and the files are written.
@@ -168,7 +190,7 @@ fn work_and_write<
                 × WorksOn L.Link (tells_lists A.Area) first.1 result.0.1 }
             ensures second { WorksOn L.Link (tells_lists A.Area) second.0 result.1.0
                 × WorksOn L.Link (tells_lists A.Area) second.1 result.1.1 }
-        { work_four(rt, cell, inboxes, signals, first, second) },
+        { work_all(rt, cell, inboxes, signals, first, second) },
     );
     Team {
         first,

@@ -21,7 +21,7 @@ ghost use Rattle.session_run.specs.declared.stop.Stop.TheVariants as stop;
 use crate::desk::Desk;
 use crate::ending::{finish_cell, leave};
 use crate::gateway::{Gateway, Ran};
-use crate::making::{Hall, Pops, make_hall};
+use crate::making::{Batches, Hall, Pops, make_hall};
 use crate::reception::Reception;
 use crate::round::{Team, serve};
 use crate::stop::Stop;
@@ -35,7 +35,7 @@ use gw_base::{Addr, Moment};
 use job_inbox::{Inbox, InboxPass};
 use net_link::Link;
 use node_session::laws::each_entry_is_an_answer;
-use node_session::{Dispatcher, FileActor, Worker};
+use node_session::{Dispatcher, FileActor, JobBatch, Worker};
 use std::alloc::Global;
 use std::sync::Wait;
 use std::thread::Threads;
@@ -101,9 +101,11 @@ pub fn run<
                 inboxes,
                 dispatcher,
                 pops,
+                batches,
                 lists,
             } = hall;
-            let seats = seat(passes, links, dispatcher, pops, writer, turns_in(&until));
+            let turns = turns_in(&until);
+            let seats = seat(passes, links, dispatcher, pops, batches, writer, turns);
             let Seats {
                 reception,
                 team,
@@ -159,6 +161,7 @@ fn seat<F: Shelf, L: Link>(
     mut links: Vec<L>,
     dispatcher: Dispatcher,
     pops: Pops,
+    batches: Batches,
     writer: Writer<F>,
     left: u64,
 ) -> Seats<F, L>
@@ -170,14 +173,15 @@ fn seat<F: Shelf, L: Link>(
     ensures room { HasSome 0 result.passes × HasSome 0 result.links }
 {
     let (first, second, third, fourth) = pops;
+    let (a_batch, b_batch, c_batch, d_batch) = batches;
     let Some(pass) = passes.pop() else {
         unreachable!();
     };
     let actor = FileActor::new(pass, writer);
-    let d = next_desk(3, fourth, &mut passes, &mut links);
-    let c = next_desk(2, third, &mut passes, &mut links);
-    let b = next_desk(1, second, &mut passes, &mut links);
-    let a = next_desk(0, first, &mut passes, &mut links);
+    let d = next_desk(3, fourth, d_batch, &mut passes, &mut links);
+    let c = next_desk(2, third, c_batch, &mut passes, &mut links);
+    let b = next_desk(1, second, b_batch, &mut passes, &mut links);
+    let a = next_desk(0, first, a_batch, &mut passes, &mut links);
     let Some(link) = links.pop() else {
         unreachable!();
     };
@@ -205,6 +209,7 @@ fn seat<F: Shelf, L: Link>(
 fn next_desk<L: Link>(
     session: u32,
     pop: InboxPass,
+    batch: JobBatch,
     passes: &mut Vec<Pass>,
     links: &mut Vec<L>,
 ) -> Desk<L>
@@ -226,6 +231,7 @@ fn next_desk<L: Link>(
         link,
         last: None,
         stop: None,
+        batch,
     }
 }
 

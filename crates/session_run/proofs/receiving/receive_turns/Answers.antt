@@ -5,20 +5,20 @@ use Rattle.session_run.proofs.receiving.receive_turns.Goals as goal
 
 pub returns-then-is_some-clause-turns : goal.returns-then-is_some-clause-turns
 returns-then-is_some-clause-turns g c = λ n counts.
-    counts_on g.L.Link n c.loop-reception.reception c.step-quiet.new.self (c.loop-reception.invariant.turns n counts)
-    c.loop-reception.invariant.runs (search rules) c.step-quiet.ensures.rest.0 c.step-quiet.ensures.rest.1 c.step-quiet.ensures.turns
+    counts_on g.L.Link n c.loop-reception.reception c.step-is_quiet.new.self (c.loop-reception.invariant.turns n counts)
+    c.loop-reception.invariant.runs (search rules) c.step-is_quiet.ensures.rest.0 c.step-is_quiet.ensures.rest.1 c.step-is_quiet.ensures.turns
 
 pub loop-reception-preserved : goal.loop-reception-preserved
 loop-reception-preserved g c =
     let r = c.loop-reception.reception in
     record {
-      own = c.step-quiet.ensures.own;
+      own = c.step-is_quiet.ensures.own;
       runs = search rules;
-      dispatched = λ at h. c.step-quiet.ensures.dispatched at (dispatched_with g.L.Link at r _ r.is_over (c.loop-reception.invariant.dispatched at h));
+      dispatched = λ at h. c.step-is_quiet.ensures.dispatched at (dispatched_with g.L.Link at r _ r.is_over (c.loop-reception.invariant.dispatched at h));
       turns = λ n counts.
-          counts_on g.L.Link n r c.step-quiet.new.self (c.loop-reception.invariant.turns n counts)
-          c.loop-reception.invariant.runs (search rules) c.step-quiet.ensures.rest.0 c.step-quiet.ensures.rest.1 c.step-quiet.ensures.turns;
-      clock = omega (arith, c.loop-reception.invariant.clock, c.step-quiet.ensures.clock);
+          counts_on g.L.Link n r c.step-is_quiet.new.self (c.loop-reception.invariant.turns n counts)
+          c.loop-reception.invariant.runs (search rules) c.step-is_quiet.ensures.rest.0 c.step-is_quiet.ensures.rest.1 c.step-is_quiet.ensures.turns;
+      clock = omega (arith, c.loop-reception.invariant.clock, c.step-is_quiet.ensures.clock);
     }
 
 pub returns-clause-turns : goal.returns-clause-turns

@@ -15,8 +15,9 @@ use Rattle.session_run.specs.Running.{AreFiveOf, AreReplies, HasStopCause, heard
 use Rattle.session_run.specs.Team.{HaveServed}
 use Rattle.session_run.specs.declared.gateway.Gateway.{Gateway}
 use Rattle.session_run.proofs.BegunLemmas.{all_begun, counted, five_of, is_ready, numbered, receiver_new, team_of}
-use Rattle.session_run.proofs.EndLemmas.{are_five, goes_nowhere, has_cause, have_served, new_five, turns_taken, value_begins}
+use Rattle.session_run.proofs.EndLemmas.{are_five, goes_nowhere, has_cause, have_served, never_served, new_five, none_replied, turns_taken, value_begins}
 use Rattle.session_run.proofs.RunLemmas.{run_goes_on, run_replies, run_stays, run_writer}
+use Rattle.session_run.proofs.TeamLemmas.{if_turns}
 use Rattle.session_run.proofs.running.run.Goals as goal
 
 pub returns-in_default-clause-history : goal.returns-in_default-clause-history
@@ -36,6 +37,20 @@ returns-in-Err-clause-history g c = λ told.
     subst (λ (x : Gateway _ _ _ g.A.Area g.F.Shelf). GoesOn (heard_by g.L.Link x.links.items) (facts_of w.book) (facts_of x.book)) (sym c.unserved-in-Err.ensures.gateway)
     (subst (λ (b : Book _ g.A.Area). GoesOn (heard_by g.L.Link w.links.items) (facts_of w.book) (facts_of b)) (sym c.in-Err.ensures.err)
     (goes_nowhere (heard_by g.L.Link w.links.items) (facts_of w.book) (value_begins (value_of w.book))))
+
+pub returns-in-Err-clause-replies : goal.returns-in-Err-clause-replies
+returns-in-Err-clause-replies g c = λ told.
+    let w = c.args.gateway in
+    let result = c.unserved-in-Err.result.gateway in
+    subst (λ (ls : List _). AreReplies g.L.Link (heard_by g.L.Link result.links.items) (facts_of w.book) (facts_of result.book) ls)
+    (sym (ap (λ (x : Gateway _ _ _ g.A.Area g.F.Shelf). x.links.items) c.unserved-in-Err.ensures.gateway))
+    (none_replied g.L.Link w.address (heard_by g.L.Link result.links.items) (facts_of w.book) (facts_of result.book) w.links.items c.requires.links.new)
+
+pub returns-in-Err-clause-turns : goal.returns-in-Err-clause-turns
+returns-in-Err-clause-turns g c =
+    let links = c.unserved-in-Err.result.gateway.links.items in
+    if_turns c.args.until (λ n. c.unserved-in-Err.result.stop ≡ None → turns_by g.L.Link links ≡ n)
+    (λ n. never_served c.unserved-in-Err.result.stop c.unserved-in-Err.ensures.stop (turns_by g.L.Link links) n)
 
 pub returns-in-Err-clause-links : goal.returns-in-Err-clause-links
 returns-in-Err-clause-links g c =
@@ -180,7 +195,7 @@ returns-in-Ok-new-clause-turns g c =
     subst (λ (l : List _). IfTurns c.args.until (λ n. c.end.result.stop ≡ None → turns_by g.L.Link l ≡ n)) (sym c.end.ensures.links)
     (turns_taken g.F.Shelf g.L.Link (tells_lists g.A.Area) w.address start w.writer r team s c.args.until
     (counted g.L.Link w.address seats.reception r c.args.until c.requires.few
-    (subst (λ (k : ℕ). IfTurns c.args.until (λ n. k ≡ n)) (sym c.seat-seats.ensures.reception.1) c.turns_in.ensures)
+    (subst (λ (k : ℕ). IfTurns c.args.until (λ n. k ≡ n)) (sym c.seat-seats.ensures.reception.1) c.turns_in-turns.ensures)
     c.seat-seats.ensures.reception.2 (receiver_new g.F.Shelf g.L.Link w.address made.passes.items w.links.items (pops_in hall.pops) w.writer seats
     c.seat-seats.ensures.seated c.requires.links.new) c.serve-served.ensures.turns)
     c.end.result.stop c.end.ensures.stop c.serve-served.ensures.over)

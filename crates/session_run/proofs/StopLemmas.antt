@@ -1,0 +1,52 @@
+-- Why a session stopped that served several jobs.
+use Rattle.std.proofs.Common.{◌≡◌, ◌≢◌, ◌⊎◌, inl, inr, ℕ, ◌+◌, ◌<◌, List, [], ◌∷◌, ◌++◌, length, take, Option, None, Some, refl, sym, ap, ◌∙◌}
+use Rattle.std.specs.Prelude.{slice_index_or}
+use Rattle.std.specs.Option.{option_or}
+use Rattle.std.proofs.lemmas.List.{take_more}
+use Rattle.node_session.specs.declared.served.Served.{Served}
+use Rattle.node_session.specs.declared.served.Served.TheVariants as served
+use Rattle.session_run.specs.Desks.{first_stop, stop_of}
+use Rattle.session_run.specs.declared.stop.Stop.{Stop}
+use Rattle.session_run.specs.declared.stop.Stop.TheVariants as stop
+
+or_none : (o : Option Stop) → o ≡ option_or o None
+or_none None = refl
+or_none (Some s) = refl
+
+or_assoc : (a b c : Option Stop) → option_or a (option_or b c) ≡ option_or (option_or a b) c
+or_assoc None b c = refl
+or_assoc (Some s) b c = refl
+
+-- one job more
+first_more : (results : List Served) (r : Served) → first_stop (results ++ r ∷ []) ≡ option_or (first_stop results) (stop_of r)
+first_more [] r = sym (or_none (stop_of r))
+first_more (s ∷ results) r =
+    ap (λ (o : Option Stop). option_or (stop_of s) o) (first_more results r) ∙ or_assoc (stop_of s) (first_stop results) (stop_of r)
+
+pub next_stop : (results : List Served) (i : ℕ) (d : Served) (now found after : Option Stop) → i < length results
+    → now ≡ first_stop (take i results) → found ≡ stop_of (slice_index_or results i d) → after ≡ option_or now found
+    → after ≡ first_stop (take (i + 1) results)
+next_stop results i d now found after within so_far one is =
+    is ∙ (λ k. option_or (so_far k) (one k)) ∙ sym (first_more (take i results) (slice_index_or results i d))
+    ∙ ap (λ (rs : List Served). first_stop rs) (sym (take_more results i d within))
+
+-- why the session stopped before, or else by these results
+pub stops_by : (before found after : Option Stop) (told results : List Served) → after ≡ option_or before found → found ≡ first_stop told
+    → told ≡ results → after ≡ option_or before (first_stop results)
+stops_by before found after told results is by same =
+    is ∙ ap (λ (o : Option Stop). option_or before o) (by ∙ ap (λ (rs : List Served). first_stop rs) same)
+
+-- a session isn't stopped by the clock
+pub never_clock : (results : List Served) → first_stop results ≢ Some stop.Clock
+never_clock [] is = absurd (cc is)
+never_clock (served.Link ∷ results) is = absurd (cc is)
+never_clock (served.NoMemory ∷ results) is = absurd (cc is)
+never_clock (served.Replied cause front ∷ results) is = never_clock results is
+never_clock (served.Dropped why ∷ results) is = never_clock results is
+never_clock (served.Lost ∷ results) is = never_clock results is
+never_clock (served.Over ∷ results) is = never_clock results is
+
+-- the first of two causes is one of them
+pub one_of : (one other : Option Stop) (s : Stop) → option_or one other ≡ Some s → (one ≡ Some s) ⊎ (other ≡ Some s)
+one_of None other s is = inr is
+one_of (Some x) other s is = inl is
