@@ -1,18 +1,21 @@
 -- The areas and the shelves that gateways hand out.
-use Rattle.std.proofs.Common.{◌≡◌, ◌∙◌, ◌⊎◌, inl, inr, refl, sym, ap, subst, ℕ, zero, suc, ◌+◌, ◌<◌, ◌≤◌, List, [], ◌∷◌, ◌++◌, length, take, take_all, Option, Some, None, MatchOption, slice_get, arith, length-take}
-use Rattle.std.proofs.lemmas.List.Elements.{All-cons, All-nil}
+use Rattle.std.proofs.Common.{◌≡◌, ◌∙◌, ◌⊎◌, inl, inr, refl, sym, ap, append-nil, subst, Bool, false, ℕ, zero, suc, ◌+◌, ◌<◌, ◌≤◌, List, [], ◌∷◌, ◌++◌, length, take, take_all, Option, Some, None, MatchOption, slice_get, arith, length-take}
 use Rattle.area_disk.specs.declared.memory.MemoryArea.{MemoryArea}
 use Rattle.cdr_shelf.specs.Files.{UnsealedFile}
 use Rattle.cdr_shelf.specs.declared.memory.MemoryShelf.{MemoryShelf}
 use Rattle.file_rotate.specs.Items.{Filed}
+use Rattle.file_writer.specs.Files.{AreFilesOf}
 use Rattle.file_writer.specs.Leaving.{AreOpenFiles, IsOpenFile}
 use Rattle.file_writer.specs.Streams.{Settings, closed_of, stream_count}
 use Rattle.gateway_book.specs.Items.{items_of}
+use Rattle.gateway_book.specs.Opened.{StandsFitFor}
+use Rattle.gw_base.specs.declared.history.HistoryEntry.{HistoryEntry}
 use Rattle.gw_base.specs.declared.item.Item.{Item}
 use Rattle.once_core.specs.Gateway.{Gateway}
-use Rattle.replay_world.specs.Played.{AreAllSealed, EachHandedOut, IsHandedOut}
-use Rattle.replay_world.specs.Settled.{AreShut, IsAllWritten}
+use Rattle.replay_world.specs.Played.{EachHandedOut, IsHandedOut, LeavesHistory}
+use Rattle.replay_world.specs.Settled.{AreShut, EachAtRest, IsAllWritten, IsAtRest}
 use Rattle.replay_world.specs.Setup.{Setup, files_in}
+use Rattle.replay_world.specs.Stands.{area_tells, header_at}
 use Rattle.replay_world.specs.Value.{Machine}
 use Rattle.replay_world.specs.Written.{shelf_tells}
 
@@ -97,31 +100,50 @@ none_unsealed settings items unsealed are shut s =
     either_way : (n k : ℕ) → (n < k) ⊎ (k ≤ n)
     either_way n k = grind arith
 
-settled_shelf : (setup : Setup) (place : ℕ) (g : Gateway) (m : Machine) (a : MemoryArea) (shelf : MemoryShelf) →
-    IsHandedOut setup place g m a shelf → IsAllWritten g m → (s : ℕ) → shelf_tells.unsealed shelf s ≡ None
-settled_shelf setup place g m a shelf is settled =
-    let items : List Item = items_of g.book.firm in
-    none_unsealed (files_in setup place) items (shelf_tells.unsealed shelf)
-    (subst (λ (xs : List Item). AreOpenFiles (files_in setup place) (λ s. 0) xs (shelf_tells.unsealed shelf))
-    (ap (λ (n : ℕ). take n items) settled.written ∙ take_all (length items) items (omega arith)) is.unsealed)
-    settled.shut
+-- the area of a gateway that runs, all of whose entries are firm, stands for these
+left_firm : (g : Gateway) (h : List HistoryEntry) → LeavesHistory g.is_down g h → g.is_down ≡ false → g.book.rest ≡ [] →
+    h ≡ g.book.firm
+left_firm g h kept runs firm =
+    elim (subst (λ (b : Bool). LeavesHistory b g h) runs kept) [
+      | inl is ↦ is
+      | inr is ↦ is ∙ ap (λ (rest : List HistoryEntry). g.book.firm ++ rest) firm ∙ append-nil g.book.firm
+    ]
 
-pub settled_shelves : (setup : Setup) (place : ℕ) (gs : List Gateway) (ms : List Machine) (areas : List MemoryArea)
+gateway_at_rest : (setup : Setup) (place : ℕ) (g : Gateway) (m : Machine) (a : MemoryArea) (shelf : MemoryShelf) →
+    IsHandedOut setup place g m a shelf → IsAllWritten g m → IsAtRest setup place g a shelf
+gateway_at_rest setup place g m a shelf is settled =
+    let items : List Item = items_of g.book.firm in
+    let all : take m.written items ≡ items =
+    ap (λ (n : ℕ). take n items) settled.written ∙ take_all (length items) items (omega arith) in
+    record {
+      runs = settled.runs;
+      whole = settled.whole;
+      firm = settled.firm;
+      area = subst (λ (h : List HistoryEntry). StandsFitFor (header_at setup place) (area_tells.octets a) h)
+          (left_firm g is.area.history is.area.kept settled.runs settled.firm) is.area.holds.stands;
+      crash = is.area.crash settled.runs settled.whole;
+      files = subst (λ (xs : List Item). AreFilesOf (files_in setup place) xs (shelf_tells.files shelf)) all is.files;
+      shut = settled.shut;
+      sealed = none_unsealed (files_in setup place) items (shelf_tells.unsealed shelf)
+          (subst (λ (xs : List Item). AreOpenFiles (files_in setup place) (λ s. 0) xs (shelf_tells.unsealed shelf)) all
+          is.unsealed) settled.shut;
+    }
+
+pub gateways_at_rest : (setup : Setup) (place : ℕ) (gs : List Gateway) (ms : List Machine) (areas : List MemoryArea)
     (shelves : List MemoryShelf) → EachHandedOut setup place gs ms areas shelves →
     ((k : ℕ) (g : Gateway) (m : Machine) → slice_get gs k ≡ Some g → slice_get ms k ≡ Some m → IsAllWritten g m) →
-    AreAllSealed shelves
-settled_shelves setup place [] [] [] [] each settled =
-    All-nil (λ (shelf : MemoryShelf). (s : ℕ) → shelf_tells.unsealed shelf s ≡ None)
-settled_shelves setup place (g ∷ gs) (m ∷ ms) (a ∷ areas) (shelf ∷ shelves) each settled =
-    All-cons (λ (shelf : MemoryShelf). (s : ℕ) → shelf_tells.unsealed shelf s ≡ None) shelf shelves
-    (settled_shelf setup place g m a shelf each.0 (settled 0 g m refl refl))
-    (settled_shelves setup (suc place) gs ms areas shelves each.1 (λ k f n has is. settled (suc k) f n has is))
-settled_shelves setup place [] [] [] (s ∷ shelves) each settled = absurd each
-settled_shelves setup place [] [] (a ∷ areas) shelves each settled = absurd each
-settled_shelves setup place [] (m ∷ ms) areas shelves each settled = absurd each
-settled_shelves setup place (g ∷ gs) [] areas shelves each settled = absurd each
-settled_shelves setup place (g ∷ gs) (m ∷ ms) [] shelves each settled = absurd each
-settled_shelves setup place (g ∷ gs) (m ∷ ms) (a ∷ areas) [] each settled = absurd each
+    EachAtRest setup place gs areas shelves
+gateways_at_rest setup place [] [] [] [] each settled = tt
+gateways_at_rest setup place (g ∷ gs) (m ∷ ms) (a ∷ areas) (shelf ∷ shelves) each settled = (
+  gateway_at_rest setup place g m a shelf each.0 (settled 0 g m refl refl),
+  gateways_at_rest setup (suc place) gs ms areas shelves each.1 (λ k f n has is. settled (suc k) f n has is),
+)
+gateways_at_rest setup place [] [] [] (s ∷ shelves) each settled = absurd each
+gateways_at_rest setup place [] [] (a ∷ areas) shelves each settled = absurd each
+gateways_at_rest setup place [] (m ∷ ms) areas shelves each settled = absurd each
+gateways_at_rest setup place (g ∷ gs) [] areas shelves each settled = absurd each
+gateways_at_rest setup place (g ∷ gs) (m ∷ ms) [] shelves each settled = absurd each
+gateways_at_rest setup place (g ∷ gs) (m ∷ ms) (a ∷ areas) [] each settled = absurd each
 
 -- there is room for one more
 pub room_left : {A B : Type 0} (n most capacity : ℕ) (gs : List A) (kept : List B) → length kept ≡ length (take n gs) →

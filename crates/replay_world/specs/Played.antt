@@ -1,5 +1,5 @@
 -- What a replay hands out: the areas, the shelves and the nodes that it ran.
-use Rattle.std.specs.Prelude.{◌≡◌, ◌⊎◌, ℕ, suc, Bool, true, false, All, List, [], ◌∷◌, ◌++◌, ◌≤◌, length, take, None}
+use Rattle.std.specs.Prelude.{◌≡◌, ◌⊎◌, ℕ, suc, Bool, true, false, List, [], ◌∷◌, ◌++◌, ◌≤◌, length, take}
 use Rattle.area_disk.specs.declared.memory.MemoryArea.{MemoryArea}
 use Rattle.cdr_shelf.specs.declared.memory.MemoryShelf.{MemoryShelf}
 use Rattle.file_writer.specs.Files.{AreFilesOf}
@@ -44,10 +44,6 @@ EachHandedOut setup place [] [] [] [] = Unit {0}
 EachHandedOut setup place (g ∷ gs) (m ∷ ms) (a ∷ later) (s ∷ ss) =
     IsHandedOut setup place g m a s × EachHandedOut setup (suc place) gs ms later ss
 EachHandedOut setup place _ _ _ _ = ⊥
-
--- No shelf of these has a file that isn't sealed.
-abbrev pub AreAllSealed : List MemoryShelf → Type 0
-AreAllSealed shelves = All (λ (shelf : MemoryShelf). (s : ℕ) → shelf_tells.unsealed shelf s ≡ None) shelves
 
 -- There is room for so many areas and shelves, and none is there yet.
 pub record HaveRoom (count : ℕ) (areas : List MemoryArea) (most_areas : ℕ) (shelves : List MemoryShelf)

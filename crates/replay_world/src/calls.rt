@@ -19,8 +19,8 @@ use crate::machine::{Came, Machine, Sent};
 use crate::messages::{failure, kept};
 use crate::site::Site;
 use area_disk::MemoryArea;
+use gateway_book::Book;
 use gateway_book::laws::{a_gateway_goes_as_armed, filed_records_stay, what_a_gateway_leaves};
-use gateway_book::{Book, Marked};
 use gw_base::{Caller, Moment, NoMemory};
 use once_core::{Message, Waiting};
 use std::alloc::Global;
@@ -44,21 +44,21 @@ impl Machine {
             MachineStands setup place g m self.old → g.is_down ≡ false → IfOk result (λ sent. GoesAsArmed setup place
             (asked_by call g.book) (asked_move setup now call) g m sent self.new) }
     {
-        self.asked(call, now)?;
+        self.asked(call, now);
         self.after_call(alloc)
     }
 
     // The same, before what comes of it is sent.
-    fn asked(&mut self, call: GatewayCall, now: Moment) -> Result<(), NoMemory>
+    fn asked(&mut self, call: GatewayCall, now: Moment)
         ensures { (setup : Setup) (place : ℕ) (g : Gateway) (m : MachineValue) →
             MachineStands setup place g m self.old → g.is_down ≡ false →
-            let sequel = sequel_on m (asked_by call g.book) in OnOk result (IsCalled setup place g m
-            (asked_value setup now call (fortune_by m.at_last sequel) g.book) sequel self.new) }
+            let sequel = sequel_on m (asked_by call g.book) in IsCalled setup place g m
+            (asked_value setup now call (fortune_by m.at_last sequel) g.book) sequel self.new }
     {
         filed_records_stay();
         match &mut self.site {
             Some(site) => site.ask(call, now),
-            None => Ok(()),
+            None => {}
         }
     }
 
@@ -158,33 +158,20 @@ pub(crate) fn commit(book: &mut Book<MemoryArea>)
 }
 
 /// A book is asked for this.
-pub(crate) fn ask(
-    book: &mut Book<MemoryArea>,
-    call: GatewayCall,
-    now: Moment,
-) -> Result<(), NoMemory>
+pub(crate) fn ask(book: &mut Book<MemoryArea>, call: GatewayCall, now: Moment)
     ensures { (setup : Setup) (place : ℕ) (g : Gateway) (m : MachineValue) → StandsUp setup place g m book.old →
-        let sequel = sequel_on m (asked_by call g.book) in OnOk result
-        (BookStands setup place (asked_value setup now call (fortune_by m.at_last sequel) g.book) sequel book.new) }
+        let sequel = sequel_on m (asked_by call g.book) in
+        BookStands setup place (asked_value setup now call (fortune_by m.at_last sequel) g.book) sequel book.new }
 {
     a_gateway_goes_as_armed::<MemoryArea>();
     match call {
-        GatewayCall::Commit => {
-            commit(book);
-            Ok(())
+        GatewayCall::Commit => commit(book),
+        GatewayCall::Mark => {
+            let _marked = book.tick(now, Caller::NONE);
         }
-        GatewayCall::Mark => without_memory(book.tick(now, Caller::NONE)),
-        GatewayCall::Close => without_memory(book.close(now, Caller::NONE)),
-    }
-}
-
-/// Whether there was memory for a mark.
-fn without_memory(marked: Marked) -> Result<(), NoMemory>
-    ensures { OnOk result (marked ≢ Marked.NoMemory) }
-{
-    match marked {
-        Marked::NoMemory => Err(NoMemory),
-        Marked::Made { .. } | Marked::NotDue | Marked::NoRoom | Marked::Device => Ok(()),
+        GatewayCall::Close => {
+            let _marked = book.close(now, Caller::NONE);
+        }
     }
 }
 

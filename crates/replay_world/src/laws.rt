@@ -12,7 +12,7 @@ ghost use Rattle.once_core.specs.StandsOnce.{StandsOnce};
 ghost use Rattle.once_core.specs.Turn.{turns};
 ghost use Rattle.replay_world.specs.Lines.{line_after, refusal_of_line, settled, turns_of};
 ghost use Rattle.replay_world.specs.Report.{lines_after, refused_from, refusal_of_lines, turns_from, turns_of_lines};
-ghost use Rattle.replay_world.specs.Settled.{AreShut, AreWritten, HaveMachines};
+ghost use Rattle.replay_world.specs.Settled.{AreShut, AreWritten, HaveMachines, StandInFiles};
 ghost use Rattle.replay_world.specs.Setup.{Setup, files_in, rules_in, setup_of};
 ghost use Rattle.replay_world.specs.Taken.{Allows, IsAsSaid};
 ghost use Rattle.replay_world.specs.Value.{ReplayValue, begun, replay_of};
@@ -37,16 +37,19 @@ pub fn a_line_is_its_turns()
 
 /// Whatever the lines of a replay are and whatever they arm, each record of each packet that its node
 /// ever resolved is filed once by all gateways together, and each record of any other packet at most
-/// once. So it is of the places at which they stand in the files of all gateways.
+/// once. So it is of the places at which they stand in the files of all gateways, and these files have them there.
 pub fn a_replay_files_each_record_once()
     ensures filed { (setup : Setup) (lines : List Line) → 1 ≤ setup.gateways →
         Once (lines_after (begun setup) lines).world }
     ensures stands { (setup : Setup) (lines : List Line) → 1 ≤ setup.gateways →
         StandsOnce (files_in setup) (lines_after (begun setup) lines).world }
+    ensures there { (setup : Setup) (lines : List Line) →
+        StandInFiles (files_in setup) (lines_after (begun setup) lines).world }
 {
     once_core::world_laws::turns_reach_worlds();
     once_core::world_laws::each_record_is_filed_once();
     once_core::world_laws::each_record_stands_once();
+    once_core::world_laws::what_stands_at_a_place_was_filed();
     a_line_is_its_turns();
 }
 

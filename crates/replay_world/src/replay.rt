@@ -4,10 +4,10 @@ ghost use Rattle.node_core.specs.Log.{Began};
 ghost use Rattle.once_core.specs.Addresses.{addresses_from};
 ghost use Rattle.once_core.specs.Beginning.{first_gateway, times_of};
 ghost use Rattle.once_core.specs.Gateway.{Gateway};
-ghost use Rattle.replay_world.specs.Played.{AreAllSealed, EachHandedOut, HasPlayed, HaveRoom};
+ghost use Rattle.replay_world.specs.Played.{EachHandedOut, HasPlayed, HaveRoom};
 ghost use Rattle.replay_world.specs.Sending.{HasSent};
 ghost use Rattle.replay_world.specs.Settings.{AreSet, AreSound};
-ghost use Rattle.replay_world.specs.Settled.{AreWritten};
+ghost use Rattle.replay_world.specs.Settled.{AreWritten, HasPlayedOut};
 ghost use Rattle.replay_world.specs.Setup.{Setup, rules_in, setup_of};
 ghost use Rattle.replay_world.specs.Stands.{EachStands, Stands, nodes_from};
 ghost use Rattle.replay_world.specs.Value.{Machine as MachineValue, ReplayValue, first_machine, replay_of};
@@ -115,7 +115,7 @@ impl Replay {
     /// What it ran: the area and the shelf of each gateway, and the nodes. It takes no memory.
     pub fn into_played(self) -> Played
         ensures played { (v : ReplayValue) → Stands v self → HasPlayed v result }
-        ensures sealed { (v : ReplayValue) → Stands v self → AreWritten v → AreAllSealed result.shelves.items }
+        ensures at_rest { (v : ReplayValue) → Stands v self → AreWritten v → HasPlayedOut v result }
     {
         let Replay {
             gateways,

@@ -58,22 +58,22 @@ impl Site {
     }
 
     /// Its book is asked for this.
-    pub fn ask(&mut self, call: GatewayCall, now: Moment) -> Result<(), NoMemory>
+    pub fn ask(&mut self, call: GatewayCall, now: Moment)
         ensures { (setup : SetupValue) (place : ℕ) (g : Gateway) (m : MachineValue) → g.is_down ≡ false →
-            SiteStands setup place g m (Some self.old) → let sequel = sequel_on m (asked_by call g.book) in OnOk result
-            (SiteIsCalled setup place (asked_value setup now call (fortune_by m.at_last sequel) g.book) sequel
-            (Some self.new)) }
+            SiteStands setup place g m (Some self.old) → let sequel = sequel_on m (asked_by call g.book) in
+            SiteIsCalled setup place (asked_value setup now call (fortune_by m.at_last sequel) g.book) sequel
+            (Some self.new) }
     {
         match self {
             Site::Up(book) => ask(book, call, now),
-            Site::Down(_) => Ok(()),
+            Site::Down(_) => {}
         }
     }
 
     /// Its book takes a datagram.
     pub fn take(&mut self, from: Addr, request: &Prepared<'_>, now: Moment) -> Outcome
         ensures { (setup : SetupValue) (place : ℕ) (g : Gateway) (m : MachineValue) → g.is_down ≡ false →
-            SiteStands setup place g m (Some self.old) → result ≢ Outcome.NoMemory →
+            SiteStands setup place g m (Some self.old) →
             let sequel = ready_sequel_of m.armed m.at_last g.book in
             let fortune = fortune_by m.at_last sequel in
             let left = taken fortune from (prepared_of request.now) setup.size now no_caller g.book in

@@ -171,7 +171,6 @@ impl Machine {
         let made = self.outcome(message, now);
         let sent = self.after_call(alloc)?;
         match made {
-            Outcome::NoMemory => Err(NoMemory),
             Outcome::Drop(why) => Ok(Delivery {
                 ending: ending_of(sent.came, why),
                 sent,
@@ -184,7 +183,7 @@ impl Machine {
     fn outcome(&mut self, message: &Message, now: Moment) -> Outcome
         ensures { (setup : Setup) (place : ℕ) (g : Gateway) (m : MachineValue) →
             MachineStands setup place g m self.old →
-            g.is_down ≡ false → result ≢ Outcome.NoMemory →
+            g.is_down ≡ false →
             let sequel = ready_sequel_of m.armed m.at_last g.book in
             let left = taken_of setup m g message.now now sequel in
             IsCalled setup place g m left.value sequel self.new × (result ≡ left.answer) }
@@ -262,7 +261,7 @@ pub(crate) fn take(
     now: Moment,
 ) -> Outcome
     ensures { (setup : Setup) (place : ℕ) (g : Gateway) (m : MachineValue) → StandsUp setup place g m book.old →
-        result ≢ Outcome.NoMemory → let sequel = ready_sequel_of m.armed m.at_last g.book in
+        let sequel = ready_sequel_of m.armed m.at_last g.book in
         let left = taken (fortune_by m.at_last sequel) from (prepared_of request.now) setup.size now no_caller g.book in
         BookStands setup place left.value sequel book.new × (result ≡ left.answer) }
 {

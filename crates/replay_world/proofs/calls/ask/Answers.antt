@@ -1,4 +1,4 @@
-use Rattle.std.proofs.Common.{ℕ, refl, sym, subst, OnOk}
+use Rattle.std.proofs.Common.{ℕ, refl, sym, subst}
 use Rattle.gateway_book.specs.Answered.{no_caller}
 use Rattle.gateway_book.specs.Book.{open_time_of, size_of}
 use Rattle.gateway_book.specs.Calls.{closed, ticked}
@@ -9,7 +9,6 @@ use Rattle.replay_world.specs.Device.{sequel_on}
 use Rattle.replay_world.specs.Stands.{header_at}
 use Rattle.replay_world.specs.declared.calls.GatewayCall.{GatewayCall}
 use Rattle.replay_world.proofs.CallLemmas.{book_stands}
-use Rattle.replay_world.proofs.GoesLemmas.{on_ok}
 use Rattle.replay_world.proofs.calls.ask.Goals as goal
 
 pub returns-in-Commit : goal.returns-in-Commit
@@ -21,29 +20,29 @@ returns-in-Commit c = λ setup place g m up.
 pub returns-in-Mark : goal.returns-in-Mark
 returns-in-Mark c = λ setup place g m up.
     let s : Sequel = ready_sequel_of m.armed m.at_last g.book in
-    subst (λ (k : GatewayCall). OnOk c.without_memory.result (BookStands setup place
+    subst (λ (k : GatewayCall). BookStands setup place
     (asked_value setup c.args.now k (fortune_by m.at_last (sequel_on m (asked_by k g.book))) g.book)
-    (sequel_on m (asked_by k g.book)) c.tick.new.self)) (sym c.in-Mark.is)
-    (on_ok c.without_memory.result (λ some. book_stands setup place g m g.book s
-    (tick_left setup c.args.now (fortune_by m.at_last s) g.book) c.tick.result c.args.book.now c.tick.new.self up
+    (sequel_on m (asked_by k g.book)) c.tick-marked.new.self) (sym c.in-Mark.is)
+    (book_stands setup place g m g.book s
+    (tick_left setup c.args.now (fortune_by m.at_last s) g.book) c.tick-marked.result c.args.book.now c.tick-marked.new.self up
     (subst (λ (n : ℕ). HasLeft (header_at setup place) s
-    (ticked (fortune_by m.at_last s) n setup.size c.args.now no_caller g.book) c.tick.new.self c.tick.result) up.open_time
+    (ticked (fortune_by m.at_last s) n setup.size c.args.now no_caller g.book) c.tick-marked.new.self c.tick-marked.result) up.open_time
     (subst (λ (n : ℕ). HasLeft (header_at setup place) s
-    (ticked (fortune_by m.at_last s) (open_time_of c.args.book.now) n c.args.now no_caller g.book) c.tick.new.self
-    c.tick.result) up.size
+    (ticked (fortune_by m.at_last s) (open_time_of c.args.book.now) n c.args.now no_caller g.book) c.tick-marked.new.self
+    c.tick-marked.result) up.size
     (c.a_gateway_goes_as_armed.ensures.tick (refl, refl) refl (header_at setup place) g.book m.armed m.at_last
-    c.args.book.now c.tick.new.self c.tick.result (open_time_of c.args.book.now) (size_of c.args.book.now) c.args.now
-    no_caller up.up (c.tick.ensures.ticked (refl, refl) some) c.tick.ensures.stays c.tick.ensures.planned)))
-    c.tick.ensures.stays) c.without_memory.ensures)
+    c.args.book.now c.tick-marked.new.self c.tick-marked.result (open_time_of c.args.book.now) (size_of c.args.book.now) c.args.now
+    no_caller up.up (c.tick-marked.ensures.ticked (refl, refl)) c.tick-marked.ensures.stays c.tick-marked.ensures.planned)))
+    c.tick-marked.ensures.stays)
 
 pub returns-in-Close : goal.returns-in-Close
 returns-in-Close c = λ setup place g m up.
     let s : Sequel = ready_sequel_of m.armed m.at_last g.book in
-    subst (λ (k : GatewayCall). OnOk c.without_memory-in-Close.result (BookStands setup place
+    subst (λ (k : GatewayCall). BookStands setup place
     (asked_value setup c.args.now k (fortune_by m.at_last (sequel_on m (asked_by k g.book))) g.book)
-    (sequel_on m (asked_by k g.book)) c.close.new.self)) (sym c.in-Close.is)
-    (on_ok c.without_memory-in-Close.result (λ some. book_stands setup place g m g.book s
-    (closed (fortune_by m.at_last s) c.args.now no_caller g.book) c.close.result c.args.book.now c.close.new.self up
+    (sequel_on m (asked_by k g.book)) c.close-marked.new.self) (sym c.in-Close.is)
+    (book_stands setup place g m g.book s
+    (closed (fortune_by m.at_last s) c.args.now no_caller g.book) c.close-marked.result c.args.book.now c.close-marked.new.self up
     (c.a_gateway_goes_as_armed.ensures.close (refl, refl) refl (header_at setup place) g.book m.armed m.at_last
-    c.args.book.now c.close.new.self c.close.result c.args.now no_caller up.up (c.close.ensures.closed (refl, refl) some)
-    c.close.ensures.stays c.close.ensures.planned) c.close.ensures.stays) c.without_memory-in-Close.ensures)
+    c.args.book.now c.close-marked.new.self c.close-marked.result c.args.now no_caller up.up (c.close-marked.ensures.closed (refl, refl))
+    c.close-marked.ensures.stays c.close-marked.ensures.planned) c.close-marked.ensures.stays)

@@ -1,9 +1,9 @@
 use Rattle.std.proofs.Common.{sym, subst}
-use Rattle.once_core.specs.Once.{Once}
+use Rattle.once_core.specs.Once.{Once, firm_in}
 use Rattle.once_core.specs.StandsOnce.{StandsOnce}
 use Rattle.once_core.specs.Turn.{turns}
 use Rattle.once_core.specs.World.{World}
-use Rattle.replay_world.specs.Report.{turns_from}
+use Rattle.replay_world.specs.Report.{lines_after, turns_from}
 use Rattle.replay_world.specs.Setup.{files_in, rules_in}
 use Rattle.replay_world.specs.Value.{begun}
 use Rattle.replay_world.proofs.LineLemmas.{lines_world}
@@ -20,3 +20,11 @@ returns-clause-stands c = λ setup lines some.
     subst (λ (w : World). StandsOnce (files_in setup) w) (sym (lines_world (begun setup) lines))
     (c.each_record_stands_once.ensures (files_in setup) (turns (rules_in setup) (begun setup).world (turns_from (begun setup) lines))
     (c.turns_reach_worlds.ensures.alike (rules_in setup) setup.gateways setup.nodes (turns_from (begun setup) lines) some))
+
+pub returns-clause-there : goal.returns-clause-there
+returns-clause-there c = λ setup lines. record {
+  there = λ gateway. c.what_stands_at_a_place_was_filed.ensures.there (files_in setup gateway)
+      (firm_in (lines_after (begun setup) lines).world gateway);
+  all = λ gateway. c.what_stands_at_a_place_was_filed.ensures.all (files_in setup gateway)
+      (firm_in (lines_after (begun setup) lines).world gateway);
+}

@@ -10,7 +10,7 @@ returns c = λ setup place g m stands runs.
     let asked = asked_by c.args.call g.book in
     let s = sequel_on m asked in
     let v = asked_value setup c.args.now c.args.call (fortune_by m.at_last s) g.book in
-    let called = c.in_ok-asked.ensures setup place g m stands runs in
+    let called = c.asked.ensures setup place g m stands runs in
     if_ok c.after_call.result (λ sent after_it. goes_as_armed setup place g m asked (asked_move setup c.args.now c.args.call)
     v c.asked.new.self sent c.after_call.new.self called
     (λ is. asked_is setup c.args.now g m c.args.call stands.unreached) after_it)

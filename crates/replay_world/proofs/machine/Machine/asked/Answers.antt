@@ -6,7 +6,6 @@ use Rattle.replay_world.specs.Stands.{SiteStands}
 use Rattle.replay_world.specs.declared.site.Site.{Site}
 use Rattle.replay_world.proofs.AskingLemmas.{asked_grows, asked_keeps}
 use Rattle.replay_world.proofs.CallLemmas.{is_called}
-use Rattle.replay_world.proofs.GoesLemmas.{on_ok}
 use Rattle.replay_world.proofs.machine.Machine.asked.Goals as goal
 
 pub returns-in-Some : goal.returns-in-Some
@@ -14,8 +13,8 @@ returns-in-Some c = λ setup place g m stands runs.
     let s = sequel_on m (asked_by c.args.call g.book) in
     let v = asked_value setup c.args.now c.args.call (fortune_by m.at_last s) g.book in
     let there = subst (λ (x : Option Site). SiteStands setup place g m x) c.in-Some.is stands.site in
-    on_ok c.ask.result (λ called. is_called setup place g m v s c.args.self.now
+    is_called setup place g m v s c.args.self.now
     (record c.args.self.now { site = Some c.ask.new.self }) c.ask.new.self c.filed_records_stay.ensures.items stands runs
-    refl called
+    refl (c.ask.ensures setup place g m runs there)
     (asked_grows setup c.args.now g m c.args.call (fortune_by m.at_last s))
-    (asked_keeps setup c.args.now g m c.args.call)) (c.ask.ensures setup place g m runs there)
+    (asked_keeps setup c.args.now g m c.args.call)

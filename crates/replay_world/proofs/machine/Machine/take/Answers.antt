@@ -10,7 +10,7 @@ use Rattle.replay_world.proofs.machine.Machine.take.Goals as goal
 pub returns-in-Drop : goal.returns-in-Drop
 returns-in-Drop c = λ setup place g m stands runs whole.
     let s : Sequel = sequel_on m (asked_to_ready g.book) in
-    let got = c.outcome-made.ensures setup place g m stands runs (λ none. cc (sym c.in-Drop.is ∙ none)) in
+    let got = c.outcome-made.ensures setup place g m stands runs in
     taken_dropped setup place g m c.args.now c.args.message.now stands.unreached runs whole c.in-Drop.why
     c.outcome-made.new.self c.after_call.new.self _ _ (sym got.1 ∙ c.in-Drop.is) got.0
     (c.in_ok-sent.ensures setup place g m (taken_of setup m g c.args.message.now c.args.now s).value s got.0) refl
@@ -19,7 +19,7 @@ returns-in-Drop c = λ setup place g m stands runs whole.
 pub returns-in-Answer : goal.returns-in-Answer
 returns-in-Answer c = λ setup place g m stands runs whole.
     let s : Sequel = sequel_on m (asked_to_ready g.book) in
-    let got = c.outcome-made.ensures setup place g m stands runs (λ none. cc (sym c.in-Answer.is ∙ none)) in
+    let got = c.outcome-made.ensures setup place g m stands runs in
     if_ok c.answer.result (λ delivery answered. taken_answered setup place g m c.args.now c.args.message.now stands.unreached
     runs whole c.in-Answer.receipt c.outcome-made.new.self c.after_call.new.self c.answer.new.self _ delivery
     (sym got.1 ∙ c.in-Answer.is) got.0

@@ -1,4 +1,4 @@
-use Rattle.replay_world.proofs.HandedLemmas.{settled_shelves}
+use Rattle.replay_world.proofs.HandedLemmas.{gateways_at_rest}
 use Rattle.replay_world.proofs.replay.Replay.into_played.Goals as goal
 
 pub returns-clause-played : goal.returns-clause-played
@@ -12,14 +12,16 @@ returns-clause-played c = λ v stands. record {
   nodes = stands.nodes;
 }
 
-pub returns-clause-sealed : goal.returns-clause-sealed
-returns-clause-sealed c = λ v stands are.
-    settled_shelves v.setup 0 v.world.gateways v.machines c.hand_out-areas.result.0.items
-    c.hand_out-areas.result.1.items
-    (c.hand_out-areas.ensures v.setup v.world.gateways v.machines stands.gateways (record {
-      no_areas = stands.room.no_areas;
-      no_shelves = stands.room.no_shelves;
-      many_areas = stands.room.areas;
-      many_shelves = stands.room.shelves;
-    }))
-    (λ place g m has is. are place g m has is)
+pub returns-clause-at_rest : goal.returns-clause-at_rest
+returns-clause-at_rest c = λ v stands are. record {
+  gateways = gateways_at_rest v.setup 0 v.world.gateways v.machines c.hand_out-areas.result.0.items
+      c.hand_out-areas.result.1.items
+      (c.hand_out-areas.ensures v.setup v.world.gateways v.machines stands.gateways (record {
+        no_areas = stands.room.no_areas;
+        no_shelves = stands.room.no_shelves;
+        many_areas = stands.room.areas;
+        many_shelves = stands.room.shelves;
+      }))
+      (λ place g m has is. are place g m has is);
+  nodes = stands.nodes;
+}
