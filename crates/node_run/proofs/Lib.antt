@@ -1,0 +1,7 @@
+pub mod CallLemmas
+pub mod FillLemmas
+pub mod PacketLemmas
+pub mod RunLemmas
+pub mod SendLemmas
+pub mod StayingLemmas
+pub mod TurnLemmas
