@@ -1,0 +1,5 @@
+-- What public clauses cite.
+pub mod Audit
+pub mod Standing
+-- Steps of an audit.
+pub mod Steps
