@@ -97,10 +97,6 @@ module _ {A : Type 0} {tells : Ghosts A} where
       (ap (λ (v : BookValue). v.firm) is ∙ ap (λ (v : BookValue). (committed v).firm) moved ∙ recorded_firm (value_of old).firm now act)
       (second.size ∙ first.size) (second.open_time ∙ first.open_time)
 
-  -- a call found no memory, and recorded nothing
-  pub none_recorded : (old new : Book A tells) (now : ℕ) → IsAllFirm old → value_of new ≡ value_of old → Records old new now None
-  none_recorded old new now firm same = same ∙ firm
-
 -- ---- datagrams
 
 taken_value : (f : Fortune) (from : Addr) (datagram : PreparedValue) (size now : ℕ) (h : List HistoryEntry)
@@ -132,32 +128,13 @@ module _ {A : Type 0} {tells : Ghosts A} (old new : Book A tells) (f : Fortune) 
       ap (λ (o : Outcome). outcome_line o) (answered ∙ ap (λ (v : BookValue). (taken f from datagram (size_of old) now no_caller v).answer) firm)
       ∙ taken_line f from datagram (size_of old) now (value_of old).firm
 
--- whether there was no memory
-abbrev is_memory : Outcome → Bool
-is_memory (outcome.Answer receipt) = false
-is_memory (outcome.Drop why) = false
-is_memory outcome.NoMemory = true
-
 module _ {A : Type 0} {tells : Ghosts A} (old middle new : Book A tells) (f : Fortune) (from : Addr) (datagram : PreparedValue) (now : ℕ) where
-  -- all entries are firm after a datagram was taken and a commit, also where there was no memory for it
-  pub taken_all_firm : (result : Outcome) → IsAllFirm old
-      → (result ≢ outcome.NoMemory → value_of middle ≡ (taken f from datagram (size_of old) now no_caller (value_of old)).value)
-      → (result ≡ outcome.NoMemory → value_of middle ≡ readied f (value_of old)) → value_of new ≡ committed (value_of middle) → IsAllFirm new
-  taken_all_firm result firm left none is = by_result result left none
-    where
-      some : value_of middle ≡ (taken f from datagram (size_of old) now no_caller (value_of old)).value → IsAllFirm new
-      some moved =
-          recorded_all_firm old middle new now (act_decided (decided (answer_to (value_of old).firm from datagram (size_of old))))
-          (taken_records old middle f from datagram now firm moved) is
-
-      same : readied f (value_of old) ≡ value_of old
-      same = ap (λ (v : BookValue). readied f v) firm ∙ sym firm
-
-      by_result : (o : Outcome) → (o ≢ outcome.NoMemory → value_of middle ≡ (taken f from datagram (size_of old) now no_caller (value_of old)).value)
-          → (o ≡ outcome.NoMemory → value_of middle ≡ readied f (value_of old)) → IsAllFirm new
-      by_result (outcome.Answer receipt) left none = some (left (λ e. false≢true (ap is_memory e)))
-      by_result (outcome.Drop why) left none = some (left (λ e. false≢true (ap is_memory e)))
-      by_result outcome.NoMemory left none = recorded_all_firm old middle new now None (none_recorded old middle now firm (none refl ∙ same)) is
+  -- all entries are firm after a datagram was taken and a commit
+  pub taken_all_firm : IsAllFirm old → value_of middle ≡ (taken f from datagram (size_of old) now no_caller (value_of old)).value
+      → value_of new ≡ committed (value_of middle) → IsAllFirm new
+  taken_all_firm firm moved is =
+      recorded_all_firm old middle new now (act_decided (decided (answer_to (value_of old).firm from datagram (size_of old))))
+      (taken_records old middle f from datagram now firm moved) is
 
 -- ---- marks
 

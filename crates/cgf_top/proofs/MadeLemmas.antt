@@ -20,12 +20,16 @@ module _ {L : Type 0} (tells : paths.Ghosts L) (at : Addr) where
   all_push P made all link each one is =
       subst (λ (ls : List L). All P ls) (sym is) (All-append P made (link ∷ []) each (All-cons P link [] one (All-nil P)))
 
-  -- a link that was split of a new one, and stands behind the others
-  pub new_pushed : (first begun link : L) (made all : List L) → tells.state first ≡ tells.state begun → IsNewAt at (tells.state begun)
-      → IsNewAt (tells.state first).address (tells.state link) → All (λ (l : L). IsNewAt at (tells.state l)) made → all ≡ made ++ link ∷ []
-      → All (λ (l : L). IsNewAt at (tells.state l)) all
-  new_pushed first begun link made all same new split each is = all_push (λ (l : L). IsNewAt at (tells.state l)) made all link each
-      (subst (λ (a : Addr). IsNewAt a (tells.state link)) (ap (λ (s : LinkState). s.address) same ∙ new.at) split) is
+  -- a new link of which another was split, and which stands behind the others
+  pub new_pushed : (last after : L) (made all : List L) → tells.state after ≡ tells.state last → IsNewAt at (tells.state last)
+      → All (λ (l : L). IsNewAt at (tells.state l)) made → all ≡ made ++ after ∷ [] → All (λ (l : L). IsNewAt at (tells.state l)) all
+  new_pushed last after made all same new each is = all_push (λ (l : L). IsNewAt at (tells.state l)) made all after each
+      (subst (λ (s : LinkState). IsNewAt at s) (sym same) new) is
+
+  -- a link that was split of a new one
+  pub new_split : (last link : L) → IsNewAt at (tells.state last) → IsNewAt (tells.state last).address (tells.state link)
+      → IsNewAt at (tells.state link)
+  new_split last link new split = subst (λ (a : Addr). IsNewAt a (tells.state link)) new.at split
 
   idle_of : (link : L) → IsNew link → IsIdleAt at (tells.state link)
   idle_of link new = record { address = new.at; turns = new.turns; received = new.received; sent = new.sent }
@@ -34,33 +38,32 @@ module _ {L : Type 0} (tells : paths.Ghosts L) (at : Addr) where
   any_last P [] link one = inl one
   any_last P (l ∷ made) link one = inr (any_last P made link one)
 
-  pub made_all : (old new : LinksState) (begun first : L) (made all : List L) (stops : Option Stop) → IsNewAt at (tells.state begun)
+  pub made_all : (old new : LinksState) (begun last : L) (made all : List L) (stops : Option Stop) → IsNewAt at (tells.state begun)
       → Makes L old at (Ok begun) new → ((a : Addr) → IsNewAt a (tells.state begun) → All (λ (l : L). IsNewAt a (tells.state l)) made)
-      → ((a : Addr) → IsNewAt a (tells.state begun) → IsIdleAt a (tells.state first))
-      → (stops ≡ Some stop.Link → Rose (tells.state begun).faults (tells.state first).faults) → (stops ≢ Some stop.Clock)
-      → all ≡ made ++ first ∷ [] → HasMade tells at old new all stops
-  made_all old new begun first made all stops is_new makes each idle cause clock is =
+      → ((a : Addr) → IsNewAt a (tells.state begun) → IsIdleAt a (tells.state last))
+      → (stops ≡ Some stop.Link → (a : Addr) → IsNewAt a (tells.state begun) → Rose 0 (tells.state last).faults)
+      → (stops ≢ Some stop.Clock) → all ≡ made ++ last ∷ [] → HasMade tells at old new all stops
+  made_all old new begun last made all stops is_new makes each idle cause clock is =
       let known = makes.made begun refl in
       record {
-        idle = all_push (λ (l : L). IsIdleAt at (tells.state l)) made all first
+        idle = all_push (λ (l : L). IsIdleAt at (tells.state l)) made all last
             (All-weaker (λ (l : L). IsNewAt at (tells.state l)) (λ (l : L). IsIdleAt at (tells.state l)) idle_of made (each at is_new)) (idle at is_new) is;
         keeps = makes.keeps;
         known = λ some. known.0;
         later = let same = known.1 in omega (arith, same);
         cause = λ why. inr (subst (λ (ls : List L). AnyOf (HasFailed tells) ls) (sym is)
-            (any_last (HasFailed tells) made first (subst (λ (n : ℕ). Rose n (tells.state first).faults) is_new.faults (cause why))));
+            (any_last (HasFailed tells) made last (cause why at is_new)));
         no_clock = clock;
       }
 
-  pub five_new : (begun first : L) (made all : List L) (stops : Option Stop) → IsNewAt at (tells.state begun)
+  pub five_new : (begun last : L) (made all : List L) (stops : Option Stop) → IsNewAt at (tells.state begun)
       → ((a : Addr) → IsNewAt a (tells.state begun) → All (λ (l : L). IsNewAt a (tells.state l)) made)
-      → (stops ≡ None → (length made ≡ 4) × (tells.state first ≡ tells.state begun)) → all ≡ made ++ first ∷ [] → stops ≡ None
+      → (stops ≡ None → (length made ≡ 4) × ((a : Addr) → IsNewAt a (tells.state begun) → IsNewAt a (tells.state last))) → all ≡ made ++ last ∷ [] → stops ≡ None
       → AreNewAt tells at all
-  five_new begun first made all stops is_new each four is none =
+  five_new begun last made all stops is_new each four is none =
       let all_four = four none in
       record {
-        count = let long : length all ≡ length made + 1 = ap (λ (ls : List L). length ls) is ∙ length-append made (first ∷ []) in
+        count = let long : length all ≡ length made + 1 = ap (λ (ls : List L). length ls) is ∙ length-append made (last ∷ []) in
             let n = all_four.0 in omega (arith, long, n);
-        new = all_push (λ (l : L). IsNewAt at (tells.state l)) made all first (each at is_new)
-            (subst (λ (s : LinkState). IsNewAt at s) (sym all_four.1) is_new) is;
+        new = all_push (λ (l : L). IsNewAt at (tells.state l)) made all last (each at is_new) (all_four.1 at is_new) is;
       }

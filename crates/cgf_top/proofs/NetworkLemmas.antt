@@ -6,7 +6,7 @@ use Rattle.replay_world.specs.Does.{LineRan}
 use Rattle.replay_world.specs.Lines.{line_after, refusal_of_line}
 use Rattle.replay_world.specs.Report.{Refusal as WorldRefusal, replayed}
 use Rattle.replay_world.specs.Report.{line_text, lines_after, printed_by, printed_unless, refusal_of_lines, refused_from, refused_or, report_of_lines}
-use Rattle.replay_world.specs.Settled.{AreWritten}
+use Rattle.replay_world.specs.Settled.{AreWritten, StandInFiles}
 use Rattle.replay_world.specs.Setup.{files_in, setup_of}
 use Rattle.replay_world.specs.Stands.{Stands}
 use Rattle.replay_world.specs.Value.{ReplayValue, replay_of}
@@ -132,20 +132,20 @@ run_first lines replay printed stands gateways none = record {
 
 pub ran_network : (lines : List Line) (played : Option Played) → PlayedOf (replayed lines) played →
     AreWritten (replayed lines) → EndsByReport lines → StandsOnce (files_in (setup_of lines)) (replayed lines).world →
-    HandsBack (Some lines) played
-ran_network lines None is written told places = absurd is
-ran_network lines (Some played) is written told places =
-    record { stands = is.0; written = written; sealed = is.1 written; told = told; places = places }
+    StandInFiles (files_in (setup_of lines)) (replayed lines).world → HandsBack (Some lines) played
+ran_network lines None is written told places there = absurd is
+ran_network lines (Some played) is written told places there =
+    record { at_rest = is written; told = told; places = places; there = there }
 
 pub replayed_whole : (lines : List Line) (report : Report) → refusal_of_lines lines ≡ None →
     report.printed.items ≡ report_of_lines lines → report.refused ≡ None → PlayedOf (replayed lines) report.played →
     AreWritten (replayed lines) → EndsByReport lines → StandsOnce (files_in (setup_of lines)) (replayed lines).world →
-    IsReplayed lines report
-replayed_whole lines report none printed refused played written told places = record {
+    StandInFiles (files_in (setup_of lines)) (replayed lines).world → IsReplayed lines report
+replayed_whole lines report none printed refused played written told places there = record {
   printed = printed;
   refused = refused ∙ sym (ap refusal_at_line none);
   played = subst (λ (o : Option WorldRefusal). HandsBack (lines_unless o lines) report.played) (sym none)
-      (ran_network lines report.played played written told places);
+      (ran_network lines report.played played written told places there);
 }
 
 pub replayed_front : (lines : List Line) (report : Report) (refusal : WorldRefusal) →

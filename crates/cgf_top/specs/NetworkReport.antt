@@ -1,10 +1,9 @@
 -- What `replay`, `sample` and `drill` print, and what a network that was run hands back.
 use Rattle.std.specs.Prelude.{ℕ, ◌≡◌, ◌++◌, List, [], Option, Some, None, IsSomeAnd, Result, Ok, Err}
 use Rattle.once_core.specs.StandsOnce.{StandsOnce}
-use Rattle.replay_world.specs.Played.{AreAllSealed, HasPlayed}
 use Rattle.replay_world.specs.Report.{refusal_of_lines, replayed, report_of, report_of_lines}
 use Rattle.replay_world.specs.Report.{Refusal as WorldRefusal}
-use Rattle.replay_world.specs.Settled.{AreWritten}
+use Rattle.replay_world.specs.Settled.{HasPlayedOut, StandInFiles}
 use Rattle.replay_world.specs.Setup.{files_in, setup_of}
 use Rattle.replay_world.specs.Summary.{summary_of, summary_text}
 use Rattle.replay_world.specs.declared.replay.Played.{Played}
@@ -54,18 +53,17 @@ drill_report of = summary_text (summary_of (replayed (seeded_lines of)))
 abbrev pub EndsByReport : List Line → Type 0
 EndsByReport lines = (front : List ℕ) × (report_of_lines lines ≡ front ++ report_of (replayed lines))
 
--- The areas, shelves and nodes are those of the world that the lines make. The sealed files of the shelves are those
--- that the firm entries of its gateways close, which are all their entries, and have all records of theirs; no shelf has
--- a file that isn't sealed. The report of the lines, which `drill` doesn't print, ends with these files.
+-- The areas, shelves and nodes are those of the world that the lines make. Each gateway runs, its whole history is firm,
+-- and its area stands for it. The sealed files of its shelf are those that the history closes, which have all its records,
+-- and no file is unsealed. The report of the lines, which `drill` doesn't print, ends with these files.
 -- In the files of all its gateways each record of each packet that was ever resolved stands at exactly one place of its
 -- own, and each record of any other packet at one at most; no copy that is held or was cancelled puts one there, and the
--- files have no other record.
+-- files have no other record. The places are those of these files.
 pub record RanNetwork (lines : List Line) (played : Played) : Type 0 where
-  pub stands : HasPlayed (replayed lines) played
-  pub written : AreWritten (replayed lines)
-  pub sealed : AreAllSealed played.shelves.items
+  pub at_rest : HasPlayedOut (replayed lines) played
   pub told : EndsByReport lines
   pub places : StandsOnce (files_in (setup_of lines)) (replayed lines).world
+  pub there : StandInFiles (files_in (setup_of lines)) (replayed lines).world
 
 -- the lines of the network that a command runs
 abbrev pub lines_ok : Result (List Line) LineRefusal → Option (List Line)

@@ -1,9 +1,8 @@
 -- Words for the code that runs a network. No contract of a public call cites them.
 use Rattle.std.specs.Prelude.{ℕ, suc, ◌≡◌, ◌≤◌, ◌++◌, List, drop, Option, Some, None}
-use Rattle.replay_world.specs.Played.{AreAllSealed, HasPlayed}
 use Rattle.replay_world.specs.Report.{Refusal as WorldRefusal, replayed}
 use Rattle.replay_world.specs.Report.{lines_after, printed_by, refusal_of_lines, refused_from, report_of_lines}
-use Rattle.replay_world.specs.Settled.{AreWritten}
+use Rattle.replay_world.specs.Settled.{AreWritten, HasPlayedOut}
 use Rattle.replay_world.specs.Setup.{setup_of}
 use Rattle.replay_world.specs.Stands.{Stands}
 use Rattle.replay_world.specs.Summary.{summary_of, summary_text}
@@ -34,10 +33,10 @@ abbrev pub refusal_at_line : Option WorldRefusal → Option Refusal
 refusal_at_line None = None
 refusal_at_line (Some refusal) = Some (record { place = refusal.place; kind = of_world refusal.kind })
 
--- what is handed back stands for this; where all files are written, no file of its shelves is unsealed
+-- what is handed back stands for this, where all its files are written
 abbrev pub PlayedOf : ReplayValue → Option Played → Type 0
 PlayedOf v None = ⊥
-PlayedOf v (Some played) = HasPlayed v played × (AreWritten v → AreAllSealed played.shelves.items)
+PlayedOf v (Some played) = AreWritten v → HasPlayedOut v played
 
 -- the lines ran to their end, unless one was refused
 abbrev pub lines_unless : Option WorldRefusal → List Line → Option (List Line)

@@ -46,7 +46,6 @@ state_of feed = record { gateway = feed.gateway; now = feed.moment }
 abbrev pub outcome_line : Outcome → List ℕ
 outcome_line (outcome.Answer receipt) = octets_line receipt.reply
 outcome_line (outcome.Drop why) = drop_line why
-outcome_line outcome.NoMemory = []
 
 -- the line with this number that can't be run
 abbrev pub refusal_at : Option ℕ → Option Refusal

@@ -91,8 +91,14 @@ impl Feed {
                 Ok(())
             }
             Line::Datagram { from, octets } => self.take(alloc, *from, octets.octets()),
-            Line::Mark { .. } => self.gateway.tick(self.moment),
-            Line::Close { .. } => self.gateway.close(self.moment),
+            Line::Mark { .. } => {
+                self.gateway.tick(self.moment);
+                Ok(())
+            }
+            Line::Close { .. } => {
+                self.gateway.close(self.moment);
+                Ok(())
+            }
             // Settings were read before; the other lines are a replay's.
             _ => Ok(()),
         }
@@ -141,7 +147,7 @@ impl Feed {
             moment,
             mut printed,
         } = self;
-        gateway.close(moment)?;
+        gateway.close(moment);
         let items = gateway.items(alloc)?;
         let counts = gateway.counts();
         drop(gateway);

@@ -1,5 +1,5 @@
 //! A gateway in memory, whose device never fails: each entry is firm before the next call.
-ghost use Rattle.std.specs.Prelude.{◌≡◌, ◌≢◌, ◌≤◌, ◌<◌, ◌^◌, All, IfOk, OnOk, length, false};
+ghost use Rattle.std.specs.Prelude.{◌≡◌, ◌≤◌, ◌<◌, ◌^◌, All, IfOk, length, false};
 ghost use Rattle.file_writer.specs.AllStreams.{IsFit};
 ghost use Rattle.gate_journal.specs.Format.{fewest_octets, most_octets};
 ghost use Rattle.gateway_book.specs.Book.{Stays, value_of};
@@ -12,7 +12,7 @@ ghost use Rattle.cgf_top.specs.Steps.{outcome_line};
 
 use area_disk::QuietArea;
 use gateway_book::laws::a_book_is_within_the_limits;
-use gateway_book::{Book, BookFault, Counts, ItemsFault, Marked, Outcome, Setup, prepare};
+use gateway_book::{Book, BookFault, Counts, ItemsFault, Outcome, Setup, prepare};
 use gw_base::{Addr, Caller, Item, Moment, NoMemory};
 use std::alloc::Global;
 use std::marker::Model;
@@ -65,9 +65,8 @@ impl Gateway {
 
     /// What becomes of a datagram of this sender.
     pub fn take(&mut self, from: Addr, octets: &[u8], now: Moment) -> Outcome
-        ensures after { result ≢ Outcome.NoMemory → self.new ≡ after_datagram self.old now from octets.now }
-        ensures answered { result ≢ Outcome.NoMemory →
-            outcome_line result ≡ reply_line (answered self.old from octets.now) }
+        ensures after { self.new ≡ after_datagram self.old now from octets.now }
+        ensures answered { outcome_line result ≡ reply_line (answered self.old from octets.now) }
     {
         let book = &mut self.book;
         let outcome = book.take(from, &prepare(octets), now, Caller::NONE);
@@ -76,23 +75,21 @@ impl Gateway {
     }
 
     /// Files that have been open for long enough are closed.
-    pub fn tick(&mut self, now: Moment) -> Result<(), NoMemory>
-        ensures { OnOk result (self.new ≡ after_tick self.old now) }
+    pub fn tick(&mut self, now: Moment)
+        ensures { self.new ≡ after_tick self.old now }
     {
         let book = &mut self.book;
-        let marked = book.tick(now, Caller::NONE);
+        let _marked = book.tick(now, Caller::NONE);
         commit(book);
-        without_memory(marked)
     }
 
     /// All open files are closed.
-    pub fn close(&mut self, now: Moment) -> Result<(), NoMemory>
-        ensures { OnOk result (self.new ≡ after_close self.old now) }
+    pub fn close(&mut self, now: Moment)
+        ensures { self.new ≡ after_close self.old now }
     {
         let book = &mut self.book;
-        let marked = book.close(now, Caller::NONE);
+        let _marked = book.close(now, Caller::NONE);
         commit(book);
-        without_memory(marked)
     }
 
     /// What the writer of files is told of its history.
@@ -129,14 +126,4 @@ fn commit(book: &mut Book<QuietArea>)
     let Ok(_) = book.commit() else {
         unreachable!();
     };
-}
-
-/// Whether there was memory for a mark.
-fn without_memory(marked: Marked) -> Result<(), NoMemory>
-    ensures { OnOk result (marked ≢ Marked.NoMemory) }
-{
-    match marked {
-        Marked::NoMemory => Err(NoMemory),
-        Marked::Made { .. } | Marked::NotDue | Marked::NoRoom | Marked::Device => Ok(()),
-    }
 }

@@ -1,5 +1,5 @@
 //! The lines that `feed` prints.
-ghost use Rattle.std.specs.Prelude.{◌≡◌, ◌≢◌, ◌++◌, ◌∷◌, [], OnOk};
+ghost use Rattle.std.specs.Prelude.{◌≡◌, ◌++◌, ◌∷◌, [], OnOk};
 ghost use Rattle.std.specs.List.{flat_map};
 ghost use Rattle.cdr_shelf.specs.Files.{file_of, in_stream};
 ghost use Rattle.replay_world.specs.Report.{counts_text, digits, file_line, file_name};
@@ -17,8 +17,7 @@ pub fn print_outcome(
     printed: &mut Vec<u8>,
     outcome: &Outcome,
 ) -> Result<(), NoMemory>
-    ensures printed { OnOk result (printed.new.items ≡ printed.old.items ++ outcome_line outcome.now) }
-    ensures some { OnOk result (outcome.now ≢ Outcome.NoMemory) }
+    ensures { OnOk result (printed.new.items ≡ printed.old.items ++ outcome_line outcome.now) }
 {
     match outcome {
         Outcome::Answer(receipt) => print_octets(alloc, printed, receipt.reply.octets()),
@@ -28,7 +27,6 @@ pub fn print_outcome(
             printed.push(b'\n')?;
             Ok(())
         }
-        Outcome::NoMemory => Err(NoMemory),
     }
 }
 

@@ -39,6 +39,7 @@ use replay_world::laws::{a_history_filed_its_parts, no_file_is_open_where_no_clo
 use replay_world::record_count;
 use session_run::{Gateway, Ran, Stop, Until, run};
 use std::alloc::Global;
+use std::mem;
 use std::sync::Wait;
 use std::thread::Threads;
 use std::time::Clock;
@@ -236,7 +237,8 @@ where
     (Service { last, stop }, (book, writer))
 }
 
-/// Five links of an address, or those that could be made, and why there aren't all.
+/// Five links of an address, the one that was made in front of those that were split, or those that could be made, and why
+/// there aren't all.
 fn make_links<L: Links>(alloc: Global, links: &mut L, address: Addr) -> (Vec<L::Link>, Option<Stop>)
     ensures made { HasMade L.Link.Link address (L.state links.old) (L.state links.new) result.0.items result.1 }
     ensures five { result.1 ≡ None → AreNewAt L.Link.Link address result.0.items }
@@ -244,29 +246,32 @@ fn make_links<L: Links>(alloc: Global, links: &mut L, address: Addr) -> (Vec<L::
     let Ok(mut made) = Vec::with_capacity(alloc, LINKS) else {
         return (Vec::new(alloc), Some(Stop::NoMemory));
     };
-    let mut first = match links.make(address) {
+    let mut last = match links.make(address) {
         Ok(link) => link,
         Err(stop) => return (made, Some(stop_of(stop))),
     };
-    let stop = split_all(&mut first, &mut made);
-    made.push_reserved(first);
+    let stop = split_all(&mut last, &mut made);
+    made.push_reserved(last);
     (made, stop)
 }
 
-/// Four more links of the address of a new one, or those that could be made, and why there aren't all.
-fn split_all<K: Link>(first: &mut K, made: &mut Vec<K>) -> Option<Stop>
+/// Four more links of the address of a new one, or those that could be made, and why there aren't all. Each is split of
+/// the one before, and the last one takes the place of the first: those before it stand in the list, in their order.
+fn split_all<K: Link>(last: &mut K, made: &mut Vec<K>) -> Option<Stop>
     requires none { made.old.items ≡ [] }
     requires room { vec_capacity made.old ≡ 5 }
-    ensures new { (at : Address) → IsNewAt at (K.state first.old) → All (λ link. IsNewAt at (K.state link)) made.new.items }
-    ensures first { (at : Address) → IsNewAt at (K.state first.old) → IsIdleAt at (K.state first.new) }
-    ensures four { result ≡ None → (length made.new.items ≡ 4) × (K.state first.new ≡ K.state first.old) }
+    ensures new { (at : Address) → IsNewAt at (K.state last.old) → All (λ link. IsNewAt at (K.state link)) made.new.items }
+    ensures last { (at : Address) → IsNewAt at (K.state last.old) → IsIdleAt at (K.state last.new) }
+    ensures four { result ≡ None → (length made.new.items ≡ 4)
+        × ((at : Address) → IsNewAt at (K.state last.old) → IsNewAt at (K.state last.new)) }
     ensures room { (vec_len made.new < 5) × (vec_capacity made.new ≡ 5) }
-    ensures cause { result ≡ Some Stop.Link → Rose (K.state first.old).faults (K.state first.new).faults }
+    ensures cause { result ≡ Some Stop.Link → (at : Address) → IsNewAt at (K.state last.old) →
+        Rose 0 (K.state last.new).faults }
     ensures clock { result ≢ Some Stop.Clock }
 {
     'splits: while made.len() < LINKS - 1 {
-        match first.split() {
-            Ok(link) => made.push_reserved(link),
+        match last.split() {
+            Ok(link) => made.push_reserved(mem::replace(last, link)),
             Err(stop) => return Some(stop_of(stop)),
         }
     }

@@ -60,5 +60,6 @@ returns g c =
           (λ front. c.a_settling_writes_all_files.ensures.machines (setup_of lines) front)
           c.a_settling_writes_all_files.ensures.written)
           (ended_told lines (reads_ends c.args.script.now.kind lines c.kind-kind.ensures.reads) c.requires.taken)
-          (c.a_replay_files_each_record_once.ensures.stands (setup_of lines) lines here.gateways);
+          (c.a_replay_files_each_record_once.ensures.stands (setup_of lines) lines here.gateways)
+          (c.a_replay_files_each_record_once.ensures.there (setup_of lines) lines);
     }

@@ -62,3 +62,4 @@ returns g c =
     (ended_told lines (reads_ends c.args.script.now.kind lines c.kind-kind.ensures.reads)
     (none_refused lines at none c.loop-line.replay run.here))
     (c.a_replay_files_each_record_once.ensures.stands (setup_of lines) lines run.here.gateways)
+    (c.a_replay_files_each_record_once.ensures.there (setup_of lines) lines)

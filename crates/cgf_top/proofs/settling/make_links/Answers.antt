@@ -3,7 +3,7 @@ use Rattle.cgf_top.proofs.settling.make_links.Goals as goal
 
 pub returns-clause-made : goal.returns-clause-made
 returns-clause-made g c =
-    made_all _ _ _ _ _ _ _ _ _ c.in-Ok-make.ensures.new c.in-Ok-make.ensures.made c.split_all-stop.ensures.new c.split_all-stop.ensures.first c.split_all-stop.ensures.cause
+    made_all _ _ _ _ _ _ _ _ _ c.in-Ok-make.ensures.new c.in-Ok-make.ensures.made c.split_all-stop.ensures.new c.split_all-stop.ensures.last c.split_all-stop.ensures.cause
     c.split_all-stop.ensures.clock c.push_reserved.ensures.items
 
 pub returns-clause-five : goal.returns-clause-five

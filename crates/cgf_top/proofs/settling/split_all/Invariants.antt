@@ -3,11 +3,11 @@ use Rattle.gw_base.specs.declared.address.Addr.{Addr}
 use Rattle.net_link.specs.Datagrams.{IsNewAt}
 use Rattle.cgf_top.proofs.settling.split_all.Given as goal
 
--- those that were split are new, and nothing befell the first
+-- all are new
 abbrev pub invariant-splits : goal.invariant-splits
 invariant-splits g l = record {
-  new : (at : Addr) → IsNewAt at (g.K.Link.state l.initial.first) → All (λ link. IsNewAt at (g.K.Link.state link)) l.made.items;
-  same : g.K.Link.state l.first ≡ g.K.Link.state l.initial.first;
+  new : (at : Addr) → IsNewAt at (g.K.Link.state l.initial.last) → All (λ link. IsNewAt at (g.K.Link.state link)) l.made.items;
+  ends : (at : Addr) → IsNewAt at (g.K.Link.state l.initial.last) → IsNewAt at (g.K.Link.state l.last);
   few : vec_len l.made ≤ 4;
   room : vec_capacity l.made ≡ 5;
 }

@@ -11,9 +11,9 @@ pub returns-clause-printed : goal.returns-clause-printed
 returns-clause-printed c =
     end_printed (setup_seen c.args.settings c.args.rules) (after_close c.args.self.gateway c.args.self.moment).history c.items.new.self.reserved
     c.in_ok-items.items.items c.counts-counts.result c.record_count-records.result c.args.self.printed.items c.print_files.new.printed.items c.print_counts.new.printed.items
-    (c.in_ok-items.ensures.items ∙ ap (λ (g : GatewayValue). items_of g.history) c.in_ok-close.ensures)
+    (c.in_ok-items.ensures.items ∙ ap (λ (g : GatewayValue). items_of g.history) c.close.ensures)
     c.in_ok-print_files.ensures
-    (c.counts-counts.ensures ∙ ap (λ (g : GatewayValue). counts_of (standing_for g.history) c.items.new.self.reserved) (c.in_ok-items.ensures.same ∙ c.in_ok-close.ensures))
+    (c.counts-counts.ensures ∙ ap (λ (g : GatewayValue). counts_of (standing_for g.history) c.items.new.self.reserved) (c.in_ok-items.ensures.same ∙ c.close.ensures))
     (c.record_count-records.ensures.records (after_close c.args.self.gateway c.args.self.moment).history
-    (c.deref.ensures.value ∙ c.in_ok-items.ensures.items ∙ ap (λ (g : GatewayValue). items_of g.history) c.in_ok-close.ensures))
+    (c.deref.ensures.value ∙ c.in_ok-items.ensures.items ∙ ap (λ (g : GatewayValue). items_of g.history) c.close.ensures))
     c.in_ok-print_counts.ensures

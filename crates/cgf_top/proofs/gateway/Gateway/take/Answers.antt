@@ -12,23 +12,23 @@ pub invariant_of-self : goal.invariant_of-self
 invariant_of-self c =
     let old = c.self.inside.book in
     let middle = c.take-outcome.new.self in
-    taken_all_firm old middle c.commit.new.book (fortune_of old middle) c.args.from (prepared_of c.prepare.result) c.args.now c.take-outcome.result c.self.invariant
-    (λ no. (c.take-outcome.ensures.taken (refl, refl) no).value) (λ is. (c.take-outcome.ensures.no_memory (refl, refl) is).1) c.commit.ensures.committed
+    taken_all_firm old middle c.commit.new.book (fortune_of old middle) c.args.from (prepared_of c.prepare.result) c.args.now c.self.invariant
+    (c.take-outcome.ensures.taken (refl, refl)).value c.commit.ensures.committed
 
 pub returns-clause-after : goal.returns-clause-after
-returns-clause-after c = λ no.
+returns-clause-after c =
     let old = c.self.inside.book in
     let middle = c.take-outcome.new.self in
-    let moved = taken_records old middle (fortune_of old middle) c.args.from (prepared_of c.prepare.result) c.args.now c.self.invariant (c.take-outcome.ensures.taken (refl, refl) no).value in
+    let moved = taken_records old middle (fortune_of old middle) c.args.from (prepared_of c.prepare.result) c.args.now c.self.invariant (c.take-outcome.ensures.taken (refl, refl)).value in
     recorded_gateway old middle c.commit.new.book c.args.now (act_decided (decided (answer_to (value_of old).firm c.args.from (prepared_of c.prepare.result) (size_of old))))
     moved c.commit.ensures.committed c.take-outcome.ensures.stays c.commit.ensures.stays
     ∙ ap (λ octets. after_datagram (record { history = (value_of old).firm; reserved = size_of old; open_time = old.open_time }) c.args.now c.args.from octets) c.prepare.ensures
     ∙ ap (λ (g : GatewayValue). after_datagram g c.args.now c.args.from c.args.octets.now) c.self.view_is
 
 pub returns-clause-answered : goal.returns-clause-answered
-returns-clause-answered c = λ no.
+returns-clause-answered c =
     let old = c.self.inside.book in
     let middle = c.take-outcome.new.self in
-    taken_answers old middle (fortune_of old middle) c.args.from (prepared_of c.prepare.result) c.args.now c.take-outcome.result c.self.invariant (c.take-outcome.ensures.taken (refl, refl) no).answer
+    taken_answers old middle (fortune_of old middle) c.args.from (prepared_of c.prepare.result) c.args.now c.take-outcome.result c.self.invariant (c.take-outcome.ensures.taken (refl, refl)).answer
     ∙ ap (λ octets. reply_line (answered (record { history = (value_of old).firm; reserved = size_of old; open_time = old.open_time }) c.args.from octets)) c.prepare.ensures
     ∙ ap (λ (g : GatewayValue). reply_line (answered g c.args.from c.args.octets.now)) c.self.view_is
