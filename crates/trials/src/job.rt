@@ -2,14 +2,17 @@
 //! which pieces an input comes, what reads nothing, what a fault of the source or the sink leads to, the line of each
 //! status, and a report of a million octets.
 
-ghost use Rattle.std.specs.Prelude.{◌≤◌};
+ghost use Rattle.std.specs.Prelude.{◌≤◌, ◌<◌, ◌^◌};
+ghost use Rattle.gate_journal.specs.Format.{fewest_octets, most_octets};
+ghost use Rattle.gw_base.specs.declared.address.Addr.{Addr};
 
-use area_disk::QuietArea;
+use area_disk::{Area, QuietArea};
 use cdr_shelf::QuietShelf;
 use cgf_top::{Ended, InputKind, Played, Status, run_cgf};
 use gw_base::{MemoryClock, MemorySink, MemorySource, Moment, Octets};
-use net_link::MemoryLinks;
+use net_link::{Links, MemoryLinks};
 use std::alloc::Global;
+use std::process::Abort;
 use std::sync::Wait;
 use std::test::Fail;
 use std::thread::Threads;
@@ -50,9 +53,69 @@ pub(crate) struct Done {
 /// How many octets the area has of a job that uses none.
 const UNUSED: u64 = 100;
 
+/// Words.
+pub(crate) fn words_of(rt: &impl Abort, alloc: Global, words: &[&str]) -> Vec<String> {
+    let mut given = Vec::new(alloc);
+    for word in words {
+        put_word(rt, alloc, &mut given, word);
+    }
+    given
+}
+
+/// Puts a word behind others.
+fn put_word(rt: &impl Abort, alloc: Global, words: &mut Vec<String>, word: &str) {
+    let Ok(word) = String::from_str(alloc, word) else {
+        panic!(rt; "no memory for a word")
+    };
+    let Ok(()) = words.push(word) else {
+        panic!(rt; "no memory for words")
+    };
+}
+
+/// A clock that stands at a moment.
+pub(crate) fn clock_at(rt: &impl Abort, alloc: Global, seconds: u64) -> MemoryClock {
+    let Some(moment) = Moment::of(seconds) else {
+        panic!(rt; "no such moment")
+    };
+    let Ok(moments) = vec![in alloc; moment] else {
+        panic!(rt; "no memory for a moment")
+    };
+    MemoryClock::new(moments, Vec::new(alloc))
+}
+
+/// Does what words ask, over an area and a shelf of which nothing fails, at a moment.
+pub(crate) fn run<L: Links, R: Threads + Wait + Clock + Sync + Alloc<A = Global>>(
+    rt: &R,
+    words: &[String],
+    source: &mut MemorySource,
+    sink: &mut MemorySink,
+    area: QuietArea,
+    links: &mut L,
+    clock: &mut MemoryClock,
+) -> Ended<QuietArea, QuietShelf>
+where
+    L::Link: Send,
+    requires long { fewest_octets ≤ ⟦<QuietArea as Area>⟧.size area }
+    requires short { ⟦<QuietArea as Area>⟧.size area ≤ most_octets }
+    requires turns { (at : Addr) → (L.state links.old).turns at < 2 ^ 63 }
+{
+    let shelf = QuietShelf::new(rt.alloc());
+    run_cgf(
+        rt,
+        rt.alloc(),
+        words,
+        source,
+        sink,
+        area,
+        shelf,
+        links,
+        clock,
+    )
+}
+
 /// A job over these words, where the source gives pieces of this size, and source and sink fail at these calls. Each
-/// test of a job comes here.
-pub(crate) fn job<R: Threads + Wait + Clock + Sync + Alloc<A = Global>>(
+/// test of a job over files comes here.
+pub(crate) fn job<R: Abort + Threads + Wait + Clock + Sync + Alloc<A = Global>>(
     rt: &R,
     words: &[&str],
     input: &[u8],
@@ -63,33 +126,27 @@ pub(crate) fn job<R: Threads + Wait + Clock + Sync + Alloc<A = Global>>(
     requires { 1 ≤ piece }
 {
     let alloc = rt.alloc();
-    let mut given = Vec::new(alloc);
-    for word in words {
-        given.push(String::from_str(alloc, word)?)?;
-    }
+    let given = words_of(rt, alloc, words);
     let input = Octets::of(alloc, input)?;
     let mut source = MemorySource::new(input, piece, fail_source.to_vec(alloc)?);
     let mut sink = MemorySink::new(alloc, 1_100_000, fail_sink.to_vec(alloc)?)?;
     let Ok(area) = QuietArea::new(alloc, UNUSED) else {
         return Err(Fail::from("no area"));
     };
-    let shelf = QuietShelf::new(alloc);
     let links = MemoryLinks::new(alloc, Vec::new(alloc), 0, Vec::new(alloc));
     let mut links = links?;
-    let mut clock = MemoryClock::new(vec![in alloc; first_moment()]?, Vec::new(alloc));
+    let mut clock = clock_at(rt, alloc, 0);
     let Ended {
         status,
         area: _,
         shelf: _,
         played,
-    } = run_cgf(
+    } = run(
         rt,
-        alloc,
         &given,
         &mut source,
         &mut sink,
         area,
-        shelf,
         &mut links,
         &mut clock,
     );
@@ -98,14 +155,6 @@ pub(crate) fn job<R: Threads + Wait + Clock + Sync + Alloc<A = Global>>(
         printed: sink.octets().to_vec(alloc)?,
         handed: handed(played),
     })
-}
-
-/// The moment 0.
-fn first_moment() -> Moment {
-    let Some(moment) = Moment::of(0) else {
-        unreachable!();
-    };
-    moment
 }
 
 /// How many gateways, as areas and as shelves, and nodes were handed back.

@@ -23,4 +23,8 @@ mod job;
 #[cfg(test)]
 mod job_datagrams;
 #[cfg(test)]
+mod meeting;
+#[cfg(test)]
+mod serve;
+#[cfg(test)]
 mod writer;
