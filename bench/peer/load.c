@@ -10,8 +10,9 @@
  * how many requests were accepted, how many in a second, the latencies in microseconds below which so many hundredths
  * of them stay, how many were sent again, how many were refused for want of room, and how many were never answered.
  * It ends with status 1 where an answer is none of a gateway that works: each must be of a request that is under way,
- * and accept it, or say that it is fulfilled where it was sent twice. It does so too where one is never answered, or
- * nothing is for a minute.
+ * and accept it, or say that it is fulfilled where it was sent twice. Once a gateway is full it doesn't see the numbers
+ * that it refuses; where they have run ahead by half of all, they mean earlier ones, and are fulfilled too. It does so
+ * too where one is never answered, or nothing is for a minute.
  */
 #include "gtpp.h"
 #include <errno.h>
@@ -40,7 +41,7 @@ struct node {
 static struct node nodes[MOST_NODES];
 static int node_count, most_under_way;
 static uint64_t begin, end, span, time_out;
-static int was_answered;
+static int was_answered, was_refused;
 
 static uint32_t latencies[MOST_MICROS]; /* how many requests took so many microseconds */
 static uint64_t accepted, resent, refused, wrong;
@@ -124,7 +125,8 @@ static void hear(struct node *node, const uint8_t *octets, ssize_t length, uint6
         }
         return;
     }
-    if (cause == ACCEPTED || cause == NO_RESOURCES || (cause == FULFILLED && request->times > 1)) {
+    was_refused |= cause == NO_RESOURCES;
+    if (cause == ACCEPTED || cause == NO_RESOURCES || (cause == FULFILLED && (request->times > 1 || was_refused))) {
         count(request, cause, at);
     } else {
         tell_wrong(node, octets, length);
