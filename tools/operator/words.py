@@ -6,6 +6,7 @@ Nothing here decides anything: the readers are those of the plain models, in too
 import os
 import pathlib
 import signal
+import stat
 import sys
 
 MODEL = pathlib.Path(__file__).resolve().parent.parent / "model"
@@ -70,9 +71,9 @@ REASONS = {
 
 
 class Ended(Exception):
-    """What ends a tool: a line for standard error, and the exit status."""
+    """What ends a tool: a line for standard error, and the exit status, or None for that of the tool's faults."""
 
-    def __init__(self, line, status=1):
+    def __init__(self, line, status=None):
         super().__init__(line)
         self.line = line
         self.status = status
@@ -84,9 +85,16 @@ def cause(number):
 
 
 def octets_of(path):
-    """All octets of a file; `-` is standard input."""
+    """All octets of a file; `-` is standard input. A device isn't read: it may have no end."""
     try:
-        return sys.stdin.buffer.read() if path == "-" else pathlib.Path(path).read_bytes()
+        if path == "-":
+            if sys.stdin is None:
+                raise Ended("standard input is closed")
+            return sys.stdin.buffer.read()
+        kind = os.stat(path).st_mode
+        if stat.S_ISCHR(kind) or stat.S_ISBLK(kind):
+            raise Ended(f"{path}: this is a device, and no file")
+        return pathlib.Path(path).read_bytes()
     except OSError as fault:
         raise Ended(f"{path}: {fault.strerror or fault}") from None
 
@@ -153,20 +161,26 @@ def reply(octets):
     return datagram(octets, "node")
 
 
-def run(name, main, usage):
-    """Runs a tool: a fault that it tells becomes a line on standard error, and a closed pipe ends it in silence."""
+def run(name, main, usage, faulty=1):
+    """Runs a tool: a fault becomes a line on standard error with the status `faulty`, where the fault has none of its
+    own; a closed pipe ends the tool in silence. `--help` alone prints the usage."""
+    if sys.stdout is None:
+        print(f"{name}: standard output is closed", file=sys.stderr)
+        sys.exit(faulty)
+    if sys.argv[1:] in (["--help"], ["-h"]):
+        main = lambda given: print(usage.strip()) or 0  # noqa: E731  (the usage is all that is asked for)
     try:
         status = main(sys.argv[1:])
         sys.stdout.flush()
     except Ended as ended:
         print(usage.strip() if ended.line is None else f"{name}: {ended.line}", file=sys.stderr)
-        status = ended.status
+        status = faulty if ended.status is None else ended.status
     except BrokenPipeError:
         os.dup2(os.open(os.devnull, os.O_WRONLY), sys.stdout.fileno())
         status = 128 + signal.SIGPIPE
     except OSError as fault:
-        print(f"{name}: {fault.filename or ''}: {fault.strerror or fault}", file=sys.stderr)
-        status = 1
+        print(f"{name}: {fault.filename or 'standard output'}: {fault.strerror or fault}", file=sys.stderr)
+        status = faulty
     except KeyboardInterrupt:
         status = 128 + signal.SIGINT
     sys.exit(status)
