@@ -11,6 +11,7 @@ import journal
 import serve
 import serve_cases
 
+SILENT_SECONDS = 0.02
 PATIENCE, SPARE_TURNS = 5.0, 40
 ROOM = Path("/dev/shm") if Path("/dev/shm").is_dir() else None
 
@@ -143,10 +144,14 @@ class Run:
         return self.model.hear(self.heard[-1])
 
     def ask_all(self, asked):
-        """Sends these datagrams, each after the reply to the one before."""
+        """Sends these datagrams, each after the reply to the one before. Behind one that has none it waits for a
+        moment: the next may be for another session, which would be quicker."""
         await_bound(self.process, self.port)
         for sender, octets in asked:
-            self.replies.append(self.nodes.ask(sender, octets, self.tell(sender, octets) is not None))
+            wants_reply = self.tell(sender, octets) is not None
+            self.replies.append(self.nodes.ask(sender, octets, wants_reply))
+            if not wants_reply:
+                time.sleep(SILENT_SECONDS)
         if self.process.poll() is not None:
             raise Void
 
