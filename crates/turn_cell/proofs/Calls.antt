@@ -3,15 +3,16 @@ use Rattle.std.proofs.Common.{◌≡◌, ℕ, zero, suc, ◌+◌, ◌-◌, ◌<�
 use mathlib.Core.Option.{none}
 use mathlib.Core.List.{map-append}
 use prog.Atomic.{either}
-use Rattle.std.proofs.lemmas.List.Elements.{All-head, All-nil, All-push, All-tail}
+use Rattle.std.proofs.lemmas.List.Elements.{All-cons, All-head, All-nil, All-push, All-tail}
 use Rattle.std.specs.List.{All}
 use Rattle.atomic_table.specs.Seated.{TableId}
 use Rattle.atomic_table.specs.Table.{Allows, Joins, Splits, Step, rest, step}
 use Rattle.gw_base.specs.Facts.{AreSound, Facts, WhereTold}
 use Rattle.gw_base.specs.declared.history.HistoryEntry.{HistoryEntry}
 use Rattle.turn_cell.proofs.Joins.{joins, splits}
-use Rattle.turn_cell.proofs.Keeps.{R, calls, draws, leaves, looks, settles}
+use Rattle.turn_cell.proofs.Keeps.{R, calls, draws, leaves, looks, placed_on, settles}
 use Rattle.turn_cell.proofs.Lists.{all_first, head_of}
+use Rattle.turn_cell.proofs.TurnLemmas.{legal_own}
 use Rattle.turn_cell.specs.Cell.{AreIn, AreNew, IsPassIn, known_by, knowledge}
 use Rattle.turn_cell.specs.Knowing.{IsLegal, after_turn, facts_of, first_of, kept, newcomer, newcomers_from, standing}
 use Rattle.gw_base.specs.Owes.{Owes}
@@ -24,7 +25,7 @@ use Rattle.turn_cell.specs.declared.cell.Pass.{Pass}
 use Rattle.turn_cell.specs.declared.knowing.KeptTurn.{KeptTurn}
 use Rattle.turn_cell.specs.declared.knowing.Knowledge.{Knowledge}
 use Rattle.turn_cell.specs.declared.knowing.SeatView.{SeatView}
-use Rattle.turn_cell.specs.declared.knowing.Stage.TheVariants.{Resting, Waiting, Holding, Leaving}
+use Rattle.turn_cell.specs.declared.knowing.Stage.TheVariants.{Resting, Waiting, Holding}
 use Rattle.turn_cell.specs.declared.knowing.Standing.{Standing}
 
 module _ {V : Type 0} (told : Bool) (made : ℕ) (facts : V → Facts) (start : Facts) where
@@ -45,7 +46,7 @@ module _ {V : Type 0} (told : Bool) (made : ℕ) (facts : V → Facts) (start : 
       waits : Seated V
       waits = (seat (Waiting t) (n ∷ []), [])
 
-  pub leaves_at : (slots id t : ℕ) (v : V) (ks : List Knowledge) (me : Seated V) → me ≡ (seat (Leaving t (standing (facts v))) ks, (0, Some v) ∷ [])
+  pub leaves_at : (slots id t : ℕ) (v : V) (ks : List Knowledge) (me : Seated V) → me ≡ (seat (Holding t (standing (facts v))) ks, (0, Some v) ∷ [])
       → Allows (R told made facts start) slots id me 1 (λ _. t + 1) (λ _. left (step slots 1 (t + 1) 0 none) me (t + 1))
   leaves_at slots id t v ks me is =
       subst (λ (m : Seated V). Allows (R told made facts start) slots id m 1 (λ _. t + 1) (λ _. left (step slots 1 (t + 1) 0 none) m (t + 1))) (sym is) (leaves told made facts start slots id t v ks)
@@ -97,7 +98,7 @@ module _ {V : Type 0} (told : Bool) (facts : V → Facts) {T A : Type 0} (sessio
           (record {
             did = d;
             after = after;
-            leaves = h.3 ∙ (λ i. (seat (Leaving t (standing (facts x))) (sym after i ∷ []), (0, Some (same i)) ∷ []));
+            is_left = h.3 ∙ (λ i. (seat (Holding t (standing (facts x))) (sym after i ∷ []), (0, Some (same i)) ∷ []));
           })
 
 -- the slot that a seat has
@@ -146,6 +147,33 @@ module _ {V A : Type 0} (told : Bool) (facts : V → Facts) (session : Option �
         one_more = ap (λ (k : Knowledge). k.turns) taken.after ∙ ap (λ (d : SeatView). (first_of d.passes).turns ++ turn ∷ []) mid;
         placed = subst (λ (y : V). IsPlaced made start (facts y) (first_of m0.0.passes)) (sym same) (comes.4 told_it);
       }
+
+  -- behind which the seat has a value that may come to a turn more
+  pub comes_again : (made : ℕ) (start : Facts) (ticket : ℕ) (x : V) (answer : A) (m0 m1 m2 : Seated V) → HasCome facts told made start ticket m0 → m0.1 ≡ (0, Some x) ∷ rest m0.1 → m1.0 ≡ m0.0
+      → IsOwnSession session (first_of m0.0.passes) → HasTaken facts told session does ticket x (first_of m1.0.passes) answer m2
+      → HasCome facts told made start ticket m2
+  comes_again made start ticket x answer m0 m1 m2 comes slot mid own taken =
+      let v : V = comes.0 in
+      let here : m0.1 ≡ (0, Some v) ∷ [] = ap (λ (m : Seated V). m.1) comes.1 in
+      let is : Some x ≡ Some v = slot_is m0.1 (Some v) (Some x) here slot in
+      let same : x ≡ v = cc is in
+      let before : Knowledge = first_of m0.0.passes in
+      let left : Facts = facts taken.left in
+      let sound : AreSound told (facts x) = subst (λ (y : V). AreSound told (facts y)) (sym same) comes.3 in
+      let legal : IsLegal told before (facts x) =
+      subst (λ (y : V). IsLegal told before (facts y)) (sym same) (All-head (λ (k : Knowledge). IsLegal told k (facts v)) before [] comes.2) in
+      let after : first_of m2.0.passes ≡ after_turn before (facts x) left taken.drops taken.added =
+      taken.after ∙ ap (λ (d : SeatView). after_turn (first_of d.passes) (facts x) left taken.drops taken.added) mid in (
+        taken.left,
+        taken.is_left,
+        All-cons (λ (k : Knowledge). IsLegal told k left) (first_of m2.0.passes) []
+            (subst (λ (k : Knowledge). IsLegal told k left) (sym after)
+            (legal_own told before (facts x) left taken.drops taken.added legal taken.owes sound taken.sound)) (All-nil (λ (k : Knowledge). IsLegal told k left)),
+        taken.sound,
+        λ told_it. subst (λ (k : Knowledge). IsPlaced made start left k) (sym after)
+            (placed_on made start (facts x) left session before taken.drops taken.added (subst (λ (y : V). IsPlaced made start (facts y) before) (sym same) (comes.4 told_it))
+            (sound.begins told_it) (taken.owes.firm told_it) (taken.adds told_it) own),
+      )
 
 -- what all of a list are, its last is
 all_last : {X : Type 0} (P : X → Type 0) (xs : List X) (x : X) → All P (xs ++ x ∷ []) → P x

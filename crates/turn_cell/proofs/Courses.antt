@@ -15,14 +15,13 @@ use Rattle.turn_cell.specs.Placed.{HasNumber, Stands}
 use Rattle.turn_cell.specs.Rule.{Course, Fits, HasIt, HasTicket, HasValue, IsAtStage, IsSomewhere, Rule, Runs}
 use Rattle.turn_cell.specs.declared.knowing.SeatView.{SeatView}
 use Rattle.turn_cell.specs.declared.knowing.Stage.{Stage}
-use Rattle.turn_cell.specs.declared.knowing.Stage.TheVariants.{Resting, Waiting, Holding, Leaving}
+use Rattle.turn_cell.specs.declared.knowing.Stage.TheVariants.{Resting, Waiting, Holding}
 
 -- who has the value has the ticket whose turn it is
 pub holds_served : (c : Course) (j : ℕ) (stage : Stage) → IsAtStage c j stage → HasIt stage → c.holder c.served ≡ j
 holds_served c j Resting at it = absurd it
 holds_served c j (Waiting t) at it = absurd it
 holds_served c j (Holding t f) at it = ap c.holder (sym at.turn) ∙ at.ticket.own
-holds_served c j (Leaving t f) at it = ap c.holder (sym at.turn) ∙ at.ticket.own
 
 -- a stage stays as it is where what it rests on does
 pub stage_on : (c c' : Course) (j : ℕ) → ((t : ℕ) → HasTicket c j t → HasTicket c' j t) → ((t : ℕ) (f : Facts) → HasValue c j t f → HasValue c' j t f)
@@ -30,7 +29,6 @@ pub stage_on : (c c' : Course) (j : ℕ) → ((t : ℕ) → HasTicket c j t → 
 stage_on c c' j tickets values Resting at = tt
 stage_on c c' j tickets values (Waiting t) at = tickets t at
 stage_on c c' j tickets values (Holding t f) at = values t (facts_of f) at
-stage_on c c' j tickets values (Leaving t f) at = values t (facts_of f) at
 
 module _ {V : Type 0} (facts : V → Facts) where
   -- the value stays where it is

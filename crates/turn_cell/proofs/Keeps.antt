@@ -24,7 +24,7 @@ use Rattle.turn_cell.specs.Rule.{Course, HasIt, HasTicket, IsAway, IsHome, IsKep
 use Rattle.turn_cell.specs.Steps.{Did, called, drew, left, looked, settled}
 use Rattle.turn_cell.specs.declared.knowing.Knowledge.{Knowledge}
 use Rattle.turn_cell.specs.declared.knowing.SeatView.{SeatView}
-use Rattle.turn_cell.specs.declared.knowing.Stage.TheVariants.{Resting, Waiting, Holding, Leaving}
+use Rattle.turn_cell.specs.declared.knowing.Stage.TheVariants.{Resting, Waiting, Holding}
 use Rattle.turn_cell.specs.declared.knowing.Standing.{Standing}
 
 -- a course with other tickets
@@ -154,7 +154,7 @@ module _ {V : Type 0} (told : Bool) (made : ℕ) (facts : V → Facts) (start : 
             All-weaker (IsKept told made c id) (λ (m : Knowledge). IsLegal told m (facts v)) (λ (m : Knowledge) h. subst (IsLegal told m) (sym home.2) h.legal) (n ∷ []) fits.passes,
             subst (AreSound told) (sym home.2) k.sound,
             λ told_it. subst (λ (f : Facts). IsPlaced made start f n) (sym home.2)
-                (record { stood = c.stood; tail = c.tail; stands = k.stands told_it; owns = mine.owns told_it }),
+                (record { number = mine.number; stood = c.stood; tail = c.tail; stands = k.stands told_it; owns = mine.owns told_it }),
           ),
           λ miss. absurd (miss hit),
         ),
@@ -165,10 +165,10 @@ module _ {V : Type 0} (told : Bool) (made : ℕ) (facts : V → Facts) (start : 
 
   -- the value is put back
   pub leaves : (slots id t : ℕ) (v : V) (ks : List Knowledge)
-      → Allows R slots id (seat (Leaving t (standing (facts v))) ks, (0, Some v) ∷ []) 1 (λ _. t + 1)
-      (λ _. left (step slots 1 (t + 1) 0 none) (seat (Leaving t (standing (facts v))) ks, (0, Some v) ∷ []) (t + 1))
+      → Allows R slots id (seat (Holding t (standing (facts v))) ks, (0, Some v) ∷ []) 1 (λ _. t + 1)
+      (λ _. left (step slots 1 (t + 1) 0 none) (seat (Holding t (standing (facts v))) ks, (0, Some v) ∷ []) (t + 1))
   leaves slots id t v ks s r _ at _ =
-      let d : SeatView = seat (Leaving t (standing (facts v))) ks in
+      let d : SeatView = seat (Holding t (standing (facts v))) ks in
       let c : Course = r.0 in
       let k = r.1 in
       let fits = k.seats id d at in
@@ -291,6 +291,21 @@ named_by : (session : Option ℕ) (k : Knowledge) → IsOwnSession session k →
 named_by None k own m e = absurd (cc e)
 named_by (Some x) k own m e = let same : x ≡ m = cc e in sym same ∙ own
 
+-- the entries of a pass stand in their places behind a turn of its own
+pub placed_on : (made : ℕ) (start found left : Facts) (session : Option ℕ) (k : Knowledge) (drops : Bool) (added : Entries)
+    → IsPlaced made start found k → Begins found.firm found.list → Begins found.firm left.firm → Adds session found left drops added → IsOwnSession session k
+    → IsPlaced made start left (after_turn k found left drops added)
+placed_on made start found left session k drops added p sound firm adds own =
+    let named = named_by session k own in
+    let part = cut_at made start found p.stood p.tail p.stands drops sound in
+    record {
+      number = p.number;
+      stood = part.stood';
+      tail = part.tail' ++ added;
+      stands = stands_on made start found p.stood p.tail p.stands left session k.number drops added sound adds firm named p.number part;
+      owns = owns_own p.stood p.tail found left session k.number drops added adds named part k refl p.owns;
+    }
+
 module _ {V : Type 0} (told : Bool) (made : ℕ) (facts : V → Facts) (start : Facts) {T A : Type 0} (session : T → Option ℕ) (does : T → V → V → A → Bool → List HistoryEntry → Type 0)
     (turn : Option T) (value : Option V) (answer : Option A) where
   -- the length is raised, with what the turn left
@@ -314,7 +329,7 @@ module _ {V : Type 0} (told : Bool) (made : ℕ) (facts : V → Facts) (start : 
       let a = advance told made start c found (facts v) (session did.turn_is) n.number did.drops did.added stands sound.begins owes.firm did.adds (named_by (session did.turn_is) n named) mine.number in
       let c' : Course = record c { now = facts v; stood = a.stood'; tail = a.tail' } in
       let n' : Knowledge = after_turn n found (facts v) did.drops did.added in
-      let w : SeatView = seat (Leaving t (standing (facts v))) (n' ∷ []) in
+      let w : SeatView = seat (Holding t (standing (facts v))) (n' ∷ []) in
       let ticket_on : (j u : ℕ) → HasTicket c j u → HasTicket c' j u = λ j u h. record { comes = h.comes; was_drawn = h.was_drawn; own = h.own } in
       let legal_of : (m : Knowledge) → IsLegal told m c.now → IsLegal told m found = λ m l. subst (IsLegal told m) (sym now) l in
       let none_else : (j : ℕ) → j ≢ id → c.holder c.served ≡ j → ⊥ = λ j apart who. apart (sym who ∙ ap c.holder (sym turn_is) ∙ ticket.own) in

@@ -6,3 +6,4 @@ pub mod Keeps
 pub mod Joins
 pub mod Ends
 pub mod Calls
+pub mod Each

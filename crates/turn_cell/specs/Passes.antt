@@ -34,6 +34,22 @@ pub record FoundInPlace (made : ℕ) (start : Facts) (before after : Knowledge) 
   pub one_more : after.turns ≡ before.turns ++ turn ∷ []
   pub placed : IsPlaced made start (facts_of turn.found) before
 
+-- Turns that a pass took one behind the other, one for each of some items, in order.
+module _ {V I A : Type 0} (told : Bool) (facts : V → Facts) (made : ℕ) (start : Facts) (session : Option ℕ)
+    (does : I → V → V → A → Bool → List HistoryEntry → Type 0) where
+  -- a turn was taken for this item, and found the entries in their places
+  abbrev pub TookFor : I → Knowledge → A → Knowledge → Type 0
+  TookFor item before answer after =
+      Took told facts session (does item) before answer after × WhereTold told (FoundInPlace made start before after)
+
+  -- a turn was taken for each of these items, with these answers
+  abbrev pub TookEach : List I → List A → Knowledge → Knowledge → Type 0
+  TookEach [] [] before after = after ≡ before
+  TookEach (item ∷ items) (answer ∷ answers) before after =
+      (now : Knowledge) × TookFor item before answer now × TookEach items answers now after
+  TookEach [] (answer ∷ answers) before after = ⊥
+  TookEach (item ∷ items) [] before after = ⊥
+
 -- these entries, which a value has past those that it began with, were added by these passes
 pub record AreOwned (start now : Facts) (passes : List Knowledge) : Type 0 where
   pub stood : List HistoryEntry

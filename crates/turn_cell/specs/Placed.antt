@@ -46,9 +46,10 @@ HasNumber n (k ∷ ks) = (k.number ≡ n) ⊎ HasNumber n ks
 abbrev pub Owns : List HistoryEntry → List HistoryEntry → Knowledge → Type 0
 Owns stood tail k = IsSublist (by_session k.number (placed stood tail)) (added_by k.turns)
 
--- A value of a cell, and a pass of it: what stands behind the entries at first was added by passes of the cell, and
--- what this one added of it stands where it put it.
+-- A value of a cell, and a pass that was made with it: what stands behind the entries at first was added by passes of
+-- the cell, and what this one added of it stands where it put it.
 pub record IsPlaced (made : ℕ) (start now : Facts) (k : Knowledge) : Type 0 where
+  pub number : k.number < made
   pub stood : List HistoryEntry
   pub tail : List HistoryEntry
   pub stands : Stands made start now stood tail

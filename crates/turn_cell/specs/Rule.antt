@@ -12,7 +12,7 @@ use Rattle.turn_cell.specs.Placed.{HasNumber, Owns, Stands}
 use Rattle.turn_cell.specs.declared.knowing.Knowledge.{Knowledge}
 use Rattle.turn_cell.specs.declared.knowing.SeatView.{SeatView}
 use Rattle.turn_cell.specs.declared.knowing.Stage.{Stage}
-use Rattle.turn_cell.specs.declared.knowing.Stage.TheVariants.{Resting, Waiting, Holding, Leaving}
+use Rattle.turn_cell.specs.declared.knowing.Stage.TheVariants.{Resting, Waiting, Holding}
 
 abbrev pub seat : Stage → List Knowledge → SeatView
 seat stage passes = record { stage = stage; passes = passes }
@@ -54,31 +54,27 @@ abbrev pub IsAtStage : Course → ℕ → Stage → Type 0
 IsAtStage c j Resting = ⊤
 IsAtStage c j (Waiting t) = HasTicket c j t
 IsAtStage c j (Holding t f) = HasValue c j t (facts_of f)
-IsAtStage c j (Leaving t f) = HasValue c j t (facts_of f)
 
 -- the ticket of a pass that waits or has the value
 abbrev pub ticket_at : Stage → ℕ
 ticket_at Resting = 0
 ticket_at (Waiting ticket) = ticket
 ticket_at (Holding ticket found) = ticket
-ticket_at (Leaving ticket left) = ticket
 
 abbrev pub nothing : Facts
 nothing = record { size = 0; name = []; faults = 0; cuts = 0; entries = 0; length = 0; list = []; firm = []; torn = [] }
 
--- what the value was that a pass has, when it came
+-- what the value was that a pass has, when it came, or as the last turn left it
 abbrev pub found_at : Stage → Facts
 found_at Resting = nothing
 found_at (Waiting ticket) = nothing
 found_at (Holding ticket found) = facts_of found
-found_at (Leaving ticket left) = nothing
 
 -- a seat at this stage has the value
 abbrev pub HasIt : Stage → Type 0
 HasIt Resting = ⊥
 HasIt (Waiting t) = ⊥
 HasIt (Holding t f) = ⊤
-HasIt (Leaving t f) = ⊤
 
 -- some seat has the value, and it is that of a pass
 abbrev pub IsOut : List SeatView → Type 0

@@ -9,7 +9,7 @@ use Rattle.turn_cell.specs.Placed.{IsPlaced}
 use Rattle.turn_cell.specs.Rule.{found_at, seat, ticket_at}
 use Rattle.turn_cell.specs.declared.knowing.Knowledge.{Knowledge}
 use Rattle.turn_cell.specs.declared.knowing.SeatView.{SeatView}
-use Rattle.turn_cell.specs.declared.knowing.Stage.TheVariants.{Resting, Waiting, Holding, Leaving}
+use Rattle.turn_cell.specs.declared.knowing.Stage.TheVariants.{Resting, Waiting, Holding}
 
 -- a seat: what it knows, and the slots that it has taken
 abbrev pub Seated : Type 0 → Type 0
@@ -59,12 +59,12 @@ module _ {V : Type 0} where
         pub adds : WhereTold told (Adds (session turn_is) found (facts left) drops added)
         pub did : does turn_is value_is left answer_is drops added
 
-      -- the length was raised, and the pass keeps the turn
+      -- the length was raised, and the pass keeps the turn; it has the value still, as the turn left it
       abbrev pub settled : Step (Option V) → Seated V → ℕ → Seated V → Type 0
       settled s m found m' =
           (v : V) × (d : Did (found_at m.0.stage) v) × (m.1 ≡ (0, Some v) ∷ [])
           × (m' ≡ (
-            seat (Leaving (ticket_at m.0.stage) (standing (facts v)))
+            seat (Holding (ticket_at m.0.stage) (standing (facts v)))
                 (after_turn (first_of m.0.passes) (found_at m.0.stage) (facts v) d.drops d.added ∷ []),
             m.1,
           ))

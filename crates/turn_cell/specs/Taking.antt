@@ -7,7 +7,7 @@ use Rattle.gw_base.specs.Owes.{Adds, Owes}
 use Rattle.turn_cell.specs.Rule.{seat}
 use Rattle.turn_cell.specs.Steps.{Did, Seated, Takes}
 use Rattle.turn_cell.specs.declared.knowing.Knowledge.{Knowledge}
-use Rattle.turn_cell.specs.declared.knowing.Stage.TheVariants.{Leaving, Waiting}
+use Rattle.turn_cell.specs.declared.knowing.Stage.TheVariants.{Holding, Waiting}
 
 module _ {V : Type 0} (facts : V → Facts) (told : Bool) where
   -- the seat has taken a value that may come to a turn of its pass
@@ -15,10 +15,10 @@ module _ {V : Type 0} (facts : V → Facts) (told : Bool) where
   HasCome made start ticket m =
       Takes facts told made start ticket (seat (Waiting ticket) (first_of m.0.passes ∷ []), []) m
 
-  -- the seat has this value, which is about to be put back
-  abbrev pub IsLeaving : ℕ → V → Seated V → Type 0
-  IsLeaving ticket left m =
-      m ≡ (seat (Leaving ticket (standing (facts left))) (first_of m.0.passes ∷ []), (0, Some left) ∷ [])
+  -- the seat has this value, as the last turn left it
+  abbrev pub IsLeft : ℕ → V → Seated V → Type 0
+  IsLeft ticket left m =
+      m ≡ (seat (Holding ticket (standing (facts left))) (first_of m.0.passes ∷ []), (0, Some left) ∷ [])
 
   module _ {T A : Type 0} (session : T → Option ℕ) (does : T → V → V → A → Bool → List HistoryEntry → Type 0)
       (turn : Option T) (value : Option V) (answer : Option A) where
@@ -26,7 +26,7 @@ module _ {V : Type 0} (facts : V → Facts) (told : Bool) where
     pub record IsSettled (ticket : ℕ) (found : Facts) (before : Knowledge) (left : V) (m : Seated V) : Type 0 where
       pub did : Did facts told session does turn value answer found left
       pub after : first_of m.0.passes ≡ after_turn before found (facts left) did.drops did.added
-      pub leaves : IsLeaving ticket left m
+      pub is_left : IsLeft ticket left m
 
   -- the turn is taken, and the pass keeps it
   pub record HasTaken {A : Type 0} (session : Option ℕ) (does : V → V → A → Bool → List HistoryEntry → Type 0)
@@ -39,4 +39,4 @@ module _ {V : Type 0} (facts : V → Facts) (told : Bool) where
     pub adds : WhereTold told (Adds session (facts found) (facts left) drops added)
     pub does_so : does found left answer drops added
     pub after : first_of m.0.passes ≡ after_turn before (facts found) (facts left) drops added
-    pub leaves : IsLeaving ticket left m
+    pub is_left : IsLeft ticket left m

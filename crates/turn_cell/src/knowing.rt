@@ -42,10 +42,8 @@ pub enum Stage {
     Resting,
     /// The pass waits with this ticket.
     Waiting(u64),
-    /// The pass has the value, which was so when it came.
+    /// The pass has the value, which was so when it came, or as the last turn left it.
     Holding(u64, Standing),
-    /// The pass is about to put the value back, which is so now.
-    Leaving(u64, Standing),
 }
 
 /// What a seat knows: how far it is, and what the passes that were joined in it know.

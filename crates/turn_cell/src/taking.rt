@@ -1,18 +1,18 @@
 //! How a pass takes a turn, and how it sees the length.
-ghost use Rattle.std.specs.Prelude.{◌≡◌, ◌<◌, ◌^◌, ℕ, [], ◌∷◌, Some, None};
+ghost use Rattle.std.specs.Prelude.{◌≡◌, ◌<◌, ◌≤◌, ◌^◌, ℕ, [], ◌∷◌, Some, None, length, vec_capacity};
 ghost use Rattle.gw_base.specs.Facts.{AreSound, WhereTold};
 ghost use Rattle.turn_cell.specs.Cell.{IsPassOf, IsResting, begun, knowledge, known_at, made_by};
 ghost use Rattle.turn_cell.specs.Knowing.{Saw, standing};
 ghost use Rattle.gw_base.specs.Owes.{Owes};
-ghost use Rattle.turn_cell.specs.Passes.{FoundInPlace, IsOwnSession, Took};
+ghost use Rattle.turn_cell.specs.Passes.{FoundInPlace, IsOwnSession, Took, TookEach};
 ghost use Rattle.turn_cell.specs.Rule.{found_at, seat};
 ghost use Rattle.turn_cell.specs.Steps.{Did, Takes};
-ghost use Rattle.turn_cell.specs.Taking.{HasCome, HasTaken, IsLeaving, IsSettled};
+ghost use Rattle.turn_cell.specs.Taking.{HasCome, HasTaken, IsSettled};
 ghost use Rattle.turn_cell.specs.declared.knowing.Stage.TheVariants.{Holding, Waiting};
 
 use crate::cell::{DRAWN, LENGTH, Pass, Place, SERVED, TurnCell};
 use crate::rule::{Call, Draw, Leave, Look, Named, Origin, Settle};
-use crate::turn::Turn;
+use crate::turn::{Turn, TurnFor, Turns};
 use gw_base::Counted;
 use std::marker::Brand;
 use std::sync::Wait;
@@ -116,7 +116,7 @@ impl<V: Counted> TurnCell<V> {
         requires did { Did V.facts V.told T.session T.does J.turn J.value J.answer
             (found_at place.old.me.0.stage) left }
         ensures same { place.new.table_id ≡ place.old.table_id }
-        ensures leaves { IsSettled V.facts V.told T.session T.does J.turn J.value J.answer
+        ensures settles { IsSettled V.facts V.told T.session T.does J.turn J.value J.answer
             ticket (found_at place.old.me.0.stage) (known_at place.old) left place.new.me }
     {
         let _ = answer;
@@ -152,7 +152,7 @@ impl<V: Counted> TurnCell<V> {
         answer
     }
 
-    // Takes the turn, with the value in the slot that the pass has.
+    // Takes a turn, with the value in the slot that the pass has. The pass has it still, for a turn more.
     fn turn_at<T: Turn<V>>(&self, place: &mut Place<V>, ticket: u64, turn: T) -> T::Answer
         requires own { place.old.table_id ≡ self.now.table.shared.table_id }
         requires comes { HasCome V.facts V.told (made_by self.now) (V.facts (begun self.now)) ticket place.old.me }
@@ -162,7 +162,7 @@ impl<V: Counted> TurnCell<V> {
             (known_at place.old) result (known_at place.new) }
         ensures placed { WhereTold V.told (FoundInPlace (made_by self.now) (V.facts (begun self.now))
             (known_at place.old) (known_at place.new)) }
-        ensures leaves { (left : V) × IsLeaving V.facts V.told ticket left place.new.me }
+        ensures comes { HasCome V.facts V.told (made_by self.now) (V.facts (begun self.now)) ticket place.new.me }
     {
         let Some(value) = self.table.shared.exchange(place, 0, None) else {
             unreachable!()
@@ -170,11 +170,36 @@ impl<V: Counted> TurnCell<V> {
         self.perform::<Brand, T>(place, ticket, value, turn)
     }
 
-    // Gives the turn up, and the value back.
+    // Takes a turn for each of these items, with the value in the slot that the pass has.
+    fn turns_at<I, T: Turns<V, I>>(
+        &self,
+        place: &mut Place<V>,
+        ticket: u64,
+        turns: &T,
+        items: &[I],
+        answers: &mut Vec<T::Answer>,
+    )
+        requires own { place.old.table_id ≡ self.now.table.shared.table_id }
+        requires comes { HasCome V.facts V.told (made_by self.now) (V.facts (begun self.now)) ticket place.old.me }
+        requires session { IsOwnSession (T.session turns.now) (known_at place.old) }
+        requires room { (answers.old.items ≡ []) × (length items.now ≤ vec_capacity answers.old) }
+        ensures same { place.new.table_id ≡ place.old.table_id }
+        ensures comes { HasCome V.facts V.told (made_by self.now) (V.facts (begun self.now)) ticket place.new.me }
+        ensures took { TookEach V.told V.facts (made_by self.now) (V.facts (begun self.now)) (T.session turns.now)
+            (T.does turns.now) items.now answers.new.items (known_at place.old) (known_at place.new) }
+        ensures capacity { vec_capacity answers.new ≡ vec_capacity answers.old }
+    {
+        for item in items {
+            let answer = self.turn_at(place, ticket, TurnFor { turns, item });
+            answers.push_reserved(answer);
+        }
+    }
+
+    // Gives the ticket up, and the value back.
     fn leave(&self, place: &mut Place<V>, ticket: u64)
         requires own { place.old.table_id ≡ self.now.table.shared.table_id }
         requires ticket { ticket < 2 ^ 62 }
-        requires leaves { (value : V) × IsLeaving V.facts V.told ticket value place.old.me }
+        requires comes { HasCome V.facts V.told (made_by self.now) (V.facts (begun self.now)) ticket place.old.me }
         ensures same { place.new.table_id ≡ place.old.table_id }
         ensures rests { IsResting place.new (known_at place.old) }
     {
@@ -199,6 +224,32 @@ impl<V: Counted> TurnCell<V> {
         let answer = self.turn_at(&mut place, ticket, turn);
         self.leave(&mut place, ticket);
         (answer, Pass::of(place))
+    }
+
+    /// Waits for its turn once, and takes a turn for each of these items, one behind the other. Nobody else has a turn
+    /// between them. The answers are in the list then, which has room for them. It takes no memory.
+    pub fn with_each<I, T: Turns<V, I>, R: Wait>(
+        &self,
+        rt: &R,
+        pass: Pass,
+        turns: &T,
+        items: &[I],
+        answers: &mut Vec<T::Answer>,
+    ) -> Pass
+        requires own { IsPassOf self.now pass }
+        requires session { IsOwnSession (T.session turns.now) (knowledge pass) }
+        requires room { (answers.old.items ≡ []) × (length items.now ≤ vec_capacity answers.old) }
+        ensures own { IsPassOf self.now result }
+        ensures took { TookEach V.told V.facts (made_by self.now) (V.facts (begun self.now)) (T.session turns.now)
+            (T.does turns.now) items.now answers.new.items (knowledge pass) (knowledge result) }
+        ensures capacity { vec_capacity answers.new ≡ vec_capacity answers.old }
+    {
+        let mut place = pass.into_place();
+        let ticket = self.draw(rt, &mut place);
+        self.wait::<Brand, R>(rt, &mut place, ticket);
+        self.turns_at(&mut place, ticket, turns, items, answers);
+        self.leave(&mut place, ticket);
+        Pass::of(place)
     }
 
     /// The length that never falls, as some turn left it. It waits for nobody, and takes no memory.

@@ -3,9 +3,10 @@ ghost use Rattle.std.specs.Prelude.{◌≡◌, IfSome};
 ghost use Rattle.turn_cell.specs.Cell.{ArePassesOf, AreNew, IsPassOf, begun, knowledge};
 ghost use Rattle.gateway_book.specs.Turning.{facts_of};
 
+use crate::marks::{Marks, mark};
 use area_disk::{Area, MemoryArea, Plan};
 use gateway_book::laws::a_turn_owes;
-use gateway_book::{Book, Outcome, Receipt, Settled, Setup, prepare};
+use gateway_book::{Book, Marked, Outcome, Receipt, Settled, Setup, prepare};
 use gw_base::{Addr, Caller, Item, Moment};
 use std::alloc::Global;
 use std::sync::Wait;
@@ -153,7 +154,8 @@ fn send<R: Wait>(rt: &R, cell: &Cell, pass: Pass, who: Caller, now: Moment, told
 fn send_all<R: Wait>(rt: &R, cell: &Cell, mut pass: Pass, session: u32, now: Moment) -> (Told, Pass)
     requires own { IsPassOf cell.now pass }
     requires session { session ≡ (knowledge pass).number }
-    ensures { IsPassOf cell.now result.1 }
+    ensures own { IsPassOf cell.now result.1 }
+    ensures same { (knowledge result.1).number ≡ session }
 {
     let mut told = Told {
         firm: 0,
@@ -177,7 +179,8 @@ fn two_at_once<R: Threads + Wait + Sync>(
 ) -> (Told, Told, Pass, Pass)
     requires a { IsPassOf cell.now a × ((knowledge a).number ≡ 0) }
     requires b { IsPassOf cell.now b × ((knowledge b).number ≡ 1) }
-    ensures { IsPassOf cell.now result.2 × IsPassOf cell.now result.3 }
+    ensures { IsPassOf cell.now result.2 × IsPassOf cell.now result.3
+        × ((knowledge result.3).number ≡ 1) }
 {
     let (one, two) = thread::join(
         rt,
@@ -187,7 +190,7 @@ fn two_at_once<R: Threads + Wait + Sync>(
         { send_all(rt, cell, a, 0, now) },
         move ||
             requires { IsPassOf cell.now b × ((knowledge b).number ≡ 1) }
-            ensures { IsPassOf cell.entry.now result.1 }
+            ensures { IsPassOf cell.entry.now result.1 × ((knowledge result.1).number ≡ 1) }
         { send_all(rt, cell, b, 1, now) },
     );
     (one.0, two.0, one.1, two.1)
@@ -264,19 +267,20 @@ fn back(cell: &Cell, mut passes: Vec<Pass>, pass: Pass) -> Option<Vec<Pass>>
     Some(passes)
 }
 
-// What was told of the requests of both sessions, and the book as they left it.
+// What was told of the requests of both sessions, what became of marks behind them, and the book as they left it.
 fn shared<R: Threads + Wait + Sync>(
     rt: &R,
     alloc: Global,
-) -> Option<(Told, Told, Book<MemoryArea>)> {
+) -> Option<(Told, Told, Marks, Book<MemoryArea>)> {
     let now = Moment::of(1_709_164_800)?;
     let book = opened(alloc)?;
     let (cell, a, b, passes) = made(alloc, book)?;
     let (one, two, a, b) = two_at_once(rt, &cell, a, b, now);
+    let (marks, b) = mark(rt, &cell, b, 1, now);
     let passes = back(&cell, passes, a)?;
     let passes = back(&cell, passes, b)?;
     let book = cell.finish(passes).ok()?;
-    Some((one, two, book))
+    Some((one, two, marks, book))
 }
 
 // Each request was answered, and each that was told to be firm is filed, once.
@@ -290,14 +294,19 @@ fn keeps(items: &[Item], session: u8, told: Told) -> bool {
 
 #[test]
 fn what_two_sessions_are_told_is_firm_stays_whatever_fails(rt: HostRuntime) -> Result<(), Fail> {
-    let Some((one, two, mut book)) = shared(&rt, rt.alloc()) else {
+    let Some((one, two, marks, mut book)) = shared(&rt, rt.alloc()) else {
         panic!(&rt; "no memory")
     };
+    // Files are open: the first Tick is due, and a Close; behind that no other.
+    assert!(rt; matches!(marks.tick, Marked::Made { .. }));
+    assert!(rt; matches!(marks.close, Marked::Made { .. }));
+    assert_eq!(rt; marks.another, Marked::NotDue);
     assert!(rt; book.commit().is_ok());
     assert_eq!(rt; book.settled(0, 0), Settled::Lost { faults: 4 });
     let Ok(items) = book.items(rt.alloc(), 0, 1000) else {
         panic!(&rt; "no items")
     };
+    assert!(rt; matches!(items.last(), Some(Item::Close { .. })));
     assert!(rt; keeps(&items, 0, one));
     assert!(rt; keeps(&items, 1, two));
     assert!(rt; one.lost.wrapping_add(two.lost) > 0);

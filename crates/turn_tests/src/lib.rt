@@ -5,4 +5,6 @@
 #[cfg(test)]
 mod books;
 #[cfg(test)]
+mod marks;
+#[cfg(test)]
 mod threads;

@@ -9,7 +9,7 @@ store-requires g c =
     let me = c.exchange.ensures.3 ∙ ap (λ m. (m.0, (0, Some c.args.left) ∷ rest m.1)) c.requires.holds in
     (search rules, search rules, settles_at _ _ _ _ _ _ _ _ _ _ _ _ _ _ _ _ _ me c.requires.length c.requires.sound c.requires.owes c.requires.did (c.requires.session c.requires.did.turn_is c.requires.did.turn_named))
 
-pub returns-clause-leaves : goal.returns-clause-leaves
-returns-clause-leaves g c =
+pub returns-clause-settles : goal.returns-clause-settles
+returns-clause-settles g c =
     let me = c.exchange.ensures.3 ∙ ap (λ m. (m.0, (0, Some c.args.left) ∷ rest m.1)) c.requires.holds in
     settled_is _ _ _ _ _ _ _ (step 0 0 0 0 none) _ _ _ _ c.args.length _ _ me c.store.ensures.2

@@ -1,0 +1,36 @@
+-- Several turns, one behind the other.
+use Rattle.std.proofs.Common.{◌≡◌, ℕ, ◌+◌, ◌<◌, Bool, List, [], ◌∷◌, ◌++◌, length, take, Option, None, Some, refl, sym, ap, ◌∙◌, subst}
+use Rattle.std.specs.Prelude.{slice_index_or}
+use Rattle.std.proofs.lemmas.List.{take_more}
+use Rattle.gw_base.specs.Facts.{Facts}
+use Rattle.gw_base.specs.declared.history.HistoryEntry.{HistoryEntry}
+use Rattle.turn_cell.specs.Passes.{IsOwnSession, TookEach, TookFor}
+use Rattle.turn_cell.specs.declared.knowing.Knowledge.{Knowledge}
+
+-- the session that turns name is that of the pass still
+pub own_on : (session : Option ℕ) (before after : Knowledge) → after.number ≡ before.number → IsOwnSession session before → IsOwnSession session after
+own_on None before after same own = tt
+own_on (Some n) before after same own = own ∙ sym same
+
+module _ {V I A : Type 0} (told : Bool) (facts : V → Facts) (made : ℕ) (start : Facts) (session : Option ℕ)
+    (does : I → V → V → A → Bool → List HistoryEntry → Type 0) where
+  -- a turn more, behind these
+  took_more : (items : List I) (answers : List A) (before now after : Knowledge) (item : I) (answer : A)
+      → TookEach told facts made start session does items answers before now → TookFor told facts made start session does item now answer after
+      → TookEach told facts made start session does (items ++ item ∷ []) (answers ++ answer ∷ []) before after
+  took_more [] [] before now after item answer took more =
+      (after, subst (λ (k : Knowledge). TookFor told facts made start session does item k answer after) took more, refl)
+  took_more [] (x ∷ answers) before now after item answer took more = absurd took
+  took_more (i ∷ items) [] before now after item answer took more = absurd took
+  took_more (i ∷ items) (x ∷ answers) before now after item answer took more =
+      (took.0, took.1, took_more items answers took.0 now after item answer took.2 more)
+
+  -- a turn more, for the next of these items
+  pub took_next : (items : List I) (n : ℕ) (item : I) (answers : List A) (before now after : Knowledge) (answer : A)
+      → n < length items → item ≡ slice_index_or items n item → TookEach told facts made start session does (take n items) answers before now
+      → TookFor told facts made start session does item now answer after
+      → TookEach told facts made start session does (take (n + 1) items) (answers ++ answer ∷ []) before after
+  took_next items n item answers before now after answer within read took more =
+      subst (λ (is : List I). TookEach told facts made start session does is (answers ++ answer ∷ []) before after)
+      (sym (take_more items n item within ∙ ap (λ (i : I). take n items ++ i ∷ []) (sym read)))
+      (took_more (take n items) answers before now after item answer took more)
