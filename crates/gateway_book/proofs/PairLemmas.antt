@@ -1,11 +1,13 @@
 -- What one step at a place changes of windows.
-use Rattle.std.proofs.Common.{◌≡◌, ℕ, zero, suc, ◌+◌, ◌<◌, ◌≤◌, ◌==◌, Bool, true, false, if◌then◌else◌, List, [], ◌∷◌, ◌++◌, length, length-append, refl, sym, ap, ◌∙◌, true≢false, arith}
+use Rattle.std.proofs.Common.{◌≡◌, ℕ, zero, suc, ◌+◌, ◌<◌, ◌≤◌, ◌==◌, Bool, true, false, if◌then◌else◌, List, [], ◌∷◌, ◌++◌, length, length-append, refl, sym, subst, ap, ◌∙◌, true≢false, arith}
 use Rattle.std.specs.Prelude.{nat_lt, slice_index_or, slice_set}
 use Rattle.std.proofs.lemmas.Bool.{eq-eqb, eqb-true, eqb-false, ne_eqb, lt-ltb, ltb-false, ltb-true, le-ltb}
-use Rattle.seq_window.specs.Seen.{Seen, nothing_seen}
+use Rattle.seq_window.specs.Seen.{Seen, nothing_seen, with_state}
 use Rattle.seq_window.specs.Stored.{Stored, seen_of}
+use Rattle.gateway_book.specs.GivenStates.{MaySet, MaySetEach, with_each}
 use Rattle.gateway_book.specs.Limits.{half}
 use Rattle.gateway_book.specs.WindowPairs.{AreBlank, AreKeptTo, IsPairStep, IsStepAt, seen_at, seen_in}
+use Rattle.gateway_book.specs.declared.window_pair.StateGiven.{StateGiven}
 use Rattle.gateway_book.specs.declared.window_pair.WindowPair.{WindowPair}
 
 -- the window at a place is that of the pair there
@@ -113,6 +115,28 @@ kept_all firm old new kept side k = kept.kept side k ∙ at (nat_lt k (length ol
     at false e = let past = ltb-false k (length old) e in seen_behind side old k past ∙ sym (seen_behind firm old k past)
 
 -- ---- one pair
+
+-- a step more behind those that were noted
+pub each_more : (all : List StateGiven) (given : StateGiven) (seen : Seen) → with_each (all ++ given ∷ []) seen ≡ with_state half given.number given.state (with_each all seen)
+each_more [] given seen = refl
+each_more (g ∷ all) given seen = each_more all given (with_state half g.number g.state seen)
+
+pub may_more : (all : List StateGiven) (given : StateGiven) (seen : Seen) → MaySetEach all seen → MaySet given.number (with_each all seen) → MaySetEach (all ++ given ∷ []) seen
+may_more [] given seen may one = (one, tt)
+may_more (g ∷ all) given seen may one = (may.0, may_more all given (with_state half g.number g.state seen) may.1 one)
+
+-- no step is noted, and both sides are the same
+pub none_noted : (now : List StateGiven) (firm live : Seen) → now ≡ [] → firm ≡ live → MaySetEach now firm × (with_each now firm ≡ live)
+none_noted now firm live none same = subst (λ (l : List StateGiven). MaySetEach l firm × (with_each l firm ≡ live)) (sym none) (tt, same)
+
+-- the live side took the step, and it is noted
+pub noted : (all now : List StateGiven) (given : StateGiven) (firm live after : Seen) → now ≡ all ++ given ∷ [] → after ≡ with_state half given.number given.state live
+    → MaySet given.number live → MaySetEach all firm × (with_each all firm ≡ live) → MaySetEach now firm × (with_each now firm ≡ after)
+noted all now given firm live after more step may agree =
+    let one : MaySet given.number (with_each all firm) = subst (MaySet given.number) (sym agree.1) may in (
+      subst (λ (l : List StateGiven). MaySetEach l firm) (sym more) (may_more all given firm agree.0 one),
+      ap (λ (l : List StateGiven). with_each l firm) more ∙ each_more all given firm ∙ ap (with_state half given.number given.state) agree.1 ∙ sym step,
+    )
 
 pub blank_in : (pair : WindowPair) → seen_of half pair.firm ≡ nothing_seen → seen_of half pair.live ≡ nothing_seen → (firm : Bool) → seen_in firm pair ≡ nothing_seen
 unfolding seen_in

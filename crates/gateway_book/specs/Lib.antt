@@ -57,6 +57,7 @@ pub mod Judging
 pub mod Adding
 pub mod Cursor
 pub mod Followed
+pub mod GivenStates
 pub mod Marking
 pub mod FollowedProps
 pub mod Gathering

@@ -1,21 +1,85 @@
 // The windows of a node's request numbers, on the firm side and on the live side.
-ghost use Rattle.std.specs.Prelude.{◌≡◌, ◌≤◌, ◌+◌, ◌<◌, ◌^◌, ℕ, Bool, true, false, length, IfOk, IfSome};
+ghost use Rattle.std.specs.Prelude.{◌≡◌, ◌≤◌, ◌+◌, ◌<◌, ◌^◌, ℕ, Bool, true, false, if◌then◌else◌, [], ◌∷◌, ◌++◌, IfOk, IfSome};
+ghost use Rattle.std.proofs.Props.{props};
 ghost use Rattle.seq_window.specs.Seen.{nothing_seen, with_state, with_states};
 ghost use Rattle.seq_window.specs.Stored.{seen_of};
 ghost use Rattle.gateway_book.specs.Limits.{half};
+ghost use Rattle.gateway_book.specs.GivenStates.{MaySetEach, MaySetEach-prop, with_each};
 
 use gw_base::{Absolute, KeyState, NoMemory};
 use seq_window::Window;
 use std::alloc::Global;
 
+/// How many steps a pair notes at most. Behind more of them a whole window is copied.
+const MOST_NOTED: usize = 64;
+
+/// A number of the live side was given this state.
+#[derive(Clone, Copy)]
+pub(crate) struct StateGiven {
+    pub number: Absolute,
+    pub state: KeyState,
+}
+
 /// The window that the firm side has of a node's numbers, and that of the live side.
+///
+/// It notes the last steps of the live side, so that the firm side can take them too, and no whole window is copied.
 #[derive(Drop)]
 pub(crate) struct WindowPair {
     firm: Window<32_768>,
     live: Window<32_768>,
-    /// Whether they may differ.
+    /// The steps that the live side took since both were the same.
+    given: Vec<StateGiven>,
+    /// Whether it took others.
     changed: bool,
-    ghost agree: { changed ≡ false → seen_of half firm ≡ seen_of half live },
+    ghost agree: { changed ≡ false → MaySetEach given.items (seen_of half firm)
+        × (with_each given.items (seen_of half firm) ≡ seen_of half live) } by { Prim.hlevel (MaySetEach-prop, props) },
+}
+
+// Lets a window take these steps.
+fn follow(window: &mut Window<32_768>, given: &[StateGiven])
+    requires { MaySetEach given.now (seen_of half window.old) }
+    ensures { seen_of half window.new ≡ with_each given.now (seen_of half window.old) }
+{
+    let mut left = given;
+    while let Some((step, later)) = left.split_first() {
+        window.set(step.number, step.state);
+        left = later;
+    }
+}
+
+// Notes a step behind those that are noted, where there is room for it, and tells whether there is more than is noted.
+fn note(given: &mut Vec<StateGiven>, changed: bool, step: StateGiven) -> bool
+    ensures { result ≡ false → (changed ≡ false) × (given.new.items ≡ given.old.items ++ step ∷ []) }
+{
+    if given.len() >= given.capacity() {
+        return true;
+    }
+    given.push_reserved(step);
+    changed
+}
+
+// Makes both windows what one of them is. Where not more has changed than these steps, they are enough.
+fn make_same(
+    firm: &mut Window<32_768>,
+    live: &mut Window<32_768>,
+    given: &[StateGiven],
+    changed: bool,
+    keeps_firm: bool,
+)
+    requires { changed ≡ false → MaySetEach given.now (seen_of half firm.old)
+        × (with_each given.now (seen_of half firm.old) ≡ seen_of half live.old) }
+    ensures firm { seen_of half firm.new ≡ (if keeps_firm then seen_of half firm.old else seen_of half live.old) }
+    ensures live { seen_of half live.new ≡ (if keeps_firm then seen_of half firm.old else seen_of half live.old) }
+{
+    if keeps_firm {
+        live.copy_from(firm);
+        return;
+    }
+    if changed {
+        firm.copy_from(live);
+        return;
+    }
+    follow(firm, given);
 }
 
 impl WindowPair {
@@ -27,9 +91,11 @@ impl WindowPair {
     {
         let firm = Window::new(alloc)?;
         let live = Window::new(alloc)?;
+        let given = Vec::with_capacity(alloc, MOST_NOTED)?;
         Ok(WindowPair {
             firm,
             live,
+            given,
             changed: false,
         })
     }
@@ -63,7 +129,7 @@ impl WindowPair {
         requires high { number < 2 ^ 63 }
         ensures { IsPairStep (with_state half number state) self.old self.new }
     {
-        self.changed = true;
+        self.changed = note(&mut self.given, self.changed, StateGiven { number, state });
         self.live.set(number, state);
     }
 
@@ -83,18 +149,31 @@ impl WindowPair {
         self.live.clear();
     }
 
+    // Whether nothing has changed since both sides were made the same.
+    fn is_same(&self) -> bool
+        ensures { result ≡ true → seen_of half self.now.firm ≡ seen_of half self.now.live }
+    {
+        if self.changed {
+            return false;
+        }
+        self.given.is_empty()
+    }
+
     /// Makes both sides what one of them is.
     pub(crate) fn keep(&mut self, firm: bool)
         ensures { (side : Bool) → seen_in side self.new ≡ seen_in firm self.old }
     {
-        if !self.changed {
+        if self.is_same() {
             return;
         }
+        make_same(
+            &mut self.firm,
+            &mut self.live,
+            &self.given,
+            self.changed,
+            firm,
+        );
         self.changed = false;
-        if firm {
-            self.live.copy_from(&self.firm);
-        } else {
-            self.firm.copy_from(&self.live);
-        }
+        self.given.clear();
     }
 }

@@ -1,12 +1,21 @@
-use Rattle.std.proofs.Common.{refl}
-use Rattle.gateway_book.proofs.PairLemmas.{pair_kept, pair_same}
+use Rattle.std.proofs.Common.{◌≡◌, List, sym, subst, ◌∙◌}
+use Rattle.seq_window.specs.Stored.{seen_of}
+use Rattle.gateway_book.specs.GivenStates.{MaySetEach, with_each}
+use Rattle.gateway_book.specs.Limits.{half}
+use Rattle.gateway_book.specs.declared.window_pair.StateGiven.{StateGiven}
+use Rattle.gateway_book.proofs.PairLemmas.{none_noted, pair_kept, pair_same}
 use Rattle.gateway_book.proofs.window_pair.WindowPair.keep.Goals as goal
 
-pub returns-then-not-self : goal.returns-then-not-self
-returns-then-not-self c = pair_same c.args.firm c.args.self.now (c.args.self.now.agree c.if-not-self.true)
+pub make_same-requires : goal.make_same-requires
+make_same-requires c =
+    λ e. subst (λ (given : List StateGiven). MaySetEach given (seen_of half c.args.self.now.firm) × (with_each given (seen_of half c.args.self.now.firm) ≡ seen_of half c.args.self.now.live))
+    (sym c.deref.ensures.value) (c.args.self.now.agree e)
 
-pub returns-then-firm : goal.returns-then-firm
-returns-then-firm c = pair_kept c.args.firm c.args.self.now _ (rw c.if-firm.true refl) (rw c.if-firm.true c.copy_from.ensures)
+pub invariant_of-self : goal.invariant_of-self
+invariant_of-self c = record { agree = λ e. none_noted _ _ _ c.clear.ensures.items (c.make_same.ensures.firm ∙ sym c.make_same.ensures.live) }
 
-pub returns-else-firm : goal.returns-else-firm
-returns-else-firm c = pair_kept c.args.firm c.args.self.now _ (rw c.if-firm.false c.copy_from-else-firm.ensures) (rw c.if-firm.false refl)
+pub returns-then-is_same : goal.returns-then-is_same
+returns-then-is_same c = pair_same c.args.firm c.args.self.now (c.is_same.ensures c.if-is_same.true)
+
+pub returns : goal.returns
+returns c = pair_kept c.args.firm c.args.self.now _ c.make_same.ensures.firm c.make_same.ensures.live
