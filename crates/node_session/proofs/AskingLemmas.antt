@@ -6,6 +6,7 @@ use Rattle.std.proofs.lemmas.Bool.{true≢false, ltb-false, ltb-true, eq-eqb, eq
 use Rattle.std.proofs.lemmas.List.Elements.{All-contains}
 use Rattle.area_disk.specs.Disk.{Rose, last_count}
 use Rattle.area_disk.specs.declared.area.Area.{Ghosts}
+use Rattle.cgf_journal.specs.Trail.{firm_length}
 use Rattle.gateway_book.specs.Turning.{facts_of as book_facts, tells_lists}
 use Rattle.gw_base.specs.Facts.{AreSound, Facts}
 use Rattle.gw_base.specs.Faults.{Stood}
@@ -82,10 +83,10 @@ told_by : (settled : Settled) (cuts firm front faults : ℕ) → settled ≡ set
     → is_above cuts faults ≡ false → nat_lt firm front ≡ true → settled ≡ NotYet firm
 told_by settled cuts firm front faults is above short = is ∙ (λ i. if above i then Lost cuts else (if short i then NotYet firm else Firm))
 
-module _ (told : Bool) (front faults : ℕ) (t : KeptTurn) (found left : Facts) (settled : Settled) (drops : Bool)
+module _ (told : Bool) (front faults : ℕ) (t : KeptTurn) (found left : Facts) (firm_found firm_left : ℕ) (settled : Settled) (drops : Bool)
     (added : List HistoryEntry) (few : faults < 2 ^ 64) (is : IsCountedBy told front faults t)
     (follows : Follows told (facts_of t.left) found) (owes : Owes told found left) (sound : AreSound told left)
-    (settles : Settles told front faults found left settled added) where
+    (settles : Settles told front faults found left firm_found firm_left settled added) where
   -- where no commit and no opening again failed since, both counts stood
   stood_first : is_above left.cuts faults ≡ false → Stood t.left.cuts found.cuts
   stood_first not =
@@ -99,7 +100,7 @@ module _ (told : Bool) (front faults : ℕ) (t : KeptTurn) (found left : Facts) 
       let most = no_greater left.cuts faults not in let low = not_last left.cuts faults not in
       (omega (arith, a, b, c, most), omega (arith, a, b, c, most, low, few))
 
-  goes_on : (commits : HasCommitted told front faults found left settled added) → is_above left.cuts faults ≡ false
+  goes_on : (commits : HasCommitted told front faults found left firm_found firm_left settled added) → is_above left.cuts faults ≡ false
       → commits.is_broken ≡ false
   goes_on commits not = by_state commits.is_broken refl
     where
@@ -110,8 +111,8 @@ module _ (told : Bool) (front faults : ℕ) (t : KeptTurn) (found left : Facts) 
       by_state false goes = goes
 
   -- a commit made all that the answer rests on firm
-  long_enough : (commits : HasCommitted told front faults found left settled added) → is_above left.cuts faults ≡ false
-      → front ≤ commits.tells.firm
+  long_enough : (commits : HasCommitted told front faults found left firm_found firm_left settled added) → is_above left.cuts faults ≡ false
+      → front ≤ firm_left
   long_enough commits not =
       let firm = (commits.all (goes_on commits not)).0 in
       let more = owes.entries (stood_then not) in
@@ -120,20 +121,20 @@ module _ (told : Bool) (front faults : ℕ) (t : KeptTurn) (found left : Facts) 
       omega (arith, firm, more, first, at)
 
   -- what was told, of what is firm now
-  abbrev tells_of : Settles told front faults found left settled added → IsToldAt told front faults left settled
+  abbrev tells_of : Settles told front faults found left firm_found firm_left settled added → IsToldAt told front faults left firm_left settled
   tells_of (inl asked) = asked.tells
   tells_of (inr commits) = commits.tells
 
-  abbrev tells : IsToldAt told front faults left settled
+  abbrev tells : IsToldAt told front faults left firm_left settled
   tells = tells_of settles
 
   -- an answer isn't pending behind the turn
-  not_short : (s : Settles told front faults found left settled added) → is_above left.cuts faults ≡ false
-      → nat_lt (tells_of s).firm front ≡ true → ⊥
+  not_short : (s : Settles told front faults found left firm_found firm_left settled added) → is_above left.cuts faults ≡ false
+      → nat_lt firm_left front ≡ true → ⊥
   not_short (inl asked) not short =
-      asked.sure asked.tells.firm (told_by settled left.cuts asked.tells.firm front faults asked.tells.is not short)
+      asked.sure firm_left (told_by settled left.cuts firm_left front faults asked.tells.is not short)
   not_short (inr commits) not short =
-      let long = long_enough commits not in let lt = ltb-true commits.tells.firm front short in omega (arith, long, lt)
+      let long = long_enough commits not in let lt = ltb-true firm_left front short in omega (arith, long, lt)
 
   begins_firm : told ≡ true → is_above left.cuts faults ≡ false → settled ≡ Firm → Begins t.left.list left.firm
   begins_firm it_is not firm =
@@ -158,11 +159,11 @@ module _ (told : Bool) (front faults : ℕ) (t : KeptTurn) (found left : Facts) 
   -- what the pass learns, once it keeps the turn
   pub learns_then : (before after : Knowledge) → after ≡ after_turn before found left drops added
       → Learns told t before after settled
-  learns_then before after is_after = by_state (is_above left.cuts faults) (nat_lt tells.firm front) refl refl
+  learns_then before after is_after = by_state (is_above left.cuts faults) (nat_lt firm_left front) refl refl
     where
-      answered : (a b : Bool) → is_above left.cuts faults ≡ a → nat_lt tells.firm front ≡ b
-          → settled ≡ (if a then Lost left.cuts else (if b then NotYet tells.firm else Firm))
-      answered a b above short = tells.is ∙ (λ i. if above i then Lost left.cuts else (if short i then NotYet tells.firm else Firm))
+      answered : (a b : Bool) → is_above left.cuts faults ≡ a → nat_lt firm_left front ≡ b
+          → settled ≡ (if a then Lost left.cuts else (if b then NotYet firm_left else Firm))
+      answered a b above short = tells.is ∙ (λ i. if above i then Lost left.cuts else (if short i then NotYet firm_left else Firm))
 
       later : t.left.faults ≤ left.faults
       later = let a = follows.faults in let b = owes.faults in omega (arith, a, b)
@@ -170,7 +171,7 @@ module _ (told : Bool) (front faults : ℕ) (t : KeptTurn) (found left : Facts) 
       u : KeptTurn
       u = kept found left drops added
 
-      by_state : (a b : Bool) → is_above left.cuts faults ≡ a → nat_lt tells.firm front ≡ b → Learns told t before after settled
+      by_state : (a b : Bool) → is_above left.cuts faults ≡ a → nat_lt firm_left front ≡ b → Learns told t before after settled
       by_state true b above short =
           let is_lost : settled ≡ Lost left.cuts = answered true b above short in
           record {
@@ -215,7 +216,8 @@ learns_asked tells front faults seen t before looked after settled few is saw ha
     let follows : Follows told (facts_of t.left) (book_facts took.found) =
     All-contains (λ (u : KeptTurn). Follows told (facts_of u.left) (book_facts took.found)) looked.turns t took.legal.turns has_still in
     let learnt : Learns told t looked after settled =
-    learns_then told front faults t (book_facts took.found) (book_facts took.left) settled took.drops took.added few is follows took.owes took.sound.1 took.does_so
+    learns_then told front faults t (book_facts took.found) (book_facts took.left) (firm_length took.found.trail)
+    (firm_length took.left.trail) settled took.drops took.added few is follows took.owes took.sound.1 took.does_so
     looked after took.kept in
     record {
       firm = learnt.firm;

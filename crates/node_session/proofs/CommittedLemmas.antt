@@ -64,19 +64,18 @@ unchanged book = record {
 -- what a book tells of an answer
 abbrev pub told_at : {A : Type 0} {tells : Ghosts A} (front faults : ℕ) (book : Book A tells) (answer : Settled)
     → (Told tells → answer ≡ settled_of (value_of book) front faults) → answer ≡ settled_by book.cuts (firm_length book.trail) front faults
-    → IsToldAt (tells_lists tells) front faults (facts_of book) answer
+    → IsToldAt (tells_lists tells) front faults (facts_of book) (firm_length book.trail) answer
 told_at {tells = tells} front faults book answer told counted =
     record {
-      firm = firm_length book.trail;
       calm = λ (none : book.cuts ≡ 0). sym (ap (λ (c : ℕ). length_at c (firm_length book.trail) book.kept) none);
       is = counted;
       counts = λ it_is. told (and_parts tells.tells_octets tells.tells_crash it_is);
     }
 
 module _ {A : Type 0} {tells : Ghosts A} (front faults : ℕ) (old new : Book A tells) (answer : Settled) where
-  pub has_asked : IsToldAt (tells_lists tells) front faults (facts_of old) answer → ((n : ℕ) → answer ≢ NotYet n)
-      → HasAsked (tells_lists tells) front faults (facts_of old) (facts_of old) answer []
-  has_asked is sure = record { tells = is; sure = sure; still = refl; adds = refl }
+  pub has_asked : IsToldAt (tells_lists tells) front faults (facts_of old) (firm_length old.trail) answer → ((n : ℕ) → answer ≢ NotYet n)
+      → HasAsked (tells_lists tells) front faults (facts_of old) (facts_of old) (firm_length old.trail) (firm_length old.trail) answer []
+  has_asked is sure = record { tells = is; sure = sure; still = (refl, refl); adds = refl }
 
   all_firm : (r : Result ℕ Broken) → IsCommitTold new r → is_closed new.trail ≡ is_err r → is_closed new.trail ≡ false
       → firm_length new.trail ≡ length_of new.trail
@@ -85,9 +84,9 @@ module _ {A : Type 0} {tells : Ghosts A} (front faults : ℕ) (old new : Book A 
 
   pub has_committed : (r : Result ℕ Broken) → (Told tells → IsLeft old new (commit_left (fortune_of old new) (value_of old)) r)
       → IsCommitTold new r → is_closed new.trail ≡ is_err r → HasCause old new
-      → (short : ℕ) → IsToldAt (tells_lists tells) front faults (facts_of old) (NotYet short)
+      → (short : ℕ) → IsToldAt (tells_lists tells) front faults (facts_of old) (firm_length old.trail) (NotYet short)
       → (Told tells → answer ≡ settled_of (value_of new) front faults) → answer ≡ settled_by new.cuts (firm_length new.trail) front faults
-      → HasCommitted (tells_lists tells) front faults (facts_of old) (facts_of new) answer []
+      → HasCommitted (tells_lists tells) front faults (facts_of old) (facts_of new) (firm_length old.trail) (firm_length new.trail) answer []
   has_committed r left told broken cause short waited said counted = record {
     short = short;
     waited = waited;

@@ -83,8 +83,8 @@ own_turn tells from octets now who before taken o first receipt is =
     )
 
 -- a turn that asks what has become of an answer adds nothing
-none_settled : {told : Bool} {front faults : ℕ} {found left : Facts} {s : Settled} {added : List HistoryEntry}
-    → turns.Settles told front faults found left s added → added ≡ []
+none_settled : {told : Bool} {front faults : ℕ} {found left : Facts} {firm_found firm_left : ℕ} {s : Settled} {added : List HistoryEntry}
+    → turns.Settles told front faults found left firm_found firm_left s added → added ≡ []
 none_settled (inl asked) = asked.adds
 none_settled (inr commits) = commits.adds
 

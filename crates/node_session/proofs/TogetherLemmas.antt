@@ -1,5 +1,5 @@
 -- What a session tells of jobs that it served together, by what it did step by step.
-use Rattle.std.proofs.Common.{◌≡◌, ◌⊎◌, inl, inr, ℕ, ◌≤◌, Bool, true, List, [], ◌∷◌, ◌++◌, ◌+◌, ◌<◌, length, take, Option, Some, refl, sym, ap, subst, ◌∙◌, append_assoc, arith}
+use Rattle.std.proofs.Common.{◌≡◌, ◌⊎◌, inl, inr, ℕ, suc, ◌≤◌, Bool, true, List, [], ◌∷◌, ◌++◌, ◌+◌, ◌<◌, length, take, Option, Some, refl, sym, ap, subst, ◌∙◌, append_assoc, arith}
 use Rattle.std.specs.Prelude.{All, slice_index_or}
 use Rattle.std.specs.List.{Contains}
 use Rattle.std.proofs.lemmas.List.{append-nil, length-append, take_more}
@@ -9,6 +9,7 @@ use Rattle.gw_base.specs.Facts.{Facts, WhereTold}
 use Rattle.gw_base.specs.Owes.{Begins}
 use Rattle.gw_base.specs.declared.history.HistoryEntry.{HistoryEntry}
 use Rattle.gateway_book.specs.Turning.{facts_of as book_facts, tells_lists}
+use Rattle.gateway_book.specs.declared.book.Book.{Book}
 use Rattle.gateway_book.specs.declared.outcome.Outcome.{Outcome}
 use Rattle.gateway_book.specs.declared.outcome.Outcome.TheVariants as outcome
 use Rattle.gateway_book.specs.declared.outcome.Settled.{Settled}
@@ -17,7 +18,7 @@ use Rattle.job_inbox.specs.declared.job.Job.{Job}
 use Rattle.net_link.specs.Datagrams.{LinkState}
 use Rattle.turn_cell.specs.Cell.{knowledge}
 use Rattle.turn_cell.specs.Knowing.{Saw, kept}
-use Rattle.turn_cell.specs.Passes.{Took}
+use Rattle.turn_cell.specs.Passes.{Took, TookEach}
 use Rattle.turn_cell.specs.declared.cell.Pass.{Pass}
 use Rattle.turn_cell.specs.declared.knowing.KeptTurn.{KeptTurn}
 use Rattle.turn_cell.specs.declared.knowing.Knowledge.{Knowledge}
@@ -31,7 +32,7 @@ use Rattle.node_session.specs.Turns as turns
 use Rattle.node_session.specs.declared.gate.Go.{Go}
 use Rattle.node_session.specs.declared.served.Served.{Served}
 use Rattle.node_session.proofs.AskingLemmas.{begins_then}
-use Rattle.node_session.proofs.ServedLemmas.{Later, later_on, may_on, none_added, tells_behind}
+use Rattle.node_session.proofs.ServedLemmas.{Later, later_on, may_on, none_added, own_turn, tells_behind}
 
 -- what becomes of what a pass knows: it began with as many faults, and it knows no less
 record OnFrom (told : Bool) (before after : Knowledge) : Type 0 where
@@ -59,6 +60,15 @@ on_took told facts session does before answer after t = record {
 on_saw : (told : Bool) (seen : ℕ) (before after : Knowledge) → Saw told seen before after → OnFrom told before after
 on_saw told seen before after s = record { faults = ap (λ (k : Knowledge). k.faults) s.same; known = s.grows }
 
+-- the pass keeps the turn of an outcome behind more turns
+turn_stays : (told : Bool) (outcome : Outcome) (before after : Knowledge) (more : List KeptTurn)
+    → after.turns ≡ before.turns ++ more → HasTurnFor told outcome before → HasTurnFor told outcome after
+turn_stays told outcome before after more is have receipt at = let t = have receipt at in (
+  t.0,
+  subst (λ (ts : List KeptTurn). Contains ts t.0) (sym is) (Contains-append_left before.turns more t.0 t.1),
+  t.2,
+)
+
 module _ {A : Type 0} (tells : Ghosts A) (session : ℕ) where
   abbrev told : Bool
   told = tells_lists tells
@@ -66,30 +76,34 @@ module _ {A : Type 0} (tells : Ghosts A) (session : ℕ) where
   abbrev Takes : Job → Knowledge → Outcome → Knowledge → Type 0
   Takes job before outcome after = TakesIn tells job.from job.octets job.moment (caller_of session job) before outcome after
 
-  -- one datagram more was taken
-  pub taken_more : (jobs : List Job) (outcomes : List Outcome) (before now after : Knowledge) (job : Job) (outcome : Outcome)
-      → AreTaken tells session jobs outcomes before now → Takes job now outcome after
-      → AreTaken tells session (jobs ++ job ∷ []) (outcomes ++ outcome ∷ []) before after
-  taken_more [] [] before now after job outcome taken more =
-      (after, subst (λ (k : Knowledge). Takes job k outcome after) taken more, refl)
-  taken_more [] (o ∷ outcomes) before now after job outcome taken more = absurd taken
-  taken_more (j ∷ jobs) [] before now after job outcome taken more = absurd taken
-  taken_more (j ∷ jobs) (o ∷ outcomes) before now after job outcome taken more =
-      (taken.0, taken.1, taken_more jobs outcomes taken.0 now after job outcome taken.2 more)
+  -- what a turn does that takes the datagram of a job
+  abbrev DoesTake : Job → Book A tells → Book A tells → Outcome → Bool → List HistoryEntry → Type 0
+  DoesTake job found left answer drops added =
+      turns.HasTaken job.from job.octets job.moment (caller_of session job) (book_facts found) (book_facts left) added answer told drops
 
-  pub taken_next : (jobs : List Job) (i : ℕ) (job : Job) (outcomes : List Outcome) (before now after : Knowledge) (outcome : Outcome)
-      → i < length jobs → job ≡ slice_index_or jobs i job → AreTaken tells session (take i jobs) outcomes before now
-      → Takes job now outcome after → AreTaken tells session (take (i + 1) jobs) (outcomes ++ outcome ∷ []) before after
-  taken_next jobs i job outcomes before now after outcome within read taken more =
-      subst (λ (js : List Job). AreTaken tells session js (outcomes ++ outcome ∷ []) before after)
-      (sym (take_more jobs i job within ∙ ap (λ (j : Job). take i jobs ++ j ∷ []) (sym read)))
-      (taken_more (take i jobs) outcomes before now after job outcome taken more)
+  -- they were taken in turns under one ticket
+  pub taken_each : (made : ℕ) (start : Facts) (jobs : List Job) (outcomes : List Outcome) (before after : Knowledge)
+      → TookEach told (λ (book : Book A tells). book_facts book) made start (Some session) DoesTake jobs outcomes before after
+      → AreTaken tells session jobs outcomes before after
+  taken_each made start [] [] before after took = took
+  taken_each made start [] (o ∷ outcomes) before after took = absurd took
+  taken_each made start (job ∷ jobs) [] before after took = absurd took
+  taken_each made start (job ∷ jobs) (o ∷ outcomes) before after took =
+      (took.0, took.1.0, taken_each made start jobs outcomes took.0 after took.2)
+
+  -- each has an outcome
+  pub as_many : (jobs : List Job) (outcomes : List Outcome) (before after : Knowledge)
+      → AreTaken tells session jobs outcomes before after → length outcomes ≡ length jobs
+  as_many [] [] before after taken = refl
+  as_many [] (o ∷ outcomes) before after taken = absurd taken
+  as_many (job ∷ jobs) [] before after taken = absurd taken
+  as_many (job ∷ jobs) (o ∷ outcomes) before after taken = ap suc (as_many jobs outcomes taken.0 after taken.2)
 
   -- a turn, as the pass keeps it
-  abbrev pub turn_of : {job : Job} {before after : Knowledge} {outcome : Outcome} → Takes job before outcome after → KeptTurn
+  abbrev turn_of : {job : Job} {before after : Knowledge} {outcome : Outcome} → Takes job before outcome after → KeptTurn
   turn_of took = kept (book_facts took.found) (book_facts took.left) took.drops took.added
 
-  pub turns_with : {job : Job} {before after : Knowledge} {outcome : Outcome} (took : Takes job before outcome after)
+  turns_with : {job : Job} {before after : Knowledge} {outcome : Outcome} (took : Takes job before outcome after)
       → after.turns ≡ before.turns ++ turn_of {job = job} took ∷ []
   turns_with took = ap (λ (k : Knowledge). k.turns) took.kept
 
@@ -157,6 +171,18 @@ module _ {A : Type 0} (tells : Ghosts A) (session : ℕ) where
       let first : Firsts jobs before after = firsts_of jobs outcomes before after taken in
       let on : OnFrom told before after = on_taken jobs outcomes before after taken in
       record { number = first.number; size = first.size; faults = on.faults; known = on.known; later = first.firsts; turns = first.turns }
+
+  -- the pass keeps the turns of all these outcomes
+  pub have_turns : (jobs : List Job) (outcomes : List Outcome) (before after : Knowledge) → AreTaken tells session jobs outcomes before after
+      → HaveTurnsFor told outcomes after
+  have_turns [] [] before after taken = All-nil (λ (o : Outcome). HasTurnFor told o after)
+  have_turns [] (o ∷ outcomes) before after taken = absurd taken
+  have_turns (job ∷ jobs) [] before after taken = absurd taken
+  have_turns (job ∷ jobs) (o ∷ outcomes) before after taken =
+      let rest : GoesFrom told taken.0 after = from_taken jobs outcomes taken.0 after taken.2 in
+      All-cons (λ (x : Outcome). HasTurnFor told x after) o outcomes
+      (turn_stays told o taken.0 after rest.later rest.turns (own_turn tells job.from job.octets job.moment (caller_of session job) before taken.0 o taken.1))
+      (have_turns jobs outcomes taken.0 after taken.2)
 
   module _ (may : ℕ → ℕ → Go → Type 0) where
     on_asked : (front faults : ℕ) (before : Knowledge) (settled : Settled) (after : Knowledge)
@@ -347,19 +373,6 @@ are_served tells may session jobs outcomes results p pass taken after old new is
       go_on = subst (λ (x : List Job). GoOn tells may session x outcomes results taken after old new) second
           (subst (λ (o : List Outcome). GoOn tells may session ks o results taken after old new) third goes);
     })
-
--- the outcomes of turns that the pass keeps, with one more
-pub turns_more : (told : Bool) (outcomes : List Outcome) (outcome : Outcome) (before after : Knowledge) (more : List KeptTurn)
-    → after.turns ≡ before.turns ++ more → HaveTurnsFor told outcomes before → HasTurnFor told outcome after
-    → HaveTurnsFor told (outcomes ++ outcome ∷ []) after
-turns_more told outcomes outcome before after more is have has =
-    All-append (λ (o : Outcome). HasTurnFor told o after) outcomes (outcome ∷ [])
-    (λ k d lt receipt at. let t = have k d lt receipt at in (
-      t.0,
-      subst (λ (ts : List KeptTurn). Contains ts t.0) (sym is) (Contains-append_left before.turns more t.0 t.1),
-      t.2,
-    ))
-    (All-cons (λ (o : Outcome). HasTurnFor told o after) outcome [] has (All-nil (λ (o : Outcome). HasTurnFor told o after)))
 
 -- what was added to several jobs' answers stands among those to more
 module _ (told : Bool) (session size : ℕ) where

@@ -1,6 +1,7 @@
 -- The turns of a session over a book, as its pass keeps them.
 use Rattle.std.specs.Prelude.{◌≡◌, ◌⊎◌, ℕ, ◌<◌, ◌≤◌, List, Some, None, Result}
 use Rattle.area_disk.specs.declared.area.Area.{Ghosts}
+use Rattle.cgf_journal.specs.Trail.{firm_length}
 use Rattle.gw_base.specs.declared.address.Addr.{Addr}
 use Rattle.gw_base.specs.declared.history.Caller.{Caller}
 use Rattle.gw_base.specs.declared.item.Item.{Item}
@@ -30,7 +31,8 @@ module _ {A : Type 0} (tells : Ghosts A) where
   SettlesIn front faults before settled after =
       Took {V = Book A tells} (tells_lists tells) (λ book. facts_of book) None
       (λ found left answer drops added.
-      Settles (tells_lists tells) front faults (facts_of found) (facts_of left) answer added)
+      Settles (tells_lists tells) front faults (facts_of found) (facts_of left) (firm_length found.trail)
+      (firm_length left.trail) answer added)
       before settled after
 
   -- items were told in a turn, which names no session

@@ -84,29 +84,29 @@ module _ (from : Addr) (octets : List ℕ) (now : ℕ) (who : Caller) (found lef
 -- A turn that asks what has become of an answer with this front, given when so many commits and openings again had
 -- failed.
 module _ (told : Bool) (front faults : ℕ) where
-  -- What is told at a value with these facts, of which so many entries are firm: over every area as many as the length
-  -- that never falls, while no commit failed.
-  pub record IsToldAt (now : Facts) (settled : Settled) : Type 0 where
-    pub firm : ℕ
+  -- What is told at a value with these facts, of whose journal so many entries are firm: over every area as many as the
+  -- length that never falls, while no commit failed.
+  pub record IsToldAt (now : Facts) (firm : ℕ) (settled : Settled) : Type 0 where
     pub calm : now.cuts ≡ 0 → firm ≡ now.length
     pub is : settled ≡ settled_by now.cuts firm front faults
     pub counts : WhereTold told (settled ≡ settled_by now.cuts (length now.firm) front faults)
 
-  module _ (found left : Facts) (settled : Settled) (added : List HistoryEntry) where
+  -- what the turn did, by the facts that it found and left and how many entries were firm at each
+  module _ (found left : Facts) (firm_found firm_left : ℕ) (settled : Settled) (added : List HistoryEntry) where
     -- It could be told at once, and nothing was done.
     pub record HasAsked : Type 0 where
-      pub tells : IsToldAt left settled
+      pub tells : IsToldAt left firm_left settled
       pub sure : (n : ℕ) → settled ≢ NotYet n
-      pub still : left ≡ found
+      pub still : (left ≡ found) × (firm_left ≡ firm_found)
       pub adds : added ≡ []
 
     -- It wasn't firm yet. So the turn made the history firm, or left the book broken, and then it was told.
     pub record HasCommitted : Type 0 where
       pub short : ℕ
-      pub waited : IsToldAt found (NotYet short)
-      pub tells : IsToldAt left settled
+      pub waited : IsToldAt found firm_found (NotYet short)
+      pub tells : IsToldAt left firm_left settled
       pub is_broken : Bool
-      pub all : is_broken ≡ false → (tells.firm ≡ left.entries) × WhereTold told (left.list ≡ left.firm)
+      pub all : is_broken ≡ false → (firm_left ≡ left.entries) × WhereTold told (left.list ≡ left.firm)
       pub uncut : is_broken ≡ false → left.cuts ≡ found.cuts
       pub cut : is_broken ≡ true → left.cuts ≡ counted 1 found.cuts
       pub rose : is_broken ≡ true → Rose found.faults left.faults

@@ -15,6 +15,7 @@ pub(crate) struct Committing {
 
 impl<A: Area> Turn<Book<A>> for Committing {
     ghost use Rattle.std.specs.Prelude.{None};
+    ghost use Rattle.cgf_journal.specs.Trail.{firm_length};
     ghost use Rattle.gateway_book.specs.Turning.{facts_of, tells_lists};
     ghost use Rattle.node_session.specs.Turns.{Settles};
 
@@ -23,7 +24,7 @@ impl<A: Area> Turn<Book<A>> for Committing {
     ghost session = { λ turn. None };
 
     ghost does = { λ turn found left answer drops added. Settles (tells_lists A.Area) turn.front turn.faults
-        (facts_of found) (facts_of left) answer added };
+        (facts_of found) (facts_of left) (firm_length found.trail) (firm_length left.trail) answer added };
 
     fn run(self, value: &mut Book<A>) -> Settled {
         a_turn_owes::<A>();

@@ -108,8 +108,8 @@ pub(crate) fn go_on<A: Area, G: Gate, L: Link, R: Wait>(
     }
 }
 
-/// Takes the datagram of a job in a turn, for which it is prepared before.
-pub(crate) fn take<A: Area, R: Wait>(
+// Takes the datagram of a job in a turn, for which it is prepared before.
+fn take<A: Area, R: Wait>(
     rt: &R,
     cell: &TurnCell<Book<A>>,
     pass: Pass,

@@ -6,7 +6,8 @@ ghost use Rattle.node_session.specs.Together.{AreTaken, GoOn, HaveTurnsFor};
 
 use crate::gate::Gate;
 use crate::served::Served;
-use crate::serving::{go_on, take};
+use crate::serving::go_on;
+use crate::taking::TakingEach;
 use area_disk::Area;
 use gateway_book::{Book, Outcome};
 use job_inbox::Job;
@@ -14,7 +15,8 @@ use net_link::Link;
 use std::sync::Wait;
 use turn_cell::{Pass, TurnCell};
 
-/// Takes the datagrams of jobs, each in a turn of its own, in order. It takes no memory.
+/// Takes the datagrams of jobs, each in a turn of its own, in order. It waits once for all these turns. It takes no
+/// memory.
 pub(crate) fn take_each<A: Area, R: Wait>(
     rt: &R,
     cell: &TurnCell<Book<A>>,
@@ -32,13 +34,7 @@ pub(crate) fn take_each<A: Area, R: Wait>(
     ensures each { length outcomes.new.items ≡ length jobs.now }
     ensures capacity { vec_capacity outcomes.new ≡ vec_capacity outcomes.old }
 {
-    let mut pass = pass;
-    for job in jobs {
-        let (outcome, now) = take(rt, cell, pass, session, job);
-        outcomes.push_reserved(outcome);
-        pass = now;
-    }
-    pass
+    cell.with_each(rt, pass, &TakingEach { session }, jobs, outcomes)
 }
 
 /// Goes on with jobs whose datagrams were taken with these outcomes, in order. Where the first one's answer isn't firm

@@ -107,9 +107,9 @@ impl Worker {
     ghost use Rattle.node_session.specs.Passes.{IsWorkerOf, knowledge_of, session_of};
     ghost use Rattle.node_session.specs.Together.{AreServed, EachMayHave, KeepsTurnsOf, TellTogether};
 
-    /// Serves the jobs of a batch on a link, so that one commit makes all their answers firm: it takes each datagram in
-    /// a turn, as `serve_one` does, and once all are taken it goes on with each as that does, in order. What became of
-    /// each is in the batch then. It takes no memory, but where the link does.
+    /// Serves the jobs of a batch on a link, so that one commit makes all their answers firm: it waits once, takes each
+    /// datagram in a turn, as `serve_one` does, and once all are taken it goes on with each as that does, in order. What
+    /// became of each is in the batch then. It takes no memory, but where the link does.
     pub fn serve_batch<A: Area, G: Gate, L: Link, R: Wait>(
         &mut self,
         rt: &R,

@@ -1,4 +1,5 @@
 use Rattle.std.proofs.Common.{None, [], subst, inl, inr, arith}
+use Rattle.cgf_journal.specs.Trail.{firm_length}
 use Rattle.gateway_book.specs.Book.{fortune_of, value_of}
 use Rattle.gateway_book.specs.Turning.{drops_of, facts_of, tells_lists}
 use Rattle.gateway_book.specs.declared.outcome.Settled.{Settled}
@@ -30,7 +31,7 @@ pub returns-clause-does : goal.returns-clause-does
 returns-clause-does g c =
     let old = c.args.value.now in let new = c.commit-committed.new.self in
     let asked = told_at c.args.self.front c.args.self.faults old c.settled-told.result c.settled-told.ensures.told c.settled-told.ensures.counted in
-    let waited = subst (λ (s : Settled). IsToldAt (tells_lists g.A.Area) c.args.self.front c.args.self.faults (facts_of old) s) c.in-NotYet.is asked in (
+    let waited = subst (λ (s : Settled). IsToldAt (tells_lists g.A.Area) c.args.self.front c.args.self.faults (facts_of old) (firm_length old.trail) s) c.in-NotYet.is asked in (
       drops_of (fortune_of old new) (value_of old),
       [],
       (c.a_turn_owes.ensures.commit old new c.commit-committed.result None c.commit-committed.ensures.stays c.commit-committed.ensures.cause c.commit-committed.ensures.left).adds,
