@@ -3,9 +3,12 @@ ghost use Rattle.std.specs.Prelude.{◌≡◌};
 ghost use Rattle.net_link.specs.Memory.{told_of};
 ghost use Rattle.node_session.specs.Passes.{IsWorkerOf};
 
-use crate::desk::{Cell, Desk, answer, desks, finished, job, net, opened, request, were_sent};
+use crate::desk::{
+    Cell, Desk, answer, desks, ended, finished, job, net, opened, request, were_sent,
+};
 use gtpp_message::Why;
-use node_session::{Gate, Go, Served};
+use job_inbox::Job;
+use node_session::{Gate, Go, JobBatch, Served, Worker};
 use std::alloc::Global;
 use std::process::Abort;
 use std::sync::Wait;
@@ -67,5 +70,54 @@ fn a_session_tells_what_became_of_each_job(rt: HostRuntime) -> Result<(), Fail> 
         replied(128, 4),
     ];
     assert!(rt; five_jobs(&rt, rt.alloc()) == (wanted, true));
+    Ok(())
+}
+
+// Puts a job into a batch.
+fn put(rt: &impl Abort, batch: &mut JobBatch, job: Job) {
+    if batch.is_full() {
+        panic!(rt; "no room in a batch")
+    }
+    batch.add(job);
+}
+
+// A batch of two requests of session 1, and the first one's repeat.
+fn three_jobs(rt: &impl Abort, alloc: Global) -> JobBatch {
+    let Ok(mut batch) = JobBatch::new(alloc, 3) else {
+        panic!(rt; "no memory for a batch")
+    };
+    put(rt, &mut batch, job(rt, alloc, 1, 1, &request(0)));
+    put(rt, &mut batch, job(rt, alloc, 1, 2, &request(1)));
+    put(rt, &mut batch, job(rt, alloc, 1, 3, &request(0)));
+    batch
+}
+
+// Serves the jobs of a batch at a desk.
+fn together<R: Wait>(rt: &R, cell: &Cell, desk: Desk, batch: &mut JobBatch) -> Worker
+    requires own { IsWorkerOf cell.now desk.worker }
+    ensures own { IsWorkerOf cell.now result }
+{
+    let Desk {
+        mut worker,
+        mut link,
+    } = desk;
+    worker.serve_batch(rt, cell, batch, &Open, &mut link);
+    worker
+}
+
+// How often the area was written or synced for a batch of jobs.
+fn served<R: Abort + Wait>(rt: &R, alloc: Global, batch: &mut JobBatch) -> u64 {
+    let (cell, _links, other, desk) = desks(rt, alloc, opened(rt, alloc), net(rt, alloc, &[]));
+    let worker = together(rt, &cell, desk, batch);
+    ended(rt, alloc, cell, other.worker, worker)
+}
+
+#[test]
+fn one_commit_makes_the_answers_of_a_batch_firm(rt: HostRuntime) -> Result<(), Fail> {
+    let mut batch = three_jobs(&rt, rt.alloc());
+    let calls = served(&rt, rt.alloc(), &mut batch);
+    let wanted = [replied(128, 2), replied(128, 3), replied(253, 3)];
+    assert!(rt; batch.served() == wanted.as_slice());
+    assert_eq!(rt; calls, 4);
     Ok(())
 }

@@ -198,6 +198,20 @@ fn put(rt: &impl Abort, cell: &Cell, passes: &mut Vec<Pass>, pass: Pass)
     };
 }
 
+/// How many calls of the area were counted, once a cell has ended with its two sessions.
+pub(crate) fn ended(rt: &impl Abort, alloc: Global, cell: Cell, one: Worker, other: Worker) -> u64
+    requires one { IsWorkerOf cell one }
+    requires other { IsWorkerOf cell other }
+{
+    let mut passes = Vec::new(alloc);
+    put(rt, &cell, &mut passes, one.into_pass());
+    put(rt, &cell, &mut passes, other.into_pass());
+    let Ok(book) = cell.finish(passes) else {
+        panic!(rt; "a pass is missing")
+    };
+    book.calls()
+}
+
 /// How many calls of the area were counted, and the links with what was sent: first by the first session.
 pub(crate) fn finished(
     rt: &impl Abort,
@@ -215,13 +229,7 @@ pub(crate) fn finished(
 {
     links.back(one.link);
     links.back(other.link);
-    let mut passes = Vec::new(alloc);
-    put(rt, &cell, &mut passes, one.worker.into_pass());
-    put(rt, &cell, &mut passes, other.worker.into_pass());
-    let Ok(book) = cell.finish(passes) else {
-        panic!(rt; "a pass is missing")
-    };
-    (book.calls(), links)
+    (ended(rt, alloc, cell, one.worker, other.worker), links)
 }
 
 /// Whether these replies were sent and no more, the n-th with this number and this cause.
