@@ -170,6 +170,7 @@ takes_both old piece mid rest new n m begun good is middle left next all =
       octets = joined;
       whole = λ k e. ends done k e;
       more = λ e. whole_piece done e;
+      advances = λ k e. some_taken (n + m) joined k e;
     }
   where
     joined : new ≡ old ++ take (n + m) piece
@@ -186,3 +187,10 @@ takes_both old piece mid rest new n m begun good is middle left next all =
     whole_piece : IsDone piece (n + m) new → whole_length new ≡ None → n + m ≡ length piece
     whole_piece (inl w) e = let wrong : ◌≡◌ {A = Option ℕ} None (Some (length new)) = sym e ∙ w in absurd (cc)
     whole_piece (inr w) e = w.1
+
+    -- what has begun isn't whole, so that it takes an octet more to be
+    some_taken : (j : ℕ) → new ≡ old ++ take j piece → (k : ℕ) → whole_length new ≡ Some k → 0 < j
+    some_taken zero same k e =
+        let wrong : ◌≡◌ {A = Option ℕ} None (Some k) = sym begun.none ∙ ap (λ (l : List ℕ). whole_length l) (sym (same ∙ append-nil old)) ∙ e in
+        absurd (cc)
+    some_taken (suc j) same k e = omega arith

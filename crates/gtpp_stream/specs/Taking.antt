@@ -1,5 +1,5 @@
 -- How a deframer takes in a piece: first what is lacking of a header, then what is lacking of the message.
-use Rattle.std.specs.Prelude.{◌≡◌, ℕ, ◌+◌, ◌-◌, ◌≤◌, List, ◌++◌, length, take, None, Some, Result, Ok, Err}
+use Rattle.std.specs.Prelude.{◌≡◌, ℕ, ◌+◌, ◌-◌, ◌<◌, ◌≤◌, List, ◌++◌, length, take, None, Some, Result, Ok, Err}
 use Rattle.gtpp_header.specs.declared.Header.{Header}
 use Rattle.gtpp_header.specs.declared.fault.HeadFault.{HeadFault}
 use Rattle.gtpp_header.specs.declared.fault.HeadFault.TheVariants.{Cut, NotPrime, Short, Version}
@@ -24,3 +24,4 @@ pub record Takes (piece : List ℕ) (count : ℕ) (old new : List ℕ) : Type 0 
   pub octets : new ≡ old ++ take count piece
   pub whole : (k : ℕ) → whole_length new ≡ Some k → k ≡ length new
   pub more : whole_length new ≡ None → count ≡ length piece
+  pub advances : (k : ℕ) → whole_length new ≡ Some k → 0 < count

@@ -94,7 +94,7 @@ impl Deframer {
         ensures bad { (kind : FrameKind) → fault_before self.old piece.now ≡ Some kind →
             (result.0 ≡ 0) × (self.new ≡ record self.old { bad = Some kind }) }
         ensures takes { fault_before self.old piece.now ≡ None →
-            Takes piece.now result.0 self.old.octets self.new.octets }
+            Takes piece.now result.0 self.old.octets self.new.octets × (self.new.bad ≡ self.old.bad) }
         ensures counts { self.new.used ≡ self.old.used + result.0 }
         ensures stands { IsPart self.new.is_whole self.new.octets }
         ensures follows { (given : List ℕ) (messages : List (List ℕ)) → Follows given messages self.old →

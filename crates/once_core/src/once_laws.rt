@@ -68,7 +68,8 @@ pub fn epochs_are_told_by_their_starts()
 pub fn a_node_knows_what_it_was_told()
     ensures { (setup : NodeSetup) (calls : List NodeCall) (node : ℕ) (values : ℕ → List ℕ) →
         1 ≤ length setup.gateways →
-        Knows (deeds_of node values (log_of setup calls)) (starts_in (log_of setup calls)) (reached setup calls).packets }
+        Knows (deeds_of node values (log_of setup calls)) (starts_in (log_of setup calls))
+        (reached setup calls).packets }
 {
     node_core::laws::knowledge_rests_on_responses();
     node_core::laws::released_copies_are_chosen();

@@ -29,7 +29,8 @@ impl<const HALF: usize> Model for Window<HALF> {
 
     ghost view = { λ w. record { top = w.top; at = w.at; cells = w.cells.items } };
 
-    ghost invariant = { λ w. (HALF + 1 ≤ vec_capacity w.cells) × (HALF + 1 < 2 ^ 63) × HasCells HALF w.top w.at w.cells.items };
+    ghost invariant = { λ w.
+        (HALF + 1 ≤ vec_capacity w.cells) × (HALF + 1 < 2 ^ 63) × HasCells HALF w.top w.at w.cells.items };
 }
 
 impl<const HALF: usize> Window<HALF> {
