@@ -46,7 +46,7 @@ impl Settings {
     }
 
     /// What holds where nothing is set.
-    fn first() -> Settings
+    pub fn first() -> Settings
         ensures set { AreSet default_setup result }
         ensures sound { AreSound result }
     {
