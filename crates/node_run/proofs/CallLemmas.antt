@@ -123,7 +123,7 @@ module _ (goes : EachGoesOn) (setup : NodeSetup) where
   turn_within packets port None node few was = ticks_within packets node few was
   turn_within packets port (Some d) node few was = hears_within packets port d node was
 
-  after_all_turns : (packets : ℕ) (first : NodeValue) (turns : List Turn) → packets < 2 ^ 32
+  pub after_all_turns : (packets : ℕ) (first : NodeValue) (turns : List Turn) → packets < 2 ^ 32
       → CalledWithin packets first
       → CalledWithin packets (node_after packets first turns)
   after_all_turns packets first [] few was = ticks_within packets first few was

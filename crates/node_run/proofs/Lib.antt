@@ -1,5 +1,6 @@
 pub mod CallLemmas
 pub mod FillLemmas
+pub mod KeepingLemmas
 pub mod PacketLemmas
 pub mod RunLemmas
 pub mod SendLemmas

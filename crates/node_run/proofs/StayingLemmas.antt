@@ -17,12 +17,14 @@ numbers_of packets = map (λ (packet : PacketState). packet.number) packets
 pub record StaysUp (old new : NodeValue) : Type 0 where
   pub runs : new.is_running ≡ old.is_running
   pub submissions : new.submissions ≡ old.submissions
+  pub before : new.before ≡ old.before
   pub numbers : numbers_of new.packets ≡ numbers_of old.packets
 
 stays_then : (a b c : NodeValue) → StaysUp a b → StaysUp b c → StaysUp a c
 stays_then a b c first next = record {
   runs = next.runs ∙ first.runs;
   submissions = next.submissions ∙ first.submissions;
+  before = next.before ∙ first.before;
   numbers = next.numbers ∙ first.numbers;
 }
 
@@ -65,17 +67,22 @@ hearing_numbered port gateway Other packets = refl
 -- What befalls it.
 
 appoints : (node : NodeValue) (moved : Option ℕ) → StaysUp node (befallen (appointing moved) node)
-appoints node None = record { runs = refl; submissions = refl; numbers = refl }
-appoints node (Some gateway) = record { runs = refl; submissions = refl; numbers = refl }
+appoints node None = record { runs = refl; submissions = refl; before = refl; numbers = refl }
+appoints node (Some gateway) = record { runs = refl; submissions = refl; before = refl; numbers = refl }
 
 hears_saying : (node : NodeValue) (port : Port) (gateway : ℕ) (saying : Saying)
     → StaysUp node (befell (Heard port gateway saying) node)
 hears_saying node port gateway saying =
-    record { runs = refl; submissions = refl; numbers = hearing_numbered port gateway saying node.packets }
+    record {
+      runs = refl;
+      submissions = refl;
+      before = refl;
+      numbers = hearing_numbered port gateway saying node.packets;
+    }
 
 takes : (node : NodeValue) (port : Port) (gateway : ℕ) (t : Taken)
     → StaysUp node (befallen (taken_entries node port gateway t) node)
-takes node port gateway (Dropped why) = record { runs = refl; submissions = refl; numbers = refl }
+takes node port gateway (Dropped why) = record { runs = refl; submissions = refl; before = refl; numbers = refl }
 takes node port gateway (Says saying reply) =
     let heard : NodeValue = befell (Heard port gateway saying) node in
     let moved : Option ℕ = moved_by node port gateway saying in
@@ -84,7 +91,7 @@ takes node port gateway (Says saying reply) =
 
 hears_from : (node : NodeValue) (port : Port) (place : Option ℕ) (octets : List ℕ)
     → StaysUp node (befallen (entries_from node port place octets) node)
-hears_from node port None octets = record { runs = refl; submissions = refl; numbers = refl }
+hears_from node port None octets = record { runs = refl; submissions = refl; before = refl; numbers = refl }
 hears_from node port (Some gateway) octets = takes node port gateway (taken node gateway octets)
 
 pub hears_on : (node : NodeValue) (port : Port) (from : Addr) (octets : List ℕ)
@@ -96,12 +103,14 @@ ticks : (node : NodeValue) (moved : Option ℕ) (sendings : List Sending)
 ticks node None sendings = record {
   runs = refl;
   submissions = refl;
+  before = refl;
   numbers = numbered_as (while_open (packet_after_all sendings)) (while_numbered (packet_after_all sendings)
       (after_all sendings)) node.packets;
 }
 ticks node (Some gateway) sendings = record {
   runs = refl;
   submissions = refl;
+  before = refl;
   numbers = numbered_as (while_open (packet_after_all sendings)) (while_numbered (packet_after_all sendings)
       (after_all sendings)) node.packets;
 }

@@ -15,6 +15,6 @@ mod linked;
 mod packets;
 mod running;
 
-pub use laws::a_node_that_ran_was_called;
+pub use laws::{a_node_that_ran_keeps_its_packets, a_node_that_ran_was_called};
 pub use linked::{LinkedNode, NodeEnd, Work};
 pub use packets::packet;
