@@ -2,7 +2,9 @@ pub mod BegunLemmas
 pub mod DeskLemmas
 pub mod DeskSteps
 pub mod EndLemmas
+pub mod GivenBackLemmas
 pub mod InboxLemmas
+pub mod MadeLemmas
 pub mod NumberLemmas
 pub mod ReceptionLemmas
 pub mod RunLemmas

@@ -1,7 +1,8 @@
 -- What who receives has done behind one more step of its dispatcher.
-use Rattle.std.proofs.Common.{◌≡◌, Bool, true, ℕ, zero, suc, ◌-◌, ◌<◌, List, [], ◌∷◌, ◌++◌, length, Option, None, Some, refl, sym, ap, subst, ◌∙◌, arith}
+use Rattle.std.proofs.Common.{◌≡◌, Bool, false, true, ℕ, zero, suc, ◌-◌, ◌<◌, List, [], ◌∷◌, ◌++◌, length, Option, None, Some, refl, sym, ap, subst, ◌∙◌, arith}
 use Rattle.std.specs.Prelude.{All, IfSome, slice_index_or}
 use Rattle.std.specs.List.{Contains}
+use Rattle.std.proofs.lemmas.Bool.{true≢false}
 use Rattle.std.proofs.lemmas.List.Elements.{All-head, All-nil, All-push, All-set, All-tail, All-weaker, Contains-append_left, Contains-push}
 use Rattle.gw_base.specs.Faults.{Rose, next_count}
 use Rattle.gw_base.specs.declared.address.Addr.{Addr}
@@ -11,12 +12,12 @@ use Rattle.job_inbox.specs.declared.inbox.Inbox.{Inbox}
 use Rattle.job_inbox.specs.declared.job.Job.{Job}
 use Rattle.net_link.specs.Datagrams.{Datagram, LinkState, with_one}
 use Rattle.net_link.specs.declared.link.Link as paths
-use Rattle.node_session.specs.Receiving.{TellsOf, hands_of, session_for, with_job}
+use Rattle.node_session.specs.Receiving.{HasHeardOne, TellsOf, hands_of, session_for, with_job}
 use Rattle.node_session.specs.declared.dispatched.Dispatched.{Dispatched}
 use Rattle.node_session.specs.declared.dispatched.Dispatched.TheVariants as dispatched
 use Rattle.node_session.specs.declared.dispatcher.Dispatcher.{Dispatcher}
 use Rattle.session_run.specs.History.{datagram_of}
-use Rattle.session_run.specs.Reception.{CountsTurns, HasDispatched, PushedOfTold, link_of, stop_behind, turns_of}
+use Rattle.session_run.specs.Reception.{CountsTurns, HasDispatched, PushedOfTold, TakesTurn, link_of, stop_behind, turns_of, was_quiet}
 use Rattle.session_run.specs.declared.reception.Reception.{Reception}
 use Rattle.session_run.specs.declared.stop.Stop.TheVariants as stop
 use Rattle.session_run.proofs.DeskLemmas.{rose_since}
@@ -153,6 +154,25 @@ not_link dispatched.Pushed is same = cc same
 not_link dispatched.Full is same = cc same
 not_link dispatched.Quiet is same = cc same
 
+module _ (inboxes : List Inbox) (old new : Dispatcher) (link_old link_new : LinkState) (clock_old clock_new : ℕ) where
+  quiet_on : (d : Dispatched) → TellsOf inboxes old new link_old link_new clock_old clock_new d → was_quiet d ≡ true
+      → link_new ≡ record link_old { turns = next_count link_old.turns }
+  quiet_on dispatched.Quiet t is = t.0
+  quiet_on dispatched.Pushed t is = absurd (true≢false (sym is))
+  quiet_on dispatched.Full t is = absurd (true≢false (sym is))
+  quiet_on dispatched.Link t is = absurd (true≢false (sym is))
+  quiet_on dispatched.Clock t is = absurd (true≢false (sym is))
+  quiet_on dispatched.NoMemory t is = absurd (true≢false (sym is))
+
+  heard_on : (d : Dispatched) → TellsOf inboxes old new link_old link_new clock_old clock_new d → was_quiet d ≡ false
+      → stop_behind d ≡ None → HasHeardOne link_old link_new
+  heard_on dispatched.Pushed t is none = (datagram_of t.job, t.made.is)
+  heard_on dispatched.Full t is none = (datagram_of t.job, t.made.is)
+  heard_on dispatched.Quiet t is none = absurd (true≢false is)
+  heard_on dispatched.Link t is none = absurd (cc none)
+  heard_on dispatched.Clock t is none = absurd (cc none)
+  heard_on dispatched.NoMemory t is none = absurd (cc none)
+
 module _ {L : Type 0} (tells : paths.Ghosts L) (inboxes : List Inbox) (old new : Reception L) (d : Dispatched) (clock clock' : ℕ)
     (told : TellsOf inboxes old.dispatcher new.dispatcher (link_of tells old) (link_of tells new) clock clock' d)
     (stops : new.stop ≡ stop_behind d) where
@@ -167,9 +187,15 @@ module _ {L : Type 0} (tells : paths.Ghosts L) (inboxes : List Inbox) (old new :
             (link_stopped d (sym stops ∙ is));
       }
 
-  pub turns_on : new.stop ≡ None → turns_of tells new ≡ next_count (turns_of tells old)
-  turns_on none = turn_on inboxes old.dispatcher new.dispatcher (link_of tells old) (link_of tells new) clock clock' d told
-      (not_link d (sym stops ∙ none))
+  pub turn_taken : (is_quiet : Bool) → is_quiet ≡ was_quiet d → TakesTurn tells is_quiet old new
+  turn_taken is_quiet tells_quiet = record {
+    turns = λ none. turn_on inboxes old.dispatcher new.dispatcher (link_of tells old) (link_of tells new) clock clock' d told
+        (not_link d (sym stops ∙ none));
+    quiet = λ is. quiet_on inboxes old.dispatcher new.dispatcher (link_of tells old) (link_of tells new) clock clock' d told
+        (sym tells_quiet ∙ is);
+    heard = λ is none. heard_on inboxes old.dispatcher new.dispatcher (link_of tells old) (link_of tells new) clock clock' d told
+        (sym tells_quiet ∙ is) (sym stops ∙ none);
+  }
 
   pub stopped_by_clock : new.stop ≡ Some stop.Clock → Rose clock clock'
   stopped_by_clock is = clock_on inboxes old.dispatcher new.dispatcher (link_of tells old) (link_of tells new) clock clock' d told

@@ -1,6 +1,7 @@
 -- What public clauses cite.
 pub mod History
 pub mod Running
+pub mod Links
 pub mod Filing
 -- What each part has done, and how it is made and taken apart.
 pub mod Desks

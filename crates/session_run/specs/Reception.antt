@@ -1,12 +1,12 @@
 -- What who receives has done: what its link heard was pushed, and nothing else.
-use Rattle.std.specs.Prelude.{◌≡◌, ℕ, ◌+◌, ◌<◌, ◌^◌, true, List, [], All, Option, None, Some, ⊤}
+use Rattle.std.specs.Prelude.{◌≡◌, ℕ, ◌+◌, ◌<◌, ◌^◌, Bool, false, true, List, [], All, Option, None, Some, ⊤}
 use Rattle.std.specs.List.{Contains}
-use Rattle.gw_base.specs.Faults.{Rose}
+use Rattle.gw_base.specs.Faults.{Rose, next_count}
 use Rattle.gw_base.specs.declared.address.Addr.{Addr}
 use Rattle.job_inbox.specs.declared.hand.Hand.{Hand}
 use Rattle.net_link.specs.Datagrams.{Datagram, IsEmpty, LinkState}
 use Rattle.net_link.specs.declared.link.Link.{Ghosts}
-use Rattle.node_session.specs.Receiving.{hands_of}
+use Rattle.node_session.specs.Receiving.{HasHeardOne, hands_of}
 use Rattle.node_session.specs.declared.dispatched.Dispatched.{Dispatched}
 use Rattle.node_session.specs.declared.dispatched.Dispatched.TheVariants as dispatched
 use Rattle.session_run.specs.History.{datagram_of}
@@ -24,6 +24,15 @@ stop_behind dispatched.NoMemory = Some stop.NoMemory
 stop_behind dispatched.Pushed = None
 stop_behind dispatched.Full = None
 stop_behind dispatched.Quiet = None
+
+-- whether nothing came in a step
+abbrev pub was_quiet : Dispatched → Bool
+was_quiet dispatched.Quiet = true
+was_quiet dispatched.Pushed = false
+was_quiet dispatched.Full = false
+was_quiet dispatched.Link = false
+was_quiet dispatched.Clock = false
+was_quiet dispatched.NoMemory = false
 
 -- each job that a pass pushed is a datagram among these, and it took none
 pub record PushedOf (heard : List Datagram) (hand : Hand) : Type 0 where
@@ -49,6 +58,12 @@ module _ {L : Type 0} (tells : Ghosts L) where
     pub address : (link_of reception).address ≡ at
     pub unsent : IsEmpty (link_of reception).sent
     pub cause : reception.stop ≡ Some stop.Link → Rose 0 (link_of reception).faults
+
+  -- The link took a turn, unless it stopped: a quiet one, in which nothing came, or one that heard a datagram.
+  pub record TakesTurn (is_quiet : Bool) (old new : Reception L) : Type 0 where
+    pub turns : new.stop ≡ None → turns_of new ≡ next_count (turns_of old)
+    pub quiet : is_quiet ≡ true → link_of new ≡ record (link_of old) { turns = next_count (turns_of old) }
+    pub heard : is_quiet ≡ false → new.stop ≡ None → HasHeardOne (link_of old) (link_of new)
 
   -- Of so many turns those are left that the link didn't take, unless it stopped; it is over where none is.
   pub record CountsTurns (n : ℕ) (reception : Reception L) : Type 0 where

@@ -18,6 +18,7 @@ mod ending;
 mod filing;
 mod gateway;
 mod gathering;
+mod links;
 mod making;
 mod receiving;
 mod reception;
@@ -28,6 +29,7 @@ mod stop;
 mod until;
 
 pub use gateway::{Gateway, Ran};
+pub use links::{give_back, make_links};
 pub use running::run;
 pub use stop::Stop;
 pub use until::Until;

@@ -1,9 +1,9 @@
 // Who receives, with what it has of its own.
 ghost use Rattle.std.specs.Prelude.{◌≡◌, ◌<◌, ◌≤◌, None, Some, length};
-ghost use Rattle.gw_base.specs.Faults.{Rose, next_count};
+ghost use Rattle.gw_base.specs.Faults.{Rose};
 ghost use Rattle.gw_base.specs.declared.address.Addr.{Addr};
 ghost use Rattle.node_session.specs.Receiving.{AreOfEach, passes_of};
-ghost use Rattle.session_run.specs.Reception.{HasDispatched, stop_behind, turns_of};
+ghost use Rattle.session_run.specs.Reception.{HasDispatched, TakesTurn, stop_behind, was_quiet};
 ghost use Rattle.session_run.specs.declared.stop.Stop.TheVariants as stop;
 
 use crate::stop::Stop;
@@ -35,6 +35,13 @@ fn stop_of(dispatched: Dispatched) -> Option<Stop>
     }
 }
 
+/// Whether nothing came in a step.
+fn was_quiet(dispatched: Dispatched) -> bool
+    ensures { result ≡ was_quiet dispatched }
+{
+    matches!(dispatched, Dispatched::Quiet)
+}
+
 impl<L: Link> Reception<L> {
     /// Takes a turn of the link, and tells whether it was a quiet one.
     pub fn step<C: gw_base::Clock, R: Wait>(
@@ -47,13 +54,13 @@ impl<L: Link> Reception<L> {
         requires own { AreOfEach inboxes.now (passes_of self.old.dispatcher) }
         ensures own { AreOfEach inboxes.now (passes_of self.new.dispatcher) }
         ensures dispatched { (at : Addr) → HasDispatched L.Link at self.old → HasDispatched L.Link at self.new }
-        ensures turns { self.new.stop ≡ None → turns_of L.Link self.new ≡ next_count (turns_of L.Link self.old) }
+        ensures turn { TakesTurn L.Link result self.old self.new }
         ensures rest { (self.new.left ≡ self.old.left) × (self.new.is_over ≡ self.old.is_over) }
         ensures clock { C.faults clock.old ≤ C.faults clock.new }
         ensures cause { self.new.stop ≡ Some stop.Clock → Rose (C.faults clock.old) (C.faults clock.new) }
     {
         let dispatched = self.dispatcher.step(rt, &mut self.link, clock, inboxes);
         self.stop = stop_of(dispatched);
-        dispatched == Dispatched::Quiet
+        was_quiet(dispatched)
     }
 }

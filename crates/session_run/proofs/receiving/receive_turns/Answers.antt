@@ -6,7 +6,7 @@ use Rattle.session_run.proofs.receiving.receive_turns.Goals as goal
 pub returns-then-is_some-clause-turns : goal.returns-then-is_some-clause-turns
 returns-then-is_some-clause-turns g c = λ n counts.
     counts_on g.L.Link n c.loop-reception.reception c.step-is_quiet.new.self (c.loop-reception.invariant.turns n counts)
-    c.loop-reception.invariant.runs (search rules) c.step-is_quiet.ensures.rest.0 c.step-is_quiet.ensures.rest.1 c.step-is_quiet.ensures.turns
+    c.loop-reception.invariant.runs (search rules) c.step-is_quiet.ensures.rest.0 c.step-is_quiet.ensures.rest.1 c.step-is_quiet.ensures.turn.turns
 
 pub loop-reception-preserved : goal.loop-reception-preserved
 loop-reception-preserved g c =
@@ -17,7 +17,7 @@ loop-reception-preserved g c =
       dispatched = λ at h. c.step-is_quiet.ensures.dispatched at (dispatched_with g.L.Link at r _ r.is_over (c.loop-reception.invariant.dispatched at h));
       turns = λ n counts.
           counts_on g.L.Link n r c.step-is_quiet.new.self (c.loop-reception.invariant.turns n counts)
-          c.loop-reception.invariant.runs (search rules) c.step-is_quiet.ensures.rest.0 c.step-is_quiet.ensures.rest.1 c.step-is_quiet.ensures.turns;
+          c.loop-reception.invariant.runs (search rules) c.step-is_quiet.ensures.rest.0 c.step-is_quiet.ensures.rest.1 c.step-is_quiet.ensures.turn.turns;
       clock = omega (arith, c.loop-reception.invariant.clock, c.step-is_quiet.ensures.clock);
     }
 
