@@ -1,0 +1,62 @@
+-- Books of which the same is told, as they are counted one after the other.
+use Rattle.std.proofs.Common.{◌≡◌, ◌∙◌, ℕ, zero, suc, ◌+◌, ◌<◌, List, [], ◌∷◌, ◌++◌, get_or, length, map, take, refl, sym, ap, arith}
+use Rattle.std.specs.Prelude.{slice_set}
+use Rattle.std.proofs.lemmas.List.{take_more}
+use Rattle.gateway_book.specs.Book.{value_of}
+use Rattle.gateway_book.specs.Value.{BookValue}
+use Rattle.loop_run.specs.Ending.{gateway_sum}
+use Rattle.loop_run.specs.Finishing.{AreAlike, shown}
+use Rattle.loop_run.specs.Seats.{LoopBook}
+use Rattle.loop_run.specs.declared.end.GatewaySum.{GatewaySum}
+
+abbrev Shown : Type 0
+Shown = BookValue × (ℕ × List ℕ)
+
+shown_set : (books : List LoopBook) (k : ℕ) (new d : LoopBook) → shown new ≡ shown (get_or books k d)
+    → map shown (slice_set books k new) ≡ map shown books
+shown_set [] k new d e = refl
+shown_set (book ∷ books) zero new d e = ap (λ (s : Shown). s ∷ map shown books) e
+shown_set (book ∷ books) (suc k) new d e = ap (λ (l : List Shown). shown book ∷ l) (shown_set books k new d e)
+
+-- one of them was looked at
+pub alike_set : (old books : List LoopBook) (k : ℕ) (new book : LoopBook) → AreAlike old books → book ≡ get_or books k book
+    → shown new ≡ shown book → AreAlike old (slice_set books k new)
+alike_set old books k new book alike is same =
+    shown_set books k new book (same ∙ ap (λ (b : LoopBook). shown b) is) ∙ alike
+
+head_or : Shown → List Shown → Shown
+head_or d [] = d
+head_or d (s ∷ list) = s
+
+rest_of : List Shown → List Shown
+rest_of [] = []
+rest_of (s ∷ list) = list
+
+none_alike : (s : Shown) (list : List Shown) → [] ≡ s ∷ list → ⊥
+none_alike s list e = cc e
+
+by_place : (old books : List LoopBook) (k : ℕ) (d : LoopBook) → map shown books ≡ map shown old → k < length old
+    → shown (get_or books k d) ≡ shown (get_or old k d)
+unfolding head_or rest_of
+by_place [] books k d e less = absurd (omega (arith, less))
+by_place (o ∷ old) [] k d e less = absurd (none_alike (shown o) (map shown old) e)
+by_place (o ∷ old) (b ∷ books) zero d e less = ap (λ (l : List Shown). head_or (shown d) l) e
+by_place (o ∷ old) (b ∷ books) (suc k) d e less =
+    by_place old books k d (ap (λ (l : List Shown). rest_of l) e) (omega (arith, less))
+
+abbrev sum_of : LoopBook → GatewaySum
+sum_of book = gateway_sum (value_of book)
+
+sums_both : (xs ys : List LoopBook) → map sum_of (xs ++ ys) ≡ map sum_of xs ++ map sum_of ys
+sums_both [] ys = refl
+sums_both (x ∷ xs) ys = ap (λ (l : List GatewaySum). sum_of x ∷ l) (sums_both xs ys)
+
+-- with the next one
+pub counted_next : (old books : List LoopBook) (k : ℕ) (book : LoopBook) → AreAlike old books → k < length old
+    → book ≡ get_or books k book
+    → map (λ (b : LoopBook). gateway_sum (value_of b)) (take k old) ++ gateway_sum (value_of book) ∷ []
+    ≡ map (λ (b : LoopBook). gateway_sum (value_of b)) (take (k + 1) old)
+counted_next old books k book alike less is = sym (ap (λ (l : List LoopBook). map sum_of l) (take_more old k book less)
+    ∙ sums_both (take k old) (get_or old k book ∷ [])
+    ∙ ap (λ (s : Shown). map sum_of (take k old) ++ gateway_sum s.0 ∷ [])
+    (sym (by_place old books k book alike less) ∙ ap (λ (b : LoopBook). shown b) (sym is)))

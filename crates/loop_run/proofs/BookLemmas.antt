@@ -1,0 +1,102 @@
+-- What a commit leaves of a book whose area never fails, and what an opening of one comes to.
+use Rattle.std.proofs.Common.{◌≡◌, ◌∙◌, inl, ℕ, zero, suc, ◌≤◌, Bool, true, false, true≢false, List, [], ◌∷◌, ◌++◌, refl, sym, ap, subst, arith}
+use Rattle.std.proofs.lemmas.List.{append-nil}
+use Rattle.std.specs.Prelude.{slice_index}
+use Rattle.area_disk.specs.Disk.{zeros}
+use Rattle.cgf_journal.specs.Trail as trail
+use Rattle.gate_journal.specs.Format.{Starts, header}
+use Rattle.gateway_book.specs.Book.{Stays, fortune_of, header_of, reopening_of, size_of, value_of}
+use Rattle.gateway_book.specs.Value.{BookValue, Fortune, after_commit, opened, standing_for}
+use Rattle.gw_base.specs.Owes.{Begins}
+use Rattle.gw_base.specs.declared.history.HistoryEntry.{HistoryEntry}
+use Rattle.loop_run.specs.Addresses.{gateway_at}
+use Rattle.loop_run.specs.Looped.{area_length}
+use Rattle.loop_run.specs.Seats.{HasCommitted, IsBegun, IsCommitted, LoopBook, begun}
+
+-- what nothing failed to commit
+abbrev pub value_with : List HistoryEntry → List HistoryEntry → Bool → BookValue
+value_with firm rest broken = record { firm = firm; rest = rest; cuts = 0; is_broken = broken }
+
+-- a commit that doesn't fail
+abbrev pub fortune_with : Bool → Fortune
+fortune_with stands = record { fails = false; reopening = reopening_of false stands }
+
+begins_self : (h : List HistoryEntry) → Begins h h
+begins_self h = ([], sym (append-nil h))
+
+committed_with : (firm rest : List HistoryEntry) (broken stands : Bool)
+    → IsCommitted (value_with firm rest broken) (after_commit (fortune_with stands) (value_with firm rest broken))
+committed_with firm rest true true = record {
+  history = firm ++ rest;
+  value = refl;
+  more = (rest, refl);
+  within = begins_self (firm ++ rest);
+  whole = λ whole. absurd (true≢false whole);
+}
+committed_with firm rest true false = record {
+  history = firm;
+  value = refl;
+  more = begins_self firm;
+  within = (rest, refl);
+  whole = λ whole. absurd (true≢false whole);
+}
+committed_with firm [] false stands = record {
+  history = firm;
+  value = refl;
+  more = begins_self firm;
+  within = ([], append-nil (firm ++ []));
+  whole = λ whole. sym (append-nil firm);
+}
+committed_with firm (e ∷ rest) false stands = record {
+  history = firm ++ e ∷ rest;
+  value = refl;
+  more = (e ∷ rest, refl);
+  within = ([], refl);
+  whole = λ whole. refl;
+}
+
+pub has_committed : (old new : LoopBook) → old.cuts ≤ 0 → Stays old new → trail.is_closed new.trail ≡ false
+    → value_of new ≡ after_commit (fortune_of old new) (value_of old) → HasCommitted old new
+has_committed old new uncut stays whole is = record {
+  value = subst (λ (w : BookValue). IsCommitted (value_of old) w) (sym is)
+      (subst (λ (b : Bool). IsCommitted (value_of old)
+      (after_commit (record { fails = b; reopening = reopening_of b (trail.torn_stands old.trail) }) (value_of old)))
+      (sym whole)
+      (subst (λ (n : ℕ). IsCommitted (with_cuts n) (after_commit (fortune_with (trail.torn_stands old.trail)) (with_cuts n)))
+      (sym none)
+      (committed_with (value_of old).firm (value_of old).rest (value_of old).is_broken (trail.torn_stands old.trail))));
+  size = stays.size;
+  name = stays.header;
+}
+  where
+    none : old.cuts ≡ 0
+    none = omega (arith, uncut)
+
+    with_cuts : ℕ → BookValue
+    with_cuts n = record (value_of old) { cuts = n }
+
+pub opened_first : opened area_length [] ≡ value_with [] begun false
+opened_first = refl
+
+zeros_first : (n : ℕ) → slice_index (zeros n) 0 ≡ 0
+unfolding zeros
+zeros_first zero = refl
+zeros_first (suc n) = refl
+
+-- an area of zeros starts
+pub zeros_start : (name octets : List ℕ) (n : ℕ) → octets ≡ zeros n → Starts name octets
+zeros_start name octets n is = inl (ap (λ (o : List ℕ). slice_index o 0) is ∙ zeros_first n)
+
+-- once it is committed
+pub opened_begun : (place : ℕ) (mid new : LoopBook) → value_of mid ≡ opened area_length [] → HasCommitted mid new
+    → size_of mid ≡ area_length → header_of mid ≡ header area_length (gateway_at place).ip 0 → IsBegun place new
+opened_begun place mid new is committed size name = record {
+  value = committed.value.value ∙ ap (λ (h : List HistoryEntry). standing_for h)
+      (committed.value.whole (ap (λ (v : BookValue). v.is_broken) first)
+      ∙ ap (λ (v : BookValue). v.firm ++ v.rest) first);
+  size = committed.size ∙ size;
+  name = committed.name ∙ name;
+}
+  where
+    first : value_of mid ≡ value_with [] begun false
+    first = is ∙ opened_first

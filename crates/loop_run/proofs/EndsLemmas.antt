@@ -1,0 +1,194 @@
+-- How a loop ends, by what was collected.
+use Rattle.std.proofs.Common.{◌≡◌, ◌∙◌, ℕ, zero, suc, ◌+◌, ◌^◌, ◌<◌, List, [], ◌∷◌, length, map, Option, None, Some, refl, sym, ap, subst, arith}
+use Rattle.std.specs.Prelude.{slice_get}
+use Rattle.std.proofs.lemmas.List.{length-map}
+use Rattle.std.proofs.lemmas.Option.{same_Some}
+use Rattle.gateway_book.specs.Book.{value_of}
+use Rattle.gateway_book.specs.Value.{BookValue, history_of}
+use Rattle.gw_base.specs.declared.address.Addr.{Addr}
+use Rattle.gw_base.specs.declared.history.HistoryEntry.{HistoryEntry}
+use Rattle.loop_audit.specs.Audit.{audit_of}
+use Rattle.net_link.specs.Datagrams.{Datagram}
+use Rattle.net_link.specs.Making.{GrowsBy, Keeps, LinksState}
+use Rattle.net_link.specs.declared.link.Link as paths
+use Rattle.node_core.specs.Value.{NodeValue}
+use Rattle.node_core.specs.declared.port.Port.{Port}
+use Rattle.node_core.specs.declared.port.Port.TheVariants.{First, Second}
+use Rattle.node_run.specs.Running.{Turn, heard_at, sent_from}
+use Rattle.session_run.specs.declared.stop.Stop.{Stop}
+use Rattle.loop_run.specs.Addresses.{node_at}
+use Rattle.loop_run.specs.Collecting.{HasCollected}
+use Rattle.loop_run.specs.Ending.{CountsAs, EndsAs, HasTakenAll, gateway_sum, verdict}
+use Rattle.loop_run.specs.Finishing.{AreAlike, Finishes, shown}
+use Rattle.loop_run.specs.Looped.{CarriedAt, IsLoopNode, IsLooped, node_made}
+use Rattle.loop_run.specs.Making.{MakesSeats}
+use Rattle.loop_run.specs.Seats.{AllRan, LoopBook}
+use Rattle.loop_run.specs.declared.collecting.Collected.{Collected}
+use Rattle.loop_run.specs.declared.end.LoopEnd.{LoopEnd}
+use Rattle.loop_run.specs.declared.end.LoopEnd.TheVariants as end
+use Rattle.loop_run.specs.declared.looped.Looped.{Looped}
+use Rattle.loop_run.specs.declared.seat.Seat.{Seat}
+use Rattle.loop_run.specs.declared.setup.LoopSetup.{LoopSetup}
+
+-- What was told before it was made was told before it ran.
+module _ (setup : LoopSetup) (old mid new : LinksState) (keeps : Keeps old mid) where
+  carried_from : (place : ℕ) (turns : List Turn) (port : Port) → CarriedAt setup mid new place turns port
+      → CarriedAt setup old new place turns port
+  carried_from place turns port was = record {
+    turns_are =
+        let same = keeps.turns (node_at place port) in
+        let is = was.turns_are in omega (arith, same, is);
+    received = subst (λ (o : Option (List Datagram)). GrowsBy o (Some (heard_at port turns))
+        (new.received (node_at place port))) (keeps.received (node_at place port)) was.received;
+    sent = subst (λ (o : Option (List Datagram)). GrowsBy o
+        (Some (sent_from setup.packets (node_made setup place) port turns)) (new.sent (node_at place port)))
+        (keeps.sent (node_at place port)) was.sent;
+  }
+
+  node_from : (place : ℕ) (node : NodeValue) → IsLoopNode setup mid new place node → IsLoopNode setup old new place node
+  node_from place node was = record {
+    turns = was.turns;
+    node_is = was.node_is;
+    most = was.most;
+    had_more = was.had_more;
+    by_first = carried_from place was.turns First was.by_first;
+    by_second = carried_from place was.turns Second was.by_second;
+  }
+
+  pub looped_from : (books : List LoopBook) (nodes : List NodeValue) → IsLooped setup mid new books nodes
+      → IsLooped setup old new books nodes
+  looped_from books nodes was = record {
+    book_count = was.book_count;
+    node_count = was.node_count;
+    each_book = was.each_book;
+    each_node = λ place node at. node_from place node (was.each_node place node at);
+  }
+
+  pub taken_from : (nodes : List NodeValue) → HasTakenAll setup mid new nodes → HasTakenAll setup old new nodes
+  taken_from nodes was place node at some =
+      let one = keeps.turns (node_at place First) in
+      let other = keeps.turns (node_at place Second) in
+      let all = was place node at some in
+      omega (arith, one, other, all)
+
+-- Books of which the same is told.
+
+map_by : {X : Type 0} (g : BookValue → X) (books : List LoopBook)
+    → map (λ (book : LoopBook). g (value_of book)) books ≡ map (λ (s : BookValue × (ℕ × List ℕ)). g s.0) (map shown books)
+map_by g [] = refl
+map_by g (book ∷ books) = ap (λ l. g (value_of book) ∷ l) (map_by g books)
+
+alike_by : {X : Type 0} (g : BookValue → X) (old new : List LoopBook) → AreAlike old new
+    → map (λ (book : LoopBook). g (value_of book)) new ≡ map (λ (book : LoopBook). g (value_of book)) old
+alike_by g old new alike =
+    map_by g new ∙ ap (λ (l : List (BookValue × (ℕ × List ℕ))). map (λ s. g s.0) l) alike ∙ sym (map_by g old)
+
+pub alike_length : (old new : List LoopBook) → AreAlike old new → length new ≡ length old
+alike_length old new alike =
+    sym (length-map new shown) ∙ ap (λ (l : List (BookValue × (ℕ × List ℕ))). length l) alike ∙ length-map old shown
+
+-- what a list shows in a place is shown by what stands there
+record ShownAt (books : List LoopBook) (place : ℕ) (s : BookValue × (ℕ × List ℕ)) : Type 0 where
+  book : LoopBook
+  at : slice_get books place ≡ Some book
+  is : shown book ≡ s
+
+shown_at : (books : List LoopBook) (place : ℕ) (s : BookValue × (ℕ × List ℕ)) → slice_get (map shown books) place ≡ Some s
+    → ShownAt books place s
+shown_at [] place s e = absurd (cc e)
+shown_at (book ∷ books) zero s e = record { book = book; at = refl; is = same_Some (shown book) s e }
+shown_at (book ∷ books) (suc place) s e =
+    let rest = shown_at books place s e in record { book = rest.book; at = rest.at; is = rest.is }
+
+shows_at : (books : List LoopBook) (place : ℕ) (book : LoopBook) → slice_get books place ≡ Some book
+    → slice_get (map shown books) place ≡ Some (shown book)
+shows_at [] place book e = absurd (cc e)
+shows_at (b ∷ books) zero book e = ap (λ (x : LoopBook). Some (shown x)) (same_Some b book e)
+shows_at (b ∷ books) (suc place) book e = shows_at books place book e
+
+module _ (setup : LoopSetup) (links links' : LinksState) (old new : List LoopBook) (nodes : List NodeValue)
+    (alike : AreAlike old new) where
+  pub alike_looped : IsLooped setup links links' old nodes → IsLooped setup links links' new nodes
+  alike_looped was = record {
+    book_count = alike_length old new alike ∙ was.book_count;
+    node_count = was.node_count;
+    each_book = λ place book at.
+        let there = shown_at old place (shown book)
+        (subst (λ (l : List (BookValue × (ℕ × List ℕ))). slice_get l place ≡ Some (shown book)) alike
+        (shows_at new place book at)) in
+        let before = was.each_book place there.book there.at in
+        record {
+          history = before.history;
+          value = sym (ap (λ (s : BookValue × (ℕ × List ℕ)). s.0) there.is) ∙ before.value;
+          answers = before.answers;
+          size = sym (ap (λ (s : BookValue × (ℕ × List ℕ)). s.1.0) there.is) ∙ before.size;
+          name = sym (ap (λ (s : BookValue × (ℕ × List ℕ)). s.1.1) there.is) ∙ before.name;
+        };
+    each_node = was.each_node;
+  }
+
+  same_verdict : verdict new nodes ≡ verdict old nodes
+  same_verdict = ap (λ (h : List (List HistoryEntry)). audit_of h nodes)
+      (alike_by (λ (v : BookValue). history_of v) old new alike)
+
+  pub alike_counts : (how : LoopEnd) → CountsAs setup old nodes how → CountsAs setup new nodes how
+  alike_counts (end.Fine node_sums gateway_sums) (none, fine, sums) = (
+    none,
+    same_verdict ∙ fine,
+    (
+      sums.0,
+      sums.1 ∙ sym (alike_by (λ (v : BookValue). gateway_sum v) old new alike),
+    ),
+  )
+  alike_counts (end.Wrong packet places wanted) (none, wrong) = (none, same_verdict ∙ wrong)
+  alike_counts (end.Unfinished turns packet count) c = c
+  alike_counts end.Link c = c
+  alike_counts end.NoMemory c = c
+
+-- A loop that nothing stopped.
+module _ (setup : LoopSetup) (old mid new : LinksState) (keeps : Keeps old mid) (collected : Collected)
+    (has : HasCollected setup mid new collected) (now : Looped) where
+  out : AreAlike collected.looped.books.items now.books.items → now.nodes.items ≡ collected.looped.nodes.items
+      → IsLooped setup old new now.books.items now.nodes.items
+  out alike nodes = subst (λ (l : List NodeValue). IsLooped setup old new now.books.items l) (sym nodes)
+      (alike_looped setup old new collected.looped.books.items now.books.items collected.looped.nodes.items alike
+      (looped_from setup old mid new keeps collected.looped.books.items collected.looped.nodes.items has.hands))
+
+  pub ends_finished : (how : LoopEnd) → Finishes setup collected.looped now how → EndsAs setup old new now how
+  ends_finished (end.Fine node_sums gateway_sums) (counts, alike, nodes) = (
+    out alike nodes,
+    subst
+        (λ (l : List NodeValue). CountsAs setup now.books.items l (end.Fine node_sums gateway_sums)) (sym nodes)
+        (alike_counts setup mid new collected.looped.books.items now.books.items collected.looped.nodes.items alike
+        (end.Fine node_sums gateway_sums) counts),
+  )
+  ends_finished (end.Wrong packet places wanted) (counts, alike, nodes) = (
+    out alike nodes,
+    subst
+        (λ (l : List NodeValue). CountsAs setup now.books.items l (end.Wrong packet places wanted)) (sym nodes)
+        (alike_counts setup mid new collected.looped.books.items now.books.items collected.looped.nodes.items alike
+        (end.Wrong packet places wanted) counts),
+  )
+  ends_finished (end.Unfinished turns packet count) (counts, alike, nodes) = (
+    out alike nodes,
+    subst
+        (λ (l : List NodeValue). CountsAs setup now.books.items l (end.Unfinished turns packet count)) (sym nodes)
+        (alike_counts setup mid new collected.looped.books.items now.books.items collected.looped.nodes.items alike
+        (end.Unfinished turns packet count) counts),
+    subst (λ (l : List NodeValue). HasTakenAll setup old new l) (sym nodes)
+        (taken_from setup old mid new keeps collected.looped.nodes.items has.taken),
+  )
+  ends_finished end.Link (counts, alike, nodes) = absurd counts
+  ends_finished end.NoMemory none = none
+
+-- All were made and have run, and nothing stopped one.
+pub collected_of : {L : Type 0} (tells : paths.Ghosts L) (setup : LoopSetup) (old mid new : LinksState)
+    (seats ran : List (Seat L)) (why : Option Stop) (collected : Collected)
+    → MakesSeats tells setup (setup.nodes + setup.gateways) old mid seats why → why ≡ None
+    → ((a : Addr) → old.turns a < 2 ^ 63) → AllRan tells setup ran → length ran ≡ length seats
+    → (AllRan tells setup ran → length ran ≡ setup.nodes + setup.gateways → ((a : Addr) → mid.turns a < 2 ^ 63)
+    → collected.stop ≡ None → HasCollected setup mid new collected)
+    → collected.stop ≡ None → HasCollected setup mid new collected
+collected_of tells setup old mid new seats ran why collected makes none few have_run long collects =
+    let all = makes.all none in
+    collects have_run (long ∙ all.0) (λ a. let same = all.1.turns a in let was = few a in omega (arith, same, was))

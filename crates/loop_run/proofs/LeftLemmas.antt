@@ -1,0 +1,251 @@
+-- Those who took part, once they were taken apart one after the other.
+use Rattle.std.proofs.Common.{◌≡◌, ◌≢◌, ◌⊎◌, ⊎_elim, ◌∙◌, ℕ, suc, ◌+◌, ◌-◌, ◌<◌, ◌≤◌, ◌^◌, min, IsTrue, List, [], ◌∷◌, ◌++◌, length, Option, None, Some, refl, sym, ap, subst, arith}
+use Rattle.std.specs.Prelude.{All, slice_get}
+use Rattle.gateway_book.specs.Book.{value_of}
+use Rattle.gateway_book.specs.Value.{BookValue, standing_for}
+use Rattle.gw_base.specs.declared.address.Addr.{Addr}
+use Rattle.loop_audit.specs.Standing.{KeepsAll}
+use Rattle.net_link.specs.Making.{LinksState}
+use Rattle.net_link.specs.declared.link.Link as paths
+use Rattle.node_core.specs.Value.{NodeValue}
+use Rattle.node_core.specs.declared.port.Port.{Port}
+use Rattle.node_core.specs.declared.port.Port.TheVariants.{First, Second}
+use Rattle.node_run.specs.Outcomes.{EndsSo, HasRun}
+use Rattle.node_run.specs.Running.{Turn, all_done, node_after}
+use Rattle.node_run.specs.declared.linked.LinkedNode.{LinkedNode}
+use Rattle.node_run.specs.declared.linked.NodeEnd.{NodeEnd}
+use Rattle.node_run.specs.declared.linked.NodeEnd.TheVariants as end
+use Rattle.session_run.specs.declared.stop.Stop.{Stop}
+use Rattle.loop_run.specs.Addresses.{IsLoop, gateway_at, node_at}
+use Rattle.loop_run.specs.Collecting.{GrewAt, HasCollected, LeavesGateway, LeavesNode, StillAt, first_at, second_at, stop_of_node}
+use Rattle.loop_run.specs.Ending.{open_numbers, turns_of}
+use Rattle.loop_run.specs.Looped.{IsLoopBook, IsLoopNode, node_made}
+use Rattle.loop_run.specs.Seats.{HasRunAt, HasServedAt, LoopBook, LoopGateway, work_of}
+use Rattle.loop_run.specs.declared.collecting.Collected.{Collected}
+use Rattle.loop_run.specs.declared.looped.Looped.{Looped}
+use Rattle.loop_run.specs.declared.setup.LoopSetup.{LoopSetup}
+use Rattle.loop_run.proofs.AddressLemmas.{gateway_no_node, gateways_apart, nodes_apart, ports_apart}
+use Rattle.loop_run.proofs.GatewayLemmas.{book_still, served_book}
+use Rattle.loop_run.proofs.ListLemmas.{all_by_place, get_pushed, get_within, length_pushed}
+use Rattle.loop_run.proofs.NodeLemmas.{node_still, ran_node, ran_turns}
+use Rattle.loop_run.proofs.StillLemmas.{still_grew, still_same, still_then}
+
+-- A node that was taken apart.
+pub record IsLeftNode (setup : LoopSetup) (old now : LinksState) (place : ℕ) (node : NodeValue) : Type 0 where
+  pub is : IsLoopNode setup old now place node
+  pub kept : KeepsAll node
+  pub taken : 0 < length (open_numbers setup.packets node) → turns_of now place ≡ turns_of old place + setup.turns
+
+-- A book that was.
+pub record IsLeftBook (now : LinksState) (place : ℕ) (book : LoopBook) : Type 0 where
+  pub is : IsLoopBook now place book
+  pub firm : value_of book ≡ standing_for (value_of book).firm
+
+-- So many were taken apart, the nodes first. Of the addresses of the nodes left no more is told.
+pub record HaveLeft (setup : LoopSetup) (old now : LinksState) (count : ℕ) (looped : Looped) : Type 0 where
+  pub node_count : length looped.nodes.items ≡ min count setup.nodes
+  pub book_count : length looped.books.items ≡ count - setup.nodes
+  pub each_node : (place : ℕ) (node : NodeValue) → slice_get looped.nodes.items place ≡ Some node
+      → IsLeftNode setup old now place node
+  pub each_book : (place : ℕ) (book : LoopBook) → slice_get looped.books.items place ≡ Some book
+      → IsLeftBook now place book
+  pub still : (place : ℕ) (port : Port) → count ≤ place → place < setup.nodes → StillAt (node_at place port) old now
+
+none_get : {X : Type 0} (place : ℕ) (x : X) → slice_get [] place ≡ Some x → ⊥
+none_get place x e = cc e
+
+pub none_left : (setup : LoopSetup) (old : LinksState) (looped : Looped) → looped.books.items ≡ []
+    → looped.nodes.items ≡ [] → HaveLeft setup old old 0 looped
+none_left setup old looped books nodes = record {
+  node_count = let none = ap (λ (l : List NodeValue). length l) nodes in omega (arith, none);
+  book_count = let none = ap (λ (l : List LoopBook). length l) books in omega (arith, none);
+  each_node = λ place node at. absurd (none_get place node
+      (subst (λ (l : List NodeValue). slice_get l place ≡ Some node) nodes at));
+  each_book = λ place book at. absurd (none_get place book
+      (subst (λ (l : List LoopBook). slice_get l place ≡ Some book) books at));
+  still = λ place port le less. still_same (node_at place port) old;
+}
+
+-- a node that was taken apart is so still
+left_node_still : (setup : LoopSetup) (old mid new : LinksState) (place : ℕ) (node : NodeValue)
+    → ((port : Port) → StillAt (node_at place port) mid new) → IsLeftNode setup old mid place node
+    → IsLeftNode setup old new place node
+left_node_still setup old mid new place node still was = record {
+  is = node_still setup old mid new place node still was.is;
+  kept = was.kept;
+  taken = λ some.
+      let one = (still First).turns in
+      let other = (still Second).turns in
+      let all = was.taken some in
+      omega (arith, one, other, all);
+}
+
+left_book_still : (mid new : LinksState) (place : ℕ) (book : LoopBook) → StillAt (gateway_at place) mid new
+    → IsLeftBook mid place book → IsLeftBook new place book
+left_book_still mid new place book still was =
+    record { is = book_still place mid new book still was.is; firm = was.firm }
+
+-- what the laws of nodes say of those of the loop
+abbrev pub KeepAll : LoopSetup → Type 0
+KeepAll setup = (place : ℕ) (turns : List Turn) → KeepsAll (node_after setup.packets (node_made setup place) turns)
+
+abbrev pub NoneOpen : LoopSetup → Type 0
+NoneOpen setup = (place : ℕ) (turns : List Turn)
+    → IsTrue (all_done setup.packets (node_after setup.packets (node_made setup place) turns))
+    → open_numbers setup.packets (node_after setup.packets (node_made setup place) turns) ≡ []
+
+module _ {L : Type 0} (tells : paths.Ghosts L) (setup : LoopSetup) (within : IsLoop setup) (old mid new : LinksState)
+    (few : (at : Addr) → old.turns at < 2 ^ 63) (was now : Looped) (place : ℕ)
+    (had : HaveLeft setup old mid place was) where
+  -- One more node.
+  module _ (keep : KeepAll setup) (none : NoneOpen setup) (linked : LinkedNode L) (ended : NodeEnd)
+      (less : place < setup.nodes) (ran : HasRunAt tells setup place ended linked)
+      (left : LeavesNode tells linked ended mid new was now None) where
+    elsewhere : (at : Addr) → at ≢ node_at place First → at ≢ node_at place Second → StillAt at mid new
+    elsewhere at one other = left.only.others at
+        (λ (e : (at ≡ first_at tells linked) ⊎ (at ≡ second_at tells linked)). ⊎_elim
+        (λ (f : at ≡ first_at tells linked). one (f ∙ ran.first))
+        (λ (s : at ≡ second_at tells linked). other (s ∙ ran.second)) e)
+
+    apart : first_at tells linked ≢ second_at tells linked
+    apart e = ports_apart place place (sym ran.first ∙ e ∙ ran.second)
+
+    grew_first : GrewAt (node_at place First) (tells.state linked.first) old new
+    grew_first = still_grew (node_at place First) (tells.state linked.first) old mid new
+        (had.still place First (omega arith) less)
+        (subst (λ (a : Addr). GrewAt a (tells.state linked.first) mid new) ran.first (left.first apart))
+
+    grew_second : GrewAt (node_at place Second) (tells.state linked.second) old new
+    grew_second = still_grew (node_at place Second) (tells.state linked.second) old mid new
+        (had.still place Second (omega arith) less)
+        (subst (λ (a : Addr). GrewAt a (tells.state linked.second) mid new) ran.second (left.second apart))
+
+    kept_of : (turns : List Turn) → HasRun tells setup.packets (node_made setup place) turns linked
+        → KeepsAll linked.node
+    kept_of turns run = subst (λ (node : NodeValue). KeepsAll node) (sym run.node_is) (keep place turns)
+
+    by_end : (how : NodeEnd) → EndsSo tells (work_of setup) (node_made setup place) linked how
+        → stop_of_node how ≡ None → IsLeftNode setup old new place linked.node
+    by_end end.Done (run, done, most) is = record {
+      is = ran_node tells setup within place linked run most old new few grew_first grew_second;
+      kept = kept_of run.0 run.1;
+      taken = λ some.
+          let no : open_numbers setup.packets linked.node ≡ [] =
+          subst (λ (node : NodeValue). open_numbers setup.packets node ≡ []) (sym run.1.node_is)
+          (none place run.0 (subst (λ (node : NodeValue). IsTrue (all_done setup.packets node)) run.1.node_is done)) in
+          let zero_long = ap (λ (l : List ℕ). length l) no in absurd (omega (arith, zero_long, some));
+    }
+    by_end end.Spent (run, more, exact) is = record {
+      is = ran_node tells setup within place linked run (omega (arith, exact)) old new few grew_first grew_second;
+      kept = kept_of run.0 run.1;
+      taken = λ some. ran_turns tells setup within place linked run (omega (arith, exact)) old new few grew_first
+          grew_second exact;
+    }
+    by_end end.Link failed is = absurd (cc is)
+    by_end end.NoMemory failed is = absurd (cc is)
+
+    left_now : IsLeftNode setup old new place linked.node
+    left_now = by_end ended ran.ends (left.stops refl)
+
+    here : length was.nodes.items ≡ place
+    here = let count = had.node_count in omega (arith, count, less)
+
+    pub node_left : HaveLeft setup old new (suc place) now
+    node_left = record {
+      node_count =
+          let long = ap (λ (l : List NodeValue). length l) (left.nodes refl) in
+          let more = length_pushed was.nodes.items linked.node in
+          let at = here in omega (arith, long, more, at, less);
+      book_count =
+          let same = ap (λ (l : List LoopBook). length l) left.books in
+          let count = had.book_count in omega (arith, same, count, less);
+      each_node = λ p node at. ⊎_elim
+          (λ (before : slice_get was.nodes.items p ≡ Some node).
+          let inside = get_within was.nodes.items p node before in
+          let at_place = here in
+          left_node_still setup old mid new p node
+          (λ (port : Port). elsewhere (node_at p port)
+          (nodes_apart p place port First (λ (e : p ≡ place). omega (arith, e, inside, at_place)))
+          (nodes_apart p place port Second (λ (e : p ≡ place). omega (arith, e, inside, at_place))))
+          (had.each_node p node before))
+          (λ (last : (p ≡ length was.nodes.items) × (node ≡ linked.node)).
+          subst (λ (q : ℕ). IsLeftNode setup old new q node) (sym (last.0 ∙ here))
+          (subst (λ (n : NodeValue). IsLeftNode setup old new place n) (sym last.1) left_now))
+          (get_pushed was.nodes.items linked.node p node
+          (subst (λ (l : List NodeValue). slice_get l p ≡ Some node) (left.nodes refl) at));
+      each_book = λ p book at. left_book_still mid new p book
+          (elsewhere (gateway_at p) (gateway_no_node p place First) (gateway_no_node p place Second))
+          (had.each_book p book (subst (λ (l : List LoopBook). slice_get l p ≡ Some book) left.books at));
+      still = λ p port le inside. still_then (node_at p port) old mid new (had.still p port (omega (arith, le)) inside)
+          (elsewhere (node_at p port)
+          (nodes_apart p place port First (λ (e : p ≡ place). omega (arith, e, le)))
+          (nodes_apart p place port Second (λ (e : p ≡ place). omega (arith, e, le))));
+    }
+
+  -- One more gateway.
+  module _ (g : LoopGateway L) (stops : Option Stop) (behind : setup.nodes ≤ place)
+      (served : HasServedAt tells (place - setup.nodes) stops g)
+      (left : LeavesGateway tells g stops mid new was now None) where
+    besides : (at : Addr) → at ≢ gateway_at (place - setup.nodes) → StillAt at mid new
+    besides at other = left.only.others at (λ (e : at ≡ g.address). other (e ∙ served.address))
+
+    abbrev pub book : LoopBook
+    book = (left.books refl).0
+
+    book_now : IsLeftBook new (place - setup.nodes) book
+    book_now =
+        let committed = (left.books refl).1 in
+        let is_book = served_book tells (place - setup.nodes) stops g served new (mid.received g.address) book committed
+        left.received in
+        record {
+          is = is_book;
+          firm = is_book.value ∙ ap (λ (v : BookValue). standing_for v.firm) (sym is_book.value);
+        }
+
+    pushed : now.books.items ≡ was.books.items ++ book ∷ []
+    pushed = (left.books refl).2
+
+    pub gateway_left : HaveLeft setup old new (suc place) now
+    gateway_left = record {
+      node_count =
+          let same = ap (λ (l : List NodeValue). length l) left.nodes in
+          let count = had.node_count in omega (arith, same, count, behind);
+      book_count =
+          let long = ap (λ (l : List LoopBook). length l) pushed in
+          let more = length_pushed was.books.items book in
+          let count = had.book_count in omega (arith, long, more, count, behind);
+      each_node = λ p node at. left_node_still setup old mid new p node
+          (λ (port : Port). besides (node_at p port) (λ e. gateway_no_node (place - setup.nodes) p port (sym e)))
+          (had.each_node p node (subst (λ (l : List NodeValue). slice_get l p ≡ Some node) left.nodes at));
+      each_book = λ p b at. ⊎_elim
+          (λ (before : slice_get was.books.items p ≡ Some b).
+          let inside = get_within was.books.items p b before in
+          let count = had.book_count in
+          left_book_still mid new p b
+          (besides (gateway_at p) (gateways_apart p (place - setup.nodes)
+          (λ (e : p ≡ place - setup.nodes). omega (arith, e, inside, count))))
+          (had.each_book p b before))
+          (λ (last : (p ≡ length was.books.items) × (b ≡ book)).
+          subst (λ (q : ℕ). IsLeftBook new q b) (sym (last.0 ∙ had.book_count))
+          (subst (λ (x : LoopBook). IsLeftBook new (place - setup.nodes) x) (sym last.1) book_now))
+          (get_pushed was.books.items book p b
+          (subst (λ (l : List LoopBook). slice_get l p ≡ Some b) pushed at));
+      still = λ p port le inside. absurd (omega (arith, le, inside, behind));
+    }
+
+-- All of them.
+pub all_collected : (setup : LoopSetup) (old new : LinksState) (count : ℕ) (collected : Collected)
+    → count ≡ setup.nodes + setup.gateways → HaveLeft setup old new count collected.looped
+    → HasCollected setup old new collected
+all_collected setup old new count collected all left = record {
+  hands = record {
+    book_count = let n = left.book_count in omega (arith, n, all);
+    node_count = let n = left.node_count in omega (arith, n, all);
+    each_book = λ place book at. (left.each_book place book at).is;
+    each_node = λ place node at. (left.each_node place node at).is;
+  };
+  firm = all_by_place (λ (book : LoopBook). value_of book ≡ standing_for (value_of book).firm)
+      collected.looped.books.items (λ place book at. (left.each_book place book at).firm);
+  kept = all_by_place KeepsAll collected.looped.nodes.items (λ place node at. (left.each_node place node at).kept);
+  taken = λ place node at some. (left.each_node place node at).taken some;
+}

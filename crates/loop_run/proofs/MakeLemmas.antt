@@ -1,0 +1,27 @@
+-- What is made, one after the other.
+use Rattle.std.proofs.Common.{◌∙◌, refl, arith}
+use Rattle.net_link.specs.Making.{Keeps, LinksState}
+use Rattle.loop_run.specs.Making.{GrowsOn, MakesOn}
+
+pub keeps_self : (s : LinksState) → Keeps s s
+keeps_self s = record { made = λ a m. m; turns = λ a. refl; received = λ a. refl; sent = λ a. refl }
+
+pub keeps_then : (a b c : LinksState) → Keeps a b → Keeps b c → Keeps a c
+keeps_then a b c one two = record {
+  made = λ at m. two.made at (one.made at m);
+  turns = λ at. two.turns at ∙ one.turns at;
+  received = λ at. two.received at ∙ one.received at;
+  sent = λ at. two.sent at ∙ one.sent at;
+}
+
+pub grows_self : (s : LinksState) → GrowsOn s s
+grows_self s = record { made = λ a m. m; later = omega arith }
+
+pub grows_then : (a b c : LinksState) → GrowsOn a b → GrowsOn b c → GrowsOn a c
+grows_then a b c one two = record {
+  made = λ at m. two.made at (one.made at m);
+  later = let f = one.later in let s = two.later in omega (arith, f, s);
+}
+
+pub makes_grows : (a b : LinksState) → MakesOn a b → GrowsOn a b
+makes_grows a b on = record { made = on.keeps.made; later = on.later }

@@ -1,0 +1,15 @@
+use Rattle.std.proofs.Common.{ℕ, [], ap, refl, ◌∙◌}
+use Rattle.gate_journal.specs.Format.{header}
+use Rattle.gateway_book.specs.Value.{opened}
+use Rattle.gw_base.specs.declared.address.Addr.{Addr}
+use Rattle.loop_run.specs.Looped.{area_length}
+use Rattle.loop_run.proofs.BookLemmas.{opened_begun, zeros_start}
+use Rattle.loop_run.proofs.books.open_book.Goals as goal
+
+pub returns-in-Ok-open : goal.returns-in-Ok-open
+returns-in-Ok-open c = opened_begun c.args.place c.in-Ok-open.book c.commit.result
+    ((c.in-Ok-open.ensures.anew (refl, refl) (zeros_start _ _ area_length c.in-Ok.ensures.octets)).value
+    ∙ ap (λ (n : ℕ). opened n []) c.in-Ok.ensures.size)
+    c.commit.ensures (c.in-Ok-open.ensures.size ∙ c.in-Ok.ensures.size)
+    (c.in-Ok-open.ensures.ok.named ∙ ap (λ (n : ℕ). header n c.gateway_at.result.ip 0) c.in-Ok.ensures.size
+    ∙ ap (λ (a : Addr). header area_length a.ip 0) c.gateway_at.ensures)

@@ -1,0 +1,12 @@
+use Rattle.std.proofs.Common.{◌≡◌, map, take}
+use Rattle.gateway_book.specs.Book.{value_of}
+use Rattle.loop_run.specs.Ending.{gateway_sum}
+use Rattle.loop_run.specs.Finishing.{AreAlike}
+use Rattle.loop_run.proofs.sums.gateway_sums.Given as goal
+
+-- those in front were counted
+abbrev pub invariant-loop-place : goal.invariant-loop-place
+invariant-loop-place l = record {
+  sums : l.sums.items ≡ map (λ book. gateway_sum (value_of book)) (take l.place l.initial.books);
+  same : AreAlike l.initial.books l.books;
+}

@@ -1,0 +1,47 @@
+use gw_base::PacketId;
+
+/// What a node counts over a loop: how many packets were submitted to it, became resolved and became done.
+#[derive(Clone, Copy, Debug, PartialEq, Eq)]
+pub struct NodeSum {
+    pub packets: u64,
+    pub resolved: u64,
+    pub done: u64,
+}
+
+/// What a gateway counts: its entries, the records that they file, the copies that it holds, and those of earlier
+/// epochs that were neither released nor cancelled.
+#[derive(Clone, Copy, Debug, PartialEq, Eq)]
+pub struct GatewaySum {
+    pub entries: u64,
+    pub records: u64,
+    pub held: u64,
+    pub stranded: u64,
+}
+
+/// How a loop ended.
+#[derive(Drop)]
+pub enum LoopEnd {
+    /// All packets are done, and each stands once.
+    Fine {
+        nodes: Vec<NodeSum>,
+        gateways: Vec<GatewaySum>,
+    },
+    /// All packets are done, and this is the first, by node and number, that doesn't stand once: so many of its copies
+    /// stand, and so many may.
+    Wrong {
+        packet: PacketId,
+        places: u64,
+        wanted: u64,
+    },
+    /// So many packets aren't done, of which this is the first, by node and number. Those that weren't submitted count,
+    /// too. Each node with such a packet took all its turns, which are so many.
+    Unfinished {
+        turns: u64,
+        packet: PacketId,
+        count: u64,
+    },
+    /// A link failed: the count of faults of the links rose.
+    Link,
+    /// There was no memory.
+    NoMemory,
+}

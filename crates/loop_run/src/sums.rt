@@ -1,0 +1,84 @@
+// What nodes and gateways count.
+ghost use Rattle.std.specs.Prelude.{◌≡◌, IfOk, map};
+ghost use Rattle.gateway_book.specs.Book.{value_of};
+ghost use Rattle.node_core.specs.Value.{NodeValue};
+ghost use Rattle.loop_run.specs.Ending.{AreAllFirm, gateway_sum, node_sum};
+ghost use Rattle.loop_run.specs.Finishing.{AreAlike, shown};
+
+use crate::counting::count_records;
+use crate::end::{GatewaySum, NodeSum};
+use area_disk::QuietArea;
+use gateway_book::{Book, Counts, ItemsFault};
+use gw_base::NoMemory;
+use node_core::{Node, NodeCounts};
+use replay_world::laws::a_history_filed_its_parts;
+use std::alloc::Global;
+
+/// What each node counts.
+pub(crate) fn node_sums(alloc: Global, nodes: &[Node]) -> Result<Vec<NodeSum>, NoMemory>
+    ensures { IfOk result (λ sums. sums.items ≡ map node_sum nodes.now) }
+{
+    let mut sums = Vec::with_capacity(alloc, nodes.len())?;
+    for node in nodes {
+        sums.push(sum_of(node))?;
+    }
+    Ok(sums)
+}
+
+fn sum_of(node: &Node) -> NodeSum
+    ensures { result ≡ node_sum node.now }
+{
+    let NodeCounts {
+        packets,
+        resolved,
+        done,
+    } = node.counts();
+    NodeSum {
+        packets,
+        resolved,
+        done,
+    }
+}
+
+/// What each gateway counts.
+pub(crate) fn gateway_sums(
+    alloc: Global,
+    books: &mut [Book<QuietArea>],
+) -> Result<Vec<GatewaySum>, NoMemory>
+    requires { AreAllFirm books.old }
+    ensures sums { IfOk result (λ sums. sums.items ≡ map (λ book. gateway_sum (value_of book)) books.old) }
+    ensures same { AreAlike books.old books.new }
+{
+    let mut sums = Vec::with_capacity(alloc, books.len())?;
+    for place in 0..books.len() {
+        let sum = gateway_sum(alloc, &mut books[place])?;
+        sums.push(sum)?;
+    }
+    Ok(sums)
+}
+
+fn gateway_sum(alloc: Global, book: &mut Book<QuietArea>) -> Result<GatewaySum, NoMemory>
+    ensures sum { IfOk result (λ sum. sum ≡ gateway_sum (value_of book.old)) }
+    ensures same { shown book.new ≡ shown book.old }
+{
+    a_history_filed_its_parts();
+    let Counts {
+        entries,
+        firm: _,
+        held,
+        stranded,
+        free: _,
+    } = book.counts();
+    let records = match count_records(alloc, book) {
+        Ok(records) => records,
+        Err(ItemsFault::NoMemory) => return Err(NoMemory),
+        // The area never fails.
+        Err(ItemsFault::Device) => unreachable!(),
+    };
+    Ok(GatewaySum {
+        entries,
+        records: records as u64,
+        held,
+        stranded,
+    })
+}
