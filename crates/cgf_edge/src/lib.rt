@@ -1,5 +1,5 @@
-//! The real outside: readers, files, standard streams, a folder and the system's clock, behind the traits of the
-//! gateway.
+//! The real outside: readers, files, standard streams, connections over TCP, a folder and the system's clock, behind the
+//! traits of the gateway.
 //!
 //! It has no model of its own. A source and a sink tell what their reader and writer tell. The area and the shelf tell
 //! nothing of what they hold: their clauses are that a call fails only where the count of faults rose, and that from a
@@ -13,9 +13,11 @@
 mod again;
 mod area;
 mod clock;
+mod connection;
 mod disk_file;
 mod name;
 mod open;
+mod part;
 mod progress;
 mod shelf;
 mod sink;
@@ -24,6 +26,7 @@ mod trouble;
 
 pub use area::FileArea;
 pub use clock::SystemClock;
+pub use connection::{ConnectionSink, ConnectionSource, accept};
 pub use disk_file::DiskFile;
 pub use progress::{BehindProgress, Line, Progress};
 pub use shelf::FolderShelf;

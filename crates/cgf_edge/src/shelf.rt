@@ -2,6 +2,7 @@ ghost use Rattle.std.specs.Prelude.{◌≡◌, IfOk, IsSome, OnOk};
 
 use crate::name::{Paths, greatest};
 use crate::open::{make_new, open_folder};
+use crate::part::{Part, waiting_room};
 use crate::trouble::Troubles;
 use crate::{DiskFile, Trouble};
 use area_disk::{Failed, NoMemory};
@@ -14,17 +15,12 @@ use std::io::ErrorKind;
 /// So many streams have a number of two digits.
 const STREAMS: usize = 100;
 
-/// A file that is written.
-#[derive(Drop)]
-struct Part {
-    file: DiskFile,
-    paths: Paths,
-}
-
 /// The shelf in a folder, which must be there. It is opened and locked at the first call.
 ///
 /// The file that stream SS writes has the name `SS.part`, a sealed file `SS-NNNNNNNNNN.cdr`. A part that an earlier run
 /// left is removed when the stream begins its next file, and is never read. Files with other names stay as they are.
+/// What follows in a part is written together, at the latest by `sync` and `seal`.
+///
 /// `begin` and `seal` refuse a name that a sealed file has. After a sync of the folder that failed each call fails, and
 /// after one of a file each write, sync and seal of that file.
 ///
@@ -81,8 +77,8 @@ impl<'a, R: Files<File = File>> FolderShelf<'a, R> {
         Ok(())
     }
 
-    /// Makes an empty file of this name the stream's part.
-    fn make(&mut self, stream: u8, paths: Paths) -> Result<(), Trouble>
+    /// Makes an empty file of this name the stream's part, with this room for what waits.
+    fn make(&mut self, stream: u8, paths: Paths, waiting: Vec<u8>) -> Result<(), Trouble>
         ensures troubles { self.new.troubles ≡ self.old.troubles }
     {
         self.open()?;
@@ -95,7 +91,7 @@ impl<'a, R: Files<File = File>> FolderShelf<'a, R> {
         *place = None;
         remove_leftover(self.files, paths.part.as_str())?;
         let file = DiskFile::new(make_new(self.files, paths.part.as_str())?);
-        *place = Some(Part { file, paths });
+        *place = Some(Part::new(file, paths, waiting));
         Ok(())
     }
 
@@ -103,8 +99,8 @@ impl<'a, R: Files<File = File>> FolderShelf<'a, R> {
         ensures troubles { self.new.troubles ≡ self.old.troubles }
     {
         self.open()?;
-        match self.parts.get(stream as usize) {
-            Some(Some(part)) => part.file.write(u64::from(at), from),
+        match self.parts.get_mut(stream as usize) {
+            Some(Some(part)) => part.write(u64::from(at), from),
             _ => Err(Trouble::NoFile),
         }
     }
@@ -114,7 +110,7 @@ impl<'a, R: Files<File = File>> FolderShelf<'a, R> {
     {
         self.open()?;
         match self.parts.get_mut(stream as usize) {
-            Some(Some(part)) => part.file.sync_all(),
+            Some(Some(part)) => part.sync(),
             _ => Err(Trouble::NoFile),
         }
     }
@@ -177,7 +173,7 @@ fn seal_part<R: Files>(files: &R, place: &mut Option<Part>) -> Result<(), Troubl
     let Some(part) = place else {
         return Err(Trouble::NoFile);
     };
-    part.file.sync_all()?;
+    part.sync()?;
     if fs::exists(files, part.paths.sealed.as_str())? {
         return Err(Trouble::Sealed);
     }
@@ -211,7 +207,8 @@ impl<R: Files<File = File>> Shelf for FolderShelf<'_, R> {
 
     fn begin(&mut self, name: FileName) -> Result<(), ShelfStop> {
         let paths = Paths::new(self.alloc, self.path.as_str(), name)?;
-        let done = self.make(name.stream, paths);
+        let waiting = waiting_room(self.alloc)?;
+        let done = self.make(name.stream, paths, waiting);
         Ok(self.troubles.told(done)?)
     }
 

@@ -7,6 +7,8 @@ mod area;
 #[cfg(test)]
 mod clock;
 #[cfg(test)]
+mod connection;
+#[cfg(test)]
 mod shelf;
 #[cfg(test)]
 mod streams;

@@ -30,6 +30,27 @@ fn a_file_is_sealed_under_its_name_once(rt: HostRuntime) -> Result<(), Fail> {
     Ok(())
 }
 
+/// Octets that come in many pieces, more of them than wait to be written, stand in order, behind a beginning that was
+/// written once more.
+#[test]
+fn many_pieces_stand_in_order(rt: HostRuntime) -> Result<(), Fail> {
+    fs::create_dir(&rt, "many-pieces")?;
+    let mut shelf = FolderShelf::new(rt.alloc(), &rt, "many-pieces")?;
+    let mut wanted = String::from_str(rt.alloc(), "begin")?;
+    shelf.begin(name(0, 1))?;
+    shelf.write_at(0, 0, b"xxxxx")?;
+    for k in 1..30_000 {
+        let piece = format!(in rt.alloc(); "{k:05}")?;
+        wanted.push_str(piece.as_str())?;
+        shelf.write_at(0, 5 * k, piece.as_str().as_bytes())?;
+    }
+    shelf.write_at(0, 0, b"begin")?;
+    shelf.seal(0)?;
+    let octets = fs::read_to_string(&rt, "many-pieces/00-0000000001.cdr")?;
+    assert!(rt; octets.as_str() == wanted.as_str());
+    Ok(())
+}
+
 /// A part that an earlier run left is longer than what is written now, and none of it stays.
 #[test]
 fn a_part_that_was_left_is_made_anew(rt: HostRuntime) -> Result<(), Fail> {
