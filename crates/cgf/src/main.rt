@@ -14,6 +14,8 @@ ghost use Rattle.cgf_top.specs.Ending.{HasCause, WordsDecide};
 ghost use Rattle.cgf_top.specs.Job.{job_of};
 ghost use Rattle.cgf_top.specs.Run.{HasRead, is_reported, report_of, status_number};
 ghost use Rattle.cgf_top.specs.Serving.{serving_of};
+ghost use Rattle.cgf_top.specs.StreamEnds.{is_over_files};
+ghost use Rattle.cgf_top.specs.Streaming.{streaming_of};
 
 #[cfg(test)]
 mod tests;
@@ -22,9 +24,12 @@ use area_disk::{Area, QuietArea};
 use cdr_shelf::{QuietShelf, Shelf};
 use cgf_edge::{
     BehindProgress, FileArea, FileSource, FolderShelf, Line, Progress, ReaderSource, SystemClock,
-    Trouble, WriterSink,
+    Trouble, WriterSink, accept,
 };
-use cgf_top::{Ended, Places, Status, Watch, run_watched, serve_places};
+use cgf_top::{
+    Ended, Places, Status, StreamPlaces, Watch, run_watched, serve_places, stream_places,
+    tcp_address,
+};
 use gw_base::{Sink, Source};
 use net_link::UdpLinks;
 use std::env;
@@ -79,25 +84,83 @@ fn without_words(kind: ErrorKind) -> Status
 /// How many octets the area has of a job that uses none.
 const UNUSED: u64 = 100;
 
-/// Runs the job. Its outside is real for `serve` alone: the area in the file and the shelf in the folder that its words
-/// name, both opened once they are used, links over UDP and the system's clock. `main` alone can hand on the threads of its
-/// handle, so they come as a handle of their own.
+/// Runs the job. Its outside is real for `serve` and `stream` alone: the area in the file and the shelf in the folder that
+/// their words name, both opened once they are used, links over UDP and the system's clock. `main` alone can hand on the
+/// threads of its handle, so they come as a handle of their own.
 fn run<R: Threads + Wait + Clock + Sync>(threads: &R, rt: &HostRuntime, words: &[String]) -> Status
-    ensures words { result ≡ Status.Words →
-        (command_of (map string_bytes words.now) ≡ None) × (serving_of (map string_bytes words.now) ≡ None) }
-    ensures told { command_of (map string_bytes words.now) ≡ None → serving_of (map string_bytes words.now) ≡ None →
+    ensures words { result ≡ Status.Words → (command_of (map string_bytes words.now) ≡ None)
+        × (is_over_files (map string_bytes words.now) ≡ true) }
+    ensures told { command_of (map string_bytes words.now) ≡ None → is_over_files (map string_bytes words.now) ≡ true →
         (result ≡ Status.Words) ⊎ (result ≡ Status.Memory) }
 {
-    match serve_places(words) {
-        Some(places) => run_served(threads, rt, words, places),
-        None => {
-            let Ok(area) = QuietArea::new(rt.alloc(), UNUSED) else {
-                return Status::Memory;
-            };
-            let ended = run_with(threads, rt, words, area, QuietShelf::new(rt.alloc()));
-            ended.status
-        }
+    if let Some(places) = serve_places(words) {
+        return run_served(threads, rt, words, places);
     }
+    if let Some(places) = stream_places(words) {
+        return run_streamed(threads, rt, words, places);
+    }
+    let Ok(area) = QuietArea::new(rt.alloc(), UNUSED) else {
+        return Status::Memory;
+    };
+    let ended = run_with(
+        threads,
+        rt,
+        words,
+        second(words),
+        area,
+        QuietShelf::new(rt.alloc()),
+    );
+    ended.status
+}
+
+/// The path of the file that a job over files reads, where its words have one.
+fn second(words: &[String]) -> Option<&str> {
+    match words {
+        [_, file] if file.as_str() != STANDARD_INPUT => Some(file.as_str()),
+        _ => None,
+    }
+}
+
+/// Answers a stream with a real area and a real shelf. The stream is a file, the standard input, or the one connection
+/// that is accepted at an address. Where the area or the shelf failed, one line on the standard error says which, and
+/// with what.
+fn run_streamed<R: Threads + Wait + Clock + Sync>(
+    threads: &R,
+    rt: &HostRuntime,
+    words: &[String],
+    places: StreamPlaces<'_>,
+) -> Status
+    requires long { fewest_octets ≤ places.length }
+    requires short { places.length ≤ most_octets }
+    ensures words { result ≡ Status.Words → (command_of (map string_bytes words.now) ≡ None)
+        × (is_over_files (map string_bytes words.now) ≡ true) }
+{
+    let Ok(shelf) = FolderShelf::new(rt.alloc(), rt, places.folder) else {
+        return Status::Memory;
+    };
+    let area = FileArea::new(rt, places.area, places.length);
+    let ended = match tcp_address(places.file.as_bytes()) {
+        Some(at) => {
+            let (mut source, mut sink) = accept(rt, at);
+            let line = Line::new();
+            let mut watch = Shown(Progress::new(&line, terminal(rt)));
+            run_over(
+                threads,
+                rt,
+                words,
+                &mut source,
+                &mut sink,
+                area,
+                shelf,
+                &mut watch,
+            )
+        }
+        None if places.file == STANDARD_INPUT => run_with(threads, rt, words, None, area, shelf),
+        None => run_with(threads, rt, words, Some(places.file), area, shelf),
+    };
+    tell(rt, "area", places.area, ended.area.trouble());
+    tell(rt, "folder", places.folder, ended.shelf.trouble());
+    ended.status
 }
 
 /// Serves with a real area and a real shelf. Where one of them failed, one line on the standard error says which, and with
@@ -110,14 +173,14 @@ fn run_served<R: Threads + Wait + Clock + Sync>(
 ) -> Status
     requires long { fewest_octets ≤ places.length }
     requires short { places.length ≤ most_octets }
-    ensures words { result ≡ Status.Words →
-        (command_of (map string_bytes words.now) ≡ None) × (serving_of (map string_bytes words.now) ≡ None) }
+    ensures words { result ≡ Status.Words → (command_of (map string_bytes words.now) ≡ None)
+        × (is_over_files (map string_bytes words.now) ≡ true) }
 {
     let Ok(shelf) = FolderShelf::new(rt.alloc(), rt, places.folder) else {
         return Status::Memory;
     };
     let area = FileArea::new(rt, places.area, places.length);
-    let ended = run_with(threads, rt, words, area, shelf);
+    let ended = run_with(threads, rt, words, None, area, shelf);
     tell(rt, "area", places.area, ended.area.trouble());
     tell(rt, "folder", places.folder, ended.shelf.trouble());
     ended.status
@@ -130,29 +193,30 @@ fn tell(rt: &HostRuntime, object: &str, path: &str, trouble: Option<Trouble>) {
     }
 }
 
-/// Runs the job over the file that the second word names, which is opened once it is to be read, with this area and this
-/// shelf. Where the standard error is a terminal, it shows there how far a long job is, and the line is empty before
+/// Runs the job over the file at a path, which is opened once it is to be read, or the standard input, with this area and
+/// this shelf. Where the standard error is a terminal, it shows there how far a long job is, and the line is empty before
 /// anything is written.
 fn run_with<A: Area + Send, F: Shelf + Send, R: Threads + Wait + Clock + Sync>(
     threads: &R,
     rt: &HostRuntime,
     words: &[String],
+    path: Option<&str>,
     area: A,
     shelf: F,
 ) -> Ended<A, F>
     requires long { fewest_octets ≤ A.size area }
     requires short { A.size area ≤ most_octets }
-    ensures words { result.status ≡ Status.Words →
-        (command_of (map string_bytes words.now) ≡ None) × (serving_of (map string_bytes words.now) ≡ None) }
-    ensures told { command_of (map string_bytes words.now) ≡ None → serving_of (map string_bytes words.now) ≡ None →
+    ensures words { result.status ≡ Status.Words → (command_of (map string_bytes words.now) ≡ None)
+        × (is_over_files (map string_bytes words.now) ≡ true) }
+    ensures told { command_of (map string_bytes words.now) ≡ None → is_over_files (map string_bytes words.now) ≡ true →
         (result.status ≡ Status.Words) ⊎ (result.status ≡ Status.Memory) }
 {
     let line = Line::new();
     let mut sink = BehindProgress::new(WriterSink::new(rt.stdout()), &line, terminal(rt));
     let mut watch = Shown(Progress::new(&line, terminal(rt)));
-    match words {
-        [_, file] if file.as_str() != STANDARD_INPUT => {
-            let mut source = FileSource::new(rt, file.as_str());
+    match path {
+        Some(path) => {
+            let mut source = FileSource::new(rt, path);
             run_over(
                 threads,
                 rt,
@@ -164,7 +228,7 @@ fn run_with<A: Area + Send, F: Shelf + Send, R: Threads + Wait + Clock + Sync>(
                 &mut watch,
             )
         }
-        _ => {
+        None => {
             let mut source = ReaderSource::new(rt.stdin());
             run_over(
                 threads,
@@ -200,10 +264,10 @@ fn run_over<
 ) -> Ended<A, F>
     requires long { fewest_octets ≤ A.size area }
     requires short { A.size area ≤ most_octets }
-    ensures words { serving_of (map string_bytes words.now) ≡ None →
+    ensures words { is_over_files (map string_bytes words.now) ≡ true →
         WordsDecide (command_of (map string_bytes words.now)) result.status source.old source.new }
-    ensures known { result.status ≡ Status.Words → serving_of (map string_bytes words.now) ≡ None }
-    ensures report { serving_of (map string_bytes words.now) ≡ None → is_reported result.status ≡ true →
+    ensures known { result.status ≡ Status.Words → is_over_files (map string_bytes words.now) ≡ true }
+    ensures report { is_over_files (map string_bytes words.now) ≡ true → is_reported result.status ≡ true →
         let job = job_of S.Source K.Sink (map string_bytes words.now) source.old source.new sink.old sink.new in
         (input : HasRead job result.status) ×
         Appends (K.written sink.old) (K.written sink.new) (report_of input.command input.octets) }

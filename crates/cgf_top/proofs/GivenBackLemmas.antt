@@ -1,21 +1,18 @@
 -- What is told of an address once links of it were given back.
-use Rattle.std.proofs.Common.{◌≡◌, ◌⊎◌, ⊎_elim, inl, inr, ℕ, zero, suc, length, ◌+◌, ◌-◌, ◌<◌, ◌≤◌, ◌^◌, List, [], ◌∷◌, ◌++◌, min, Option, None, Some, refl, sym, ap, subst, ◌∙◌, append_assoc, arith}
+use Rattle.std.proofs.Common.{◌≡◌, ◌⊎◌, ⊎_elim, inl, inr, ℕ, zero, suc, ◌+◌, ◌-◌, ◌<◌, ◌≤◌, ◌^◌, List, [], ◌∷◌, ◌++◌, min, Option, None, Some, refl, sym, ap, subst, ◌∙◌, append_assoc, arith}
 use Rattle.std.specs.Prelude.{All, IfSome}
 use Rattle.std.specs.List.{Contains}
 use Rattle.std.proofs.lemmas.List.{append-nil}
 use Rattle.std.proofs.lemmas.List.Elements.{All-append, All-head, All-nil, All-tail, All-weaker, Contains-append_right}
 use Rattle.gw_base.specs.Facts.{Facts}
 use Rattle.gw_base.specs.Faults.{Rose}
-use Rattle.gw_base.specs.declared.address.Addr.{Addr}
 use Rattle.gw_base.specs.declared.history.HistoryEntry.{HistoryEntry}
-use Rattle.net_link.specs.Datagrams.{Datagram, LinkState, added, joined}
-use Rattle.net_link.specs.Making.{LinksState, RoseBy, TakesBack}
+use Rattle.net_link.specs.Datagrams.{Datagram, added, joined}
 use Rattle.net_link.specs.declared.link.Link as paths
 use Rattle.session_run.specs.History.{GoesOn, IsCalledFor, IsHeard, IsReply}
-use Rattle.session_run.specs.Running.{AnyOf}
+use Rattle.session_run.specs.Links.{received_with, sent_with, turns_with}
 use Rattle.turn_cell.specs.Placed.{placed}
 use Rattle.cgf_top.specs.Served.{AllBehind}
-use Rattle.cgf_top.specs.ServeSteps.{GivesBack, HasFailed, received_with, sent_with, turns_with}
 
 abbrev Told : Type 0
 Told = Option (List Datagram)
@@ -40,21 +37,6 @@ both (Some a) (Some b) list e = record { front = a; behind = b; one_is = refl; o
 both (Some a) None list e = absurd (cc e)
 both None other list e = absurd (cc e)
 
-none_joined : (r : Told) (list : List Datagram) → joined None r ≡ Some list → ⊥
-none_joined (Some r) list e = cc e
-none_joined None list e = cc e
-
--- what is told in the end was told before
-told_on : (new mid all r : Told) → IfSome new (λ list. joined mid r ≡ Some list) → IfSome mid (λ list. all ≡ Some list)
-    → IfSome new (λ list. joined all r ≡ Some list)
-told_on None mid all r e f = tt
-told_on (Some list) (Some m) all r e f = ap (λ o. joined o r) f ∙ e
-told_on (Some list) None all r e f = absurd (none_joined r list e)
-
-same_told : (told : Told) → IfSome told (λ list. told ≡ Some list)
-same_told None = tt
-same_told (Some list) = refl
-
 -- Counts of faults.
 
 le_or : (b c : ℕ) → b ≤ c → (b ≡ c) ⊎ (b < c)
@@ -74,61 +56,7 @@ pub rose_before : (a b c : ℕ) → a ≤ b → Rose b c → Rose a c
 rose_before a b c up (inl less) = inl (omega (arith, up, less))
 rose_before a b c up (inr last) = inr last
 
--- a count rose by that of a link that failed
-rose_by : (a b f c : ℕ) → a ≤ b → Rose 0 f → RoseBy b f c → Rose a c
-rose_by a b f c up some (inr last) = inr last
-rose_by a b f c up (inl some) (inl more) = inl (omega (arith, up, some, more))
-rose_by a b f c up (inr last) (inl more) = inl (omega (arith, up, last, more))
-
 module _ {L : Type 0} (tells : paths.Ghosts L) where
-  -- Giving back, one link after the other.
-
-  -- of a list, its last one is behind the others, and in front of those that were behind it
-  pub one_behind : (all made rest behind : List L) (link : L) → all ≡ made ++ behind → made ≡ rest ++ link ∷ [] → all ≡ rest ++ link ∷ behind
-  one_behind all made rest behind link e f = e ∙ ap (λ (l : List L). l ++ behind) f ∙ append_assoc rest (link ∷ []) behind
-
-  pub holds_of : (P : L → Type 0) (front : List L) (link : L) (behind : List L) → All P (front ++ link ∷ behind) → P link
-  holds_of P [] link behind all = All-head P link behind all
-  holds_of P (l ∷ front) link behind all = holds_of P front link behind (All-tail P l (front ++ link ∷ behind) all)
-
-  pub some_there : (front : List L) (link : L) (behind : List L) → 0 < length (front ++ link ∷ behind)
-  some_there [] link behind = omega arith
-  some_there (l ∷ front) link behind = omega arith
-
-  pub gives_none : (at : Addr) (s : LinksState) → GivesBack tells at s s []
-  gives_none at s = record {
-    turns = refl;
-    received = same_told (s.received at);
-    sent = same_told (s.sent at);
-    later = omega arith;
-    failed = λ none. absurd none;
-  }
-
-  pub gives_one : (at : Addr) (old mid new : LinksState) (link : L) (links : List L) → (tells.state link).address ≡ at
-      → GivesBack tells at old mid links → TakesBack mid (tells.state link) new → GivesBack tells at old new (link ∷ links)
-  gives_one at old mid new link links is_at gave back = record {
-    turns = turns ∙ ap (λ n. added n state.turns) gave.turns;
-    received = told_on (new.received at) (mid.received at) (received_with tells (old.received at) links) state.received received gave.received;
-    sent = told_on (new.sent at) (mid.sent at) (sent_with tells (old.sent at) links) state.sent sent gave.sent;
-    later = let first = gave.later in let then = back.never_falls in omega (arith, first, then);
-    failed = λ any. ⊎_elim
-        (λ (own : Rose 0 state.faults). rose_by old.faults mid.faults state.faults new.faults gave.later own back.faults)
-        (λ (others : AnyOf (HasFailed tells) links). rose_still old.faults mid.faults new.faults gave.later back.never_falls (gave.failed others))
-        any;
-  }
-    where
-      state : LinkState
-      state = tells.state link
-
-      turns : new.turns at ≡ added (mid.turns at) state.turns
-      turns = subst (λ (a : Addr). new.turns a ≡ added (mid.turns a) state.turns) is_at back.turns
-
-      received : IfSome (new.received at) (λ list. joined (mid.received at) state.received ≡ Some list)
-      received = subst (λ (a : Addr). IfSome (new.received a) (λ list. joined (mid.received a) state.received ≡ Some list)) is_at back.received
-
-      sent : IfSome (new.sent at) (λ list. joined (mid.sent at) state.sent ≡ Some list)
-      sent = subst (λ (a : Addr). IfSome (new.sent a) (λ list. joined (mid.sent a) state.sent ≡ Some list)) is_at back.sent
-
   -- What is told then.
 
   -- links that took no turn add none
@@ -196,40 +124,3 @@ pub reply_there : (heard there : Told) → ((d : Datagram) → IsHeard heard d �
     (before now : ℕ) (sent : Datagram) → IsReply heard size firm before now sent → IsReply there size firm before now sent
 reply_there heard there more size firm before now sent r =
     record { asked = r.asked; was_heard = more r.asked r.was_heard; peer = r.peer; says = r.says }
-
-module _ {L : Type 0} (tells : paths.Ghosts L) (at : Addr) (old : LinksState) where
-  -- So far the last ones of all these links were given back.
-  pub record AreGivenBack (now : LinksState) (all made : List L) : Type 0 where
-    pub behind : List L
-    pub split : all ≡ made ++ behind
-    pub gave : GivesBack tells at old now behind
-    pub known : 0 < length all → now.IsMade at
-
-  pub given_none : (all : List L) → (0 < length all → old.IsMade at) → AreGivenBack old all all
-  given_none all known = record { behind = []; split = sym (append-nil all); gave = gives_none tells at old; known = known }
-
-  there_of : (now : LinksState) (all made rest : List L) (link : L) → AreGivenBack now all made → made ≡ rest ++ link ∷ []
-      → All (λ l. (tells.state l).address ≡ at) all → (tells.state link).address ≡ at
-  there_of now all made rest link given last each =
-      holds_of tells (λ (l : L). (tells.state l).address ≡ at) rest link given.behind
-      (subst (λ (ls : List L). All (λ l. (tells.state l).address ≡ at) ls) (one_behind tells all made rest given.behind link given.split last) each)
-
-  pub may_give : (now : LinksState) (all made rest : List L) (link : L) → AreGivenBack now all made → made ≡ rest ++ link ∷ []
-      → All (λ l. (tells.state l).address ≡ at) all → now.IsMade (tells.state link).address
-  may_give now all made rest link given last each =
-      subst (λ (a : Addr). now.IsMade a) (sym (there_of now all made rest link given last each))
-      (given.known (subst (λ (ls : List L). 0 < length ls) (sym (one_behind tells all made rest given.behind link given.split last))
-      (some_there tells rest link given.behind)))
-
-  pub given_one : (now : LinksState) (all made rest : List L) (link : L) (then : LinksState) → AreGivenBack now all made
-      → made ≡ rest ++ link ∷ [] → All (λ l. (tells.state l).address ≡ at) all → TakesBack now (tells.state link) then → AreGivenBack then all rest
-  given_one now all made rest link then given last each back = record {
-    behind = link ∷ given.behind;
-    split = one_behind tells all made rest given.behind link given.split last;
-    gave = gives_one tells at old now then link given.behind (there_of now all made rest link given last each) given.gave back;
-    known = λ some. back.made at (given.known some);
-  }
-
-  pub gave_all : (now : LinksState) (all made : List L) → made ≡ [] → AreGivenBack now all made → GivesBack tells at old now all
-  gave_all now all made none given = subst (λ (ls : List L). GivesBack tells at old now ls)
-      (sym (given.split ∙ ap (λ (ls : List L). ls ++ given.behind) none)) given.gave

@@ -85,6 +85,10 @@ closes h now who = by_due (is_close_due h) refl
       none_due = ap is_close_due (ap behind due) ∙ due;
     }
 
+-- a history goes on in the one that was closed behind it
+pub closed_begins : (h : Entries) (now : ℕ) (who : Caller) → Begins h (closed_behind h now who)
+closed_begins h now who = let c = closes h now who in (c.more, c.whole)
+
 -- behind a settling no Close is due any more
 pub none_due_behind : (h : Entries) (now : ℕ) (who : Caller) → is_close_due (closed_behind h now who) ≡ false
 none_due_behind h now who = (closes h now who).none_due

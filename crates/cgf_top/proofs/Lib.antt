@@ -1,6 +1,7 @@
 pub mod BookLemmas
 pub mod Clauses
 pub mod CommandLemmas
+pub mod ConnectionLemmas
 pub mod CountLemmas
 pub mod EndingLemmas
 pub mod Ends
@@ -12,10 +13,11 @@ pub mod KeptLemmas
 pub mod KindLemmas
 pub mod LineLemmas
 pub mod LookLemmas
-pub mod MadeLemmas
 pub mod NetworkLemmas
+pub mod PieceLemmas
 pub mod PlaceLemmas
 pub mod PrintLemmas
+pub mod ReplyLemmas
 pub mod ReportLemmas
 pub mod SealedLemmas
 pub mod ServeLemmas
@@ -24,6 +26,11 @@ pub mod ServiceLemmas
 pub mod ServingLemmas
 pub mod ServingWords
 pub mod SettledLemmas
+pub mod StreamLemmas
+pub mod StreamWords
+pub mod StreamedEnds
+pub mod StreamedLemmas
+pub mod SettlingLemmas
 pub mod Streams
 pub mod Whole
 pub mod WordLemmas

@@ -73,7 +73,7 @@ abbrev pub FilesGrow : Type 0
 FilesGrow = (settings : Settings) (s : ℕ) (items more : List Item) → stream_files settings s (items ++ more)
     ≡ stream_files settings s items ++ later_files settings s items more
 
-items_begin : ItemsStay → (h g : List HistoryEntry) → Begins h g → writing.Begins (items_of h) (items_of g)
+pub items_begin : ItemsStay → (h g : List HistoryEntry) → Begins h g → writing.Begins (items_of h) (items_of g)
 items_begin stay h g b = (along items_by h b.0, ap (λ (l : List HistoryEntry). items_of l) b.1 ∙ stay h b.0)
 
 module _ {A F : Type 0} (tells : areas.Ghosts A) (files : shelves.Ghosts F) (of : Serving) (setup : Setup) (told : Told tells)

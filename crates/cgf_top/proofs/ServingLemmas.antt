@@ -20,10 +20,11 @@ use Rattle.net_link.specs.declared.link.Link as paths
 use Rattle.session_run.specs.Desks.{HearsNothing}
 use Rattle.session_run.specs.Filing.{KeepsWriter}
 use Rattle.session_run.specs.History.{GoesOn, IsHeard, IsReply}
-use Rattle.session_run.specs.Running.{AnyOf, AreFiveOf, AreReplies, HasStopCause, StaysAs, heard_by, turns_by}
+use Rattle.session_run.specs.Links.{GivesBack, HasMade, IsIdleAt, turns_with}
+use Rattle.session_run.specs.Running.{AnyOf, AreFiveOf, AreReplies, HasFailed, HasStopCause, StaysAs, heard_by, turns_by}
 use Rattle.session_run.specs.declared.stop.Stop.{Stop}
 use Rattle.session_run.specs.declared.stop.Stop.TheVariants as stop
-use Rattle.cgf_top.specs.ServeSteps.{GivesBack, HasFailed, HasMade, HasServedAt, IsIdleAt, turns_with}
+use Rattle.cgf_top.specs.ServeSteps.{HasServedAt}
 use Rattle.cgf_top.specs.Served.{AllBehind}
 use Rattle.cgf_top.specs.Serving.{address_in}
 use Rattle.cgf_top.specs.declared.serving.Serving.{Serving}

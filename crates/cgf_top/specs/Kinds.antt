@@ -1,7 +1,9 @@
--- The kinds of refusal: those of a script's grammar, those of a line that is run, and those of a CDR file.
+-- The kinds of refusal: those of a script's grammar, those of a line that is run, those of a CDR file, and those of a stream.
 use Rattle.std.specs.Prelude.{Bool, true, false}
 use Rattle.cdr_file.specs.declared.fault.FileKind.{FileKind}
 use Rattle.cdr_file.specs.declared.fault.FileKind.TheVariants as file
+use Rattle.gtpp_stream.specs.declared.frame.FrameKind.{FrameKind}
+use Rattle.gtpp_stream.specs.declared.frame.FrameKind.TheVariants as frame
 use Rattle.once_core.specs.declared.event.WorldKind.{WorldKind}
 use Rattle.once_core.specs.declared.event.WorldKind.TheVariants as world
 use Rattle.world_script.specs.declared.fault.InputKind.{InputKind as LineKind}
@@ -44,6 +46,11 @@ of_file file.CdrHeader = input.CdrHeader
 of_file file.CdrCut = input.CdrCut
 of_file file.Count = input.Count
 
+-- why a stream is bad
+abbrev pub of_frame : FrameKind → InputKind
+of_frame frame.NotPrime = input.NotPrime
+of_frame frame.Version = input.Version
+
 -- whether a line is refused for what was run before it, and not by the grammar
 abbrev pub is_of_run : InputKind → Bool
 is_of_run input.TooLong = false
@@ -72,3 +79,6 @@ is_of_run input.Extension = false
 is_of_run input.CdrHeader = false
 is_of_run input.CdrCut = false
 is_of_run input.Count = false
+is_of_run input.NotPrime = false
+is_of_run input.Version = false
+is_of_run input.Rest = false

@@ -13,8 +13,12 @@ pub mod NetworkReport
 pub mod Serving
 pub mod Served
 pub mod ServeEnds
+pub mod Streaming
+pub mod Replies
+pub mod StreamEnds
 -- steps of proofs
 pub mod BookSteps
 pub mod NetworkSteps
 pub mod ServeSteps
+pub mod StreamSteps
 pub mod Steps

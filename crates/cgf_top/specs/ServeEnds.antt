@@ -43,11 +43,6 @@ may_have_opened status.Memory = true
 may_have_opened (status.Store why) = true
 may_have_opened status.Link = true
 
--- whether a job by these words that ends so may have used its area, its shelf, its links and its clock
-abbrev pub may_have_served : Option Serving → Status → Bool
-may_have_served None ended = false
-may_have_served (Some of) ended = may_have_opened ended
-
 -- The area, the shelf, the links and the clock are as they were.
 pub record IsUntouched {A F L C : Type 0} (area area' : A) (shelf shelf' : F) (links links' : L) (clock clock' : C)
     : Type 0 where

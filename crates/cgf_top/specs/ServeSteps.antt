@@ -1,5 +1,5 @@
 -- Words for the code of a gateway that serves. No contract of a public call cites them.
-use Rattle.std.specs.Prelude.{◌≡◌, ◌≢◌, ◌⊎◌, ℕ, ◌+◌, ◌≤◌, ◌<◌, Bool, true, false, if◌then◌else◌, List, [], ◌∷◌, All, count_by, length, Option, Some, None, IfErr, IfOk, IfSome, Result, Ok, Err, ⊤}
+use Rattle.std.specs.Prelude.{◌≡◌, ◌≢◌, ◌⊎◌, ℕ, ◌+◌, ◌≤◌, Bool, false, List, [], count_by, length, Option, Some, None, IfErr, IfOk, Result, Ok, Err, ⊤}
 use Rattle.std.specs.Io.KnownBytes.{Appends}
 use Rattle.area_disk.specs.Disk as disk
 use Rattle.area_disk.specs.declared.area.Area as areas
@@ -19,13 +19,8 @@ use Rattle.gw_base.specs.Facts.{WhereTold}
 use Rattle.gw_base.specs.Faults.{Rose}
 use Rattle.gw_base.specs.Owes.{base}
 use Rattle.gw_base.specs.Written.{AppendsFront}
-use Rattle.gw_base.specs.declared.address.Addr.{Addr}
 use Rattle.gw_base.specs.declared.item.Item.{Item}
-use Rattle.net_link.specs.Datagrams.{Datagram, IsEmpty, LinkState, added, joined}
-use Rattle.net_link.specs.Making.{Keeps, LinksState}
-use Rattle.net_link.specs.declared.link.Link as paths
-use Rattle.net_link.specs.declared.link.LinkStop.{LinkStop}
-use Rattle.net_link.specs.declared.link.LinkStop.TheVariants as of_link
+use Rattle.net_link.specs.Making.{LinksState}
 use Rattle.node_session.specs.Settling.{Grows, HasTakenAll, closed_behind}
 use Rattle.node_session.specs.Writing.{KeepsFiles}
 use Rattle.replay_world.specs.Settings.{AreSet, AreSound}
@@ -33,8 +28,7 @@ use Rattle.replay_world.specs.Setup.{Setup, setup_of}
 use Rattle.replay_world.specs.Tally.{is_part}
 use Rattle.session_run.specs.Filing.{KeepsWriter}
 use Rattle.session_run.specs.History.{GoesOn, IsReply}
-use Rattle.session_run.specs.Running.{AnyOf, StaysAs}
-use Rattle.session_run.specs.declared.stop.Stop.{Stop}
+use Rattle.session_run.specs.Running.{StaysAs}
 use Rattle.session_run.specs.declared.stop.Stop.TheVariants as stop
 use Rattle.world_script.specs.Script.{Refusal, most_text, script_in}
 use Rattle.world_script.specs.declared.kind.ScriptKind.TheVariants as kind
@@ -82,54 +76,6 @@ abbrev pub WritesLine : List ℕ → Option (List ℕ) → Option (List ℕ) →
 WritesLine line before after faults faults' ended =
     ((ended ≡ status.Done) × Appends before after line × (faults' ≡ faults))
     ⊎ ((ended ≡ status.Write) × AppendsFront before after line × Rose faults faults')
-
--- Links.
-
-abbrev pub stopped_by : LinkStop → Stop
-stopped_by of_link.Failed = stop.Link
-stopped_by of_link.NoMemory = stop.NoMemory
-
--- a link of an address that has done nothing, but that a call of it may have failed
-pub record IsIdleAt (at : Addr) (link : LinkState) : Type 0 where
-  pub address : link.address ≡ at
-  pub turns : link.turns ≡ 0
-  pub received : IsEmpty link.received
-  pub sent : IsEmpty link.sent
-
-module _ {L : Type 0} (tells : paths.Ghosts L) where
-  abbrev pub HasFailed : L → Type 0
-  HasFailed link = Rose 0 (tells.state link).faults
-
-  -- Links of an address were made, and what made them keeps the rest. Where a link stopped it, the count of what makes
-  -- them rose, or that of a link.
-  pub record HasMade (at : Addr) (old new : LinksState) (made : List L) (stops : Option Stop) : Type 0 where
-    pub idle : All (λ link. IsIdleAt at (tells.state link)) made
-    pub keeps : Keeps old new
-    pub known : 0 < length made → new.IsMade at
-    pub later : old.faults ≤ new.faults
-    pub cause : stops ≡ Some stop.Link → Rose old.faults new.faults ⊎ AnyOf HasFailed made
-    pub no_clock : stops ≢ Some stop.Clock
-
-  -- what was told of an address, with what these links tell, the last of which was given back first
-  abbrev pub turns_with : ℕ → List L → ℕ
-  turns_with n [] = n
-  turns_with n (link ∷ links) = added (turns_with n links) (tells.state link).turns
-
-  abbrev pub received_with : Option (List Datagram) → List L → Option (List Datagram)
-  received_with told [] = told
-  received_with told (link ∷ links) = joined (received_with told links) (tells.state link).received
-
-  abbrev pub sent_with : Option (List Datagram) → List L → Option (List Datagram)
-  sent_with told [] = told
-  sent_with told (link ∷ links) = joined (sent_with told links) (tells.state link).sent
-
-  -- These links of an address were given back.
-  pub record GivesBack (at : Addr) (old new : LinksState) (links : List L) : Type 0 where
-    pub turns : new.turns at ≡ turns_with (old.turns at) links
-    pub received : IfSome (new.received at) (λ list. received_with (old.received at) links ≡ Some list)
-    pub sent : IfSome (new.sent at) (λ list. sent_with (old.sent at) links ≡ Some list)
-    pub later : old.faults ≤ new.faults
-    pub failed : AnyOf HasFailed links → Rose old.faults new.faults
 
 -- A gateway.
 

@@ -35,6 +35,9 @@ kind_name input.Extension = codes "Extension"
 kind_name input.CdrHeader = codes "CdrHeader"
 kind_name input.CdrCut = codes "CdrCut"
 kind_name input.Count = codes "Count"
+kind_name input.NotPrime = codes "NotPrime"
+kind_name input.Version = codes "Version"
+kind_name input.Rest = codes "Rest"
 
 abbrev pub status_text : Status → List ℕ
 status_text status.Done = codes "cgf: done"

@@ -2,15 +2,17 @@ ghost use Rattle.std.specs.Prelude.{◌≡◌};
 ghost use Rattle.cgf_top.specs.StatusText.{kind_name};
 
 use cdr_file::FileKind;
+use gtpp_stream::FrameKind;
 use once_core::WorldKind;
 use std::fmt;
 use world_script::InputKind as LineKind;
 
-/// Why an input is refused: a script at one of its lines, by its grammar or as it is run, or a CDR file at one of its
-/// octets. Where a line is refused as it is run, the lines before it were run.
+/// Why an input is refused: a script at one of its lines, by its grammar or as it is run, or a CDR file or a stream at one
+/// of its octets. Where a line is refused as it is run, the lines before it were run; of a stream the messages before the
+/// octet were answered.
 #[derive(Clone, Copy, Debug, PartialEq, Eq)]
 pub enum InputKind {
-    /// A script: the line holds the octet after the first 16,777,216 of the text.
+    /// A script: the line holds the octet after the first 16,777,216 of the text. A stream: it has 2^40 octets.
     TooLong,
     /// A script: the first word isn't one of a script's, or an octet isn't a printable one of ASCII.
     Word,
@@ -62,6 +64,12 @@ pub enum InputKind {
     CdrCut,
     /// A CDR file: it has another number of CDRs than it says.
     Count,
+    /// A stream: what should be the next message begins with the protocol type of GTP.
+    NotPrime,
+    /// A stream: what should be the next message names another version than 2.
+    Version,
+    /// A stream: it ends within a message, which begins here.
+    Rest,
 }
 
 impl InputKind {
@@ -96,6 +104,9 @@ impl InputKind {
             InputKind::CdrHeader => "CdrHeader",
             InputKind::CdrCut => "CdrCut",
             InputKind::Count => "Count",
+            InputKind::NotPrime => "NotPrime",
+            InputKind::Version => "Version",
+            InputKind::Rest => "Rest",
         }
     }
 }
@@ -158,6 +169,20 @@ impl From<FileKind> for InputKind {
             FileKind::CdrHeader => InputKind::CdrHeader,
             FileKind::CdrCut => InputKind::CdrCut,
             FileKind::Count => InputKind::Count,
+        }
+    }
+}
+
+impl From<FrameKind> for InputKind {
+    ghost use Rattle.std.specs.Prelude.{◌≡◌};
+    ghost use Rattle.cgf_top.specs.Kinds.{of_frame};
+
+    ghost from_gives = { λ kind e. e ≡ of_frame kind };
+
+    fn from(kind: FrameKind) -> Self {
+        match kind {
+            FrameKind::NotPrime => InputKind::NotPrime,
+            FrameKind::Version => InputKind::Version,
         }
     }
 }

@@ -19,14 +19,18 @@ ghost use Rattle.cgf_top.specs.Ending.{DoesJob, HasCause, IsBounded, IsComplete,
 ghost use Rattle.cgf_top.specs.Job.{job_of};
 ghost use Rattle.cgf_top.specs.NetworkReport.{RanNetwork, seeded_lines};
 ghost use Rattle.cgf_top.specs.Run.{HasReported, WritesFront, is_reported, may_have_written};
-ghost use Rattle.cgf_top.specs.ServeEnds.{IsUntouched, Serves, may_have_served};
+ghost use Rattle.cgf_top.specs.ServeEnds.{IsUntouched, Serves};
 ghost use Rattle.cgf_top.specs.Serving.{serving_of};
+ghost use Rattle.cgf_top.specs.StreamEnds.{Streams, is_over_files, may_have_used};
+ghost use Rattle.cgf_top.specs.Streaming.{streaming_of};
 ghost use Rattle.cgf_top.specs.Steps.{IsRefusal, IsReport, ended_by};
 ghost use Rattle.cgf_top.specs.declared.command.Seeded.{Seeded};
 ghost use Rattle.cgf_top.specs.declared.report.Refusal.{Refusal};
 ghost use Rattle.cgf_top.specs.declared.serving.Serving.{Serving};
+ghost use Rattle.cgf_top.specs.declared.streaming.Streaming.{Streaming};
 
 mod command;
+mod connection;
 mod feed;
 mod files;
 mod gateway;
@@ -41,6 +45,8 @@ mod serving;
 mod settling;
 mod show;
 mod status;
+mod stream;
+mod streaming;
 mod watch;
 mod words;
 
@@ -49,6 +55,7 @@ use crate::input::{ReadEnd, read_input};
 use crate::output::write_all;
 use crate::report::{NoReport, Refusal, Report};
 use crate::serve::serve_gateway;
+use crate::stream::stream_gateway;
 use crate::watch::Nobody;
 use area_disk::Area;
 use cdr_shelf::Shelf;
@@ -63,6 +70,7 @@ use std::alloc::Global;
 use std::sync::Wait;
 use std::thread::Threads;
 use std::time::Clock;
+pub use streaming::{StreamPlaces, Streaming, stream_places, tcp_address};
 pub use watch::Watch;
 use world_script::{InputFault, Script};
 
@@ -70,7 +78,7 @@ use world_script::{InputFault, Script};
 #[derive(Drop)]
 pub struct Ended<A: Area, F: Shelf> {
     pub status: Status,
-    /// The area and the shelf that were handed in, as the job left them. `serve` alone uses them.
+    /// The area and the shelf that were handed in, as the job left them. `serve` and `stream` alone use them.
     pub area: A,
     pub shelf: F,
     /// The network of a `replay` or a `drill` that is done: its areas, its shelves and its nodes.
@@ -86,7 +94,12 @@ pub struct Ended<A: Area, F: Shelf> {
 ///
 /// `serve IP PORT TURNS LENGTH AREA FOLDER` reads settings, opens the area and the shelf that were handed in, serves at
 /// the address with four sessions on threads for so many turns of its link, settles, and writes the gateway's counts. The
-/// area, the shelf, the links and the clock are its own; every other job leaves them as they are.
+/// area, the shelf, the links and the clock are its own; every other job but `stream` leaves them as they are.
+///
+/// `stream IP NODE LENGTH AREA FOLDER FILE` opens a gateway on the area and the shelf that were handed in, with the
+/// default settings, and reads octets: each message of GTP' among them counts as sent from NODE, and is answered. The
+/// replies are written, each once it is firm, and nothing else; at the end of the octets the gateway settles. Where they
+/// are bad, end within a message, or are 2^40, the place is named, behind the replies to the messages before it.
 ///
 /// A network that ran to its end is handed back, and the area and the shelf always are.
 ///
@@ -136,19 +149,28 @@ where
         (job_of S.Source K.Sink (map string_bytes words.now) source.old source.new sink.old sink.new)
         area result.area shelf result.shelf (L.state links.old) (L.state links.new) (C.faults clock.old)
         (C.faults clock.new) result.status result.played }
+    // A gateway that answered a stream has written the replies to its messages, however the source cut it into pieces, and
+    // hands back the area of the history that these left, and the shelf with just its files. However it ends, nothing that
+    // was answered is lost.
+    ensures streams { (of : Streaming) → streaming_of (map string_bytes words.now) ≡ Some of →
+        (links.new ≡ links.old) × Streams A.Area F.Shelf of
+        (job_of S.Source K.Sink (map string_bytes words.now) source.old source.new sink.old sink.new)
+        area result.area shelf result.shelf (C.faults clock.old) (C.faults clock.new) result.status result.played }
     // Every other job, and one that ends before the gateway is opened, leaves the outside as it is.
-    ensures outside { may_have_served (serving_of (map string_bytes words.now)) result.status ≡ false →
+    ensures outside { may_have_used (serving_of (map string_bytes words.now))
+        (streaming_of (map string_bytes words.now)) result.status ≡ false →
         IsUntouched area result.area shelf result.shelf links.old links.new clock.old clock.new }
     // What was read and written, what is handed back, and why every other job ended so.
-    ensures job { serving_of (map string_bytes words.now) ≡ None → DoesJob
+    ensures job { is_over_files (map string_bytes words.now) ≡ true → DoesJob
         (job_of S.Source K.Sink (map string_bytes words.now) source.old source.new sink.old sink.new)
         result.status result.played }
     // Words that are none of the forms end as `Words`, and no others do, unless there is no memory to parse them. Nothing
     // is read of them, nor where the command has no input. Nothing is written but at `Done`, at `Write`, and at a line
     // that can't be run.
-    ensures words { serving_of (map string_bytes words.now) ≡ None →
+    ensures words { is_over_files (map string_bytes words.now) ≡ true →
         WordsDecide (command_of (map string_bytes words.now)) result.status source.old source.new }
-    ensures untouched { may_have_written result.status ≡ false → sink.new ≡ sink.old }
+    ensures untouched { streaming_of (map string_bytes words.now) ≡ None → may_have_written result.status ≡ false →
+        sink.new ≡ sink.old }
 {
     run_watched(
         rt,
@@ -201,17 +223,61 @@ where
         (job_of S.Source K.Sink (map string_bytes words.now) source.old source.new sink.old sink.new)
         area result.area shelf result.shelf (L.state links.old) (L.state links.new) (C.faults clock.old)
         (C.faults clock.new) result.status result.played }
-    ensures outside { may_have_served (serving_of (map string_bytes words.now)) result.status ≡ false →
+    ensures streams { (of : Streaming) → streaming_of (map string_bytes words.now) ≡ Some of →
+        (links.new ≡ links.old) × Streams A.Area F.Shelf of
+        (job_of S.Source K.Sink (map string_bytes words.now) source.old source.new sink.old sink.new)
+        area result.area shelf result.shelf (C.faults clock.old) (C.faults clock.new) result.status result.played }
+    ensures outside { may_have_used (serving_of (map string_bytes words.now))
+        (streaming_of (map string_bytes words.now)) result.status ≡ false →
         IsUntouched area result.area shelf result.shelf links.old links.new clock.old clock.new }
-    ensures job { serving_of (map string_bytes words.now) ≡ None → DoesJob
+    ensures job { is_over_files (map string_bytes words.now) ≡ true → DoesJob
         (job_of S.Source K.Sink (map string_bytes words.now) source.old source.new sink.old sink.new)
         result.status result.played }
-    ensures words { serving_of (map string_bytes words.now) ≡ None →
+    ensures words { is_over_files (map string_bytes words.now) ≡ true →
         WordsDecide (command_of (map string_bytes words.now)) result.status source.old source.new }
-    ensures untouched { may_have_written result.status ≡ false → sink.new ≡ sink.old }
+    ensures untouched { streaming_of (map string_bytes words.now) ≡ None → may_have_written result.status ≡ false →
+        sink.new ≡ sink.old }
 {
     match Serving::of(words) {
         Some(serving) => serve_gateway(rt, alloc, serving, source, sink, area, shelf, links, clock),
+        None => run_on_one(alloc, words, source, sink, area, shelf, clock, watch),
+    }
+}
+
+/// The same without threads: answers a stream, or does a job over files.
+fn run_on_one<S: Source, K: Sink, A: Area, F: Shelf, C: gw_base::Clock, W: Watch>(
+    alloc: Global,
+    words: &[String],
+    source: &mut S,
+    sink: &mut K,
+    area: A,
+    shelf: F,
+    clock: &mut C,
+    watch: &mut W,
+) -> Ended<A, F>
+    requires long { fewest_octets ≤ A.size area }
+    requires short { A.size area ≤ most_octets }
+    ensures once { (text : List ℕ) (lines : List Line) →
+        command_of (map string_bytes words.now) ≡ Some Command.Replay → S.left source.old ≡ Some text →
+        script_in ScriptKind.Replay text ≡ Ok lines → result.status ≡ Status.Done →
+        IsSomeAnd result.played (RanNetwork lines) }
+    ensures drilled { (of : Seeded) → command_of (map string_bytes words.now) ≡ Some (Command.Drill of) →
+        result.status ≡ Status.Done → IsSomeAnd result.played (RanNetwork (seeded_lines of)) }
+    ensures streams { (of : Streaming) → streaming_of (map string_bytes words.now) ≡ Some of → Streams A.Area F.Shelf of
+        (job_of S.Source K.Sink (map string_bytes words.now) source.old source.new sink.old sink.new)
+        area result.area shelf result.shelf (C.faults clock.old) (C.faults clock.new) result.status result.played }
+    ensures outside { streaming_of (map string_bytes words.now) ≡ None →
+        (result.area ≡ area) × (result.shelf ≡ shelf) × (clock.new ≡ clock.old) }
+    ensures job { streaming_of (map string_bytes words.now) ≡ None → DoesJob
+        (job_of S.Source K.Sink (map string_bytes words.now) source.old source.new sink.old sink.new)
+        result.status result.played }
+    ensures words { streaming_of (map string_bytes words.now) ≡ None →
+        WordsDecide (command_of (map string_bytes words.now)) result.status source.old source.new }
+    ensures untouched { streaming_of (map string_bytes words.now) ≡ None → may_have_written result.status ≡ false →
+        sink.new ≡ sink.old }
+{
+    match Streaming::of(words) {
+        Some(streaming) => stream_gateway(alloc, streaming, source, sink, area, shelf, clock),
         None => {
             let JobEnd { status, played } = do_job(alloc, words, source, sink, watch);
             Ended {

@@ -103,7 +103,8 @@ where
 
 /// How the job ends that has a line to write.
 fn written<K: Sink>(sink: &mut K, line: &[u8]) -> Status
-    ensures { WritesLine line.now (K.written sink.old) (K.written sink.new) (K.faults sink.old) (K.faults sink.new) result }
+    ensures { WritesLine line.now (K.written sink.old) (K.written sink.new) (K.faults sink.old) (K.faults sink.new)
+        result }
 {
     match write_all(sink, line) {
         Ok(()) => Status::Done,

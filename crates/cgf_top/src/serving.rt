@@ -108,8 +108,16 @@ fn by_numbers(ip: &[u8], port: &[u8], turns: &[u8], length: &[u8]) -> Option<Ser
         ip: ipv4(ip)?,
         port: number(port, 65_535)? as u16,
         turns: between(turns, 1, MOST_TURNS)?,
-        length: between(length, FEWEST_OCTETS, MOST_OCTETS)?,
+        length: length_of_area(length)?,
     })
+}
+
+/// How many octets the area of a journal has, where the word says a number in its range.
+pub(crate) fn length_of_area(word: &[u8]) -> Option<u64>
+    ensures said { result ≡ number_between fewest_octets most_octets word.now }
+    ensures within { IfSome result (λ n. (fewest_octets ≤ n) × (n ≤ most_octets)) }
+{
+    between(word, FEWEST_OCTETS, MOST_OCTETS)
 }
 
 /// A number from `least` to `most`.

@@ -12,13 +12,11 @@ ghost use Rattle.gateway_book.specs.Turning.{tells_lists};
 ghost use Rattle.gw_base.specs.Faults.{Rose};
 ghost use Rattle.gw_base.specs.declared.address.Addr.{Addr as Address};
 ghost use Rattle.gw_base.specs.declared.history.HistoryEntry.{HistoryEntry};
-ghost use Rattle.net_link.specs.Datagrams.{IsNewAt};
 ghost use Rattle.replay_world.specs.Settings.{AreSound};
-ghost use Rattle.session_run.specs.Running.{AreNewAt};
 ghost use Rattle.replay_world.specs.Setup.{Setup as SetupValue};
 ghost use Rattle.node_session.specs.Writing.{IsWriterOf};
 ghost use Rattle.cgf_top.specs.Served.{HasServed, LosesNothing, served_line};
-ghost use Rattle.cgf_top.specs.ServeSteps.{AreOf, FailsBy, GivesBack, HasMade, HasServedAt, HasSettledAll, IsIdleAt, NeverFalls, RefusesAsForeign, StopsServing, part_count, status_by, stopped_by};
+ghost use Rattle.cgf_top.specs.ServeSteps.{AreOf, FailsBy, HasServedAt, HasSettledAll, NeverFalls, RefusesAsForeign, StopsServing, part_count, status_by};
 ghost use Rattle.cgf_top.specs.Serving.{IsServingWithin, address_in};
 
 use crate::printing::print_counts;
@@ -33,19 +31,15 @@ use file_writer::laws::files_only_grow;
 use gateway_book::laws::{a_book_is_within_the_limits, filed_records_stay, what_stands_is_ours};
 use gateway_book::{Book, BookFault, Counts, ItemsFault, Setup};
 use gw_base::{Addr, Caller, Counted, Moment, NoMemory};
-use net_link::{Link, LinkStop, Links};
+use net_link::Links;
 use node_session::{SettleFault, settle};
 use replay_world::laws::{a_history_filed_its_parts, no_file_is_open_where_no_close_is_due};
 use replay_world::record_count;
-use session_run::{Gateway, Ran, Stop, Until, run};
+use session_run::{Gateway, Ran, Stop, Until, give_back, make_links, run};
 use std::alloc::Global;
-use std::mem;
 use std::sync::Wait;
 use std::thread::Threads;
 use std::time::Clock;
-
-/// How many links a gateway has: one to receive, and one for each of four sessions.
-const LINKS: usize = 5;
 
 /// How many items are read at once.
 const PIECE: u32 = 4096;
@@ -85,17 +79,17 @@ where
     requires short { A.size area ≤ most_octets }
     requires turns { (at : Addr) → (L.state links.old).turns at < 2 ^ 63 }
     requires sound { AreSound by.settings }
-    ensures ok { Told A.Area → (setup : SetupValue) → AreOf setup by → IfOk result.0 (λ line. (history : List HistoryEntry)
-        × HasServed A.Area F.Shelf serving setup area result.1 shelf result.2 (L.state links.old) (L.state links.new)
-        history × (line.items ≡ served_line history)) }
+    ensures ok { Told A.Area → (setup : SetupValue) → AreOf setup by → IfOk result.0 (λ line.
+        (history : List HistoryEntry) × HasServed A.Area F.Shelf serving setup area result.1 shelf result.2
+        (L.state links.old) (L.state links.new) history × (line.items ≡ served_line history)) }
     ensures turns { OnOk result.0 ((L.state links.new).turns (address_in serving)
         ≡ (L.state links.old).turns (address_in serving) + serving.turns) }
     ensures keeps { LosesNothing A.Area serving area result.1 (L.state links.old) (L.state links.new) }
     ensures err { IfErr result.0 (StopsServing A.Area F.Shelf serving area result.1 shelf result.2
         (L.state links.old) (L.state links.new) (C.faults clock.old) (C.faults clock.new)) }
     ensures foreign { Told A.Area → RefusesAsForeign A.Area serving area result.0 }
-    ensures later { NeverFalls A.Area F.Shelf serving area result.1 shelf result.2 (L.state links.old) (L.state links.new)
-        (C.faults clock.old) (C.faults clock.new) }
+    ensures later { NeverFalls A.Area F.Shelf serving area result.1 shelf result.2 (L.state links.old)
+        (L.state links.new) (C.faults clock.old) (C.faults clock.new) }
 {
     match shelf.sealed(0) {
         Ok(_) => serve_on(rt, alloc, serving, by, area, shelf, links, clock),
@@ -127,17 +121,17 @@ where
     requires short { A.size area ≤ most_octets }
     requires turns { (at : Addr) → (L.state links.old).turns at < 2 ^ 63 }
     requires sound { AreSound by.settings }
-    ensures ok { Told A.Area → (setup : SetupValue) → AreOf setup by → IfOk result.0 (λ line. (history : List HistoryEntry)
-        × HasServed A.Area F.Shelf serving setup area result.1 shelf result.2 (L.state links.old) (L.state links.new)
-        history × (line.items ≡ served_line history)) }
+    ensures ok { Told A.Area → (setup : SetupValue) → AreOf setup by → IfOk result.0 (λ line.
+        (history : List HistoryEntry) × HasServed A.Area F.Shelf serving setup area result.1 shelf result.2
+        (L.state links.old) (L.state links.new) history × (line.items ≡ served_line history)) }
     ensures turns { OnOk result.0 ((L.state links.new).turns (address_in serving)
         ≡ (L.state links.old).turns (address_in serving) + serving.turns) }
     ensures keeps { LosesNothing A.Area serving area result.1 (L.state links.old) (L.state links.new) }
     ensures err { IfErr result.0 (StopsServing A.Area F.Shelf serving area result.1 shelf result.2
         (L.state links.old) (L.state links.new) (C.faults clock.old) (C.faults clock.new)) }
     ensures foreign { Told A.Area → RefusesAsForeign A.Area serving area result.0 }
-    ensures later { NeverFalls A.Area F.Shelf serving area result.1 shelf result.2 (L.state links.old) (L.state links.new)
-        (C.faults clock.old) (C.faults clock.new) }
+    ensures later { NeverFalls A.Area F.Shelf serving area result.1 shelf result.2 (L.state links.old)
+        (L.state links.new) (C.faults clock.old) (C.faults clock.new) }
 {
     area_laws::<A>();
     files_only_grow();
@@ -167,7 +161,7 @@ where
 }
 
 /// How the job ends whose gateway wasn't opened.
-fn status_of(fault: BookFault) -> Status
+pub(crate) fn status_of(fault: BookFault) -> Status
     ensures { result ≡ status_by fault }
 {
     match fault {
@@ -198,8 +192,8 @@ where
     requires within { IsServingWithin serving }
     requires broken { is_broken writer ≡ true }
     requires turns { (at : Address) → (L.state links.old).turns at < 2 ^ 63 }
-    ensures { HasServedAt A.Area F.Shelf serving book result.1.0 writer result.1.1 (L.state links.old) (L.state links.new)
-        (C.faults clock.old) (C.faults clock.new) result.0 }
+    ensures { HasServedAt A.Area F.Shelf serving book result.1.0 writer result.1.1 (L.state links.old)
+        (L.state links.new) (C.faults clock.old) (C.faults clock.new) result.0 }
 {
     let address = Addr {
         ip: serving.ip,
@@ -235,68 +229,6 @@ where
     } = gateway;
     give_back(links, made, address);
     (Service { last, stop }, (book, writer))
-}
-
-/// Five links of an address, the one that was made in front of those that were split, or those that could be made, and why
-/// there aren't all.
-fn make_links<L: Links>(alloc: Global, links: &mut L, address: Addr) -> (Vec<L::Link>, Option<Stop>)
-    ensures made { HasMade L.Link.Link address (L.state links.old) (L.state links.new) result.0.items result.1 }
-    ensures five { result.1 ≡ None → AreNewAt L.Link.Link address result.0.items }
-{
-    let Ok(mut made) = Vec::with_capacity(alloc, LINKS) else {
-        return (Vec::new(alloc), Some(Stop::NoMemory));
-    };
-    let mut last = match links.make(address) {
-        Ok(link) => link,
-        Err(stop) => return (made, Some(stop_of(stop))),
-    };
-    let stop = split_all(&mut last, &mut made);
-    made.push_reserved(last);
-    (made, stop)
-}
-
-/// Four more links of the address of a new one, or those that could be made, and why there aren't all. Each is split of
-/// the one before, and the last one takes the place of the first: those before it stand in the list, in their order.
-fn split_all<K: Link>(last: &mut K, made: &mut Vec<K>) -> Option<Stop>
-    requires none { made.old.items ≡ [] }
-    requires room { vec_capacity made.old ≡ 5 }
-    ensures new { (at : Address) → IsNewAt at (K.state last.old) → All (λ link. IsNewAt at (K.state link)) made.new.items }
-    ensures last { (at : Address) → IsNewAt at (K.state last.old) → IsIdleAt at (K.state last.new) }
-    ensures four { result ≡ None → (length made.new.items ≡ 4)
-        × ((at : Address) → IsNewAt at (K.state last.old) → IsNewAt at (K.state last.new)) }
-    ensures room { (vec_len made.new < 5) × (vec_capacity made.new ≡ 5) }
-    ensures cause { result ≡ Some Stop.Link → (at : Address) → IsNewAt at (K.state last.old) →
-        Rose 0 (K.state last.new).faults }
-    ensures clock { result ≢ Some Stop.Clock }
-{
-    'splits: while made.len() < LINKS - 1 {
-        match last.split() {
-            Ok(link) => made.push_reserved(mem::replace(last, link)),
-            Err(stop) => return Some(stop_of(stop)),
-        }
-    }
-    None
-}
-
-/// Why a gateway stops whose link stopped.
-fn stop_of(stop: LinkStop) -> Stop
-    ensures { result ≡ stopped_by stop }
-{
-    match stop {
-        LinkStop::Failed => Stop::Link,
-        LinkStop::NoMemory => Stop::NoMemory,
-    }
-}
-
-/// Gives links back.
-fn give_back<L: Links>(links: &mut L, mut made: Vec<L::Link>, address: Addr)
-    requires made { All (λ link. (L.Link.state link).address ≡ address) made.items }
-    requires known { 0 < length made.items → (L.state links.old).IsMade address }
-    ensures { GivesBack L.Link.Link address (L.state links.old) (L.state links.new) made.items }
-{
-    while let Some(link) = made.pop() {
-        links.back(link);
-    }
 }
 
 /// Settles a gateway that served, and gives it back.
@@ -339,7 +271,7 @@ fn settled_line<A: Area, F: Shelf>(
 }
 
 /// The moment of a Close behind the last job: its own, and 0 where there was none.
-fn moment_of(last: Option<Moment>) -> Moment {
+pub(crate) fn moment_of(last: Option<Moment>) -> Moment {
     match last {
         Some(moment) => moment,
         None => {

@@ -20,18 +20,21 @@ pub enum Status {
     Done,
     /// The words are none of the forms. Nothing was read or written.
     Words,
-    /// The first place of the input that is refused: a script's line, by its number from 1, or a file's octet, by its
-    /// place from 0. Nothing was written but for a line that can't be run, where the report of the lines before it was.
+    /// The first place of the input that is refused: a script's line, by its number from 1, or an octet of a file or a
+    /// stream, by its place from 0. Nothing was written but for a line that can't be run, where the report of the lines
+    /// before it was, and of a stream, where the replies to the messages before it were.
     Input { place: u64, kind: InputKind },
-    /// The source failed. Nothing was written.
+    /// The source failed. Nothing was written, of a stream the replies to the messages before.
     Read,
-    /// The sink failed. A front of the report may have been written.
+    /// The sink failed. A front of the report, or of a stream's replies, may have been written.
     Write,
-    /// There was no memory for the job. Nothing was written.
+    /// There was no memory for the job. Nothing was written, of a stream the replies to its first messages.
     Memory,
-    /// A gateway's journal or its files failed it, as it was opened or as it settled. Nothing was written.
+    /// A gateway's journal or its files failed it, as it was opened or as it settled. Nothing was written, of a stream
+    /// its replies.
     Store(StoreFault),
-    /// A link or the clock failed a gateway that served. Nothing was written.
+    /// A link or the clock failed a gateway that served. Nothing was written, of a stream the replies to the messages
+    /// before.
     Link,
 }
 

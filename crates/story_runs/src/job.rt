@@ -1,8 +1,10 @@
 //! A job over words and an input in memory.
+ghost use Rattle.std.specs.Prelude.{◌≤◌};
+ghost use Rattle.gate_journal.specs.Format.{fewest_octets, most_octets};
 
 use area_disk::QuietArea;
 use cdr_shelf::QuietShelf;
-use cgf_top::{Ended, Played, Status, run_cgf};
+use cgf_top::{Ended, Played, Status, run_cgf, stream_places};
 use gw_base::{MemoryClock, MemorySink, MemorySource, Moment, Octets};
 use net_link::MemoryLinks;
 use std::alloc::Global;
@@ -20,14 +22,41 @@ const MOST_WRITTEN: usize = 1_100_000;
 /// How many octets the area has of a job that uses none.
 const UNUSED: u64 = 100;
 
+/// What a job is handed: how many octets its area has, and how many its source gives a call. Of a `stream` its words say
+/// both: the length of the journal, and the source's piece in place of a file.
+struct Outside {
+    length: u64,
+    piece: usize,
+}
+
+/// The outside of the job over these words.
+fn outside_of(words: &[String]) -> Outside
+    ensures long { fewest_octets ≤ result.length }
+    ensures short { result.length ≤ most_octets }
+    ensures piece { 1 ≤ result.piece }
+{
+    match stream_places(words) {
+        Some(places) => Outside {
+            length: places.length,
+            piece: places.file.parse::<usize>().unwrap_or(PIECE).max(1),
+        },
+        None => Outside {
+            length: UNUSED,
+            piece: PIECE,
+        },
+    }
+}
+
 /// What stands in front of an input in hexadecimal.
 const OCTETS: &str = "octets ";
 
-/// How a job ended, what it wrote, and how many areas, shelves and nodes it handed back, where it handed back a network.
+/// How a job ended, what it wrote, the shelf that it was handed, and how many areas, shelves and nodes it handed back,
+/// where it handed back a network.
 #[derive(Drop)]
 pub(crate) struct Done {
     pub(crate) status: Status,
     pub(crate) printed: Vec<u8>,
+    pub(crate) shelf: QuietShelf,
     pub(crate) played: Option<(usize, usize, usize)>,
 }
 
@@ -43,10 +72,11 @@ pub(crate) fn run<R: Threads + Wait + Clock + Sync + Alloc<A = Global>>(
         given.push(String::from_str(alloc, word)?)?;
     }
     let input = Octets::from_vec(octets_of(alloc, input)?);
-    let mut source = MemorySource::new(input, PIECE, Vec::new(alloc));
+    let Outside { length, piece } = outside_of(&given);
+    let mut source = MemorySource::new(input, piece, Vec::new(alloc));
     let sink = MemorySink::new(alloc, MOST_WRITTEN, Vec::new(alloc));
     let mut sink = sink.map_err(|_| Error::from(ErrorKind::OutOfMemory))?;
-    let Ok(area) = QuietArea::new(alloc, UNUSED) else {
+    let Ok(area) = QuietArea::new(alloc, length) else {
         return Err(Error::from(ErrorKind::OutOfMemory));
     };
     let shelf = QuietShelf::new(alloc);
@@ -56,7 +86,7 @@ pub(crate) fn run<R: Threads + Wait + Clock + Sync + Alloc<A = Global>>(
     let Ended {
         status,
         area: _,
-        shelf: _,
+        shelf,
         played,
     } = run_cgf(
         rt,
@@ -72,6 +102,7 @@ pub(crate) fn run<R: Threads + Wait + Clock + Sync + Alloc<A = Global>>(
     Ok(Done {
         status,
         printed: sink.octets().to_vec(alloc)?,
+        shelf,
         played: played.map(handed_back),
     })
 }

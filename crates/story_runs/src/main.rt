@@ -3,18 +3,27 @@
 //!
 //! The standard input is a text about the stories, and then the stories: a line `== NAME`, a line with the words, and
 //! the input, which is all up to the empty line in front of the next name. Where that empty line lacks, the last line of
-//! the input lacks its line feed. An input that isn't text is `octets ` and its octets in hexadecimal.
+//! the input lacks its line feed. An input that isn't text is `octets ` and its octets in hexadecimal; so is what is
+//! written for a stream, whose last word says how many octets its source gives a call. The files of the shelf that a
+//! stream leaves follow.
 #![tactic(auto)]
 
 mod job;
 
 use crate::job::{Done, run};
+use cdr_shelf::QuietShelf;
 use std::alloc::Global;
 use std::io;
 use std::io::{Error, ErrorKind};
 use std::sync::Wait;
 use std::thread::Threads;
 use std::time::Clock;
+
+/// What the words of a story begin with that is a stream: what is written for it is told in hexadecimal.
+const STREAM: &str = "stream ";
+
+/// How many files are told of a story, at most.
+const MOST_FILES: usize = 100;
 
 /// What stands in front of the name of each story.
 const NAME: &str = "\n== ";
@@ -38,13 +47,34 @@ fn tell<R: Threads + Wait + Clock + Sync + Print + Alloc<A = Global>>(
     let Done {
         status,
         printed,
+        shelf,
         played,
     } = run(rt, words, input)?;
     print!(rt; "{NAME}{name}\n")?;
-    rt.write_all(&printed)?;
+    if words.starts_with(STREAM) {
+        println!(rt; "octets {}", hex::encode_upper(rt.alloc(), &printed)?)?;
+    } else {
+        rt.write_all(&printed)?;
+    }
     println!(rt; "status {}, {status}", status.number())?;
+    tell_files(rt, &shelf)?;
     if let Some((areas, shelves, nodes)) = played {
         println!(rt; "handed back: areas {areas}, shelves {shelves}, nodes {nodes}")?;
+    }
+    Ok(())
+}
+
+/// Prints the sealed files of the shelf that was handed back.
+fn tell_files<R: Print + Alloc<A = Global>>(rt: &R, shelf: &QuietShelf) -> io::Result<()> {
+    'files: for k in 0..MOST_FILES {
+        let Some((name, octets)) = shelf.nth(k) else {
+            break;
+        };
+        let digits = hex::encode_upper(rt.alloc(), octets)?;
+        println!(rt;
+            "file {:02}-{:010}.cdr {digits}",
+            name.stream, name.sequence
+        )?;
     }
     Ok(())
 }
