@@ -14,6 +14,7 @@ docs() {
     check_map "$work"
     check_libraries "$work"
     check_picture "$work"
+    tools/pictures --check
     for page in stdin stdout; do
         stories_file $page | cmp -s - "$stories_folder/$page" ||
             echo "$stories_folder/$page: not as examples/ has the stories; ./do stories puts them there"

@@ -17,6 +17,8 @@ from world import LAST_START, Refused, Stopped, World
 SHARES = {"tick": 22, "flow": 8, "mix": 6, "deliver": 14, "submit": 8, "at": 4, "halt": 0.8, "start": 3}
 SHARES |= {"commit": 14, "write": 1, "mark": 5, "close": 1, "redirect": 4, "stop": 0.7, "open": 6, "arm": 3, "fail": 3}
 SHARES |= {"settle": 0.7, "blank": 1, "round": 6}
+SHARES |= {form: 2 for form in ("armshelf", "failshelf") if form.encode() not in script.NOT_BUILT}
+MODES = tuple(mode for mode in ("old", "new", "rot") if mode.encode() not in script.NOT_BUILT)
 MOMENTS = (0, 0, 1, 86_399, 1_709_164_800, script.LAST_MOMENT - 3_700)
 GREATEST = 2**64 - 1
 REFUSED = """frob|Flow| |\tflow| #|flow\x7f|in 10.0.1.1:1 00|mark\xe9|armshelf 1 1 old|failshelf 1 1|renew 1
@@ -34,7 +36,9 @@ rule A0 1 16|rule * 256 1|rule A0 01 1|rule 1F 1 1|rule ** * 1"""
 
 
 class Replay:
-    """A script in the making, and the world so far."""
+    """A script in the making, and the world so far; it has one of so many rounds."""
+
+    rounds = (5, 20, 50, 100, 200)
 
     def __init__(self, seed):
         self.random = random.Random(seed)
@@ -150,12 +154,15 @@ class Replay:
             return self.deliver(waits)
         if form == "redirect":
             return self.add(form, gateway, self.random.randint(59, 63), self.pick(None, self.number(self.gateways)))
+        if form in ("armshelf", "failshelf"):
+            call = self.pick(1, 2, 3, 4, 5, 6, 7, self.random.randint(1, 40))
+            return self.add(form, gateway, call, *[self.pick(*MODES)] * (form == "armshelf"))
         if form in ("arm", "fail"):
             broken = [each.number for each in self.world.gateways if each.state == "broken"]
             if broken and self.is_rare(0.5):
-                return self.add(form, broken[0], 1, *[self.pick("old", "new")] * (form == "arm"))
+                return self.add(form, broken[0], 1, *[self.pick(*MODES)] * (form == "arm"))
             call = self.pick(1, 2, 3, 4, 4, 5, self.random.randint(1, 12), self.pick(8, GREATEST))
-            return self.add(form, gateway, call, *[self.pick("old", "new")] * (form == "arm"))
+            return self.add(form, gateway, call, *[self.pick(*MODES)] * (form == "arm"))
         if form == "open":
             gateway = self.pick(*[each.number for each in self.world.gateways if each.state == "down"] or [gateway])
         if form == "start":
@@ -203,7 +210,7 @@ class Replay:
             self.add("submit", node, 0, 0x0600, (bytes([self.packets]) * self.random.randint(64_900, 65_490),))
         self.add("tick", node)
         if self.is_rare(0.7):
-            call, mode = self.number(4), self.pick("old", "new")
+            call, mode = self.number(4), self.pick(*MODES)
             self.add(*self.pick(("fail", gateway, call), ("arm", gateway, call, mode)))
         for line in self.pick([("flow",)], [("mix", self.random.randrange(2**64))], [("flow",), ("mark", gateway)]):
             self.add(*line)
@@ -239,7 +246,7 @@ class Replay:
             self.restarts()
         if self.is_large:
             self.full()
-        for _ in range(5 if self.is_large else self.pick(5, 20, 50, 100, 200)):
+        for _ in range(5 if self.is_large else self.pick(*self.rounds)):
             if not self.round():
                 break
         for _ in range(self.pick(*[0] * 9, 1, 1, 3)):

@@ -4,6 +4,7 @@ A line is a tuple: its first word, for a setting `limit` the words `limit record
 their order; an empty line or a comment is ("blank",). Addresses are pairs of numbers, octets are bytes.
 """
 
+import os
 import re
 from typing import NamedTuple, Optional
 
@@ -78,7 +79,7 @@ def offset(word):
 
 def mode(word):
     """Reads what a stop leaves."""
-    if word not in (b"old", b"new"):
+    if word not in (b"old", b"new", b"rot"):
         raise Wrong("Number")
     return word.decode()
 
@@ -113,19 +114,24 @@ REPLAY = {
     b"open": [INDEX],
     b"arm": [INDEX, number(1), mode],
     b"fail": [INDEX, number(1)],
+    b"armshelf": [INDEX, number(1), mode],
+    b"failshelf": [INDEX, number(1)],
     b"halt": [INDEX],
     b"start": [INDEX],
     b"settle": [],
 }
 MANY, MAYBE = (b"in", b"submit"), (b"redirect",)
+# What this model has and the program hasn't yet: the first words of lines, and a mode. The environment may say other.
+NOT_BUILT = set(os.environ.get("NOT_BUILT", "armshelf failshelf rot").encode().split())
 LATER = {
     "feed": (b"renew",),
-    "replay": (b"armshelf", b"failshelf", b"renew", b"store", b"nodestop", b"nodeopen", b"nodearm")
-    + (b"nodefail", b"standby", b"ship", b"takeover"),
+    "replay": (b"renew", b"store", b"nodestop", b"nodeopen", b"nodearm", b"nodefail", b"standby", b"ship", b"takeover")
+    + tuple(form for form in REPLAY if form in NOT_BUILT),
     "serve": (),
 }
 SERVE = {form: SETTINGS[form] for form in (b"limit", b"offset", b"profile", b"rule")} | {b"end": []}
-FORMS = {"feed": {**SETTINGS, **BOTH, **FEED}, "replay": {**SETTINGS, **COUNTS, **BOTH, **REPLAY}, "serve": SERVE}
+BUILT = {form: readers for form, readers in REPLAY.items() if form not in NOT_BUILT}
+FORMS = {"feed": {**SETTINGS, **BOTH, **FEED}, "replay": {**SETTINGS, **COUNTS, **BOTH, **BUILT}, "serve": SERVE}
 
 
 class Rule(NamedTuple):
@@ -200,7 +206,7 @@ class _Text:
             raise Wrong("Late")
         if not _has_arity(first, forms[first], len(words) - 1):
             raise Wrong("Arity")
-        if first == b"arm" and words[3] == b"rot":
+        if first == b"arm" and words[3] in NOT_BUILT:
             raise Wrong("NotBuilt")
         if first == b"rule":
             rule(line)

@@ -12,6 +12,7 @@ import feed
 import sample
 import script
 import show
+import streams
 import world
 
 FOLDER = Path(__file__).resolve().parents[2] / "crates" / "story_runs"
@@ -30,13 +31,21 @@ def handed_back(lines):
     return b"handed back: areas %d, shelves %d, nodes %d\n" % (gateways, gateways, nodes)
 
 
+def sealed(folder):
+    """What is told of the files that a stream leaves."""
+    return b"".join(b"file %s %s\n" % (name.encode(), folder[name].hex().upper().encode()) for name in sorted(folder))
+
+
 def model(command, numbers, text):
     """What the model of a command writes, its status, what it says of its end, and the lines of the network that it
-    ran."""
+    ran, or what is told of the files that it leaves."""
     if command == "feed":
         return *feed.feed(text), []
     if command == "show":
         return *show.show(text), []
+    if command == "stream":
+        ended = streams.run([command, *numbers], text, None, {})
+        return b"octets %s\n" % ended.output.hex().upper().encode(), ended.status, ended.error, sealed(ended.folder)
     if command == "replay":
         out, status, error = world.replay(text)
         return out, status, error, [] if status else script.read(text, "replay")
@@ -51,9 +60,11 @@ def told(text):
     words, _, text = text.partition(b"\n")
     command, *numbers = words.decode().split(" ")
     if text.startswith(b"octets "):
-        text = bytes.fromhex(text.split()[1].decode())
+        text = bytes.fromhex(text[7:].decode())
     out, status, error, lines = model(command, numbers, text)
     end = b"status %d, %s" % (status, error or b"cgf: done\n")
+    if isinstance(lines, bytes):
+        return out + end + lines
     return out + end + (handed_back(lines) if lines else b"")
 
 

@@ -10,6 +10,7 @@ import feed
 import files
 import gateway as book
 import script
+import shelf
 import wire
 from gateway import Entry
 from node import Node
@@ -46,8 +47,9 @@ class Refused(Exception):
 
 
 class Gateway:
-    """A gateway: its history and how much of it is firm, the entries of a failed commit, the replies that wait, and
-    what is armed."""
+    """A gateway: its history and how much of it is firm, the entries of a failed commit, the replies that wait, the
+    files that are sealed on its shelf, how many items their writer has taken since it recovered or None where it has to
+    recover first, and what is armed for the calls of the area and of the shelf."""
 
     def __init__(self, number):
         self.number = number
@@ -56,24 +58,30 @@ class Gateway:
         self.torn, self.is_torn_whole = [], False
         self.waiting = []
         self.redirects = 0
-        self.armed = None
+        self.files, self.taken = {}, None
+        self.armed = {"area": None, "shelf": None}
 
     def has_full_batch(self):
         octets = sum(entry.cost() - 5 for entry in self.history[self.firm :])
         return BATCH - octets < LEAST_FREE
 
-    def call(self):
-        """One counted call of the area: None, "fail", or the mode of a stop."""
-        if self.armed is None:
+    def call(self, device="area"):
+        """One counted call of the area or the shelf: None, "fail", or the mode of a stop."""
+        if self.armed[device] is None:
             return None
-        left, outcome = self.armed
-        self.armed = (left - 1, outcome) if left > 1 else None
+        left, outcome = self.armed[device]
+        self.armed[device] = (left - 1, outcome) if left > 1 else None
         return outcome if left == 1 else None
 
+    def disarm(self):
+        """Nothing is armed any more."""
+        self.armed = {"area": None, "shelf": None}
+
     def cut(self, history):
-        """A stop leaves this history."""
+        """A stop leaves this history, and ends the writer of files too."""
         self.history, self.firm = history, len(history)
-        self.state, self.torn, self.waiting, self.armed = "down", [], [], None
+        self.state, self.torn, self.waiting, self.taken = "down", [], [], None
+        self.disarm()
 
     def open(self, reserve):
         """Opens a gateway that is down; its Start waits for the next commit."""
@@ -220,6 +228,26 @@ class World:
             else:
                 gateway.history = feed.marked(gateway.history, self.moment, self.settings)
 
+    # Files.
+
+    def write(self, gateway):
+        """The items of the firm entries are written into files, from the first on where the writer recovers."""
+        items, taken = files.items(gateway.history[: gateway.firm]), gateway.taken or 0
+        sealed, address = shelf.sealed_up_to(gateway.files), 10 << 24 | gateway.number
+        gateway.taken = None
+        for place, call in shelf.calls(items, sealed, self.settings, address):
+            if place < taken:
+                continue
+            outcome = gateway.call("shelf")
+            if isinstance(call, tuple) and outcome in (None, "new"):
+                gateway.files[call[0]] = call[1]
+            if outcome == "fail":
+                return self.say(f"shelf fault {gateway.number}")
+            if outcome is not None:
+                self.stop(gateway, gateway.history[: gateway.firm])
+        gateway.taken = len(items)
+        return None
+
     # Lines.
 
     def waits(self):
@@ -251,19 +279,24 @@ class World:
         gateway.redirects = (gateway.redirects + 1) % 65_536
 
     def settle(self):
-        """Disarms all; opens, commits and closes each gateway."""
+        """Disarms all; opens, commits and closes each gateway, and writes its files."""
         for gateway in self.gateways:
-            gateway.armed = None
+            gateway.disarm()
         for gateway in self.gateways:
             if gateway.state == "down":
                 gateway.open(self.settings.reserve)
             self.commit(gateway)
             self.marks(gateway, True)
             self.commit(gateway)
+            self.write(gateway)
 
     def report(self):
+        """The files of each history, which are those on its shelf, and all counts."""
         for gateway in self.gateways:
-            self.written += files.file_lines(gateway.number, gateway.history, self.settings)
+            lines = files.file_lines(gateway.number, gateway.history, self.settings)
+            if lines != shelf.lines(gateway.number, gateway.files):
+                raise ValueError(f"the shelf of gateway {gateway.number} has other files")
+            self.written += lines
             self.say(feed.gateway_line(gateway.number, gateway.history))
         for number, node in enumerate(self.nodes, 1):
             self.say(f"node {number} packets {len(node.ever)} resolved {node.resolved} done {node.done}")
@@ -332,8 +365,10 @@ class World:
             gateway.open(self.settings.reserve)
         elif form == "stop":
             gateway.cut(gateway.history[: gateway.firm])
-        elif form in ("arm", "fail"):
-            gateway.armed = values[0], values[1] if form == "arm" else "fail"
+        elif form in ARMS:
+            gateway.armed[ARMS[form]] = values[0], values[1] if form.startswith("arm") else "fail"
+        elif form == "write":
+            self.write(gateway)
         elif form == "commit":
             self.commit(gateway)
         elif form in ("mark", "close"):
@@ -342,7 +377,8 @@ class World:
             self.redirect(gateway, *values)
 
 
-GATEWAY_LINES = ("mark", "close", "commit", "write", "redirect", "stop", "open", "arm", "fail")
+ARMS = {"arm": "area", "fail": "area", "armshelf": "shelf", "failshelf": "shelf"}
+GATEWAY_LINES = ("mark", "close", "commit", "write", "redirect", "stop", "open", *ARMS)
 
 
 def play(lines):
