@@ -1,8 +1,12 @@
--- A quiet area has no plan, and keeps no record.
-use Rattle.std.specs.Prelude.{[], false, true, None, ◌≡◌, IsTrue}
-use Rattle.area_disk.specs.Disk.{last_count}
+-- A quiet area has no plan, and keeps no record. It keeps its octets up to the last one that was written.
+use Rattle.std.specs.Prelude.{ℕ, List, [], ◌-◌, ◌++◌, length, false, true, None, ◌≡◌, IsTrue}
+use Rattle.area_disk.specs.Disk.{last_count, zeros}
 use Rattle.area_disk.specs.Plan.{Prospect}
 use Rattle.area_disk.specs.Record.{Moments, Room}
+
+-- these octets, and octets 0 behind them up to so many
+abbrev pub padded : ℕ → List ℕ → List ℕ
+padded n octets = octets ++ zeros (n - length octets)
 
 -- what an area tells that tells of no plan
 abbrev pub no_prospect : Prospect
