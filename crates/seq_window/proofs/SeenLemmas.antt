@@ -1,16 +1,15 @@
 -- What a window knows, restated.
-use Rattle.std.proofs.Common.{◌≡◌, ℕ, ◌+◌, ◌-◌, ◌<◌, ◌≤◌, max, ◌==◌, ◌||◌, Bool, true, false, if◌then◌else◌, nat_le, nat_lt, List, [], ◌∷◌, ◌++◌, length, slice_index_or, Option, Some, None, refl, sym, ap, ◌∙◌, inl, inr, arith}
+use Rattle.std.proofs.Common.{◌≡◌, ℕ, ◌+◌, ◌-◌, ◌<◌, ◌≤◌, max, ◌==◌, ◌||◌, Bool, true, false, if◌then◌else◌, nat_le, nat_lt, List, [], ◌∷◌, ◌++◌, slice_index_or, Option, Some, None, refl, sym, ap, subst, ◌∙◌, inl, inr, arith}
 use Rattle.std.specs.List.{list_any}
-use Rattle.std.specs.Prelude.{IfSome, slice_set}
-use Rattle.std.proofs.lemmas.Bool.{and_parts, and_right, cases_lt, eqb-true, eqb-false, false≢true, le-leb, leb-true, lt-leb, le-ltb, lt-ltb}
-use Rattle.std.proofs.lemmas.List.{get_or-set_same, get_or-set_other, length-set}
+use Rattle.std.specs.Prelude.{IfSome}
+use Rattle.std.proofs.lemmas.Bool.{and_parts, and_right, cases_lt, eq-eqb, eqb-true, eqb-false, ne_eqb, false≢true, le-leb, leb-true, lt-leb, le-ltb, lt-ltb}
 use Rattle.std.proofs.lemmas.List.Folds.{list_any-append}
 use Rattle.gw_base.specs.Lists.{raised}
 use Rattle.gw_base.specs.declared.key_state.KeyState.{KeyState}
 use Rattle.gw_base.specs.declared.key_state.KeyState.TheVariants.{Fresh}
 use Rattle.seq_window.specs.Seen.{Seen, is_within, moved_to, with_state, with_states, within}
 use Rattle.seq_window.specs.Stored.{HasCells, IsMovedUp, cell_below, cell_state, seen_of}
-use Rattle.seq_window.proofs.RingLemmas.{cell_inside, cells_apart}
+use Rattle.seq_window.proofs.RingLemmas.{cells_apart}
 
 pub same_seen : (one other : Seen) → one.top ≡ other.top → ((n : ℕ) → one.state n ≡ other.state n) → one ≡ other
 same_seen one other t s = λ i. record { top = t i; state = λ n. s n i }
@@ -41,6 +40,10 @@ new_is_above half (Some t) x n e f =
       | inl lt ↦ lt
       | inr le ↦ absurd (false≢true (sym f ∙ held_by_facts half t n (omega (arith, b.0)) le))
     ]
+
+-- the cell here was set, and no other changed
+abbrev pub IsSet : ℕ → KeyState → List KeyState → List KeyState → Type 0
+IsSet cell s old new = (k : ℕ) → slice_index_or new k Fresh ≡ (if cell == k then s else slice_index_or old k Fresh)
 
 -- ---- windows over windows
 
@@ -129,26 +132,22 @@ no_state_more half xs x s seen out = same_seen _ _ refl (λ n. at n (is_within h
 
 -- ---- the cells
 
-pub put_is : (half top at x : ℕ) (s : KeyState) (cells new : List KeyState) → length cells ≡ half + 1 → at < half + 1 → is_within half (Some top) x ≡ true
-    → new ≡ slice_set cells (cell_below (half + 1) at (top - x)) s
-    → within half (Some top) (cell_state (Some top) at new) ≡ with_state half x s (within half (Some top) (cell_state (Some top) at cells))
-put_is half top at x s cells new count inside held is = same_seen _ _ (sym (raised_held half (Some top) x held)) (λ n. by n ∙ back n)
+pub put_is : (half top at x : ℕ) (s : KeyState) (cells new : List KeyState) → at < half + 1 → is_within half (Some top) x ≡ true
+    → IsSet (cell_below (half + 1) at (top - x)) s cells new
+    → within half (Some top) (cell_state half (Some top) at new) ≡ with_state half x s (within half (Some top) (cell_state half (Some top) at cells))
+put_is half top at x s cells new inside held is = same_seen _ _ (sym (raised_held half (Some top) x held)) (λ n. go n (is_within half (Some top) n) (x == n) refl refl ∙ back n)
   where
-    same_count : length new ≡ half + 1
-    same_count = ap (λ (xs : List KeyState). length xs) is ∙ length-set cells (cell_below (half + 1) at (top - x)) s ∙ count
-
     x_facts : (top ≤ x + half) × (x ≤ top)
     x_facts = held_facts half top x held
 
     here : slice_index_or new (cell_below (half + 1) at (top - x)) Fresh ≡ s
-    here = ap (λ (xs : List KeyState). slice_index_or xs (cell_below (half + 1) at (top - x)) Fresh) is
-        ∙ get_or-set_same cells (cell_below (half + 1) at (top - x)) s Fresh (omega (arith, count, cell_inside (half + 1) at (top - x) inside (omega (arith, x_facts.0))))
+    here = is (cell_below (half + 1) at (top - x)) ∙ rw (eq-eqb (cell_below (half + 1) at (top - x)) (cell_below (half + 1) at (top - x)) refl) refl
 
     there : (n : ℕ) → top ≤ n + half → n ≤ top → (x ≡ n → ⊥) → slice_index_or new (cell_below (half + 1) at (top - n)) Fresh ≡ slice_index_or cells (cell_below (half + 1) at (top - n)) Fresh
-    there n a b ne = ap (λ (xs : List KeyState). slice_index_or xs (cell_below (half + 1) at (top - n)) Fresh) is
-        ∙ get_or-set_other cells (cell_below (half + 1) at (top - x)) (cell_below (half + 1) at (top - n)) s Fresh
-        (λ e. let same : top - n ≡ top - x = cells_apart (half + 1) at (top - n) (top - x) inside (omega (arith, a)) (omega (arith, x_facts.0)) e in
-        ne (omega (arith, same, b, x_facts.1)))
+    there n a b ne = is (cell_below (half + 1) at (top - n))
+        ∙ rw (ne_eqb (cell_below (half + 1) at (top - x)) (cell_below (half + 1) at (top - n))
+        (λ e. let same : top - x ≡ top - n = cells_apart (half + 1) at (top - x) (top - n) inside (omega (arith, x_facts.0)) (omega (arith, a)) e in
+        ne (omega (arith, same, b, x_facts.1)))) refl
 
     go : (n : ℕ) (w b : Bool) → is_within half (Some top) n ≡ w → (x == n) ≡ b
         → (if w then slice_index_or new (cell_below (half + 1) at (top - n)) Fresh else Fresh)
@@ -157,66 +156,54 @@ put_is half top at x s cells new count inside held is = same_seen _ _ (sym (rais
     go n true true e f = ap (λ (k : ℕ). slice_index_or new (cell_below (half + 1) at (top - k)) Fresh) (sym (eqb-true x n f)) ∙ here
     go n true false e f = let b = held_facts half top n e in there n b.0 b.1 (eqb-false x n f)
 
-    by : (n : ℕ) → (within half (Some top) (cell_state (Some top) at new)).state n
-        ≡ (if is_within half (Some top) n then (if x == n then s else (if is_within half (Some top) n then slice_index_or cells (cell_below (half + 1) at (top - n)) Fresh else Fresh)) else Fresh)
-    by n = ap (λ (k : ℕ). if is_within half (Some top) n then slice_index_or new (cell_below k at (top - n)) Fresh else Fresh) same_count
-        ∙ go n (is_within half (Some top) n) (x == n) refl refl
-
     back : (n : ℕ) → (if is_within half (Some top) n then (if x == n then s else (if is_within half (Some top) n then slice_index_or cells (cell_below (half + 1) at (top - n)) Fresh else Fresh)) else Fresh)
-        ≡ (with_state half x s (within half (Some top) (cell_state (Some top) at cells))).state n
-    back n = ap (λ (k : ℕ). if is_within half (Some top) n then (if x == n then s else (if is_within half (Some top) n then slice_index_or cells (cell_below k at (top - n)) Fresh else Fresh)) else Fresh) (sym count)
-        ∙ ap (λ (o : Option ℕ). if is_within half o n then (if x == n then s else (within half (Some top) (cell_state (Some top) at cells)).state n) else Fresh) (sym (raised_held half (Some top) x held))
+        ≡ (with_state half x s (within half (Some top) (cell_state half (Some top) at cells))).state n
+    back n = ap (λ (o : Option ℕ). if is_within half o n then (if x == n then s else (within half (Some top) (cell_state half (Some top) at cells)).state n) else Fresh) (sym (raised_held half (Some top) x held))
 
-pub moved_is : (half top x at new_at : ℕ) (cells new : List KeyState) → length cells ≡ half + 1 → top < x → IsMovedUp (x - top) at new_at cells new
-    → within half (Some x) (cell_state (Some x) new_at new) ≡ moved_to half x (within half (Some top) (cell_state (Some top) at cells))
-moved_is half top x at new_at cells new count up m = same_seen _ _ (λ i. Some (highest i)) (λ n. at_n n)
+pub moved_is : (half top x at new_at : ℕ) (cells new : List KeyState) → top < x → IsMovedUp (half + 1) (x - top) at new_at cells new
+    → within half (Some x) (cell_state half (Some x) new_at new) ≡ moved_to half x (within half (Some top) (cell_state half (Some top) at cells))
+moved_is half top x at new_at cells new up m = same_seen _ _ (λ i. Some (highest i)) (λ n. at_n n)
   where
     highest : x ≡ max top x
     highest = omega (arith, up)
 
-    read : (n : ℕ) → is_within half (Some x) n ≡ true → slice_index_or new (cell_below (length new) new_at (x - n)) Fresh
-        ≡ (if is_within half (Some top) n then slice_index_or cells (cell_below (length cells) at (top - n)) Fresh else Fresh)
+    old : ℕ → KeyState
+    old n = if is_within half (Some top) n then slice_index_or cells (cell_below (half + 1) at (top - n)) Fresh else Fresh
+
+    read : (n : ℕ) → is_within half (Some x) n ≡ true → slice_index_or new (cell_below (half + 1) new_at (x - n)) Fresh ≡ old n
     read n e =
         let b = held_facts half x n e in
-        ap (λ (k : ℕ). slice_index_or new (cell_below k new_at (x - n)) Fresh) m.count
-        ∙ m.cells (x - n) (omega (arith, b.0, count))
-        ∙ elim (cases_lt top n) as (λ z. (if nat_lt (x - n) (x - top) then Fresh else slice_index_or cells (cell_below (length cells) at (x - n - (x - top))) Fresh)
-        ≡ (if is_within half (Some top) n then slice_index_or cells (cell_below (length cells) at (top - n)) Fresh else Fresh)) [
+        m.cells (x - n) (omega (arith, b.0))
+        ∙ elim (cases_lt top n) as (λ z. (if nat_lt (x - n) (x - top) then Fresh else slice_index_or cells (cell_below (half + 1) at (x - n - (x - top))) Fresh)
+        ≡ (if is_within half (Some top) n then slice_index_or cells (cell_below (half + 1) at (top - n)) Fresh else Fresh)) [
           | inl lt ↦ rw (lt-ltb (x - n) (x - top) (omega (arith, lt, b.1, up)), not_held_above half top n lt) refl
           | inr le ↦ rw (le-ltb (x - n) (x - top) (omega (arith, le, up)), held_by_facts half top n (omega (arith, b.0, up)) le)
-              (ap (λ (k : ℕ). slice_index_or cells (cell_below (length cells) at k) Fresh) (omega (arith, le, up, b.1)))
+              (ap (λ (k : ℕ). slice_index_or cells (cell_below (half + 1) at k) Fresh) (omega (arith, le, up, b.1)))
         ]
 
-    old : ℕ → KeyState
-    old n = if is_within half (Some top) n then slice_index_or cells (cell_below (length cells) at (top - n)) Fresh else Fresh
-
-    go : (n : ℕ) (w : Bool) → is_within half (Some x) n ≡ w → (if w then slice_index_or new (cell_below (length new) new_at (x - n)) Fresh else Fresh) ≡ (if w then old n else Fresh)
+    go : (n : ℕ) (w : Bool) → is_within half (Some x) n ≡ w → (if w then slice_index_or new (cell_below (half + 1) new_at (x - n)) Fresh else Fresh) ≡ (if w then old n else Fresh)
     go n true e = read n e
     go n false e = refl
 
-    at_n : (n : ℕ) → (within half (Some x) (cell_state (Some x) new_at new)).state n ≡ (moved_to half x (within half (Some top) (cell_state (Some top) at cells))).state n
+    at_n : (n : ℕ) → (within half (Some x) (cell_state half (Some x) new_at new)).state n ≡ (moved_to half x (within half (Some top) (cell_state half (Some top) at cells))).state n
     at_n n = go n (is_within half (Some x) n) refl ∙ ap (λ (k : ℕ). if is_within half (Some k) n then old n else Fresh) highest
 
 -- ---- what is stored
 
-pub put_stored : (half top : ℕ) (o : Option ℕ) (at cell x : ℕ) (s : KeyState) (cells : List KeyState) → o ≡ Some top → HasCells half o at cells → is_within half o x ≡ true
-    → cell ≡ cell_below (half + 1) at (top - x)
-    → seen_of half (record { top = o; at = at; cells = slice_set cells cell s }) ≡ with_state half x s (seen_of half (record { top = o; at = at; cells = cells }))
-put_stored half top None at cell x s cells e has held is = absurd (false≢true held)
-put_stored half top (Some t) at cell x s cells e has held is =
+pub put_stored : (half top : ℕ) (o : Option ℕ) (at cell x : ℕ) (s : KeyState) (cells new : List KeyState) → o ≡ Some top → HasCells half o at cells → is_within half o x ≡ true
+    → cell ≡ cell_below (half + 1) at (top - x) → IsSet cell s cells new
+    → seen_of half (record { top = o; at = at; cells = new }) ≡ with_state half x s (seen_of half (record { top = o; at = at; cells = cells }))
+put_stored half top None at cell x s cells new e has held is set = absurd (false≢true held)
+put_stored half top (Some t) at cell x s cells new e has held is set =
     let same : t ≡ top = cc in
-    put_is half t at x s cells (slice_set cells cell s) has.0 has.1 held (ap (λ (k : ℕ). slice_set cells k s) (is ∙ ap (λ (k : ℕ). cell_below (half + 1) at (k - x)) (sym same)))
+    put_is half t at x s cells new has.1 held (subst (λ (k : ℕ). IsSet k s cells new) (is ∙ ap (λ (k : ℕ). cell_below (half + 1) at (k - x)) (sym same)) set)
 
-pub moved_stored : (half top : ℕ) (o : Option ℕ) (at new_at x : ℕ) (cells new : List KeyState) → o ≡ Some top → HasCells half o at cells → top < x → IsMovedUp (x - top) at new_at cells new
+pub moved_stored : (half top : ℕ) (o : Option ℕ) (at new_at x : ℕ) (cells new : List KeyState) → o ≡ Some top → top < x → IsMovedUp (half + 1) (x - top) at new_at cells new
     → seen_of half (record { top = Some x; at = new_at; cells = new }) ≡ moved_to half x (seen_of half (record { top = o; at = at; cells = cells }))
-moved_stored half top None at new_at x cells new e has up m = absurd (cc)
-moved_stored half top (Some t) at new_at x cells new e has up m =
+moved_stored half top None at new_at x cells new e up m = absurd (cc)
+moved_stored half top (Some t) at new_at x cells new e up m =
     let same : t ≡ top = cc in
-    moved_is half t x at new_at cells new has.0 (omega (arith, same, up)) (record {
-      count = m.count;
-      inside = m.inside;
-      cells = λ below lt. m.cells below lt ∙ ap (λ (k : ℕ). if nat_lt below (x - k) then Fresh else slice_index_or cells (cell_below (length cells) at (below - (x - k))) Fresh) (sym same);
-    })
+    moved_is half t x at new_at cells new (omega (arith, same, up)) (subst (λ (k : ℕ). IsMovedUp (half + 1) (x - k) at new_at cells new) (sym same) m)
 
 -- ---- one number more of a list
 

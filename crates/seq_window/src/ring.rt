@@ -1,5 +1,5 @@
 // The cells of a window, one after the other in a ring.
-ghost use Rattle.std.specs.Prelude.{◌≡◌, ℕ, ◌+◌, ◌-◌, ◌^◌, ◌<◌, ◌≤◌, ◌&&◌, if◌then◌else◌, length, nat_le, nat_lt, replicate, slice_index_or, vec_capacity};
+ghost use Rattle.std.specs.Prelude.{◌≡◌, ℕ, ◌+◌, ◌-◌, ◌^◌, ◌<◌, ◌≤◌, ◌==◌, ◌&&◌, if◌then◌else◌, length, max, nat_le, nat_lt, slice_index_or, vec_capacity};
 ghost use Rattle.gw_base.specs.declared.key_state.KeyState.TheVariants.{Fresh};
 ghost use Rattle.seq_window.specs.Stored.{IsMovedUp, cell_below};
 
@@ -20,8 +20,49 @@ pub(crate) fn cell_below(count: usize, at: usize, below: usize) -> usize
     }
 }
 
-// Makes the cells of a part fresh.
-fn freshen(cells: &mut [KeyState], from: usize, to: usize)
+/// What the cell here says, which is fresh where it isn't stored.
+#[tactic(auto, using(crate::proofs::RingLemmas::fresh_behind))]
+pub(crate) fn cell_at(cells: &[KeyState], at: usize) -> KeyState
+    ensures { result ≡ slice_index_or cells.now at Fresh }
+{
+    if at >= cells.len() {
+        return KeyState::Fresh;
+    }
+    cells[at]
+}
+
+// Stores so many cells, for which there is memory.
+#[tactic(auto, using(crate::proofs::RingLemmas::reached))]
+fn reach(cells: &mut Vec<KeyState>, count: usize)
+    requires { count ≤ vec_capacity cells.old }
+    ensures cells { (k : ℕ) → slice_index_or cells.new.items k Fresh ≡ slice_index_or cells.old.items k Fresh }
+    ensures length { length cells.new.items ≡ max (length cells.old.items) count }
+    ensures capacity { vec_capacity cells.old ≤ vec_capacity cells.new }
+{
+    if cells.len() >= count {
+        return;
+    }
+    match cells.resize(count, KeyState::Fresh) {
+        Ok(()) => {}
+        Err(_) => unreachable!(),
+    }
+}
+
+/// Sets the cell here, for which there is memory.
+pub(crate) fn set_cell(cells: &mut Vec<KeyState>, at: usize, state: KeyState)
+    requires small { at < 2 ^ 63 }
+    requires memory { at < vec_capacity cells.old }
+    ensures cells { (k : ℕ) → slice_index_or cells.new.items k Fresh ≡
+        (if at == k then state else slice_index_or cells.old.items k Fresh) }
+    ensures length { length cells.new.items ≡ max (length cells.old.items) (at + 1) }
+    ensures capacity { vec_capacity cells.old ≤ vec_capacity cells.new }
+{
+    reach(cells, at + 1);
+    cells[at] = state;
+}
+
+// Makes the stored cells of a part fresh.
+fn freshen_part(cells: &mut [KeyState], from: usize, to: usize)
     requires { (from ≤ to) × (to ≤ length cells.old) }
     ensures length { length cells.new ≡ length cells.old }
     ensures cells { (k : ℕ) → slice_index_or cells.new k Fresh ≡
@@ -32,14 +73,25 @@ fn freshen(cells: &mut [KeyState], from: usize, to: usize)
     }
 }
 
-/// Takes in so many numbers above the greatest one, whose cell is at `at`, and says where the cell of the last of them
-/// is.
-pub(crate) fn move_up(cells: &mut [KeyState], at: usize, by: u64) -> usize
-    requires at { at < length cells.old }
-    requires small { length cells.old < 2 ^ 63 }
-    ensures { IsMovedUp by at result cells.old cells.new }
+// Makes the cells of a part fresh.
+fn freshen(cells: &mut [KeyState], from: usize, to: usize)
+    ensures length { length cells.new ≡ length cells.old }
+    ensures cells { (k : ℕ) → slice_index_or cells.new k Fresh ≡
+        (if nat_le from k && nat_lt k to then Fresh else slice_index_or cells.old k Fresh) }
 {
-    let count = cells.len();
+    let end = to.min(cells.len());
+    if from < end {
+        freshen_part(cells, from, end);
+    }
+}
+
+/// Takes in so many numbers above the greatest one, whose cell is at `at` in a ring of `count` cells, and says where
+/// the cell of the last of them is.
+pub(crate) fn move_up(cells: &mut [KeyState], count: usize, at: usize, by: u64) -> usize
+    requires at { at < count }
+    requires small { count < 2 ^ 63 }
+    ensures { IsMovedUp count by at result cells.old cells.new }
+{
     if by >= count as u64 {
         freshen(cells, 0, count);
         return at;
@@ -52,19 +104,6 @@ pub(crate) fn move_up(cells: &mut [KeyState], at: usize, by: u64) -> usize
     freshen(cells, at + 1, count);
     freshen(cells, 0, end - count + 1);
     end - count
-}
-
-/// Makes so many cells, for which there is memory, all of them fresh.
-pub(crate) fn begin(cells: &mut Vec<KeyState>, count: usize)
-    requires { count ≤ vec_capacity cells.old }
-    ensures cells { cells.new.items ≡ replicate count Fresh }
-    ensures capacity { vec_capacity cells.old ≤ vec_capacity cells.new }
-{
-    cells.clear();
-    match cells.resize(count, KeyState::Fresh) {
-        Ok(()) => {}
-        Err(_) => unreachable!(),
-    }
 }
 
 /// Makes the cells those of another ring, for which there is memory.

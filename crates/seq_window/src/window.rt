@@ -4,20 +4,21 @@ ghost use Rattle.gw_base.specs.Nearest.{nearest};
 ghost use Rattle.seq_window.specs.Seen.{is_within, moved_to, nothing_seen, with_state, with_states};
 ghost use Rattle.seq_window.specs.Stored.{seen_of};
 
-use crate::ring::{begin, cell_below, copy, move_up};
+use crate::ring::{cell_at, cell_below, copy, move_up, set_cell};
 use gw_base::{Absolute, KeyState, NoMemory, nearest_number};
 use std::alloc::Global;
 use std::marker::Model;
 
 /// The states of a node's request numbers in its present epoch, from `HALF` below the greatest one up to it.
 ///
-/// Each of them takes an octet. They are reserved as the window is made, and are first touched as the first number is
-/// set.
+/// Each of them takes an octet. They are reserved as the window is made, and are first touched as their numbers are set:
+/// a window of few numbers in ascending order touches few.
 #[derive(Drop)]
 pub struct Window<const HALF: usize> {
     top: Option<Absolute>,
     // The cell of the greatest number.
     at: usize,
+    // The cells up to the last one that was set. Those behind it are fresh.
     cells: Vec<KeyState>,
 }
 
@@ -88,7 +89,7 @@ impl<const HALF: usize> Window<HALF> {
         if below > HALF as u64 {
             return KeyState::Fresh;
         }
-        self.cells[cell_below(HALF + 1, self.at, below as usize)]
+        cell_at(&self.cells, cell_below(HALF + 1, self.at, below as usize))
     }
 
     // Makes a number that isn't below the window one that it holds.
@@ -97,13 +98,12 @@ impl<const HALF: usize> Window<HALF> {
         ensures { seen_of HALF self.new ≡ moved_to HALF number (seen_of HALF self.old) }
     {
         let Some(top) = self.top else {
-            begin(&mut self.cells, HALF + 1);
             self.at = 0;
             self.top = Some(number);
             return;
         };
         if top < number {
-            self.at = move_up(&mut self.cells, self.at, number - top);
+            self.at = move_up(&mut self.cells, HALF + 1, self.at, number - top);
             self.top = Some(number);
         }
     }
@@ -117,7 +117,7 @@ impl<const HALF: usize> Window<HALF> {
             return;
         };
         let cell = cell_below(HALF + 1, self.at, (top - number) as usize);
-        self.cells[cell] = state;
+        set_cell(&mut self.cells, cell, state);
     }
 
     /// Gives a state to a number that isn't below the window. One above it moves the window up, however far.

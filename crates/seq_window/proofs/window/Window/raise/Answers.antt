@@ -7,9 +7,9 @@ use Rattle.seq_window.proofs.window.Window.raise.Goals as goal
 
 pub returns-then-top-number : goal.returns-then-top-number
 returns-then-top-number g c =
-    let m : IsMovedUp _ _ _ c.self.inside.cells.items _ = rw c.deref_mut.ensures.value at c.move_up-self-inside.ensures in
+    let m : IsMovedUp _ _ _ _ c.self.inside.cells.items _ = rw c.deref_mut.ensures.value at c.move_up-self-inside.ensures in
     rw (← c.self.view_is)
     (ap (λ (xs : List KeyState). seen_of g.row.HALF (record { top = Some c.args.number; at = c.move_up-self-inside.result; cells = xs }))
-    (with_items_is c.self.inside.cells c.move_up-self-inside.new.cells (m.count ∙ sym c.self.inside.cells.ok.0))
+    (with_items_is c.self.inside.cells c.move_up-self-inside.new.cells (m.length ∙ sym c.self.inside.cells.ok.0))
     ∙ moved_stored g.row.HALF c.in-Some.top c.self.inside.top c.self.inside.at c.move_up-self-inside.result c.args.number c.self.inside.cells.items _
-    c.in-Some.is c.self.invariant.2 c.if-top-number.true m)
+    c.in-Some.is c.if-top-number.true m)

@@ -1,5 +1,5 @@
-use Rattle.std.proofs.Common.{ℕ, List, ap, sym, ◌∙◌, take}
-use Rattle.std.proofs.lemmas.List.{take_more}
+use Rattle.std.proofs.Common.{ℕ, List, ap, sym, ◌∙◌, take, arith}
+use Rattle.std.proofs.lemmas.List.{take_all, take_more}
 use Rattle.seq_window.specs.Seen.{with_states}
 use Rattle.seq_window.specs.Stored.{seen_of}
 use Rattle.seq_window.proofs.SeenLemmas.{none_after, one_after}
@@ -18,3 +18,8 @@ loop-number-preserved g c =
           c.loop-number.invariant (sym c.holds.ensures ∙ w.if-holds.false)
           ∙ ap (λ (ys : List ℕ). with_states g.row.HALF ys c.args.state (seen_of g.row.HALF c.args.self.now)) (sym longer))
     ]
+
+pub returns : goal.returns
+returns g c =
+    c.loop-number.invariant
+    ∙ ap (λ (ys : List ℕ). with_states g.row.HALF ys c.args.state (seen_of g.row.HALF c.args.self.now)) (take_all c.loop-number.number-index c.args.numbers.now (omega arith))
