@@ -19,7 +19,7 @@ use Rattle.cgf_journal.proofs.Placing.{places_behind-push}
 use Rattle.cgf_journal.proofs.Tallies.{tally_all, tally_of-costs}
 
 -- the last of some batches is entries
-last_content : (some : List (List ℕ)) (batch : List ℕ) → All IsContent (some ++ batch ∷ []) → IsContent batch
+pub last_content : (some : List (List ℕ)) (batch : List ℕ) → All IsContent (some ++ batch ∷ []) → IsContent batch
 last_content some batch all =
     All-head IsContent batch [] (subst (λ (l : List (List ℕ)). All IsContent l) (drop_at some (batch ∷ []) (length some) refl) (All-drop IsContent (length some) (some ++ batch ∷ []) all))
 

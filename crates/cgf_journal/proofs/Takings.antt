@@ -2,15 +2,13 @@
 use Rattle.std.proofs.Common.{◌≡◌, ◌≢◌, ℕ, suc, ◌+◌, ◌*◌, ◌≤◌, ◌==◌, true, false, List, [], ◌∷◌, ◌++◌, length, drop, refl, sym, ap, subst, ◌∙◌, arith, append_assoc}
 use Rattle.std.proofs.lemmas.Bool.{eqb-false, eqb-true}
 use Rattle.std.proofs.lemmas.List.{append-nil, length-append, take-append-drop}
-use Rattle.std.proofs.lemmas.List.Elements.{All-head}
 use Rattle.gw_base.specs.declared.history.HistoryEntry.{HistoryEntry}
 use Rattle.gw_base.specs.declared.place.Place.{Place}
-use Rattle.entry_codec.specs.Content.{AreEntries, IsContent, entries_of, spelled}
-use Rattle.entry_codec.specs.Fault.{BeginsWith}
+use Rattle.entry_codec.specs.Content.{AreEntries, entries_of, spelled}
 use Rattle.entry_codec.specs.Room.{costs_of}
-use Rattle.entry_codec.specs.Spelling.{HasSpelling, entry_length, spelling}
-use Rattle.entry_codec.specs.LawTypes.{EntriesAreReadBack, EntriesDivide}
-use Rattle.entry_codec.specs.Laws.{costs_of-spelled, length_of_spelling, more_entries, no_entries, one_entry}
+use Rattle.entry_codec.specs.Spelling.{entry_length, spelling}
+use Rattle.entry_codec.specs.LawTypes.{EntriesAreReadBack}
+use Rattle.entry_codec.specs.Laws.{length_of_spelling, more_entries, no_entries, one_entry}
 use Rattle.cgf_journal.specs.Contents.{IsTakenIn}
 use Rattle.cgf_journal.specs.Reserved.{Placed}
 use Rattle.cgf_journal.specs.Sound.{places_from}
@@ -102,8 +100,6 @@ pub record IsAllTaken (content : List ℕ) (start : ℕ) (before places : List P
   pub are_entries : AreEntries content (entries_of content)
   pub placed : places ≡ before ++ places_from start (entries_of content)
   pub counted : tally ≡ record { firm = old.firm; live = tally_behind_all old.live (entries_of content); reserved = old.reserved }
-  pub costs : tally.live.costs ≡ old.live.costs + length content + 5 * length (entries_of content)
-  pub count : length places ≡ length before + length (entries_of content)
 
 pub all_taken : EntriesAreReadBack → (content rest : List ℕ) (start at : ℕ) (before places : List Place) (old tally : Tallies) → AreTaken content rest start at before places old tally
     → rest ≡ [] → IsAllTaken content start before places old tally
@@ -111,26 +107,11 @@ all_taken back content rest start at before places old tally so_far end =
     let whole : content ≡ so_far.front = so_far.parts ∙ ap (λ (o : List ℕ). so_far.front ++ o) end ∙ append-nil so_far.front in
     let are : AreEntries content so_far.entries = subst (λ (o : List ℕ). AreEntries o so_far.entries) (sym whole) so_far.are_entries in
     let those : so_far.entries ≡ entries_of content = sym (back content so_far.entries are) in
-    let many : length so_far.entries ≡ length (entries_of content) = ap (λ (h : List HistoryEntry). length h) those in
     record {
       are_entries = subst (λ (h : List HistoryEntry). AreEntries content h) those are;
       placed = so_far.placed ∙ ap (λ (h : List HistoryEntry). before ++ places_from start h) those;
       counted = so_far.counted ∙ λ i. record { firm = old.firm; live = tally_behind_all old.live (those i); reserved = old.reserved };
-      costs = omega (arith, many, ap (λ (t : Tallies). t.live.costs) so_far.counted, tally_all-costs old.live so_far.entries, costs_of-spelled so_far.entries, ap (λ (o : List ℕ). length o) are.spelling);
-      count = omega (arith, many, ap (λ (ps : List Place). length ps) so_far.placed, length-append before (places_from start so_far.entries), length-places_from start so_far.entries);
     }
-
--- a rest that begins with no entry refuses the content
-pub rest_refuses : EntriesDivide → (content rest : List ℕ) (start at : ℕ) (before places : List Place) (old tally : Tallies) → AreTaken content rest start at before places old tally
-    → rest ≢ [] → ((e : HistoryEntry) → BeginsWith rest e → ⊥) → IsContent content → ⊥
-rest_refuses divide content rest start at before places old tally so_far some none is =
-    let whole : AreEntries (so_far.front ++ rest) (entries_of content) = subst (λ (o : List ℕ). AreEntries o (entries_of content)) so_far.parts is.are_entries in
-    let others = divide so_far.front rest so_far.entries (entries_of content) so_far.are_entries whole in
-    begins others.0 others.2
-  where
-    begins : (g : List HistoryEntry) → AreEntries rest g → ⊥
-    begins [] are = some are.spelling
-    begins (e ∷ g) are = none e (All-head HasSpelling e g are.each, (spelled g, are.spelling))
 
 -- ---- tests of emptiness
 

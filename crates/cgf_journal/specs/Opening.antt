@@ -1,10 +1,10 @@
 -- How far an opening has come: which batches it has taken in, and where it finds one that isn't whole.
-use Rattle.std.specs.Prelude.{◌≡◌, ◌≢◌, ℕ, ◌*◌, ◌≤◌, min, IsTrue, Bool, List, [], ◌∷◌, ◌++◌, length, Result, Err}
+use Rattle.std.specs.Prelude.{◌≡◌, ◌≢◌, ℕ, ◌≤◌, IsTrue, Bool, List, [], ◌∷◌, ◌++◌, length, Result, Err}
 use Rattle.area_disk.specs.Disk.{Rose}
 use Rattle.area_disk.specs.declared.area.Area.{Ghosts}
 use Rattle.gw_base.specs.declared.history.HistoryEntry.{HistoryEntry}
 use Rattle.gate_journal.specs.Before.{AreBefore}
-use Rattle.gate_journal.specs.Format.{end_of, header_length, longest_batch}
+use Rattle.gate_journal.specs.Format.{end_of, header_length}
 use Rattle.gate_journal.specs.Moments.{Told}
 use Rattle.gate_journal.specs.declared.faults.OpenFault.{OpenFault}
 use Rattle.gate_journal.specs.declared.faults.OpenFault.TheVariants.{Device}
@@ -50,11 +50,6 @@ pub record AreListedBefore (tells_octets : Bool) (octets : List ℕ) (at : ℕ) 
   pub header : List ℕ
   pub long : length header ≡ header_length
   pub before : AreBefore header octets at all
-
--- buffers of so many octets and so many numbers have room for each batch of an area of this size
-pub record AreBuffers (size octets numbers : ℕ) : Type 0 where
-  pub content : octets ≡ min longest_batch size
-  pub entries : octets ≤ 8 * numbers
 
 -- The count of faults rose where the answer is `Device` and nowhere else; it never falls.
 pub record ListingCause {T : Type 0} (before now : ℕ) (result : Result T OpenFault) : Type 0 where

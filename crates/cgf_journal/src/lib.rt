@@ -15,7 +15,6 @@ mod contents;
 mod drill;
 mod faults;
 mod judge;
-mod judging;
 mod kept;
 mod key;
 pub mod laws;

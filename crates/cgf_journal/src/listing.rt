@@ -1,25 +1,23 @@
 // The batches that an opening finds, taken in one after the other.
-ghost use Rattle.std.specs.Prelude.{vec_len, ◌≡◌, ◌≢◌, ℕ, ◌+◌, ◌*◌, ◌<◌, ◌≤◌, min, IsTrue, false, List, [], ◌∷◌, ◌++◌, length, Ok, Err, OnOk, OnErr, IfOk};
-ghost use Rattle.gate_journal.specs.Format.{end_of, fewest_octets, longest_batch, most_octets};
+ghost use Rattle.std.specs.Prelude.{vec_len, ◌≡◌, ◌≢◌, ℕ, ◌+◌, ◌*◌, ◌<◌, ◌≤◌, IsTrue, false, List, [], ◌∷◌, ◌++◌, length, Ok, Err, OnOk, OnErr, IfOk};
+ghost use Rattle.gate_journal.specs.Format.{end_of, fewest_octets, most_octets};
 ghost use Rattle.gate_journal.specs.Journal.{IsSettled, area_of, batches, end, is_closed};
 ghost use Rattle.gate_journal.specs.Kept.{IsKept};
 ghost use Rattle.gate_journal.specs.Moments.{Kept, Told};
 ghost use Rattle.gate_journal.specs.Planned.{ReadsRun};
 ghost use Rattle.entry_codec.specs.Room.{capacity_of};
-ghost use Rattle.entry_codec.specs.Content.{IsContent};
 ghost use Rattle.cgf_journal.specs.Fit.{AreFit};
-ghost use Rattle.cgf_journal.specs.Format.{AreBatches, entries_in};
+ghost use Rattle.cgf_journal.specs.Format.{entries_in};
 ghost use Rattle.cgf_journal.specs.Judged.{IsJudged};
-ghost use Rattle.cgf_journal.specs.Opening.{AreBuffers, AreListed, AreListedBefore, AreTakenIn, BreaksAt, IsTakenUpTo, ListingCause};
+ghost use Rattle.cgf_journal.specs.Opening.{AreListed, AreListedBefore, AreTakenIn, BreaksAt, IsTakenUpTo, ListingCause};
 
 use crate::contents::take_in;
 use crate::judge::Judge;
-use crate::judging::judge_all;
 use crate::places::Places;
 use crate::tally::Tally;
 use area_disk::Area;
 use entry_codec::capacity;
-use gate_journal::{Device, Journal, LONGEST_BATCH, OpenFault, batch_before, read_before};
+use gate_journal::{Device, Journal, OpenFault, batch_before, read_before};
 use gw_base::NoMemory;
 use std::alloc::Global;
 
@@ -29,13 +27,27 @@ const CHEAPEST: usize = 30;
 /// What a Hold costs at least.
 const CHEAPEST_HOLD: usize = 42;
 
-/// A buffer for the content of each batch of an area of this size.
-pub(crate) fn content_for(alloc: Global, size: u64) -> Result<Vec<u8>, NoMemory>
-    requires { size ≤ most_octets }
-    ensures { IfOk result (λ content. vec_len content ≡ min longest_batch size) }
+// Makes a buffer long enough for the content of a batch.
+fn lengthen(content: &mut Vec<u8>, length: usize) -> Result<(), NoMemory>
+    ensures { OnOk result (length ≤ vec_len content.new) }
 {
-    let longest = size.min(LONGEST_BATCH as u64);
-    Ok(vec![in alloc; 0; longest as usize]?)
+    if content.len() >= length {
+        return Ok(());
+    }
+    content.resize(length, 0)?;
+    Ok(())
+}
+
+// Makes a list long enough for the numbers that an entry of a batch may name.
+fn lengthen_numbers(numbers: &mut Vec<u64>, length: usize) -> Result<(), NoMemory>
+    ensures { OnOk result (length ≤ 8 * vec_len numbers.new) }
+{
+    let count = length / 8 + 1;
+    if numbers.len() >= count {
+        return Ok(());
+    }
+    numbers.resize(count, 0)?;
+    Ok(())
 }
 
 /// What an opening has taken in.
@@ -48,58 +60,20 @@ pub(crate) struct Listing {
 }
 
 impl Listing {
-    /// A listing that has taken in nothing, for batches of at most so many octets of an area of this size. Memory is
-    /// reserved for the places of all entries and keys that the area has room for.
-    pub(crate) fn new(alloc: Global, longest: usize, size: u64) -> Result<Listing, NoMemory>
+    /// A listing that has taken in nothing. Memory is reserved for the places of all entries and keys that an area of
+    /// this size has room for.
+    pub(crate) fn new(alloc: Global, size: u64) -> Result<Listing, NoMemory>
         requires { size ≤ most_octets }
-        ensures numbers { IfOk result (λ listing. longest ≤ 8 * vec_len listing.numbers) }
-        ensures taken { IfOk result (λ listing. AreTakenIn size 32 [] listing.places listing.tally) }
+        ensures { IfOk result (λ listing. AreTakenIn size 32 [] listing.places listing.tally) }
     {
         let capacity = capacity(size) as usize;
         Ok(Listing {
-            numbers: vec![in alloc; 0; longest / 8 + 1]?,
+            numbers: Vec::new(alloc),
             places: Places::reserve(alloc, capacity / CHEAPEST)?,
             tally: Tally::reserve(alloc, capacity / CHEAPEST_HOLD)?,
         })
     }
 
-    // Takes in the batch behind this gate, which has this content, and answers the next gate.
-    fn take(&mut self, gate: u64, content: &[u8], size: u64) -> Result<u64, OpenFault>
-        requires long { fewest_octets ≤ size }
-        requires short { size ≤ most_octets }
-        requires inside { gate + 5 + length content.now ≤ size }
-        requires numbers { length content.now ≤ 8 * vec_len self.old.numbers }
-        requires costs { self.old.tally.live.costs ≤ capacity_of size }
-
-        ensures next { IfOk result (λ next. next ≡ gate + 5 + length content.now) }
-        ensures taken { (some : List (List ℕ)) → AreTakenIn size gate some self.old.places self.old.tally →
-            OnOk result (AreTakenIn size (gate + 5 + length content.now) (some ++ content.now ∷ [])
-            self.new.places self.new.tally) }
-        ensures unfit { (some : List (List ℕ)) → AreTakenIn size gate some self.old.places self.old.tally →
-            (at : ℕ) → result ≡ Err (OpenFault.NotOurs at) →
-            (at ≡ gate) × (AreBatches size (some ++ content.now ∷ []) → ⊥) }
-        ensures content { OnOk result (IsContent content.now) }
-        ensures device { result ≢ Err OpenFault.Device }
-        ensures numbers { vec_len self.new.numbers ≡ vec_len self.old.numbers }
-    {
-        let at = gate + 5;
-        match take_in(
-            content,
-            at,
-            &mut self.numbers,
-            &mut self.places,
-            &mut self.tally,
-        ) {
-            Ok(true) => {
-                if capacity(size) < self.tally.costs() {
-                    return Err(OpenFault::NotOurs { at: gate });
-                }
-                Ok(at + content.len() as u64)
-            }
-            Ok(false) => Err(OpenFault::NotOurs { at: gate }),
-            Err(NoMemory) => Err(OpenFault::NoMemory),
-        }
-    }
     // Takes in the batch behind this gate, which has this content and whose entries are fit, and answers the next gate.
     fn take_fit<J: Judge>(
         &mut self,
@@ -125,11 +99,23 @@ impl Listing {
             (at : ℕ) → result ≡ Err (OpenFault.NotOurs at) → (at ≡ gate) ×
             (AreFit J.fits size (some ++ content.now ∷ []) → ⊥) }
         ensures device { result ≢ Err OpenFault.Device }
-        ensures numbers { vec_len self.new.numbers ≡ vec_len self.old.numbers }
     {
-        let next = self.take(gate, content, size)?;
-        match judge_all(judge, content, size, &mut self.numbers) {
-            Ok(true) => Ok(next),
+        let at = gate + 5;
+        match take_in(
+            judge,
+            content,
+            at,
+            size,
+            &mut self.numbers,
+            &mut self.places,
+            &mut self.tally,
+        ) {
+            Ok(true) => {
+                if capacity(size) < self.tally.costs() {
+                    return Err(OpenFault::NotOurs { at: gate });
+                }
+                Ok(at + content.len() as u64)
+            }
             Ok(false) => Err(OpenFault::NotOurs { at: gate }),
             Err(NoMemory) => Err(OpenFault::NoMemory),
         }
@@ -141,7 +127,7 @@ fn take_next<A: Area, J: Judge>(
     journal: &mut Journal<A>,
     gate: u64,
     size: u64,
-    content: &mut [u8],
+    content: &mut Vec<u8>,
     listing: &mut Listing,
     judge: &mut J,
 ) -> Result<u64, OpenFault>
@@ -154,7 +140,6 @@ fn take_next<A: Area, J: Judge>(
     requires inside { gate < end journal.old }
     requires taken { IsTakenUpTo (AreListed A.Area (batches journal.old)) (IsJudged J.Judge size judge.old)
         size gate listing.old.places listing.old.tally }
-    requires buffers { AreBuffers size (length content.old) (vec_len listing.old.numbers) }
 
     ensures next { IfOk result (λ next. (gate < next) × (next ≤ end journal.old)) }
     ensures taken { IfOk result (λ next.
@@ -162,7 +147,6 @@ fn take_next<A: Area, J: Judge>(
         size next listing.new.places listing.new.tally) }
     ensures breaks { Told A.Area → (at : ℕ) → result ≡ Err (OpenFault.NotOurs at) →
         BreaksAt (AreFit J.fits size) (batches journal.old) at }
-    ensures numbers { OnOk result (vec_len listing.new.numbers ≡ vec_len listing.old.numbers) }
     ensures kept { IsKept journal.old journal.new }
     ensures cause { ListingCause (A.faults (area_of journal.old)) (A.faults (area_of journal.new)) result }
     ensures runs { IsTrue A.tells_fate → ReadsRun (A.fate (area_of journal.old)).schedule →
@@ -173,6 +157,12 @@ fn take_next<A: Area, J: Judge>(
     };
     let Some((place, length)) = found else {
         return Err(OpenFault::NotOurs { at: gate });
+    };
+    let Ok(()) = lengthen(content, length as usize) else {
+        return Err(OpenFault::NoMemory);
+    };
+    let Ok(()) = lengthen_numbers(&mut listing.numbers, length as usize) else {
+        return Err(OpenFault::NoMemory);
     };
     let content = &mut content[..length as usize];
     let Ok(()) = journal.read(place, content) else {
@@ -187,7 +177,7 @@ fn take_next<A: Area, J: Judge>(
 pub(crate) fn list<A: Area, J: Judge>(
     journal: &mut Journal<A>,
     size: u64,
-    content: &mut [u8],
+    content: &mut Vec<u8>,
     listing: &mut Listing,
     judge: &mut J,
 ) -> Result<(), OpenFault>
@@ -198,7 +188,6 @@ pub(crate) fn list<A: Area, J: Judge>(
     requires short { size ≤ most_octets }
     requires taken { AreTakenIn size 32 [] listing.old.places listing.old.tally }
     requires follows { J.follows judge.old [] }
-    requires buffers { AreBuffers size (length content.old) (vec_len listing.old.numbers) }
 
     ensures taken { OnOk result (IsTakenUpTo (AreListed A.Area (batches journal.old))
         (IsJudged J.Judge size judge.new) size (end journal.old) listing.new.places listing.new.tally) }
@@ -224,7 +213,7 @@ fn take_before<A: Area, J: Judge>(
     gate: u64,
     end: u64,
     size: u64,
-    content: &mut [u8],
+    content: &mut Vec<u8>,
     listing: &mut Listing,
     judge: &mut J,
 ) -> Result<u64, OpenFault>
@@ -234,7 +223,6 @@ fn take_before<A: Area, J: Judge>(
     requires inside { gate < end }
     requires taken { IsTakenUpTo (AreListedBefore A.tells_octets (A.octets area.old) end)
         (IsJudged J.Judge size judge.old) size gate listing.old.places listing.old.tally }
-    requires buffers { AreBuffers size (length content.old) (vec_len listing.old.numbers) }
 
     ensures next { IfOk result (λ next. (gate < next) × (next ≤ end)) }
     ensures taken { IfOk result (λ next.
@@ -242,7 +230,6 @@ fn take_before<A: Area, J: Judge>(
         size next listing.new.places listing.new.tally) }
     ensures breaks { (all : List (List ℕ)) → AreListedBefore A.tells_octets (A.octets area.old) end all → (at : ℕ) →
         result ≡ Err (OpenFault.NotOurs at) → BreaksAt (AreFit J.fits size) all at }
-    ensures numbers { OnOk result (vec_len listing.new.numbers ≡ vec_len listing.old.numbers) }
     ensures kept { Kept A.Area area.old area.new }
     ensures cause { ListingCause (A.faults area.old) (A.faults area.new) result }
     ensures runs { IsTrue A.tells_fate → ReadsRun (A.fate area.old).schedule → result ≢ Err OpenFault.Device }
@@ -252,6 +239,12 @@ fn take_before<A: Area, J: Judge>(
     };
     let Some((place, length)) = found else {
         return Err(OpenFault::NotOurs { at: gate });
+    };
+    let Ok(()) = lengthen(content, length as usize) else {
+        return Err(OpenFault::NoMemory);
+    };
+    let Ok(()) = lengthen_numbers(&mut listing.numbers, length as usize) else {
+        return Err(OpenFault::NoMemory);
     };
     let content = &mut content[..length as usize];
     let Ok(()) = read_before(area, place, content) else {
@@ -267,7 +260,7 @@ pub(crate) fn list_before<A: Area, J: Judge>(
     area: &mut A,
     end: u64,
     size: u64,
-    content: &mut [u8],
+    content: &mut Vec<u8>,
     listing: &mut Listing,
     judge: &mut J,
 ) -> Result<(), OpenFault>
@@ -276,7 +269,6 @@ pub(crate) fn list_before<A: Area, J: Judge>(
     requires short { size ≤ most_octets }
     requires taken { AreTakenIn size 32 [] listing.old.places listing.old.tally }
     requires follows { J.follows judge.old [] }
-    requires buffers { AreBuffers size (length content.old) (vec_len listing.old.numbers) }
 
     ensures are_fit { (all : List (List ℕ)) → AreListedBefore A.tells_octets (A.octets area.old) end all →
         OnOk result (AreFit J.fits size all) }

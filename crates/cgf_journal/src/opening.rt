@@ -1,5 +1,5 @@
 // How a trail is opened.
-ghost use Rattle.std.specs.Prelude.{vec_len, ◌≡◌, ◌≢◌, ◌⊎◌, ◌≤◌, ℕ, IsTrue, false, [], List, length, IfOk, IfErr, OnErr};
+ghost use Rattle.std.specs.Prelude.{◌≡◌, ◌≢◌, ◌⊎◌, ◌≤◌, ℕ, IsTrue, false, [], List, length, IfOk, IfErr, OnErr};
 ghost use Rattle.area_disk.specs.Disk.{Rose};
 ghost use Rattle.gw_base.specs.declared.history.HistoryEntry.{HistoryEntry};
 ghost use Rattle.gate_journal.specs.Format.{Starts, fewest_octets, header, longest_batch, most_octets};
@@ -12,13 +12,13 @@ ghost use Rattle.cgf_journal.specs.Fit.{AreFit, IsUnfitTo, StandsFit};
 ghost use Rattle.cgf_journal.specs.Format.{IsForeignTo, StandsFor, entries_in};
 ghost use Rattle.cgf_journal.specs.Judged.{IsJudged};
 ghost use Rattle.cgf_journal.specs.OpenPlan.{OpenFollows, is_memory};
-ghost use Rattle.cgf_journal.specs.Opening.{AreBuffers, AreListed, AreListedBefore, AreTakenIn, BreaksAt, IsTakenUpTo};
+ghost use Rattle.cgf_journal.specs.Opening.{AreListed, AreListedBefore, AreTakenIn, BreaksAt, IsTakenUpTo};
 ghost use Rattle.cgf_journal.specs.Results.{FindsHistory, IsFresh, IsMadeAnew, IsOpened, IsRefused, OnArea, RefusesForeign, RoseByDevice};
 ghost use Rattle.cgf_journal.specs.Trail.{area_of, firm_entries};
 
 use crate::Trail;
 use crate::judge::{Judge, TakesAll};
-use crate::listing::{Listing, content_for, list, list_before};
+use crate::listing::{Listing, list, list_before};
 use area_disk::Area;
 use area_disk::laws::area_laws;
 use entry_codec::laws::entries_are_read_back;
@@ -32,7 +32,7 @@ fn fault_before<A: Area, J: Judge>(
     area: &mut A,
     at: u64,
     size: u64,
-    content: &mut [u8],
+    content: &mut Vec<u8>,
     mut listing: Listing,
     judge: &mut J,
 ) -> OpenFault
@@ -41,7 +41,6 @@ fn fault_before<A: Area, J: Judge>(
     requires short { size ≤ most_octets }
     requires taken { AreTakenIn size 32 [] listing.places listing.tally }
     requires follows { J.follows judge.old [] }
-    requires buffers { AreBuffers size (length content.old) (vec_len listing.numbers) }
 
     ensures here { at ≤ 32 → result ≡ OpenFault.NotOurs at }
     ensures first { (all : List (List ℕ)) → AreListedBefore A.tells_octets (A.octets area.old) at all → (place : ℕ) →
@@ -89,9 +88,9 @@ impl<A: Area> Trail<A> {
     /// whose batch isn't whole. It hands the area back where it fails; after `NotOurs` and `NoMemory` nothing was
     /// written.
     ///
-    /// It takes memory for the entries that will wait (1,048,576 octets), for one batch and its numbers, which are no
-    /// longer than the area needs, and for the places and keys of as many entries as the area has octets for: 16 octets
-    /// for each 30 and twice 24 for each 42, and 24,576 for the keys that come last. So no later call takes any.
+    /// It takes memory for the entries that will wait (1,048,576 octets), for the longest batch and the numbers of its
+    /// entries, and for the places and keys of as many entries as the area has octets for: 16 octets for each 30 and
+    /// twice 24 for each 42, and 24,576 for the keys that come last. So no later call takes any.
     pub fn open_at(
         alloc: Global,
         area: A,
@@ -158,10 +157,8 @@ impl<A: Area> Trail<A> {
     {
         area_laws::<A>();
         let size = area.length();
-        let Ok(mut content) = content_for(alloc, size) else {
-            return Err((OpenFault::NoMemory, area));
-        };
-        let Ok(listing) = Listing::new(alloc, content.len(), size) else {
+        let mut content = Vec::new(alloc);
+        let Ok(listing) = Listing::new(alloc, size) else {
             return Err((OpenFault::NoMemory, area));
         };
         let Ok(waiting) = Buffer::with(alloc, LONGEST_BATCH) else {
@@ -184,7 +181,7 @@ impl<A: Area> Trail<A> {
         mut journal: Journal<A>,
         size: u64,
         waiting: Buffer,
-        content: &mut [u8],
+        content: &mut Vec<u8>,
         mut listing: Listing,
         judge: &mut J,
     ) -> Result<Trail<A>, (OpenFault, A)>
@@ -197,7 +194,6 @@ impl<A: Area> Trail<A> {
         requires waiting { waiting ≡ record { octets = []; capacity = longest_batch } }
         requires taken { AreTakenIn size 32 [] listing.places listing.tally }
         requires follows { J.follows judge.old [] }
-        requires buffers { AreBuffers size (length content.old) (vec_len listing.numbers) }
 
         ensures are_fit { Told A.Area → IfOk result (λ trail. AreFit J.fits size (gates.batches journal)) }
         ensures follows { Told A.Area → IfOk result (λ trail. J.follows judge.new (firm_entries trail)) }

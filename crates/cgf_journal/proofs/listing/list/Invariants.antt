@@ -1,5 +1,4 @@
-use Rattle.std.proofs.Common.{◌≡◌, ◌-◌, ◌≤◌, length}
-use Rattle.std.specs.Prelude.{vec_len}
+use Rattle.std.proofs.Common.{◌≡◌, ◌-◌, ◌≤◌}
 use Rattle.gate_journal.specs.Journal.{area_of, batches, end}
 use Rattle.gate_journal.specs.Kept.{IsKept}
 use Rattle.cgf_journal.specs.Judged.{IsJudged}
@@ -12,8 +11,6 @@ invariant-loop-gate g l = record {
   high : l.gate ≤ end l.fn.journal;
   kept : IsKept {tells = g.A.Area} l.fn.journal l.journal;
   faults : g.A.Area.faults (area_of l.journal) ≡ g.A.Area.faults (area_of l.fn.journal);
-  content : length l.content ≡ length l.fn.content;
-  numbers : vec_len l.listing.numbers ≡ vec_len l.fn.listing.numbers;
 }
 
 abbrev pub decreases-loop-gate : goal.decreases-loop-gate

@@ -1,5 +1,4 @@
-use Rattle.std.proofs.Common.{◌≡◌, ◌⊎◌, ◌-◌, ◌≤◌, length}
-use Rattle.std.specs.Prelude.{vec_len}
+use Rattle.std.proofs.Common.{◌≡◌, ◌⊎◌, ◌-◌, ◌≤◌}
 use Rattle.gate_journal.specs.Moments.{Kept}
 use Rattle.cgf_journal.specs.Judged.{IsJudged}
 use Rattle.cgf_journal.specs.Opening.{AreListedBefore, IsTakenUpTo}
@@ -12,8 +11,6 @@ invariant-loop-gate g l = record {
   high : (l.gate ≡ 32) ⊎ (l.gate ≤ l.end);
   kept : Kept g.A.Area l.fn.area l.area;
   faults : g.A.Area.faults l.area ≡ g.A.Area.faults l.fn.area;
-  content : length l.content ≡ length l.fn.content;
-  numbers : vec_len l.listing.numbers ≡ vec_len l.fn.listing.numbers;
 }
 
 abbrev pub decreases-loop-gate : goal.decreases-loop-gate

@@ -1,8 +1,6 @@
-use Rattle.std.proofs.Common.{◌≡◌, ℕ, ◌+◌, ◌≤◌, ◌<◌, List, ◌∷◌, ◌++◌, length, take, ◌∙◌, ap, subst, sym, arith}
-use Rattle.std.specs.Prelude.{IfSome}
+use Rattle.std.proofs.Common.{◌≡◌, ℕ, ◌+◌, List, ◌∷◌, ◌++◌, length, take, ◌∙◌, ap, subst, sym, arith}
 use Rattle.std.proofs.lemmas.List.{length-take-le}
 use Rattle.gate_journal.specs.Before.{AreBefore}
-use Rattle.gate_journal.specs.Format.{longest_batch}
 use Rattle.gate_journal.specs.Agreeing.{place_of}
 use Rattle.cgf_journal.specs.Fit.{AreFit}
 use Rattle.cgf_journal.specs.Judged.{IsJudged}
@@ -15,9 +13,7 @@ returns-clause-taken g c =
     let o = g.A.Area.octets c.args.area.now in
     let some = c.requires.taken.some in
     let at = c.requires.taken.taken_in.gate_is in
-    let short = subst (λ o. IfSome o (λ (content : ℕ × ℕ). content.1 ≤ longest_batch)) c.in-Some.is c.in-Ok.ensures.short in
-    let within = subst (λ o. IfSome o (λ (content : ℕ × ℕ). content.0 + content.1 < g.A.Area.size c.args.area.now)) c.in-Some.is c.in-Ok.ensures.within in
-    let room : length (take c.in-Some.length c.args.content.now) ≡ c.in-Some.length = length-take-le c.in-Some.length c.args.content.now (omega (arith, short, within)) in
+    let room : length (take c.in-Some.length c.deref_mut.result.now) ≡ c.in-Some.length = length-take-le c.in-Some.length c.deref_mut.result.now (omega (arith, c.in-Ok-lengthen.ensures, c.lengthen.new.content.ok.0, ap (λ (o : List ℕ). length o) c.deref_mut.ensures.value)) in
     let next = λ (all : List (List ℕ)) (listed : AreListedBefore g.A.Area.tells_octets (g.A.Area.octets c.args.area.now) c.args.end all).
     let begins = c.requires.taken.begins all listed in
     read_next all some begins.0 c.args.gate c.args.end begins.1 at (place_of listed.header listed.long o c.args.end all listed.before) c.requires.inside c.in-Ok.found c.in-Some.place c.in-Some.length c.read_before.new.into c.in-Some.is
@@ -33,9 +29,7 @@ returns-clause-breaks g c = λ all listed stop stops.
     let o = g.A.Area.octets c.args.area.now in
     let some = c.requires.taken.some in
     let at = c.requires.taken.taken_in.gate_is in
-    let short = subst (λ o. IfSome o (λ (content : ℕ × ℕ). content.1 ≤ longest_batch)) c.in-Some.is c.in-Ok.ensures.short in
-    let within = subst (λ o. IfSome o (λ (content : ℕ × ℕ). content.0 + content.1 < g.A.Area.size c.args.area.now)) c.in-Some.is c.in-Ok.ensures.within in
-    let room : length (take c.in-Some.length c.args.content.now) ≡ c.in-Some.length = length-take-le c.in-Some.length c.args.content.now (omega (arith, short, within)) in
+    let room : length (take c.in-Some.length c.deref_mut.result.now) ≡ c.in-Some.length = length-take-le c.in-Some.length c.deref_mut.result.now (omega (arith, c.in-Ok-lengthen.ensures, c.lengthen.new.content.ok.0, ap (λ (o : List ℕ). length o) c.deref_mut.ensures.value)) in
     let next = λ (all : List (List ℕ)) (listed : AreListedBefore g.A.Area.tells_octets (g.A.Area.octets c.args.area.now) c.args.end all).
     let begins = c.requires.taken.begins all listed in
     read_next all some begins.0 c.args.gate c.args.end begins.1 at (place_of listed.header listed.long o c.args.end all listed.before) c.requires.inside c.in-Ok.found c.in-Some.place c.in-Some.length c.read_before.new.into c.in-Some.is

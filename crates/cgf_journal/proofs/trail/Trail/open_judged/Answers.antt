@@ -121,7 +121,7 @@ returns-in-Ok-open-clause-foreign g c = λ told at foreign.
 -- what one that was refused gives
 
 pub fault_before-fault-requires-clause-taken : goal.fault_before-fault-requires-clause-taken
-fault_before-fault-requires-clause-taken g c = c.in-Ok-new.ensures.taken
+fault_before-fault-requires-clause-taken g c = c.in-Ok.ensures
 
 pub returns-in-Err-NotOurs-default-clause-err : goal.returns-in-Err-NotOurs-default-clause-err
 returns-in-Err-NotOurs-default-clause-err g c =
