@@ -1,9 +1,11 @@
 -- The copies that are held on two sides.
-use Rattle.std.proofs.Common.{◌≡◌, ℕ, ◌+◌, ◌≤◌, Bool, true, false, if◌then◌else◌, List, [], ◌∷◌, ◌++◌, refl, sym, ap, ◌∙◌, true≢false, arith}
-use Rattle.dup_buffer.specs.Copies.{Copies, held_of, no_copies, without_copy}
+use Rattle.std.proofs.Common.{◌≡◌, ℕ, Bool, true, false, if◌then◌else◌, List, [], ◌∷◌, ◌++◌, refl, sym, subst, ap, ◌∙◌, true≢false}
+use Rattle.dup_buffer.specs.Copies.{Copies, no_copies, without_copy}
 use Rattle.dup_buffer.specs.Stored.{Stored, copies_of}
+use Rattle.gateway_book.specs.CopySteps.{MayStep, MayStepEach, with_step, with_steps}
 use Rattle.gateway_book.specs.HeldPairs.{IsHeldStep, held_in}
 use Rattle.gateway_book.specs.Sides.{without_copies}
+use Rattle.gateway_book.specs.declared.held_pair.CopyStep.{CopyStep}
 use Rattle.gateway_book.specs.declared.held_pair.HeldPair.{HeldPair}
 
 pub none_in : (pair : HeldPair) → copies_of pair.firm ≡ no_copies → copies_of pair.live ≡ no_copies → (firm : Bool) → held_in firm pair ≡ no_copies
@@ -41,20 +43,38 @@ unfolding without_copies
 without_more node [] number copies = refl
 without_more node (first ∷ numbers) number copies = without_more node numbers number (without_copy node first copies)
 
--- The numbers of a node up to here are taken out, and no room is lost.
-pub record AreTaken (node : ℕ) (numbers : List ℕ) (old new : Stored) : Type 0 where
-  pub copies : copies_of new ≡ without_copies node numbers (copies_of old)
-  pub room : (copies_of old).count + old.spare ≤ (copies_of new).count + new.spare
+pub taken_none : (node : ℕ) (old : HeldPair) → IsHeldStep (without_copies node []) old old
+taken_none node old = record { live = without_none node (held_in false old); firm = refl }
 
-pub taken_none : (node : ℕ) (old : Stored) → AreTaken node [] old old
-taken_none node old = record { copies = without_none node (copies_of old); room = omega arith }
-
-pub taken_more : (node : ℕ) (numbers : List ℕ) (number : ℕ) (old now new : Stored) → AreTaken node numbers old now → copies_of new ≡ without_copy node number (copies_of now) → now.spare + held_of node number (copies_of now) ≤ new.spare
-    → AreTaken node (numbers ++ number ∷ []) old new
-taken_more node numbers number old now new so_far one spare = record {
-  copies = one ∙ ap (without_copy node number) so_far.copies ∙ sym (without_more node numbers number (copies_of old));
-  room = omega (arith, so_far.room, spare, ap (λ (c : Copies). c.count) one);
+pub taken_more : (node : ℕ) (numbers : List ℕ) (number : ℕ) (old now new : HeldPair) → IsHeldStep (without_copies node numbers) old now → IsHeldStep (without_copy node number) now new
+    → IsHeldStep (without_copies node (numbers ++ number ∷ [])) old new
+taken_more node numbers number old now new so_far one = record {
+  live = one.live ∙ ap (without_copy node number) so_far.live ∙ sym (without_more node numbers number (held_in false old));
+  firm = one.firm ∙ so_far.firm;
 }
+
+-- ---- steps that were noted
+
+steps_more : (all : List CopyStep) (step : CopyStep) (copies : Copies) → with_steps (all ++ step ∷ []) copies ≡ with_step step (with_steps all copies)
+steps_more [] step copies = refl
+steps_more (s ∷ all) step copies = steps_more all step (with_step s copies)
+
+may_more : (all : List CopyStep) (step : CopyStep) (copies : Copies) → MayStepEach all copies → MayStep step (with_steps all copies) → MayStepEach (all ++ step ∷ []) copies
+may_more [] step copies may one = (one, tt)
+may_more (s ∷ all) step copies may one = (may.0, may_more all step (with_step s copies) may.1 one)
+
+-- no step is noted, and both sides are the same
+pub none_noted : (now : List CopyStep) (firm live : Copies) → now ≡ [] → firm ≡ live → MayStepEach now firm × (with_steps now firm ≡ live)
+none_noted now firm live none same = subst (λ (l : List CopyStep). MayStepEach l firm × (with_steps l firm ≡ live)) (sym none) (tt, same)
+
+-- the live side took the step, and it is noted
+pub noted : (all now : List CopyStep) (step : CopyStep) (firm live after : Copies) → now ≡ all ++ step ∷ [] → after ≡ with_step step live → MayStep step live
+    → MayStepEach all firm × (with_steps all firm ≡ live) → MayStepEach now firm × (with_steps now firm ≡ after)
+noted all now step firm live after more is may agree =
+    let one : MayStep step (with_steps all firm) = subst (MayStep step) (sym agree.1) may in (
+      subst (λ (l : List CopyStep). MayStepEach l firm) (sym more) (may_more all step firm agree.0 one),
+      ap (λ (l : List CopyStep). with_steps l firm) more ∙ steps_more all step firm ∙ ap (with_step step) agree.1 ∙ sym is,
+    )
 
 -- ---- one side
 

@@ -1,7 +1,7 @@
 -- What each call makes of the nodes that an index keeps.
 use Rattle.std.proofs.Common.{◌≡◌, ℕ, zero, suc, ◌+◌, ◌<◌, ◌≤◌, ◌==◌, ◌&&◌, ◌⊎◌, inl, inr, Bool, true, false, if◌then◌else◌, List, [], ◌∷◌, ◌++◌, Some, length, length-append, map, take, refl, sym, ap, subst, ◌∙◌, arith}
-use Rattle.std.specs.Prelude.{IfSome}
-use Rattle.std.proofs.lemmas.Bool.{eq-eqb, eqb-true, eqb-false, ne_eqb}
+use Rattle.std.specs.Prelude.{IfSome, nat_lt}
+use Rattle.std.proofs.lemmas.Bool.{eq-eqb, eqb-true, eqb-false, ltb-false, ne_eqb}
 use Rattle.std.proofs.lemmas.List.{length-map, length-take, take-append-le}
 use Rattle.gw_base.specs.declared.address.NodeId.{NodeId}
 use Rattle.gw_base.specs.declared.history.Opening.{Opening}
@@ -16,7 +16,7 @@ use Rattle.gateway_book.specs.WindowPairs.{AreBeside, AreBlank, AreKeptTo, IsSte
 use Rattle.gateway_book.specs.declared.nodes.NodeTable.{NodeTable}
 use Rattle.gateway_book.specs.declared.nodes.Slot.{Slot}
 use Rattle.gateway_book.specs.declared.window_pair.WindowPair.{WindowPair}
-use Rattle.gateway_book.proofs.PairLemmas.{kept_all}
+use Rattle.gateway_book.proofs.PairLemmas.{kept_all, seen_behind}
 use Rattle.gateway_book.proofs.PlaceLemmas.{apart, known_inside, place_cut, place_map, place_more, place_new, place_settled, unknown_behind}
 use Rattle.gateway_book.proofs.SlotLemmas.{known_more, known_reopened, known_reopened_firm, known_same, firm_reopened, live_reopened, openings_more, reopened_node, settled, settled_known, settled_length, settled_openings, slots_more}
 
@@ -176,6 +176,25 @@ listed_none node numbers state old past = record {
     by_test n false e = refl
 
 -- ---- both sides one side's
+
+-- behind the known nodes no window has a number, so that all are kept where those of the nodes are
+pub kept_behind : (firm : Bool) (count : ℕ) (slots : List Slot) (pairs after : List WindowPair) → AreSlots count slots → AreBeside count (length slots) pairs → AreKeptTo (length slots) firm pairs after
+    → AreKeptTo (length pairs) firm pairs after
+kept_behind firm count slots pairs after are beside kept = record {
+  count = kept.count;
+  kept = λ side k. kept.kept side k ∙ at side k (nat_lt k (length slots)) (nat_lt k (length pairs)) refl refl;
+}
+  where
+    none : (side : Bool) (k : ℕ) → length slots ≤ k → seen_at side pairs k ≡ nothing_seen
+    none true k past = beside.firm_behind k (omega (arith, are.within, past))
+    none false k past = beside.live_behind k past
+
+    at : (side : Bool) (k : ℕ) (known made : Bool) → nat_lt k (length slots) ≡ known → nat_lt k (length pairs) ≡ made
+        → (if known then seen_at firm pairs k else seen_at side pairs k) ≡ (if made then seen_at firm pairs k else seen_at side pairs k)
+    at side k true true e f = refl
+    at side k true false e f = let past = ltb-false k (length pairs) f in seen_behind firm pairs k past ∙ sym (seen_behind side pairs k past)
+    at side k false true e f = let past = ltb-false k (length slots) e in none side k past ∙ sym (none firm k past)
+    at side k false false e f = refl
 
 module _ (firm : Bool) (count : ℕ) (slots : List Slot) (pairs after : List WindowPair) (are : AreSlots count slots) (beside : AreBeside count (length slots) pairs) (kept : AreKeptTo (length pairs) firm pairs after) where
   kept_window : (n : ℕ) → window_by firm (kept_slots firm count slots) pairs n ≡ window_by firm slots pairs n

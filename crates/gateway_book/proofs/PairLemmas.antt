@@ -125,6 +125,13 @@ pub may_more : (all : List StateGiven) (given : StateGiven) (seen : Seen) → Ma
 may_more [] given seen may one = (one, tt)
 may_more (g ∷ all) given seen may one = (may.0, may_more all given (with_state half g.number g.state seen) may.1 one)
 
+-- the first of the steps that are left is taken
+pub one_followed : (left later : List StateGiven) (given : StateGiven) (seen new last : Seen) → left ≡ given ∷ later → new ≡ with_state half given.number given.state seen
+    → MaySetEach left seen × (with_each left seen ≡ last) → MaySetEach later new × (with_each later new ≡ last)
+one_followed left later given seen new last is step may =
+    let all : MaySetEach (given ∷ later) seen × (with_each (given ∷ later) seen ≡ last) = subst (λ (l : List StateGiven). MaySetEach l seen × (with_each l seen ≡ last)) is may in
+    subst (λ (s : Seen). MaySetEach later s × (with_each later s ≡ last)) (sym step) (all.0.1, all.1)
+
 -- no step is noted, and both sides are the same
 pub none_noted : (now : List StateGiven) (firm live : Seen) → now ≡ [] → firm ≡ live → MaySetEach now firm × (with_each now firm ≡ live)
 none_noted now firm live none same = subst (λ (l : List StateGiven). MaySetEach l firm × (with_each l firm ≡ live)) (sym none) (tt, same)

@@ -55,6 +55,7 @@ pub mod Begun
 pub mod Faults
 pub mod Judging
 pub mod Adding
+pub mod CopySteps
 pub mod Cursor
 pub mod Followed
 pub mod GivenStates

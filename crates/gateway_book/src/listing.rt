@@ -13,9 +13,12 @@ use crate::observe::Observe;
 use crate::reserved::Reserved;
 use crate::wire_marks::WireMarks;
 use gtpp_elements::Numbers;
-use gw_base::{Absolute, Act, KeyState, NoMemory, NodeId, nearest_number};
+use gw_base::{Absolute, Act, KeyState, NoMemory, NodeId, lists, nearest_number};
 use std::alloc::Global;
 use transfer_cmd::{Verdict, is_held, judge};
+
+/// How many numbers are sought one among another. Behind more of them marks are set, all of which are taken away first.
+const FEW: usize = 16;
 
 /// The lists in which answers are worked out: the numbers that a request names, their states, and
 /// the held ones. They have room for the longest list, which fills a message of 65,541 octets.
@@ -116,8 +119,58 @@ fn find_states<O: Observe>(
 }
 
 /// The held ones of the numbers that a list names, each once.
-#[tactic(auto, using(crate::proofs::MarksLemmas::step_held))]
 fn find_held<O: Observe>(
+    seen: &O,
+    node: NodeId,
+    top: Option<Absolute>,
+    numbers: &Numbers<'_>,
+    into: &mut Reserved<Absolute>,
+    marks: &mut WireMarks,
+)
+    requires bounded { IfSome top (λ t. t < 2 ^ 63) }
+    requires short { length numbers.now ≤ 32767 }
+    ensures { into.new.items.items ≡ held_ones (O.seen seen.now node) (map (nearest top) numbers.now) }
+{
+    if numbers.count() <= FEW {
+        find_few(seen, node, top, numbers, into);
+    } else {
+        find_many(seen, node, top, numbers, into, marks);
+    }
+}
+
+/// The same of few numbers: each is sought among those found.
+#[tactic(auto, using(crate::proofs::MarksLemmas::step_held))]
+fn find_few<O: Observe>(
+    seen: &O,
+    node: NodeId,
+    top: Option<Absolute>,
+    numbers: &Numbers<'_>,
+    into: &mut Reserved<Absolute>,
+)
+    requires bounded { IfSome top (λ t. t < 2 ^ 63) }
+    requires short { length numbers.now ≤ 32767 }
+    ensures { into.new.items.items ≡ held_ones (O.seen seen.now node) (map (nearest top) numbers.now) }
+{
+    into.clear();
+    for place in 0..numbers.count() {
+        keep_new(seen, node, nearest_number(top, numbers.at(place)), into);
+    }
+}
+
+/// Appends a number, where it is held and isn't there yet.
+fn keep_new<O: Observe>(seen: &O, node: NodeId, number: Absolute, into: &mut Reserved<Absolute>)
+    requires { length into.old.items.items < 32767 }
+    ensures kept { into.new.items.items ≡ with_held (O.seen seen.now node) into.old.items.items number }
+    ensures count { length into.new.items.items ≤ length into.old.items.items + 1 }
+{
+    if is_held(seen.state(node, number)) && !lists(&into.items, number) {
+        into.push(number);
+    }
+}
+
+/// The same of many numbers: those found are marked.
+#[tactic(auto, using(crate::proofs::MarksLemmas::step_held))]
+fn find_many<O: Observe>(
     seen: &O,
     node: NodeId,
     top: Option<Absolute>,

@@ -288,8 +288,9 @@ impl NodeTable {
     pub(crate) fn keep(&mut self, firm: bool)
         ensures { (side : Bool) → nodes_in side self.new ≡ nodes_in firm self.old }
     {
+        // Behind the known nodes no window has a number.
+        keep_all(&mut self.pairs, self.slots.len(), firm);
         self.firm = cut(&mut self.slots, firm, self.firm);
         settle_all(&mut self.slots, firm);
-        keep_all(&mut self.pairs, firm);
     }
 }

@@ -74,11 +74,12 @@ pub(crate) fn clear_at(pairs: &mut Vec<WindowPair>, place: usize)
     pairs[place].clear();
 }
 
-/// Makes both sides of all places what one of them is.
-pub(crate) fn keep_all(pairs: &mut Vec<WindowPair>, firm: bool)
-    ensures { AreKeptTo (length pairs.old.items) firm pairs.old.items pairs.new.items }
+/// Makes both sides of the first places what one of them is.
+pub(crate) fn keep_all(pairs: &mut Vec<WindowPair>, places: usize, firm: bool)
+    requires { places ≤ length pairs.old.items }
+    ensures { AreKeptTo places firm pairs.old.items pairs.new.items }
 {
-    for place in 0..pairs.len() {
+    for place in 0..places {
         pairs[place].keep(firm);
     }
 }

@@ -8,12 +8,12 @@ pub loop-place-init : goal.loop-place-init
 loop-place-init c = kept_none c.args.firm c.args.pairs.now.items
 
 pub index_mut-requires : goal.index_mut-requires
-index_mut-requires c = omega (arith, c.loop-place.invariant.count, c.loop-place-test.true)
+index_mut-requires c = omega (arith, c.requires, c.loop-place.invariant.count, c.loop-place-test.true)
 
 pub loop-place-preserved : goal.loop-place-preserved
 loop-place-preserved c =
     let pair : WindowPair = c.index_mut.result.now in
-    kept_more c.args.firm c.loop-place.place c.args.pairs.now.items c.loop-place.pairs.items pair c.keep.new.self (omega (arith, c.loop-place.invariant.count, c.loop-place-test.true)) c.loop-place.invariant
+    kept_more c.args.firm c.loop-place.place c.args.pairs.now.items c.loop-place.pairs.items pair c.keep.new.self (omega (arith, c.requires, c.loop-place.invariant.count, c.loop-place-test.true)) c.loop-place.invariant
     (λ side. c.keep.ensures side ∙ ap (λ (p : WindowPair). seen_in c.args.firm p) c.index_mut.ensures.value)
 
 pub returns : goal.returns

@@ -1,28 +1,23 @@
-use Rattle.std.proofs.Common.{Err, refl, ap, ◌∙◌, arith}
+use Rattle.std.proofs.Common.{refl}
 use Rattle.dup_buffer.specs.Copies.{with_copy}
 use Rattle.gateway_book.specs.HeldPairs.{held_in}
 use Rattle.gateway_book.specs.Sides.{no_place}
-use Rattle.gateway_book.proofs.HeldPairLemmas.{held_stepped}
+use Rattle.gateway_book.specs.declared.held_pair.CopyStep.TheVariants.{Hold}
+use Rattle.gateway_book.proofs.HeldPairLemmas.{held_stepped, noted}
 use Rattle.gateway_book.proofs.held_pair.HeldPair.hold.Goals as goal
 
-pub hold-requires : goal.hold-requires
+pub hold_one-requires : goal.hold_one-requires
 unfolding held_in
-hold-requires c = c.requires.free
+hold_one-requires c = record { room = c.args.self.now.live_room; free = c.requires.free; few = c.requires.few }
 
-pub unreachable-requires : goal.unreachable-requires
+pub invariant_of-self : goal.invariant_of-self
 unfolding held_in
-unreachable-requires c =
-    let full = c.hold.ensures.full.0 (c.in-Err-Full.is ∙ ap Err c.in-Err-Full.field-0-is) in
-    let few = c.requires.few in
-    omega (arith, full, few)
-
-pub unreachable-requires-in-Err-NoMemory : goal.unreachable-requires-in-Err-NoMemory
-unfolding held_in
-unreachable-requires-in-Err-NoMemory c =
-    let none = c.hold.ensures.no_memory (c.in-Err-NoMemory.is ∙ ap Err c.in-Err-NoMemory.field-0-is) in
-    let few = c.requires.few in
-    let room = c.args.self.now.live_room in
-    omega (arith, none, few, room)
+invariant_of-self c = record {
+  agree = λ e. let n = c.note-self.ensures e in
+      noted c.args.self.now.given.items _ (Hold c.args.node c.args.number) _ _ _ n.1 c.hold_one.ensures.copies (c.requires.free, c.requires.few) (c.args.self.now.agree n.0);
+  firm_room = c.args.self.now.firm_room;
+  live_room = c.hold_one.ensures.room;
+}
 
 pub returns : goal.returns
-returns c = held_stepped (with_copy c.args.node.0 c.args.number no_place) c.args.self.now _ c.in-Ok.ensures.held refl
+returns c = held_stepped (with_copy c.args.node.0 c.args.number no_place) c.args.self.now _ c.hold_one.ensures.copies refl

@@ -1,12 +1,27 @@
-use Rattle.std.proofs.Common.{refl}
-use Rattle.gateway_book.proofs.HeldPairLemmas.{held_kept, held_same}
+use Rattle.std.proofs.Common.{◌≡◌, List, sym, subst, ◌∙◌}
+use Rattle.dup_buffer.specs.Stored.{copies_of}
+use Rattle.gateway_book.specs.CopySteps.{MayStepEach, with_steps}
+use Rattle.gateway_book.specs.declared.held_pair.CopyStep.{CopyStep}
+use Rattle.gateway_book.proofs.HeldPairLemmas.{held_kept, held_same, none_noted}
 use Rattle.gateway_book.proofs.held_pair.HeldPair.keep.Goals as goal
 
-pub returns-then-not-self : goal.returns-then-not-self
-returns-then-not-self c = held_same c.args.firm c.args.self.now (c.args.self.now.agree c.if-not-self.true)
+pub make_same-requires : goal.make_same-requires
+make_same-requires c = record {
+  firm = c.args.self.now.firm_room;
+  live = c.args.self.now.live_room;
+  given = λ e. subst (λ (given : List CopyStep). MayStepEach given (copies_of c.args.self.now.firm) × (with_steps given (copies_of c.args.self.now.firm) ≡ copies_of c.args.self.now.live))
+      (sym c.deref.ensures.value) (c.args.self.now.agree e);
+}
 
-pub returns-then-firm : goal.returns-then-firm
-returns-then-firm c = held_kept c.args.firm c.args.self.now _ (rw c.if-firm.true refl) (rw c.if-firm.true c.copy_from.ensures.copies)
+pub invariant_of-self : goal.invariant_of-self
+invariant_of-self c = record {
+  agree = λ e. none_noted _ _ _ c.clear.ensures.items (c.make_same.ensures.firm ∙ sym c.make_same.ensures.live);
+  firm_room = c.make_same.ensures.firm_room;
+  live_room = c.make_same.ensures.live_room;
+}
 
-pub returns-else-firm : goal.returns-else-firm
-returns-else-firm c = held_kept c.args.firm c.args.self.now _ (rw c.if-firm.false c.copy_from-else-firm.ensures.copies) (rw c.if-firm.false refl)
+pub returns-then-is_same : goal.returns-then-is_same
+returns-then-is_same c = held_same c.args.firm c.args.self.now (c.is_same.ensures c.if-is_same.true)
+
+pub returns : goal.returns
+returns c = held_kept c.args.firm c.args.self.now _ c.make_same.ensures.firm c.make_same.ensures.live

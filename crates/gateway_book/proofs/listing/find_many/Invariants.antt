@@ -3,7 +3,7 @@ use Rattle.gw_base.specs.Nearest.{nearest}
 use Rattle.gateway_book.specs.Answer.{held_ones}
 use Rattle.gateway_book.specs.WireMarks.{AreMarked}
 use Rattle.gateway_book.proofs.ListsLemmas.{held_from}
-use Rattle.gateway_book.proofs.listing.find_held.Given as goal
+use Rattle.gateway_book.proofs.listing.find_many.Given as goal
 
 -- those found so far go on to the held ones of all the numbers, and their sequence numbers are marked; they are no
 -- more than were looked at

@@ -3,7 +3,7 @@ use Rattle.gw_base.specs.Nearest.{nearest}
 use Rattle.gateway_book.specs.WireMarks.{AreMarked}
 use Rattle.gateway_book.proofs.ListsLemmas.{held_from, held_is}
 use Rattle.gateway_book.proofs.MarksLemmas.{none_marked}
-use Rattle.gateway_book.proofs.listing.find_held.Goals as goal
+use Rattle.gateway_book.proofs.listing.find_many.Goals as goal
 
 pub loop-place-init : goal.loop-place-init
 loop-place-init g c = record {
