@@ -8,9 +8,10 @@ ghost use Rattle.net_link.specs.Udp.{HearsShort};
 
 use crate::link::{Heard, Link, LinkStop};
 use gw_base::{Addr, Failed};
-use std::io;
+use std::io::{self, ErrorKind};
 use std::marker::Model;
 use std::net::{Ipv4Addr, Net, SocketAddr, SocketAddrV4, UdpSocket};
+use std::thread;
 use std::time::Duration;
 
 /// The most octets of a datagram.
@@ -18,6 +19,13 @@ const MOST_OCTETS: usize = 65_507;
 
 /// How long one call waits for a datagram, in milliseconds.
 const WAIT: u64 = 20;
+
+/// How often a link that heard a datagram looks for the next one before it waits. Who sends that one needn't wake a
+/// thread then.
+const LOOKS: u32 = 100;
+
+/// How often a datagram is sent that the system has no room for at once.
+const SENDS: u32 = 1000;
 
 // The errors of Linux that say that the descriptor is no open socket for datagrams, or that a buffer isn't memory.
 const EBADF: i32 = 9;
@@ -30,7 +38,8 @@ const EOPNOTSUPP: i32 = 95;
 
 const ENOTCONN: i32 = 107;
 
-/// A link over UDP and IPv4. It tells nothing of the datagrams. A call waits for one for 20 milliseconds.
+/// A link over UDP and IPv4. It tells nothing of the datagrams. A call waits for one for 20 milliseconds; one behind a
+/// call that heard a datagram looks for the next one some times before that.
 ///
 /// A call fails where the address couldn't be bound, or where the system says that the socket is none. Whatever else
 /// keeps a datagram from being sent is a loss on its way, and whatever else keeps one from being received is a
@@ -38,6 +47,8 @@ const ENOTCONN: i32 = 107;
 #[derive(Drop)]
 pub struct UdpLink {
     socket: Option<UdpSocket>,
+    // Whether calls of the socket don't wait.
+    is_awake: bool,
     pub(crate) address: Addr,
     pub(crate) turns: u64,
     pub(crate) faults: u64,
@@ -90,18 +101,27 @@ fn bind<R: Net>(net: &R, at: Addr) -> io::Result<UdpSocket> {
     Ok(socket)
 }
 
+// Sends a datagram, again where the system has no room for it now.
 fn send_by(socket: &UdpSocket, to: Addr, octets: &[u8]) -> Result<(), Failed> {
-    if let Err(error) = socket.send_to(octets, SocketAddr::V4(socket_address(to))) {
+    for _ in 0..SENDS {
+        let Err(error) = socket.send_to(octets, SocketAddr::V4(socket_address(to))) else {
+            return Ok(());
+        };
         if is_fault(&error) {
             return Err(Failed);
         }
+        if error.kind() != ErrorKind::WouldBlock {
+            return Ok(());
+        }
+        thread::yield_now();
     }
     Ok(())
 }
 
 fn receive_by(socket: &UdpSocket, into: &mut [u8]) -> Result<Heard, Failed>
     requires { most_octets ≤ length into.old }
-    ensures { HearsShort result }
+    ensures short { HearsShort result }
+    ensures length { length into.new ≡ length into.old }
 {
     let (front, _) = into.split_at_mut(MOST_OCTETS);
     match socket.recv_from(front) {
@@ -121,6 +141,48 @@ fn receive_by(socket: &UdpSocket, into: &mut [u8]) -> Result<Heard, Failed>
     }
 }
 
+// Looks for a datagram some times, at a socket that doesn't wait.
+fn look_by(socket: &UdpSocket, into: &mut [u8]) -> Result<Heard, Failed>
+    requires { most_octets ≤ length into.old }
+    ensures short { HearsShort result }
+    ensures length { length into.new ≡ length into.old }
+{
+    for _ in 0..LOOKS {
+        match receive_by(socket, into) {
+            Ok(Heard::Quiet) => thread::yield_now(),
+            heard => return heard,
+        }
+    }
+    Ok(Heard::Quiet)
+}
+
+// Waits for a datagram for a while. Where it hears one, the socket doesn't wait any more.
+fn wait_by(socket: &UdpSocket, is_awake: &mut bool, into: &mut [u8]) -> Result<Heard, Failed>
+    requires { most_octets ≤ length into.old }
+    ensures { HearsShort result }
+{
+    let heard = receive_by(socket, into);
+    if let Ok(Heard::Datagram { .. }) = &heard {
+        *is_awake = socket.set_nonblocking(true).is_ok();
+    }
+    heard
+}
+
+// Receives a datagram: an awake socket is looked at first, and where there is none it waits.
+fn hear_by(socket: &UdpSocket, is_awake: &mut bool, into: &mut [u8]) -> Result<Heard, Failed>
+    requires { most_octets ≤ length into.old }
+    ensures { HearsShort result }
+{
+    if *is_awake {
+        match look_by(socket, into) {
+            Ok(Heard::Quiet) => {}
+            heard => return heard,
+        }
+        *is_awake = socket.set_nonblocking(false).is_err();
+    }
+    wait_by(socket, is_awake, into)
+}
+
 impl UdpLink {
     /// The link of this address. Where it can't be bound, each call of the link fails.
     pub(crate) fn at<R: Net>(net: &R, at: Addr) -> UdpLink
@@ -128,6 +190,7 @@ impl UdpLink {
     {
         UdpLink {
             socket: bind(net, at).ok(),
+            is_awake: false,
             address: at,
             turns: 0,
             faults: 0,
@@ -169,7 +232,7 @@ impl Link for UdpLink {
         ensures { Receives self.old into.new result self.new }
     {
         let heard = match &self.socket {
-            Some(socket) => receive_by(socket, into),
+            Some(socket) => hear_by(socket, &mut self.is_awake, into),
             None => Err(Failed),
         };
         if heard.is_ok() {
@@ -191,6 +254,7 @@ impl Link for UdpLink {
         };
         Ok(UdpLink {
             socket: Some(socket),
+            is_awake: self.is_awake,
             address: self.address,
             turns: 0,
             faults: 0,
