@@ -1,10 +1,10 @@
 -- Several turns, one behind the other.
-use Rattle.std.proofs.Common.{◌≡◌, ℕ, ◌+◌, ◌<◌, Bool, List, [], ◌∷◌, ◌++◌, length, take, Option, None, Some, refl, sym, ap, ◌∙◌, subst}
+use Rattle.std.proofs.Common.{◌≡◌, ℕ, ◌+◌, ◌<◌, Bool, List, [], ◌∷◌, ◌++◌, length, take, Option, None, Some, refl, sym, ap, ◌∙◌, subst, append_assoc}
 use Rattle.std.specs.Prelude.{slice_index_or}
-use Rattle.std.proofs.lemmas.List.{take_more}
+use Rattle.std.proofs.lemmas.List.{append-nil, take_all, take_more}
 use Rattle.gw_base.specs.Facts.{Facts}
 use Rattle.gw_base.specs.declared.history.HistoryEntry.{HistoryEntry}
-use Rattle.turn_cell.specs.Passes.{IsOwnSession, TookEach, TookFor}
+use Rattle.turn_cell.specs.Passes.{IsOwnSession, TookEach, TookFor, TookMore}
 use Rattle.turn_cell.specs.declared.knowing.Knowledge.{Knowledge}
 
 -- the session that turns name is that of the pass still
@@ -34,3 +34,18 @@ module _ {V I A : Type 0} (told : Bool) (facts : V → Facts) (made : ℕ) (star
       subst (λ (is : List I). TookEach told facts made start session does is (answers ++ answer ∷ []) before after)
       (sym (take_more items n item within ∙ ap (λ (i : I). take n items ++ i ∷ []) (sym read)))
       (took_more (take n items) answers before now after item answer took more)
+
+  -- none was taken yet
+  pub took_none : (old : List A) (now : Knowledge) → TookMore told facts made start session does [] old old now now
+  took_none old now = ([], sym (append-nil old), refl)
+
+  -- one more, behind those that stood there
+  pub took_behind : (items : List I) (n : ℕ) (item : I) (old new : List A) (before now after : Knowledge) (answer : A)
+      → n < length items → item ≡ slice_index_or items n item → TookMore told facts made start session does (take n items) old new before now
+      → TookFor told facts made start session does item now answer after
+      → TookMore told facts made start session does (take (n + 1) items) old (new ++ answer ∷ []) before after
+  took_behind items n item old new before now after answer within read took more = (
+    took.0 ++ answer ∷ [],
+    ap (λ (xs : List A). xs ++ answer ∷ []) took.1 ∙ append_assoc old took.0 (answer ∷ []),
+    took_next items n item took.0 before now after answer within read took.2 more,
+  )

@@ -50,6 +50,11 @@ module _ {V I A : Type 0} (told : Bool) (facts : V → Facts) (made : ℕ) (star
   TookEach [] (answer ∷ answers) before after = ⊥
   TookEach (item ∷ items) [] before after = ⊥
 
+  -- a turn was taken for each of these items, and its answer stands behind those that stood there
+  abbrev pub TookMore : List I → List A → List A → Knowledge → Knowledge → Type 0
+  TookMore items old new before after =
+      (answers : List A) × (new ≡ old ++ answers) × TookEach items answers before after
+
 -- these entries, which a value has past those that it began with, were added by these passes
 pub record AreOwned (start now : Facts) (passes : List Knowledge) : Type 0 where
   pub stood : List HistoryEntry

@@ -1,10 +1,10 @@
 //! How a pass takes a turn, and how it sees the length.
-ghost use Rattle.std.specs.Prelude.{◌≡◌, ◌<◌, ◌≤◌, ◌^◌, ℕ, [], ◌∷◌, Some, None, length, vec_capacity};
+ghost use Rattle.std.specs.Prelude.{◌≡◌, ◌<◌, ◌≤◌, ◌+◌, ◌^◌, ℕ, [], ◌∷◌, Some, None, length, vec_capacity};
 ghost use Rattle.gw_base.specs.Facts.{AreSound, WhereTold};
 ghost use Rattle.turn_cell.specs.Cell.{IsPassOf, IsResting, begun, knowledge, known_at, made_by};
 ghost use Rattle.turn_cell.specs.Knowing.{Saw, standing};
 ghost use Rattle.gw_base.specs.Owes.{Owes};
-ghost use Rattle.turn_cell.specs.Passes.{FoundInPlace, IsOwnSession, Took, TookEach};
+ghost use Rattle.turn_cell.specs.Passes.{FoundInPlace, IsOwnSession, Took, TookMore};
 ghost use Rattle.turn_cell.specs.Rule.{found_at, seat};
 ghost use Rattle.turn_cell.specs.Steps.{Did, Takes};
 ghost use Rattle.turn_cell.specs.Taking.{HasCome, HasTaken, IsSettled};
@@ -182,11 +182,12 @@ impl<V: Counted> TurnCell<V> {
         requires own { place.old.table_id ≡ self.now.table.shared.table_id }
         requires comes { HasCome V.facts V.told (made_by self.now) (V.facts (begun self.now)) ticket place.old.me }
         requires session { IsOwnSession (T.session turns.now) (known_at place.old) }
-        requires room { (answers.old.items ≡ []) × (length items.now ≤ vec_capacity answers.old) }
+        requires room { length answers.old.items + length items.now ≤ vec_capacity answers.old }
         ensures same { place.new.table_id ≡ place.old.table_id }
         ensures comes { HasCome V.facts V.told (made_by self.now) (V.facts (begun self.now)) ticket place.new.me }
-        ensures took { TookEach V.told V.facts (made_by self.now) (V.facts (begun self.now)) (T.session turns.now)
-            (T.does turns.now) items.now answers.new.items (known_at place.old) (known_at place.new) }
+        ensures took { TookMore V.told V.facts (made_by self.now) (V.facts (begun self.now)) (T.session turns.now)
+            (T.does turns.now) items.now answers.old.items answers.new.items (known_at place.old)
+            (known_at place.new) }
         ensures capacity { vec_capacity answers.new ≡ vec_capacity answers.old }
     {
         for item in items {
@@ -227,7 +228,7 @@ impl<V: Counted> TurnCell<V> {
     }
 
     /// Waits for its turn once, and takes a turn for each of these items, one behind the other. Nobody else has a turn
-    /// between them. The answers are in the list then, which has room for them. It takes no memory.
+    /// between them. The answers stand behind those in the list then, which has room for them. It takes no memory.
     pub fn with_each<I, T: Turns<V, I>, R: Wait>(
         &self,
         rt: &R,
@@ -238,10 +239,10 @@ impl<V: Counted> TurnCell<V> {
     ) -> Pass
         requires own { IsPassOf self.now pass }
         requires session { IsOwnSession (T.session turns.now) (knowledge pass) }
-        requires room { (answers.old.items ≡ []) × (length items.now ≤ vec_capacity answers.old) }
+        requires room { length answers.old.items + length items.now ≤ vec_capacity answers.old }
         ensures own { IsPassOf self.now result }
-        ensures took { TookEach V.told V.facts (made_by self.now) (V.facts (begun self.now)) (T.session turns.now)
-            (T.does turns.now) items.now answers.new.items (knowledge pass) (knowledge result) }
+        ensures took { TookMore V.told V.facts (made_by self.now) (V.facts (begun self.now)) (T.session turns.now)
+            (T.does turns.now) items.now answers.old.items answers.new.items (knowledge pass) (knowledge result) }
         ensures capacity { vec_capacity answers.new ≡ vec_capacity answers.old }
     {
         let mut place = pass.into_place();

@@ -1,8 +1,8 @@
 use Rattle.std.proofs.Common.{◌<◌, ◌+◌, [], length, take, arith, refl, rules, sym, subst, ap, ◌∙◌}
 use Rattle.std.proofs.lemmas.List.{take_all}
-use Rattle.turn_cell.proofs.Each.{own_on, took_next}
+use Rattle.turn_cell.proofs.Each.{own_on, took_behind, took_none}
 use Rattle.turn_cell.specs.Cell.{begun, known_at, made_by}
-use Rattle.turn_cell.specs.Passes.{TookEach}
+use Rattle.turn_cell.specs.Passes.{TookMore}
 use Rattle.turn_cell.specs.declared.knowing.Knowledge.{Knowledge}
 use Rattle.turn_cell.proofs.cell.TurnCell.turns_at.Goals as goal
 
@@ -14,8 +14,8 @@ loop-item-init g c =
       same = refl;
       comes = c.requires.comes;
       session = c.requires.session;
-      took = subst (λ xs. TookEach g.V.Counted.told g.V.Counted.facts (made_by c.args.self.now) start (g.T.Turns.session c.args.turns.now) (g.T.Turns.does c.args.turns.now) [] xs k k)
-          (sym c.requires.room.0) refl;
+      took = took_none g.V.Counted.told g.V.Counted.facts (made_by c.args.self.now) start (g.T.Turns.session c.args.turns.now) (g.T.Turns.does c.args.turns.now)
+          c.args.answers.now.items k;
       each = search rules;
       capacity = refl;
     }
@@ -36,17 +36,18 @@ loop-item-preserved g c =
       same = c.turn_at-answer.ensures.same ∙ first.same;
       comes = c.turn_at-answer.ensures.comes;
       session = own_on (g.T.Turns.session c.args.turns.now) now after (ap (λ (k : Knowledge). k.number) took.kept) first.session;
-      took = subst (λ xs. TookEach g.V.Counted.told g.V.Counted.facts (made_by c.args.self.now) start (g.T.Turns.session c.args.turns.now) (g.T.Turns.does c.args.turns.now) (take (n + 1) items) xs before after)
+      took = subst (λ xs. TookMore g.V.Counted.told g.V.Counted.facts (made_by c.args.self.now) start (g.T.Turns.session c.args.turns.now) (g.T.Turns.does c.args.turns.now) (take (n + 1) items)
+          c.args.answers.now.items xs before after)
           (sym c.push_reserved.ensures.items)
-          (took_next g.V.Counted.told g.V.Counted.facts (made_by c.args.self.now) start (g.T.Turns.session c.args.turns.now) (g.T.Turns.does c.args.turns.now) items n item
-          c.loop-item.answers.items before now after c.turn_at-answer.result within c.item-item.is first.took (took, c.turn_at-answer.ensures.placed));
-      each = c.push_reserved.ensures.len ∙ ap (λ n. n + 1) first.each;
+          (took_behind g.V.Counted.told g.V.Counted.facts (made_by c.args.self.now) start (g.T.Turns.session c.args.turns.now) (g.T.Turns.does c.args.turns.now) items n item
+          c.args.answers.now.items c.loop-item.answers.items before now after c.turn_at-answer.result within c.item-item.is first.took (took, c.turn_at-answer.ensures.placed));
+      each = omega (arith, c.push_reserved.ensures.len, first.each);
       capacity = c.push_reserved.ensures.capacity ∙ first.capacity;
     }
 
 pub returns-clause-took : goal.returns-clause-took
 returns-clause-took g c =
     let start = g.V.Counted.facts (begun c.args.self.now) in
-    subst (λ is. TookEach g.V.Counted.told g.V.Counted.facts (made_by c.args.self.now) start (g.T.Turns.session c.args.turns.now) (g.T.Turns.does c.args.turns.now) is
-    c.loop-item.answers.items (known_at c.args.place.now) (known_at c.loop-item.place))
+    subst (λ is. TookMore g.V.Counted.told g.V.Counted.facts (made_by c.args.self.now) start (g.T.Turns.session c.args.turns.now) (g.T.Turns.does c.args.turns.now) is
+    c.args.answers.now.items c.loop-item.answers.items (known_at c.args.place.now) (known_at c.loop-item.place))
     (take_all c.loop-item.item-index c.args.items.now (omega arith)) c.loop-item.invariant.took
