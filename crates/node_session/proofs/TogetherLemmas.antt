@@ -18,7 +18,7 @@ use Rattle.job_inbox.specs.declared.job.Job.{Job}
 use Rattle.net_link.specs.Datagrams.{LinkState}
 use Rattle.turn_cell.specs.Cell.{knowledge}
 use Rattle.turn_cell.specs.Knowing.{Saw, kept}
-use Rattle.turn_cell.specs.Passes.{Took, TookEach}
+use Rattle.turn_cell.specs.Passes.{Took, TookEach, TookMore}
 use Rattle.turn_cell.specs.declared.cell.Pass.{Pass}
 use Rattle.turn_cell.specs.declared.knowing.KeptTurn.{KeptTurn}
 use Rattle.turn_cell.specs.declared.knowing.Knowledge.{Knowledge}
@@ -27,7 +27,7 @@ use Rattle.node_session.specs.Asking.{IsAsked, SettlesIn, TakesIn}
 use Rattle.node_session.specs.Learning.{HasTurnFor}
 use Rattle.node_session.specs.Passes.{known_by}
 use Rattle.node_session.specs.Serving.{GoesOn, caller_of}
-use Rattle.node_session.specs.Together.{AreFirstsOf, AreServed, AreTaken, EachMayHave, EachTells, GoOn, GoesFrom, HaveTurnsFor, KeepsTurnsOf, TellTogether}
+use Rattle.node_session.specs.Together.{AreFirstsOf, AreServed, AreTaken, EachMayHave, EachTells, FirstAreTaken, GoOn, GoesFrom, HaveTurnsFor, KeepsTurnsOf, TellTogether}
 use Rattle.node_session.specs.Turns as turns
 use Rattle.node_session.specs.declared.gate.Go.{Go}
 use Rattle.node_session.specs.declared.served.Served.{Served}
@@ -90,6 +90,24 @@ module _ {A : Type 0} (tells : Ghosts A) (session : ℕ) where
   taken_each made start (job ∷ jobs) [] before after took = absurd took
   taken_each made start (job ∷ jobs) (o ∷ outcomes) before after took =
       (took.0, took.1.0, taken_each made start jobs outcomes took.0 after took.2)
+
+  -- more were taken behind these
+  pub taken_then : (earlier jobs : List Job) (old more : List Outcome) (first before after : Knowledge)
+      → AreTaken tells session earlier old first before → AreTaken tells session jobs more before after
+      → AreTaken tells session (earlier ++ jobs) (old ++ more) first after
+  taken_then [] jobs [] more first before after taken then = subst (λ (k : Knowledge). AreTaken tells session jobs more k after) taken then
+  taken_then [] jobs (o ∷ old) more first before after taken then = absurd taken
+  taken_then (job ∷ earlier) jobs [] more first before after taken then = absurd taken
+  taken_then (job ∷ earlier) jobs (o ∷ old) more first before after taken then =
+      (taken.0, taken.1, taken_then earlier jobs old more taken.0 before after taken.2 then)
+
+  -- the same of turns under one ticket, whose outcomes stand behind others
+  pub taken_behind : (made : ℕ) (start : Facts) (earlier jobs : List Job) (old new : List Outcome) (first before after : Knowledge)
+      → TookMore told (λ (book : Book A tells). book_facts book) made start (Some session) DoesTake jobs old new before after
+      → AreTaken tells session earlier old first before → AreTaken tells session (earlier ++ jobs) new first after
+  taken_behind made start earlier jobs old new first before after took taken =
+      subst (λ (os : List Outcome). AreTaken tells session (earlier ++ jobs) os first after) (sym took.1)
+      (taken_then earlier jobs old took.0 first before after taken (taken_each made start jobs took.0 before after took.2))
 
   -- each has an outcome
   pub as_many : (jobs : List Job) (outcomes : List Outcome) (before after : Knowledge)
@@ -183,6 +201,35 @@ module _ {A : Type 0} (tells : Ghosts A) (session : ℕ) where
       All-cons (λ (x : Outcome). HasTurnFor told x after) o outcomes
       (turn_stays told o taken.0 after rest.later rest.turns (own_turn tells job.from job.octets job.moment (caller_of session job) before taken.0 o taken.1))
       (have_turns jobs outcomes taken.0 after taken.2)
+
+  -- the same behind other outcomes, whose turns the pass kept
+  pub turns_behind : (made : ℕ) (start : Facts) (jobs : List Job) (old new : List Outcome) (before after : Knowledge)
+      → TookMore told (λ (book : Book A tells). book_facts book) made start (Some session) DoesTake jobs old new before after
+      → HaveTurnsFor told old before → HaveTurnsFor told new after
+  turns_behind made start jobs old new before after took have =
+      let taken = taken_each made start jobs took.0 before after took.2 in
+      let goes : GoesFrom told before after = from_taken jobs took.0 before after taken in
+      subst (λ (os : List Outcome). HaveTurnsFor told os after) (sym took.1)
+      (All-append (λ (o : Outcome). HasTurnFor told o after) old took.0
+      (λ k d lt receipt at. let t = have k d lt receipt at in (
+        t.0,
+        subst (λ (ts : List KeptTurn). Contains ts t.0) (sym goes.turns) (Contains-append_left before.turns goes.later t.0 t.1),
+        t.2,
+      ))
+      (have_turns jobs took.0 before after taken))
+
+  pub number_behind : (made : ℕ) (start : Facts) (jobs : List Job) (old new : List Outcome) (before after : Knowledge)
+      → TookMore told (λ (book : Book A tells). book_facts book) made start (Some session) DoesTake jobs old new before after
+      → after.number ≡ before.number
+  number_behind made start jobs old new before after took =
+      (firsts_of jobs took.0 before after (taken_each made start jobs took.0 before after took.2)).number
+
+  pub as_many_behind : (made : ℕ) (start : Facts) (jobs : List Job) (old new : List Outcome) (before after : Knowledge)
+      → TookMore told (λ (book : Book A tells). book_facts book) made start (Some session) DoesTake jobs old new before after
+      → length new ≡ length old + length jobs
+  as_many_behind made start jobs old new before after took =
+      ap (λ (os : List Outcome). length os) took.1 ∙ length-append old took.0
+      ∙ ap (λ (n : ℕ). length old + n) (as_many jobs took.0 before after (taken_each made start jobs took.0 before after took.2))
 
   module _ (may : ℕ → ℕ → Go → Type 0) where
     on_asked : (front faults : ℕ) (before : Knowledge) (settled : Settled) (after : Knowledge)
@@ -284,6 +331,10 @@ module _ {A : Type 0} (tells : Ghosts A) (session : ℕ) where
           adds_none = All-append (λ (t : KeptTurn). t.added ≡ []) one.later rest.later one.adds_none rest.adds_none;
         }
 
+    pub number_on : (jobs : List Job) (outcomes : List Outcome) (results : List Served) (taken after : Knowledge) (old new : LinkState)
+        → GoOn tells may session jobs outcomes results taken after old new → after.number ≡ taken.number
+    number_on jobs outcomes results taken after old new goes = (laters_of jobs outcomes results taken after old new goes).number
+
     -- the pass knows no less behind what followed for a job
     goes_from : (job : Job) (old new : LinkState) (result : Served) (now after : Knowledge) (outcome : Outcome)
         → Goes job old new result now after outcome → GoesFrom told now after
@@ -359,20 +410,46 @@ module _ {A : Type 0} (tells : Ghosts A) (session : ℕ) where
             adds_none = then.adds_none;
           }
 
--- the same of the pass that a session has, with the lists as the parts of the call were lent them
-pub are_served : {A : Type 0} (tells : Ghosts A) (may : ℕ → ℕ → Go → Type 0) (session : ℕ) (jobs : List Job) (outcomes : List Outcome)
-    (results : List Served) (p : Option Pass) (pass : Pass) (taken after : Knowledge) (old new : LinkState) → p ≡ Some pass
-    → (js ks : List Job) (os : List Outcome) → js ≡ jobs → ks ≡ jobs → os ≡ outcomes
-    → AreTaken tells session js outcomes (knowledge pass) taken → GoOn tells may session ks os results taken after old new
-    → AreServed tells may session jobs old new results (known_by p) after
-are_served tells may session jobs outcomes results p pass taken after old new is js ks os first second third takes goes =
-    subst (λ (k : Knowledge). AreServed tells may session jobs old new results k after) (ap known_by (sym is)) (record {
-      outcomes = outcomes;
-      taken = taken;
-      first = subst (λ (x : List Job). AreTaken tells session x outcomes (knowledge pass) taken) first takes;
-      go_on = subst (λ (x : List Job). GoOn tells may session x outcomes results taken after old new) second
-          (subst (λ (o : List Outcome). GoOn tells may session ks o results taken after old new) third goes);
-    })
+-- the datagrams of the jobs behind these were taken, with the lists as the parts of the call were lent them
+pub taken_on : {A : Type 0} (tells : Ghosts A) (session : ℕ) (jobs : List Job) (old new : List Outcome) (p : Option Pass) (pass : Pass)
+    (before after : Knowledge) → p ≡ Some pass → (js front back : List Job) (n : ℕ) → js ≡ jobs → n ≡ length old → front ≡ take n js
+    → js ≡ front ++ back → FirstAreTaken tells session jobs old before (known_by p)
+    → (AreTaken tells session front old before (knowledge pass) → AreTaken tells session (front ++ back) new before after)
+    → AreTaken tells session jobs new before after
+taken_on tells session jobs old new p pass before after is js front back n lent long first splits taken step =
+    subst (λ (xs : List Job). AreTaken tells session xs new before after) (sym splits ∙ lent)
+    (step (subst (λ (xs : List Job). AreTaken tells session xs old before (knowledge pass)) (sym (first ∙ (λ i. take (long i) (lent i))))
+    (subst (λ (k : Knowledge). AreTaken tells session (take (length old) jobs) old before k) (ap known_by is) taken)))
+
+-- where all were taken in one call
+pub all_taken : {A : Type 0} (tells : Ghosts A) (session : ℕ) (jobs js : List Job) (old new : List Outcome) (before after : Knowledge) → old ≡ []
+    → ((k : Knowledge) → FirstAreTaken tells session jobs old k before → AreTaken tells session js new k after)
+    → AreTaken tells session js new before after
+all_taken tells session jobs js old new before after none step =
+    step before (subst (λ (os : List Outcome). FirstAreTaken tells session jobs os before before) (sym none) refl)
+
+-- a session went on, with the lists as the parts of the call were lent them
+pub gone_on : {A : Type 0} (tells : Ghosts A) (may : ℕ → ℕ → Go → Type 0) (session : ℕ) (jobs : List Job) (outcomes : List Outcome)
+    (results : List Served) (p : Option Pass) (pass : Pass) (after : Knowledge) (old new : LinkState) → p ≡ Some pass
+    → (js : List Job) (os : List Outcome) → js ≡ jobs → os ≡ outcomes → GoOn tells may session js os results (knowledge pass) after old new
+    → GoOn tells may session jobs outcomes results (known_by p) after old new
+gone_on tells may session jobs outcomes results p pass after old new is js os first second goes =
+    subst (λ (k : Knowledge). GoOn tells may session jobs outcomes results k after old new) (ap known_by (sym is))
+    (subst (λ (x : List Job). GoOn tells may session x outcomes results (knowledge pass) after old new) first
+    (subst (λ (o : List Outcome). GoOn tells may session js o results (knowledge pass) after old new) second goes))
+
+-- a session that took all datagrams and then went on with each served the jobs
+pub both_served : {A : Type 0} (tells : Ghosts A) (may : ℕ → ℕ → Go → Type 0) (session : ℕ) (jobs : List Job) (outcomes : List Outcome)
+    (results : List Served) (before taken after : Knowledge) (old new : LinkState) (s : ℕ) (js : List Job) → s ≡ session → js ≡ jobs
+    → AreTaken tells session js outcomes before taken → GoOn tells may s js outcomes results taken after old new
+    → AreServed tells may session jobs old new results before after
+both_served tells may session jobs outcomes results before taken after old new s js own same takes goes = record {
+  outcomes = outcomes;
+  taken = taken;
+  first = subst (λ (x : List Job). AreTaken tells session x outcomes before taken) same takes;
+  go_on = subst (λ (x : List Job). GoOn tells may session x outcomes results taken after old new) same
+      (subst (λ (n : ℕ). GoOn tells may n js outcomes results taken after old new) own goes);
+}
 
 -- what was added to several jobs' answers stands among those to more
 module _ (told : Bool) (session size : ℕ) where

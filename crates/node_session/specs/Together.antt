@@ -1,6 +1,6 @@
 -- How a session serves several jobs together, so that one commit makes all their answers firm: each datagram is taken
 -- in a turn of its own, and then the session goes on with each answer as it does with a single one.
-use Rattle.std.specs.Prelude.{◌≡◌, ◌⊎◌, ◌≤◌, ℕ, Bool, List, [], ◌∷◌, ◌++◌, All, length}
+use Rattle.std.specs.Prelude.{◌≡◌, ◌⊎◌, ◌≤◌, ℕ, Bool, List, [], ◌∷◌, ◌++◌, All, length, take}
 use Rattle.area_disk.specs.declared.area.Area.{Ghosts}
 use Rattle.gw_base.specs.Facts.{WhereTold}
 use Rattle.gw_base.specs.Owes.{Begins}
@@ -26,6 +26,10 @@ module _ {A : Type 0} (tells : Ghosts A) where
       × AreTaken session jobs outcomes taken after
   AreTaken session [] (outcome ∷ outcomes) before after = ⊥
   AreTaken session (job ∷ jobs) [] before after = ⊥
+
+  -- the datagrams of the first of these jobs were taken with these outcomes
+  abbrev pub FirstAreTaken : ℕ → List Job → List Outcome → Knowledge → Knowledge → Type 0
+  FirstAreTaken session jobs outcomes before after = AreTaken session (take (length outcomes) jobs) outcomes before after
 
   module _ (may : ℕ → ℕ → Go → Type 0) (session : ℕ) where
     -- the session went on with each of these jobs, by its outcome, in order

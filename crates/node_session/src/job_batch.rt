@@ -1,5 +1,5 @@
 // Jobs that a session serves together.
-ghost use Rattle.std.specs.Prelude.{◌≤◌, vec_capacity};
+ghost use Rattle.std.specs.Prelude.{◌≤◌, length, vec_capacity};
 
 use crate::served::Served;
 use gateway_book::Outcome;
@@ -7,23 +7,26 @@ use gw_base::NoMemory;
 use job_inbox::Job;
 use std::alloc::Global;
 
-/// Jobs that a session serves together, with room for so many, and what became of each.
+/// Jobs that a session serves together, with room for so many, the outcomes of those whose datagrams were taken, which
+/// are the first ones, and what became of each.
 #[derive(Drop)]
 pub struct JobBatch {
     pub(crate) jobs: Vec<Job>,
     pub(crate) outcomes: Vec<Outcome>,
     pub(crate) served: Vec<Served>,
     ghost room: { (vec_capacity jobs ≤ vec_capacity outcomes) × (vec_capacity jobs ≤ vec_capacity served) },
+    ghost first: { length outcomes.items ≤ length jobs.items },
 }
 
 impl JobBatch {
-    ghost use Rattle.std.specs.Prelude.{◌≡◌, ◌<◌, ℕ, [], ◌∷◌, ◌++◌, false, IfOk};
-    ghost use Rattle.node_session.specs.Batches.{HasRoomFor, is_full, jobs_of, served_of};
+    ghost use Rattle.std.specs.Prelude.{◌≡◌, ◌<◌, ℕ, [], ◌∷◌, ◌++◌, false, true, IfOk};
+    ghost use Rattle.node_session.specs.Batches.{AreAllTaken, HasRoomFor, is_full, jobs_of, outcomes_of, served_of};
 
     /// A batch without a job, and with room for so many.
     pub fn new(alloc: Global, room: usize) -> Result<JobBatch, NoMemory>
         requires some { 0 < room }
-        ensures empty { IfOk result (λ batch. (jobs_of batch ≡ []) × (served_of batch ≡ [])) }
+        ensures empty { IfOk result (λ batch.
+            (jobs_of batch ≡ []) × (outcomes_of batch ≡ []) × (served_of batch ≡ [])) }
         ensures room { IfOk result (λ batch. HasRoomFor batch room) }
     {
         let Ok(jobs) = Vec::with_capacity(alloc, room) else {
@@ -53,7 +56,7 @@ impl JobBatch {
     pub fn add(&mut self, job: Job)
         requires room { is_full self.old ≡ false }
         ensures jobs { jobs_of self.new ≡ jobs_of self.old ++ job ∷ [] }
-        ensures served { served_of self.new ≡ served_of self.old }
+        ensures same { (outcomes_of self.new ≡ outcomes_of self.old) × (served_of self.new ≡ served_of self.old) }
         ensures room { (n : ℕ) → HasRoomFor self.old n → HasRoomFor self.new n }
     {
         self.jobs.push_reserved(job);
@@ -66,6 +69,13 @@ impl JobBatch {
         self.jobs.as_slice()
     }
 
+    /// Whether the datagram of each job was taken.
+    pub fn are_all_taken(&self) -> bool
+        ensures { result ≡ true → AreAllTaken self.now }
+    {
+        self.outcomes.len() == self.jobs.len()
+    }
+
     /// What became of each job, once they were served.
     pub fn served(&self) -> &[Served]
         ensures { result.now ≡ served_of self.now }
@@ -75,9 +85,10 @@ impl JobBatch {
 
     /// Drops all jobs, and what became of them. Its room stays.
     pub fn clear(&mut self)
-        ensures { (jobs_of self.new ≡ []) × (served_of self.new ≡ [])
-            × ((n : ℕ) → HasRoomFor self.old n → HasRoomFor self.new n) }
+        ensures none { (jobs_of self.new ≡ []) × (outcomes_of self.new ≡ []) × (served_of self.new ≡ []) }
+        ensures room { (n : ℕ) → HasRoomFor self.old n → HasRoomFor self.new n }
     {
+        self.outcomes.clear();
         self.jobs.clear();
         self.served.clear();
     }

@@ -1,7 +1,9 @@
 // How a session serves several jobs together.
-ghost use Rattle.std.specs.Prelude.{◌≡◌, ◌≤◌, [], length, vec_capacity};
+ghost use Rattle.std.specs.Prelude.{◌≡◌, ◌≤◌, ◌+◌, ◌++◌, List, [], length, vec_capacity};
 ghost use Rattle.gateway_book.specs.Turning.{tells_lists};
+ghost use Rattle.job_inbox.specs.declared.job.Job.{Job};
 ghost use Rattle.turn_cell.specs.Cell.{IsPassOf, knowledge};
+ghost use Rattle.turn_cell.specs.declared.knowing.Knowledge.{Knowledge};
 ghost use Rattle.node_session.specs.Together.{AreTaken, GoOn, HaveTurnsFor};
 
 use crate::gate::Gate;
@@ -15,8 +17,8 @@ use net_link::Link;
 use std::sync::Wait;
 use turn_cell::{Pass, TurnCell};
 
-/// Takes the datagrams of jobs, each in a turn of its own, in order. It waits once for all these turns. It takes no
-/// memory.
+/// Takes the datagrams of jobs, each in a turn of its own, in order, with their outcomes behind those of the jobs whose
+/// datagrams were taken before. It waits once for all these turns. It takes no memory.
 pub(crate) fn take_each<A: Area, R: Wait>(
     rt: &R,
     cell: &TurnCell<Book<A>>,
@@ -27,11 +29,14 @@ pub(crate) fn take_each<A: Area, R: Wait>(
 ) -> Pass
     requires own { IsPassOf cell.now pass }
     requires session { session ≡ (knowledge pass).number }
-    requires room { (outcomes.old.items ≡ []) × (length jobs.now ≤ vec_capacity outcomes.old) }
-    ensures own { IsPassOf cell.now result }
-    ensures taken { AreTaken A.Area session jobs.now outcomes.new.items (knowledge pass) (knowledge result) }
-    ensures turns { HaveTurnsFor (tells_lists A.Area) outcomes.new.items (knowledge result) }
-    ensures each { length outcomes.new.items ≡ length jobs.now }
+    requires room { length outcomes.old.items + length jobs.now ≤ vec_capacity outcomes.old }
+    ensures own { IsPassOf cell.now result × ((knowledge result).number ≡ (knowledge pass).number) }
+    ensures taken { (earlier : List Job) (before : Knowledge) →
+        AreTaken A.Area session earlier outcomes.old.items before (knowledge pass) →
+        AreTaken A.Area session (earlier ++ jobs.now) outcomes.new.items before (knowledge result) }
+    ensures turns { HaveTurnsFor (tells_lists A.Area) outcomes.old.items (knowledge pass) →
+        HaveTurnsFor (tells_lists A.Area) outcomes.new.items (knowledge result) }
+    ensures each { length outcomes.new.items ≡ length outcomes.old.items + length jobs.now }
     ensures capacity { vec_capacity outcomes.new ≡ vec_capacity outcomes.old }
 {
     cell.with_each(rt, pass, &TakingEach { session }, jobs, outcomes)

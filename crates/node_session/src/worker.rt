@@ -103,9 +103,73 @@ impl Worker {
     ghost use Rattle.gw_base.specs.Facts.{WhereTold};
     ghost use Rattle.job_inbox.specs.declared.job.Job.{Job};
     ghost use Rattle.node_session.specs.Answering.{AddsAnswers};
-    ghost use Rattle.node_session.specs.Batches.{HasRoomFor, jobs_of, served_of};
+    ghost use Rattle.node_session.specs.Batches.{AreAllTaken, HasRoomFor, jobs_of, outcomes_of, served_of};
     ghost use Rattle.node_session.specs.Passes.{IsWorkerOf, knowledge_of, session_of};
-    ghost use Rattle.node_session.specs.Together.{AreServed, EachMayHave, KeepsTurnsOf, TellTogether};
+    ghost use Rattle.node_session.specs.Together.{AreServed, AreTaken, EachMayHave, FirstAreTaken, GoOn, HaveTurnsFor, KeepsTurnsOf, TellTogether};
+    ghost use Rattle.turn_cell.specs.declared.knowing.Knowledge.{Knowledge};
+
+    /// Takes the datagrams of those jobs of a batch that have no outcome yet: it waits once, and takes each in a turn, as
+    /// `serve_one` does. It takes no memory.
+    pub fn take<A: Area, R: Wait>(&mut self, rt: &R, cell: &TurnCell<Book<A>>, batch: &mut JobBatch)
+        requires own { IsWorkerOf cell.now self.old }
+        ensures own { IsWorkerOf cell.now self.new × (session_of self.new ≡ session_of self.old) }
+        ensures jobs { jobs_of batch.new ≡ jobs_of batch.old }
+        ensures room { (n : ℕ) → HasRoomFor batch.old n → HasRoomFor batch.new n }
+        ensures all { AreAllTaken batch.new }
+        // What it did, step by step, behind what was done before.
+        ensures taken { (before : Knowledge) → FirstAreTaken A.Area (session_of self.old) (jobs_of batch.old)
+            (outcomes_of batch.old) before (knowledge_of self.old) → AreTaken A.Area (session_of self.old)
+            (jobs_of batch.new) (outcomes_of batch.new) before (knowledge_of self.new) }
+        ensures turns { HaveTurnsFor (tells_lists A.Area) (outcomes_of batch.old) (knowledge_of self.old) →
+            HaveTurnsFor (tells_lists A.Area) (outcomes_of batch.new) (knowledge_of self.new) }
+    {
+        let Some(pass) = self.pass.take() else {
+            unreachable!();
+        };
+        let (_, jobs) = batch.jobs.as_slice().split_at(batch.outcomes.len());
+        let pass = take_each(rt, cell, pass, self.session, jobs, &mut batch.outcomes);
+        self.pass = Some(pass);
+    }
+
+    /// Goes on with the jobs of a batch, whose datagrams were all taken, as `serve_one` does with one, in order: a
+    /// commit makes all their answers firm. What became of each is in the batch then. It takes no memory, but where
+    /// the link does.
+    pub fn go_on<A: Area, G: Gate, L: Link, R: Wait>(
+        &mut self,
+        rt: &R,
+        cell: &TurnCell<Book<A>>,
+        batch: &mut JobBatch,
+        gate: &G,
+        link: &mut L,
+    )
+        requires own { IsWorkerOf cell.now self.old }
+        requires all { AreAllTaken batch.old }
+        requires turns { HaveTurnsFor (tells_lists A.Area) (outcomes_of batch.old) (knowledge_of self.old) }
+        ensures own { IsWorkerOf cell.now self.new × (session_of self.new ≡ session_of self.old) }
+        ensures number { session_of self.old ≡ (knowledge_of self.new).number }
+        ensures jobs { jobs_of batch.new ≡ jobs_of batch.old }
+        ensures room { (n : ℕ) → HasRoomFor batch.old n → HasRoomFor batch.new n }
+        ensures goes { GoOn A.Area (G.may gate.now) (session_of self.old) (jobs_of batch.old) (outcomes_of batch.old)
+            (served_of batch.new) (knowledge_of self.old) (knowledge_of self.new) (L.state link.old)
+            (L.state link.new) }
+    {
+        let Some(pass) = self.pass.take() else {
+            unreachable!();
+        };
+        batch.served.clear();
+        let pass = go_on_each(
+            rt,
+            cell,
+            pass,
+            gate,
+            self.session,
+            link,
+            batch.jobs.as_slice(),
+            batch.outcomes.as_slice(),
+            &mut batch.served,
+        );
+        self.pass = Some(pass);
+    }
 
     /// Serves the jobs of a batch on a link, so that one commit makes all their answers firm: it waits once, takes each
     /// datagram in a turn, as `serve_one` does, and once all are taken it goes on with each as that does, in order. What
@@ -138,30 +202,8 @@ impl Worker {
         ensures answers { WhereTold (tells_lists A.Area) ((jobs : List Job) → AddsAnswers jobs (knowledge_of self.old) →
             AddsAnswers (jobs ++ jobs_of batch.old) (knowledge_of self.new)) }
     {
-        let Some(pass) = self.pass.take() else {
-            unreachable!();
-        };
         batch.outcomes.clear();
-        batch.served.clear();
-        let pass = take_each(
-            rt,
-            cell,
-            pass,
-            self.session,
-            batch.jobs.as_slice(),
-            &mut batch.outcomes,
-        );
-        let pass = go_on_each(
-            rt,
-            cell,
-            pass,
-            gate,
-            self.session,
-            link,
-            batch.jobs.as_slice(),
-            batch.outcomes.as_slice(),
-            &mut batch.served,
-        );
-        self.pass = Some(pass);
+        self.take(rt, cell, batch);
+        self.go_on(rt, cell, batch, gate, link);
     }
 }
