@@ -25,8 +25,9 @@ use Rattle.turn_cell.specs.declared.cell.TurnCell.{TurnCell}
 use Rattle.turn_cell.specs.declared.knowing.KeptTurn.{KeptTurn}
 use Rattle.turn_cell.specs.declared.knowing.Knowledge.{Knowledge}
 use Rattle.session_run.specs.Desks.{AreRepliesTo, HasWorked, IsReplyTo, IsSince, began_at, hand_at, known_at, link_at}
-use Rattle.session_run.specs.Ending.{AreNumbered, IsSeated, known_among, links_of, passes_among}
+use Rattle.session_run.specs.Ending.{AreNumbered, IsFresh, IsSeated, known_among, links_of, passes_among}
 use Rattle.session_run.specs.Filing.{HasWritten}
+use Rattle.session_run.specs.Latest.{latest}
 use Rattle.session_run.specs.Reception.{CountsTurns, HasDispatched, IfTurns, PushedOfTold, link_of}
 use Rattle.session_run.specs.Running.{IsFew}
 use Rattle.session_run.specs.Team.{AreDesksOf, HaveServed, IsReady, IsTeamOf}
@@ -48,18 +49,19 @@ none_added jobs k none = subst (λ (ts : List KeptTurn). All (IsAnswerTo k.size 
 module _ {L : Type 0} (tells : paths.Ghosts L) (told : Bool) (at : Addr) (start : Facts) where
   -- a session that has taken no job
   pub desk_begun : (n : ℕ) (desk : Desk L) → known_at desk ≡ newcomer n start → hand_at desk ≡ idle → IsNewAt at (link_at tells desk)
-      → desk.stop ≡ None → HasWorked tells told at (began_at start n) desk
-  desk_begun n desk knows hand new runs = record {
+      → IsFresh desk → HasWorked tells told at (began_at start n) desk
+  desk_begun n desk knows hand new fresh = record {
     number = ap (λ (k : Knowledge). k.number) knows;
     size = ap (λ (k : Knowledge). k.size) knows;
     faults = ap (λ (k : Knowledge). k.faults) knows;
     since = subst (λ (ts : List KeptTurn). All (IsSince start.faults) ts) (sym (ap (λ (k : Knowledge). k.turns) knows)) (All-nil (IsSince start.faults));
     none_put = ap (λ (h : Hand). h.put) hand;
+    last = fresh.unused ∙ sym (ap (λ (h : Hand). latest h.taken) hand);
     answers = λ y. none_added (hand_at desk).taken (known_at desk) (ap (λ (k : Knowledge). k.turns) knows);
     replies = λ y. none_sent (hand_at desk).taken (known_at desk) (link_at tells desk).sent new.sent;
     link = record { address = new.at; turns = new.turns; received = new.received };
-    cause = λ is. absurd (cc (sym runs ∙ is));
-    no_clock = λ is. cc (sym runs ∙ is);
+    cause = λ is. absurd (cc (sym fresh.runs ∙ is));
+    no_clock = λ is. cc (sym fresh.runs ∙ is);
   }
 
   all_idle : (hands : List Hand) (told' : Option (List Datagram)) → hands ≡ idle ∷ idle ∷ idle ∷ idle ∷ [] → All (PushedOfTold told') hands
@@ -133,9 +135,6 @@ module _ {F L : Type 0} (files : shelves.Ghosts F) (tells : paths.Ghosts L) (tol
   abbrev IsNew : L → Type 0
   IsNew link = IsNewAt at (tells.state link)
 
-  abbrev Runs : Desk L → Type 0
-  Runs desk = desk.stop ≡ None
-
   -- the links and the desks after the first ones
   abbrev links3 : List L
   links3 = team.second.0.link ∷ team.second.1.link ∷ []
@@ -198,14 +197,14 @@ module _ {F L : Type 0} (files : shelves.Ghosts F) (tells : paths.Ghosts L) (tol
     new4 : All IsNew (team.second.1.link ∷ [])
     new4 = All-tail IsNew team.second.0.link (team.second.1.link ∷ []) new3
 
-    runs1 : All Runs desks1
-    runs1 = All-tail Runs team.first.0 desks1 seated.runs
+    fresh1 : All IsFresh desks1
+    fresh1 = All-tail IsFresh team.first.0 desks1 seated.fresh
 
-    runs2 : All Runs desks2
-    runs2 = All-tail Runs team.first.1 desks2 runs1
+    fresh2 : All IsFresh desks2
+    fresh2 = All-tail IsFresh team.first.1 desks2 fresh1
 
-    runs3 : All Runs (team.second.1 ∷ [])
-    runs3 = All-tail Runs team.second.0 (team.second.1 ∷ []) runs2
+    fresh3 : All IsFresh (team.second.1 ∷ [])
+    fresh3 = All-tail IsFresh team.second.0 (team.second.1 ∷ []) fresh2
 
     knows_firm : writing.knowledge_of team.actor ≡ newcomer 4 start
     knows_firm = same_head (writing.knowledge_of team.actor) (newcomer 4 start) [] [] known4
@@ -218,13 +217,13 @@ module _ {F L : Type 0} (files : shelves.Ghosts F) (tells : paths.Ghosts L) (tol
     all_begun = record {
       dispatched = reception_begun tells told at start seats.reception none_pushed (All-head IsNew seats.reception.link links1 new0) runs;
       one = desk_begun tells told at start 0 team.first.0 (same_head (known_at team.first.0) (newcomer 0 start) _ _ known)
-          (same_head (hand_at team.first.0) idle _ _ taken) (All-head IsNew team.first.0.link links2 new1) (All-head Runs team.first.0 desks1 seated.runs);
+          (same_head (hand_at team.first.0) idle _ _ taken) (All-head IsNew team.first.0.link links2 new1) (All-head IsFresh team.first.0 desks1 seated.fresh);
       two = desk_begun tells told at start 1 team.first.1 (same_head (known_at team.first.1) (newcomer 1 start) _ _ known1)
-          (same_head (hand_at team.first.1) idle _ _ taken1) (All-head IsNew team.first.1.link links3 new2) (All-head Runs team.first.1 desks2 runs1);
+          (same_head (hand_at team.first.1) idle _ _ taken1) (All-head IsNew team.first.1.link links3 new2) (All-head IsFresh team.first.1 desks2 fresh1);
       three = desk_begun tells told at start 2 team.second.0 (same_head (known_at team.second.0) (newcomer 2 start) _ _ known2)
-          (same_head (hand_at team.second.0) idle _ _ taken2) (All-head IsNew team.second.0.link (team.second.1.link ∷ []) new3) (All-head Runs team.second.0 (team.second.1 ∷ []) runs2);
+          (same_head (hand_at team.second.0) idle _ _ taken2) (All-head IsNew team.second.0.link (team.second.1.link ∷ []) new3) (All-head IsFresh team.second.0 (team.second.1 ∷ []) fresh2);
       four = desk_begun tells told at start 3 team.second.1 (same_head (known_at team.second.1) (newcomer 3 start) _ _ known3)
-          (same_head (hand_at team.second.1) idle _ _ taken3) (All-head IsNew team.second.1.link [] new4) (All-head Runs team.second.1 [] runs3);
+          (same_head (hand_at team.second.1) idle _ _ taken3) (All-head IsNew team.second.1.link [] new4) (All-head IsFresh team.second.1 [] fresh3);
       written = subst (λ (w : Writer F files). HasWritten files told (began_at start 4) w team.actor) seated.writes
           (writer_begun files told start 4 team.actor knows_firm is_ready);
     }

@@ -1,5 +1,5 @@
 -- A session's desk behind jobs that it served together.
-use Rattle.std.proofs.Common.{◌≡◌, ◌≢◌, ⊎_elim, ℕ, Bool, true, List, [], ◌∷◌, ◌++◌, Some, refl, sym, ap, subst, ◌∙◌, append_assoc, arith}
+use Rattle.std.proofs.Common.{◌≡◌, ◌≢◌, ⊎_elim, ℕ, Bool, true, List, [], ◌∷◌, ◌++◌, Option, Some, refl, sym, ap, subst, ◌∙◌, append_assoc, arith}
 use Rattle.std.specs.Prelude.{All}
 use Rattle.std.specs.List.{Contains}
 use Rattle.std.specs.Option.{option_or}
@@ -22,9 +22,11 @@ use Rattle.node_session.specs.declared.served.Served.TheVariants as served
 use Rattle.turn_cell.specs.declared.knowing.KeptTurn.{KeptTurn}
 use Rattle.turn_cell.specs.declared.knowing.Knowledge.{Knowledge}
 use Rattle.session_run.specs.Desks.{AreRepliesTo, Began, HasWorked, HearsNothing, IsSince, first_stop, hand_at, known_at, link_at, with_all_taken}
+use Rattle.session_run.specs.Latest.{later_of, latest}
 use Rattle.session_run.specs.declared.desk.Desk.{Desk}
 use Rattle.session_run.specs.declared.stop.Stop.TheVariants as stop
 use Rattle.session_run.proofs.DeskLemmas.{OnFrom, Within, begins_then, failed_on, fails_still, hears_on, more_turns, on_served, replies_stay, sent_on}
+use Rattle.session_run.proofs.LatestLemmas.{latest_of_both}
 use Rattle.session_run.proofs.StopLemmas.{never_clock, one_of}
 
 from_then : (told : Bool) (one two three : Knowledge) → GoesFrom told one two → GoesFrom told two three → GoesFrom told one three
@@ -127,7 +129,7 @@ module _ {A L : Type 0} (device : area.Ghosts A) (tells : Ghosts L) (may : ℕ �
     (keeps : KeepsTurnsOf (tells_lists device) session jobs (known_at old) (known_at new))
     (told : TellTogether (tells_lists device) session jobs results (known_at old) (known_at new) (link_at tells old) (link_at tells new))
     (adds : WhereTold (tells_lists device) ((earlier : List Job) → AddsAnswers earlier (known_at old) → AddsAnswers (earlier ++ jobs) (known_at new)))
-    (stops : new.stop ≡ option_or old.stop (first_stop results)) (at : Addr) (began : Began)
+    (stops : new.stop ≡ option_or old.stop (first_stop results)) (lasts : new.last ≡ later_of old.last (latest jobs)) (at : Addr) (began : Began)
     (w : HasWorked tells (tells_lists device) at began old) where
   on : OnFrom (tells_lists device) (known_at old) (known_at new)
   on = on_served device may session jobs (link_at tells old) (link_at tells new) results (known_at old) (known_at new) serves
@@ -177,6 +179,8 @@ module _ {A L : Type 0} (device : area.Ghosts A) (tells : Ghosts L) (may : ℕ �
     faults = on.faults ∙ w.faults;
     since = subst (λ (n : ℕ). All (IsSince n) (known_at new).turns) (on.faults ∙ w.faults) since_new;
     none_put = ap (λ (h : Hand). h.put) took ∙ w.none_put;
+    last = lasts ∙ ap (λ (o : Option ℕ). later_of o (latest jobs)) w.last ∙ sym (latest_of_both before_all jobs)
+        ∙ ap (λ (js : List Job). latest js) (sym taken_is);
     answers = λ y. subst (λ (js : List Job). AddsAnswers js (known_at new)) (sym taken_is) (adds y before_all (w.answers y));
     replies = λ y. subst (λ (js : List Job). AreRepliesTo js (known_at new) (link_at tells new).sent) (sym taken_is) (sent_all y (w.replies y));
     link = each_hears (tells_lists device) session at jobs results (known_at old) told.taken (known_at new) (link_at tells old) (link_at tells new) told.each w.link;

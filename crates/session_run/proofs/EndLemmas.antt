@@ -17,6 +17,7 @@ use Rattle.net_link.specs.declared.link.Link as paths
 use Rattle.job_inbox.specs.Inbox as inboxes
 use Rattle.job_inbox.specs.declared.inbox.Inbox.{Inbox}
 use Rattle.job_inbox.specs.declared.inbox.InboxPass.{InboxPass}
+use Rattle.node_session.specs.Answering.{IsAnswer}
 use Rattle.node_session.specs.Passes.{IsOf, known_by}
 use Rattle.node_session.specs.Receiving.{AreOfEach}
 use Rattle.node_session.specs.Writing as writing
@@ -28,7 +29,7 @@ use Rattle.turn_cell.specs.declared.knowing.Knowledge.{Knowledge}
 use Rattle.session_run.specs.Desks.{HasWorked, HearsNothing, began_at}
 use Rattle.session_run.specs.Ending.{AreAllSettled, ArePassesFor, ArePopsOf, AreSettledWith, HasEnded, known_among, links_of}
 use Rattle.session_run.specs.Filing.{KeepsWriter}
-use Rattle.session_run.specs.History.{GoesOn, IsCalledFor, IsReply}
+use Rattle.session_run.specs.History.{GoesOn, GoesOnUntil, IsCalledFor, IsHeard, IsReply, datagram_of}
 use Rattle.session_run.specs.Reception.{CountsTurns, HasDispatched, IfTurns}
 use Rattle.session_run.specs.Running.{AnyOf, AreFiveOf, AreNewAt, AreReplies, HasFailed, HasStopCause, StaysAs, turns_by}
 use Rattle.session_run.specs.Team.{AreDesksOf, HaveServed, Pair, TeamWorksOn, stop_among}
@@ -131,7 +132,7 @@ begins_itself : (xs : List HistoryEntry) → Begins xs xs
 begins_itself xs = ([], sym (append-nil xs))
 
 -- a history that nobody added to
-pub goes_nowhere : (heard : Option (List Datagram)) (f : Facts) → Begins f.firm (joined f) → GoesOn heard f f
+abbrev goes_nowhere : (heard : Option (List Datagram)) (f : Facts) → Begins f.firm (joined f) → GoesOn heard f f
 goes_nowhere heard f firm = record {
   stood = joined f;
   tail = [];
@@ -141,6 +142,16 @@ goes_nowhere heard f firm = record {
   begins = begins_itself f.firm;
   first = firm;
   answers = All-nil (IsCalledFor f.size heard);
+}
+
+pub goes_nowhere_until : (heard : Option (List Datagram)) (f : Facts) → Begins f.firm (joined f) → (last : Option ℕ) → last ≡ None
+    → GoesOnUntil heard f f last
+goes_nowhere_until heard f firm last none = record {
+  goes = goes_nowhere heard f firm;
+  jobs = [];
+  were_heard = All-nil (λ job. IsHeard heard (datagram_of job));
+  answers = All-nil (IsAnswer f.size (λ session. []));
+  latest = none;
 }
 
 pub stays_itself : (f : Facts) → StaysAs f f

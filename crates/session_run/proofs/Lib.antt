@@ -4,10 +4,12 @@ pub mod DeskSteps
 pub mod EndLemmas
 pub mod GivenBackLemmas
 pub mod InboxLemmas
+pub mod LatestLemmas
 pub mod MadeLemmas
 pub mod NumberLemmas
 pub mod ReceptionLemmas
 pub mod RunLemmas
 pub mod StopLemmas
+pub mod TakingLemmas
 pub mod TeamLemmas
 pub mod WriterLemmas

@@ -1,7 +1,8 @@
 -- What a gateway that served hands back, by what each of its parts has done.
 use Rattle.std.proofs.Common.{◌≡◌, ⊎_elim, inl, inr, ℕ, zero, suc, ◌≤◌, Bool, true, List, [], ◌∷◌, ◌++◌, Option, None, Some, sym, ap, subst, ◌∙◌, append_assoc, arith}
 use Rattle.std.specs.Prelude.{All, IfSome}
-use Rattle.std.proofs.lemmas.List.Elements.{All-cons, All-contains, All-head, All-nil, All-tail, All-weaker}
+use Rattle.std.specs.List.{Contains}
+use Rattle.std.proofs.lemmas.List.Elements.{All-append, All-cons, All-contains, All-head, All-nil, All-tail, All-weaker, Contains-append_left, Contains-append_right}
 use Rattle.area_disk.specs.Disk.{Rose}
 use Rattle.cdr_shelf.specs.declared.shelf.Shelf as shelves
 use Rattle.file_writer.specs.declared.writer.Writer.{Writer}
@@ -27,15 +28,17 @@ use Rattle.turn_cell.specs.declared.knowing.Knowledge.{Knowledge}
 use Rattle.session_run.specs.Desks.{AreRepliesTo, began_at, HasFailedSince, HasWorked, IsReplyTo, hand_at, known_at, link_at}
 use Rattle.session_run.specs.Ending.{AreAllSettled, known_among, links_of}
 use Rattle.session_run.specs.Filing.{HasWritten, KeepsWriter}
-use Rattle.session_run.specs.History.{GoesOn, IsAnswered, IsCalledFor, IsHeard, IsReply, TellsFailure, datagram_of}
+use Rattle.session_run.specs.History.{GoesOnUntil, IsAnswered, IsCalledFor, IsHeard, IsReply, TellsFailure, datagram_of}
+use Rattle.session_run.specs.Latest.{later_of, latest}
 use Rattle.session_run.specs.Reception.{HasDispatched, PushedOfTold, link_of}
 use Rattle.session_run.specs.Running.{AreReplies, StaysAs, heard_by}
-use Rattle.session_run.specs.Team.{HaveServed}
+use Rattle.session_run.specs.Team.{HaveServed, last_among}
 use Rattle.session_run.specs.declared.desk.Desk.{Desk}
 use Rattle.session_run.specs.declared.reception.Reception.{Reception}
 use Rattle.session_run.specs.declared.round.Team.{Team}
 use Rattle.session_run.proofs.DeskLemmas.{begins_then}
 use Rattle.session_run.proofs.InboxLemmas.{taken_of_pushed}
+use Rattle.session_run.proofs.LatestLemmas.{latest_of_both}
 use Rattle.session_run.proofs.WriterLemmas.{Stays, writer_on}
 
 abbrev IsHeardJob : Option (List Datagram) → Job → Type 0
@@ -133,6 +136,39 @@ module _ {F L : Type 0} (files : shelves.Ghosts F) (tells : paths.Ghosts L) (tol
         (All-cons Adds (known_at team.second.1) known4 (four.size, adds_at (known_at team.second.1) 3 four.number (four.answers y))
         (All-cons Adds (writing.knowledge_of team.actor) [] (written.size, adds_at (writing.knowledge_of team.actor) 4 written.number written.adds) (All-nil Adds)))))
 
+    -- the jobs that all took, and the latest moment of them
+    abbrev all_jobs : List Job
+    all_jobs = (jobs 0 ++ jobs 1) ++ (jobs 2 ++ jobs 3)
+
+    all_were_heard : All (IsHeardJob heard) all_jobs
+    all_were_heard =
+        All-append (IsHeardJob heard) (jobs 0 ++ jobs 1) (jobs 2 ++ jobs 3)
+        (All-append (IsHeardJob heard) (jobs 0) (jobs 1) (jobs_heard 0) (jobs_heard 1))
+        (All-append (IsHeardJob heard) (jobs 2) (jobs 3) (jobs_heard 2) (jobs_heard 3))
+
+    among_all : (n : ℕ) (job : Job) → Contains (jobs n) job → Contains all_jobs job
+    among_all zero job has =
+        Contains-append_left (jobs 0 ++ jobs 1) (jobs 2 ++ jobs 3) job (Contains-append_left (jobs 0) (jobs 1) job has)
+    among_all (suc zero) job has =
+        Contains-append_left (jobs 0 ++ jobs 1) (jobs 2 ++ jobs 3) job (Contains-append_right (jobs 0) (jobs 1) job has)
+    among_all (suc (suc zero)) job has =
+        Contains-append_right (jobs 0 ++ jobs 1) (jobs 2 ++ jobs 3) job (Contains-append_left (jobs 2) (jobs 3) job has)
+    among_all (suc (suc (suc zero))) job has =
+        Contains-append_right (jobs 0 ++ jobs 1) (jobs 2 ++ jobs 3) job (Contains-append_right (jobs 2) (jobs 3) job has)
+    among_all (suc (suc (suc (suc n)))) job has = absurd (let lt = has.1 in omega (arith, lt))
+
+    answers_one : (p : HistoryEntry × List HistoryEntry) → IsAnswer start.size jobs p → IsAnswer start.size (λ session. all_jobs) p
+    answers_one p a = (a.0, among_all p.0.caller.session a.0 a.1, a.2)
+
+    last_of_all : last_among team ≡ latest all_jobs
+    last_of_all =
+        let each : last_among team ≡ later_of (later_of (latest (jobs 0)) (latest (jobs 1))) (later_of (latest (jobs 2)) (latest (jobs 3))) =
+        λ i. later_of (later_of (one.last i) (two.last i)) (later_of (three.last i) (four.last i)) in
+        let halves : later_of (latest (jobs 0 ++ jobs 1)) (latest (jobs 2 ++ jobs 3))
+        ≡ later_of (later_of (latest (jobs 0)) (latest (jobs 1))) (later_of (latest (jobs 2)) (latest (jobs 3))) =
+        λ i. later_of (latest_of_both (jobs 0) (jobs 1) i) (latest_of_both (jobs 2) (jobs 3) i) in
+        each ∙ sym (latest_of_both (jobs 0 ++ jobs 1) (jobs 2 ++ jobs 3) ∙ halves)
+
     called_for_heard : (p : HistoryEntry × List HistoryEntry) → IsAnswer start.size jobs p → IsCalledFor start.size heard p
     called_for_heard p a = record {
       datagram = datagram_of a.0;
@@ -144,19 +180,29 @@ module _ {F L : Type 0} (files : shelves.Ghosts F) (tells : paths.Ghosts L) (tol
 
     history_goes_on : ((size : ℕ) (of : ℕ → List Job) (begun left : Facts) (passes : List Knowledge)
         → All (λ k. (k.size ≡ size) × AddsAnswers (of k.number) k) passes → (owned : AreOwned begun left passes)
-        → AreAnswers size of owned.stood owned.tail) → WhereTold told (GoesOn heard start now)
-    history_goes_on law y =
+        → AreAnswers size of owned.stood owned.tail) → (last : Option ℕ) → last ≡ last_among team
+        → WhereTold told (GoesOnUntil heard start now last)
+    history_goes_on law last is y =
         let owned = ended.entries y in
+        let each : AreAnswers start.size jobs owned.stood owned.tail =
+        law start.size jobs start now (known_among team) (all_add y) owned in
         record {
-          stood = owned.stood;
-          tail = owned.tail;
-          whole = owned.stands.whole;
-          stood_is = owned.stands.stood_is;
-          firm = owned.stands.firm;
-          begins = owned.stands.begins;
-          first = firm_first now (ended.sound.begins y);
-          answers = All-weaker (IsAnswer start.size jobs) (IsCalledFor start.size heard) called_for_heard
-              (placed owned.stood owned.tail) (law start.size jobs start now (known_among team) (all_add y) owned);
+          goes = record {
+            stood = owned.stood;
+            tail = owned.tail;
+            whole = owned.stands.whole;
+            stood_is = owned.stands.stood_is;
+            firm = owned.stands.firm;
+            begins = owned.stands.begins;
+            first = firm_first now (ended.sound.begins y);
+            answers = All-weaker (IsAnswer start.size jobs) (IsCalledFor start.size heard) called_for_heard
+                (placed owned.stood owned.tail) each;
+          };
+          jobs = all_jobs;
+          were_heard = all_were_heard;
+          answers = All-weaker (IsAnswer start.size jobs) (IsAnswer start.size (λ session. all_jobs)) answers_one
+              (placed owned.stood owned.tail) each;
+          latest = is ∙ last_of_all;
         }
 
     -- a reply of a session rests on what is firm at the end
@@ -249,8 +295,9 @@ module _ {F L : Type 0} (files : shelves.Ghosts F) (tells : paths.Ghosts L) (tol
     (ended : Ended told start now (known_among team)) (settled : AreAllSettled (hands_of reception.dispatcher) team) where
   pub run_goes_on : ((size : ℕ) (of : ℕ → List Job) (begun left : Facts) (passes : List Knowledge)
       → All (λ k. (k.size ≡ size) × AddsAnswers (of k.number) k) passes → (owned : AreOwned begun left passes)
-      → AreAnswers size of owned.stood owned.tail) → WhereTold told (GoesOn (heard_by tells (links_of reception team)) start now)
-  run_goes_on law = history_goes_on files tells told at start now reception team s.dispatched s.one s.two s.three s.four ended writer s.written settled law
+      → AreAnswers size of owned.stood owned.tail) → (last : Option ℕ) → last ≡ last_among team
+      → WhereTold told (GoesOnUntil (heard_by tells (links_of reception team)) start now last)
+  run_goes_on law last is = history_goes_on files tells told at start now reception team s.dispatched s.one s.two s.three s.four ended writer s.written settled law last is
 
   pub run_replies : WhereTold told (AreReplies tells (heard_by tells (links_of reception team)) start now (links_of reception team))
   run_replies = all_replies files tells told at start now reception team s.dispatched s.one s.two s.three s.four ended writer s.written settled

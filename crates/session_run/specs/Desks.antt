@@ -21,6 +21,7 @@ use Rattle.turn_cell.specs.declared.cell.TurnCell.{TurnCell}
 use Rattle.turn_cell.specs.declared.knowing.KeptTurn.{KeptTurn}
 use Rattle.turn_cell.specs.declared.knowing.Knowledge.{Knowledge}
 use Rattle.session_run.specs.History.{IsAnswered, TellsFailure, datagram_of}
+use Rattle.session_run.specs.Latest.{latest}
 use Rattle.session_run.specs.declared.desk.Desk.{Desk}
 use Rattle.session_run.specs.declared.stop.Stop.{Stop}
 use Rattle.session_run.specs.declared.stop.Stop.TheVariants as stop
@@ -105,6 +106,7 @@ module _ {L : Type 0} (tells : Ghosts L) (told : Bool) (at : Addr) (began : Bega
     pub faults : (known_at desk).faults ≡ began.faults
     pub since : All (IsSince began.faults) (known_at desk).turns
     pub none_put : (hand_at desk).put ≡ []
+    pub last : desk.last ≡ latest (hand_at desk).taken
     pub answers : WhereTold told (AddsAnswers (hand_at desk).taken (known_at desk))
     pub replies : WhereTold told (AreRepliesTo (hand_at desk).taken (known_at desk) (link_at tells desk).sent)
     pub link : HearsNothing at (link_at tells desk)

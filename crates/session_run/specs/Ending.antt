@@ -61,6 +61,11 @@ module _ {L : Type 0} where
       AreSettled (hand pushes.0 ∷ hand_at first.0 ∷ []) × AreSettled (hand pushes.1 ∷ hand_at first.1 ∷ [])
       × AreSettled (hand pushes.2 ∷ hand_at second.0 ∷ []) × AreSettled (hand pushes.3 ∷ hand_at second.1 ∷ [])
 
+  -- nothing stopped a session, and it knows no moment of a job
+  pub record IsFresh (desk : Desk L) : Type 0 where
+    pub runs : desk.stop ≡ None
+    pub unused : desk.last ≡ None
+
 module _ {F L : Type 0} {files : shelf.Ghosts F} where
   -- the desks of all
   abbrev pub desks_among : Team F L files → List (Desk L)
@@ -87,14 +92,14 @@ module _ {F L : Type 0} {files : shelf.Ghosts F} where
   links_of reception team =
       reception.link ∷ team.first.0.link ∷ team.first.1.link ∷ team.second.0.link ∷ team.second.1.link ∷ []
 
-  -- Each has its pass, its link and its inbox, in their order, and nothing stopped any.
+  -- Each has its pass, its link and its inbox, in their order, and nothing stopped any, nor does one know a moment.
   pub record IsSeated (passes : List Pass) (links : List L) (pops : List InboxPass) (writer : Writer F files)
       (seats : Seats F L files) : Type 0 where
     pub has : passes_among seats.team ≡ map Some passes
     pub sends : links_of seats.reception seats.team ≡ links
     pub takes : pops_among seats.team ≡ pops
     pub writes : writing.writer_of seats.team.actor ≡ writer
-    pub runs : All (λ desk. desk.stop ≡ None) (desks_among seats.team)
+    pub fresh : All IsFresh (desks_among seats.team)
 
   -- each inbox was ended with the passes of who pushed to it and who popped from it
   abbrev pub AreAllSettled : List Hand → Team F L files → Type 0

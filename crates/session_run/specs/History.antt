@@ -11,8 +11,10 @@ use Rattle.gateway_book.specs.Answer.{Says, failure_reply}
 use Rattle.gateway_book.specs.Preparing.{prepared_of}
 use Rattle.job_inbox.specs.declared.job.Job.{Job}
 use Rattle.net_link.specs.Datagrams.{Datagram}
+use Rattle.node_session.specs.Answering.{AreAnswers}
 use Rattle.node_session.specs.Turns.{called_for, decided_at, entries_of}
 use Rattle.turn_cell.specs.Placed.{placed}
+use Rattle.session_run.specs.Latest.{latest}
 
 -- the datagram that a job has
 abbrev pub datagram_of : Job → Datagram
@@ -42,6 +44,15 @@ pub record GoesOn (heard : Option (List Datagram)) (start now : Facts) : Type 0 
   pub begins : Begins start.firm now.firm
   pub first : Begins now.firm (joined now)
   pub answers : All (IsCalledFor start.size heard) (placed stood tail)
+
+-- A history goes on by answers to jobs, each to one at its own moment. The jobs are datagrams that were heard, and the
+-- latest moment of any is this.
+pub record GoesOnUntil (heard : Option (List Datagram)) (start now : Facts) (last : Option ℕ) : Type 0 where
+  pub goes : GoesOn heard start now
+  pub jobs : List Job
+  pub were_heard : All (λ job. IsHeard heard (datagram_of job)) jobs
+  pub answers : AreAnswers start.size (λ session. jobs) goes.stood goes.tail
+  pub latest : last ≡ latest jobs
 
 -- These octets are what is answered to a datagram at a history; it is firm, and the entry that the answer calls for, if
 -- any, is firm behind it.

@@ -1,5 +1,6 @@
 -- What public clauses cite.
 pub mod History
+pub mod Latest
 pub mod Running
 pub mod Links
 pub mod Filing

@@ -1,5 +1,5 @@
 -- Four sessions by two, and who writes the files, as they go on.
-use Rattle.std.specs.Prelude.{Bool, List, [], ◌∷◌, Option}
+use Rattle.std.specs.Prelude.{ℕ, Bool, List, [], ◌∷◌, Option}
 use Rattle.std.specs.Option.{option_or}
 use Rattle.cdr_shelf.specs.declared.shelf.Shelf as shelf
 use Rattle.file_writer.specs.declared.writer.Writer.{Writer}
@@ -12,6 +12,7 @@ use Rattle.node_session.specs.declared.actor.FileActor.{FileActor}
 use Rattle.turn_cell.specs.declared.cell.TurnCell.{TurnCell}
 use Rattle.session_run.specs.Desks.{Began, HasWorked, IsDeskOf, began_at}
 use Rattle.session_run.specs.Filing.{HasWritten}
+use Rattle.session_run.specs.Latest.{later_of}
 use Rattle.session_run.specs.Reception.{HasDispatched}
 use Rattle.session_run.specs.declared.desk.Desk.{Desk}
 use Rattle.session_run.specs.declared.reception.Reception.{Reception}
@@ -50,6 +51,10 @@ module _ {F L : Type 0} {files : shelf.Ghosts F} where
   abbrev pub stop_among : Team F L files → Option Stop
   stop_among team =
       option_or (option_or (option_or team.first.0.stop team.first.1.stop) team.second.0.stop) team.second.1.stop
+
+  abbrev pub last_among : Team F L files → Option ℕ
+  last_among team =
+      later_of (later_of team.first.0.last team.first.1.last) (later_of team.second.0.last team.second.1.last)
 
   pub record IsTeamOf {V : Type 0} (cell : TurnCell V) (inboxes : List Inbox) (team : Team F L files)
       : Type 0 where

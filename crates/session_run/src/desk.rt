@@ -1,6 +1,7 @@
 // What a session has of its own while it serves.
 ghost use Rattle.std.specs.Prelude.{◌≡◌};
 ghost use Rattle.session_run.specs.Desks.{first_stop, stop_of};
+ghost use Rattle.session_run.specs.Latest.{later_of};
 
 use crate::stop::Stop;
 use gw_base::Moment;
@@ -43,7 +44,9 @@ pub(crate) fn first_stop(served: &[Served]) -> Option<Stop>
 }
 
 /// The later of two moments, where there are any.
-pub(crate) fn later(one: Option<Moment>, other: Option<Moment>) -> Option<Moment> {
+pub(crate) fn later(one: Option<Moment>, other: Option<Moment>) -> Option<Moment>
+    ensures { result ≡ later_of one other }
+{
     match (one, other) {
         (Some(a), Some(b)) => if a < b { Some(b) } else { Some(a) },
         (Some(a), None) => Some(a),

@@ -7,7 +7,7 @@ ghost use Rattle.node_session.specs.Receiving.{AreOfEach, passes_of};
 ghost use Rattle.node_session.specs.Writing.{IsActorOf};
 ghost use Rattle.session_run.specs.Desks.{IsDeskOf};
 ghost use Rattle.session_run.specs.Reception.{CountsTurns, HasDispatched, IfTurns};
-ghost use Rattle.session_run.specs.Team.{AreDesksOf, ArePairOf, IsReady, IsTeamOf, TeamWorksOn, WorksOn, WritesOn, stop_among};
+ghost use Rattle.session_run.specs.Team.{AreDesksOf, ArePairOf, IsReady, IsTeamOf, TeamWorksOn, WorksOn, WritesOn, last_among, stop_among};
 ghost use Rattle.session_run.specs.declared.stop.Stop.TheVariants as stop;
 
 use crate::beside::{beside, take_back};
@@ -54,7 +54,9 @@ impl<F: Shelf, L: Link> Team<F, L> {
     }
 
     /// The latest moment of a job that was taken.
-    pub fn last(&self) -> Option<Moment> {
+    pub fn last(&self) -> Option<Moment>
+        ensures { result ≡ last_among self.now }
+    {
         let first = later(self.first.0.last, self.first.1.last);
         let second = later(self.second.0.last, self.second.1.last);
         later(first, second)

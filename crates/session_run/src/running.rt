@@ -9,13 +9,13 @@ ghost use Rattle.node_session.specs.Receiving.{AreOfEach, hands_of, passes_of};
 ghost use Rattle.node_session.specs.Writing.{IsWriterOf, writer_of};
 ghost use Rattle.turn_cell.specs.Cell.{begun, made_by};
 ghost use Rattle.turn_cell.specs.declared.cell.Pass.{Pass};
-ghost use Rattle.session_run.specs.Ending.{AreAllSettled, AreNumbered, ArePassesFor, ArePopsOf, AreSettledWith, HasEnded, HasSome, IsLastNumber, IsSeated, TakesLast, links_of};
+ghost use Rattle.session_run.specs.Ending.{AreAllSettled, AreNumbered, ArePassesFor, ArePopsOf, AreSettledWith, HasEnded, HasSome, IsFresh, IsLastNumber, IsSeated, TakesLast, links_of};
 ghost use Rattle.session_run.specs.Filing.{KeepsWriter};
-ghost use Rattle.session_run.specs.History.{GoesOn};
+ghost use Rattle.session_run.specs.History.{GoesOnUntil};
 ghost use Rattle.session_run.specs.Making.{HasRoomForTwo, HasTwo, pops_in};
 ghost use Rattle.session_run.specs.Reception.{IfTurns};
 ghost use Rattle.session_run.specs.Running.{AreFiveOf, AreNewAt, AreReplies, HasStopCause, IsFew, StaysAs, heard_by, turns_by};
-ghost use Rattle.session_run.specs.Team.{IsTeamOf, stop_among};
+ghost use Rattle.session_run.specs.Team.{IsTeamOf, last_among, stop_among};
 ghost use Rattle.session_run.specs.declared.stop.Stop.TheVariants as stop;
 
 use crate::desk::Desk;
@@ -61,9 +61,10 @@ pub fn run<
     requires writer { IsWriterOf (tells_lists A.Area) (value_of gateway.book).firm gateway.writer }
     requires few { IsFew until }
 
-    // The history goes on by answers to datagrams that the first link received, and nothing else.
-    ensures history { WhereTold (tells_lists A.Area) (GoesOn (heard_by L.Link result.gateway.links.items)
-        (facts_of gateway.book) (facts_of result.gateway.book)) }
+    // The history goes on by answers to datagrams that the first link received, and nothing else: to jobs of which
+    // the latest is told.
+    ensures history { WhereTold (tells_lists A.Area) (GoesOnUntil (heard_by L.Link result.gateway.links.items)
+        (facts_of gateway.book) (facts_of result.gateway.book) result.last) }
     // What the links sent are replies to such datagrams, each of which rests on what is firm.
     ensures replies { WhereTold (tells_lists A.Area) (AreReplies L.Link
         (heard_by L.Link result.gateway.links.items) (facts_of gateway.book) (facts_of result.gateway.book)
@@ -127,6 +128,7 @@ pub fn run<
 // A gateway that didn't serve for want of memory.
 fn unserved<A: Area, F: Shelf, L: Link>(gateway: Gateway<A, F, L>) -> Ran<A, F, L>
     ensures gateway { result.gateway ≡ gateway }
+    ensures last { result.last ≡ None }
     ensures stop { result.stop ≡ Some stop.NoMemory }
 {
     Ran {
@@ -217,7 +219,8 @@ fn next_desk<L: Link>(
     requires some { (0 < vec_len passes.old) × (0 < vec_len links.old) }
     ensures pass { (pass : Pass) × (pass_of result.worker ≡ Some pass) × TakesLast passes.old passes.new pass }
     ensures link { TakesLast links.old links.new result.link }
-    ensures rest { (session_of result.worker ≡ session) × (result.pass ≡ pop) × (result.stop ≡ None) }
+    ensures rest { (session_of result.worker ≡ session) × (result.pass ≡ pop) }
+    ensures fresh { IsFresh result }
 {
     let Some(pass) = passes.pop() else {
         unreachable!();
@@ -254,6 +257,7 @@ fn end<A: Area, F: Shelf, L: Link>(
     ensures settled { AreAllSettled (hands_of served.0.dispatcher) served.1 }
     ensures links { result.gateway.links.items ≡ links_of served.0 served.1 }
     ensures writer { (result.gateway.writer ≡ writer_of served.1.actor) × (result.gateway.address ≡ address) }
+    ensures last { result.last ≡ last_among served.1 }
     ensures stop { result.stop ≡ option_or served.0.stop (stop_among served.1) }
 {
     let (reception, team) = served;

@@ -1,12 +1,16 @@
-use Rattle.std.proofs.Common.{◌≡◌}
+use Rattle.std.proofs.Common.{◌≡◌, ◌++◌, List}
 use Rattle.job_inbox.specs.Inbox.{IsPassOf, knowledge}
-use Rattle.node_session.specs.Batches.{jobs_of}
+use Rattle.job_inbox.specs.declared.job.Job.{Job}
+use Rattle.node_session.specs.Batches.{jobs_of, outcomes_of}
 use Rattle.session_run.specs.Desks.{with_all_taken}
+use Rattle.session_run.specs.Latest.{later_of, latest}
 use Rattle.session_run.proofs.desks.fill.Given as goal
 
--- the pass took the jobs of the batch
+-- the pass took the jobs that stand behind those in the batch
 abbrev pub invariant-loop : goal.invariant-loop
 invariant-loop g l = record {
   own : IsPassOf l.inbox l.pass;
-  taken : knowledge l.pass ≡ with_all_taken (jobs_of l.batch) (knowledge l.fn.pass);
+  taken : (more : List Job) × (jobs_of l.batch ≡ jobs_of l.fn.batch ++ more) × (knowledge l.pass ≡ with_all_taken more (knowledge l.fn.pass))
+      × (l.last ≡ later_of l.fn.last (latest more));
+  same : outcomes_of l.batch ≡ outcomes_of l.fn.batch;
 }

@@ -8,14 +8,14 @@ use Rattle.node_session.specs.Receiving.{AreOfEach, hands_of, passes_of}
 use Rattle.node_session.specs.declared.dispatcher.Dispatcher.{Dispatcher}
 use Rattle.session_run.specs.Ending.{HasEnded}
 use Rattle.session_run.specs.Filing.{KeepsWriter}
-use Rattle.session_run.specs.History.{GoesOn}
+use Rattle.session_run.specs.History.{GoesOnUntil}
 use Rattle.session_run.specs.Making.{pops_in}
 use Rattle.session_run.specs.Reception.{IfTurns}
 use Rattle.session_run.specs.Running.{AreFiveOf, AreReplies, HasStopCause, heard_by, turns_by}
 use Rattle.session_run.specs.Team.{HaveServed}
 use Rattle.session_run.specs.declared.gateway.Gateway.{Gateway}
 use Rattle.session_run.proofs.BegunLemmas.{all_begun, counted, five_of, is_ready, numbered, receiver_new, team_of}
-use Rattle.session_run.proofs.EndLemmas.{are_five, goes_nowhere, has_cause, have_served, never_served, new_five, none_replied, turns_taken, value_begins}
+use Rattle.session_run.proofs.EndLemmas.{are_five, goes_nowhere_until, has_cause, have_served, never_served, new_five, none_replied, turns_taken, value_begins}
 use Rattle.session_run.proofs.RunLemmas.{run_goes_on, run_replies, run_stays, run_writer}
 use Rattle.session_run.proofs.TeamLemmas.{if_turns}
 use Rattle.session_run.proofs.running.run.Goals as goal
@@ -23,8 +23,10 @@ use Rattle.session_run.proofs.running.run.Goals as goal
 pub returns-in_default-clause-history : goal.returns-in_default-clause-history
 returns-in_default-clause-history g c = λ told.
     let w = c.args.gateway in
-    subst (λ (x : Gateway _ _ _ g.A.Area g.F.Shelf). GoesOn (heard_by g.L.Link x.links.items) (facts_of w.book) (facts_of x.book)) (sym c.unserved.ensures.gateway)
-    (goes_nowhere (heard_by g.L.Link w.links.items) (facts_of w.book) (value_begins (value_of w.book)))
+    let last = c.unserved.result.last in
+    subst (λ (x : Gateway _ _ _ g.A.Area g.F.Shelf). GoesOnUntil (heard_by g.L.Link x.links.items) (facts_of w.book) (facts_of x.book) last)
+    (sym c.unserved.ensures.gateway)
+    (goes_nowhere_until (heard_by g.L.Link w.links.items) (facts_of w.book) (value_begins (value_of w.book)) last c.unserved.ensures.last)
 
 pub returns-in_default-clause-links : goal.returns-in_default-clause-links
 returns-in_default-clause-links g c =
@@ -34,9 +36,11 @@ returns-in_default-clause-links g c =
 pub returns-in-Err-clause-history : goal.returns-in-Err-clause-history
 returns-in-Err-clause-history g c = λ told.
     let w = c.args.gateway in
-    subst (λ (x : Gateway _ _ _ g.A.Area g.F.Shelf). GoesOn (heard_by g.L.Link x.links.items) (facts_of w.book) (facts_of x.book)) (sym c.unserved-in-Err.ensures.gateway)
-    (subst (λ (b : Book _ g.A.Area). GoesOn (heard_by g.L.Link w.links.items) (facts_of w.book) (facts_of b)) (sym c.in-Err.ensures.err)
-    (goes_nowhere (heard_by g.L.Link w.links.items) (facts_of w.book) (value_begins (value_of w.book))))
+    let last = c.unserved-in-Err.result.last in
+    subst (λ (x : Gateway _ _ _ g.A.Area g.F.Shelf). GoesOnUntil (heard_by g.L.Link x.links.items) (facts_of w.book) (facts_of x.book) last)
+    (sym c.unserved-in-Err.ensures.gateway)
+    (subst (λ (b : Book _ g.A.Area). GoesOnUntil (heard_by g.L.Link w.links.items) (facts_of w.book) (facts_of b) last) (sym c.in-Err.ensures.err)
+    (goes_nowhere_until (heard_by g.L.Link w.links.items) (facts_of w.book) (value_begins (value_of w.book)) last c.unserved-in-Err.ensures.last))
 
 pub returns-in-Err-clause-replies : goal.returns-in-Err-clause-replies
 returns-in-Err-clause-replies g c = λ told.
@@ -109,8 +113,10 @@ returns-in-Ok-new-clause-history g c =
     c.serve-served.ensures.worked c.serve-served.ensures.dispatched in
     let ended : HasEnded (tells_lists g.A.Area) start now team =
     subst (λ (b : Book _ g.A.Area). HasEnded (tells_lists g.A.Area) (facts_of b) now team) made.ensures.cell.1 c.end.ensures.ended in
-    subst (λ (l : List _). WhereTold (tells_lists g.A.Area) (GoesOn (heard_by g.L.Link l) start now)) (sym c.end.ensures.links)
-    (run_goes_on g.F.Shelf g.L.Link (tells_lists g.A.Area) w.address start now w.writer r team s ended c.end.ensures.settled c.each_entry_is_an_answer.ensures)
+    let last = c.end.result.last in
+    subst (λ (l : List _). WhereTold (tells_lists g.A.Area) (GoesOnUntil (heard_by g.L.Link l) start now last)) (sym c.end.ensures.links)
+    (run_goes_on g.F.Shelf g.L.Link (tells_lists g.A.Area) w.address start now w.writer r team s ended c.end.ensures.settled
+    c.each_entry_is_an_answer.ensures last c.end.ensures.last)
 
 pub returns-in-Ok-new-clause-replies : goal.returns-in-Ok-new-clause-replies
 returns-in-Ok-new-clause-replies g c =

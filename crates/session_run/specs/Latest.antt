@@ -1,0 +1,13 @@
+-- The latest moment of jobs.
+use Rattle.std.specs.Prelude.{ℕ, max, List, [], ◌∷◌, Option, None, Some}
+use Rattle.job_inbox.specs.declared.job.Job.{Job}
+
+-- the later of two moments, where there are any
+abbrev pub later_of : Option ℕ → Option ℕ → Option ℕ
+later_of None other = other
+later_of (Some one) None = Some one
+later_of (Some one) (Some other) = Some (max one other)
+
+abbrev pub latest : List Job → Option ℕ
+latest [] = None
+latest (job ∷ jobs) = later_of (Some job.moment) (latest jobs)
