@@ -1,4 +1,4 @@
-// What the laws of nodes say of those of a loop.
+//! What the laws of nodes say of those of a loop.
 ghost use Rattle.std.specs.Prelude.{◌≡◌, ℕ, IsTrue, List, []};
 ghost use Rattle.loop_audit.specs.Standing.{KeepsAll};
 ghost use Rattle.node_run.specs.Running.{Turn, all_done, node_after};
@@ -10,8 +10,8 @@ ghost use Rattle.loop_run.specs.declared.setup.LoopSetup.{LoopSetup};
 use node_core::laws::{a_gateway_gets_one_copy, a_log_keeps_its_gateways};
 use node_run::{a_node_that_ran_keeps_its_packets, a_node_that_ran_was_called};
 
-/// A node of a loop that ran keeps all its packets; where it counts all as done, none is open.
-pub(crate) fn nodes_of_a_loop_keep_all()
+/// A node of a loop that ran keeps all its packets, as an audit asks; where it counts all as done, none is open.
+pub fn nodes_of_a_loop_keep_all()
     ensures kept { (setup : LoopSetup) (place : ℕ) (turns : List Turn) → IsLoop setup →
         KeepsAll (node_after setup.packets (node_made setup place) turns) }
     ensures done { (setup : LoopSetup) (place : ℕ) (turns : List Turn) → IsLoop setup →

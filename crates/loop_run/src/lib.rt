@@ -29,6 +29,7 @@ mod sums;
 
 pub use counting::count_records;
 pub use end::{GatewaySum, LoopEnd, NodeSum};
+pub use laws::nodes_of_a_loop_keep_all;
 pub use loop_audit::{Audited, audit};
 pub use looped::Looped;
 pub use looping::run_loop;
