@@ -84,8 +84,8 @@ fn without_words(kind: ErrorKind) -> Status
 /// How many octets the area has of a job that uses none.
 const UNUSED: u64 = 100;
 
-/// Runs the job. Its outside is real for `serve` and `stream` alone: the area in the file and the shelf in the folder that
-/// their words name, both opened once they are used, links over UDP and the system's clock. `main` alone can hand on the
+/// Runs the job. Its outside is real: links over UDP and the system's clock, and for `serve` and `stream` the area in the
+/// file and the shelf in the folder that their words name, both opened once they are used. `main` alone can hand on the
 /// threads of its handle, so they come as a handle of their own.
 fn run<R: Threads + Wait + Clock + Sync>(threads: &R, rt: &HostRuntime, words: &[String]) -> Status
     ensures words { result ≡ Status.Words → (command_of (map string_bytes words.now) ≡ None)

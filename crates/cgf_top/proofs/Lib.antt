@@ -2,7 +2,6 @@ pub mod BookLemmas
 pub mod Clauses
 pub mod CommandLemmas
 pub mod ConnectionLemmas
-pub mod CountLemmas
 pub mod EndingLemmas
 pub mod Ends
 pub mod FeedLemmas
@@ -13,6 +12,8 @@ pub mod KeptLemmas
 pub mod KindLemmas
 pub mod LineLemmas
 pub mod LookLemmas
+pub mod LoopLemmas
+pub mod LoopWords
 pub mod NetworkLemmas
 pub mod PieceLemmas
 pub mod PlaceLemmas

@@ -23,7 +23,8 @@ use Rattle.node_session.specs.Settling.{Grows, HasSettled, HasTakenAll}
 use Rattle.node_session.specs.Writing.{KeepsFiles}
 use Rattle.replay_world.specs.Report.{counts_line, counts_text}
 use Rattle.replay_world.specs.Tally.{is_part}
-use Rattle.cgf_top.specs.ServeSteps.{FailsBy, HasLine, HasNoLine, HasSettledAll, part_count}
+use Rattle.loop_run.specs.Ending.{part_count}
+use Rattle.cgf_top.specs.ServeSteps.{FailsBy, HasLine, HasNoLine, HasSettledAll}
 use Rattle.cgf_top.specs.Served.{served_line}
 use Rattle.cgf_top.specs.declared.settling.Service.{Service}
 use Rattle.cgf_top.specs.declared.status.Status.{Status}

@@ -52,6 +52,8 @@ module _ {A F : Type 0} (tells : areas.Ghosts A) (files : shelves.Ghosts F) (of 
     stops_before status.Words same stops = absurd stops
     stops_before (status.Input place why) same stops = absurd stops
     stops_before status.Read same stops = absurd stops
+    stops_before (status.Audit packet places wanted) same stops = absurd stops
+    stops_before (status.Unfinished turns packet count) same stops = absurd stops
     stops_before status.Write same stops = absurd stops
 
     pub stopped_before : {X : Type 0} (result : Result X Status) → files.faults looked ≡ files.faults shelf

@@ -283,6 +283,8 @@ module _ {A : Type 0} (tells : areas.Ghosts A) where
         stops_whole before after (status.Input place kind) stops = absurd stops
         stops_whole before after status.Read stops = absurd stops
         stops_whole before after (status.Store why) stops = absurd stops
+        stops_whole before after (status.Audit packet places wanted) stops = absurd stops
+        stops_whole before after (status.Unfinished turns packet count) stops = absurd stops
 
     -- The next message begins with an octet that can't begin one.
     module _ (at : ℕ) (kind : FrameKind) (bad : fault_before o.deframer piece ≡ Some kind)

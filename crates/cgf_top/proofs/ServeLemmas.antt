@@ -106,6 +106,8 @@ module _ {A F : Type 0} (tells : areas.Ghosts A) (files : shelves.Ghosts F) (of 
   refused_cause status.Write r same = absurd r
   refused_cause (status.Store why) r same = absurd r
   refused_cause status.Link r same = absurd r
+  refused_cause (status.Audit packet places wanted) r same = absurd r
+  refused_cause (status.Unfinished turns packet count) r same = absurd r
 
   refused_complete : (ended : Status) → Refuses job ended → IsCalm tells files of job area area' shelf shelf' links links' clock clock' ended
       → (text : List ℕ) → job.left ≡ Some text
@@ -128,6 +130,8 @@ module _ {A F : Type 0} (tells : areas.Ghosts A) (files : shelves.Ghosts F) (of 
   refused_complete status.Write r calm text left = absurd r
   refused_complete (status.Store why) r calm text left = absurd r
   refused_complete status.Link r calm text left = absurd r
+  refused_complete (status.Audit packet places wanted) r calm text left = absurd r
+  refused_complete (status.Unfinished turns packet count) r calm text left = absurd r
 
   refused_at : (ended : Status) → Refuses job ended → (place : ℕ) (why : InputKind) → ended ≡ status.Input place why
       → (text : List ℕ) × IsRead (most_text + 1) job.left job.rest text × IsRefusedAt (script_in kind.Serve text) ended
@@ -170,6 +174,8 @@ module _ {A F : Type 0} (tells : areas.Ghosts A) (files : shelves.Ghosts F) (of 
   stopped_cause status.Done s read same = absurd s
   stopped_cause status.Words s read same = absurd s
   stopped_cause status.Write s read same = absurd s
+  stopped_cause (status.Audit packet places wanted) s read same = absurd s
+  stopped_cause (status.Unfinished turns packet count) s read same = absurd s
 
   pub stopped_opened : (ended : Status) → Stops ended → may_have_opened ended ≡ false → ⊥
   stopped_opened status.Link s shut = true≢false shut
@@ -180,6 +186,8 @@ module _ {A F : Type 0} (tells : areas.Ghosts A) (files : shelves.Ghosts F) (of 
   stopped_opened status.Done s shut = s
   stopped_opened status.Words s shut = s
   stopped_opened status.Write s shut = s
+  stopped_opened (status.Audit packet places wanted) s shut = s
+  stopped_opened (status.Unfinished turns packet count) s shut = s
 
   -- an area that is found isn't another's
   abbrev Ours : Type 0
@@ -205,6 +213,8 @@ module _ {A F : Type 0} (tells : areas.Ghosts A) (files : shelves.Ghosts F) (of 
   stopped_calmly ours others status.Done s calm told h stands = absurd s
   stopped_calmly ours others status.Words s calm told h stands = absurd s
   stopped_calmly ours others status.Write s calm told h stands = absurd s
+  stopped_calmly ours others (status.Audit packet places wanted) s calm told h stands = absurd s
+  stopped_calmly ours others (status.Unfinished turns packet count) s calm told h stands = absurd s
 
   -- what was read is the first of what was left
   same_script : (text left : List ℕ) (lines : List Line) → script_in kind.Serve text ≡ Ok lines → IsRead (most_text + 1) job.left job.rest text
@@ -262,6 +272,8 @@ module _ {A F : Type 0} (tells : areas.Ghosts A) (files : shelves.Ghosts F) (of 
   written_cause line status.Done w read = (read, w.1)
   written_cause line status.Write w read = (read, w.1)
   written_cause line status.Link w read = absurd w
+  written_cause line (status.Audit packet places wanted) w read = absurd w
+  written_cause line (status.Unfinished turns packet count) w read = absurd w
   written_cause line (status.Store why) w read = absurd w
   written_cause line status.Memory w read = absurd w
   written_cause line status.Read w read = absurd w
@@ -273,6 +285,8 @@ module _ {A F : Type 0} (tells : areas.Ghosts A) (files : shelves.Ghosts F) (of 
   written_calmly line status.Done w calm = refl
   written_calmly line status.Write w calm = absurd (calm.sink w.1)
   written_calmly line status.Link w calm = absurd w
+  written_calmly line (status.Audit packet places wanted) w calm = absurd w
+  written_calmly line (status.Unfinished turns packet count) w calm = absurd w
   written_calmly line (status.Store why) w calm = absurd w
   written_calmly line status.Memory w calm = absurd w
   written_calmly line status.Read w calm = absurd w
@@ -283,6 +297,8 @@ module _ {A F : Type 0} (tells : areas.Ghosts A) (files : shelves.Ghosts F) (of 
   both_true line status.Done w = (refl, refl)
   both_true line status.Write w = (refl, refl)
   both_true line status.Link w = absurd w
+  both_true line (status.Audit packet places wanted) w = absurd w
+  both_true line (status.Unfinished turns packet count) w = absurd w
   both_true line (status.Store why) w = absurd w
   both_true line status.Memory w = absurd w
   both_true line status.Read w = absurd w

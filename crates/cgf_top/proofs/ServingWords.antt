@@ -1,6 +1,7 @@
 -- Which words are those of `serve`.
 use Rattle.std.proofs.Common.{◌≡◌, ◌||◌, ℕ, Bool, true, false, if◌then◌else◌, List, [], ◌∷◌, length, map, codes, get_or, Option, None, Some, option_map, refl, sym, ap, ◌∙◌, arith}
 use Rattle.std.specs.Str.{bytes_eq}
+use Rattle.cgf_top.specs.Command.{command_of}
 use Rattle.cgf_top.specs.Serving.{PlacesValue, places_in, places_of, serving_by, serving_of}
 use Rattle.cgf_top.specs.Words.{is_option}
 use Rattle.cgf_top.specs.declared.serving.Serving.{Serving}
@@ -55,3 +56,13 @@ places_there text (u ∷ v ∷ w ∷ x ∷ y ∷ z ∷ t ∷ s ∷ words) of f g
 places_there text (u ∷ v ∷ w ∷ x ∷ y ∷ z ∷ t ∷ []) of f g area folder asked pf pg is_area is_folder =
     (λ i. Some (record { length = of.length; area = (is_area ∙ ap text pf) i; folder = (is_folder ∙ ap text pg) i }))
     ∙ ap (λ (o : Option Serving). option_map (places_in (map text (u ∷ v ∷ w ∷ x ∷ y ∷ z ∷ t ∷ []))) o) asked
+
+-- those of `serve` ask for no job over files
+pub not_a_command : (words : List (List ℕ)) (of : Serving) → serving_of words ≡ Some of → command_of words ≡ None
+not_a_command [] of asked = refl
+not_a_command (a ∷ []) of asked = refl
+not_a_command (a ∷ b ∷ []) of asked = absurd (some_is_none of (sym asked))
+not_a_command (a ∷ b ∷ c ∷ []) of asked = refl
+not_a_command (a ∷ b ∷ c ∷ d ∷ []) of asked = refl
+not_a_command (a ∷ b ∷ c ∷ d ∷ e ∷ []) of asked = absurd (some_is_none of (sym asked))
+not_a_command (a ∷ b ∷ c ∷ d ∷ e ∷ f ∷ words) of asked = refl

@@ -141,6 +141,8 @@ module _ {A F : Type 0} (tells : areas.Ghosts A) (files : shelves.Ghosts F) (of 
   stops (status.Input place kind) none = absurd none
   stops status.Read none = absurd none
   stops status.Write none = absurd none
+  stops (status.Audit packet places wanted) none = absurd none
+  stops (status.Unfinished turns packet count) none = absurd none
 
   by_err : (r : Result X Status) → IfErr r (HasNoLine tells files service book' book'' writer' writer'')
       → IfErr r (StopsServing tells files of area (area_of book'') shelf (shelf_of writer'') links links' clock clock')

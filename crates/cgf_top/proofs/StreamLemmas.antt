@@ -230,3 +230,5 @@ served_stop tells opened text sent c left rest before now after status.Words con
 served_stop tells opened text sent c left rest before now after status.Read consumed short written stops = absurd stops
 served_stop tells opened text sent c left rest before now after status.Memory consumed short written stops = absurd stops
 served_stop tells opened text sent c left rest before now after (status.Store why) consumed short written stops = absurd stops
+served_stop tells opened text sent c left rest before now after (status.Audit packet places wanted) consumed short written stops = absurd stops
+served_stop tells opened text sent c left rest before now after (status.Unfinished turns packet count) consumed short written stops = absurd stops

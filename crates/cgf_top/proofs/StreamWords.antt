@@ -2,6 +2,7 @@
 use Rattle.std.proofs.Common.{◌≡◌, ◌||◌, ◌&&◌, ◌==◌, ℕ, Bool, true, false, if◌then◌else◌, is_none, List, [], ◌∷◌, length, map, codes, get_or, Option, None, Some, option_map, refl, sym, ap, ◌∙◌, arith}
 use Rattle.std.proofs.lemmas.Bool.{eqb-true}
 use Rattle.std.specs.Str.{bytes_eq}
+use Rattle.loop_run.specs.declared.setup.LoopSetup.{LoopSetup}
 use Rattle.cgf_top.specs.Command.{command_of}
 use Rattle.cgf_top.specs.Serving.{serving_by, serving_of}
 use Rattle.cgf_top.specs.StreamEnds.{may_have_used}
@@ -101,8 +102,9 @@ pub used_by_none : (asked : Option Streaming) (ended : Status) → may_have_used
 used_by_none None ended unused = refl
 used_by_none (Some of) ended unused = absurd (cc unused)
 
-pub over_files : (serve : Option Serving) (stream : Option Streaming) → (is_none serve && is_none stream) ≡ true
-    → (serve ≡ None) × (stream ≡ None)
-over_files None None e = (refl, refl)
-over_files None (Some by) e = absurd (cc e)
-over_files (Some of) stream e = absurd (cc e)
+pub over_files : (serve : Option Serving) (stream : Option Streaming) (loop : Option LoopSetup)
+    → (is_none serve && (is_none stream && is_none loop)) ≡ true → (serve ≡ None) × (stream ≡ None) × (loop ≡ None)
+over_files None None None e = (refl, refl, refl)
+over_files None None (Some setup) e = absurd (cc e)
+over_files None (Some by) loop e = absurd (cc e)
+over_files (Some of) stream loop e = absurd (cc e)

@@ -121,6 +121,8 @@ fault_of status.Read = of_book.Device
 fault_of status.Write = of_book.Device
 fault_of status.Memory = of_book.Device
 fault_of status.Link = of_book.Device
+fault_of (status.Audit packet places wanted) = of_book.Device
+fault_of (status.Unfinished turns packet count) = of_book.Device
 
 abbrev pub unread : List (List ℕ) → Option (List ℕ) → Option (List ℕ) → ℕ → ℕ → Job
 unread words left before read written = record {
@@ -405,6 +407,8 @@ module _ {A F : Type 0} (tells : areas.Ghosts A) (files : shelves.Ghosts F) (of 
     ends_well status.Read e = absurd e
     ends_well status.Write e = absurd e
     ends_well status.Link e = absurd e
+    ends_well (status.Audit packet places wanted) e = absurd e
+    ends_well (status.Unfinished turns packet count) e = absurd e
 
   -- something else ended it
   module _ (later : tells.faults (area_of c.book) ≤ tells.faults area') (keeps : Holds) where
@@ -508,6 +512,8 @@ module _ {A F : Type 0} (tells : areas.Ghosts A) (files : shelves.Ghosts F) (of 
     ends_badly status.Words served causes = absurd (cc served.err.1)
     ends_badly status.Memory served causes = absurd (cc served.err.1)
     ends_badly (status.Store why) served causes = absurd (cc served.err.1)
+    ends_badly (status.Audit packet places wanted) served causes = absurd (cc served.err.1)
+    ends_badly (status.Unfinished turns packet count) served causes = absurd (cc served.err.1)
 
   -- however it ended
   pub ends_streams : (served : Result Unit Status) (ended : Status) → HasServed tells book c job.left job.rest job.before job.after served

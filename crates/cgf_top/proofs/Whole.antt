@@ -17,7 +17,7 @@ use Rattle.cgf_top.proofs.KindLemmas.{file_not_of_run}
 use Rattle.cgf_top.specs.Command.{command_of, has_input, most_read}
 use Rattle.cgf_top.specs.Job.{Job}
 use Rattle.cgf_top.specs.Run.{HasRead, HasReported, IsRead, WritesFront, end_of, is_reported, may_have_written, report_of, shown_end}
-use Rattle.cgf_top.specs.NetworkReport.{HandsBack, RanNetwork, lines_ok, lines_run, seeded_lines}
+use Rattle.cgf_top.specs.NetworkReport.{HandsBack, HandsNetwork, RanNetwork, lines_ok, lines_run, seeded_lines}
 use Rattle.cgf_top.specs.ShowReport.{listed}
 use Rattle.cgf_top.specs.Steps.{IsRefusal, IsReport, ended_by}
 use Rattle.cgf_top.specs.declared.command.Command.TheVariants.{Drill, Replay, Show}
@@ -28,6 +28,7 @@ use Rattle.cgf_top.specs.declared.report.Refusal.{Refusal}
 use Rattle.cgf_top.specs.declared.report.Report.{Report}
 use Rattle.cgf_top.specs.declared.status.Status.{Status}
 use Rattle.cgf_top.specs.declared.status.Status.TheVariants as status
+use Rattle.cgf_top.proofs.EndingLemmas.{some_is_none}
 use Rattle.cgf_top.proofs.Ends.{same_command}
 use Rattle.cgf_top.proofs.Streams.{appends_none}
 
@@ -109,6 +110,8 @@ hands_none status.Write command octets played hands other = hands
 hands_none status.Memory command octets played hands other = hands
 hands_none (status.Store why) command octets played hands other = hands
 hands_none status.Link command octets played hands other = hands
+hands_none (status.Audit packet places wanted) command octets played hands other = hands
+hands_none (status.Unfinished turns packet count) command octets played hands other = hands
 
 -- a job that isn't done hands nothing back
 pub keeps_none : (command : Command) (octets : List ℕ) (report : Report) → IsReport command octets report →
@@ -160,6 +163,8 @@ shown_none status.Write octets = refl
 shown_none status.Memory octets = refl
 shown_none (status.Store why) octets = refl
 shown_none status.Link octets = refl
+shown_none (status.Audit packet places wanted) octets = refl
+shown_none (status.Unfinished turns packet count) octets = refl
 
 -- the refusal of octets that are no file
 pub shown_refusal : (octets : List ℕ) (place : ℕ) (kind : FileKind) → file_in octets ≡ Err (fault.Bad place kind)
@@ -168,4 +173,12 @@ shown_refusal octets place kind read = record {
   ended = ap (λ (r : Result CdrFile FileFault). shown_end r) (sym read);
   none = ap (λ (r : Result CdrFile FileFault). listed r) read;
   untaken = ap (λ (r : Result CdrFile FileFault). may_have_written (shown_end r)) read ∙ file_not_of_run kind;
+}
+
+-- words that ask for no job over files ask for no network
+pub no_network : (words : List (List ℕ)) (left : Option (List ℕ)) (ended : Status) (played : Option Played) →
+    command_of words ≡ None → HandsNetwork words left ended played
+no_network words left ended played none = record {
+  of_script = λ text lines asked told script done. some_is_none _ (sym asked ∙ none);
+  of_seed = λ of asked done. some_is_none _ (sym asked ∙ none);
 }

@@ -32,6 +32,8 @@ HasCause (status.Input place kind) source source' sink sink' = (source' ≡ sour
 HasCause status.Memory source source' sink sink' = (source' ≡ source) × (sink' ≡ sink)
 HasCause (status.Store why) source source' sink sink' = (source' ≡ source) × (sink' ≡ sink)
 HasCause status.Link source source' sink sink' = (source' ≡ source) × (sink' ≡ sink)
+HasCause (status.Audit packet places wanted) source source' sink sink' = (source' ≡ source) × (sink' ≡ sink)
+HasCause (status.Unfinished turns packet count) source source' sink sink' = (source' ≡ source) × (sink' ≡ sink)
 
 -- by these words the input was read as far as their command reads it, and what was read decides that the job ends so
 pub record EndsByInput (words : List (List ℕ)) (left rest : Option (List ℕ)) (ended : Status) : Type 0 where

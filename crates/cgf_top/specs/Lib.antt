@@ -16,9 +16,12 @@ pub mod ServeEnds
 pub mod Streaming
 pub mod Replies
 pub mod StreamEnds
+pub mod Looping
+pub mod LoopEnds
 -- steps of proofs
 pub mod BookSteps
 pub mod NetworkSteps
 pub mod ServeSteps
 pub mod StreamSteps
+pub mod LoopSteps
 pub mod Steps

@@ -12,7 +12,7 @@ use Rattle.world_script.specs.Sample.{sample_of}
 use Rattle.world_script.specs.Script.{Refusal as LineRefusal, script_in}
 use Rattle.world_script.specs.declared.kind.ScriptKind.TheVariants as kind
 use Rattle.world_script.specs.declared.line.Line.{Line}
-use Rattle.cgf_top.specs.Command.{extent_of}
+use Rattle.cgf_top.specs.Command.{command_of, extent_of}
 use Rattle.cgf_top.specs.declared.command.Command.{Command}
 use Rattle.cgf_top.specs.declared.command.Command.TheVariants.{Feed, Show, Replay, Sample, Drill}
 use Rattle.cgf_top.specs.declared.command.Seeded.{Seeded}
@@ -87,8 +87,19 @@ lines_run status.Write command text = None
 lines_run status.Memory command text = None
 lines_run (status.Store why) command text = None
 lines_run status.Link command text = None
+lines_run (status.Audit packet places wanted) command text = None
+lines_run (status.Unfinished turns packet count) command text = None
 
 -- the network that ran is handed back, and nothing else is
 abbrev pub HandsBack : Option (List Line) → Option Played → Type 0
 HandsBack None played = played ≡ None
 HandsBack (Some lines) played = IsSomeAnd played (RanNetwork lines)
+
+-- What a job that is done hands back of a network, by its words, and by what its source had, where it tells that: a replay
+-- the network that its script is, and a drill that of its seed.
+pub record HandsNetwork (words : List (List ℕ)) (left : Option (List ℕ)) (ended : Status) (played : Option Played)
+    : Type 0 where
+  pub of_script : (text : List ℕ) (lines : List Line) → command_of words ≡ Some Replay → left ≡ Some text →
+      script_in kind.Replay text ≡ Ok lines → ended ≡ status.Done → IsSomeAnd played (RanNetwork lines)
+  pub of_seed : (of : Seeded) → command_of words ≡ Some (Drill of) → ended ≡ status.Done →
+      IsSomeAnd played (RanNetwork (seeded_lines of))

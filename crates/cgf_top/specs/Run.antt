@@ -70,6 +70,8 @@ may_have_written status.Write = true
 may_have_written status.Memory = false
 may_have_written (status.Store why) = false
 may_have_written status.Link = false
+may_have_written (status.Audit packet places wanted) = false
+may_have_written (status.Unfinished turns packet count) = false
 
 -- What is read.
 
@@ -115,6 +117,8 @@ is_reported status.Write = false
 is_reported status.Memory = false
 is_reported (status.Store why) = false
 is_reported status.Link = false
+is_reported (status.Audit packet places wanted) = false
+is_reported (status.Unfinished turns packet count) = false
 
 -- the number that the program ends with
 abbrev pub status_number : Status → ℕ
@@ -126,3 +130,5 @@ status_number status.Write = 4
 status_number status.Memory = 5
 status_number (status.Store why) = 6
 status_number status.Link = 7
+status_number (status.Audit packet places wanted) = 8
+status_number (status.Unfinished turns packet count) = 9

@@ -42,6 +42,8 @@ may_have_opened status.Write = true
 may_have_opened status.Memory = true
 may_have_opened (status.Store why) = true
 may_have_opened status.Link = true
+may_have_opened (status.Audit packet places wanted) = false
+may_have_opened (status.Unfinished turns packet count) = false
 
 -- The area, the shelf, the links and the clock are as they were.
 pub record IsUntouched {A F L C : Type 0} (area area' : A) (shelf shelf' : F) (links links' : L) (clock clock' : C)

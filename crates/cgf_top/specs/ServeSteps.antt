@@ -1,5 +1,5 @@
 -- Words for the code of a gateway that serves. No contract of a public call cites them.
-use Rattle.std.specs.Prelude.{◌≡◌, ◌≢◌, ◌⊎◌, ℕ, ◌+◌, ◌≤◌, Bool, false, List, [], count_by, length, Option, Some, None, IfErr, IfOk, Result, Ok, Err, ⊤}
+use Rattle.std.specs.Prelude.{◌≡◌, ◌≢◌, ◌⊎◌, ℕ, ◌+◌, ◌≤◌, Bool, false, List, [], Option, Some, None, IfErr, IfOk, Result, Ok, Err, ⊤}
 use Rattle.std.specs.Io.KnownBytes.{Appends}
 use Rattle.area_disk.specs.Disk as disk
 use Rattle.area_disk.specs.declared.area.Area as areas
@@ -19,13 +19,11 @@ use Rattle.gw_base.specs.Facts.{WhereTold}
 use Rattle.gw_base.specs.Faults.{Rose}
 use Rattle.gw_base.specs.Owes.{base}
 use Rattle.gw_base.specs.Written.{AppendsFront}
-use Rattle.gw_base.specs.declared.item.Item.{Item}
 use Rattle.net_link.specs.Making.{LinksState}
 use Rattle.node_session.specs.Settling.{Grows, HasTakenAll, closed_behind}
 use Rattle.node_session.specs.Writing.{KeepsFiles}
 use Rattle.replay_world.specs.Settings.{AreSet, AreSound}
 use Rattle.replay_world.specs.Setup.{Setup, setup_of}
-use Rattle.replay_world.specs.Tally.{is_part}
 use Rattle.session_run.specs.Filing.{KeepsWriter}
 use Rattle.session_run.specs.History.{GoesOn, IsReply}
 use Rattle.session_run.specs.Running.{StaysAs}
@@ -83,10 +81,6 @@ abbrev pub status_by : BookFault → Status
 status_by of_book.Device = status.Store fault.Device
 status_by (of_book.NotOurs at) = status.Store (fault.NotOurs at)
 status_by of_book.NoMemory = status.Memory
-
--- how many of these items are records
-abbrev pub part_count : List Item → ℕ
-part_count items = count_by is_part items
 
 -- a read of the book failed, as the count of its device shows, or there was no memory
 abbrev pub FailsBy : {A : Type 0} (tells : areas.Ghosts A) → Book A tells → Book A tells → Status → Type 0

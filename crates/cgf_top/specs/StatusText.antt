@@ -1,6 +1,7 @@
 -- What is said of how the job ended.
-use Rattle.std.specs.Prelude.{ℕ, List, ◌++◌, codes}
+use Rattle.std.specs.Prelude.{ℕ, ◌-◌, List, ◌++◌, codes}
 use Rattle.std.specs.Fmt.{decimal}
+use Rattle.gw_base.specs.declared.packet.PacketId.{PacketId}
 use Rattle.cgf_top.specs.declared.status.Status.{Status}
 use Rattle.cgf_top.specs.declared.status.Status.TheVariants as status
 use Rattle.cgf_top.specs.declared.status.StoreFault.TheVariants as fault
@@ -39,6 +40,10 @@ kind_name input.NotPrime = codes "NotPrime"
 kind_name input.Version = codes "Version"
 kind_name input.Rest = codes "Rest"
 
+-- a packet of a loop: the number of its node, from 1, and its own
+abbrev pub packet_text : PacketId → List ℕ
+packet_text packet = decimal (packet.node.0 - 0x7F00_0064) ++ codes "." ++ decimal packet.number
+
 abbrev pub status_text : Status → List ℕ
 status_text status.Done = codes "cgf: done"
 status_text status.Words = codes "cgf: words"
@@ -49,3 +54,7 @@ status_text status.Memory = codes "cgf: memory"
 status_text (status.Store fault.Device) = codes "cgf: store"
 status_text (status.Store (fault.NotOurs at)) = codes "cgf: store " ++ decimal at
 status_text status.Link = codes "cgf: link"
+status_text (status.Audit packet places wanted) =
+    codes "cgf: audit " ++ packet_text packet ++ codes " " ++ decimal places ++ codes " of " ++ decimal wanted
+status_text (status.Unfinished turns packet count) =
+    codes "cgf: unfinished " ++ decimal turns ++ codes " " ++ packet_text packet ++ codes " " ++ decimal count

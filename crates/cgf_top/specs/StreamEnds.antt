@@ -25,6 +25,7 @@ use Rattle.file_writer.specs.Streams.{Settings}
 use Rattle.cgf_top.specs.Ending.{HasCause}
 use Rattle.cgf_top.specs.Job.{Job}
 use Rattle.cgf_top.specs.Kinds.{of_frame}
+use Rattle.cgf_top.specs.Looping.{looping_of}
 use Rattle.cgf_top.specs.Replies.{Tried, after_all, message_of, replies, sent_for_all}
 use Rattle.cgf_top.specs.Run.{TakesUpTo, is_reported}
 use Rattle.cgf_top.specs.ServeEnds.{may_have_opened}
@@ -38,9 +39,9 @@ use Rattle.cgf_top.specs.declared.status.Status.TheVariants as status
 use Rattle.cgf_top.specs.declared.status.StoreFault.TheVariants as fault
 use Rattle.cgf_top.specs.declared.streaming.Streaming.{Streaming}
 
--- whether words ask for a job over files, and for neither `serve` nor `stream`
+-- whether words ask for a job over files, and for none of `serve`, `stream` and `loopback`
 abbrev pub is_over_files : List (List ℕ) → Bool
-is_over_files words = is_none (serving_of words) && is_none (streaming_of words)
+is_over_files words = is_none (serving_of words) && (is_none (streaming_of words) && is_none (looping_of words))
 
 -- whether a job by these words that ends so may have used its area, its shelf, its links and its clock
 abbrev pub may_have_used : Option Serving → Option Streaming → Status → Bool

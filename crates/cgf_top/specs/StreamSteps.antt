@@ -50,6 +50,8 @@ ends_serving status.Done = false
 ends_serving status.Words = false
 ends_serving status.Memory = false
 ends_serving (status.Store why) = false
+ends_serving (status.Audit packet places wanted) = false
+ends_serving (status.Unfinished turns packet count) = false
 
 module _ {A : Type 0} (tells : areas.Ghosts A) where
   -- Commits and openings again failed no more often than the device, whose count never falls, and stands still at its last

@@ -7,24 +7,22 @@
 //!     let ended = run_cgf(&rt, alloc, &words, &mut source, &mut sink, area, shelf, &mut links, &mut clock);
 #![tactic(auto)]
 
-ghost use Rattle.std.specs.Prelude.{◌≡◌, ◌≢◌, ◌<◌, ◌≤◌, ◌^◌, ℕ, List, Some, false, true, None, Ok, Err, IfOk, IsSomeAnd, OnOk, length, map, string_bytes};
+ghost use Rattle.std.specs.Prelude.{◌≡◌, ◌≢◌, ◌<◌, ◌≤◌, ◌^◌, Some, false, true, None, Err, IfOk, OnOk, length, map, string_bytes};
 ghost use Rattle.gate_journal.specs.Format.{fewest_octets, most_octets};
 ghost use Rattle.gw_base.specs.Faults.{Rose};
 ghost use Rattle.gw_base.specs.declared.address.Addr.{Addr};
-ghost use Rattle.world_script.specs.Script.{script_in};
-ghost use Rattle.world_script.specs.declared.kind.ScriptKind.{ScriptKind};
-ghost use Rattle.world_script.specs.declared.line.Line.{Line};
 ghost use Rattle.cgf_top.specs.Command.{IsWithin, command_of, has_input, most_read};
 ghost use Rattle.cgf_top.specs.Ending.{DoesJob, HasCause, IsBounded, IsComplete, WordsDecide};
 ghost use Rattle.cgf_top.specs.Job.{job_of};
-ghost use Rattle.cgf_top.specs.NetworkReport.{RanNetwork, seeded_lines};
+ghost use Rattle.cgf_top.specs.LoopEnds.{IsNoLoop, LoopsBy};
+ghost use Rattle.cgf_top.specs.Looping.{looping_of};
+ghost use Rattle.cgf_top.specs.NetworkReport.{HandsNetwork};
 ghost use Rattle.cgf_top.specs.Run.{HasReported, WritesFront, is_reported, may_have_written};
 ghost use Rattle.cgf_top.specs.ServeEnds.{IsUntouched, Serves};
 ghost use Rattle.cgf_top.specs.Serving.{serving_of};
 ghost use Rattle.cgf_top.specs.StreamEnds.{Streams, is_over_files, may_have_used};
 ghost use Rattle.cgf_top.specs.Streaming.{streaming_of};
 ghost use Rattle.cgf_top.specs.Steps.{IsRefusal, IsReport, ended_by};
-ghost use Rattle.cgf_top.specs.declared.command.Seeded.{Seeded};
 ghost use Rattle.cgf_top.specs.declared.report.Refusal.{Refusal};
 ghost use Rattle.cgf_top.specs.declared.serving.Serving.{Serving};
 ghost use Rattle.cgf_top.specs.declared.streaming.Streaming.{Streaming};
@@ -36,6 +34,7 @@ mod files;
 mod gateway;
 mod input;
 mod input_kind;
+mod looping;
 mod network;
 mod output;
 mod printing;
@@ -52,6 +51,7 @@ mod words;
 
 use crate::command::Command;
 use crate::input::{ReadEnd, read_input};
+use crate::looping::{loop_back, looping_of};
 use crate::output::write_all;
 use crate::report::{NoReport, Refusal, Report};
 use crate::serve::serve_gateway;
@@ -61,6 +61,7 @@ use area_disk::Area;
 use cdr_shelf::Shelf;
 use gw_base::{NoMemory, Sink, Source};
 pub use input_kind::InputKind;
+pub use loop_run::Looped;
 use net_link::Links;
 pub use replay_world::Played;
 use replay_world::laws::a_script_is_short;
@@ -81,6 +82,8 @@ pub struct Ended<A: Area, F: Shelf> {
     /// The area and the shelf that were handed in, as the job left them. `serve` and `stream` alone use them.
     pub area: A,
     pub shelf: F,
+    /// The books and the nodes of a loop that ran. Both lists are empty for every other job, and where a link failed.
+    pub looped: Looped,
     /// The network of a `replay` or a `drill` that is done: its areas, its shelves and its nodes.
     pub played: Option<Played>,
 }
@@ -94,14 +97,18 @@ pub struct Ended<A: Area, F: Shelf> {
 ///
 /// `serve IP PORT TURNS LENGTH AREA FOLDER` reads settings, opens the area and the shelf that were handed in, serves at
 /// the address with four sessions on threads for so many turns of its link, settles, and writes the gateway's counts. The
-/// area, the shelf, the links and the clock are its own; every other job but `stream` leaves them as they are.
+/// area, the shelf and the clock are its own; every other job but `stream` leaves them as they are.
 ///
 /// `stream IP NODE LENGTH AREA FOLDER FILE` opens a gateway on the area and the shelf that were handed in, with the
 /// default settings, and reads octets: each message of GTP' among them counts as sent from NODE, and is answered. The
 /// replies are written, each once it is firm, and nothing else; at the end of the octets the gateway settles. Where they
 /// are bad, end within a message, or are 2^40, the place is named, behind the replies to the messages before it.
 ///
-/// A network that ran to its end is handed back, and the area and the shelf always are.
+/// `loopback GATEWAYS NODES PACKETS TURNS` lets gateways and nodes of this machine run against one another, on threads, up
+/// to so many turns of each node, and looks whether each packet stands once. It writes what all count where it does. The
+/// links are its own, and those of `serve`.
+///
+/// A network that ran to its end is handed back, and a loop that did; the area and the shelf always are.
 ///
 /// An input that the grammar refuses writes nothing. A line of a script that can't be run, since it sets a moment before
 /// the present one, or the world refuses it, ends the job: what was printed for the lines before it is written.
@@ -134,14 +141,8 @@ where
     // each packet that its node ever resolved stands at exactly one place of its own, and each record of any other
     // packet at one at most; no copy that is held or was cancelled puts one there, and the files have no other record.
     // Each file is sealed, and no shelf has another. What its lines print, which `job` says is written, ends with these
-    // files.
-    ensures once { (text : List ℕ) (lines : List Line) →
-        command_of (map string_bytes words.now) ≡ Some Command.Replay → S.left source.old ≡ Some text →
-        script_in ScriptKind.Replay text ≡ Ok lines → result.status ≡ Status.Done →
-        IsSomeAnd result.played (RanNetwork lines) }
-    // So does a drill, which prints sums instead: the script is that of its seed.
-    ensures drilled { (of : Seeded) → command_of (map string_bytes words.now) ≡ Some (Command.Drill of) →
-        result.status ≡ Status.Done → IsSomeAnd result.played (RanNetwork (seeded_lines of)) }
+    // files. So does a drill, which prints sums instead: the script is that of its seed.
+    ensures once { HandsNetwork (map string_bytes words.now) (S.left source.old) result.status result.played }
     // A gateway that served hands back the area of a history that has grown from the one handed in by answers to
     // datagrams that its links received, and the shelf with just its files, stream by stream; each reply that they sent
     // rests on it. However it ends, neither the history that was handed in nor what was answered is lost.
@@ -156,9 +157,16 @@ where
         (links.new ≡ links.old) × Streams A.Area F.Shelf of
         (job_of S.Source K.Sink (map string_bytes words.now) source.old source.new sink.old sink.new)
         area result.area shelf result.shelf (C.faults clock.old) (C.faults clock.new) result.status result.played }
+    // A loop hands back nodes that are what they are by what they heard, and books of the answers to what their gateways
+    // heard; and these decide how it ends. It reads nothing. Every other job hands back none.
+    ensures loops { LoopsBy source.old source.new area result.area shelf result.shelf clock.old clock.new
+        (job_of S.Source K.Sink (map string_bytes words.now) source.old source.new sink.old sink.new)
+        (L.state links.old) (L.state links.new) result.status result.looped result.played
+        (looping_of (map string_bytes words.now)) }
     // Every other job, and one that ends before the gateway is opened, leaves the outside as it is.
     ensures outside { may_have_used (serving_of (map string_bytes words.now))
         (streaming_of (map string_bytes words.now)) result.status ≡ false →
+        looping_of (map string_bytes words.now) ≡ None →
         IsUntouched area result.area shelf result.shelf links.old links.new clock.old clock.new }
     // What was read and written, what is handed back, and why every other job ended so.
     ensures job { is_over_files (map string_bytes words.now) ≡ true → DoesJob
@@ -213,12 +221,7 @@ where
     requires long { fewest_octets ≤ A.size area }
     requires short { A.size area ≤ most_octets }
     requires turns { (at : Addr) → (L.state links.old).turns at < 2 ^ 63 }
-    ensures once { (text : List ℕ) (lines : List Line) →
-        command_of (map string_bytes words.now) ≡ Some Command.Replay → S.left source.old ≡ Some text →
-        script_in ScriptKind.Replay text ≡ Ok lines → result.status ≡ Status.Done →
-        IsSomeAnd result.played (RanNetwork lines) }
-    ensures drilled { (of : Seeded) → command_of (map string_bytes words.now) ≡ Some (Command.Drill of) →
-        result.status ≡ Status.Done → IsSomeAnd result.played (RanNetwork (seeded_lines of)) }
+    ensures once { HandsNetwork (map string_bytes words.now) (S.left source.old) result.status result.played }
     ensures serves { (of : Serving) → serving_of (map string_bytes words.now) ≡ Some of → Serves A.Area F.Shelf of
         (job_of S.Source K.Sink (map string_bytes words.now) source.old source.new sink.old sink.new)
         area result.area shelf result.shelf (L.state links.old) (L.state links.new) (C.faults clock.old)
@@ -227,8 +230,13 @@ where
         (links.new ≡ links.old) × Streams A.Area F.Shelf of
         (job_of S.Source K.Sink (map string_bytes words.now) source.old source.new sink.old sink.new)
         area result.area shelf result.shelf (C.faults clock.old) (C.faults clock.new) result.status result.played }
+    ensures loops { LoopsBy source.old source.new area result.area shelf result.shelf clock.old clock.new
+        (job_of S.Source K.Sink (map string_bytes words.now) source.old source.new sink.old sink.new)
+        (L.state links.old) (L.state links.new) result.status result.looped result.played
+        (looping_of (map string_bytes words.now)) }
     ensures outside { may_have_used (serving_of (map string_bytes words.now))
         (streaming_of (map string_bytes words.now)) result.status ≡ false →
+        looping_of (map string_bytes words.now) ≡ None →
         IsUntouched area result.area shelf result.shelf links.old links.new clock.old clock.new }
     ensures job { is_over_files (map string_bytes words.now) ≡ true → DoesJob
         (job_of S.Source K.Sink (map string_bytes words.now) source.old source.new sink.old sink.new)
@@ -240,6 +248,70 @@ where
 {
     match Serving::of(words) {
         Some(serving) => serve_gateway(rt, alloc, serving, source, sink, area, shelf, links, clock),
+        None => run_unserved(
+            rt, alloc, words, source, sink, area, shelf, links, clock, watch,
+        ),
+    }
+}
+
+/// The same where the words aren't those of `serve`.
+fn run_unserved<
+    S: Source,
+    K: Sink,
+    A: Area,
+    F: Shelf,
+    L: Links,
+    C: gw_base::Clock,
+    W: Watch,
+    R: Threads + Wait + Clock + Sync,
+>(
+    rt: &R,
+    alloc: Global,
+    words: &[String],
+    source: &mut S,
+    sink: &mut K,
+    area: A,
+    shelf: F,
+    links: &mut L,
+    clock: &mut C,
+    watch: &mut W,
+) -> Ended<A, F>
+where
+    L::Link: Send,
+    requires long { fewest_octets ≤ A.size area }
+    requires short { A.size area ≤ most_octets }
+    requires turns { (at : Addr) → (L.state links.old).turns at < 2 ^ 63 }
+    ensures once { HandsNetwork (map string_bytes words.now) (S.left source.old) result.status result.played }
+    ensures streams { (of : Streaming) → streaming_of (map string_bytes words.now) ≡ Some of →
+        (links.new ≡ links.old) × Streams A.Area F.Shelf of
+        (job_of S.Source K.Sink (map string_bytes words.now) source.old source.new sink.old sink.new)
+        area result.area shelf result.shelf (C.faults clock.old) (C.faults clock.new) result.status result.played }
+    ensures loops { LoopsBy source.old source.new area result.area shelf result.shelf clock.old clock.new
+        (job_of S.Source K.Sink (map string_bytes words.now) source.old source.new sink.old sink.new)
+        (L.state links.old) (L.state links.new) result.status result.looped result.played
+        (looping_of (map string_bytes words.now)) }
+    ensures outside { streaming_of (map string_bytes words.now) ≡ None →
+        looping_of (map string_bytes words.now) ≡ None →
+        IsUntouched area result.area shelf result.shelf links.old links.new clock.old clock.new }
+    ensures job { streaming_of (map string_bytes words.now) ≡ None → looping_of (map string_bytes words.now) ≡ None →
+        DoesJob (job_of S.Source K.Sink (map string_bytes words.now) source.old source.new sink.old sink.new)
+        result.status result.played }
+    ensures words { streaming_of (map string_bytes words.now) ≡ None → looping_of (map string_bytes words.now) ≡ None →
+        WordsDecide (command_of (map string_bytes words.now)) result.status source.old source.new }
+    ensures untouched { streaming_of (map string_bytes words.now) ≡ None → may_have_written result.status ≡ false →
+        sink.new ≡ sink.old }
+{
+    match looping_of(words) {
+        Some(setup) => {
+            let (status, looped) = loop_back(rt, alloc, setup, sink, links);
+            Ended {
+                status,
+                area,
+                shelf,
+                looped,
+                played: None,
+            }
+        }
         None => run_on_one(alloc, words, source, sink, area, shelf, clock, watch),
     }
 }
@@ -257,17 +329,13 @@ fn run_on_one<S: Source, K: Sink, A: Area, F: Shelf, C: gw_base::Clock, W: Watch
 ) -> Ended<A, F>
     requires long { fewest_octets ≤ A.size area }
     requires short { A.size area ≤ most_octets }
-    ensures once { (text : List ℕ) (lines : List Line) →
-        command_of (map string_bytes words.now) ≡ Some Command.Replay → S.left source.old ≡ Some text →
-        script_in ScriptKind.Replay text ≡ Ok lines → result.status ≡ Status.Done →
-        IsSomeAnd result.played (RanNetwork lines) }
-    ensures drilled { (of : Seeded) → command_of (map string_bytes words.now) ≡ Some (Command.Drill of) →
-        result.status ≡ Status.Done → IsSomeAnd result.played (RanNetwork (seeded_lines of)) }
+    ensures once { HandsNetwork (map string_bytes words.now) (S.left source.old) result.status result.played }
     ensures streams { (of : Streaming) → streaming_of (map string_bytes words.now) ≡ Some of → Streams A.Area F.Shelf of
         (job_of S.Source K.Sink (map string_bytes words.now) source.old source.new sink.old sink.new)
         area result.area shelf result.shelf (C.faults clock.old) (C.faults clock.new) result.status result.played }
     ensures outside { streaming_of (map string_bytes words.now) ≡ None →
         (result.area ≡ area) × (result.shelf ≡ shelf) × (clock.new ≡ clock.old) }
+    ensures no_loop { IsNoLoop result.looped }
     ensures job { streaming_of (map string_bytes words.now) ≡ None → DoesJob
         (job_of S.Source K.Sink (map string_bytes words.now) source.old source.new sink.old sink.new)
         result.status result.played }
@@ -284,6 +352,7 @@ fn run_on_one<S: Source, K: Sink, A: Area, F: Shelf, C: gw_base::Clock, W: Watch
                 status,
                 area,
                 shelf,
+                looped: Looped::none(alloc),
                 played,
             }
         }
@@ -305,12 +374,7 @@ fn do_job<S: Source, K: Sink, W: Watch>(
     sink: &mut K,
     watch: &mut W,
 ) -> JobEnd
-    ensures once { (text : List ℕ) (lines : List Line) →
-        command_of (map string_bytes words.now) ≡ Some Command.Replay → S.left source.old ≡ Some text →
-        script_in ScriptKind.Replay text ≡ Ok lines → result.status ≡ Status.Done →
-        IsSomeAnd result.played (RanNetwork lines) }
-    ensures drilled { (of : Seeded) → command_of (map string_bytes words.now) ≡ Some (Command.Drill of) →
-        result.status ≡ Status.Done → IsSomeAnd result.played (RanNetwork (seeded_lines of)) }
+    ensures once { HandsNetwork (map string_bytes words.now) (S.left source.old) result.status result.played }
     ensures job { DoesJob (job_of S.Source K.Sink (map string_bytes words.now) source.old source.new sink.old sink.new)
         result.status result.played }
     ensures words { WordsDecide (command_of (map string_bytes words.now)) result.status source.old source.new }

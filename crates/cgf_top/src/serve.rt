@@ -6,6 +6,7 @@ ghost use Rattle.replay_world.specs.Setup.{setup_of};
 ghost use Rattle.world_script.specs.Script.{most_text};
 ghost use Rattle.cgf_top.specs.Run.{IsRead, TakesUpTo, may_have_written};
 ghost use Rattle.cgf_top.specs.Job.{job_of};
+ghost use Rattle.cgf_top.specs.LoopEnds.{IsNoLoop};
 ghost use Rattle.cgf_top.specs.ServeEnds.{IsUntouched, Serves, may_have_opened};
 ghost use Rattle.cgf_top.specs.ServeSteps.{AreOf, CausesRead, IsSetBy, RefusesSettings, RefusesText, WritesLine};
 ghost use Rattle.cgf_top.specs.Serving.{IsServingWithin};
@@ -21,6 +22,7 @@ use area_disk::Area;
 use cdr_shelf::Shelf;
 use gateway_book::laws::what_stands_is_ours;
 use gw_base::{NoMemory, Sink, Source};
+use loop_run::Looped;
 use net_link::Links;
 use replay_world::{Settings, rules_of};
 use route_filter::Rules;
@@ -73,6 +75,7 @@ where
     ensures outside { may_have_opened result.status ≡ false →
         IsUntouched area result.area shelf result.shelf links.old links.new clock.old clock.new }
     ensures untouched { may_have_written result.status ≡ false → sink.new ≡ sink.old }
+    ensures none { IsNoLoop result.looped }
 {
     what_stands_is_ours();
     let settings = match read_settings(alloc, source) {
@@ -81,6 +84,7 @@ where
             status,
             area,
             shelf,
+            looped: Looped::none(alloc),
             played: None,
         },
     };
@@ -90,12 +94,14 @@ where
             status: written(sink, &line),
             area,
             shelf,
+            looped: Looped::none(alloc),
             played: None,
         },
         Err(status) => Ended {
             status,
             area,
             shelf,
+            looped: Looped::none(alloc),
             played: None,
         },
     }

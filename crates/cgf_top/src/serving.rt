@@ -121,7 +121,7 @@ pub(crate) fn length_of_area(word: &[u8]) -> Option<u64>
 }
 
 /// A number from `least` to `most`.
-fn between(word: &[u8], least: u64, most: u64) -> Option<u64>
+pub(crate) fn between(word: &[u8], least: u64, most: u64) -> Option<u64>
     ensures said { result ≡ number_between least most word.now }
     ensures within { IfSome result (λ n. (least ≤ n) × (n ≤ most)) }
 {

@@ -1,5 +1,5 @@
 //! A gateway that serves, from the opening of its journal to its settling.
-ghost use Rattle.std.specs.Prelude.{◌≡◌, ◌≢◌, ◌+◌, ◌≤◌, ◌<◌, ◌^◌, List, [], All, false, IfErr, IfOk, None, OnOk, length, true, vec_capacity, vec_len};
+ghost use Rattle.std.specs.Prelude.{◌≡◌, ◌+◌, ◌≤◌, ◌<◌, ◌^◌, List, [], false, IfErr, IfOk, None, OnOk, length, true};
 ghost use Rattle.cgf_journal.specs.Trail.{is_closed};
 ghost use Rattle.file_writer.specs.Writer.{is_broken};
 ghost use Rattle.gate_journal.specs.Format.{fewest_octets, most_octets};
@@ -9,14 +9,14 @@ ghost use Rattle.gateway_book.specs.Calls.{counts_of};
 ghost use Rattle.gateway_book.specs.Items.{items_of};
 ghost use Rattle.gateway_book.specs.Read.{IsUnchanged};
 ghost use Rattle.gateway_book.specs.Turning.{tells_lists};
-ghost use Rattle.gw_base.specs.Faults.{Rose};
 ghost use Rattle.gw_base.specs.declared.address.Addr.{Addr as Address};
 ghost use Rattle.gw_base.specs.declared.history.HistoryEntry.{HistoryEntry};
+ghost use Rattle.loop_run.specs.Ending.{part_count};
 ghost use Rattle.replay_world.specs.Settings.{AreSound};
 ghost use Rattle.replay_world.specs.Setup.{Setup as SetupValue};
 ghost use Rattle.node_session.specs.Writing.{IsWriterOf};
 ghost use Rattle.cgf_top.specs.Served.{HasServed, LosesNothing, served_line};
-ghost use Rattle.cgf_top.specs.ServeSteps.{AreOf, FailsBy, HasServedAt, HasSettledAll, NeverFalls, RefusesAsForeign, StopsServing, part_count, status_by};
+ghost use Rattle.cgf_top.specs.ServeSteps.{AreOf, FailsBy, HasServedAt, HasSettledAll, NeverFalls, RefusesAsForeign, StopsServing, status_by};
 ghost use Rattle.cgf_top.specs.Serving.{IsServingWithin, address_in};
 
 use crate::printing::print_counts;
@@ -28,24 +28,18 @@ use area_disk::laws::area_laws;
 use cdr_shelf::Shelf;
 use file_writer::Writer;
 use file_writer::laws::files_only_grow;
-use gateway_book::laws::{a_book_is_within_the_limits, filed_records_stay, what_stands_is_ours};
+use gateway_book::laws::{filed_records_stay, what_stands_is_ours};
 use gateway_book::{Book, BookFault, Counts, ItemsFault, Setup};
 use gw_base::{Addr, Caller, Counted, Moment, NoMemory};
+use loop_run::count_records;
 use net_link::Links;
 use node_session::{SettleFault, settle};
 use replay_world::laws::{a_history_filed_its_parts, no_file_is_open_where_no_close_is_due};
-use replay_world::record_count;
 use session_run::{Gateway, Ran, Stop, Until, give_back, make_links, run};
 use std::alloc::Global;
 use std::sync::Wait;
 use std::thread::Threads;
 use std::time::Clock;
-
-/// How many items are read at once.
-const PIECE: u32 = 4096;
-
-/// A history has no more items than the longest area has octets.
-const MOST_ITEMS: u64 = 268_435_456;
 
 /// How a gateway served: the latest moment of a job, and why it ended before it was told to, if it did.
 #[derive(Clone, Copy)]
@@ -292,7 +286,7 @@ fn line_of<A: Area>(alloc: Global, book: &mut Book<A>, counts: Counts) -> Result
     ensures same { IsUnchanged book.old book.new × (A.faults (area_of book.old) ≤ A.faults (area_of book.new)) }
 {
     a_history_filed_its_parts();
-    let records = count_records(alloc, book)?;
+    let records = records_of(alloc, book)?;
     let mut line = Vec::new(alloc);
     match print_counts(alloc, &mut line, counts, records) {
         Ok(()) => Ok(line),
@@ -301,25 +295,14 @@ fn line_of<A: Area>(alloc: Global, book: &mut Book<A>, counts: Counts) -> Result
 }
 
 /// How many records a gateway's history has filed.
-fn count_records<A: Area>(alloc: Global, book: &mut Book<A>) -> Result<usize, Status>
+fn records_of<A: Area>(alloc: Global, book: &mut Book<A>) -> Result<usize, Status>
     ensures records { Told A.Area → IfOk result (λ n. n ≡ part_count (items_of (value_of book.old).firm)) }
     ensures err { IfErr result (FailsBy A.Area book.old book.new) }
     ensures same { IsUnchanged book.old book.new × (A.faults (area_of book.old) ≤ A.faults (area_of book.new)) }
 {
-    a_book_is_within_the_limits::<A>();
-    let mut from = 0u64;
-    let mut records = 0usize;
-    'pieces: while from <= MOST_ITEMS {
-        let items = match book.items(alloc, from, PIECE) {
-            Ok(items) => items,
-            Err(ItemsFault::Device) => return Err(Status::Store(StoreFault::Device)),
-            Err(ItemsFault::NoMemory) => return Err(Status::Memory),
-        };
-        records = records.saturating_add(record_count(&items));
-        if items.len() < PIECE as usize {
-            return Ok(records);
-        }
-        from += PIECE as u64;
+    match count_records(alloc, book) {
+        Ok(records) => Ok(records),
+        Err(ItemsFault::Device) => Err(Status::Store(StoreFault::Device)),
+        Err(ItemsFault::NoMemory) => Err(Status::Memory),
     }
-    Ok(records)
 }

@@ -7,6 +7,7 @@ ghost use Rattle.gateway_book.specs.Turning.{tells_lists};
 ghost use Rattle.gw_base.specs.Faults.{Rose};
 ghost use Rattle.node_session.specs.Writing.{IsWriterOf};
 ghost use Rattle.cgf_top.specs.Job.{job_of};
+ghost use Rattle.cgf_top.specs.LoopEnds.{IsNoLoop};
 ghost use Rattle.cgf_top.specs.StreamEnds.{Streams};
 ghost use Rattle.cgf_top.specs.StreamSteps.{CausesStop, HasServed, HasSettledStream, IsBegunOn};
 ghost use Rattle.cgf_top.specs.Streaming.{IsStreamingWithin};
@@ -26,6 +27,7 @@ use gateway_book::laws::{filed_records_stay, what_stands_is_ours};
 use gateway_book::{Book, Setup};
 use gtpp_stream::Deframer;
 use gw_base::{Caller, Sink, Source};
+use loop_run::Looped;
 use node_session::{SettleFault, settle};
 use replay_world::Settings;
 use replay_world::laws::no_file_is_open_where_no_close_is_due;
@@ -56,6 +58,7 @@ pub(crate) fn stream_gateway<S: Source, K: Sink, A: Area, F: Shelf, C: gw_base::
     ensures streams { (words : List (List ℕ)) → Streams A.Area F.Shelf streaming
         (job_of S.Source K.Sink words source.old source.new sink.old sink.new) area result.area shelf result.shelf
         (C.faults clock.old) (C.faults clock.new) result.status result.played }
+    ensures no_loop { IsNoLoop result.looped }
 {
     area_laws::<A>();
     files_only_grow();
@@ -65,7 +68,7 @@ pub(crate) fn stream_gateway<S: Source, K: Sink, A: Area, F: Shelf, C: gw_base::
     gtpp_stream::laws::a_stream_may_be_cut();
     gtpp_stream::laws::a_bad_octet_ends_the_messages();
     let Ok(deframer) = Deframer::new(alloc) else {
-        return unopened(Status::Memory, area, shelf);
+        return unopened(alloc, Status::Memory, area, shelf);
     };
     let settings = Settings::first();
     let setup = Setup {
@@ -74,7 +77,7 @@ pub(crate) fn stream_gateway<S: Source, K: Sink, A: Area, F: Shelf, C: gw_base::
     };
     let book = match Book::open(alloc, area, setup) {
         Ok(book) => book,
-        Err((fault, area)) => return unopened(status_of(fault), area, shelf),
+        Err((fault, area)) => return unopened(alloc, status_of(fault), area, shelf),
     };
     let (offset, profile) = (settings.offset, settings.profile);
     let writer = Writer::new(
@@ -99,20 +102,23 @@ pub(crate) fn stream_gateway<S: Source, K: Sink, A: Area, F: Shelf, C: gw_base::
         status,
         area,
         shelf,
+        looped: Looped::none(alloc),
         played: None,
     }
 }
 
 /// How the job ends whose gateway wasn't opened.
-fn unopened<A: Area, F: Shelf>(status: Status, area: A, shelf: F) -> Ended<A, F>
+fn unopened<A: Area, F: Shelf>(alloc: Global, status: Status, area: A, shelf: F) -> Ended<A, F>
     ensures status { result.status ≡ status }
     ensures same { (result.area ≡ area) × (result.shelf ≡ shelf) }
     ensures none { result.played ≡ None }
+    ensures no_loop { IsNoLoop result.looped }
 {
     Ended {
         status,
         area,
         shelf,
+        looped: Looped::none(alloc),
         played: None,
     }
 }

@@ -19,6 +19,9 @@ const PIECE: usize = 65_536;
 
 const MOST_WRITTEN: usize = 1_100_000;
 
+/// How many datagrams a link can send. None comes anywhere.
+const ROOM: usize = 1_000;
+
 /// How many octets the area has of a job that uses none.
 const UNUSED: u64 = 100;
 
@@ -50,13 +53,14 @@ fn outside_of(words: &[String]) -> Outside
 /// What stands in front of an input in hexadecimal.
 const OCTETS: &str = "octets ";
 
-/// How a job ended, what it wrote, the shelf that it was handed, and how many areas, shelves and nodes it handed back,
-/// where it handed back a network.
+/// How a job ended, what it wrote, the shelf that it was handed, how many books and nodes of a loop it handed back, and
+/// how many areas, shelves and nodes, where it handed back a network.
 #[derive(Drop)]
 pub(crate) struct Done {
     pub(crate) status: Status,
     pub(crate) printed: Vec<u8>,
     pub(crate) shelf: QuietShelf,
+    pub(crate) looped: (usize, usize),
     pub(crate) played: Option<(usize, usize, usize)>,
 }
 
@@ -80,13 +84,14 @@ pub(crate) fn run<R: Threads + Wait + Clock + Sync + Alloc<A = Global>>(
         return Err(Error::from(ErrorKind::OutOfMemory));
     };
     let shelf = QuietShelf::new(alloc);
-    let links = MemoryLinks::new(alloc, Vec::new(alloc), 0, Vec::new(alloc));
+    let links = MemoryLinks::new(alloc, Vec::new(alloc), ROOM, Vec::new(alloc));
     let mut links = links.map_err(|_| Error::from(ErrorKind::OutOfMemory))?;
     let mut clock = MemoryClock::new(vec![in alloc; first_moment()]?, Vec::new(alloc));
     let Ended {
         status,
         area: _,
         shelf,
+        looped,
         played,
     } = run_cgf(
         rt,
@@ -103,6 +108,7 @@ pub(crate) fn run<R: Threads + Wait + Clock + Sync + Alloc<A = Global>>(
         status,
         printed: sink.octets().to_vec(alloc)?,
         shelf,
+        looped: (looped.books.len(), looped.nodes.len()),
         played: played.map(handed_back),
     })
 }

@@ -5,7 +5,7 @@
 //! the input, which is all up to the empty line in front of the next name. Where that empty line lacks, the last line of
 //! the input lacks its line feed. An input that isn't text is `octets ` and its octets in hexadecimal; so is what is
 //! written for a stream, whose last word says how many octets its source gives a call. The files of the shelf that a
-//! stream leaves follow.
+//! stream leaves follow, and how many books and nodes a loop hands back.
 #![tactic(auto)]
 
 mod job;
@@ -48,6 +48,7 @@ fn tell<R: Threads + Wait + Clock + Sync + Print + Alloc<A = Global>>(
         status,
         printed,
         shelf,
+        looped,
         played,
     } = run(rt, words, input)?;
     print!(rt; "{NAME}{name}\n")?;
@@ -58,6 +59,10 @@ fn tell<R: Threads + Wait + Clock + Sync + Print + Alloc<A = Global>>(
     }
     println!(rt; "status {}, {status}", status.number())?;
     tell_files(rt, &shelf)?;
+    let (books, nodes) = looped;
+    if books > 0 {
+        println!(rt; "looped: books {books}, nodes {nodes}")?;
+    }
     if let Some((areas, shelves, nodes)) = played {
         println!(rt; "handed back: areas {areas}, shelves {shelves}, nodes {nodes}")?;
     }

@@ -140,6 +140,7 @@ pub(crate) fn job<R: Abort + Threads + Wait + Clock + Sync + Alloc<A = Global>>(
         status,
         area: _,
         shelf: _,
+        looped: _,
         played,
     } = run(
         rt,

@@ -125,6 +125,7 @@ where
         status,
         area: _,
         shelf,
+        looped: _,
         played: _,
     } = run(rt, &words, &mut source, &mut sink, area, links, &mut clock);
     let Ok(printed) = sink.octets().to_vec(alloc) else {

@@ -1,4 +1,6 @@
-use Rattle.std.proofs.Common.{map, string_bytes}
+use Rattle.std.proofs.Common.{map, string_bytes, subst}
+use Rattle.cgf_top.specs.LoopEnds.{IsLoopEnd}
+use Rattle.cgf_top.specs.Looping.{looping_of}
 use Rattle.cgf_top.specs.Serving.{serving_of}
 use Rattle.cgf_top.specs.Streaming.{streaming_of}
 use Rattle.cgf.proofs.Asked.{either, over_files}
@@ -13,7 +15,11 @@ pub returns-clause-known : goal.returns-clause-known
 returns-clause-known g c words =
     either (serving_of (map string_bytes c.args.words.now))
     (λ none. either (streaming_of (map string_bytes c.args.words.now))
-    (λ none_streams. over_files (serving_of (map string_bytes c.args.words.now)) (streaming_of (map string_bytes c.args.words.now)) none none_streams)
+    (λ none_streams. either (looping_of (map string_bytes c.args.words.now))
+    (λ none_loops. over_files (serving_of (map string_bytes c.args.words.now))
+    (streaming_of (map string_bytes c.args.words.now)) (looping_of (map string_bytes c.args.words.now)) none none_streams
+    none_loops)
+    (λ of is. absurd (subst IsLoopEnd words (c.run_watched-ended.ensures.loops.loops of is).known)))
     (λ of is. absurd ((c.run_watched-ended.ensures.streams of is).1.known words)))
     (λ of is. absurd ((c.run_watched-ended.ensures.serves of is).known words))
 
@@ -21,7 +27,10 @@ pub returns-clause-cause : goal.returns-clause-cause
 returns-clause-cause g c =
     either (serving_of (map string_bytes c.args.words.now))
     (λ none. either (streaming_of (map string_bytes c.args.words.now))
-    (λ none_streams. (c.run_watched-ended.ensures.job
-    (over_files (serving_of (map string_bytes c.args.words.now)) (streaming_of (map string_bytes c.args.words.now)) none none_streams)).cause)
+    (λ none_streams. either (looping_of (map string_bytes c.args.words.now))
+    (λ none_loops. (c.run_watched-ended.ensures.job (over_files (serving_of (map string_bytes c.args.words.now))
+    (streaming_of (map string_bytes c.args.words.now)) (looping_of (map string_bytes c.args.words.now)) none none_streams
+    none_loops)).cause)
+    (λ of is. (c.run_watched-ended.ensures.loops.loops of is).cause))
     (λ of is. (c.run_watched-ended.ensures.streams of is).1.cause))
     (λ of is. (c.run_watched-ended.ensures.serves of is).cause)

@@ -3,17 +3,13 @@ use Rattle.std.proofs.lemmas.Option.{same_Some}
 use Rattle.cgf_top.specs.Job.{job_of}
 use Rattle.cgf_top.specs.StreamEnds.{Streams}
 use Rattle.cgf_top.specs.declared.streaming.Streaming.{Streaming}
-use Rattle.cgf_top.proofs.EndingLemmas.{some_is_none}
 use Rattle.cgf_top.proofs.StreamWords.{not_a_command}
+use Rattle.cgf_top.proofs.Whole.{no_network}
 use Rattle.cgf_top.proofs.run_on_one.Goals as goal
 
 pub returns-in-Some-clause-once : goal.returns-in-Some-clause-once
-returns-in-Some-clause-once g c text lines asked left script done =
-    some_is_none _ (sym asked ∙ not_a_command (map string_bytes c.args.words.now) c.in-Some.streaming (sym c.in-Some.ensures.asked))
-
-pub returns-in-Some-clause-drilled : goal.returns-in-Some-clause-drilled
-returns-in-Some-clause-drilled g c of asked done =
-    some_is_none _ (sym asked ∙ not_a_command (map string_bytes c.args.words.now) c.in-Some.streaming (sym c.in-Some.ensures.asked))
+returns-in-Some-clause-once g c = no_network _ _ _ _
+    (not_a_command (map string_bytes c.args.words.now) c.in-Some.streaming (sym c.in-Some.ensures.asked))
 
 pub returns-in-Some-clause-streams : goal.returns-in-Some-clause-streams
 returns-in-Some-clause-streams g c of asked =

@@ -11,7 +11,7 @@ pub returns : goal.returns
 returns g c =
     served _ _ _ _ _ _ _ _ _ _ _ _ _ _ _ _ _ _ c.make_links-made.ensures.made
     (record {
-      history = c.run-gateway.ensures.history;
+      history = λ told. (c.run-gateway.ensures.history told).goes;
       replies = c.run-gateway.ensures.replies;
       stays = c.run-gateway.ensures.book;
       five = c.run-gateway.ensures.links;

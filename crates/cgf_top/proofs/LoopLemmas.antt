@@ -1,0 +1,137 @@
+-- What a loop writes, and what it does as a whole, by what its code says of it.
+use Rattle.std.proofs.Common.{◌≡◌, ℕ, ◌+◌, ◌∙◌, List, [], ◌∷◌, ◌++◌, map, Option, None, inl, inr, refl, sym, ap, subst}
+use Rattle.std.specs.Prelude.{codes}
+use Rattle.std.specs.Io.KnownBytes.{Appends}
+use Rattle.area_disk.specs.contracts.quiet.QuietAreaArea.TheImpl.{ghosts as quiet_area}
+use Rattle.area_disk.specs.declared.quiet.QuietArea.{QuietArea}
+use Rattle.gateway_book.specs.Book.{value_of}
+use Rattle.gateway_book.specs.declared.book.Book.{Book}
+use Rattle.gw_base.specs.Written.{AppendsFront}
+use Rattle.gw_base.specs.Faults.{Rose}
+use Rattle.loop_run.specs.Ending.{EndsAs, gateway_sum, node_sum}
+use Rattle.loop_run.specs.declared.end.GatewaySum.{GatewaySum}
+use Rattle.loop_run.specs.declared.end.LoopEnd.{LoopEnd}
+use Rattle.loop_run.specs.declared.end.LoopEnd.TheVariants as end
+use Rattle.loop_run.specs.declared.end.NodeSum.{NodeSum}
+use Rattle.loop_run.specs.declared.looped.Looped.{Looped}
+use Rattle.loop_run.specs.declared.setup.LoopSetup.{LoopSetup}
+use Rattle.net_link.specs.Making.{LinksState}
+use Rattle.node_core.specs.Counting.{counts_of}
+use Rattle.node_core.specs.Value.{NodeValue}
+use Rattle.replay_world.specs.Report.{counts_line, node_text}
+use Rattle.cgf_top.specs.Ending.{HasCause}
+use Rattle.cgf_top.specs.Job.{Job}
+use Rattle.cgf_top.specs.LoopEnds.{IsCalmEnd, IsFine, IsLoopEnd, Loops, loop_report}
+use Rattle.cgf_top.specs.LoopSteps.{WritesEnd, WritesLoop, WritesSums, gateway_sum_text, lines_from, node_sum_text, sums_text}
+use Rattle.cgf_top.specs.declared.status.Status.{Status}
+use Rattle.cgf_top.specs.declared.status.Status.TheVariants as status
+
+-- What the sums say is what the nodes and the books count.
+
+node_lines : (at : ℕ) (nodes : List NodeValue) → lines_from node_sum_text at (map node_sum nodes)
+    ≡ lines_from (λ place node. node_text place (counts_of node)) at nodes
+node_lines at [] = refl
+node_lines at (node ∷ nodes) = ap (λ (rest : List ℕ). node_text at (counts_of node) ++ rest) (node_lines (at + 1) nodes)
+
+abbrev LoopBook : Type 0
+LoopBook = Book QuietArea quiet_area
+
+gateway_lines : (at : ℕ) (books : List LoopBook)
+    → lines_from gateway_sum_text at (map (λ (book : LoopBook). gateway_sum (value_of book)) books)
+    ≡ lines_from (λ place book. counts_line place (value_of book)) at books
+gateway_lines at [] = refl
+gateway_lines at (book ∷ books) =
+    ap (λ (rest : List ℕ). counts_line at (value_of book) ++ rest) (gateway_lines (at + 1) books)
+
+pub sums_are : (nodes : List NodeSum) (gateways : List GatewaySum) (looped : Looped)
+    → nodes ≡ map node_sum looped.nodes.items
+    → gateways ≡ map (λ (book : LoopBook). gateway_sum (value_of book)) looped.books.items
+    → sums_text nodes gateways ≡ loop_report looped
+sums_are nodes gateways looped of_nodes of_books =
+    (λ i. sums_text (of_nodes i) (of_books i))
+    ∙ (λ i. node_lines 0 looped.nodes.items i ++ gateway_lines 0 looped.books.items i ++ codes "audit fine" ++ 10 ∷ [])
+
+module _ (setup : LoopSetup) (job : Job) (links links' : LinksState) (looped : Looped) where
+  abbrev Wrote : Status → Type 0
+  Wrote ended = WritesLoop setup links links' job.before job.after job.written_before job.written_after ended looped
+
+  cause_of : (ended : Status) → Wrote ended → job.read_after ≡ job.read_before
+      → HasCause ended job.read_before job.read_after job.written_before job.written_after
+  cause_of status.Done wrote read = (read, wrote.2)
+  cause_of status.Write wrote read = (read, wrote.2)
+  cause_of status.Memory wrote read = (read, wrote.1)
+  cause_of status.Link wrote read = (read, wrote.2)
+  cause_of (status.Audit packet places wanted) wrote read = (read, wrote.3)
+  cause_of (status.Unfinished turns packet count) wrote read = (read, wrote.5)
+  cause_of status.Words wrote read = absurd wrote
+  cause_of (status.Input place why) wrote read = absurd wrote
+  cause_of status.Read wrote read = absurd wrote
+  cause_of (status.Store why) wrote read = absurd wrote
+
+  known_of : (ended : Status) → Wrote ended → IsLoopEnd ended
+  known_of status.Done wrote = tt
+  known_of status.Write wrote = tt
+  known_of status.Memory wrote = tt
+  known_of status.Link wrote = tt
+  known_of (status.Audit packet places wanted) wrote = tt
+  known_of (status.Unfinished turns packet count) wrote = tt
+  known_of status.Words wrote = absurd wrote
+  known_of (status.Input place why) wrote = absurd wrote
+  known_of status.Read wrote = absurd wrote
+  known_of (status.Store why) wrote = absurd wrote
+
+  calm_of : (ended : Status) → Wrote ended → ¬ (Rose links.faults links'.faults)
+      → ¬ (Rose job.written_before job.written_after) → IsCalmEnd ended
+  calm_of status.Done wrote no_link no_sink = tt
+  calm_of status.Write wrote no_link no_sink = no_sink wrote.2
+  calm_of status.Memory wrote no_link no_sink = tt
+  calm_of status.Link wrote no_link no_sink = no_link wrote.1
+  calm_of (status.Audit packet places wanted) wrote no_link no_sink = tt
+  calm_of (status.Unfinished turns packet count) wrote no_link no_sink = tt
+  calm_of status.Words wrote no_link no_sink = absurd wrote
+  calm_of (status.Input place why) wrote no_link no_sink = absurd wrote
+  calm_of status.Read wrote no_link no_sink = absurd wrote
+  calm_of (status.Store why) wrote no_link no_sink = absurd wrote
+
+  pub loops_as : (ended : Status) → Wrote ended → job.read_after ≡ job.read_before
+      → Loops setup job links links' ended looped None
+  loops_as ended wrote read = record {
+    done = λ is. let w = subst Wrote is wrote in (w.0, w.1);
+    front = λ is. let w = subst Wrote is wrote in (w.0, w.1);
+    wrong = λ packet places wanted is. let w = subst Wrote is wrote in (w.0, w.1, w.2);
+    unfinished = λ turns packet count is. let w = subst Wrote is wrote in (w.0, w.1, w.2, w.3, w.4);
+    memory = λ is. let w = subst Wrote is wrote in w.0;
+    link = λ is. let w = subst Wrote is wrote in (w.0, w.1);
+    cause = cause_of ended wrote read;
+    known = known_of ended wrote;
+    none = refl;
+    complete = calm_of ended wrote;
+  }
+
+-- What was written of a loop, by its end.
+module _ (setup : LoopSetup) (links links' : LinksState) (before after : Option (List ℕ)) (faults faults' : ℕ)
+    (looped : Looped) where
+  abbrev Writes : Status → Type 0
+  Writes ended = WritesLoop setup links links' before after faults faults' ended looped
+
+  wrote_sums : (ended : Status) (nodes : List NodeSum) (gateways : List GatewaySum)
+      → IsFine setup links links' looped → sums_text nodes gateways ≡ loop_report looped
+      → WritesSums nodes gateways before after faults faults' ended → Writes ended
+  wrote_sums ended nodes gateways fine says (inl done) =
+      subst Writes (sym done.0) (fine, subst (λ (text : List ℕ). Appends before after text) says done.1, done.2)
+  wrote_sums ended nodes gateways fine says (inr (inl front)) =
+      subst Writes (sym front.0)
+      (fine, subst (λ (text : List ℕ). AppendsFront before after text) says front.1, front.2)
+  wrote_sums ended nodes gateways fine says (inr (inr none)) = subst Writes (sym none.0) (inr fine, none.1)
+
+  pub wrote_end : (how : LoopEnd) (ended : Status) → EndsAs setup links links' looped how
+      → WritesEnd before after faults faults' how ended → Writes ended
+  wrote_end (end.Fine node_sums gateway_sums) ended (hands, counts) wrote =
+      wrote_sums ended node_sums.items gateway_sums.items (hands, counts.0, counts.1)
+      (sums_are node_sums.items gateway_sums.items looped counts.2.0 counts.2.1) wrote
+  wrote_end (end.Wrong packet places wanted) ended (hands, counts) wrote =
+      subst Writes (sym wrote.0) (hands, counts.0, counts.1, wrote.1)
+  wrote_end (end.Unfinished turns packet count) ended (hands, counts, taken) wrote =
+      subst Writes (sym wrote.0) (hands, counts.0, counts.1, counts.2, taken, wrote.1)
+  wrote_end end.Link ended (none, rose) wrote = subst Writes (sym wrote.0) (none, rose, wrote.1)
+  wrote_end end.NoMemory ended none wrote = subst Writes (sym wrote.0) (inl none, wrote.1)

@@ -1,0 +1,220 @@
+//! `loopback`: gateways and nodes of this machine against one another, and the audit.
+ghost use Rattle.std.specs.Prelude.{◌≡◌, ◌+◌, ◌<◌, ◌^◌, ◌++◌, ◌∷◌, [], false, IfOk, IfSome, OnOk, map, string_bytes};
+ghost use Rattle.gw_base.specs.declared.address.Addr.{Addr};
+ghost use Rattle.loop_run.specs.Addresses.{IsLoop};
+ghost use Rattle.cgf_top.specs.LoopSteps.{WritesEnd, WritesLoop, WritesSums, gateway_sum_text, lines_from, node_sum_text, sums_text};
+ghost use Rattle.cgf_top.specs.Looping.{looping_by, looping_of};
+ghost use Rattle.cgf_top.specs.Run.{may_have_written};
+
+use crate::output::write_all;
+use crate::serving::between;
+use crate::status::Status;
+use gw_base::{NoMemory, Sink};
+use loop_run::{GatewaySum, LoopEnd, LoopSetup, Looped, NodeSum, run_loop};
+use net_link::Links;
+use std::alloc::Global;
+use std::sync::Wait;
+use std::thread::Threads;
+use std::time::Clock;
+
+/// The loop that the words ask for, where they are those of `loopback`.
+pub(crate) fn looping_of(words: &[String]) -> Option<LoopSetup>
+    ensures asked { result ≡ looping_of (map string_bytes words.now) }
+    ensures within { IfSome result IsLoop }
+{
+    let [name, gateways, nodes, packets, turns] = words else {
+        return None;
+    };
+    by_name(name, gateways, nodes, packets, turns)
+}
+
+/// What these numbers say, where the name is that of the command.
+#[tactic(auto, using(crate::proofs::LoopWords::chosen))]
+fn by_name(
+    name: &String,
+    gateways: &String,
+    nodes: &String,
+    packets: &String,
+    turns: &String,
+) -> Option<LoopSetup>
+    ensures asked { result ≡ looping_of (string_bytes name.now ∷ string_bytes gateways.now ∷ string_bytes nodes.now
+        ∷ string_bytes packets.now ∷ string_bytes turns.now ∷ []) }
+    ensures within { IfSome result IsLoop }
+{
+    if name.as_str() == "loopback" {
+        by_numbers(
+            gateways.as_bytes(),
+            nodes.as_bytes(),
+            packets.as_bytes(),
+            turns.as_bytes(),
+        )
+    } else {
+        None
+    }
+}
+
+/// What these numbers say, where each is one in its range.
+fn by_numbers(gateways: &[u8], nodes: &[u8], packets: &[u8], turns: &[u8]) -> Option<LoopSetup>
+    ensures said { result ≡ looping_by gateways.now nodes.now packets.now turns.now }
+    ensures within { IfSome result IsLoop }
+{
+    Some(LoopSetup {
+        gateways: between(gateways, 1, 4)? as u8,
+        nodes: between(nodes, 1, 8)? as u8,
+        packets: between(packets, 1, 1_000)? as u32,
+        turns: between(turns, 1, 10_000_000)?,
+    })
+}
+
+/// Lets a loop run over these links, and writes what its nodes and gateways count where the audit of it is fine.
+pub(crate) fn loop_back<K: Sink, L: Links, R: Threads + Wait + Clock + Sync>(
+    rt: &R,
+    alloc: Global,
+    setup: LoopSetup,
+    sink: &mut K,
+    links: &mut L,
+) -> (Status, Looped)
+where
+    L::Link: Send,
+    requires within { IsLoop setup }
+    requires turns { (at : Addr) → (L.state links.old).turns at < 2 ^ 63 }
+    ensures loops { WritesLoop setup (L.state links.old) (L.state links.new) (K.written sink.old) (K.written sink.new)
+        (K.faults sink.old) (K.faults sink.new) result.0 result.1 }
+    ensures untouched { may_have_written result.0 ≡ false → sink.new ≡ sink.old }
+{
+    let (end, looped) = run_loop(rt, alloc, setup, links);
+    (write_end(alloc, sink, end), looped)
+}
+
+/// How a loop ended. What its nodes and gateways count is written where the audit of it is fine.
+fn write_end<K: Sink>(alloc: Global, sink: &mut K, end: LoopEnd) -> Status
+    ensures ends { WritesEnd (K.written sink.old) (K.written sink.new) (K.faults sink.old) (K.faults sink.new) end
+        result }
+    ensures untouched { may_have_written result ≡ false → sink.new ≡ sink.old }
+{
+    match end {
+        LoopEnd::Fine { nodes, gateways } => write_sums(
+            alloc,
+            sink,
+            nodes.as_slice(),
+            gateways.as_slice(),
+        ),
+        LoopEnd::Wrong {
+            packet,
+            places,
+            wanted,
+        } => Status::Audit {
+            packet,
+            places,
+            wanted,
+        },
+        LoopEnd::Unfinished {
+            turns,
+            packet,
+            count,
+        } => Status::Unfinished {
+            turns,
+            packet,
+            count,
+        },
+        LoopEnd::Link => Status::Link,
+        LoopEnd::NoMemory => Status::Memory,
+    }
+}
+
+/// Writes what nodes and gateways count, and that the audit is fine.
+fn write_sums<K: Sink>(
+    alloc: Global,
+    sink: &mut K,
+    nodes: &[NodeSum],
+    gateways: &[GatewaySum],
+) -> Status
+    ensures wrote { WritesSums nodes.now gateways.now (K.written sink.old) (K.written sink.new) (K.faults sink.old)
+        (K.faults sink.new) result }
+    ensures untouched { may_have_written result ≡ false → sink.new ≡ sink.old }
+{
+    let Ok(text) = sums_text(alloc, nodes, gateways) else {
+        return Status::Memory;
+    };
+    match write_all(sink, &text) {
+        Ok(()) => Status::Done,
+        Err(_) => Status::Write,
+    }
+}
+
+/// The lines of what nodes and gateways count, and that the audit is fine.
+fn sums_text(alloc: Global, nodes: &[NodeSum], gateways: &[GatewaySum]) -> Result<Vec<u8>, NoMemory>
+    ensures { IfOk result (λ text. text.items ≡ sums_text nodes.now gateways.now) }
+{
+    let mut text = Vec::new(alloc);
+    print_nodes(alloc, &mut text, nodes)?;
+    print_gateways(alloc, &mut text, gateways)?;
+    text.extend_from_slice(b"audit fine\n")?;
+    Ok(text)
+}
+
+/// Appends the lines of what nodes count.
+fn print_nodes(alloc: Global, text: &mut Vec<u8>, nodes: &[NodeSum]) -> Result<(), NoMemory>
+    ensures { OnOk result (text.new.items ≡ text.old.items ++ lines_from node_sum_text 0 nodes.now) }
+{
+    for at in 0..nodes.len() {
+        print_node(alloc, text, at, nodes[at])?;
+    }
+    Ok(())
+}
+
+/// Appends the lines of what gateways count.
+fn print_gateways(
+    alloc: Global,
+    text: &mut Vec<u8>,
+    gateways: &[GatewaySum],
+) -> Result<(), NoMemory>
+    ensures { OnOk result (text.new.items ≡ text.old.items ++ lines_from gateway_sum_text 0 gateways.now) }
+{
+    for at in 0..gateways.len() {
+        print_gateway(alloc, text, at, gateways[at])?;
+    }
+    Ok(())
+}
+
+/// Appends the line of what the node in this place counts, from 0.
+fn print_node(alloc: Global, text: &mut Vec<u8>, at: usize, sum: NodeSum) -> Result<(), NoMemory>
+    requires { at + 1 < 2 ^ 64 }
+    ensures { OnOk result (text.new.items ≡ text.old.items ++ node_sum_text at sum) }
+{
+    let NodeSum {
+        packets,
+        resolved,
+        done,
+    } = sum;
+    let place = at + 1;
+    let line = format!(in alloc;
+        "node {place} packets {packets} resolved {resolved} done {done}\n"
+    )?;
+    text.extend_from_slice(line.as_bytes())?;
+    Ok(())
+}
+
+/// Appends the line of what the gateway in this place counts, from 0.
+fn print_gateway(
+    alloc: Global,
+    text: &mut Vec<u8>,
+    at: usize,
+    sum: GatewaySum,
+) -> Result<(), NoMemory>
+    requires { at + 1 < 2 ^ 64 }
+    ensures { OnOk result (text.new.items ≡ text.old.items ++ gateway_sum_text at sum) }
+{
+    let GatewaySum {
+        entries,
+        records,
+        held,
+        stranded,
+    } = sum;
+    let place = at + 1;
+    let line = format!(in alloc;
+        "gateway {place} entries {entries} records {records} held {held} stranded {stranded}\n"
+    )?;
+    text.extend_from_slice(line.as_bytes())?;
+    Ok(())
+}
