@@ -7,6 +7,9 @@
 #   bench/serve.sh one N M      N nodes with M requests under way
 #   bench/serve.sh memory S     S seconds of load on a journal of 16,777,216 octets: memory, descriptors and threads
 #
+# Where other work keeps the machine busy, `SYNC=25 TMPDIR=/dev/shm chrt -f 5 bench/serve.sh` takes the processors first
+# and no disk.
+#
 # Of each it prints the middle one of the runs by its rate: requests a second, and in microseconds the latencies below
 # which 50, 99 and 99.9 hundredths stay. `ratio` is the rate of `serve` by that of the other. It ends with status 1
 # where an answer is wrong, where the ratio is below 0.9 at 64 nodes or 0.8 at one node, or where memory reaches 64 MiB

@@ -1,11 +1,17 @@
 #!/bin/bash
-# How long `stream` takes for a stream of repeats, and how much memory: of 1 GiB, or of as many MiB as the first word
-# says, and of twice as many. It runs the proved program, which ./do prove builds, or PROGRAM. The first message is filed
-# and each other one is told to be a repeat, so that the journal doesn't fill. It ends with status 1 where twice the
-# stream takes more than 2.1 times as long, or a reply is missing.
+# How long `stream` takes for a stream of repeats, and how much memory. It runs the proved program, which ./do prove
+# builds, or PROGRAM. The first message is filed and each other one is told to be a repeat, so that the journal doesn't
+# fill.
+#
+#   bench/stream.sh [MIB]   of so many MiB, 1,024 where nothing is said, and of twice as many, in turn: the best of
+#                           ROUNDS (3) each, in seconds of the processor
+#   bench/stream.sh count   how many instructions 1, 2 and 4 MiB take, which doesn't depend on what else the machine
+#                           does: by `valgrind`
+#
+# It ends with status 1 where twice the stream takes more than 2.1 times as much, or a reply is missing.
 cd "$(dirname "$0")/.." || exit 1
 program=$(realpath "${PROGRAM:-crates/cgf/out/cgf}")
-mebibytes=${1:-1024}
+ROUNDS=${ROUNDS:-3}
 folder=$(mktemp -d) && trap 'rm -rf "$folder"' EXIT
 
 # So many mebibytes of one message, 22 octets long, cut at a message's end.
@@ -20,18 +26,44 @@ while left:
     left -= count' "$1"
 }
 
-# The seconds of the processor and the MiB of memory that a stream of so many mebibytes takes.
-run() {
+# Runs a stream of so many mebibytes, by the words behind that.
+stream() {
+    local mebibytes=$1 replies=$(($1 * 1048576 / 22 * 13))
+    shift
     rm -rf "$folder/area" "$folder/cdrs" && mkdir "$folder/cdrs"
-    repeats "$1" | (cd "$folder" && /usr/bin/time -f '%U %S %M' -o time \
-        "$program" stream 10.0.0.1 10.0.1.1:40001 1000000 area cdrs -) | wc -c >"$folder/replies"
-    local replies=$(($1 * 1048576 / 22 * 13))
+    repeats "$mebibytes" | (cd "$folder" && "$@" "$program" stream 10.0.0.1 10.0.1.1:40001 1000000 area cdrs -) |
+        wc -c >"$folder/replies"
     [ "$(cat "$folder/replies")" = "$replies" ] || { echo "$(cat "$folder/replies") octets of replies, not $replies"; exit 1; }
-    awk '{ print $1 + $2, $3 / 1024 }' "$folder/time"
 }
 
-read -r once memory < <(run "$mebibytes")
-read -r twice more < <(run $((2 * mebibytes)))
-[ -n "$once" ] && [ -n "$twice" ] || exit 1
+# The seconds of the processor and the MiB of memory of a run, in a line of the file that the second word names.
+run() {
+    stream "$1" /usr/bin/time -f '%U %S %M' -o time
+    awk '{ print $1 + $2, $3 / 1024 }' "$folder/time" >>"$folder/$2"
+}
+
+# The instructions of a run.
+count() {
+    stream "$1" valgrind --tool=callgrind --callgrind-out-file=/dev/null 2>"$folder/counted"
+    awk '/Collected/ { print $NF }' "$folder/counted"
+}
+
+is_linear() {
+    awk -v a="$1" -v b="$2" 'BEGIN { exit !(a > 0 && b > 0 && b <= 2.1 * a) }'
+}
+
+if [ "$1" = count ]; then
+    one=$(count 1) && two=$(count 2) && four=$(count 4) || { echo "$one$two$four"; exit 1; }
+    echo "1, 2 and 4 MiB: $one, $two and $four instructions"
+    is_linear "$one" "$two" && is_linear "$two" "$four"
+    exit
+fi
+mebibytes=${1:-1024}
+for ((round = 0; round < ROUNDS; round++)); do
+    run "$mebibytes" once
+    run $((2 * mebibytes)) twice
+done
+read -r once memory < <(sort -n "$folder/once")
+read -r twice more < <(sort -n "$folder/twice")
 echo "$mebibytes MiB: $once s, $memory MiB; twice that: $twice s, $more MiB"
-awk -v a="$once" -v b="$twice" 'BEGIN { exit !(b <= 2.1 * a) }'
+is_linear "$once" "$twice"

@@ -3,6 +3,7 @@
 #   PROGRAM     the program; where it is wanting, ./do prove builds the proved one
 #   PORT        the port that the gateways have on 127.0.0.1, 3386 where it is wanting
 #   TMPDIR      where the journal's file and the folder of CDR files stand: on the disk that is measured
+#   SYNC        for how many microseconds each sync sleeps, in place of the disk's own (peer/sync.c)
 PORT=${PORT:-3386}
 FOR_EVER=1099511627776
 [ -n "$PROGRAM" ] || ./do prove || exit 1
@@ -10,9 +11,18 @@ program=$(readlink -f "${PROGRAM:-crates/cgf/out/cgf}")
 
 build() {
     local each
+    [ -z "$SYNC" ] || "${CC:-cc}" -O2 -Wall -Wextra -shared -fPIC -o "$work/sync.so" bench/peer/sync.c || exit 1
     for each in "$@"; do
         "${CC:-cc}" -O2 -Wall -Wextra -o "$work/$each" "bench/peer/$each.c" || exit 1
     done
+}
+
+# Runs a gateway, with syncs that sleep where that is asked.
+launch() {
+    if [ -n "$SYNC" ]; then
+        exec env LD_PRELOAD="$work/sync.so" "$@"
+    fi
+    exec "$@"
 }
 
 # Whether a socket of UDP has the port.
@@ -39,14 +49,14 @@ start_serve() {
     rm -rf "$work/area" "$work/cdrs"
     mkdir "$work/cdrs"
     printf '%s\n' "$1" end >"$work/settings"
-    "$program" serve 127.0.0.1 "$PORT" $FOR_EVER "$2" "$work/area" "$work/cdrs" <"$work/settings" >"$work/told" 2>&1 &
+    launch "$program" serve 127.0.0.1 "$PORT" $FOR_EVER "$2" "$work/area" "$work/cdrs" <"$work/settings" >"$work/told" 2>&1 &
     gateway=$!
     await_gateway
 }
 
 # A new plain gateway with this length.
 start_peer() {
-    "$work/peer" 127.0.0.1 "$PORT" "$1" "$work/area" &
+    launch "$work/peer" 127.0.0.1 "$PORT" "$1" "$work/area" &
     gateway=$!
     await_gateway
 }
