@@ -9,6 +9,7 @@ import sys
 from pathlib import Path
 
 import feed
+import loops
 import sample
 import script
 import show
@@ -38,7 +39,7 @@ def sealed(folder):
 
 def model(command, numbers, text):
     """What the model of a command writes, its status, what it says of its end, and the lines of the network that it
-    ran, or what is told of the files that it leaves."""
+    ran, or what is told of the files that it leaves and of what it hands back."""
     if command == "feed":
         return *feed.feed(text), []
     if command == "show":
@@ -46,6 +47,8 @@ def model(command, numbers, text):
     if command == "stream":
         ended = streams.run([command, *numbers], text, None, {})
         return b"octets %s\n" % ended.output.hex().upper().encode(), ended.status, ended.error, sealed(ended.folder)
+    if command == "loopback":
+        return loops.run(numbers)
     if command == "replay":
         out, status, error = world.replay(text)
         return out, status, error, [] if status else script.read(text, "replay")
