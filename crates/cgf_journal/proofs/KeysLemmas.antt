@@ -201,7 +201,7 @@ firm-next r (kept ∷ keys) up =
 
 pub counted-settled : (s : Bool) (q : ℕ) (firm : Bool) (r : ℕ) (keys : List KeptKey) → counted_keys s q (map (λ (kept : KeptKey). settled_key firm r kept) keys) ≡ counted_keys firm r keys
 counted-settled s q firm r [] = refl
-counted-settled s q firm r (kept ∷ keys) = by_tests (s && (kept.round == q)) (counts firm r kept) (counted-settled s q firm r keys)
+counted-settled s q firm r (kept ∷ keys) = by_tests (s && (0 == q)) (counts firm r kept) (counted-settled s q firm r keys)
   where
     by_tests : (a b : Bool) → counted_keys s q (map (λ (k : KeptKey). settled_key firm r k) keys) ≡ counted_keys firm r keys
         → map key_of (cond (if a then b else b) (settled_key firm r kept ∷ kept_by s q (map (λ (k : KeptKey). settled_key firm r k) keys)) (kept_by s q (map (λ (k : KeptKey). settled_key firm r k) keys)))

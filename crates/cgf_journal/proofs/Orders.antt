@@ -88,10 +88,10 @@ ascending-settled firm r keys up i j d lt within =
     let inside : j < length keys = omega (arith, within, length-map keys (λ (kept : KeptKey). settled_key firm r kept)) in
     omega (arith, up i j d lt inside, ap (λ (k : KeptKey). rank k) (get-settled firm r keys i d (omega (arith, lt, inside))), ap (λ (k : KeptKey). rank k) (get-settled firm r keys j d inside))
 
-pub up_to-settled : (q : ℕ) (firm : Bool) (r : ℕ) (keys : List KeptKey) → AreUpTo q keys → AreUpTo q (map (λ (kept : KeptKey). settled_key firm r kept) keys)
-up_to-settled q firm r keys up j d within =
+pub up_to-settled : (q p : ℕ) (firm : Bool) (r : ℕ) (keys : List KeptKey) → AreUpTo p keys → AreUpTo q (map (λ (kept : KeptKey). settled_key firm r kept) keys)
+up_to-settled q p firm r keys up j d within =
     let inside : j < length keys = omega (arith, within, length-map keys (λ (kept : KeptKey). settled_key firm r kept)) in
-    kept_so q (settled_key firm r (slice_index_or keys j d)) (slice_index_or (map (λ (kept : KeptKey). settled_key firm r kept) keys) j d) (get-settled firm r keys j d inside) (up j d inside)
+    kept_so q (settled_key firm r (slice_index_or keys j d)) (slice_index_or (map (λ (kept : KeptKey). settled_key firm r kept) keys) j d) (get-settled firm r keys j d inside) (omega arith, (up j d inside).1)
 
 -- ---- where a number belongs
 

@@ -23,9 +23,9 @@ counted_keys firm round keys = map key_of (filter (λ kept. counts firm round ke
 abbrev pub changed_key : Bool → ℕ → KeptKey → KeptKey
 changed_key held round kept = record kept { was_held = counts true round kept; is_held = held; round = round }
 
--- a key as the firm entries hold it, or else all, for both
+-- a key as the firm entries hold it, or else all, for both: in any round it counts alike
 abbrev pub settled_key : Bool → ℕ → KeptKey → KeptKey
-settled_key firm round kept = record kept { was_held = counts firm round kept; is_held = counts firm round kept }
+settled_key firm round kept = record kept { was_held = counts firm round kept; is_held = counts firm round kept; round = 0 }
 
 abbrev pub rank : KeptKey → ℕ
 rank kept = rank_of kept.node.0 kept.number

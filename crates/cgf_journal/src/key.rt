@@ -7,16 +7,16 @@ use gw_base::scan::HeldKey;
 use gw_base::{Absolute, NodeId};
 
 /// A key that the firm entries hold or held, or that all entries do, and the round in which that
-/// changed last. A round goes from one commit to the next.
+/// changed last. A round goes from one commit to the next. In this order of its fields it takes 16 octets.
 #[derive(Clone, Copy)]
 pub(crate) struct KeptKey {
-    pub(crate) node: NodeId,
     pub(crate) number: Absolute,
+    pub(crate) node: NodeId,
+    pub(crate) round: u16,
     /// Whether the entries that were firm as that round began hold it.
     pub(crate) was_held: bool,
     /// Whether all entries hold it.
     pub(crate) is_held: bool,
-    pub(crate) round: u64,
 }
 
 impl KeptKey {
@@ -31,7 +31,7 @@ impl KeptKey {
     }
 
     /// Whether the firm entries hold it, or else all, in this round.
-    pub(crate) fn counts(self, firm: bool, round: u64) -> bool
+    pub(crate) fn counts(self, firm: bool, round: u16) -> bool
         ensures { result ≡ counts firm round self }
     {
         if firm && self.round == round {
@@ -41,7 +41,7 @@ impl KeptKey {
     }
 
     /// The key as all entries hold it or don't from this round on.
-    pub(crate) fn changed(self, held: bool, round: u64) -> KeptKey
+    pub(crate) fn changed(self, held: bool, round: u16) -> KeptKey
         ensures { result ≡ changed_key held round self }
     {
         KeptKey {
@@ -52,20 +52,21 @@ impl KeptKey {
         }
     }
 
-    /// The key as the firm entries hold it, or else all, for both.
-    pub(crate) fn settled(self, firm: bool, round: u64) -> KeptKey
+    /// The key as the firm entries hold it, or else all, for both and in whichever round.
+    pub(crate) fn settled(self, firm: bool, round: u16) -> KeptKey
         ensures { result ≡ settled_key firm round self }
     {
         let held = self.counts(firm, round);
         KeptKey {
             was_held: held,
             is_held: held,
+            round: 0,
             ..self
         }
     }
 
     /// The key of one round as it is kept in another.
-    pub(crate) fn moved(self, from: u64, to: u64) -> KeptKey
+    pub(crate) fn moved(self, from: u16, to: u16) -> KeptKey
         ensures { result ≡ moved_key from to self }
     {
         KeptKey {
@@ -76,7 +77,7 @@ impl KeptKey {
     }
 
     /// The key, which another list keeps too, as both together say in this round.
-    pub(crate) fn joined(self, other: KeptKey, round: u64) -> KeptKey
+    pub(crate) fn joined(self, other: KeptKey, round: u16) -> KeptKey
         ensures { result ≡ joined_key round self other }
     {
         let was_held = self.counts(true, round) || other.counts(true, round);

@@ -11,8 +11,8 @@ fn next_of(
     keys: &[KeptKey],
     others: &[KeptKey],
     places: (usize, usize),
-    from: u64,
-    to: u64,
+    from: u16,
+    to: u16,
 ) -> (KeptKey, (usize, usize))
     requires first { places.0 ≤ length keys.now }
     requires second { places.1 < length others.now }
@@ -42,8 +42,8 @@ fn next_of(
 pub(crate) fn merge(
     keys: &[KeptKey],
     others: &[KeptKey],
-    from: u64,
-    to: u64,
+    from: u16,
+    to: u16,
     into: &mut Vec<KeptKey>,
 ) -> Result<(), NoMemory>
     requires small { length keys.now + length others.now < 2 ^ 64 }

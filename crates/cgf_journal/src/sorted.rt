@@ -79,7 +79,7 @@ fn replace_from(keys: &mut Vec<KeptKey>, at: usize, others: &mut Vec<KeptKey>)
     };
 }
 
-fn count_staying(keys: &[KeptKey], firm: bool, round: u64, act: &Act<'_>) -> u64
+fn count_staying(keys: &[KeptKey], firm: bool, round: u16, act: &Act<'_>) -> u64
     ensures { result ≡ count_by (λ kept.
         counts firm round kept && stays_held (act_view act.now) (key_of kept)) keys.now }
 {
@@ -102,7 +102,7 @@ pub(crate) struct SortedKeys {
     keys: Vec<KeptKey>,
     /// For how many keys there is memory.
     reserved: usize,
-    round: u64,
+    round: u16,
     firm: u64,
     live: u64,
     ghost enough: { reserved ≤ vec_capacity keys },
@@ -348,7 +348,10 @@ impl SortedKeys {
         self.firm = self.live;
         match self.round.checked_add(1) {
             Some(round) => self.round = round,
-            None => settle_all(&mut self.keys, false, self.round),
+            None => {
+                settle_all(&mut self.keys, false, self.round);
+                self.round = 0;
+            }
         }
     }
 
@@ -366,21 +369,21 @@ impl SortedKeys {
 }
 
 // Takes out the keys that the firm entries don't hold.
-fn keep_firm(keys: &mut Vec<KeptKey>, round: u64)
+fn keep_firm(keys: &mut Vec<KeptKey>, round: u16)
     ensures kept { keys.new.items ≡ filter (λ kept. counts true round kept) keys.old.items }
     ensures capacity { vec_capacity keys.new ≡ vec_capacity keys.old }
 {
     keys.retain(|kept| kept.counts(true, round));
 }
 
-fn settle_all(keys: &mut Vec<KeptKey>, firm: bool, round: u64)
+fn settle_all(keys: &mut Vec<KeptKey>, firm: bool, round: u16)
     ensures settled { keys.new.items ≡ map (λ kept. settled_key firm round kept) keys.old.items }
     ensures capacity { vec_capacity keys.new ≡ vec_capacity keys.old }
 {
     settle_keys(keys, firm, round);
 }
 
-fn settle_keys(keys: &mut [KeptKey], firm: bool, round: u64)
+fn settle_keys(keys: &mut [KeptKey], firm: bool, round: u16)
     ensures { keys.new ≡ map (λ kept. settled_key firm round kept) keys.old }
 {
     for key in keys.iter_mut() {

@@ -34,7 +34,7 @@ invariant_of-self c =
     record {
       enough = omega (arith, old.enough, c.keep_firm.ensures.capacity, c.settle_all.ensures.capacity);
       ascending = subst up (sym is) (ascending-settled true old.round (held old) (ascending-filter (λ (kept : KeptKey). counts true old.round kept) old.keys.items old.ascending));
-      up_to = subst bound (sym is) (up_to-settled old.round true old.round (held old) (up_to-filter (λ (kept : KeptKey). counts true old.round kept) old.round old.keys.items old.up_to));
+      up_to = subst bound (sym is) (up_to-settled old.round old.round true old.round (held old) (up_to-filter (λ (kept : KeptKey). counts true old.round kept) old.round old.keys.items old.up_to));
       firm_counted = old.firm_counted ∙ ap (λ (l : List HeldKey). length l) (sym (ap (λ (l : List KeptKey). counted_keys true old.round l) is ∙ counted true old));
       live_counted = old.firm_counted ∙ ap (λ (l : List HeldKey). length l) (sym (ap (λ (l : List KeptKey). counted_keys false old.round l) is ∙ counted false old));
     }

@@ -30,20 +30,20 @@ pub invariant_of-self-in-None : goal.invariant_of-self-in-None
 invariant_of-self-in-None c =
     let old = c.args.self.now in
     let up : List KeptKey → Type 0 = λ l. AreAscending l in
-    let kept : List KeptKey → Type 0 = λ l. AreUpTo old.round l in
+    let kept : List KeptKey → Type 0 = λ l. AreUpTo 0 l in
     record {
       enough = omega (arith, old.enough, c.settle_all.ensures.capacity);
       ascending = subst up (sym c.settle_all.ensures.settled) (ascending-settled false old.round old.keys.items old.ascending);
-      up_to = subst kept (sym c.settle_all.ensures.settled) (up_to-settled old.round false old.round old.keys.items old.up_to);
-      firm_counted = old.live_counted ∙ ap (λ (l : List HeldKey). length l) (sym (ap (λ (l : List KeptKey). counted_keys true old.round l) c.settle_all.ensures.settled ∙ counted-settled true old.round false old.round old.keys.items));
-      live_counted = old.live_counted ∙ ap (λ (l : List HeldKey). length l) (sym (ap (λ (l : List KeptKey). counted_keys false old.round l) c.settle_all.ensures.settled ∙ counted-settled false old.round false old.round old.keys.items));
+      up_to = subst kept (sym c.settle_all.ensures.settled) (up_to-settled 0 old.round false old.round old.keys.items old.up_to);
+      firm_counted = old.live_counted ∙ ap (λ (l : List HeldKey). length l) (sym (ap (λ (l : List KeptKey). counted_keys true 0 l) c.settle_all.ensures.settled ∙ counted-settled true 0 false old.round old.keys.items));
+      live_counted = old.live_counted ∙ ap (λ (l : List HeldKey). length l) (sym (ap (λ (l : List KeptKey). counted_keys false 0 l) c.settle_all.ensures.settled ∙ counted-settled false 0 false old.round old.keys.items));
     }
 
 pub returns-in-None-clause-firm : goal.returns-in-None-clause-firm
-returns-in-None-clause-firm c = let old = c.args.self.now in ap (λ (l : List KeptKey). counted_keys true old.round l) c.settle_all.ensures.settled ∙ counted-settled true old.round false old.round old.keys.items
+returns-in-None-clause-firm c = let old = c.args.self.now in ap (λ (l : List KeptKey). counted_keys true 0 l) c.settle_all.ensures.settled ∙ counted-settled true 0 false old.round old.keys.items
 
 pub returns-in-None-clause-live : goal.returns-in-None-clause-live
-returns-in-None-clause-live c = let old = c.args.self.now in ap (λ (l : List KeptKey). counted_keys false old.round l) c.settle_all.ensures.settled ∙ counted-settled false old.round false old.round old.keys.items
+returns-in-None-clause-live c = let old = c.args.self.now in ap (λ (l : List KeptKey). counted_keys false 0 l) c.settle_all.ensures.settled ∙ counted-settled false 0 false old.round old.keys.items
 
 pub returns-in-None-clause-count : goal.returns-in-None-clause-count
 returns-in-None-clause-count c =
