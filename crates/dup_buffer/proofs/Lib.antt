@@ -1,2 +1,6 @@
+pub mod CountLemmas
+pub mod HeldLemmas
+pub mod MergeLemmas
 pub mod OrderLemmas
+pub mod StepLemmas
 pub mod StoredLemmas

@@ -27,11 +27,11 @@ without_one copies at = take at copies ++ drop (suc at) copies
 
 -- ---- the first that passes
 
-first_of : Option HeldCopy → Option HeldCopy → Option HeldCopy
+unfoldable pub first_of : Option HeldCopy → Option HeldCopy → Option HeldCopy
 first_of None other = other
 first_of (Some copy) other = Some copy
 
-find-append : (p : HeldCopy → Bool) (xs ys : List HeldCopy) → find p (xs ++ ys) ≡ first_of (find p xs) (find p ys)
+pub find-append : (p : HeldCopy → Bool) (xs ys : List HeldCopy) → find p (xs ++ ys) ≡ first_of (find p xs) (find p ys)
 unfolding first_of
 find-append p [] ys = refl
 find-append p (x ∷ xs) ys = by (p x) (find-append p xs ys)
@@ -55,7 +55,7 @@ find-other : (p : HeldCopy → Bool) (xs ys : List HeldCopy) (one : HeldCopy) �
 find-other p xs ys one fails =
     find-append p xs (one ∷ ys) ∙ ap (λ (b : Bool). first_of (find p xs) (cond b (Some one) (find p ys))) fails ∙ sym (find-append p xs ys)
 
-find-one : (p : HeldCopy → Bool) (xs ys : List HeldCopy) (one : HeldCopy) → p one ≡ true → find p (xs ++ ys) ≡ None → find p (xs ++ one ∷ ys) ≡ Some one
+pub find-one : (p : HeldCopy → Bool) (xs ys : List HeldCopy) (one : HeldCopy) → p one ≡ true → find p (xs ++ ys) ≡ None → find p (xs ++ one ∷ ys) ≡ Some one
 unfolding first_of
 find-one p xs ys one passes none =
     find-append p xs (one ∷ ys)
@@ -88,13 +88,13 @@ copies_of-one_more one copies at inside absent = same_copies _ _
 -- ---- one copy less
 
 abbrev nothing : HeldCopy
-nothing = record { number = 0; at = 0; node = 0; length = 0 }
+nothing = record { number = 0; at = 0; node = 0; length = 0; held = false }
 
-whole : (copies : List HeldCopy) (at : ℕ) (d : HeldCopy) → at < length copies → take at copies ++ slice_index_or copies at d ∷ drop (suc at) copies ≡ copies
+pub whole : (copies : List HeldCopy) (at : ℕ) (d : HeldCopy) → at < length copies → take at copies ++ slice_index_or copies at d ∷ drop (suc at) copies ≡ copies
 whole copies at d lt = ap (λ (l : List HeldCopy). take at copies ++ l) (sym (drop-cons copies at d lt)) ∙ parts copies at
 
 -- in what is left no copy of the number stands
-none_left : (p : HeldCopy → Bool) (copies : List HeldCopy) (at : ℕ) → at < length copies → ((j : ℕ) (d : HeldCopy) → j < length copies → (j ≡ at → ⊥) → p (slice_index_or copies j d) ≡ false)
+pub none_left : (p : HeldCopy → Bool) (copies : List HeldCopy) (at : ℕ) → at < length copies → ((j : ℕ) (d : HeldCopy) → j < length copies → (j ≡ at → ⊥) → p (slice_index_or copies j d) ≡ false)
     → find p (without_one copies at) ≡ None
 none_left p [] at lt fails = absurd (omega (arith, lt))
 none_left p (copy ∷ copies) zero lt fails = all_fail copies (λ j d in_it. fails (suc j) d (omega (arith, in_it)) (λ e. omega (arith, e)))

@@ -1,16 +1,17 @@
 // A held copy as it is stored.
-ghost use Rattle.std.specs.Prelude.{◌≡◌, ◌≢◌, false};
+ghost use Rattle.std.specs.Prelude.{◌≡◌, ◌≢◌, ◌<◌, false, if◌then◌else◌, nat_lt, Some, None};
 ghost use Rattle.dup_buffer.specs.Stored.{is_copy_of, place_of, rank, rank_of};
 
 use gw_base::{Absolute, NodeId, Place};
 
-/// The copy of a node's number, with its place in the journal. Its fields stand so that it takes 24 octets.
+/// The copy of a node's number, with its place in the journal, and whether it is held still.
 #[derive(Clone, Copy)]
 pub(crate) struct HeldCopy {
     pub(crate) number: Absolute,
     pub(crate) at: u64,
     pub(crate) node: u32,
     pub(crate) length: u32,
+    pub(crate) held: bool,
 }
 
 /// Where a node's number stands among copies.
@@ -31,11 +32,41 @@ impl HeldCopy {
         }
     }
 
+    /// The copy, if it is held.
+    pub(crate) fn if_held(self) -> Option<HeldCopy>
+        ensures { result ≡ (if self.held then Some self else None) }
+    {
+        if self.held { Some(self) } else { None }
+    }
+
+    /// The same copy, taken out.
+    pub(crate) fn taken(self) -> HeldCopy
+        ensures rank { rank result ≡ rank self }
+        ensures taken { result.held ≡ false }
+    {
+        HeldCopy {
+            number: self.number,
+            at: self.at,
+            node: self.node,
+            length: self.length,
+            held: false,
+        }
+    }
+
     /// Where it stands among copies.
     pub(crate) fn rank(self) -> u128
         ensures { result ≡ rank self }
     {
         rank_of(NodeId(self.node), self.number)
+    }
+
+    /// Whether it stands before another one.
+    pub(crate) fn is_before(self, other: HeldCopy) -> bool
+        ensures value { result ≡ nat_lt (rank self) (rank other) }
+        ensures apart { result ≡ false → is_copy_of self.node self.number other ≡ false →
+            rank other < rank self }
+    {
+        self.rank() < other.rank()
     }
 
     /// Whether it is that of a node's number.

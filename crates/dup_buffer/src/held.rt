@@ -1,10 +1,13 @@
-ghost use Rattle.std.specs.Prelude.{◌≡◌, ◌↔◌, ◌≤◌, ◌+◌, None, IfOk, OnOk, OnErr};
-ghost use Rattle.dup_buffer.specs.Stored.{copies_of};
+ghost use Rattle.std.specs.Prelude.{◌≡◌, ◌↔◌, ◌≤◌, ◌<◌, ◌+◌, [], length, vec_capacity, None, IfOk, OnOk, OnErr};
+ghost use Rattle.dup_buffer.specs.Stored.{AreStored, HaveSame, all_held, copies_of, most_late};
 ghost use Rattle.dup_buffer.specs.Copies.{held_of, most_copies, no_copies, with_copy, without_copy, without_node};
 
 use crate::copy::HeldCopy;
 use crate::fault::HoldFault;
-use crate::order::{copy_all, copy_at, drop_copies, search};
+use crate::merging::merge;
+use crate::order::{
+    copy_held, drop_copies, drop_taken, find_held, find_in, mark, put_in, take_out,
+};
 use gw_base::{Absolute, NoMemory, NodeId, Place};
 use std::alloc::Global;
 use std::marker::Model;
@@ -12,28 +15,84 @@ use std::marker::Model;
 /// The most copies that a gateway holds.
 const MOST_COPIES: usize = 65_536;
 
+/// The most copies that stand apart from the others.
+const MOST_LATE: usize = 1024;
+
 /// The copies of possibly duplicated packets that a gateway holds, with the place of each in its journal.
 ///
-/// They stand in order of their nodes and numbers. To find one takes a time that grows with the logarithm of their
-/// number; to hold one or take one out moves those behind it, 24 octets each.
+/// They stand in two lists, each in order of their nodes and numbers: a short one of those that came last, and a long
+/// one of the others. To find one takes a time that grows with the logarithm of their number; to hold one or take one
+/// out moves those of the short list at most. Where that is full, both are made one.
 #[derive(Drop)]
 pub struct Held {
-    copies: Vec<HeldCopy>,
+    // Those that were taken out of the long list stand in it still, marked.
+    kept: Vec<HeldCopy>,
+    late: Vec<HeldCopy>,
+    // How many are held.
+    count: usize,
 }
 
 impl Model for Held {
-    ghost use Rattle.std.specs.Prelude.{◌-◌, ◌≤◌, length, vec_capacity};
+    ghost use Rattle.std.specs.Prelude.{◌-◌, ◌≤◌, ◌≡◌, length, vec_capacity};
     ghost use Rattle.dup_buffer.specs.Copies.{most_copies};
-    ghost use Rattle.dup_buffer.specs.Stored.{AreFrom, Stored};
+    ghost use Rattle.dup_buffer.specs.Stored.{AreStored, Stored, all_held, most_late};
 
     ghost Value = { Stored };
 
     ghost view = { λ held. record {
-      entries = held.copies.items;
-      spare = vec_capacity held.copies - length held.copies.items;
+      entries = all_held held.kept.items held.late.items;
+      spare = vec_capacity held.kept - held.count;
     } };
 
-    ghost invariant = { λ held. AreFrom 0 held.copies.items × (length held.copies.items ≤ most_copies) };
+    ghost invariant = { λ held. AreStored held.kept.items held.late.items
+        × (held.count ≡ length (all_held held.kept.items held.late.items)) × (held.count ≤ most_copies)
+        × (held.count ≤ vec_capacity held.kept) × (most_late ≤ vec_capacity held.late) };
+}
+
+// Makes both lists one, for which there is memory.
+fn settle(kept: &mut Vec<HeldCopy>, late: &mut Vec<HeldCopy>)
+    requires stored { AreStored kept.old.items late.old.items }
+    requires memory { length (all_held kept.old.items late.old.items) ≤ vec_capacity kept.old }
+    ensures stored { AreStored kept.new.items late.new.items }
+    ensures same { HaveSame (all_held kept.old.items late.old.items) (all_held kept.new.items late.new.items) }
+    ensures late { late.new.items ≡ [] }
+    ensures kept_capacity { vec_capacity kept.old ≤ vec_capacity kept.new }
+    ensures late_capacity { vec_capacity late.old ≤ vec_capacity late.new }
+{
+    drop_taken(kept);
+    merge(kept, late);
+    late.clear();
+}
+
+// Makes a place for one more copy of the short list.
+fn make_place(kept: &mut Vec<HeldCopy>, late: &mut Vec<HeldCopy>)
+    requires stored { AreStored kept.old.items late.old.items }
+    requires memory { length (all_held kept.old.items late.old.items) ≤ vec_capacity kept.old }
+    ensures stored { AreStored kept.new.items late.new.items }
+    ensures same { HaveSame (all_held kept.old.items late.old.items) (all_held kept.new.items late.new.items) }
+    ensures late { length late.new.items < most_late }
+    ensures kept_capacity { vec_capacity kept.old ≤ vec_capacity kept.new }
+    ensures late_capacity { vec_capacity late.old ≤ vec_capacity late.new }
+{
+    if late.len() < MOST_LATE {
+        return;
+    }
+    settle(kept, late);
+}
+
+// Takes memory for one more of so many copies, where there is none.
+fn reserve(kept: &mut Vec<HeldCopy>, late: &[HeldCopy], count: usize) -> Result<(), NoMemory>
+    requires { count ≤ length kept.old.items + length late.now }
+    ensures items { kept.new.items ≡ kept.old.items }
+    ensures ok { OnOk result (count < vec_capacity kept.new) }
+    ensures err { OnErr result (vec_capacity kept.old ≤ count) }
+    ensures capacity { vec_capacity kept.old ≤ vec_capacity kept.new }
+{
+    if count < kept.capacity() {
+        return Ok(());
+    }
+    kept.reserve(late.len() + 1)?;
+    Ok(())
 }
 
 impl Held {
@@ -43,7 +102,9 @@ impl Held {
         ensures room { IfOk result (λ held. spare ≤ held.spare) }
     {
         Ok(Held {
-            copies: Vec::with_capacity(alloc, spare)?,
+            kept: Vec::with_capacity(alloc, spare)?,
+            late: Vec::with_capacity(alloc, MOST_LATE)?,
+            count: 0,
         })
     }
 
@@ -52,17 +113,18 @@ impl Held {
         ensures value { result ≡ (copies_of self.now).count }
         ensures within { result ≤ most_copies }
     {
-        self.copies.len()
+        self.count
     }
 
     /// Where the copy of a node's number lies, if it is held.
     pub fn find(&self, node: NodeId, number: Absolute) -> Option<Place>
         ensures { result ≡ (copies_of self.now).place_of node.0 number }
     {
-        match search(&self.copies, node, number) {
-            Ok(at) => Some(copy_at(&self.copies, at).place()),
-            Err(_) => None,
+        if let Some(copy) = find_in(&self.late, node, number) {
+            return Some(copy.place());
         }
+        let copy = find_held(&self.kept, node, number)?;
+        Some(copy.place())
     }
 
     /// Holds one more copy, which isn't held yet. It takes no memory where there is spare room.
@@ -77,22 +139,25 @@ impl Held {
         ensures spare { self.old.spare ≤ self.new.spare + 1 }
         ensures spare_kept { OnErr result (self.old.spare ≤ self.new.spare) }
     {
-        if self.copies.len() >= MOST_COPIES {
+        if self.count >= MOST_COPIES {
             return Err(HoldFault::Full);
         }
-        let Err(at) = search(&self.copies, node, number) else {
-            unreachable!();
+        let Ok(()) = reserve(&mut self.kept, &self.late, self.count) else {
+            return Err(HoldFault::NoMemory);
         };
-        let copy = HeldCopy {
-            number,
-            at: place.at,
-            node: node.0,
-            length: place.length,
-        };
-        match self.copies.insert(at, copy) {
-            Ok(()) => Ok(()),
-            Err(_) => Err(HoldFault::NoMemory),
-        }
+        make_place(&mut self.kept, &mut self.late);
+        put_in(
+            &mut self.late,
+            HeldCopy {
+                number,
+                at: place.at,
+                node: node.0,
+                length: place.length,
+                held: true,
+            },
+        );
+        self.count += 1;
+        Ok(())
     }
 
     /// Takes out the copy of a node's number, if it is held, and says where it lies.
@@ -101,10 +166,13 @@ impl Held {
         ensures others { copies_of self.new ≡ without_copy node.0 number (copies_of self.old) }
         ensures spare { self.old.spare + held_of node.0 number (copies_of self.old) ≤ self.new.spare }
     {
-        match search(&self.copies, node, number) {
-            Ok(at) => Some(self.copies.remove(at).place()),
-            Err(_) => None,
+        if let Some(copy) = take_out(&mut self.late, node, number) {
+            self.count -= 1;
+            return Some(copy.place());
         }
+        let copy = mark(&mut self.kept, node, number)?;
+        self.count -= 1;
+        Some(copy.place())
     }
 
     /// Takes out all copies of a node, and says how many there were.
@@ -113,9 +181,11 @@ impl Held {
         ensures others { copies_of self.new ≡ without_node node.0 (copies_of self.old) }
         ensures spare { self.old.spare + (copies_of self.old).count_of node.0 ≤ self.new.spare }
     {
-        let before = self.copies.len();
-        drop_copies(&mut self.copies, node);
-        (before - self.copies.len()) as u64
+        let before = self.count;
+        drop_copies(&mut self.kept, node);
+        drop_copies(&mut self.late, node);
+        self.count = self.kept.len() + self.late.len();
+        (before - self.count) as u64
     }
 
     /// Holds what another buffer holds, for which there is room.
@@ -124,6 +194,8 @@ impl Held {
         ensures copies { copies_of self.new ≡ copies_of other.now }
         ensures spare { (copies_of self.old).count + self.old.spare ≤ (copies_of self.new).count + self.new.spare }
     {
-        copy_all(&mut self.copies, &other.copies);
+        copy_held(&mut self.kept, &other.kept);
+        copy_held(&mut self.late, &other.late);
+        self.count = other.count;
     }
 }

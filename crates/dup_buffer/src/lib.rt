@@ -10,6 +10,7 @@
 mod copy;
 mod fault;
 mod held;
+mod merging;
 mod order;
 
 pub use fault::HoldFault;

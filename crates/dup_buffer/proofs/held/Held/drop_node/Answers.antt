@@ -1,52 +1,44 @@
-use Rattle.std.proofs.Common.{◌∙◌, ◌==◌, List, ap, arith, length, not}
-use Rattle.dup_buffer.specs.Stored.{copies_of}
-use Rattle.dup_buffer.specs.declared.copy.HeldCopy.{HeldCopy}
-use Rattle.dup_buffer.proofs.OrderLemmas.{from-filter}
-use Rattle.dup_buffer.proofs.StoredLemmas.{copies_of-node_out, count_by-is_of, stored}
+use Rattle.std.proofs.Common.{◌∙◌, arith}
+use Rattle.dup_buffer.specs.Stored.{all_held, copies_of}
+use Rattle.dup_buffer.proofs.StepLemmas.{gone_count, left_copies, left_count, left_length, left_stored}
+use Rattle.dup_buffer.proofs.StoredLemmas.{stored}
 use Rattle.dup_buffer.proofs.held.Held.drop_node.Goals as goal
 
 pub overflow_sub-result : goal.overflow_sub-result
 overflow_sub-result c =
-    omega (
-      arith,
-      c.len.ensures,
-      c.len-before.ensures,
-      ap (λ (l : List HeldCopy). length l) c.drop_copies.ensures.items,
-      count_by-is_of c.args.node.0 c.self.inside.copies.items,
-      c.self.inside.copies.ok.0,
-      c.drop_copies.new.copies.ok.0,
-    )
+    let kept = c.self.inside.kept.items in
+    let late = c.self.inside.late.items in
+    let gone = gone_count c.args.node.0 kept late c.drop_copies.new.copies.items c.drop_copies-2.new.copies.items c.self.invariant.0.held c.drop_copies.ensures.items c.drop_copies-2.ensures.items in
+    omega (arith, gone, c.self.invariant.1, c.len.ensures, c.len-2.ensures, c.drop_copies.new.copies.ok.0, c.drop_copies-2.new.copies.ok.0)
 
 pub invariant_of-self : goal.invariant_of-self
-invariant_of-self c = (
-  rw c.drop_copies.ensures.items (from-filter (λ (k : HeldCopy). not (k.node == c.args.node.0)) 0 c.self.inside.copies.items c.self.invariant.0),
-  omega (arith, ap (λ (l : List HeldCopy). length l) c.drop_copies.ensures.items, count_by-is_of c.args.node.0 c.self.inside.copies.items, c.self.invariant.1),
-)
+invariant_of-self c =
+    let kept = c.self.inside.kept.items in
+    let late = c.self.inside.late.items in
+    let gone = gone_count c.args.node.0 kept late c.drop_copies.new.copies.items c.drop_copies-2.new.copies.items c.self.invariant.0.held c.drop_copies.ensures.items c.drop_copies-2.ensures.items in
+    let count = c.self.invariant.1 in (
+      rw (c.drop_copies.ensures.items, c.drop_copies-2.ensures.items) (left_stored c.args.node.0 kept late c.self.invariant.0),
+      rw (c.drop_copies.ensures.items, c.drop_copies-2.ensures.items) (omega (arith, gone, left_count c.args.node.0 kept late c.self.invariant.0.held, left_length c.args.node.0 kept late, c.len.ensures, c.len-2.ensures, c.drop_copies.new.copies.ok.0, c.drop_copies-2.new.copies.ok.0)),
+      omega (arith, gone, count, c.self.invariant.2, c.len.ensures, c.len-2.ensures, c.drop_copies.new.copies.ok.0, c.drop_copies-2.new.copies.ok.0),
+      omega (arith, gone, count, c.self.invariant.3, c.drop_copies.ensures.capacity, c.len.ensures, c.len-2.ensures, c.drop_copies.new.copies.ok.0, c.drop_copies-2.new.copies.ok.0),
+      omega (arith, c.self.invariant.4, c.drop_copies-2.ensures.capacity),
+    )
 
 pub returns-clause-value : goal.returns-clause-value
 returns-clause-value c =
-    rw (← c.self.view_is)
-    (omega (
-      arith,
-      c.len.ensures,
-      c.len-before.ensures,
-      ap (λ (l : List HeldCopy). length l) c.drop_copies.ensures.items,
-      count_by-is_of c.args.node.0 c.self.inside.copies.items,
-      c.self.inside.copies.ok.0,
-      c.drop_copies.new.copies.ok.0,
-    ))
+    let kept = c.self.inside.kept.items in
+    let late = c.self.inside.late.items in
+    let gone = gone_count c.args.node.0 kept late c.drop_copies.new.copies.items c.drop_copies-2.new.copies.items c.self.invariant.0.held c.drop_copies.ensures.items c.drop_copies-2.ensures.items in
+    rw (← c.self.view_is) (omega (arith, gone, c.self.invariant.1, c.len.ensures, c.len-2.ensures, c.drop_copies.new.copies.ok.0, c.drop_copies-2.new.copies.ok.0))
 
 pub returns-clause-others : goal.returns-clause-others
 returns-clause-others c =
     rw (← c.self.view_is)
-    (ap (λ (l : List HeldCopy). copies_of (stored l)) c.drop_copies.ensures.items ∙ copies_of-node_out c.args.node.0 c.self.inside.copies.items)
+    ((λ i. copies_of (stored (all_held (c.drop_copies.ensures.items i) (c.drop_copies-2.ensures.items i)))) ∙ left_copies c.args.node.0 c.self.inside.kept.items c.self.inside.late.items c.self.invariant.0.held)
 
 pub returns-clause-spare : goal.returns-clause-spare
 returns-clause-spare c =
-    rw (← c.self.view_is)
-    (omega (
-      arith,
-      c.drop_copies.ensures.capacity,
-      ap (λ (l : List HeldCopy). length l) c.drop_copies.ensures.items,
-      count_by-is_of c.args.node.0 c.self.inside.copies.items,
-    ))
+    let kept = c.self.inside.kept.items in
+    let late = c.self.inside.late.items in
+    let gone = gone_count c.args.node.0 kept late c.drop_copies.new.copies.items c.drop_copies-2.new.copies.items c.self.invariant.0.held c.drop_copies.ensures.items c.drop_copies-2.ensures.items in
+    rw (← c.self.view_is) (omega (arith, gone, c.self.invariant.1, c.drop_copies.ensures.capacity, c.self.invariant.3, c.len.ensures, c.len-2.ensures, c.drop_copies.new.copies.ok.0, c.drop_copies-2.new.copies.ok.0))

@@ -1,43 +1,40 @@
-use Rattle.std.proofs.Common.{◌≡◌, ◌∙◌, List, None, Option, ap, arith, length, sym}
+use Rattle.std.proofs.Common.{◌≡◌, List, None, ap, arith, length, refl, true}
 use Rattle.std.specs.List.{find}
 use Rattle.std.specs.Option.{option_map}
-use Rattle.std.proofs.lemmas.List.Edits.{length-insert}
-use Rattle.dup_buffer.specs.Stored.{IsAbsent, IsFound, copies_of, is_copy_of, place_of}
+use Rattle.dup_buffer.specs.Stored.{all_held, is_copy_of, place_of}
 use Rattle.dup_buffer.specs.declared.copy.HeldCopy.{HeldCopy}
-use Rattle.dup_buffer.proofs.OrderLemmas.{from-insert}
-use Rattle.dup_buffer.proofs.StoredLemmas.{copies_of-one_more, found_is, stored}
+use Rattle.dup_buffer.proofs.StepLemmas.{IsHeld, few_held, held_step, none_placed}
 use Rattle.dup_buffer.proofs.held.Held.hold.Goals as goal
-use Rattle.dup_buffer.proofs.held.Held.hold.Goals.{in-Ok, in-Err-insert}
 
-pub unreachable-requires : goal.unreachable-requires
-unreachable-requires c =
-    let items = c.self.inside.copies.items in
-    let d : HeldCopy = record { number = 0; at = 0; node = 0; length = 0 } in
-    let is : IsFound items c.in_default.field-0 c.args.node.0 c.args.number = rw c.deref.ensures.value at c.in_default.ensures.found in
-    let absent : option_map place_of (find (is_copy_of c.args.node.0 c.args.number) items) ≡ None = rw (← c.self.view_is) at c.requires in
-    let wrong = sym (ap (λ (o : Option HeldCopy). option_map place_of o) (found_is c.args.node.0 c.args.number items c.in_default.field-0 d is)) ∙ absent in
-    cc
+pub reserve-requires : goal.reserve-requires
+reserve-requires c =
+    omega (arith, few_held c.self.inside.kept.items c.self.inside.late.items, c.self.invariant.1, ap (λ (l : List HeldCopy). length l) c.deref.ensures.value)
 
-pub invariant_of-self : goal.invariant_of-self
-invariant_of-self c =
-    let items = c.self.inside.copies.items in
-    let one : HeldCopy = record { number = c.args.number; at = c.args.place.at; node = c.args.node.0; length = c.args.place.length } in
-    let is : IsAbsent items c.in-Err.at c.args.node.0 c.args.number = rw c.deref.ensures.value at c.in-Err.ensures.absent in
-    elim c.match-insert.branch [
-      | in-Ok w ↦ (
-        rw w.in-Ok.ensures.items (from-insert 0 items c.in-Err.at one c.self.invariant.0 is.inside (omega arith) is.before is.later),
-        omega (arith, ap (λ (l : List HeldCopy). length l) w.in-Ok.ensures.items, length-insert items c.in-Err.at one is.inside, c.if-len-ge-MOST_COPIES.false, c.len.ensures, c.self.inside.copies.ok.0),
-      )
-      | in-Err-insert w ↦ (rw w.in-Err-insert.ensures.items c.self.invariant.0, rw w.in-Err-insert.ensures.items c.self.invariant.1)
-    ]
+pub put_in-requires-clause-none : goal.put_in-requires-clause-none
+put_in-requires-clause-none c =
+    let one : HeldCopy = record { number = c.args.number; at = c.args.place.at; node = c.args.node.0; length = c.args.place.length; held = true } in
+    let none : option_map place_of (find (is_copy_of c.args.node.0 c.args.number) (all_held c.self.inside.kept.items c.self.inside.late.items)) ≡ None = rw (← c.self.view_is) at c.requires in
+    none_placed one c.self.inside.kept.items c.self.inside.late.items c.reserve.new.kept.items c.make_place.new.kept.items c.make_place.new.late.items c.reserve.ensures.items c.make_place.ensures.same none
+
+pub invariant_of-self-2 : goal.invariant_of-self-2
+invariant_of-self-2 c =
+    let one : HeldCopy = record { number = c.args.number; at = c.args.place.at; node = c.args.node.0; length = c.args.place.length; held = true } in
+    let none : option_map place_of (find (is_copy_of c.args.node.0 c.args.number) (all_held c.self.inside.kept.items c.self.inside.late.items)) ≡ None = rw (← c.self.view_is) at c.requires in
+    let is : IsHeld one (all_held c.self.inside.kept.items c.self.inside.late.items) c.make_place.new.kept.items c.put_in.new.copies.items = held_step one c.self.inside.kept.items c.self.inside.late.items c.reserve.new.kept.items
+    c.make_place.new.kept.items c.make_place.new.late.items c.put_in.new.copies.items c.reserve.ensures.items c.make_place.ensures.same none c.self.invariant.0.once refl
+    c.make_place.ensures.stored c.make_place.ensures.late c.put_in.ensures.order c.put_in.ensures.same in (
+      is.lists,
+      omega (arith, is.count, c.self.invariant.1),
+      omega (arith, c.if-self-ge-MOST_COPIES.false),
+      omega (arith, c.in-Ok.ensures.ok, c.make_place.ensures.kept_capacity),
+      omega (arith, c.self.invariant.4, c.make_place.ensures.late_capacity, c.put_in.ensures.capacity),
+    )
 
 pub returns-clause-held : goal.returns-clause-held
 returns-clause-held c =
-    let items = c.self.inside.copies.items in
-    let one : HeldCopy = record { number = c.args.number; at = c.args.place.at; node = c.args.node.0; length = c.args.place.length } in
-    let is : IsAbsent items c.in-Err.at c.args.node.0 c.args.number = rw c.deref.ensures.value at c.in-Err.ensures.absent in
-    elim c.match-insert.branch [
-      | in-Ok w ↦ rw (w.result-is, ← c.self.view_is)
-          (ap (λ (l : List HeldCopy). copies_of (stored l)) w.in-Ok.ensures.items ∙ copies_of-one_more one items c.in-Err.at is.inside is.none)
-      | in-Err-insert w ↦ rw w.result-is tt
-    ]
+    let one : HeldCopy = record { number = c.args.number; at = c.args.place.at; node = c.args.node.0; length = c.args.place.length; held = true } in
+    let none : option_map place_of (find (is_copy_of c.args.node.0 c.args.number) (all_held c.self.inside.kept.items c.self.inside.late.items)) ≡ None = rw (← c.self.view_is) at c.requires in
+    let is : IsHeld one (all_held c.self.inside.kept.items c.self.inside.late.items) c.make_place.new.kept.items c.put_in.new.copies.items = held_step one c.self.inside.kept.items c.self.inside.late.items c.reserve.new.kept.items
+    c.make_place.new.kept.items c.make_place.new.late.items c.put_in.new.copies.items c.reserve.ensures.items c.make_place.ensures.same none c.self.invariant.0.once refl
+    c.make_place.ensures.stored c.make_place.ensures.late c.put_in.ensures.order c.put_in.ensures.same in
+    rw (← c.self.view_is) is.copies

@@ -1,0 +1,241 @@
+-- Lists of which some copies were taken out, and what each step makes of those that are held.
+use Rattle.std.proofs.Common.{◌≡◌, ℕ, zero, suc, ◌+◌, ◌-◌, ◌<◌, ◌==◌, ◌&&◌, not, Bool, true, false, cond, if◌then◌else◌, List, [], ◌∷◌, ◌++◌, Option, None, Some, is_some, length, take, drop, filter, slice_index_or, refl, sym, ap, subst, ◌∙◌, true≢false, arith}
+use Rattle.std.specs.List.{count_by, find}
+use Rattle.std.specs.Option.{option_map}
+use Rattle.std.specs.Prelude.{slice_set}
+use Rattle.std.proofs.lemmas.Bool.{and_parts, eq-eqb, eqb-true}
+use Rattle.std.proofs.lemmas.List.{append-nil, take_more}
+use Rattle.std.proofs.lemmas.List.Elements.{filter-append}
+use Rattle.std.proofs.lemmas.List.Sums.{length-filter, sum_by-cons, sum_by-set, sum_by_more_le}
+use Rattle.gw_base.specs.declared.place.Place.{Place}
+use Rattle.dup_buffer.specs.Copies.{Copies, with_copy, without_copy}
+use Rattle.dup_buffer.specs.Stored.{AreFrom, AreHeld, AreStored, HaveSame, IsFound, IsOnce, all_held, copies_of, held_in, is_copy_of, place_of, rank}
+use Rattle.dup_buffer.specs.declared.copy.HeldCopy.{HeldCopy}
+use Rattle.dup_buffer.proofs.CountLemmas.{copies_of-same, count-append, count-cons, count_all, held_all, held_are, none_if_none, none_of_none, once_more, once_same}
+use Rattle.dup_buffer.proofs.OrderLemmas.{key_of}
+use Rattle.dup_buffer.proofs.StoredLemmas.{copies_of-one_more, find-one, none_left, same_copies, stored, whole}
+
+-- ---- finding
+
+pub none_held : (p : HeldCopy → Bool) (xs : List HeldCopy) → find p xs ≡ None → find p (held_in xs) ≡ None
+none_held p [] e = refl
+none_held p (x ∷ xs) e = by (p x) x.held refl e (none_held p xs)
+  where
+    by : (a b : Bool) → p x ≡ a → cond a (Some x) (find p xs) ≡ None → (find p xs ≡ None → find p (held_in xs) ≡ None) → find p (cond b (x ∷ held_in xs) (held_in xs)) ≡ None
+    by true b q e rest = absurd (cc)
+    by false true q e rest = rw q (rest e)
+    by false false q e rest = rest e
+
+pub held_found : (n k : ℕ) (copies : List HeldCopy) (at : ℕ) (d : HeldCopy) → IsFound copies at n k
+    → find (is_copy_of n k) (held_in copies) ≡ (if (slice_index_or copies at d).held then Some (slice_index_or copies at d) else None)
+held_found n k copies at d is =
+    ap (λ (l : List HeldCopy). find p (held_in l)) (sym (whole copies at d is.inside))
+    ∙ ap (find p) (filter-append (λ c. c.held) (take at copies) (one ∷ drop (suc at) copies))
+    ∙ by one.held
+  where
+    p : HeldCopy → Bool
+    p = is_copy_of n k
+
+    one : HeldCopy
+    one = slice_index_or copies at d
+
+    none : find p (held_in (take at copies) ++ held_in (drop (suc at) copies)) ≡ None
+    none = ap (find p) (sym (filter-append (λ c. c.held) (take at copies) (drop (suc at) copies)))
+        ∙ none_held p (take at copies ++ drop (suc at) copies) (none_left p copies at is.inside is.others)
+
+    by : (b : Bool) → find p (held_in (take at copies) ++ cond b (one ∷ held_in (drop (suc at) copies)) (held_in (drop (suc at) copies))) ≡ (if b then Some one else None)
+    by true = find-one p (held_in (take at copies)) (held_in (drop (suc at) copies)) one (is.named d) none
+    by false = none
+
+-- ---- marking
+
+pub if_not_true : (b : Bool) → not b ≡ true → b ≡ false
+if_not_true true e = absurd (true≢false (sym e))
+if_not_true false e = refl
+
+pub if_not_false : (b : Bool) → not b ≡ false → b ≡ true
+if_not_false true e = refl
+if_not_false false e = absurd (true≢false e)
+
+pub from-set : (low : ℕ) (copies : List HeldCopy) (at : ℕ) (y d : HeldCopy) → AreFrom low copies → rank y ≡ rank (slice_index_or copies at d) → at < length copies
+    → AreFrom low (slice_set copies at y)
+from-set low [] at y d up same lt = absurd (omega (arith, lt))
+from-set low (copy ∷ copies) zero y d up same lt = (omega (arith, up.0, same), subst (λ k. AreFrom (k + 1) copies) (sym same) up.1)
+from-set low (copy ∷ copies) (suc at) y d up same lt = (up.0, from-set (rank copy + 1) copies at y d up.1 same (omega (arith, lt)))
+
+pub count-filter : (p q : HeldCopy → Bool) (xs : List HeldCopy) → count_by p (filter q xs) ≡ count_by (λ x. q x && p x) xs
+count-filter p q [] = refl
+count-filter p q (x ∷ xs) = by (q x) refl (count-filter p q xs)
+  where
+    by : (b : Bool) → q x ≡ b → count_by p (filter q xs) ≡ count_by (λ y. q y && p y) xs → count_by p (cond b (x ∷ filter q xs) (filter q xs)) ≡ count_by (λ y. q y && p y) (x ∷ xs)
+    by true e rest =
+        omega (arith, rest, sum_by-cons (λ c. if p c then 1 else 0) x (filter q xs), count-cons (λ y. q y && p y) x xs (p x) (rw e refl))
+    by false e rest = omega (arith, rest, count-cons (λ y. q y && p y) x xs false (rw e refl))
+
+pub mark_same : (copies : List HeldCopy) (at : ℕ) (y d : HeldCopy) → at < length copies → (slice_index_or copies at d).held ≡ true → y.held ≡ false
+    → HaveSame (held_in copies) (slice_index_or copies at d ∷ held_in (slice_set copies at y))
+mark_same copies at y d lt was is p =
+    omega (
+      arith,
+      count-filter p (λ c. c.held) copies,
+      count-filter p (λ c. c.held) (slice_set copies at y),
+      sum_by-cons (λ c. if p c then 1 else 0) one (held_in (slice_set copies at y)),
+      sum_by-set (λ c. if c.held && p c then 1 else 0) copies at y d lt,
+      ap {B = ℕ} (λ (b : Bool). if b && p one then 1 else 0) was,
+      ap {B = ℕ} (λ (b : Bool). if b && p y then 1 else 0) is,
+    )
+  where
+    one : HeldCopy
+    one = slice_index_or copies at d
+
+-- ---- copying
+
+pub held_room : (others : List HeldCopy) (i : ℕ) (d : HeldCopy) → i < length others → (slice_index_or others i d).held ≡ true
+    → length (held_in (take i others)) < length (held_in others)
+held_room others i d lt h =
+    omega (
+      arith,
+      length-filter (λ (c : HeldCopy). c.held) (take i others),
+      length-filter (λ (c : HeldCopy). c.held) others,
+      sum_by_more_le (λ (c : HeldCopy). if c.held then 1 else 0) others i d lt,
+      ap {B = ℕ} (λ (b : Bool). if b then 1 else 0) h,
+    )
+
+pub held_more : (others : List HeldCopy) (i : ℕ) (d : HeldCopy) → i < length others
+    → held_in (take (i + 1) others) ≡ held_in (take i others) ++ held_in (slice_index_or others i d ∷ [])
+held_more others i d lt = ap held_in (take_more others i d lt) ∙ filter-append (λ (c : HeldCopy). c.held) (take i others) (slice_index_or others i d ∷ [])
+
+-- ---- one more, and one less
+
+pub same_length : (xs ys : List HeldCopy) → HaveSame xs ys → length xs ≡ length ys
+same_length xs ys same = sym (count_all xs) ∙ same (λ x. true) ∙ count_all ys
+
+same_sym : (xs ys : List HeldCopy) → HaveSame xs ys → HaveSame ys xs
+same_sym xs ys same p = sym (same p)
+
+-- what holds of the copies with one more
+pub record IsMore (one : HeldCopy) (old new : List HeldCopy) : Type 0 where
+  pub once : IsOnce new
+  pub copies : copies_of (stored new) ≡ with_copy one.node one.number (place_of one) (copies_of (stored old))
+  pub count : length new ≡ length old + 1
+
+pub one_more : (one : HeldCopy) (old new : List HeldCopy) → find (is_copy_of one.node one.number) old ≡ None → IsOnce old → HaveSame (one ∷ old) new → IsMore one old new
+one_more one old new none once same =
+    let all : IsOnce (one ∷ old) = once_more [] old one none once in
+    record {
+      once = once_same (one ∷ old) new same all;
+      copies = sym (copies_of-same (one ∷ old) new same all) ∙ copies_of-one_more one old 0 (omega arith) none;
+      count = omega (arith, same_length (one ∷ old) new same);
+    }
+
+-- what holds of the copies with one less
+pub record IsLess (one : HeldCopy) (node number : ℕ) (old new : List HeldCopy) : Type 0 where
+  pub once : IsOnce new
+  pub found : option_map place_of (find (is_copy_of node number) old) ≡ Some (place_of one)
+  pub copies : copies_of (stored new) ≡ without_copy node number (copies_of (stored old))
+  pub count : length old ≡ length new + 1
+
+taken_again : (n k : ℕ) (place : Place) (copies : Copies) → copies.place_of n k ≡ None → without_copy n k (with_copy n k place copies) ≡ copies
+taken_again n k place copies none = same_copies _ _
+    (λ i m j. places m j ((n == m) && (k == j)) refl i)
+    (rw itself (omega arith))
+    (λ i m. counts m (n == m) refl i)
+  where
+    itself : ((n == n) && (k == k)) ≡ true
+    itself = rw (eq-eqb n n refl, eq-eqb k k refl) refl
+
+    places : (m j : ℕ) (b : Bool) → ((n == m) && (k == j)) ≡ b → (if (n == m) && (k == j) then None else (if (n == m) && (k == j) then Some place else copies.place_of m j)) ≡ copies.place_of m j
+    places m j true e =
+        let parts = and_parts (n == m) (k == j) e in
+        rw e (sym none ∙ (λ i. copies.place_of (eqb-true n m parts.0 i) (eqb-true k j parts.1 i)))
+    places m j false e = rw e refl
+
+    counts : (m : ℕ) (b : Bool) → (n == m) ≡ b → (if n == m then (if n == m then copies.count_of m + 1 else copies.count_of m)
+        - (if is_some (if (n == n) && (k == k) then Some place else copies.place_of n k) then 1 else 0) else (if n == m then copies.count_of m + 1 else copies.count_of m)) ≡ copies.count_of m
+    counts m true e = rw (e, itself) (omega arith)
+    counts m false e = rw e refl
+
+pub one_less : (one : HeldCopy) (node number : ℕ) (old new : List HeldCopy) → is_copy_of node number one ≡ true → IsOnce old → HaveSame old (one ∷ new) → IsLess one node number old new
+one_less one node number old new named once same = record {
+  once = λ n k. omega (arith, all n k, sum_by-cons (λ c. if is_copy_of n k c then 1 else 0) one new);
+  found = ap (λ (c : Copies). c.place_of node number) was ∙ rw here refl;
+  copies = sym (ap (λ (c : Copies). without_copy node number c) was ∙ taken_again node number (place_of one) (copies_of (stored new)) (ap (λ (o : Option HeldCopy). option_map place_of o) none));
+  count = omega (arith, same_length old (one ∷ new) same);
+}
+  where
+    all : IsOnce (one ∷ new)
+    all = once_same old (one ∷ new) same once
+
+    key : (one.node ≡ node) × (one.number ≡ number)
+    key = key_of node number one named
+
+    here : ((node == node) && (number == number)) ≡ true
+    here = rw (eq-eqb node node refl, eq-eqb number number refl) refl
+
+    none : find (is_copy_of node number) new ≡ None
+    none = none_of_none (is_copy_of node number) new (omega (arith, all node number, count-cons (is_copy_of node number) one new true named))
+
+    was : copies_of (stored old) ≡ with_copy node number (place_of one) (copies_of (stored new))
+    was = copies_of-same old (one ∷ new) same once
+        ∙ copies_of-one_more one new 0 (omega arith) ((λ i. find (is_copy_of (key.0 i) (key.1 i)) new) ∙ none)
+        ∙ (λ i. with_copy (key.0 i) (key.1 i) (place_of one) (copies_of (stored new)))
+
+-- ---- a list of two
+
+pub same_behind : (xs ys zs : List HeldCopy) → HaveSame ys zs → HaveSame (xs ++ ys) (xs ++ zs)
+same_behind xs ys zs same p = omega (arith, same p, count-append p xs ys, count-append p xs zs)
+
+pub more_behind : (one : HeldCopy) (xs ys zs : List HeldCopy) → HaveSame (one ∷ ys) zs → HaveSame (one ∷ (xs ++ ys)) (xs ++ zs)
+more_behind one xs ys zs same p =
+    omega (
+      arith,
+      same p,
+      count-append p xs ys,
+      count-append p xs zs,
+      sum_by-cons (λ c. if p c then 1 else 0) one ys,
+      sum_by-cons (λ c. if p c then 1 else 0) one (xs ++ ys),
+    )
+
+pub less_behind : (one : HeldCopy) (xs ys zs : List HeldCopy) → HaveSame ys (one ∷ zs) → HaveSame (xs ++ ys) (one ∷ (xs ++ zs))
+less_behind one xs ys zs same p = sym (more_behind one xs zs ys (λ q. sym (same q)) p)
+
+pub less_before : (one : HeldCopy) (xs ys zs : List HeldCopy) → HaveSame xs (one ∷ zs) → HaveSame (xs ++ ys) (one ∷ (zs ++ ys))
+less_before one xs ys zs same p =
+    omega (
+      arith,
+      same p,
+      count-append p xs ys,
+      count-append p zs ys,
+      sum_by-cons (λ c. if p c then 1 else 0) one zs,
+      sum_by-cons (λ c. if p c then 1 else 0) one (zs ++ ys),
+    )
+
+-- none in the whole is none in a part
+pub none_parts : (p : HeldCopy → Bool) (xs ys : List HeldCopy) → find p (xs ++ ys) ≡ None → (find p xs ≡ None) × (find p ys ≡ None)
+none_parts p xs ys e =
+    let zero_all = none_if_none p (xs ++ ys) e in (
+      none_of_none p xs (omega (arith, zero_all, count-append p xs ys)),
+      none_of_none p ys (omega (arith, zero_all, count-append p xs ys)),
+    )
+
+-- ---- the two lists made one
+
+-- none was taken out of what both lists were made
+pub settled_held : (kept late new : List HeldCopy) → AreHeld late → HaveSame (all_held kept late) new → AreHeld new
+settled_held kept late new held same =
+    omega (arith, held, held_are kept, same (λ c. not c.held), count-append (λ c. not c.held) (held_in kept) late)
+
+pub merged_all : (kept late left other new : List HeldCopy) → left ≡ held_in kept → other ≡ late → HaveSame (left ++ other) new → HaveSame (all_held kept late) new
+merged_all kept late left other new l o same p = (λ i. count_by p (sym l i ++ sym o i)) ∙ same p
+
+pub settled_all : (kept late new : List HeldCopy) → AreHeld late → HaveSame (all_held kept late) new → all_held new [] ≡ new
+settled_all kept late new held same = append-nil (held_in new) ∙ held_all new (settled_held kept late new held same)
+
+pub settled_stored : (kept late new : List HeldCopy) → AreStored kept late → AreFrom 0 new → HaveSame (all_held kept late) new → AreStored new []
+settled_stored kept late new is order same = record {
+  kept_order = order;
+  late_order = tt;
+  held = refl;
+  few = omega arith;
+  once = subst IsOnce (sym (settled_all kept late new is.held same)) (once_same (all_held kept late) new same is.once);
+}

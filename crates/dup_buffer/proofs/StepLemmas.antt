@@ -1,0 +1,215 @@
+-- What each step on the two lists makes of the copies that are held.
+use Rattle.std.proofs.Common.{◌≡◌, ℕ, ◌+◌, ◌<◌, ◌≤◌, ◌==◌, ◌&&◌, not, Bool, true, false, cond, if◌then◌else◌, List, [], ◌∷◌, ◌++◌, Option, None, Some, length, filter, refl, sym, ap, subst, ◌∙◌, arith, length-append}
+use Rattle.std.specs.List.{count_by, find}
+use Rattle.std.specs.Option.{option_map}
+use Rattle.std.proofs.lemmas.List.Elements.{filter-append}
+use Rattle.std.proofs.lemmas.List.Sums.{sum_by-cons}
+use Rattle.dup_buffer.specs.Copies.{with_copy, without_node}
+use Rattle.dup_buffer.specs.Stored.{AreFrom, AreHeld, AreStored, HaveSame, IsOnce, all_held, copies_of, held_in, is_copy_of, is_of, most_late, place_of}
+use Rattle.dup_buffer.specs.declared.copy.HeldCopy.{HeldCopy}
+use Rattle.dup_buffer.proofs.CountLemmas.{count-append, count-cons, count_all, found_counts, found_passes, held_all, held_are, none_if_none, none_of_none}
+use Rattle.dup_buffer.proofs.HeldLemmas.{IsLess, IsMore, less_before, less_behind, more_behind, none_parts, one_less, one_more, same_length}
+use Rattle.dup_buffer.proofs.OrderLemmas.{from-filter}
+use Rattle.dup_buffer.proofs.StoredLemmas.{copies_of-node_out, count_by-is_of, find-append, first_of, stored}
+
+-- ---- finding
+
+pub found_late : (n k : ℕ) (kept late : List HeldCopy) (c : HeldCopy) → IsOnce (kept ++ late) → find (is_copy_of n k) late ≡ Some c → find (is_copy_of n k) (kept ++ late) ≡ Some c
+unfolding first_of
+found_late n k kept late c once e =
+    find-append p kept late ∙ ap (λ (o : Option HeldCopy). first_of o (find p late)) (none_of_none p kept
+    (omega (arith, once n k, count-append p kept late, found_counts p p late c e (found_passes p late c e)))) ∙ e
+  where
+    p : HeldCopy → Bool
+    p = is_copy_of n k
+
+pub found_kept : (p : HeldCopy → Bool) (kept late : List HeldCopy) → find p late ≡ None → find p (kept ++ late) ≡ find p kept
+unfolding first_of
+found_kept p kept late e = find-append p kept late ∙ ap (λ (o : Option HeldCopy). first_of (find p kept) o) e ∙ by (find p kept)
+  where
+    by : (o : Option HeldCopy) → first_of o None ≡ o
+    by None = refl
+    by (Some c) = refl
+
+-- ---- holding
+
+pub few_held : (kept late : List HeldCopy) → length (all_held kept late) ≤ length kept + length late
+few_held kept late = omega (arith, length-append (held_in kept) late, length-held kept)
+  where
+    length-held : (xs : List HeldCopy) → length (held_in xs) ≤ length xs
+    length-held [] = omega arith
+    length-held (x ∷ xs) = by x.held (length-held xs)
+      where
+        by : (b : Bool) → length (held_in xs) ≤ length xs → length (cond b (x ∷ held_in xs) (held_in xs)) ≤ length (x ∷ xs)
+        by true le = omega (arith, le)
+        by false le = omega (arith, le)
+
+pub none_same : (p : HeldCopy → Bool) (xs ys : List HeldCopy) → HaveSame xs ys → find p xs ≡ None → find p ys ≡ None
+none_same p xs ys same none = none_of_none p ys (omega (arith, same p, none_if_none p xs none))
+
+pub none_late : (p : HeldCopy → Bool) (kept late new_kept new_late : List HeldCopy) → HaveSame (all_held kept late) (all_held new_kept new_late)
+    → find p (all_held kept late) ≡ None → find p new_late ≡ None
+none_late p kept late new_kept new_late same none =
+    let parts = none_parts p (held_in new_kept) new_late (none_same p (all_held kept late) (all_held new_kept new_late) same none) in parts.1
+
+-- a copy came into the short list
+pub record IsHeld (one : HeldCopy) (old : List HeldCopy) (kept late : List HeldCopy) : Type 0 where
+  pub lists : AreStored kept late
+  pub copies : copies_of (stored (all_held kept late)) ≡ with_copy one.node one.number (place_of one) (copies_of (stored old))
+  pub count : length (all_held kept late) ≡ length old + 1
+
+pub held_one : (one : HeldCopy) (old kept late new : List HeldCopy) → HaveSame old (all_held kept late) → find (is_copy_of one.node one.number) old ≡ None → IsOnce old
+    → one.held ≡ true → AreStored kept late → length late < most_late → AreFrom 0 new → HaveSame (one ∷ late) new → IsHeld one old kept new
+held_one one old kept late new same none once held is room order more =
+    let grown : HaveSame (one ∷ old) (all_held kept new) = (λ p. omega (arith, same p, sum_by-cons (λ c. if p c then 1 else 0) one old, sum_by-cons (λ c. if p c then 1 else 0) one (all_held kept late), more_behind one (held_in kept) late new more p)) in
+    let all : IsMore one old (all_held kept new) = one_more one old (all_held kept new) none once grown in
+    record {
+      lists = record {
+        kept_order = is.kept_order;
+        late_order = order;
+        held = omega (arith, is.held, more (λ c. not c.held), count-cons (λ c. not c.held) one late false (ap not held));
+        few = omega (arith, room, same_length (one ∷ late) new more);
+        once = all.once;
+      };
+      copies = all.copies;
+      count = all.count;
+    }
+
+no_place : (o : Option HeldCopy) → option_map place_of o ≡ None → o ≡ None
+no_place None e = refl
+no_place (Some copy) e = absurd (cc)
+
+pub none_placed : (one : HeldCopy) (kept late reserved new_kept new_late : List HeldCopy) → reserved ≡ kept → HaveSame (all_held reserved late) (all_held new_kept new_late)
+    → option_map place_of (find (is_copy_of one.node one.number) (all_held kept late)) ≡ None → find (is_copy_of one.node one.number) new_late ≡ None
+none_placed one kept late reserved new_kept new_late e same none =
+    none_late (is_copy_of one.node one.number) reserved late new_kept new_late same
+    ((λ i. find (is_copy_of one.node one.number) (all_held (e i) late)) ∙ no_place (find (is_copy_of one.node one.number) (all_held kept late)) none)
+
+pub held_step : (one : HeldCopy) (kept late reserved new_kept new_late new : List HeldCopy) → reserved ≡ kept → HaveSame (all_held reserved late) (all_held new_kept new_late)
+    → option_map place_of (find (is_copy_of one.node one.number) (all_held kept late)) ≡ None → IsOnce (all_held kept late) → one.held ≡ true
+    → AreStored new_kept new_late → length new_late < most_late → AreFrom 0 new → HaveSame (one ∷ new_late) new → IsHeld one (all_held kept late) new_kept new
+held_step one kept late reserved new_kept new_late new e same none once held is room order more =
+    held_one one (all_held kept late) new_kept new_late new (λ p. (λ i. count_by p (all_held (sym e i) late)) ∙ same p)
+    (no_place (find (is_copy_of one.node one.number) (all_held kept late)) none) once held is room order more
+
+-- ---- taking out
+
+pub record IsTaken (one : HeldCopy) (node number : ℕ) (old : List HeldCopy) (kept late : List HeldCopy) : Type 0 where
+  pub lists : AreStored kept late
+  pub less : IsLess one node number old (all_held kept late)
+
+pub took_late : (one : HeldCopy) (node number : ℕ) (kept late new : List HeldCopy) → AreStored kept late → is_copy_of node number one ≡ true → AreFrom 0 new
+    → HaveSame late (one ∷ new) → IsTaken one node number (all_held kept late) kept new
+took_late one node number kept late new is named order same =
+    let less : IsLess one node number (all_held kept late) (all_held kept new) = one_less one node number (all_held kept late) (all_held kept new) named is.once (less_behind one (held_in kept) late new same) in
+    record {
+      lists = record {
+        kept_order = is.kept_order;
+        late_order = order;
+        held = omega (arith, is.held, same (λ c. not c.held), sum_by-cons (λ c. if not c.held then 1 else 0) one new);
+        few = omega (arith, is.few, same_length late (one ∷ new) same);
+        once = less.once;
+      };
+      less = less;
+    }
+
+pub took_kept : (one : HeldCopy) (node number : ℕ) (kept late new : List HeldCopy) → AreStored kept late → is_copy_of node number one ≡ true → AreFrom 0 new
+    → HaveSame (held_in kept) (one ∷ held_in new) → IsTaken one node number (all_held kept late) new late
+took_kept one node number kept late new is named order same =
+    let less : IsLess one node number (all_held kept late) (all_held new late) = one_less one node number (all_held kept late) (all_held new late) named is.once (less_before one (held_in kept) late (held_in new) same) in
+    record { lists = record { kept_order = order; late_order = is.late_order; held = is.held; few = is.few; once = less.once }; less = less }
+
+-- ---- a node's copies
+
+-- those of the other nodes that are held
+abbrev pub left_in : ℕ → List HeldCopy → List HeldCopy
+left_in node copies = filter (λ c. c.held && not (c.node == node)) copies
+
+abbrev others : ℕ → List HeldCopy → List HeldCopy
+others node copies = filter (λ c. not (c.node == node)) copies
+
+left_is : (node : ℕ) (copies : List HeldCopy) → left_in node copies ≡ others node (held_in copies)
+left_is node [] = refl
+left_is node (c ∷ cs) = by c.held (left_is node cs)
+  where
+    by : (b : Bool) → left_in node cs ≡ others node (held_in cs)
+        → cond (b && not (c.node == node)) (c ∷ left_in node cs) (left_in node cs) ≡ others node (cond b (c ∷ held_in cs) (held_in cs))
+    by true rest = ap (λ (l : List HeldCopy). cond (not (c.node == node)) (c ∷ l) l) rest
+    by false rest = rest
+
+fewer : (p q : HeldCopy → Bool) (xs : List HeldCopy) → count_by p (filter q xs) ≤ count_by p xs
+fewer p q [] = omega arith
+fewer p q (x ∷ xs) = by (q x) (fewer p q xs)
+  where
+    by : (b : Bool) → count_by p (filter q xs) ≤ count_by p xs → count_by p (cond b (x ∷ filter q xs) (filter q xs)) ≤ count_by p (x ∷ xs)
+    by true le = omega (arith, le, sum_by-cons (λ c. if p c then 1 else 0) x xs, sum_by-cons (λ c. if p c then 1 else 0) x (filter q xs))
+    by false le = omega (arith, le, sum_by-cons (λ c. if p c then 1 else 0) x xs)
+
+fewer_all : (q : HeldCopy → Bool) (xs : List HeldCopy) → length (filter q xs) ≤ length xs
+fewer_all q xs = omega (arith, fewer (λ x. true) q xs, count_all xs, count_all (filter q xs))
+
+left_held : (node : ℕ) (copies : List HeldCopy) → AreHeld (left_in node copies)
+left_held node copies =
+    let few = fewer (λ c. not c.held) (λ c. not (c.node == node)) (held_in copies) in
+    omega (arith, few, held_are copies, ap (count_by (λ c. not c.held)) (left_is node copies))
+
+-- none is left that isn't held
+pub left_length : (node : ℕ) (kept late : List HeldCopy) → length (left_in node kept) + length (left_in node late) ≡ length (all_held (left_in node kept) (left_in node late))
+left_length node kept late =
+    omega (arith, ap (λ (l : List HeldCopy). length l) (held_all (left_in node kept) (left_held node kept)), length-append (held_in (left_in node kept)) (left_in node late))
+
+pub left_all : (node : ℕ) (kept late : List HeldCopy) → AreHeld late → all_held (left_in node kept) (left_in node late) ≡ others node (all_held kept late)
+left_all node kept late held =
+    (λ i. held_all (left_in node kept) (left_held node kept) i ++ left_in node late)
+    ∙ (λ i. left_is node kept i ++ left_is node late i)
+    ∙ (λ i. others node (held_in kept) ++ others node (held_all late held i))
+    ∙ sym (filter-append (λ c. not (c.node == node)) (held_in kept) late)
+
+-- how many are left
+pub left_count : (node : ℕ) (kept late : List HeldCopy) → AreHeld late
+    → length (left_in node kept) + length (left_in node late) + count_by (is_of node) (all_held kept late) ≡ length (all_held kept late)
+left_count node kept late held =
+    let all = left_length node kept late in
+    omega (arith, all, ap (λ (l : List HeldCopy). length l) (left_all node kept late held), count_by-is_of node (all_held kept late))
+
+-- how many there were, where the lists are those that are left
+pub gone_count : (node : ℕ) (kept late new_kept new_late : List HeldCopy) → AreHeld late → new_kept ≡ left_in node kept → new_late ≡ left_in node late
+    → length new_kept + length new_late + count_by (is_of node) (all_held kept late) ≡ length (all_held kept late)
+gone_count node kept late new_kept new_late held k l =
+    (λ i. length (k i) + length (l i) + count_by (is_of node) (all_held kept late)) ∙ left_count node kept late held
+
+once_filter : (q : HeldCopy → Bool) (xs : List HeldCopy) → IsOnce xs → IsOnce (filter q xs)
+once_filter q xs once n k = omega (arith, once n k, fewer (is_copy_of n k) q xs)
+
+pub left_stored : (node : ℕ) (kept late : List HeldCopy) → AreStored kept late → AreStored (left_in node kept) (left_in node late)
+left_stored node kept late is = record {
+  kept_order = from-filter (λ c. c.held && not (c.node == node)) 0 kept is.kept_order;
+  late_order = from-filter (λ c. c.held && not (c.node == node)) 0 late is.late_order;
+  held = left_held node late;
+  few = omega (arith, is.few, fewer_all (λ c. c.held && not (c.node == node)) late);
+  once = subst IsOnce (sym (left_all node kept late is.held)) (once_filter (λ c. not (c.node == node)) (all_held kept late) is.once);
+}
+
+pub left_copies : (node : ℕ) (kept late : List HeldCopy) → AreHeld late
+    → copies_of (stored (all_held (left_in node kept) (left_in node late))) ≡ without_node node (copies_of (stored (all_held kept late)))
+left_copies node kept late held =
+    ap (λ (l : List HeldCopy). copies_of (stored l)) (left_all node kept late held) ∙ copies_of-node_out node (all_held kept late)
+
+-- ---- copying
+
+pub copied_all : (kept late : List HeldCopy) → AreHeld late → all_held (held_in kept) (held_in late) ≡ all_held kept late
+copied_all kept late held = λ i. held_all (held_in kept) (held_are kept) i ++ held_all late held i
+
+pub copied_same : (kept late other_kept other_late new_kept new_late : List HeldCopy) → AreHeld late → other_kept ≡ kept → other_late ≡ late
+    → new_kept ≡ held_in other_kept → new_late ≡ held_in other_late → all_held new_kept new_late ≡ all_held kept late
+copied_same kept late other_kept other_late new_kept new_late held k l nk nl =
+    (λ i. all_held (nk i) (nl i)) ∙ (λ i. all_held (held_in (k i)) (held_in (l i))) ∙ copied_all kept late held
+
+pub copied_stored : (kept late : List HeldCopy) → AreStored kept late → AreStored (held_in kept) (held_in late)
+copied_stored kept late is = record {
+  kept_order = from-filter (λ c. c.held) 0 kept is.kept_order;
+  late_order = from-filter (λ c. c.held) 0 late is.late_order;
+  held = held_are late;
+  few = omega (arith, is.few, fewer_all (λ c. c.held) late);
+  once = subst IsOnce (sym (copied_all kept late is.held)) is.once;
+}
