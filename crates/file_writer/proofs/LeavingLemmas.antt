@@ -31,7 +31,7 @@ use Rattle.file_writer.proofs.WriterLemmas.{any_default, no_stream}
 
 -- ---- tests
 
-either_way : (n m : ℕ) → (n < m) ⊎ (m ≤ n)
+pub either_way : (n m : ℕ) → (n < m) ⊎ (m ≤ n)
 either_way n m = grind arith
 
 is_true : (n m : ℕ) → n ≤ m → nat_le n m ≡ true
@@ -239,7 +239,7 @@ module _ {A : Type 0} (tells : Ghosts A) (settings : Settings) (closed sealed : 
 
 -- ---- more items
 
-is_empty : {B : Type 0} (xs : List B) → length xs ≡ 0 → xs ≡ []
+pub is_empty : {B : Type 0} (xs : List B) → length xs ≡ 0 → xs ≡ []
 is_empty [] e = refl
 is_empty (x ∷ xs) e = absurd (omega (arith, e))
 
@@ -262,7 +262,7 @@ none_cut (Some b) None run item d none later shut = cons_some _ _ none
 none_cut (Some b) (Some a) run item d none later shut = cons_some _ _ none
 
 -- where items close no file and leave none open, none was open
-none_was_open : (limits : Limits) (run : List (Filed (List ℕ))) (items : List (rotate.Item (List ℕ)))
+pub none_was_open : (limits : Limits) (run : List (Filed (List ℕ))) (items : List (rotate.Item (List ℕ)))
     → (divided_from limits run items).closed ≡ [] → (divided_from limits run items).left_open ≡ [] → run ≡ []
 none_was_open limits run [] none shut = shut
 none_was_open limits run (item ∷ items) none shut =
@@ -287,7 +287,7 @@ module _ (law : DivisionGoesOn) (settings : Settings) (s : ℕ) (items more : Li
       (length (later_division settings s items more).closed) (closed_of-append law settings s items more) few))
       (sym (left_open-append law settings s items more) ∙ shut)
 
-none_counted : (run : List (Filed (List ℕ))) → count_open run ≡ 0 → run ≡ []
+pub none_counted : (run : List (Filed (List ℕ))) → count_open run ≡ 0 → run ≡ []
 none_counted [] e = refl
 none_counted (first ∷ later) e = absurd (omega (arith, e))
 

@@ -16,3 +16,6 @@ pub mod ReadingLemmas
 pub mod FirstFilesLemmas
 pub mod OfStreamsLemmas
 pub mod PuttingLemmas
+pub mod AheadLemmas
+pub mod ShuttingLemmas
+pub mod AmongLemmas

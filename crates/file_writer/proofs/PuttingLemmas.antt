@@ -1,5 +1,5 @@
 -- What comes of a record that a stream takes: a closing before it, its appending, and a closing behind it.
-use Rattle.std.proofs.Common.{◌≡◌, ℕ, ◌+◌, List, [], ◌∷◌, ◌++◌, IsTrue, Option, Result, Ok, ap, ◌∙◌, subst}
+use Rattle.std.proofs.Common.{◌≡◌, ℕ, ◌+◌, List, [], ◌∷◌, ◌++◌, IsTrue, Option, Result, Ok, sym, ap, ◌∙◌, subst}
 use Rattle.std.specs.Result.{IsErr, IsErrAnd}
 use Rattle.cdr_file.specs.CdrFile.{FileSettings}
 use Rattle.cdr_file.specs.declared.closure.ClosureReason.{ClosureReason}
@@ -69,6 +69,11 @@ module _ {A : Type 0} (tells : Ghosts A) (settings : FileSettings) (s : ℕ) (fi
       (made_1 : Makes tells (closing_of settings s stream.file (tells.unsealed old s) b) Went old mid) where
     closed_1 : file.closed ≡ n
     closed_1 = closed_count b stream.file file closed
+
+    -- the number of the file that the record goes to
+    pub number_1 : closed_by cuts.before stream.file.closed + 1 ≡ file.closed + 1
+    number_1 = ap (λ (r : Option ClosureReason). closed_by r stream.file.closed + 1) (sym cut_b)
+        ∙ ap (λ (k : ℕ). k + 1) (sym closed_1)
 
     sealed_1 : file.sealed ≡ stream.file.sealed
     sealed_1 = closed_sealed b stream.file file closed

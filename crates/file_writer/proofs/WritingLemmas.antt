@@ -127,11 +127,15 @@ fresh_above s n (f ∷ files) h =
     ∙ own_number s n))
     (fresh_above s n files (lesser (number_in s f.name) (greatest_in s files) n h))
 
+-- the next number is above those of the sealed files
+pub is_above : (closed sealed most : ℕ) → most ≤ max closed sealed → sealed < closed + 1 → most < closed + 1
+is_above closed sealed most h k = omega arith
+
 -- no file is sealed that has the next number
 pub is_fresh : (s closed sealed : ℕ) (files : List SealedFile) → greatest_in s files ≤ max closed sealed
     → sealed < closed + 1
     → IsFresh (record { stream = s; sequence = closed + 1 }) files
-is_fresh s closed sealed files h k = fresh_above s (closed + 1) files (omega arith)
+is_fresh s closed sealed files h k = fresh_above s (closed + 1) files (is_above closed sealed (greatest_in s files) h k)
 
 -- ---- a record more
 

@@ -5,7 +5,7 @@ use Rattle.cdr_shelf.specs.declared.shelf.Shelf.{Ghosts}
 use Rattle.gw_base.specs.declared.item.Item.{Item}
 use Rattle.file_writer.specs.Calls.{Call, calls_of, seals}
 use Rattle.file_writer.specs.Holding.{HoldsOf, IsBegun}
-use Rattle.file_writer.specs.Leaving.{LeavesUnsealed}
+use Rattle.file_writer.specs.Leaving.{AreAmong, AreShut, LeavesUnsealed}
 use Rattle.file_writer.specs.Making.{Makes, ending_of}
 use Rattle.file_writer.specs.Streams.{closed_of, stream_count}
 use Rattle.file_writer.specs.Writer.{Holds, IsAt, first_of, sealed_in, settings_in, shelf_of, taken_of}
@@ -37,6 +37,10 @@ module _ {A : Type 0} (tells : Ghosts A) (closed : ℕ → ℕ) (before items : 
       max (sealed_in old s) (closed s + closed_of (settings_in old) s before) - closed s
       + length (in_stream s (seals (take k calls)))
 
+  -- a stream of which so many files are sealed has nothing unsealed on a writer's shelf
+  abbrev pub ShutIn : (ℕ → ℕ) → Writer A tells → Type 0
+  ShutIn most w = AreShut most (tells.files (shelf_of w)) (tells.unsealed (shelf_of w))
+
   -- After any number of calls each stream's sealed files are the first ones of those that all items are divided into.
   pub record KeepsFiles (stood : ℕ → List SealedFile) (all : List Item) : Type 0 where
     pub at_any_moment : (k s : ℕ) → s < stream_count
@@ -53,6 +57,9 @@ module _ {A : Type 0} (tells : Ghosts A) (closed : ℕ → ℕ) (before items : 
     pub leaves : IsTrue tells.tells_files → OnOk result
         (LeavesUnsealed (settings_in old) closed (sealed_in old) before (before ++ items)
         (tells.unsealed (shelf_of old)) (tells.unsealed (shelf_of new)))
+    -- Whatever came of the calls, they leave nothing unsealed of a stream of which all files are sealed.
+    pub shut : IsTrue tells.tells_files → IsTrue tells.tells_plan → (most : ℕ → ℕ)
+        → AreAmong (settings_in old) closed (before ++ items) most → ShutIn most old → ShutIn most new
     pub keeps : IsTrue tells.tells_files → (stood : ℕ → List SealedFile) (rest : List Item)
         → Holds old closed stood ((before ++ items) ++ rest) before
         → KeepsFiles stood ((before ++ items) ++ rest)

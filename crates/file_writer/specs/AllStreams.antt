@@ -12,7 +12,9 @@ use Rattle.gw_base.specs.declared.item.Item.TheVariants as item
 use Rattle.route_filter.specs.declared.rule.Rule.{Rule}
 use Rattle.file_writer.specs.Calls.{Call, calls_below, calls_of}
 use Rattle.file_writer.specs.Following.{IsBehind, IsLeft, IsSafe}
+use Rattle.file_writer.specs.Leaving.{begun_after}
 use Rattle.file_writer.specs.Making.{Makes, Went, ending_of}
+use Rattle.file_writer.specs.Shutting.{IsShut, StaysShut}
 use Rattle.file_writer.specs.Streams.{Settings, closed_of, stream_count, stream_division, stream_item}
 use Rattle.file_writer.specs.Writing.{weight_of}
 use Rattle.file_writer.specs.declared.fault.ShelfFault.{ShelfFault}
@@ -71,12 +73,20 @@ with_item false before item = before
 abbrev pub up_to : ℕ → List Item → Item → ℕ → List Item
 up_to n before item s = with_item (nat_lt s n) before item
 
+-- Streams that are shut stay so, where of each so many files are begun as its items begin.
+abbrev pub GoesShut : {A : Type 0} → Ghosts A → Settings → (ℕ → ℕ) → (ℕ → List Item) → A → A → Type 0
+GoesShut tells settings closed items old new =
+    IsTrue tells.tells_files → IsTrue tells.tells_plan → (most : ℕ → ℕ)
+    → ((s : ℕ) → s < stream_count → begun_after settings closed (items s) s ≤ most s)
+    → IsShut tells most old → IsShut tells most new
+
 -- Calls are made, and where they all ran the streams have taken items.
 pub record Goes {A : Type 0} {T : Type 0} (tells : Ghosts A) (settings : Settings) (closed sealed : ℕ → ℕ)
     (calls : List Call) (items : ℕ → List Item)
     (streams : List Stream) (old new : A) (result : Result T ShelfFault) : Type 0 where
   pub makes : Makes tells calls (ending_of result) old new
   pub at : OnOk result (EachAt tells settings closed sealed items streams new)
+  pub shut : GoesShut tells settings closed items old new
 
 -- an item goes to one stream, as this record, and to no other
 pub record GoesTo (profile : ℕ) (rules : List Rule) (item : Item) (s : ℕ) (filed : Filed (List ℕ)) : Type 0 where
@@ -91,6 +101,7 @@ pub record HasMarked {A : Type 0} (tells : Ghosts A) (file : FileSettings) (item
   pub sixteen : length streams ≡ stream_count
   pub below : (most : ℕ) → EachBelow most first → EachBelow most streams
   pub left : StillLeft tells first streams old new
+  pub shut : StaysShut tells old new
   pub takes : (settings : Settings) (closed sealed : ℕ → ℕ) (before : List Item) → settings.file ≡ file
       → AllAt tells settings closed sealed before first old
       → Makes tells (calls_below n settings closed sealed before item) Went old new
@@ -117,3 +128,4 @@ pub record HasTakenSome {A : Type 0} (tells : Ghosts A) (file : FileSettings) (r
       → settings.rules ≡ rules → AllAt tells settings closed sealed before first old
       → Makes tells (calls_of settings closed sealed before (take n items)) Went old new
       × AllAt tells settings closed sealed (before ++ take n items) streams new
+      × GoesShut tells settings closed (λ s. before ++ take n items) old new

@@ -1,7 +1,7 @@
 -- What a shelf holds unsealed of the streams that items go to.
 use Rattle.std.specs.Prelude.{◌≡◌, ℕ, ◌+◌, ◌<◌, ◌≤◌, max, List, [], ◌∷◌, drop, Option, None, Some}
 use Rattle.cdr_file.specs.CdrFile.{header_length, run_octets}
-use Rattle.cdr_shelf.specs.Files.{UnsealedFile}
+use Rattle.cdr_shelf.specs.Files.{SealedFile, UnsealedFile, greatest_in}
 use Rattle.cdr_shelf.specs.declared.file_name.FileName.{FileName}
 use Rattle.file_rotate.specs.Items.{Filed}
 use Rattle.gw_base.specs.declared.item.Item.{Item}
@@ -37,6 +37,19 @@ count_open (first ∷ later) = 1
 -- how many files of a stream are closed or open
 abbrev pub begun_of : Settings → ℕ → List Item → ℕ
 begun_of settings s items = closed_of settings s items + count_open (stream_division settings s items).left_open
+
+-- A stream of which so many files are sealed has nothing unsealed, and nothing is unsealed beyond the streams.
+pub record AreShut (most : ℕ → ℕ) (files : List SealedFile) (unsealed : ℕ → Option UnsealedFile) : Type 0 where
+  pub each : (s : ℕ) → s < stream_count → most s ≤ greatest_in s files → unsealed s ≡ None
+  pub beyond : (s : ℕ) → stream_count ≤ s → unsealed s ≡ None
+
+-- how many files of each stream are begun, those before the first item included
+abbrev pub begun_after : Settings → (ℕ → ℕ) → List Item → ℕ → ℕ
+begun_after settings closed items s = closed s + begun_of settings s items
+
+-- these are at most so many
+abbrev pub AreAmong : Settings → (ℕ → ℕ) → List Item → (ℕ → ℕ) → Type 0
+AreAmong settings closed items most = (s : ℕ) → s < stream_count → begun_after settings closed items s ≤ most s
 
 -- What calls for items leave unsealed that come in after others. Of a stream of which they wrote a file, one that was
 -- neither closed before nor sealed, it is the file that is open then; all else stays as it was.

@@ -17,5 +17,6 @@ pub mod Laws
 -- Steps of proofs.
 pub mod Following
 pub mod Props
+pub mod Shutting
 pub mod Sound
 pub mod Writing

@@ -29,3 +29,6 @@ pub ReadyWhere-prop : (b : Bool) (name : FileName) (growing : Option RunFacts) (
 ReadyWhere-prop true name growing u = hlevel props
 ReadyWhere-prop false name None u = hlevel props
 ReadyWhere-prop false name (Some run) u = open_prop name run.kind run.octets u
+
+-- the set for what is true of each writer
+pub ruleset sound_props = (Pairs-prop, ReadyWhere-prop, props)

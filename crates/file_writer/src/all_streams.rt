@@ -4,6 +4,7 @@ ghost use Rattle.gw_base.specs.CdrKind.{IsCdrKind};
 ghost use Rattle.gw_base.specs.declared.item.Item.{Item};
 ghost use Rattle.file_writer.specs.AllStreams.{AllAt, EachAt, EachBelow, EachSafe, Goes, GoesTo, IsFit, StillLeft, part_of, mark_told, up_to};
 ghost use Rattle.file_writer.specs.Calls.{calls_below, calls_of, stream_calls};
+ghost use Rattle.file_writer.specs.Shutting.{StaysShut};
 ghost use Rattle.file_writer.specs.Streams.{Settings, stream_count, stream_record};
 ghost use Rattle.file_writer.specs.Writing.{settings_of};
 
@@ -39,6 +40,7 @@ fn mark_one<F: Shelf>(
     ensures below { (most : ℕ) → EachBelow most streams.old → OnOk result (EachBelow most streams.new) }
     ensures left { OnOk result (StillLeft F.Shelf streams.old streams.new shelf.old shelf.new) }
     ensures sixteen { length streams.new ≡ stream_count }
+    ensures shut { StaysShut F.Shelf shelf.old shelf.new }
 {
     division_goes_on::<Octets>();
     let stream = streams[s as usize];
@@ -223,6 +225,7 @@ pub(crate) fn take_all<F: Shelf>(
     ensures left { OnOk result (StillLeft F.Shelf streams.old streams.new shelf.old shelf.new) }
     ensures sixteen { length streams.new ≡ stream_count }
 {
+    division_goes_on::<Octets>();
     for item in items {
         take_item(shelf, gateway, rules, streams, item)?;
     }

@@ -1,6 +1,6 @@
 // A writer on a shelf that is a `Drill`.
-ghost use Rattle.std.specs.Prelude.{◌≡◌, ℕ, List};
-ghost use Rattle.area_disk.specs.Plan.{armed};
+ghost use Rattle.std.specs.Prelude.{◌≡◌, ℕ, List, false};
+ghost use Rattle.area_disk.specs.Plan.{armed, with_stopped};
 ghost use Rattle.gw_base.specs.declared.item.Item.{Item};
 
 use crate::Writer;
@@ -21,6 +21,19 @@ impl<F: DrillShelf> Writer<F> {
         ensures at { (closed : ℕ → ℕ) (items : List Item) → IsAt self.old closed items → IsAt self.new closed items }
     {
         self.shelf.arm(plan);
+    }
+
+    /// Ends a stop of the shelf: its calls run again, as planned. Without a stop it does nothing.
+    pub fn revive(&mut self)
+        ensures running { F.schedule (shelf_of self.new) ≡ with_stopped false (F.schedule (shelf_of self.old)) }
+        ensures kept { F.kept (shelf_of self.old) (shelf_of self.new) }
+        ensures broken { is_broken self.new ≡ is_broken self.old }
+        ensures settings { settings_in self.new ≡ settings_in self.old }
+        ensures count { (first_of self.new ≡ first_of self.old) × (taken_of self.new ≡ taken_of self.old) }
+        ensures sealed { (s : ℕ) → sealed_in self.new s ≡ sealed_in self.old s }
+        ensures at { (closed : ℕ → ℕ) (items : List Item) → IsAt self.old closed items → IsAt self.new closed items }
+    {
+        self.shelf.revive();
     }
 
     /// The number of counted calls of the shelf since the plan was armed.

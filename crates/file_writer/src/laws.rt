@@ -1,5 +1,5 @@
 //! Laws of the files that items are divided into. Each holds for all items, and stands on a function that does nothing.
-ghost use Rattle.std.specs.Prelude.{◌≡◌, ◌-◌, ◌+◌, ◌<◌, ◌≤◌, ◌++◌, ℕ, List, Option, drop, take};
+ghost use Rattle.std.specs.Prelude.{◌≡◌, ◌-◌, ◌+◌, ◌<◌, ◌≤◌, ◌++◌, ℕ, List, [], Option, drop, max, take};
 ghost use Rattle.gw_base.specs.declared.item.Item.{Item};
 ghost use Rattle.file_rotate.specs.Division.{divided_from};
 ghost use Rattle.file_rotate.specs.Items.{Filed};
@@ -7,7 +7,7 @@ ghost use Rattle.file_rotate.specs.Items as stream;
 ghost use Rattle.cdr_shelf.specs.Files.{SealedFile, UnsealedFile, greatest_in, in_stream};
 ghost use Rattle.file_writer.specs.Calls.{calls_from, calls_of, seals};
 ghost use Rattle.file_writer.specs.Files.{AreOfStreams, files_from, later_division, later_files, stream_files};
-ghost use Rattle.file_writer.specs.Leaving.{AreOpenFiles, LeavesUnsealed};
+ghost use Rattle.file_writer.specs.Leaving.{AreOpenFiles, AreShut, LeavesUnsealed, begun_after};
 ghost use Rattle.file_writer.specs.Streams.{Settings, closed_of, stream_count};
 
 use file_rotate::division_goes_on;
@@ -42,6 +42,17 @@ pub fn calls_seal_what_items_close()
     division_goes_on::<Octets>();
 }
 
+/// The calls for items that come in after others tell nothing of files that are sealed already, but for those behind the
+/// files that are closed before: these get no call.
+pub fn sealed_files_get_no_call()
+    ensures { (settings : Settings) (closed sealed other : ℕ → ℕ) (before items : List Item)
+        → ((s : ℕ) → s < stream_count → max (sealed s) (closed s + closed_of settings s before)
+        ≡ max (other s) (closed s + closed_of settings s before))
+        → calls_of settings closed sealed before items ≡ calls_of settings closed other before items }
+{
+    division_goes_on::<Octets>();
+}
+
 /// However many of the calls for items are made, each file that they seal is of one of the streams that there are.
 pub fn calls_seal_files_of_streams()
     ensures { (settings : Settings) (closed sealed : ℕ → ℕ) (before items : List Item) (k : ℕ)
@@ -69,3 +80,35 @@ pub fn open_files_go_on()
 {
     division_goes_on::<Octets>();
 }
+
+/// Files that are begun only grow: more items begin no fewer, so streams that are shut stay so.
+pub fn begun_files_only_grow()
+    ensures begun { (settings : Settings) (closed : ℕ → ℕ) (items more : List Item) (s : ℕ)
+        → begun_after settings closed items s ≤ begun_after settings closed (items ++ more) s }
+    ensures shut { (settings : Settings) (closed : ℕ → ℕ) (items more : List Item)
+        (files : List SealedFile) (unsealed : ℕ → Option UnsealedFile)
+        → AreShut (begun_after settings closed items) files unsealed
+        → AreShut (begun_after settings closed (items ++ more)) files unsealed }
+{
+    division_goes_on::<Octets>();
+}
+
+/// Streams are shut whose unsealed files are those that items leave open, where no file is sealed that the items don't
+/// close.
+pub fn open_files_leave_streams_shut()
+    ensures { (settings : Settings) (closed : ℕ → ℕ) (items : List Item)
+        (files : List SealedFile) (unsealed : ℕ → Option UnsealedFile)
+        → ((s : ℕ) → s < stream_count → greatest_in s files ≤ closed s + closed_of settings s items)
+        → AreOpenFiles settings closed items unsealed → AreShut (begun_after settings closed items) files unsealed }
+{}
+
+/// Where it is so, and a writer takes all items anew, the unsealed files are those that the items leave open, whatever
+/// calls that failed or stopped have left before.
+pub fn shut_streams_come_to_open_files()
+    ensures { (settings : Settings) (closed sealed : ℕ → ℕ) (items : List Item)
+        (files : List SealedFile) (old new : ℕ → Option UnsealedFile)
+        → ((s : ℕ) → s < stream_count → (closed s ≤ sealed s) × (sealed s ≤ closed s + closed_of settings s items)
+        × (sealed s ≡ greatest_in s files))
+        → AreShut (begun_after settings closed items) files old
+        → LeavesUnsealed settings closed sealed [] items old new → AreOpenFiles settings closed items new }
+{}

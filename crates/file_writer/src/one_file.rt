@@ -1,11 +1,12 @@
 //! The calls for one file: it is begun, records are appended, and it is closed.
 ghost use Rattle.std.specs.Prelude.{◌≡◌, ◌+◌, ◌-◌, ◌<◌, ◌^◌, IsTrue, OnOk, None, [], ◌∷◌, length};
 ghost use Rattle.cdr_file.specs.CdrFile.{cdr_octets};
-ghost use Rattle.cdr_shelf.specs.Files.{IsFresh};
+ghost use Rattle.cdr_shelf.specs.Files.{IsFresh, greatest_in};
 ghost use Rattle.cdr_shelf.specs.Steps.{StepsAt};
 ghost use Rattle.cdr_file.specs.Profile.{IsFiledKind};
 ghost use Rattle.file_writer.specs.Calls.{Writes, Seals};
 ghost use Rattle.file_writer.specs.Making.{Makes, ending_of};
+ghost use Rattle.file_writer.specs.Shutting.{BeginsShut, StaysShut};
 ghost use Rattle.file_writer.specs.Writing.{IsOpenAt, OthersStay, appended, closed_file, settings_of, HasLength};
 
 use crate::fault::ShelfFault;
@@ -30,6 +31,8 @@ pub(crate) fn begin_file<F: Shelf>(
         OnOk result (IsOpenAt name first.now.kind 0 (F.unsealed shelf.new name.stream)) }
     ensures others { IsTrue F.tells_files →
         OnOk result (OthersStay name.stream (F.unsealed shelf.old) (F.unsealed shelf.new)) }
+    ensures shut { greatest_in name.stream (F.files shelf.old) < name.sequence →
+        BeginsShut F.Shelf name.stream name.sequence shelf.old shelf.new }
 {
     begin(shelf, name)?;
     let header = run_header(
@@ -58,6 +61,7 @@ pub(crate) fn append_cdr<F: Shelf>(
     ensures appended { IsTrue F.tells_files → OnOk result (StepsAt stream
         (appended (cdr_octets (record { kind = kind; octets = octets.now; moment = 0 })))
         (F.unsealed shelf.old) (F.unsealed shelf.new)) }
+    ensures shut { StaysShut F.Shelf shelf.old shelf.new }
 {
     let header = write_cdr(CdrHeader {
         length: octets.len() as u16,
@@ -87,6 +91,7 @@ pub(crate) fn close_file<F: Shelf>(
     ensures gone { IsTrue F.tells_files → OnOk result (F.unsealed shelf.new name.stream ≡ None) }
     ensures others { IsTrue F.tells_files →
         OnOk result (OthersStay name.stream (F.unsealed shelf.old) (F.unsealed shelf.new)) }
+    ensures shut { StaysShut F.Shelf shelf.old shelf.new }
 {
     let header = run_header(run, name.sequence, reason, gateway.offset, gateway.address);
     write(shelf, name.stream, 0, header.octets())?;

@@ -3,6 +3,7 @@ ghost use Rattle.cdr_shelf.specs.Files.{IsFresh, greatest_in};
 ghost use Rattle.cdr_file.specs.CdrFile.{header_length};
 ghost use Rattle.cdr_file.specs.Profile.{IsFiledKind};
 ghost use Rattle.file_writer.specs.Making.{Makes, ending_of};
+ghost use Rattle.file_writer.specs.Shutting.{BeginsShut, StaysShut};
 ghost use Rattle.file_writer.specs.Writing.{ClosesOpen, HasKind, IsBounded, IsReady, OthersStay, StillOpen, appending_of, beginning_of, body_length, closed_progress, closing_of, filed_of, grown, grown_facts, IsBegun, IsGrown, ReadyWhere, kind_with, settings_of};
 
 use crate::fault::ShelfFault;
@@ -97,6 +98,8 @@ fn end_of_file<F: Shelf>(
         (F.unsealed shelf.old name.stream) (F.unsealed shelf.new name.stream)) }
     ensures others { IsTrue F.tells_files →
         OnOk result (OthersStay name.stream (F.unsealed shelf.old) (F.unsealed shelf.new)) }
+    ensures shut { greatest_in name.stream (F.files shelf.old) < name.sequence →
+        BeginsShut F.Shelf name.stream name.sequence shelf.old shelf.new }
 {
     match growing {
         None => {
@@ -130,6 +133,7 @@ pub(crate) fn append<F: Shelf>(
         (F.unsealed shelf.old stream) (F.unsealed shelf.new stream)) }
     ensures others { IsTrue F.tells_files →
         OnOk result (OthersStay stream (F.unsealed shelf.old) (F.unsealed shelf.new)) }
+    ensures shut { BeginsShut F.Shelf stream (file.closed + 1) shelf.old shelf.new }
 {
     let Progress {
         growing,
@@ -180,6 +184,7 @@ pub(crate) fn close<F: Shelf>(
         OnOk result (StillOpen reason file (F.unsealed shelf.old stream) (F.unsealed shelf.new stream)) }
     ensures others { IsTrue F.tells_files →
         OnOk result (OthersStay stream (F.unsealed shelf.old) (F.unsealed shelf.new)) }
+    ensures shut { StaysShut F.Shelf shelf.old shelf.new }
 {
     let Progress {
         growing,

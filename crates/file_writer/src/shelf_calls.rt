@@ -1,9 +1,10 @@
 //! The calls of a shelf, each as one of a list of calls.
-ghost use Rattle.std.specs.Prelude.{◌≡◌, IsTrue, IsSome, OnOk, [], ◌∷◌};
-ghost use Rattle.cdr_shelf.specs.Files.{IsFresh, SealedFile, sealed_as};
+ghost use Rattle.std.specs.Prelude.{◌≡◌, ◌<◌, IsTrue, IsSome, OnOk, [], ◌∷◌};
+ghost use Rattle.cdr_shelf.specs.Files.{IsFresh, SealedFile, greatest_in, sealed_as};
 ghost use Rattle.cdr_shelf.specs.Steps.{StepsAt, TakesWrite, begun, left_unsealed, synced, written};
 ghost use Rattle.file_writer.specs.Calls.{Writes, Seals};
 ghost use Rattle.file_writer.specs.Making.{Makes, ending_of};
+ghost use Rattle.file_writer.specs.Shutting.{BeginsShut, StaysShut};
 
 use crate::fault::ShelfFault;
 use cdr_shelf::{FileName, Shelf, ShelfStop};
@@ -14,6 +15,8 @@ pub(crate) fn begin<F: Shelf>(shelf: &mut F, name: FileName) -> Result<(), Shelf
     ensures makes { Makes F.Shelf (Writes ∷ []) (ending_of result) shelf.old shelf.new }
     ensures begun { IsTrue F.tells_files →
         OnOk result (StepsAt name.stream (begun name) (F.unsealed shelf.old) (F.unsealed shelf.new)) }
+    ensures shut { greatest_in name.stream (F.files shelf.old) < name.sequence →
+        BeginsShut F.Shelf name.stream name.sequence shelf.old shelf.new }
 {
     match shelf.begin(name) {
         Ok(()) => Ok(()),
@@ -33,6 +36,7 @@ pub(crate) fn write<F: Shelf>(
     ensures makes { Makes F.Shelf (Writes ∷ []) (ending_of result) shelf.old shelf.new }
     ensures written { IsTrue F.tells_files →
         OnOk result (StepsAt stream (written at from.now) (F.unsealed shelf.old) (F.unsealed shelf.new)) }
+    ensures shut { StaysShut F.Shelf shelf.old shelf.new }
 {
     match shelf.write_at(stream, at, from) {
         Ok(()) => Ok(()),
@@ -47,6 +51,7 @@ pub(crate) fn sync<F: Shelf>(shelf: &mut F, stream: u8) -> Result<(), ShelfFault
     ensures makes { Makes F.Shelf (Writes ∷ []) (ending_of result) shelf.old shelf.new }
     ensures synced { IsTrue F.tells_files →
         OnOk result (StepsAt stream synced (F.unsealed shelf.old) (F.unsealed shelf.new)) }
+    ensures shut { StaysShut F.Shelf shelf.old shelf.new }
 {
     match shelf.sync(stream) {
         Ok(()) => Ok(()),
@@ -61,6 +66,8 @@ pub(crate) fn seal<F: Shelf>(shelf: &mut F, stream: u8) -> Result<(), ShelfFault
         → Makes F.Shelf (Seals file ∷ []) (ending_of result) shelf.old shelf.new }
     ensures ended { IsTrue F.tells_files →
         OnOk result (StepsAt stream left_unsealed (F.unsealed shelf.old) (F.unsealed shelf.new)) }
+    ensures shut { (file : SealedFile) → sealed_as (F.unsealed shelf.old stream) ≡ file ∷ []
+        → file.name.stream ≡ stream → StaysShut F.Shelf shelf.old shelf.new }
 {
     match shelf.seal(stream) {
         Ok(()) => Ok(()),

@@ -3,7 +3,10 @@ ghost use Rattle.cdr_file.specs.ClosureReason.{code_of};
 ghost use Rattle.cdr_file.specs.declared.closure.ClosureReason.{ClosureReason};
 ghost use Rattle.file_rotate.specs.Items.{Filed, Record};
 ghost use Rattle.gw_base.specs.CdrKind.{IsCdrKind};
+ghost use Rattle.file_rotate.specs.Division.{cuts_at};
+ghost use Rattle.file_writer.specs.Calls.{closed_by};
 ghost use Rattle.file_writer.specs.Following.{IsBehind, IsSafe, Stays, StaysLeft, Takes, mark_item};
+ghost use Rattle.file_writer.specs.Shutting.{BeginsShut, StaysShut};
 ghost use Rattle.file_writer.specs.Streams.{stream_record};
 ghost use Rattle.file_writer.specs.Writing.{settings_of, weight_of};
 
@@ -60,6 +63,10 @@ pub(crate) fn put<F: Shelf>(
     ensures few { IfOk result (λ later. weight_of later.file ≤ weight_of stream.file + 1) }
     ensures left { IfOk result (λ later. StaysLeft F.Shelf s stream.file later.file shelf.old shelf.new) }
     ensures others { IsTrue F.tells_files → OnOk result ((t : ℕ) → t ≢ s → Stays F.Shelf t shelf.old shelf.new) }
+    ensures shut { (run : List (Filed (List ℕ))) → IsBehind F.Shelf s run stream shelf.old →
+        let filed = stream_record stream.cutter.profile next.entry.kind next.entry.octets.now next.entry.moment in
+        let cuts = cuts_at stream.cutter.limits run (Record filed) in
+        BeginsShut F.Shelf s (closed_by cuts.before stream.file.closed + 1) shelf.old shelf.new }
 {
     cutter_keeps_the_run::<Octets>();
     run_facts_law();
@@ -99,6 +106,7 @@ pub(crate) fn mark<F: Shelf>(
     ensures few { IfOk result (λ later. weight_of later.file ≤ weight_of stream.file) }
     ensures left { IfOk result (λ later. StaysLeft F.Shelf s stream.file later.file shelf.old shelf.new) }
     ensures others { IsTrue F.tells_files → OnOk result ((t : ℕ) → t ≢ s → Stays F.Shelf t shelf.old shelf.new) }
+    ensures shut { StaysShut F.Shelf shelf.old shelf.new }
 {
     cutter_keeps_the_run::<Octets>();
     let Stream { mut cutter, file } = stream;

@@ -1,10 +1,9 @@
-ghost use Rattle.std.specs.Prelude.{◌≡◌, ◌+◌, ◌-◌, ◌<◌, ◌^◌, ℕ, List, OnOk, IfErr, IfOk, All, true, false, is_err, length, min, slice_index};
-ghost use Rattle.std.proofs.Props.{props};
+ghost use Rattle.std.specs.Prelude.{◌≡◌, ◌+◌, ◌-◌, ◌<◌, ◌^◌, ℕ, List, OnOk, OnErr, IfErr, IfOk, All, true, false, is_err, length, min, slice_index};
 ghost use Rattle.cdr_file.specs.Profile.{IsProfile};
 ghost use Rattle.file_rotate.specs.Items.{AreLimits};
 ghost use Rattle.gw_base.specs.declared.item.Item.{Item};
 ghost use Rattle.file_writer.specs.AllStreams.{IsFit};
-ghost use Rattle.file_writer.specs.Props.{Pairs-prop, ReadyWhere-prop};
+ghost use Rattle.file_writer.specs.Props.{sound_props};
 ghost use Rattle.file_writer.specs.Sound.{IsSound};
 ghost use Rattle.file_writer.specs.Streams.{stream_count};
 ghost use Rattle.file_writer.specs.declared.fault.ShelfFault.TheVariants.{Device};
@@ -43,7 +42,7 @@ pub struct Writer<F: Shelf> {
     /// How many items were taken since.
     taken: u64,
     is_broken: bool,
-    ghost sound: { IsSound F.Shelf shelf limits profile streams taken is_broken } by { Prim.hlevel (Pairs-prop, ReadyWhere-prop, props) },
+    ghost sound: { IsSound F.Shelf shelf limits profile streams taken is_broken } by { Prim.hlevel sound_props },
 }
 
 impl<F: Shelf> Writer<F> {
@@ -67,6 +66,7 @@ impl<F: Shelf> Writer<F> {
         requires profile { IsProfile profile }
         ensures broken { is_broken result ≡ true }
         ensures shelf { shelf_of result ≡ shelf }
+        ensures count { (first_of result ≡ 0) × (taken_of result ≡ 0) }
         ensures settings { settings_in result ≡
             record {
               rules = rules;
@@ -173,9 +173,9 @@ impl<F: Shelf> Writer<F> {
 
     /// Takes the next items, and answers how many were taken in all: the number at which the next call's items begin.
     ///
-    /// Each record has at most 65,535 octets and a kind that `cdr_kind` gives, and fewer than 2^31 items are taken since
-    /// it recovered. It makes the calls of `specs/Calls.antt`, one after the other. After `Device` or `NoMemory` the
-    /// writer is broken.
+    /// Each record has at most 65,535 octets and a kind that `cdr_kind` gives, and fewer than 2^31 items are taken
+    /// since it recovered. It makes the calls of `specs/Calls.antt`, one after the other. After `Device` or `NoMemory`
+    /// the writer is broken, and took none.
     pub fn advance(&mut self, items: &[Item]) -> Result<u64, ShelfFault>
         requires ready { is_broken self.old ≡ false }
         requires few { taken_of self.old + length items.now < 2 ^ 31 }
@@ -186,6 +186,8 @@ impl<F: Shelf> Writer<F> {
         ensures count { IfOk result (λ n.
             (n ≡ min (first_of self.old + (taken_of self.old + length items.now)) (2 ^ 64 - 1))
             × (first_of self.new ≡ first_of self.old) × (taken_of self.new ≡ taken_of self.old + length items.now)) }
+        ensures none { OnErr result
+            ((first_of self.new ≡ first_of self.old) × (taken_of self.new ≡ taken_of self.old)) }
         ensures broken { is_broken self.new ≡ is_err result }
         ensures settings { settings_in self.new ≡ settings_in self.old }
     {

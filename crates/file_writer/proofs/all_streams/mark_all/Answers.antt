@@ -26,6 +26,8 @@ returns-in_err-mark_one-clause-takes g c = λ settings closed sealed before same
           (makes_then g.F.Shelf (calls_below s settings closed sealed before item)
           (stream_calls settings closed sealed before (item ∷ []) s) _ _ _ _ prev.0 next.makes)));
       at = no_result c.from_residual.result c.in_err-mark_one.field-0.0 _ c.from_residual.ensures;
+      shut = λ files plan most among shut.
+          c.in_err-mark_one.ensures.shut files plan most (c.loop-s.invariant.shut files plan most shut);
     }
 
 pub loop-s-init : goal.loop-s-init
@@ -35,6 +37,7 @@ loop-s-init g c = record {
   sixteen = c.requires.sixteen;
   below = λ most h. h;
   left = λ told start stale h. h;
+  shut = λ files plan most h. h;
   takes = λ settings closed sealed before same at.
       let item : Item = mark_told c.args.closes c.args.moment in (
         subst (λ (cs : List Call). Makes g.F.Shelf cs Went c.args.shelf.now c.args.shelf.now)
@@ -54,6 +57,7 @@ loop-s-preserved g c =
       sixteen = e.sixteen;
       below = λ most h. e.below most (inv.below most h);
       left = λ told start stale h. e.left told start stale (inv.left told start stale h);
+      shut = λ files plan most h. e.shut files plan most (inv.shut files plan most h);
       takes = λ settings closed sealed before same at.
           let item : Item = mark_told c.args.closes c.args.moment in
           let prev = inv.takes settings closed sealed before same at in
@@ -78,4 +82,5 @@ returns-clause-takes g c = λ settings closed sealed before same at.
       at = λ s d h. subst (λ (items : List Item). StreamAt g.F.Shelf settings closed sealed items s
           (slice_index_or c.loop-s.streams s d) c.loop-s.shelf)
           (all_done n before item s (subst (λ (k : ℕ). s < k) (sym sixteen) h)) (all.1 s d h);
+      shut = λ files plan most among shut. c.loop-s.invariant.shut files plan most shut;
     }

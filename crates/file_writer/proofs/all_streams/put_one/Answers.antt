@@ -9,6 +9,7 @@ use Rattle.file_writer.specs.Making.{Makes, Went, ending_at}
 use Rattle.file_writer.specs.Streams.{stream_count, stream_division, stream_item, stream_record}
 use Rattle.file_writer.specs.declared.stream.Stream.{Stream}
 use Rattle.file_writer.proofs.AllLemmas.{at_stays, calls_are, each_set, no_calls, not_taken, only_one, safe_stays, taken_at}
+use Rattle.file_writer.proofs.AmongLemmas.{number_within}
 use Rattle.file_writer.proofs.FollowingLemmas.{no_result}
 use Rattle.file_writer.proofs.MakingLemmas.{ended_at}
 use Rattle.file_writer.proofs.LeavingLemmas.{left_set}
@@ -41,6 +42,10 @@ returns-in_err-streams-clause-takes g c = λ settings closed sealed before item 
           (subst (λ (cs : List Call). Makes g.F.Shelf cs (ending_at c.in_err-streams.field-0.0) c.args.shelf.now
           c.put.new.shelf) calls taken.makes);
       at = no_result c.from_residual.result c.in_err-streams.field-0.0 _ c.from_residual.ensures;
+      shut = λ files plan most among shut.
+          c.in_err-streams.ensures.shut run at.behind files plan most
+          (number_within law settings closed before item s _ here _ _ at.limits at.has_closed (most s)
+          (among s c.requires.within)) shut;
     }
 
 pub returns-clause-takes : goal.returns-clause-takes
@@ -76,6 +81,10 @@ returns-clause-takes g c = λ settings closed sealed before item same goes each.
           c.put.new.shelf (goes.others t other)
           (at_stays g.F.Shelf settings closed sealed before t _ _ _
           (λ told. c.in_ok-streams.ensures.others told t other) (each t d h)));
+      shut = λ files plan most among shut.
+          c.in_ok-streams.ensures.shut run at.behind files plan most
+          (number_within law settings closed before item s _ here _ _ at.limits at.has_closed (most s)
+          (among s c.requires.within)) shut;
     }
 
 pub returns-clause-safe : goal.returns-clause-safe

@@ -1,11 +1,13 @@
 use Rattle.std.proofs.Common.{◌≡◌, ℕ, ◌+◌, ◌-◌, ◌^◌, List, [], ◌∷◌, ◌++◌, length, take, drop, sym, ap, ◌∙◌, subst, arith, append_assoc}
 use Rattle.std.proofs.lemmas.List.{take-append-drop}
 use Rattle.gw_base.specs.declared.item.Item.{Item}
-use Rattle.file_writer.specs.AllStreams.{AllAt}
+use Rattle.file_writer.specs.AllStreams.{AllAt, GoesShut}
 use Rattle.file_writer.specs.Calls.{Call, calls_below, calls_of}
+use Rattle.file_writer.specs.Leaving.{AreAmong}
 use Rattle.file_writer.specs.Making.{Makes, Went, ending_at, ending_of}
 use Rattle.file_writer.specs.Streams.{stream_count}
 use Rattle.file_writer.proofs.AllLemmas.{calls-append, calls-one, take_next, take_whole}
+use Rattle.file_writer.proofs.AmongLemmas.{among_fewer, among_next, in_front}
 use Rattle.file_writer.proofs.FollowingLemmas.{no_result}
 use Rattle.file_writer.proofs.MakingLemmas.{makes_then, stopped_at}
 use Rattle.file_writer.proofs.all_streams.take_all.Goals as goal
@@ -18,6 +20,7 @@ take_item-requires-clause-few g c = λ s d h.
 pub returns-in_err-take_item-clause-takes : goal.returns-in_err-take_item-clause-takes
 returns-in_err-take_item-clause-takes g c = λ settings closed sealed before same rules at.
     let items : List Item = c.args.items.now in
+    let law = c.division_goes_on.ensures in
     let i : ℕ = c.loop-item.item-index in
     let x : Item = c.item-item.result in
     let prev = c.loop-item.invariant.takes settings closed sealed before same rules at in
@@ -38,12 +41,19 @@ returns-in_err-take_item-clause-takes g c = λ settings closed sealed before sam
           (subst (λ (cs : List Call). Makes g.F.Shelf cs (ending_at c.in_err-take_item.field-0.0) c.args.shelf.now
           c.take_item.new.shelf) calls made));
       at = no_result c.from_residual.result c.in_err-take_item.field-0.0 _ c.from_residual.ensures;
+      shut = λ files plan most among shut.
+          let later = among_next law settings closed before items i x most more
+          (among_fewer law settings closed (before ++ take (i + 1) items) (drop (i + 1) items) most
+          (subst (λ (xs : List Item). AreAmong settings closed xs most) (in_front before items (i + 1)) among)) in
+          next.shut files plan most later
+          (prev.2 files plan most (among_fewer law settings closed (before ++ take i items) (x ∷ []) most later) shut);
     }
 
 pub loop-item-preserved : goal.loop-item-preserved
 loop-item-preserved g c =
     let inv = c.loop-item.invariant in
     let e = c.in_ok-take_item.ensures in
+    let law = c.division_goes_on.ensures in
     let items : List Item = c.args.items.now in
     let i : ℕ = c.loop-item.item-index in
     let x : Item = c.item-item.result in
@@ -66,6 +76,11 @@ loop-item-preserved g c =
                 c.take_item.new.shelf)
                 (append_assoc before (take i items) (x ∷ []) ∙ ap (λ (xs : List Item). before ++ xs) (sym more))
                 next.at,
+            λ files plan most among shut.
+                let later = among_next law settings closed before items i x most more among in
+                next.shut files plan most later
+                (prev.2 files plan most (among_fewer law settings closed (before ++ take i items) (x ∷ []) most later)
+                shut),
           );
     }
 
@@ -79,6 +94,8 @@ returns-clause-takes g c = λ settings closed sealed before same rules at.
           c.args.shelf.now c.loop-item.shelf) whole all.0;
       at = subst (λ (xs : List Item). AllAt g.F.Shelf settings closed sealed (before ++ xs) c.loop-item.streams
           c.loop-item.shelf) whole all.1;
+      shut = subst (λ (xs : List Item). GoesShut g.F.Shelf settings closed (λ s. before ++ xs) c.args.shelf.now
+          c.loop-item.shelf) whole all.2;
     }
 
 pub returns-clause-below : goal.returns-clause-below

@@ -1,6 +1,7 @@
 use Rattle.std.proofs.Common.{[], ◌∷◌, ℕ, List, length, ap, ◌∙◌}
 use Rattle.file_writer.specs.Calls.{Writes}
 use Rattle.file_writer.proofs.MakingLemmas.{makes_then, stopped_at}
+use Rattle.file_writer.proofs.ShuttingLemmas.{begun_then}
 use Rattle.file_writer.proofs.WritingLemmas.{on_ok, opened_at}
 use Rattle.file_writer.proofs.one_file.begin_file.Goals as goal
 
@@ -20,3 +21,9 @@ returns-clause-open g c = λ told.
     (c.in_ok-begin.ensures.begun told).here second.here
     (ap (λ (xs : List ℕ). length xs) c.octets.ensures.octets ∙ c.run_header-header.ensures.length))
     (c.write.ensures.written told)
+
+pub returns-in_err-begin-clause-shut : goal.returns-in_err-begin-clause-shut
+returns-in_err-begin-clause-shut g c = c.in_err-begin.ensures.shut
+
+pub returns-clause-shut : goal.returns-clause-shut
+returns-clause-shut g c = λ above. begun_then g.F.Shelf _ _ _ _ _ (c.in_ok-begin.ensures.shut above) c.write.ensures.shut

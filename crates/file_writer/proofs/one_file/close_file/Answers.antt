@@ -1,10 +1,11 @@
-use Rattle.std.proofs.Common.{◌≡◌, ℕ, List, [], ◌∷◌, ◌++◌, length, Option, ap, ◌∙◌}
+use Rattle.std.proofs.Common.{◌≡◌, ℕ, List, [], ◌∷◌, ◌++◌, length, Option, refl, ap, ◌∙◌}
 use Rattle.cdr_file.specs.CdrFile.{header_length, header_of}
 use Rattle.cdr_file.specs.FileHeader.{header_octets}
 use Rattle.cdr_file.specs.declared.filed_kind.FiledKind.{FiledKind}
 use Rattle.cdr_shelf.specs.Files.{UnsealedFile}
 use Rattle.file_writer.specs.Writing.{body_of, settings_of}
 use Rattle.file_writer.proofs.LeavingLemmas.{gone_by}
+use Rattle.file_writer.proofs.ShuttingLemmas.{then_shut}
 use Rattle.file_writer.proofs.WritingLemmas.{named_file, on_ok, sealed_of}
 use Rattle.file_writer.specs.Calls.{Writes, Seals}
 use Rattle.file_writer.proofs.MakingLemmas.{makes_then, stopped_at}
@@ -43,3 +44,20 @@ returns-clause-gone g c = λ told.
     (g.F.Shelf.unsealed c.args.shelf.now c.args.name.stream) _ _ _ (c.requires.open told)
     (c.in_ok-write.ensures.written told).here (c.in_ok-sync.ensures.synced told).here ended.here)
     (c.seal.ensures.ended told)
+
+pub returns-in_err-write-clause-shut : goal.returns-in_err-write-clause-shut
+returns-in_err-write-clause-shut g c = c.in_err-write.ensures.shut
+
+pub returns-in_err-sync-clause-shut : goal.returns-in_err-sync-clause-shut
+returns-in_err-sync-clause-shut g c = then_shut g.F.Shelf _ _ _ c.in_ok-write.ensures.shut c.in_err-sync.ensures.shut
+
+pub returns-clause-shut : goal.returns-clause-shut
+returns-clause-shut g c = λ files plan most shut.
+    let u : Option UnsealedFile = g.F.Shelf.unsealed c.args.shelf.now c.args.name.stream in
+    let long : length c.octets.result.now ≡ header_length c.args.run.kind =
+    ap (λ (xs : List ℕ). length xs) c.octets.ensures.octets ∙ c.run_header-header.ensures.length in
+    let stands =
+    sealed_of c.args.name c.args.run.kind c.args.run.octets c.octets.result.now u _ _ (c.requires.open files) long
+    (c.in_ok-write.ensures.written files).here (c.in_ok-sync.ensures.synced files).here in
+    c.seal.ensures.shut _ stands refl files plan most
+    (c.in_ok-sync.ensures.shut files plan most (c.in_ok-write.ensures.shut files plan most shut))

@@ -6,7 +6,8 @@ use Rattle.cdr_shelf.specs.declared.file_name.FileName.{FileName}
 use Rattle.file_writer.specs.Calls.{Writes}
 use Rattle.file_writer.specs.Writing.{GrownWhere, IsBegun, beginning_of, filed_of, name_in}
 use Rattle.file_writer.proofs.MakingLemmas.{ended_at, makes_then, stopped_at}
-use Rattle.file_writer.proofs.WritingLemmas.{grown_at, is_fresh, makes_unsealed, not_sealed}
+use Rattle.file_writer.proofs.ShuttingLemmas.{begun_then}
+use Rattle.file_writer.proofs.WritingLemmas.{grown_at, is_above, is_fresh, makes_unsealed, not_sealed}
 use Rattle.file_writer.proofs.progress.append.Goals as goal
 
 pub end_of_file-requires-clause-fresh : goal.end_of_file-requires-clause-fresh
@@ -44,3 +45,22 @@ returns-clause-stands g c = λ told.
     subst (λ (b : Bool). GrownWhere b name c.args.file.growing filed old new)
     (sym (not_sealed c.args.file.closed c.args.file.sealed c.if-sequence-sealed.false))
     (grown_at name c.args.file.growing filed old _ new begun (c.in_ok-append_cdr.ensures.appended told).here)
+
+pub returns-in_err-at-clause-shut : goal.returns-in_err-at-clause-shut
+returns-in_err-at-clause-shut g c = λ files.
+    c.in_err-at.ensures.shut
+    (is_above c.args.file.closed c.args.file.sealed _ (c.requires.fresh files) c.if-sequence-sealed.false) files
+
+pub returns-in_err-append_cdr-clause-shut : goal.returns-in_err-append_cdr-clause-shut
+returns-in_err-append_cdr-clause-shut g c = λ files.
+    begun_then g.F.Shelf _ _ _ _ _
+    (c.in_ok-at.ensures.shut
+    (is_above c.args.file.closed c.args.file.sealed _ (c.requires.fresh files) c.if-sequence-sealed.false))
+    c.in_err-append_cdr.ensures.shut files
+
+pub returns-clause-shut : goal.returns-clause-shut
+returns-clause-shut g c = λ files.
+    begun_then g.F.Shelf _ _ _ _ _
+    (c.in_ok-at.ensures.shut
+    (is_above c.args.file.closed c.args.file.sealed _ (c.requires.fresh files) c.if-sequence-sealed.false))
+    c.in_ok-append_cdr.ensures.shut files

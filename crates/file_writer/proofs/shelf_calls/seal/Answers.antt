@@ -4,6 +4,7 @@ use Rattle.cdr_shelf.specs.Files.{SealedFile}
 use Rattle.cdr_shelf.specs.Steps.{is_done}
 use Rattle.file_writer.specs.Calls.{Seals}
 use Rattle.file_writer.proofs.MakingLemmas.{one_failed, one_went}
+use Rattle.file_writer.proofs.ShuttingLemmas.{seals_shut}
 use Rattle.file_writer.proofs.shelf_calls.seal.Goals as goal
 
 pub returns-in-Ok-clause-makes : goal.returns-in-Ok-clause-makes
@@ -29,3 +30,9 @@ returns-in-Err-clause-makes g c = λ file as_file.
     (λ planned told. (e.leaves told planned).files
     ∙ ap (λ (fs : List SealedFile). if is_done (next_fate (g.F.Shelf.plan c.args.shelf.now)) then files
     ++ fs else files) (as_file told))
+
+pub returns-in-Ok-clause-shut : goal.returns-in-Ok-clause-shut
+returns-in-Ok-clause-shut g c = seals_shut g.F.Shelf _ _ _ _ (c.in-Ok.ensures {u = tt}).seals
+
+pub returns-in-Err-clause-shut : goal.returns-in-Err-clause-shut
+returns-in-Err-clause-shut g c = seals_shut g.F.Shelf _ _ _ _ (c.in-Err.ensures {u = tt}).seals

@@ -127,3 +127,9 @@ returns-clause-left g c = λ told start stale left.
     (mark_closes stream.cutter.limits stream.cutter.file c.args.closes c.args.moment stream.file.growing reason
     c.requires.safe.pairs is_reason)
     c.in_ok-file.ensures.closed (c.in_ok-file.ensures.still told) left
+
+pub returns-in_err-file-clause-shut : goal.returns-in_err-file-clause-shut
+returns-in_err-file-clause-shut g c = c.in_err-file.ensures.shut
+
+pub returns-clause-shut : goal.returns-clause-shut
+returns-clause-shut g c = c.in_ok-file.ensures.shut

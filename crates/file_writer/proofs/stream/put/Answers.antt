@@ -1,4 +1,4 @@
-use Rattle.std.proofs.Common.{◌≡◌, ℕ, List, length, Option, Some, None, sym, ap, ◌∙◌, subst}
+use Rattle.std.proofs.Common.{◌≡◌, ◌≤◌, ℕ, List, length, Option, Some, None, sym, ap, ◌∙◌, subst}
 use Rattle.cdr_file.specs.CdrFile.{FiledRecord}
 use Rattle.cdr_file.specs.Profile.{IsFiledKind, in_profile}
 use Rattle.cdr_file.specs.declared.closure.ClosureReason.{ClosureReason}
@@ -14,7 +14,8 @@ use Rattle.file_writer.specs.Streams.{stream_record}
 use Rattle.file_writer.specs.Writing.{filed_of, grown, settings_of}
 use Rattle.file_writer.proofs.FollowingLemmas.{append_stays, append_up, close_stays, close_up, grown_as, grown_closes, pairs_closed, pairs_grown, record_closes, stands_as, stays_then}
 use Rattle.file_writer.proofs.LeavingLemmas.{append_left, close_left}
-use Rattle.file_writer.proofs.PuttingLemmas.{all_went, first_ended, second_ended, third_ended}
+use Rattle.file_writer.proofs.PuttingLemmas.{all_went, first_ended, number_1, second_ended, third_ended}
+use Rattle.file_writer.proofs.ShuttingLemmas.{any_begun}
 use Rattle.file_writer.specs.declared.progress.Progress.{Progress}
 use Rattle.file_writer.proofs.stream.put.Goals as goal
 
@@ -148,3 +149,35 @@ returns-clause-left g c = λ told start stale left.
     (close_left start stale stream.file file b _ _
     (record_closes stream.cutter.file next.kind stream.file.growing b c.requires.safe.pairs is_b)
     c.in_ok-file.ensures.closed (c.in_ok-file.ensures.still told) left))
+
+pub returns-in_err-file-clause-shut : goal.returns-in_err-file-clause-shut
+returns-in_err-file-clause-shut g c = λ run behind. any_begun g.F.Shelf _ _ _ _ c.in_err-file.ensures.shut
+
+pub returns-in_err-file-2-clause-shut : goal.returns-in_err-file-2-clause-shut
+returns-in_err-file-2-clause-shut g c = λ run behind files plan most within shut.
+    let number =
+    number_1 g.F.Shelf (settings_of c.args.gateway.now) c.args.s (stream_record c.args.stream.cutter.profile c.args.next.kind c.args.next.octets.now c.args.next.moment) c.args.stream c.reason_of.result c.args.shelf.now c.requires.safe.pairs
+    (c.reason_of.ensures _ (ap (λ (cut : Cut). cut.before) c.put-cut.ensures.cut)) c.cutter_keeps_the_run.ensures.cuts run behind
+    c.in_ok-file.file c.close.new.shelf c.in_ok-file.ensures.closed c.in_ok-file.ensures.still c.in_ok-file.ensures.makes in
+    c.in_err-file-2.ensures.shut files plan most (subst (λ (n : ℕ). n ≤ most c.args.s) number within)
+    (c.in_ok-file.ensures.shut files plan most shut)
+
+pub returns-in_err-file-3-clause-shut : goal.returns-in_err-file-3-clause-shut
+returns-in_err-file-3-clause-shut g c = λ run behind files plan most within shut.
+    let number =
+    number_1 g.F.Shelf (settings_of c.args.gateway.now) c.args.s (stream_record c.args.stream.cutter.profile c.args.next.kind c.args.next.octets.now c.args.next.moment) c.args.stream c.reason_of.result c.args.shelf.now c.requires.safe.pairs
+    (c.reason_of.ensures _ (ap (λ (cut : Cut). cut.before) c.put-cut.ensures.cut)) c.cutter_keeps_the_run.ensures.cuts run behind
+    c.in_ok-file.file c.close.new.shelf c.in_ok-file.ensures.closed c.in_ok-file.ensures.still c.in_ok-file.ensures.makes in
+    c.in_err-file-3.ensures.shut files plan most
+    (c.in_ok-file-2.ensures.shut files plan most (subst (λ (n : ℕ). n ≤ most c.args.s) number within)
+    (c.in_ok-file.ensures.shut files plan most shut))
+
+pub returns-clause-shut : goal.returns-clause-shut
+returns-clause-shut g c = λ run behind files plan most within shut.
+    let number =
+    number_1 g.F.Shelf (settings_of c.args.gateway.now) c.args.s (stream_record c.args.stream.cutter.profile c.args.next.kind c.args.next.octets.now c.args.next.moment) c.args.stream c.reason_of.result c.args.shelf.now c.requires.safe.pairs
+    (c.reason_of.ensures _ (ap (λ (cut : Cut). cut.before) c.put-cut.ensures.cut)) c.cutter_keeps_the_run.ensures.cuts run behind
+    c.in_ok-file.file c.close.new.shelf c.in_ok-file.ensures.closed c.in_ok-file.ensures.still c.in_ok-file.ensures.makes in
+    c.in_ok-file-3.ensures.shut files plan most
+    (c.in_ok-file-2.ensures.shut files plan most (subst (λ (n : ℕ). n ≤ most c.args.s) number within)
+    (c.in_ok-file.ensures.shut files plan most shut))

@@ -1,6 +1,7 @@
 use Rattle.std.proofs.Common.{rules, ◌≡◌, List, ◌++◌, length, refl, slice_index_or}
 use Rattle.file_writer.specs.Calls.{Call, calls_of}
 use Rattle.file_writer.specs.Writer.{sealed_in, settings_in}
+use Rattle.file_writer.proofs.AmongLemmas.{moves_shut}
 use Rattle.file_writer.proofs.FollowingLemmas.{no_result}
 use Rattle.file_writer.proofs.LeavingLemmas.{all_left_now, leaves_unsealed}
 use Rattle.file_writer.proofs.MakingLemmas.{all_sealed, ended_at}
@@ -21,6 +22,7 @@ returns-in_err-take_all-clause-moves g c = λ closed before at.
       at = no_result c.from_residual.result fault _ c.from_residual.ensures;
       sealed = no_result c.from_residual.result fault _ c.from_residual.ensures;
       leaves = λ told. no_result c.from_residual.result fault _ c.from_residual.ensures;
+      shut = moves_shut g.F.Shelf (settings_in w) closed (before ++ items) _ _ goes.shut;
       keeps = λ told stood rest holds. record {
         at_any_moment = begun law (settings_in w) closed (sealed_in w) stood before items rest
             (g.F.Shelf.files w.shelf) holds;
@@ -60,6 +62,7 @@ returns-clause-moves g c = λ closed before at.
           c.take_all.new.streams w.shelf c.take_all.new.shelf told at goes.at c.in_ok-take_all.ensures.safe
           (c.in_ok-take_all.ensures.left told (λ s. (slice_index_or w.streams s no_stream).file.closed)
           (g.F.Shelf.unsealed w.shelf) (all_left_now g.F.Shelf w.streams w.shelf long));
+      shut = moves_shut g.F.Shelf (settings_in w) closed (before ++ items) _ _ goes.shut;
       keeps = λ told stood rest holds. record {
         at_any_moment = begun law (settings_in w) closed (sealed_in w) stood before items rest
             (g.F.Shelf.files w.shelf) holds;

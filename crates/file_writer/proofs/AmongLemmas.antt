@@ -1,0 +1,225 @@
+-- How many files items begin: more items begin no fewer, and a record goes to the last one that is begun.
+use Rattle.std.proofs.Common.{◌≡◌, inl, inr, ℕ, ◌+◌, ◌<◌, ◌≤◌, max, nat_lt, if◌then◌else◌, Bool, true, false, IsTrue, List, [], ◌∷◌, ◌++◌, length, take, drop, Option, None, Some, refl, sym, ap, ◌∙◌, subst, arith, append_assoc}
+use Rattle.std.proofs.lemmas.Bool.Decides.{nat_tests}
+use Rattle.std.proofs.lemmas.List.{append-nil, take-append-drop}
+use Rattle.cdr_file.specs.declared.closure.ClosureReason.{ClosureReason}
+use Rattle.cdr_shelf.specs.Files.{SealedFile, UnsealedFile, greatest_in}
+use Rattle.cdr_shelf.specs.declared.shelf.Shelf.{Ghosts}
+use Rattle.file_rotate.specs.Division.{Cuts, Division, cuts_at, divided_from, run_after, with_cuts}
+use Rattle.file_rotate.specs.Items.{Filed, Record}
+use Rattle.file_rotate.specs.Items as rotate
+use Rattle.file_rotate.specs.declared.limits.Limits.{Limits}
+use Rattle.gw_base.specs.declared.item.Item.{Item}
+use Rattle.file_writer.specs.AllStreams.{GoesShut}
+use Rattle.file_writer.specs.Calls.{closed_by}
+use Rattle.file_writer.specs.Files.{later_division}
+use Rattle.file_writer.specs.Laws.{DivisionGoesOn}
+use Rattle.file_writer.specs.Leaving.{AreAmong, AreOpenFiles, AreShut, IsOpenFile, LeavesUnsealed, begun_after, begun_of, count_open}
+use Rattle.file_writer.specs.Streams.{Settings, closed_of, stream_count, stream_division, stream_item, stream_items}
+use Rattle.file_writer.proofs.FilesLemmas.{closed_of-append}
+use Rattle.file_writer.proofs.LeavingLemmas.{either_way, is_empty, none_counted, none_was_open}
+use Rattle.file_writer.proofs.StreamsLemmas.{left_open-append}
+
+-- ---- more items
+
+few_counted : (run : List (Filed (List ℕ))) → count_open run ≤ 1
+few_counted [] = omega arith
+few_counted (first ∷ later) = omega arith
+
+some_stay : (limits : Limits) (run : List (Filed (List ℕ))) (items : List (rotate.Item (List ℕ)))
+    → count_open run
+    ≤ length (divided_from limits run items).closed + count_open (divided_from limits run items).left_open
+some_stay limits run items =
+    let d : Division (List ℕ) = divided_from limits run items in
+    elim (either_way 0 (length d.closed + count_open d.left_open)) [
+      | inl some ↦ omega (arith, some, few_counted run)
+      | inr none ↦
+          let was : run ≡ [] = none_was_open limits run items (is_empty d.closed (omega (arith, none)))
+          (none_counted d.left_open (omega (arith, none))) in
+          omega (arith, ap count_open was)
+    ]
+
+-- more items begin no fewer files
+pub begun_grow : DivisionGoesOn → (settings : Settings) (closed : ℕ → ℕ) (items more : List Item) (s : ℕ)
+    → begun_after settings closed items s ≤ begun_after settings closed (items ++ more) s
+begun_grow law settings closed items more s =
+    omega (
+      arith,
+      some_stay settings.limits (stream_division settings s items).left_open
+          (stream_items settings.profile settings.rules s more),
+      closed_of-append law settings s items more,
+      ap count_open (left_open-append law settings s items more),
+    )
+
+pub among_fewer : DivisionGoesOn → (settings : Settings) (closed : ℕ → ℕ) (items more : List Item) (most : ℕ → ℕ)
+    → AreAmong settings closed (items ++ more) most → AreAmong settings closed items most
+among_fewer law settings closed items more most among s h =
+    omega (arith, among s h, begun_grow law settings closed items more s)
+
+-- ---- a record
+
+number_by : (b a : Option ClosureReason) (run : List (Filed (List ℕ))) (filed : Filed (List ℕ)) (n m : ℕ)
+    → closed_by b (n + m) + 1
+    ≡ n + (m + length (with_cuts (record { before = b; after = a }) run (Record filed) (record {
+      closed = [];
+      left_open = run_after (record { before = b; after = a }) run (Record filed);
+    })).closed
+    + count_open (with_cuts (record { before = b; after = a }) run (Record filed) (record {
+      closed = [];
+      left_open = run_after (record { before = b; after = a }) run (Record filed);
+    })).left_open)
+number_by None None run filed n m = omega (arith, one_open run)
+  where
+    one_open : (xs : List (Filed (List ℕ))) → count_open (xs ++ filed ∷ []) ≡ 1
+    one_open [] = refl
+    one_open (x ∷ xs) = refl
+number_by None (Some a) run filed n m = omega arith
+number_by (Some b) None run filed n m = omega arith
+number_by (Some b) (Some a) run filed n m = omega arith
+
+module _ (law : DivisionGoesOn) (settings : Settings) (closed : ℕ → ℕ) (before : List Item) (item : Item) (s : ℕ)
+    (filed : Filed (List ℕ)) (here : stream_item settings.profile settings.rules s item ≡ Record filed ∷ []) where
+  abbrev left : List (Filed (List ℕ))
+  left = (stream_division settings s before).left_open
+
+  division : later_division settings s before (item ∷ []) ≡ divided_from settings.limits left (Record filed ∷ [])
+  division = ap (λ (xs : List (rotate.Item (List ℕ))). divided_from settings.limits left xs)
+      (append-nil (stream_item settings.profile settings.rules s item) ∙ here)
+
+  -- the file that a record goes to is the last one that is begun then
+  pub number_is : closed_by (cuts_at settings.limits left (Record filed)).before
+      (closed s + closed_of settings s before) + 1
+      ≡ begun_after settings closed (before ++ item ∷ []) s
+  number_is =
+      let cuts : Cuts = cuts_at settings.limits left (Record filed) in
+      omega (
+        arith,
+        number_by cuts.before cuts.after left filed (closed s) (closed_of settings s before),
+        closed_of-append law settings s before (item ∷ []),
+        left_open_is,
+        ap (λ (d : Division (List ℕ)). length d.closed) division,
+      )
+    where
+      left_open_is : count_open (stream_division settings s (before ++ item ∷ [])).left_open
+          ≡ count_open (divided_from settings.limits left (Record filed ∷ [])).left_open
+      left_open_is = ap count_open (left_open-append law settings s before (item ∷ [])
+          ∙ ap (λ (d : Division (List ℕ)). d.left_open) division)
+
+  pub number_within : (limits : Limits) (n : ℕ) → limits ≡ settings.limits → n ≡ closed s + closed_of settings s before
+      → (most : ℕ) → begun_after settings closed (before ++ item ∷ []) s ≤ most
+      → closed_by (cuts_at limits left (Record filed)).before n + 1 ≤ most
+  number_within limits n e f most h =
+      subst (λ (k : ℕ). k ≤ most)
+      (sym ((λ i. closed_by (cuts_at (e i) left (Record filed)).before (f i) + 1) ∙ number_is)) h
+
+-- ---- items one after the other
+
+pub in_front : (before items : List Item) (n : ℕ) → before ++ items ≡ (before ++ take n items) ++ drop n items
+in_front before items n =
+    ap (λ (xs : List Item). before ++ xs) (sym (take-append-drop n items))
+    ∙ sym (append_assoc before (take n items) (drop n items))
+
+pub among_next : DivisionGoesOn → (settings : Settings) (closed : ℕ → ℕ) (before items : List Item) (i : ℕ) (x : Item)
+    (most : ℕ → ℕ) → take (i + 1) items ≡ take i items ++ x ∷ []
+    → AreAmong settings closed (before ++ take (i + 1) items) most
+    → AreAmong settings closed ((before ++ take i items) ++ x ∷ []) most
+among_next law settings closed before items i x most more among =
+    subst (λ (xs : List Item). AreAmong settings closed xs most)
+    (ap (λ (xs : List Item). before ++ xs) more ∙ sym (append_assoc before (take i items) (x ∷ []))) among
+
+-- ---- all streams
+
+-- beyond the streams there are, no file is begun
+abbrev most_of : (ℕ → ℕ) → ℕ → ℕ
+most_of begun s = if nat_lt s stream_count then begun s else 0
+
+inside : (begun : ℕ → ℕ) (s : ℕ) → s < stream_count → most_of begun s ≡ begun s
+inside begun s h = ap (λ (b : Bool). if b then begun s else 0) (is_less s stream_count h)
+  where
+    is_less : (n m : ℕ) → n < m → nat_lt n m ≡ true
+    is_less n m k = grind (arith, nat_tests)
+
+outside : (begun : ℕ → ℕ) (s : ℕ) → stream_count ≤ s → most_of begun s ≡ 0
+outside begun s h = ap (λ (b : Bool). if b then begun s else 0) (is_not_less s stream_count h)
+  where
+    is_not_less : (n m : ℕ) → m ≤ n → nat_lt n m ≡ false
+    is_not_less n m k = grind (arith, nat_tests)
+
+shut_from : (begun : ℕ → ℕ) (files : List SealedFile) (unsealed : ℕ → Option UnsealedFile)
+    → AreShut begun files unsealed → (s : ℕ) → most_of begun s ≤ greatest_in s files → unsealed s ≡ None
+shut_from begun files unsealed shut s h =
+    elim (either_way s stream_count) [
+      | inl within ↦ shut.each s within (omega (arith, h, inside begun s within))
+      | inr far ↦ shut.beyond s far
+    ]
+
+shut_to : (begun : ℕ → ℕ) (files : List SealedFile) (unsealed : ℕ → Option UnsealedFile)
+    → ((s : ℕ) → most_of begun s ≤ greatest_in s files → unsealed s ≡ None) → AreShut begun files unsealed
+shut_to begun files unsealed shut = record {
+  each = λ s h few. shut s (omega (arith, few, inside begun s h));
+  beyond = λ s h. shut s (omega (arith, outside begun s h));
+}
+
+pub moves_shut : {A : Type 0} (tells : Ghosts A) (settings : Settings) (closed : ℕ → ℕ) (items : List Item)
+    (old new : A) → GoesShut tells settings closed (λ s. items) old new
+    → IsTrue tells.tells_files → IsTrue tells.tells_plan → (most : ℕ → ℕ) → AreAmong settings closed items most
+    → AreShut most (tells.files old) (tells.unsealed old) → AreShut most (tells.files new) (tells.unsealed new)
+moves_shut tells settings closed items old new goes files plan most among shut =
+    shut_to most (tells.files new) (tells.unsealed new)
+    (goes files plan (most_of most) (λ s h. omega (arith, among s h, inside most s h))
+    (shut_from most (tells.files old) (tells.unsealed old) shut))
+
+-- ---- laws
+
+pub shut_grow : DivisionGoesOn → (settings : Settings) (closed : ℕ → ℕ) (items more : List Item)
+    (files : List SealedFile) (unsealed : ℕ → Option UnsealedFile)
+    → AreShut (begun_after settings closed items) files unsealed
+    → AreShut (begun_after settings closed (items ++ more)) files unsealed
+shut_grow law settings closed items more files unsealed shut = record {
+  each = λ s h few. shut.each s h (omega (arith, few, begun_grow law settings closed items more s));
+  beyond = shut.beyond;
+}
+
+none_open : (settings : Settings) (closed : ℕ → ℕ) (items : List Item) (s n : ℕ)
+    → begun_after settings closed items s ≤ n → n ≤ closed s + closed_of settings s items
+    → (stream_division settings s items).left_open ≡ []
+none_open settings closed items s n few most =
+    none_counted (stream_division settings s items).left_open (omega (arith, few, most))
+
+pub open_shut : (settings : Settings) (closed : ℕ → ℕ) (items : List Item) (files : List SealedFile)
+    (unsealed : ℕ → Option UnsealedFile)
+    → ((s : ℕ) → s < stream_count → greatest_in s files ≤ closed s + closed_of settings s items)
+    → AreOpenFiles settings closed items unsealed → AreShut (begun_after settings closed items) files unsealed
+open_shut settings closed items files unsealed most are = record {
+  each = λ s h few.
+      subst (λ (run : List (Filed (List ℕ))). IsOpenFile (record {
+        stream = s;
+        sequence = closed s + closed_of settings s items + 1;
+      }) run (unsealed s)) (none_open settings closed items s (greatest_in s files) few (most s h)) (are.each s h);
+  beyond = are.beyond;
+}
+
+pub shut_open : (settings : Settings) (closed sealed : ℕ → ℕ) (items : List Item) (files : List SealedFile)
+    (old new : ℕ → Option UnsealedFile)
+    → ((s : ℕ) → s < stream_count
+    → (closed s ≤ sealed s) × (sealed s ≤ closed s + closed_of settings s items) × (sealed s ≡ greatest_in s files))
+    → AreShut (begun_after settings closed items) files old → LeavesUnsealed settings closed sealed [] items old new
+    → AreOpenFiles settings closed items new
+shut_open settings closed sealed items files old new firsts shut leaves = record {
+  each = λ s h.
+      let first : ℕ = closed s + closed_of settings s [] in
+      elim (either_way (max first (sealed s)) (closed s + begun_of settings s items)) [
+        | inl wrote ↦ leaves.wrote s h wrote
+        | inr none ↦
+            let low = (firsts s h).0 in
+            let no_file : closed_of settings s [] ≡ 0 = refl in
+            let few : begun_after settings closed items s ≤ sealed s = omega (arith, none, low, no_file) in
+            let gone : old s ≡ None = shut.each s h (omega (arith, few, (firsts s h).2)) in
+            subst (λ (run : List (Filed (List ℕ))). IsOpenFile (record {
+              stream = s;
+              sequence = closed s + closed_of settings s items + 1;
+            }) run (new s)) (sym (none_open settings closed items s (sealed s) few (firsts s h).1))
+            (leaves.stays s h none ∙ gone)
+      ];
+  beyond = λ s h. leaves.beyond s h ∙ shut.beyond s h;
+}

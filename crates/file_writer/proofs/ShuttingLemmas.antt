@@ -1,0 +1,176 @@
+-- Calls keep streams shut of which all files are sealed, whatever comes of them.
+use Rattle.std.proofs.Common.{◌≡◌, ◌≢◌, inl, inr, ℕ, ◌<◌, ◌≤◌, ◌==◌, max, Bool, true, false, if◌then◌else◌, IsTrue, List, [], ◌∷◌, ◌++◌, None, Some, Result, refl, sym, ap, ◌∙◌, subst, arith}
+use Rattle.std.proofs.lemmas.Bool.Decides.{nat_tests}
+use Rattle.area_disk.specs.declared.plan.Fate.{Fate}
+use Rattle.area_disk.specs.declared.plan.Fate.TheVariants.{Runs, Fails, Stops}
+use Rattle.area_disk.specs.Plan.{next_fate}
+use Rattle.cdr_shelf.specs.Calls.{Seals, State, Steps, Told}
+use Rattle.cdr_shelf.specs.FileLaws.{greatest_in-append}
+use Rattle.cdr_shelf.specs.Files.{SealedFile, Unsealed, UnsealedFile, greatest_in, number_in, sealed_as}
+use Rattle.cdr_shelf.specs.Steps.{LeavesAfter, SealLeaves, files_after, is_done, left_by, left_unsealed, seal_step, synced, written}
+use Rattle.cdr_shelf.specs.declared.file_name.FileName.{FileName}
+use Rattle.cdr_shelf.specs.declared.shelf.Shelf.{Ghosts}
+use Rattle.file_writer.specs.Shutting.{BeginsShut, StaysShut}
+use Rattle.file_writer.proofs.AllLemmas.{is_same}
+
+-- ---- one call
+
+-- streams of which so many files are sealed have nothing unsealed
+abbrev Shut : (ℕ → ℕ) → List SealedFile → (ℕ → Unsealed) → Type 0
+Shut most files unsealed = (s : ℕ) → most s ≤ greatest_in s files → unsealed s ≡ None
+
+-- after a call with a fate, where a stream that is shut stays so by the call's step
+by_fate : (fate : Fate) (most : ℕ → ℕ) (old_files new_files : List SealedFile) (stream : ℕ)
+    (step : Unsealed → Unsealed) (old new : ℕ → Unsealed)
+    → (most stream ≤ greatest_in stream new_files → step (old stream) ≡ None)
+    → ((s : ℕ) → s ≢ stream → greatest_in s new_files ≡ greatest_in s old_files)
+    → (fate ≡ Fails → greatest_in stream new_files ≡ greatest_in stream old_files)
+    → LeavesAfter fate stream step old new → Shut most old_files old → Shut most new_files new
+by_fate Runs most old_files new_files stream step old new here same failed leaves shut s h =
+    elim (is_same stream s) [
+      | inl e ↦
+          let there : most stream ≤ greatest_in stream new_files =
+          subst (λ (k : ℕ). most k ≤ greatest_in k new_files) e h in
+          ap new e ∙ leaves.here ∙ here there
+      | inr other ↦ leaves.others s other ∙ shut s (omega (arith, h, same s other))
+    ]
+by_fate Fails most old_files new_files stream step old new here same failed leaves shut s h =
+    elim (is_same stream s) [
+      | inl e ↦
+          let g : greatest_in s new_files ≡ greatest_in s old_files =
+          subst (λ (k : ℕ). greatest_in k new_files ≡ greatest_in k old_files) (sym e) (failed refl) in
+          leaves s ∙ shut s (omega (arith, h, g))
+      | inr other ↦ leaves s ∙ shut s (omega (arith, h, same s other))
+    ]
+by_fate (Stops outcome) most old_files new_files stream step old new here same failed leaves shut s h =
+    elim (is_same stream s) [
+      | inl e ↦
+          let there : most stream ≤ greatest_in stream new_files =
+          subst (λ (k : ℕ). most k ≤ greatest_in k new_files) e h in
+          ap new e ∙ leaves.here ∙ ap (left_by outcome) (here there)
+      | inr other ↦ leaves.others s other ∙ ap (left_by outcome) (shut s (omega (arith, h, same s other)))
+    ]
+
+-- a call that seals nothing
+steps_shut : {T E : Type 0} (told : Told) (stream : ℕ) (step : Unsealed → Unsealed) (starved : Bool) (old new : State)
+    (result : Result T E) → IsTrue told.files → IsTrue told.plan → Steps told stream step starved old new result
+    → (most : ℕ → ℕ)
+    → (most stream ≤ greatest_in stream old.files → old.unsealed stream ≡ None → step (old.unsealed stream) ≡ None)
+    → Shut most old.files old.unsealed → Shut most new.files new.unsealed
+steps_shut told stream step true old new result files plan e most here shut s h =
+    (e.no_memory refl).2 s ∙ shut s (subst (λ (fs : List SealedFile). most s ≤ greatest_in s fs) e.files h)
+steps_shut told stream step false old new result files plan e most here shut s h =
+    by_fate (next_fate old.plan) most old.files old.files stream step old.unsealed new.unsealed
+    (λ k. here k (shut stream k)) (λ t other. refl) (λ f. refl) (e.leaves files plan refl) shut s
+    (subst (λ (fs : List SealedFile). most s ≤ greatest_in s fs) e.files h)
+
+module _ {A : Type 0} (tells : Ghosts A) (old new : A) where
+  abbrev state : A → State
+  state shelf = record {
+    files = tells.files shelf;
+    unsealed = tells.unsealed shelf;
+    calls = tells.calls shelf;
+    plan = tells.plan shelf;
+    faults = tells.faults shelf;
+  }
+
+  abbrev told : Told
+  told = record { files = tells.tells_files; calls = tells.tells_calls; plan = tells.tells_plan }
+
+  nothing_written : (at : ℕ) (from : List ℕ) (u : Unsealed) → u ≡ None → written at from u ≡ None
+  nothing_written at from u e = ap (written at from) e
+
+  pub begins : {T E : Type 0} (name : FileName) (step : Unsealed → Unsealed) (starved : Bool) (result : Result T E)
+      → Steps told name.stream step starved (state old) (state new) result
+      → greatest_in name.stream (tells.files old) < name.sequence
+      → BeginsShut tells name.stream name.sequence old new
+  begins name step starved result e above files plan most within shut =
+      steps_shut told name.stream step starved (state old) (state new) result files plan e most
+      (λ h none. absurd (omega (arith, h, above, within))) shut
+
+  pub writes : {T E : Type 0} (stream at : ℕ) (from : List ℕ) (starved : Bool) (result : Result T E)
+      → Steps told stream (written at from) starved (state old) (state new) result → StaysShut tells old new
+  writes stream at from starved result e files plan most shut =
+      steps_shut told stream (written at from) starved (state old) (state new) result files plan e most
+      (λ h none. ap (written at from) none) shut
+
+  pub syncs : {T E : Type 0} (stream : ℕ) (starved : Bool) (result : Result T E)
+      → Steps told stream synced starved (state old) (state new) result → StaysShut tells old new
+  syncs stream starved result e files plan most shut =
+      steps_shut told stream synced starved (state old) (state new) result files plan e most
+      (λ h none. ap synced none) shut
+
+-- ---- a seal
+
+gone_where : (b : Bool) (f : UnsealedFile) (file : SealedFile)
+    → (if b then record { name = f.name; octets = f.octets } ∷ [] else []) ≡ file ∷ []
+    → (if b then None else Some f) ≡ None
+gone_where true f file e = refl
+gone_where false f file e = absurd (cc)
+
+-- a file that a seal makes stand is gone
+gone : (u : Unsealed) (file : SealedFile) → sealed_as u ≡ file ∷ [] → left_unsealed u ≡ None
+gone None file e = absurd (cc)
+gone (Some f) file e = gone_where f.is_synced f file e
+
+unequal : (a b : ℕ) → a ≢ b → (b == a) ≡ false
+unequal a b h = grind (arith, nat_tests)
+
+-- a name of another stream
+other_number : (s stream : ℕ) (name : FileName) → name.stream ≡ stream → s ≢ stream → number_in s name ≡ 0
+other_number s stream name e h =
+    ap (λ (b : Bool). if b then name.sequence else 0) (unequal s name.stream (λ (same : s ≡ name.stream). h (same ∙ e)))
+
+here_by : (b : Bool) (most : ℕ → ℕ) (stream : ℕ) (u : Unsealed) (files : List SealedFile) (file : SealedFile)
+    → sealed_as u ≡ file ∷ [] → (most stream ≤ greatest_in stream files → u ≡ None)
+    → most stream ≤ greatest_in stream (if b then files ++ sealed_as u else files)
+    → (if b then left_unsealed u else u) ≡ None
+here_by true most stream u files file e shut h = gone u file e
+here_by false most stream u files file e shut h = shut h
+
+others_by : (b : Bool) (s stream : ℕ) (u : Unsealed) (files : List SealedFile) (file : SealedFile)
+    → sealed_as u ≡ file ∷ [] → file.name.stream ≡ stream → s ≢ stream
+    → greatest_in s (if b then files ++ sealed_as u else files) ≡ greatest_in s files
+others_by true s stream u files file e own other =
+    let one : greatest_in s (sealed_as u) ≡ max (number_in s file.name) 0 =
+    ap (λ (fs : List SealedFile). greatest_in s fs) e in
+    omega (arith, greatest_in-append s files (sealed_as u), one, other_number s stream file.name own other)
+others_by false s stream u files file e own other = refl
+
+module _ {A : Type 0} (tells : Ghosts A) (old new : A) where
+  pub seals_shut : {T E : Type 0} (stream : ℕ) (result : Result T E)
+      → Seals (told tells old new) stream (state tells old new old) (state tells old new new) result
+      → (file : SealedFile) → sealed_as (tells.unsealed old stream) ≡ file ∷ [] → file.name.stream ≡ stream
+      → StaysShut tells old new
+  seals_shut stream result e file is own files plan most shut =
+      let left : SealLeaves (next_fate (tells.plan old)) stream (tells.unsealed old) (tells.files old)
+      (tells.unsealed new) (tells.files new) = e.leaves files plan in
+      let fate : Fate = next_fate (tells.plan old) in
+      let u : Unsealed = tells.unsealed old stream in
+      subst (λ (fs : List SealedFile). Shut most fs (tells.unsealed new)) (sym left.files)
+      (by_fate fate most (tells.files old) (files_after fate u (tells.files old)) stream (seal_step fate)
+      (tells.unsealed old) (tells.unsealed new)
+      (here_by (is_done fate) most stream u (tells.files old) file is (shut stream))
+      (λ s other. others_by (is_done fate) s stream u (tells.files old) file is own other)
+      (λ f. ap (λ (x : Fate). greatest_in stream (files_after x u (tells.files old))) f)
+      left.unsealed shut)
+
+-- ---- calls one after the other
+
+pub then_shut : {A : Type 0} (tells : Ghosts A) (old mid new : A) → StaysShut tells old mid → StaysShut tells mid new
+    → StaysShut tells old new
+then_shut tells old mid new first second files plan most shut = second files plan most (first files plan most shut)
+
+pub begun_then : {A : Type 0} (tells : Ghosts A) (s sequence : ℕ) (old mid new : A)
+    → BeginsShut tells s sequence old mid → StaysShut tells mid new → BeginsShut tells s sequence old new
+begun_then tells s sequence old mid new first second files plan most within shut =
+    second files plan most (first files plan most within shut)
+
+pub then_begun : {A : Type 0} (tells : Ghosts A) (s sequence : ℕ) (old mid new : A) → StaysShut tells old mid
+    → BeginsShut tells s sequence mid new → BeginsShut tells s sequence old new
+then_begun tells s sequence old mid new first second files plan most within shut =
+    second files plan most within (first files plan most shut)
+
+pub any_begun : {A : Type 0} (tells : Ghosts A) (s sequence : ℕ) (old new : A) → StaysShut tells old new
+    → BeginsShut tells s sequence old new
+any_begun tells s sequence old new stays files plan most within shut = stays files plan most shut
