@@ -141,6 +141,13 @@ impl Node {
         self.counter
     }
 
+    /// The place of the gateway to which the next new copy of a packet goes.
+    pub fn favourite(&self) -> u8
+        ensures { result ≡ self.now.favourite_place }
+    {
+        self.favourite
+    }
+
     /// How many packets were submitted, became resolved and became done, over all starts.
     pub fn counts(&self) -> NodeCounts
         ensures { result ≡ counts_of self.now }

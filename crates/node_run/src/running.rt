@@ -8,6 +8,7 @@ ghost use Rattle.node_run.specs.Steps.{RunsOn, TurnsEnd, end_by};
 
 use crate::hearing::other_port;
 use crate::linked::{LinkedNode, NodeEnd, Work};
+use crate::watch::NodeWatch;
 use net_link::{Link, LinkStop};
 use node_core::Port;
 use std::alloc::Global;
@@ -36,8 +37,15 @@ fn end_by(stop: LinkStop) -> NodeEnd
 impl<L: Link> LinkedNode<L> {
     /// Lets the node run over its links, which are new. It submits packets while fewer than 64 are open, ticks before
     /// its first turn and after each in which nothing came, and ends once all its packets are done or its turns are
-    /// taken. A fault of a link or want of memory ends it, too.
-    pub fn run(self, alloc: Global, work: Work) -> (NodeEnd, LinkedNode<L>)
+    /// taken. A fault of a link or want of memory ends it, too. The watch is told of each turn, as of the node in this
+    /// place.
+    pub fn run<W: NodeWatch>(
+        self,
+        alloc: Global,
+        work: Work,
+        place: usize,
+        watch: &W,
+    ) -> (NodeEnd, LinkedNode<L>)
         requires new { AreNewLinks L.Link self }
         requires runs { self.node.is_running ≡ true }
         requires few { work.turns < 2 ^ 63 }
@@ -56,7 +64,8 @@ impl<L: Link> LinkedNode<L> {
             port: Port::First,
             left: work.turns,
         };
-        let (end, run) = take_turns(alloc, run, work.packets, buffer.as_mut_slice());
+        let buffer = buffer.as_mut_slice();
+        let (end, run) = take_turns(alloc, run, work.packets, buffer, place, watch);
         (end, run.linked)
     }
 
@@ -68,12 +77,14 @@ impl<L: Link> LinkedNode<L> {
     }
 }
 
-/// Takes the turns that are left, until all packets are done.
-fn take_turns<L: Link>(
+/// Takes the turns that are left, until all packets are done, and tells the watch of each.
+fn take_turns<L: Link, W: NodeWatch>(
     alloc: Global,
     run: NodeRun<L>,
     packets: u32,
     buffer: &mut [u8],
+    place: usize,
+    watch: &W,
 ) -> (NodeEnd, NodeRun<L>)
     requires runs { run.linked.node.is_running ≡ true }
     requires long { most_octets ≤ length buffer.old }
@@ -92,6 +103,7 @@ fn take_turns<L: Link>(
             return (end_by(stop), run);
         }
         run.port = other_port(run.port);
+        watch.turned(place, &run.linked.node);
     }
     if run.linked.is_done(packets) {
         return (NodeEnd::Done, run);
