@@ -71,8 +71,8 @@ module _ (told : Bool) (session : ℕ) (job : Job) where
   abbrev pub HasSent : LinkState → LinkState → List ℕ → Type 0
   HasSent old new octets = new ≡ record old { sent = with_one (record { peer = job.from; octets = octets }) old.sent }
 
-  -- What is told where the pass took these turns for other jobs between the turn that took this one's datagram and what
-  -- followed it: none where the job is served by itself.
+  -- What is told where the pass took these turns between the one that took the job's datagram and what followed it: none
+  -- where the job is served by itself.
   module _ (between : List KeptTurn) (before after : Knowledge) (old new : LinkState) where
     -- A reply was sent, and all that it rests on was known to be firm before.
     pub record HasRepliedBehind (cause : Option ℕ) (front : ℕ) : Type 0 where

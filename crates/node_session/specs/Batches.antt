@@ -1,5 +1,5 @@
 -- What contracts see of a batch of jobs.
-use Rattle.std.specs.Prelude.{◌≡◌, ℕ, ◌≤◌, Bool, List, length, nat_le, vec_capacity, vec_len}
+use Rattle.std.specs.Prelude.{◌≡◌, ℕ, ◌≤◌, ◌==◌, Bool, List, length, nat_le, vec_capacity, vec_len}
 use Rattle.gateway_book.specs.declared.outcome.Outcome.{Outcome}
 use Rattle.job_inbox.specs.declared.job.Job.{Job}
 use Rattle.node_session.specs.declared.job_batch.JobBatch.{JobBatch}
@@ -15,6 +15,9 @@ outcomes_of batch = batch.outcomes.items
 -- the datagram of each job was taken
 abbrev pub AreAllTaken : JobBatch → Type 0
 AreAllTaken batch = length batch.outcomes.items ≡ length batch.jobs.items
+
+abbrev pub are_all_taken : JobBatch → Bool
+are_all_taken batch = length batch.outcomes.items == length batch.jobs.items
 
 -- what became of each, once they were served
 abbrev pub served_of : JobBatch → List Served

@@ -73,7 +73,7 @@ module _ (told : Bool) (session : ℕ) where
       (t.found.size ≡ size) × WhereTold told ((t.added ≡ []) ⊎ (t.added ≡ called_at told session job t))
       × AreFirstsOf size jobs firsts
 
-  -- The pass keeps one turn more for each job, which took its datagram, in order; and behind them at most one for each,
+  -- The pass keeps one turn more for each job, which took its datagram, in order; and behind them at most so many in all,
   -- which added nothing.
   pub record KeepsTurnsOf (jobs : List Job) (before after : Knowledge) : Type 0 where
     pub firsts : List KeptTurn
@@ -86,7 +86,8 @@ module _ (told : Bool) (session : ℕ) where
     pub adds_none : All (λ t. t.added ≡ []) later
 
   -- What is told of one of the jobs. Its datagram was taken in the turn that leads from the first knowledge to the next
-  -- one; what followed for it leads from the third to the last, and from one state of the link to the other.
+  -- one; what followed for it leads from the third to the last, and from one state of the link to the other. `between`
+  -- are the turns between the two.
   pub record TellsNext (job : Job) (result : Served) (before next taken now : Knowledge) (old sent : LinkState)
       : Type 0 where
     pub first : KeptTurn

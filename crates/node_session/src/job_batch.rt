@@ -20,7 +20,7 @@ pub struct JobBatch {
 
 impl JobBatch {
     ghost use Rattle.std.specs.Prelude.{◌≡◌, ◌<◌, ℕ, [], ◌∷◌, ◌++◌, false, true, IfOk};
-    ghost use Rattle.node_session.specs.Batches.{AreAllTaken, HasRoomFor, is_full, jobs_of, outcomes_of, served_of};
+    ghost use Rattle.node_session.specs.Batches.{AreAllTaken, HasRoomFor, are_all_taken, is_full, jobs_of, outcomes_of, served_of};
 
     /// A batch without a job, and with room for so many.
     pub fn new(alloc: Global, room: usize) -> Result<JobBatch, NoMemory>
@@ -71,7 +71,8 @@ impl JobBatch {
 
     /// Whether the datagram of each job was taken.
     pub fn are_all_taken(&self) -> bool
-        ensures { result ≡ true → AreAllTaken self.now }
+        ensures value { result ≡ are_all_taken self.now }
+        ensures taken { result ≡ true → AreAllTaken self.now }
     {
         self.outcomes.len() == self.jobs.len()
     }

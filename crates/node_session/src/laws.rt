@@ -22,7 +22,8 @@ pub fn each_entry_is_an_answer()
 {}
 
 /// What is told of jobs that a session served together at this gate, as `take` and `go_on` serve them: the turns that its
-/// pass keeps, what was sent for each, what the gate may have answered, and that all that it added are answers to its jobs.
+/// pass keeps, what was sent for each, and what the gate may have answered. Where a pass keeps such turns of its session,
+/// all that it added are answers to its jobs.
 pub fn what_served_jobs_tell<A: Area, G: Gate>(gate: &G)
     ensures turns { (session : ℕ) (jobs : List Job) (old new : LinkState) (results : List Served)
         (before after : Knowledge) →

@@ -16,6 +16,7 @@ pub enum Served {
     Link,
     /// The gate told that it is over. Nothing was sent.
     Over,
-    /// There was no memory. An entry that was made stands, and the reply is lost.
+    /// The link had no memory to send, and sent nothing. Either a reply was to go, and the entry that its answer called
+    /// for is firm; or a commit or an opening again had failed, as for `Lost`, and the entry may be gone.
     NoMemory,
 }

@@ -109,7 +109,8 @@ impl Worker {
     ghost use Rattle.turn_cell.specs.declared.knowing.Knowledge.{Knowledge};
 
     /// Takes the datagrams of those jobs of a batch that have no outcome yet: it waits once, and takes each in a turn, as
-    /// `serve_one` does. It takes no memory.
+    /// `serve_one` does. It takes no memory. The outcomes that the batch has are those of this session's turns since it
+    /// was cleared: of others no clause tells what was taken.
     pub fn take<A: Area, R: Wait>(&mut self, rt: &R, cell: &TurnCell<Book<A>>, batch: &mut JobBatch)
         requires own { IsWorkerOf cell.now self.old }
         ensures own { IsWorkerOf cell.now self.new × (session_of self.new ≡ session_of self.old) }
@@ -132,8 +133,8 @@ impl Worker {
     }
 
     /// Goes on with the jobs of a batch, whose datagrams were all taken, as `serve_one` does with one, in order: a
-    /// commit makes all their answers firm. What became of each is in the batch then. It takes no memory, but where
-    /// the link does.
+    /// commit makes all their answers firm. What became of each is in the batch then, which is to be cleared before it
+    /// is used again. It takes no memory, but where the link does.
     pub fn go_on<A: Area, G: Gate, L: Link, R: Wait>(
         &mut self,
         rt: &R,
