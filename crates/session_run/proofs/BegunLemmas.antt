@@ -20,15 +20,17 @@ use Rattle.node_session.specs.Writing as writing
 use Rattle.node_session.specs.declared.actor.FileActor.{FileActor}
 use Rattle.turn_cell.specs.Cell as cells
 use Rattle.turn_cell.specs.Knowing.{newcomer, newcomers}
+use Rattle.turn_cell.specs.Placed.{added_by}
 use Rattle.turn_cell.specs.declared.cell.Pass.{Pass}
 use Rattle.turn_cell.specs.declared.cell.TurnCell.{TurnCell}
 use Rattle.turn_cell.specs.declared.knowing.KeptTurn.{KeptTurn}
 use Rattle.turn_cell.specs.declared.knowing.Knowledge.{Knowledge}
-use Rattle.session_run.specs.Desks.{AreRepliesTo, HasWorked, IsReplyTo, IsSince, began_at, hand_at, known_at, link_at}
+use Rattle.session_run.specs.Desks.{AreRepliesTo, HasWorked, IsSince, RepliesTo, began_at, hand_at, known_at, link_at}
 use Rattle.session_run.specs.Ending.{AreNumbered, IsFresh, IsSeated, known_among, links_of, passes_among}
 use Rattle.session_run.specs.Filing.{HasWritten}
+use Rattle.session_run.specs.History.{AnswersJob, InTurn}
 use Rattle.session_run.specs.Latest.{latest}
-use Rattle.session_run.specs.Reception.{CountsTurns, HasDispatched, IfTurns, PushedOfTold, link_of}
+use Rattle.session_run.specs.Reception.{ArePushed, CountsTurns, HasDispatched, IfTurns, link_of}
 use Rattle.session_run.specs.Running.{IsFew}
 use Rattle.session_run.specs.Team.{AreDesksOf, HaveServed, IsReady, IsTeamOf}
 use Rattle.session_run.specs.declared.desk.Desk.{Desk}
@@ -37,11 +39,11 @@ use Rattle.session_run.specs.declared.round.Team.{Team}
 use Rattle.session_run.specs.declared.running.Seats.{Seats}
 use Rattle.session_run.specs.declared.until.Until.{Until}
 use Rattle.session_run.specs.declared.until.Until.TheVariants as until
-use Rattle.session_run.proofs.ReceptionLemmas.{pushed_idle}
+use Rattle.session_run.proofs.ReceptionLemmas.{all_idle}
 
 none_sent : (jobs : List _) (k : Knowledge) (sent : Option (List Datagram)) → IfSome sent (λ list. list ≡ []) → AreRepliesTo jobs k sent
 none_sent jobs k None is = tt
-none_sent jobs k (Some list) is = subst (All (IsReplyTo jobs k)) (sym is) (All-nil (IsReplyTo jobs k))
+none_sent jobs k (Some list) is = subst (λ (l : List Datagram). InTurn (RepliesTo k) jobs l) (sym is) tt
 
 none_added : (jobs : List _) (k : Knowledge) → k.turns ≡ [] → AddsAnswers jobs k
 none_added jobs k none = subst (λ (ts : List KeptTurn). All (IsAnswerTo k.size k.number jobs) ts) (sym none) (All-nil (IsAnswerTo k.size k.number jobs))
@@ -57,25 +59,23 @@ module _ {L : Type 0} (tells : paths.Ghosts L) (told : Bool) (at : Addr) (start 
     since = subst (λ (ts : List KeptTurn). All (IsSince start.faults) ts) (sym (ap (λ (k : Knowledge). k.turns) knows)) (All-nil (IsSince start.faults));
     none_put = ap (λ (h : Hand). h.put) hand;
     last = fresh.unused ∙ sym (ap (λ (h : Hand). latest h.taken) hand);
-    answers = λ y. none_added (hand_at desk).taken (known_at desk) (ap (λ (k : Knowledge). k.turns) knows);
+    answers = λ y. subst (λ (ts : List KeptTurn). InTurn (AnswersJob start.size n) (hand_at desk).taken (added_by ts))
+        (sym (ap (λ (k : Knowledge). k.turns) knows)) tt;
     replies = λ y. none_sent (hand_at desk).taken (known_at desk) (link_at tells desk).sent new.sent;
     link = record { address = new.at; turns = new.turns; received = new.received };
     cause = λ is. absurd (cc (sym fresh.runs ∙ is));
     no_clock = λ is. cc (sym fresh.runs ∙ is);
   }
 
-  all_idle : (hands : List Hand) (told' : Option (List Datagram)) → hands ≡ idle ∷ idle ∷ idle ∷ idle ∷ [] → All (PushedOfTold told') hands
-  all_idle hands told' is = subst (All (PushedOfTold told')) (sym is)
-      (All-cons (PushedOfTold told') idle (idle ∷ idle ∷ idle ∷ []) (pushed_idle told')
-      (All-cons (PushedOfTold told') idle (idle ∷ idle ∷ []) (pushed_idle told')
-      (All-cons (PushedOfTold told') idle (idle ∷ []) (pushed_idle told')
-      (All-cons (PushedOfTold told') idle [] (pushed_idle told') (All-nil (PushedOfTold told'))))))
+  hands_idle : (hands : List Hand) (heard : Option (List Datagram)) → hands ≡ idle ∷ idle ∷ idle ∷ idle ∷ []
+      → ArePushed (length hands) 0 heard hands
+  hands_idle hands heard is = subst (λ (hs : List Hand). ArePushed (length hs) 0 heard hs) (sym is) (all_idle 4 0 heard 4)
 
   -- a reception that has received nothing
   pub reception_begun : (reception : Reception L) → hands_of reception.dispatcher ≡ idle ∷ idle ∷ idle ∷ idle ∷ []
       → IsNewAt at (link_of tells reception) → reception.stop ≡ None → HasDispatched tells at reception
   reception_begun reception hands new runs = record {
-    pushed = all_idle (hands_of reception.dispatcher) (link_of tells reception).received hands;
+    pushed = hands_idle (hands_of reception.dispatcher) (link_of tells reception).received hands;
     address = new.at;
     unsent = new.sent;
     cause = λ is. absurd (cc (sym runs ∙ is));

@@ -3,7 +3,7 @@ use Rattle.std.proofs.Common.{◌≡◌, ◌⊎◌, ⊎_elim, inl, inr, ℕ, ◌
 use Rattle.std.specs.Prelude.{All, IfSome, MatchOption}
 use Rattle.std.specs.List.{Contains}
 use Rattle.std.proofs.lemmas.List.{append-nil}
-use Rattle.std.proofs.lemmas.List.Elements.{All-push, All-weaker, Contains-append_left, Contains-append_right}
+use Rattle.std.proofs.lemmas.List.Elements.{All-push, Contains-append_left, Contains-append_right}
 use Rattle.area_disk.specs.Disk as disk
 use Rattle.area_disk.specs.declared.area.Area.{Ghosts}
 use Rattle.gateway_book.specs.Answer.{Says, failure_reply, reply_in}
@@ -31,8 +31,9 @@ use Rattle.turn_cell.specs.Knowing.{Saw, kept}
 use Rattle.turn_cell.specs.Passes.{Took}
 use Rattle.turn_cell.specs.declared.knowing.KeptTurn.{KeptTurn}
 use Rattle.turn_cell.specs.declared.knowing.Knowledge.{Knowledge}
-use Rattle.session_run.specs.Desks.{AreRepliesTo, HasFailedSince, HearsNothing, IsReplyTo, IsSince}
+use Rattle.session_run.specs.Desks.{AreRepliesTo, HasFailedSince, HearsNothing, IsSince, RepliesTo}
 use Rattle.session_run.specs.History.{IsAnswered, TellsFailure, datagram_of}
+use Rattle.session_run.proofs.InTurnLemmas.{in_turn_both, in_turn_more, in_turn_weaker}
 
 abbrev Entries : Type 0
 Entries = List HistoryEntry
@@ -133,24 +134,19 @@ module _ {A : Type 0} (tells : Ghosts A) where
 
 -- ---- what was sent
 
-abbrev pub Within : List Job → List Job → Type 0
-Within jobs all = (j : Job) → Contains jobs j → Contains all j
-
 pub more_turns : (told : Bool) (before after : Knowledge) → GoesFrom told before after → (t : KeptTurn) → Contains before.turns t
     → Contains after.turns t
 more_turns told before after goes t has =
     subst (λ (ts : List KeptTurn). Contains ts t) (sym goes.turns) (Contains-append_left before.turns goes.later t has)
 
-module _ (told : Bool) (jobs all : List Job) (within : Within jobs all) (before after : Knowledge) (goes : GoesFrom told before after) where
+module _ (told : Bool) (before after : Knowledge) (goes : GoesFrom told before after) (y : told ≡ true) where
   -- a reply stays one
-  reply_stays : told ≡ true → (d : Datagram) → IsReplyTo jobs before d → IsReplyTo all after d
-  reply_stays y d r = record {
-    job = r.job;
-    was_taken = within r.job r.was_taken;
+  reply_stays : (job : Job) (d : Datagram) → RepliesTo before job d → RepliesTo after job d
+  reply_stays job d r = record {
     peer = r.peer;
     says = ⊎_elim
-        (λ (a : IsAnswered before.size before.known (datagram_of r.job) d.octets).
-        inl (subst (λ (n : ℕ). IsAnswered n after.known (datagram_of r.job) d.octets) (sym goes.size)
+        (λ (a : IsAnswered before.size before.known (datagram_of job) d.octets).
+        inl (subst (λ (n : ℕ). IsAnswered n after.known (datagram_of job) d.octets) (sym goes.size)
         (record {
           history = a.history;
           act = a.act;
@@ -159,42 +155,47 @@ module _ (told : Bool) (jobs all : List Job) (within : Within jobs all) (before 
           who = a.who;
           rests = begins_then (a.history ++ entries_of a.history a.now a.who a.act) before.known after.known a.rests (goes.known y);
         })))
-        (λ (f : TellsFailure (datagram_of r.job) d.octets × HasFailedSince before).
+        (λ (f : TellsFailure (datagram_of job) d.octets × HasFailedSince before).
         inr (f.0, (f.1.0, more_turns told before after goes f.1.0 f.1.1, subst (λ (n : ℕ). disk.Rose n f.1.0.left.faults) (sym goes.faults) f.1.2)))
         r.says;
   }
 
-  pub replies_stay : told ≡ true → (sent : Option (List Datagram)) → AreRepliesTo jobs before sent → AreRepliesTo all after sent
-  replies_stay y None are = tt
-  replies_stay y (Some list) are = All-weaker (IsReplyTo jobs before) (IsReplyTo all after) (reply_stays y) list are
+  pub replies_stay : (jobs : List Job) (sent : Option (List Datagram)) → AreRepliesTo jobs before sent → AreRepliesTo jobs after sent
+  replies_stay jobs None are = tt
+  replies_stay jobs (Some list) are = in_turn_weaker (RepliesTo before) (RepliesTo after) reply_stays jobs list are
 
--- Behind one of the jobs: it is among all that were taken, `before` is in front of its first turn, `taken` in front of what
--- followed, and `after` behind that.
-module _ (told : Bool) (session : ℕ) (job : Job) (jobs : List Job) (has_job : Contains jobs job) (between : List KeptTurn)
+-- Behind one more job: `before` is in front of its first turn, `taken` in front of what followed, and `after` behind that.
+-- What was sent before are replies to the jobs in front of it.
+module _ (told : Bool) (session : ℕ) (job : Job) (done : List Job) (between : List KeptTurn)
     (before taken after : Knowledge) (goes : GoesFrom told taken after) (same_size : before.size ≡ after.size)
-    (all_at : (t : KeptTurn) → Contains after.turns t → IsSince after.faults t) (old new : LinkState) where
-  stay : told ≡ true → (sent : Option (List Datagram)) → AreRepliesTo jobs taken sent → AreRepliesTo jobs after sent
-  stay y sent are = replies_stay told jobs jobs (λ j has. has) taken after goes y sent are
+    (all_at : (t : KeptTurn) → Contains after.turns t → IsSince after.faults t) (old new : LinkState) (y : told ≡ true)
+    (are : AreRepliesTo done taken old.sent) where
+  none_more : (sent : Option (List Datagram)) → AreRepliesTo done taken sent → AreRepliesTo (done ++ job ∷ []) after sent
+  none_more None were = tt
+  none_more (Some list) were =
+      in_turn_more (RepliesTo after) done list (job ∷ []) (replies_stay told taken after goes y done (Some list) were)
 
-  one_more : told ≡ true → (sent : Option (List Datagram)) (d : Datagram) → IsReplyTo jobs after d → AreRepliesTo jobs taken sent
-      → AreRepliesTo jobs after (with_one d sent)
-  one_more y None d is are = tt
-  one_more y (Some list) d is are = All-push (IsReplyTo jobs after) list d (stay y (Some list) are) is
+  one_more : (sent : Option (List Datagram)) (d : Datagram) → RepliesTo after job d → AreRepliesTo done taken sent
+      → AreRepliesTo (done ++ job ∷ []) after (with_one d sent)
+  one_more None d is were = tt
+  one_more (Some list) d is were =
+      in_turn_both (RepliesTo after) done list (job ∷ []) (d ∷ []) (replies_stay told taken after goes y done (Some list) were)
+      (inl (is, tt))
 
   new_reply : (octets : List ℕ) → IsAnswered after.size after.known (datagram_of job) octets
       ⊎ (TellsFailure (datagram_of job) octets × HasFailedSince after)
-      → IsReplyTo jobs after (record { peer = job.from; octets = octets })
-  new_reply octets says = record { job = job; was_taken = has_job; peer = refl; says = says }
+      → RepliesTo after job (record { peer = job.from; octets = octets })
+  new_reply octets says = record { peer = refl; says = says }
 
   -- a turn of the job that stands in what the pass keeps
   kept_turn : (first : KeptTurn) (later : List KeptTurn) → after.turns ≡ before.turns ++ first ∷ later → Contains after.turns first
   kept_turn first later is = subst (λ (ts : List KeptTurn). Contains ts first) (sym is)
       (Contains-append_right before.turns (first ∷ later) first (0, omega arith, refl))
 
-  replied_says : (cause : Option ℕ) (front : ℕ) → told ≡ true
+  replied_says : (cause : Option ℕ) (front : ℕ)
       → (r : HasRepliedBehind told session job between before after old new cause front)
       → IsAnswered after.size after.known (datagram_of job) r.reply ⊎ (TellsFailure (datagram_of job) r.reply × HasFailedSince after)
-  replied_says cause front y r =
+  replied_says cause front r =
       let size : r.first.found.size ≡ after.size = r.size ∙ same_size in
       let has = kept_turn r.first (between ++ r.later) r.turns in
       ⊎_elim
@@ -212,15 +213,14 @@ module _ (told : Bool) (session : ℕ) (job : Job) (jobs : List Job) (has_job : 
       ))
       (r.answers y)
 
-  lost_on : told ≡ true → (l : HasLostBehind told session job between before after old new) → AreRepliesTo jobs taken old.sent
-      → AreRepliesTo jobs after new.sent
-  lost_on y l are = by_reply (failure_reply (prepared_of job.octets)) refl l.sent
+  lost_on : (l : HasLostBehind told session job between before after old new) → AreRepliesTo (done ++ job ∷ []) after new.sent
+  lost_on l = by_reply (failure_reply (prepared_of job.octets)) refl l.sent
     where
       by_reply : (o : Option (List ℕ)) → failure_reply (prepared_of job.octets) ≡ o
           → MatchOption o (new ≡ old) (λ octets. new ≡ record old { sent = with_one (record { peer = job.from; octets = octets }) old.sent })
-          → AreRepliesTo jobs after new.sent
+          → AreRepliesTo (done ++ job ∷ []) after new.sent
       by_reply None is same =
-          subst (λ (s : LinkState). AreRepliesTo jobs after s.sent) (sym same) (stay y old.sent are)
+          subst (λ (s : LinkState). AreRepliesTo (done ++ job ∷ []) after s.sent) (sym same) (none_more old.sent are)
       by_reply (Some octets) is sent =
           let has = kept_turn l.first (between ++ l.second ∷ []) l.turns in
           let also : Contains after.turns l.second = subst (λ (ts : List KeptTurn). Contains ts l.second) (sym l.turns)
@@ -230,24 +230,24 @@ module _ (told : Bool) (session : ℕ) (job : Job) (jobs : List Job) (has_job : 
           let rose : disk.Rose after.faults l.second.left.faults =
           device_rose_since after.faults l.first.left.faults l.second.left.faults
           (let a = first.found in let b = first.left in omega (arith, a, b)) l.rose in
-          subst (λ (s : LinkState). AreRepliesTo jobs after s.sent) (sym sent)
-          (one_more y old.sent (record { peer = job.from; octets = octets })
+          subst (λ (s : LinkState). AreRepliesTo (done ++ job ∷ []) after s.sent) (sym sent)
+          (one_more old.sent (record { peer = job.from; octets = octets })
           (new_reply octets (inr (is, (l.second, also, rose)))) are)
 
-  unsent : told ≡ true → new.sent ≡ old.sent → AreRepliesTo jobs taken old.sent → AreRepliesTo jobs after new.sent
-  unsent y same are = subst (λ s. AreRepliesTo jobs after s) (sym same) (stay y old.sent are)
+  unsent : new.sent ≡ old.sent → AreRepliesTo (done ++ job ∷ []) after new.sent
+  unsent same = subst (λ s. AreRepliesTo (done ++ job ∷ []) after s) (sym same) (none_more old.sent are)
 
-  -- what was sent stays replies to jobs that were taken
-  pub sent_on : (result : Served) → TellsBehind told session job between before after old new result → told ≡ true
-      → AreRepliesTo jobs taken old.sent → AreRepliesTo jobs after new.sent
-  sent_on (served.Replied cause front) r y are =
-      subst (λ (s : LinkState). AreRepliesTo jobs after s.sent) (sym r.sent)
-      (one_more y old.sent (record { peer = job.from; octets = r.reply }) (new_reply r.reply (replied_says cause front y r)) are)
-  sent_on (served.Dropped why) d y are = unsent y (ap (λ (s : LinkState). s.sent) d.unsent) are
-  sent_on served.Lost l y are = lost_on y l are
-  sent_on served.Link f y are = unsent y (ap (λ (s : LinkState). s.sent) f.rest) are
-  sent_on served.Over same y are = unsent y (ap (λ (s : LinkState). s.sent) same) are
-  sent_on served.NoMemory same y are = unsent y (ap (λ (s : LinkState). s.sent) same) are
+  -- what was sent stays replies to jobs in turn
+  pub sent_on : (result : Served) → TellsBehind told session job between before after old new result
+      → AreRepliesTo (done ++ job ∷ []) after new.sent
+  sent_on (served.Replied cause front) r =
+      subst (λ (s : LinkState). AreRepliesTo (done ++ job ∷ []) after s.sent) (sym r.sent)
+      (one_more old.sent (record { peer = job.from; octets = r.reply }) (new_reply r.reply (replied_says cause front r)) are)
+  sent_on (served.Dropped why) d = unsent (ap (λ (s : LinkState). s.sent) d.unsent)
+  sent_on served.Lost l = lost_on l
+  sent_on served.Link f = unsent (ap (λ (s : LinkState). s.sent) f.rest)
+  sent_on served.Over same = unsent (ap (λ (s : LinkState). s.sent) same)
+  sent_on served.NoMemory same = unsent (ap (λ (s : LinkState). s.sent) same)
 
 -- a link by which a session sends hears nothing still, and failed where it had
 module _ (told : Bool) (session : ℕ) (job : Job) (between : List KeptTurn) (before after : Knowledge) (old new : LinkState) where

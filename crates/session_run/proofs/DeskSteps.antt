@@ -1,31 +1,31 @@
 -- A session's desk behind jobs that it served together.
-use Rattle.std.proofs.Common.{◌≡◌, ◌≢◌, ⊎_elim, ℕ, Bool, true, List, [], ◌∷◌, ◌++◌, Option, Some, refl, sym, ap, subst, ◌∙◌, append_assoc, arith}
+use Rattle.std.proofs.Common.{◌≡◌, ◌≢◌, ⊎_elim, ℕ, Bool, true, List, [], ◌∷◌, ◌++◌, Option, Some, refl, sym, ap, subst, ◌∙◌, append_assoc}
 use Rattle.std.specs.Prelude.{All}
 use Rattle.std.specs.List.{Contains}
 use Rattle.std.specs.Option.{option_or}
 use Rattle.std.proofs.lemmas.List.{append-nil}
-use Rattle.std.proofs.lemmas.List.Elements.{Contains-append_left, Contains-append_right}
 use Rattle.area_disk.specs.declared.area.Area as area
 use Rattle.gateway_book.specs.Turning.{tells_lists}
-use Rattle.gw_base.specs.Facts.{WhereTold}
 use Rattle.gw_base.specs.Faults.{Rose}
 use Rattle.gw_base.specs.declared.address.Addr.{Addr}
 use Rattle.job_inbox.specs.declared.hand.Hand.{Hand}
 use Rattle.job_inbox.specs.declared.job.Job.{Job}
 use Rattle.net_link.specs.Datagrams.{LinkState}
 use Rattle.net_link.specs.declared.link.Link.{Ghosts}
-use Rattle.node_session.specs.Answering.{AddsAnswers}
 use Rattle.node_session.specs.Together.{AreServed, EachTells, GoesFrom, KeepsTurnsOf, TellTogether}
 use Rattle.node_session.specs.declared.gate.Go.{Go}
 use Rattle.node_session.specs.declared.served.Served.{Served}
 use Rattle.node_session.specs.declared.served.Served.TheVariants as served
+use Rattle.turn_cell.specs.Placed.{added_by}
 use Rattle.turn_cell.specs.declared.knowing.KeptTurn.{KeptTurn}
 use Rattle.turn_cell.specs.declared.knowing.Knowledge.{Knowledge}
 use Rattle.session_run.specs.Desks.{AreRepliesTo, Began, HasWorked, HearsNothing, IsSince, first_stop, hand_at, known_at, link_at, with_all_taken}
+use Rattle.session_run.specs.History.{AnswersJob, InTurn}
 use Rattle.session_run.specs.Latest.{later_of, latest}
 use Rattle.session_run.specs.declared.desk.Desk.{Desk}
 use Rattle.session_run.specs.declared.stop.Stop.TheVariants as stop
-use Rattle.session_run.proofs.DeskLemmas.{OnFrom, Within, begins_then, failed_on, fails_still, hears_on, more_turns, on_served, replies_stay, sent_on}
+use Rattle.session_run.proofs.AddedLemmas.{added_on}
+use Rattle.session_run.proofs.DeskLemmas.{OnFrom, begins_then, failed_on, fails_still, hears_on, more_turns, on_served, replies_stay, sent_on}
 use Rattle.session_run.proofs.LatestLemmas.{latest_of_both}
 use Rattle.session_run.proofs.StopLemmas.{never_clock, one_of}
 
@@ -65,15 +65,16 @@ module _ (told : Bool) (session : ℕ) where
   each_from (job ∷ jobs) (r ∷ results) before taken after old new each =
       from_then told taken each.1 after each.3.goes (each_from jobs results each.0 each.1 after each.2 new each.4)
 
-  -- what was sent stays replies to jobs that were taken
-  each_sent : (all jobs : List Job) (results : List Served) (before taken after : Knowledge) (old new : LinkState)
-      → Within jobs all → Each jobs results before taken after old new → before.size ≡ after.size → AllSince after → told ≡ true
-      → AreRepliesTo all taken old.sent → AreRepliesTo all after new.sent
-  each_sent all [] results before taken after old new within each size since y are =
-      subst (λ (s : LinkState). AreRepliesTo all after s.sent) (sym each.2)
-      (subst (λ (k : Knowledge). AreRepliesTo all k old.sent) (sym each.1) are)
-  each_sent all (job ∷ jobs) [] before taken after old new within each size since y are = absurd each
-  each_sent all (job ∷ jobs) (r ∷ results) before taken after old new within each size since y are =
+  -- what was sent stays replies to jobs in turn
+  each_sent : (done jobs : List Job) (results : List Served) (before taken after : Knowledge) (old new : LinkState)
+      → Each jobs results before taken after old new → before.size ≡ after.size → AllSince after → told ≡ true
+      → AreRepliesTo done taken old.sent → AreRepliesTo (done ++ jobs) after new.sent
+  each_sent done [] results before taken after old new each size since y are =
+      subst (λ (js : List Job). AreRepliesTo js after new.sent) (sym (append-nil done))
+      (subst (λ (s : LinkState). AreRepliesTo done after s.sent) (sym each.2)
+      (subst (λ (k : Knowledge). AreRepliesTo done k old.sent) (sym each.1) are))
+  each_sent done (job ∷ jobs) [] before taken after old new each size since y are = absurd each
+  each_sent done (job ∷ jobs) (r ∷ results) before taken after old new each size since y are =
       let next = each.0 in
       let now = each.1 in
       let sent = each.2 in
@@ -81,10 +82,9 @@ module _ (told : Bool) (session : ℕ) where
       let rest : GoesFrom told now after = each_from jobs results next now after sent new each.4 in
       let since_now : AllSince now =
       λ t has. subst (λ (n : ℕ). IsSince n t) rest.faults (since t (more_turns told now after rest t has)) in
-      each_sent all jobs results next now after sent new
-      (λ j has. within j (Contains-append_right (job ∷ []) jobs j has)) each.4 (one.size ∙ size) since y
-      (sent_on told session job all (within job (0, omega arith, refl)) one.between before taken now one.goes (size ∙ rest.size)
-      since_now old sent r one.tells y are)
+      subst (λ (js : List Job). AreRepliesTo js after new.sent) (append_assoc done (job ∷ []) jobs)
+      (each_sent (done ++ job ∷ []) jobs results next now after sent new each.4 (one.size ∙ size) since y
+      (sent_on told session job done one.between before taken now one.goes (size ∙ rest.size) since_now old sent y are r one.tells))
 
   -- the link hears nothing still
   each_hears : (at : Addr) (jobs : List Job) (results : List Served) (before taken after : Knowledge) (old new : LinkState)
@@ -128,7 +128,7 @@ module _ {A L : Type 0} (device : area.Ghosts A) (tells : Ghosts L) (may : ℕ �
     (serves : AreServed device may session jobs (link_at tells old) (link_at tells new) results (known_at old) (known_at new))
     (keeps : KeepsTurnsOf (tells_lists device) session jobs (known_at old) (known_at new))
     (told : TellTogether (tells_lists device) session jobs results (known_at old) (known_at new) (link_at tells old) (link_at tells new))
-    (adds : WhereTold (tells_lists device) ((earlier : List Job) → AddsAnswers earlier (known_at old) → AddsAnswers (earlier ++ jobs) (known_at new)))
+    (own : session ≡ (known_at new).number)
     (stops : new.stop ≡ option_or old.stop (first_stop results)) (lasts : new.last ≡ later_of old.last (latest jobs)) (at : Addr) (began : Began)
     (w : HasWorked tells (tells_lists device) at began old) where
   on : OnFrom (tells_lists device) (known_at old) (known_at new)
@@ -152,10 +152,20 @@ module _ {A L : Type 0} (device : area.Ghosts A) (tells : Ghosts L) (may : ℕ �
   sent_all : tells_lists device ≡ true → AreRepliesTo before_all (known_at old) (link_at tells old).sent
       → AreRepliesTo (before_all ++ jobs) (known_at new) (link_at tells new).sent
   sent_all y are =
-      each_sent (tells_lists device) session (before_all ++ jobs) jobs results (known_at old) told.taken (known_at new) (link_at tells old) (link_at tells new)
-      (λ j has. Contains-append_right before_all jobs j has) told.each (sym keeps.size) all_since y
-      (replies_stay (tells_lists device) before_all (before_all ++ jobs) (λ j has. Contains-append_left before_all jobs j has)
-      (known_at old) told.taken told.goes y (link_at tells old).sent are)
+      each_sent (tells_lists device) session before_all jobs results (known_at old) told.taken (known_at new) (link_at tells old) (link_at tells new)
+      told.each (sym keeps.size) all_since y
+      (replies_stay (tells_lists device) (known_at old) told.taken told.goes y before_all (link_at tells old).sent are)
+
+  abbrev Answered : ℕ → List Job → Desk L → Type 0
+  Answered n js desk = InTurn (AnswersJob began.size n) js (added_by (known_at desk).turns)
+
+  session_is : session ≡ began.number
+  session_is = own ∙ keeps.number ∙ w.number
+
+  answered_all : tells_lists device ≡ true → Answered began.number before_all old → Answered began.number (before_all ++ jobs) new
+  answered_all y were = subst (λ (n : ℕ). Answered n (before_all ++ jobs) new) session_is
+      (added_on (tells_lists device) session before_all jobs (known_at old) (known_at new) began.size y w.size keeps
+      (subst (λ (n : ℕ). Answered n before_all old) (sym session_is) were))
 
   link_failed : new.stop ≡ Some stop.Link → Rose 0 (link_at tells new).faults
   link_failed is = ⊎_elim
@@ -181,7 +191,7 @@ module _ {A L : Type 0} (device : area.Ghosts A) (tells : Ghosts L) (may : ℕ �
     none_put = ap (λ (h : Hand). h.put) took ∙ w.none_put;
     last = lasts ∙ ap (λ (o : Option ℕ). later_of o (latest jobs)) w.last ∙ sym (latest_of_both before_all jobs)
         ∙ ap (λ (js : List Job). latest js) (sym taken_is);
-    answers = λ y. subst (λ (js : List Job). AddsAnswers js (known_at new)) (sym taken_is) (adds y before_all (w.answers y));
+    answers = λ y. subst (λ (js : List Job). Answered began.number js new) (sym taken_is) (answered_all y (w.answers y));
     replies = λ y. subst (λ (js : List Job). AreRepliesTo js (known_at new) (link_at tells new).sent) (sym taken_is) (sent_all y (w.replies y));
     link = each_hears (tells_lists device) session at jobs results (known_at old) told.taken (known_at new) (link_at tells old) (link_at tells new) told.each w.link;
     cause = link_failed;

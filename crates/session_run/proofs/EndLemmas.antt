@@ -12,12 +12,11 @@ use Rattle.gw_base.specs.Faults.{Rose}
 use Rattle.gw_base.specs.Owes.{Begins}
 use Rattle.gw_base.specs.declared.address.Addr.{Addr}
 use Rattle.gw_base.specs.declared.history.HistoryEntry.{HistoryEntry}
-use Rattle.net_link.specs.Datagrams.{Datagram, IsNewAt}
+use Rattle.net_link.specs.Datagrams.{Datagram, IsNewAt, joined as joined_lists}
 use Rattle.net_link.specs.declared.link.Link as paths
 use Rattle.job_inbox.specs.Inbox as inboxes
 use Rattle.job_inbox.specs.declared.inbox.Inbox.{Inbox}
 use Rattle.job_inbox.specs.declared.inbox.InboxPass.{InboxPass}
-use Rattle.node_session.specs.Answering.{IsAnswer}
 use Rattle.node_session.specs.Passes.{IsOf, known_by}
 use Rattle.node_session.specs.Receiving.{AreOfEach}
 use Rattle.node_session.specs.Writing as writing
@@ -29,9 +28,9 @@ use Rattle.turn_cell.specs.declared.knowing.Knowledge.{Knowledge}
 use Rattle.session_run.specs.Desks.{HasWorked, HearsNothing, began_at}
 use Rattle.session_run.specs.Ending.{AreAllSettled, ArePassesFor, ArePopsOf, AreSettledWith, HasEnded, known_among, links_of}
 use Rattle.session_run.specs.Filing.{KeepsWriter}
-use Rattle.session_run.specs.History.{GoesOn, GoesOnUntil, IsCalledFor, IsHeard, IsReply, datagram_of}
+use Rattle.session_run.specs.History.{GoesOn, GoesOnUntil, InTurn, IsCalledFor, IsJobOf, IsReply, IsReplyTo, those_of}
 use Rattle.session_run.specs.Reception.{CountsTurns, HasDispatched, IfTurns}
-use Rattle.session_run.specs.Running.{AnyOf, AreFiveOf, AreNewAt, AreReplies, HasFailed, HasStopCause, StaysAs, turns_by}
+use Rattle.session_run.specs.Running.{AnyOf, AreFiveOf, AreNewAt, AreReplies, HasFailed, HasStopCause, HaveReplied, StaysAs, sent_by, turns_by}
 use Rattle.session_run.specs.Team.{AreDesksOf, HaveServed, Pair, TeamWorksOn, stop_among}
 use Rattle.session_run.specs.declared.desk.Desk.{Desk}
 use Rattle.session_run.specs.declared.reception.Reception.{Reception}
@@ -148,11 +147,14 @@ pub goes_nowhere_until : (heard : Option (List Datagram)) (f : Facts) → Begins
     → GoesOnUntil heard f f last
 goes_nowhere_until heard f firm last none = record {
   goes = goes_nowhere heard f firm;
-  jobs = [];
-  were_heard = All-nil (λ job. IsHeard heard (datagram_of job));
-  answers = All-nil (IsAnswer f.size (λ session. []));
+  jobs = λ session. [];
+  answers = record { were_heard = λ session. none_of session heard; answers = λ session. tt; no_more = λ session many. refl };
   latest = none;
 }
+  where
+    none_of : (session : ℕ) (told : Option (List Datagram)) → IfSome told (λ list. InTurn (IsJobOf session) list [])
+    none_of session None = tt
+    none_of session (Some list) = tt
 
 pub stays_itself : (f : Facts) → StaysAs f f
 stays_itself f = record { size = refl; name = refl; later = omega arith }
@@ -171,7 +173,7 @@ module _ {L : Type 0} (tells : paths.Ghosts L) (at : Addr) where
   IsNew link = IsNewAt at (tells.state link)
 
   -- new links have sent nothing
-  pub none_replied : (heard : Option (List Datagram)) (start now : Facts) (all : List L) → All IsNew all → AreReplies tells heard start now all
+  none_replied : (heard : Option (List Datagram)) (start now : Facts) (all : List L) → All IsNew all → AreReplies tells heard start now all
   none_replied heard start now [] new = All-nil (λ (x : L). IfSome (tells.state x).sent (All (IsReply heard start.size now.firm start.faults now.faults)))
   none_replied heard start now (link ∷ others) new =
       All-cons (λ (x : L). IfSome (tells.state x).sent (All (IsReply heard start.size now.firm start.faults now.faults))) link others
@@ -180,6 +182,33 @@ module _ {L : Type 0} (tells : paths.Ghosts L) (at : Addr) where
       unsent : (sent : Option (List Datagram)) → IfSome sent (λ list. list ≡ []) → IfSome sent (All (IsReply heard start.size now.firm start.faults now.faults))
       unsent None is = tt
       unsent (Some list) is = subst (All (IsReply heard start.size now.firm start.faults now.faults)) (sym is) (All-nil (IsReply heard start.size now.firm start.faults now.faults))
+
+  -- new links have sent nothing
+  none_sent : (all : List L) → All IsNew all → IfSome (sent_by tells all) (λ list. list ≡ [])
+  none_sent [] new = refl
+  none_sent (link ∷ others) new = by (sent_by tells others) (tells.state link).sent (none_sent others (All-tail IsNew link others new))
+      (All-head IsNew link others new).sent
+    where
+      by : (rest mine : Option (List Datagram)) → IfSome rest (λ list. list ≡ []) → IfSome mine (λ list. list ≡ [])
+          → IfSome (joined_lists rest mine) (λ list. list ≡ [])
+      by None mine p q = tt
+      by (Some xs) None p q = tt
+      by (Some xs) (Some ys) p q = ap (λ (l : List Datagram). l ++ ys) p ∙ q
+
+  pub none_have_replied : (heard : Option (List Datagram)) (start now : Facts) (all : List L) → All IsNew all
+      → HaveReplied tells heard start now all
+  none_have_replied heard start now all new = record {
+    each = none_replied heard start now all new;
+    in_turn = λ session. by session heard (sent_by tells all) (none_sent all new);
+  }
+    where
+      by : (session : ℕ) (told sent : Option (List Datagram)) → IfSome sent (λ list. list ≡ [])
+          → IfSome told (λ asked. IfSome sent (λ list.
+          InTurn (IsReplyTo session start.size now.firm start.faults now.faults) asked (those_of session list)))
+      by session None sent is = tt
+      by session (Some asked) None is = tt
+      by session (Some asked) (Some list) is =
+          subst (λ (l : List Datagram). InTurn (IsReplyTo session start.size now.firm start.faults now.faults) asked (those_of session l)) (sym is) tt
 
   abbrev Hears : L → Type 0
   Hears link = HearsNothing at (tells.state link)

@@ -1,12 +1,14 @@
 -- What passes to an inbox took is what others pushed.
-use Rattle.std.proofs.Common.{◌≡◌, ⊎_elim, ℕ, ◌+◌, ◌≤◌, List, [], ◌∷◌, ◌++◌, length, refl, sym, ap, subst, ◌∙◌, arith}
-use Rattle.std.specs.Prelude.{All, sum_by}
-use Rattle.std.proofs.lemmas.List.Elements.{All-cons, All-head, All-nil, All-tail}
+use Rattle.std.proofs.Common.{◌≡◌, ⊎_elim, ℕ, ◌+◌, ◌≤◌, List, [], ◌∷◌, ◌++◌, length, refl, ap, subst, ◌∙◌, arith}
+use Rattle.std.specs.Prelude.{sum_by}
+use Rattle.std.proofs.lemmas.List.Elements.{All-head, All-tail}
 use Rattle.std.proofs.lemmas.List.Sums.{sum_by-cons}
 use Rattle.job_inbox.specs.Hands.{AreSettled, Settled, weight_put}
 use Rattle.job_inbox.specs.declared.hand.Hand.{Hand}
 use Rattle.job_inbox.specs.declared.job.Job.{Job}
 use Rattle.turn_cell.specs.Placed.{IsSublist}
+use Rattle.session_run.specs.History.{InTurn}
+use Rattle.session_run.proofs.InTurnLemmas.{in_turn_front, in_turn_sub}
 
 module _ {A : Type 0} where
   sub_length : (xs ys : List A) → IsSublist xs ys → length xs ≤ length ys
@@ -28,20 +30,6 @@ module _ {A : Type 0} where
       (λ (t : IsSublist (x ∷ xs) ys). let n = sub_length (x ∷ xs) ys t in absurd (omega (arith, n, long)))
       sub
 
-  pub all_sub : (P : A → Type 0) (xs ys : List A) → IsSublist xs ys → All P ys → All P xs
-  all_sub P [] ys sub all = All-nil P
-  all_sub P (x ∷ xs) [] sub all = let n = ap (λ (l : List A). length l) sub in absurd (omega (arith, n))
-  all_sub P (x ∷ xs) (y ∷ ys) sub all =
-      ⊎_elim
-      (λ (t : (x ≡ y) × IsSublist xs ys).
-      All-cons P x xs (subst P (sym t.0) (All-head P y ys all)) (all_sub P xs ys t.1 (All-tail P y ys all)))
-      (λ (t : IsSublist (x ∷ xs) ys). all_sub P (x ∷ xs) ys t (All-tail P y ys all))
-      sub
-
-  pub all_front : (P : A → Type 0) (xs ys : List A) → All P (xs ++ ys) → All P xs
-  all_front P [] ys all = All-nil P
-  all_front P (x ∷ xs) ys all = All-cons P x xs (All-head P x (xs ++ ys) all) (all_front P xs ys (All-tail P x (xs ++ ys) all))
-
 -- how many jobs there are
 ones : (jobs : List Job) → sum_by (λ job. 1) jobs ≡ length jobs
 ones [] = refl
@@ -58,10 +46,11 @@ pushed_all push pop put taken left s none =
     let count = ones put in
     sub_whole push.put put stands.0 (omega (arith, total, own, nothing, count))
 
--- What was taken from an inbox to which one pass pushed and from which another took is as what was pushed.
-pub taken_of_pushed : (P : Job → Type 0) (push pop : Hand) → AreSettled (push ∷ pop ∷ []) → pop.put ≡ [] → All P push.put → All P pop.taken
-taken_of_pushed P push pop settled none all =
+-- What was taken from an inbox to which one pass pushed and from which another took is as what was pushed, in turn.
+pub taken_in_turn : {A : Type 0} (R : A → Job → Type 0) (xs : List A) (push pop : Hand) → AreSettled (push ∷ pop ∷ []) → pop.put ≡ []
+    → InTurn R xs push.put → InTurn R xs pop.taken
+taken_in_turn R xs push pop settled none p =
     let put = settled.0 in let taken = settled.1 in let left = settled.2 in let s = settled.3 in
     let stands = All-head (λ (h : Hand). IsSublist h.put put × IsSublist h.taken taken) pop [] (All-tail (λ (h : Hand). IsSublist h.put put × IsSublist h.taken taken) push (pop ∷ []) s.stand) in
-    let whole : All P (taken ++ left) = subst (All P) (pushed_all push pop put taken left s none ∙ s.order) all in
-    all_sub P pop.taken taken stands.1 (all_front P taken left whole)
+    let whole : InTurn R xs (taken ++ left) = subst (λ (js : List Job). InTurn R xs js) (pushed_all push pop put taken left s none ∙ s.order) p in
+    in_turn_sub R xs pop.taken taken (in_turn_front R xs taken left whole) stands.1

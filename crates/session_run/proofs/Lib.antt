@@ -1,13 +1,17 @@
+pub mod AddedLemmas
 pub mod BegunLemmas
 pub mod DeskLemmas
 pub mod DeskSteps
 pub mod EndLemmas
 pub mod GivenBackLemmas
+pub mod InTurnLemmas
 pub mod InboxLemmas
 pub mod LatestLemmas
+pub mod LawLemmas
 pub mod MadeLemmas
 pub mod NumberLemmas
 pub mod ReceptionLemmas
+pub mod RepliedLemmas
 pub mod RunLemmas
 pub mod StopLemmas
 pub mod TakingLemmas

@@ -1,97 +1,127 @@
 -- What who receives has done behind one more step of its dispatcher.
-use Rattle.std.proofs.Common.{◌≡◌, Bool, false, true, ℕ, zero, suc, ◌-◌, ◌<◌, List, [], ◌∷◌, ◌++◌, length, Option, None, Some, refl, sym, ap, subst, ◌∙◌, arith}
-use Rattle.std.specs.Prelude.{All, IfSome, slice_index_or}
-use Rattle.std.specs.List.{Contains}
+use Rattle.std.proofs.Common.{◌≡◌, Bool, false, true, inl, ℕ, zero, suc, ◌+◌, ◌-◌, ◌<◌, List, [], ◌∷◌, ◌++◌, length, replicate, Option, None, Some, refl, sym, ap, subst, ◌∙◌, arith}
+use Rattle.std.specs.Prelude.{IfSome}
 use Rattle.std.proofs.lemmas.Bool.{true≢false}
-use Rattle.std.proofs.lemmas.List.Elements.{All-head, All-nil, All-push, All-set, All-tail, All-weaker, Contains-append_left, Contains-push}
 use Rattle.gw_base.specs.Faults.{Rose, next_count}
 use Rattle.gw_base.specs.declared.address.Addr.{Addr}
-use Rattle.job_inbox.specs.Rule.{idle, with_put}
+use Rattle.job_inbox.specs.Inbox.{known_by}
+use Rattle.job_inbox.specs.Rule.{idle}
 use Rattle.job_inbox.specs.declared.hand.Hand.{Hand}
 use Rattle.job_inbox.specs.declared.inbox.Inbox.{Inbox}
+use Rattle.job_inbox.specs.declared.inbox.InboxPass.{InboxPass}
 use Rattle.job_inbox.specs.declared.job.Job.{Job}
 use Rattle.net_link.specs.Datagrams.{Datagram, LinkState, with_one}
 use Rattle.net_link.specs.declared.link.Link as paths
-use Rattle.node_session.specs.Receiving.{HasHeardOne, TellsOf, hands_of, session_for, with_job}
+use Rattle.node_session.specs.Receiving.{AreOfEach, HasHeardOne, TellsOf, hands_of, passes_of, session_for, with_job}
 use Rattle.node_session.specs.declared.dispatched.Dispatched.{Dispatched}
 use Rattle.node_session.specs.declared.dispatched.Dispatched.TheVariants as dispatched
 use Rattle.node_session.specs.declared.dispatcher.Dispatcher.{Dispatcher}
-use Rattle.session_run.specs.History.{datagram_of}
-use Rattle.session_run.specs.Reception.{CountsTurns, HasDispatched, PushedOfTold, TakesTurn, link_of, stop_behind, turns_of, was_quiet}
+use Rattle.session_run.specs.History.{InTurn, datagram_of}
+use Rattle.session_run.specs.Reception.{ArePushed, CountsTurns, HasDispatched, IsOneFor, PushedOf, TakesTurn, link_of, stop_behind, turns_of, was_quiet}
 use Rattle.session_run.specs.declared.reception.Reception.{Reception}
 use Rattle.session_run.specs.declared.stop.Stop.TheVariants as stop
 use Rattle.session_run.proofs.DeskLemmas.{rose_since}
+use Rattle.session_run.proofs.InTurnLemmas.{in_turn_both, in_turn_more}
 
-at_or : {X : Type 0} (P : X → Type 0) (xs : List X) (k : ℕ) (d : X) → All P xs → P d → P (slice_index_or xs k d)
-at_or P [] k d all p = p
-at_or P (x ∷ xs) zero d all p = All-head P x xs all
-at_or P (x ∷ xs) (suc k) d all p = at_or P xs k d (All-tail P x xs all) p
+-- datagrams of which the link heard one more
+heard_more : (sessions session : ℕ) (d : Datagram) (told : Option (List Datagram)) (put : List Job)
+    → IfSome told (λ list. InTurn (IsOneFor sessions session) list put) → IfSome (with_one d told) (λ list. InTurn (IsOneFor sessions session) list put)
+heard_more sessions session d None put p = tt
+heard_more sessions session d (Some list) put p = in_turn_more (IsOneFor sessions session) list put (d ∷ []) p
 
-pushed_more : (d : Datagram) (told : Option (List Datagram)) (hand : Hand) → PushedOfTold told hand → PushedOfTold (with_one d told) hand
-pushed_more d None hand p = p
-pushed_more d (Some heard) hand p = record {
-  jobs = All-weaker (λ (j : Job). Contains heard (datagram_of j)) (λ (j : Job). Contains (heard ++ d ∷ []) (datagram_of j))
-      (λ (j : Job) has. Contains-append_left heard (d ∷ []) (datagram_of j) has) hand.put p.jobs;
-  none_taken = p.none_taken;
-}
+heard_job : (sessions session : ℕ) (job : Job) (told : Option (List Datagram)) (put : List Job) → session_for job sessions ≡ session
+    → IfSome told (λ list. InTurn (IsOneFor sessions session) list put)
+    → IfSome (with_one (datagram_of job) told) (λ list. InTurn (IsOneFor sessions session) list (put ++ job ∷ []))
+heard_job sessions session job None put is p = tt
+heard_job sessions session job (Some list) put is p =
+    in_turn_both (IsOneFor sessions session) list put (datagram_of job ∷ []) (job ∷ []) p (inl ((is, refl), tt))
 
-pushed_one : (job : Job) (told : Option (List Datagram)) (hand : Hand) → PushedOfTold told hand
-    → PushedOfTold (with_one (datagram_of job) told) (with_put job hand)
-pushed_one job None hand p = p
-pushed_one job (Some heard) hand p = record {
-  jobs = All-push (λ (j : Job). Contains (heard ++ datagram_of job ∷ []) (datagram_of j)) hand.put job
-      (All-weaker (λ (j : Job). Contains heard (datagram_of j)) (λ (j : Job). Contains (heard ++ datagram_of job ∷ []) (datagram_of j))
-      (λ (j : Job) has. Contains-append_left heard (datagram_of job ∷ []) (datagram_of j) has) hand.put p.jobs)
-      (Contains-push heard (datagram_of job));
-  none_taken = p.none_taken;
-}
+module _ (sessions : ℕ) where
+  pushed_idle : (session : ℕ) (told : Option (List Datagram)) → PushedOf sessions session told idle
+  pushed_idle session None = record { jobs = tt; none_taken = refl }
+  pushed_idle session (Some list) = record { jobs = tt; none_taken = refl }
 
-pub pushed_idle : (told : Option (List Datagram)) → PushedOfTold told idle
-pushed_idle None = refl
-pushed_idle (Some heard) = record { jobs = All-nil (λ (j : Job). Contains heard (datagram_of j)); none_taken = refl }
+  pub all_idle : (session : ℕ) (told : Option (List Datagram)) (n : ℕ) → ArePushed sessions session told (replicate n idle)
+  all_idle session told zero = tt
+  all_idle session told (suc n) = (pushed_idle session told, all_idle (suc session) told n)
 
-abbrev ArePushed : LinkState → List Hand → Type 0
-ArePushed link hands = All (PushedOfTold link.received) hands
+  all_more : (session : ℕ) (d : Datagram) (told : Option (List Datagram)) (hands : List Hand) → ArePushed sessions session told hands
+      → ArePushed sessions session (with_one d told) hands
+  all_more session d told [] all = tt
+  all_more session d told (hand ∷ hands) all = (
+    record { jobs = heard_more sessions session d told hand.put all.0.jobs; none_taken = all.0.none_taken },
+    all_more (suc session) d told hands all.1,
+  )
+
+  -- a job was pushed to the inbox of its session
+  all_set : (session : ℕ) (job : Job) (told : Option (List Datagram)) (hands : List Hand) (k : ℕ) → session_for job sessions ≡ k + session
+      → ArePushed sessions session told hands → ArePushed sessions session (with_one (datagram_of job) told) (with_job k job hands)
+  all_set session job told [] k is all = tt
+  all_set session job told (hand ∷ hands) zero is all = (
+    record {
+      jobs = heard_job sessions session job told hand.put (omega (arith, is)) all.0.jobs;
+      none_taken = all.0.none_taken;
+    },
+    all_more (suc session) (datagram_of job) told hands all.1,
+  )
+  all_set session job told (hand ∷ hands) (suc k) is all = (
+    record { jobs = heard_more sessions session (datagram_of job) told hand.put all.0.jobs; none_taken = all.0.none_taken },
+    all_set (suc session) job told hands k (omega (arith, is)) all.1,
+  )
+
+-- as many hands as passes, and as many of these as inboxes
+same_count : (inboxes : List Inbox) (passes : List InboxPass) → AreOfEach inboxes passes → length (known_by passes) ≡ length inboxes
+same_count [] [] own = refl
+same_count [] (p ∷ passes) own = absurd own
+same_count (i ∷ inboxes) [] own = absurd own
+same_count (i ∷ inboxes) (p ∷ passes) own = ap suc (same_count inboxes passes own.1)
+
+set_count : (hands : List Hand) (k : ℕ) (job : Job) → length (with_job k job hands) ≡ length hands
+set_count [] k job = refl
+set_count (hand ∷ hands) zero job = refl
+set_count (hand ∷ hands) (suc k) job = ap suc (set_count hands k job)
+
+-- what the passes of a dispatcher pushed of what its link heard
+abbrev HasPushedOf : LinkState → List Hand → Type 0
+HasPushedOf link hands = ArePushed (length hands) 0 link.received hands
 
 heard_one : (d : Datagram) (old new : LinkState) (hands : List Hand)
-    → new.received ≡ with_one d old.received → ArePushed old hands → ArePushed new hands
+    → new.received ≡ with_one d old.received → HasPushedOf old hands → HasPushedOf new hands
 heard_one d old new hands is all =
-    subst (λ told. All (PushedOfTold told) hands) (sym is)
-    (All-weaker (PushedOfTold old.received) (PushedOfTold (with_one d old.received)) (pushed_more d old.received) hands all)
+    subst (λ told. ArePushed (length hands) 0 told hands) (sym is) (all_more (length hands) 0 d old.received hands all)
 
-same_heard : (old new : LinkState) (hands : List Hand) → new.received ≡ old.received → ArePushed old hands → ArePushed new hands
-same_heard old new hands is all = subst (λ told. All (PushedOfTold told) hands) (sym is) all
+same_heard : (old new : LinkState) (hands : List Hand) → new.received ≡ old.received → HasPushedOf old hands → HasPushedOf new hands
+same_heard old new hands is all = subst (λ told. ArePushed (length hands) 0 told hands) (sym is) all
 
 module _ (inboxes : List Inbox) (old new : Dispatcher) (link_old link_new : LinkState) (clock_old clock_new : ℕ) where
   abbrev Told : Dispatched → Type 0
   Told = TellsOf inboxes old new link_old link_new clock_old clock_new
 
-  pub pushed_on : (d : Dispatched) → Told d → ArePushed link_old (hands_of old) → ArePushed link_new (hands_of new)
-  pushed_on dispatched.Pushed t all =
+  pub pushed_on : AreOfEach inboxes (passes_of old) → (d : Dispatched) → Told d → HasPushedOf link_old (hands_of old)
+      → HasPushedOf link_new (hands_of new)
+  pushed_on own dispatched.Pushed t all =
       let k = session_for t.job (length inboxes) in
       let heard : link_new.received ≡ with_one (datagram_of t.job) link_old.received = ap (λ (l : LinkState). l.received) t.made.is in
-      subst (λ (hs : List Hand). ArePushed link_new hs) (sym t.pushed)
-      (subst (λ told. All (PushedOfTold told) (with_job k t.job (hands_of old))) (sym heard)
-      (All-set (PushedOfTold (with_one (datagram_of t.job) link_old.received)) (hands_of old) k
-      (with_put t.job (slice_index_or (hands_of old) k idle))
-      (pushed_one t.job link_old.received (slice_index_or (hands_of old) k idle)
-      (at_or (PushedOfTold link_old.received) (hands_of old) k idle all (pushed_idle link_old.received)))
-      (All-weaker (PushedOfTold link_old.received) (PushedOfTold (with_one (datagram_of t.job) link_old.received))
-      (pushed_more (datagram_of t.job) link_old.received) (hands_of old) all)))
-  pushed_on dispatched.Full t all =
-      subst (λ (hs : List Hand). ArePushed link_new hs) (sym t.kept)
+      let count : length (hands_of old) ≡ length inboxes = same_count inboxes (passes_of old) own in
+      let same : session_for t.job (length (hands_of old)) ≡ session_for t.job (length inboxes) = ap (λ n. session_for t.job n) count in
+      subst (λ (hs : List Hand). HasPushedOf link_new hs) (sym t.pushed)
+      (subst (λ (n : ℕ). ArePushed n 0 link_new.received (with_job k t.job (hands_of old))) (sym (set_count (hands_of old) k t.job))
+      (subst (λ told. ArePushed (length (hands_of old)) 0 told (with_job k t.job (hands_of old))) (sym heard)
+      (all_set (length (hands_of old)) 0 t.job link_old.received (hands_of old) k (omega (arith, same)) all)))
+  pushed_on own dispatched.Full t all =
+      subst (λ (hs : List Hand). HasPushedOf link_new hs) (sym t.kept)
       (heard_one (datagram_of t.job) link_old link_new (hands_of old) (ap (λ (l : LinkState). l.received) t.made.is) all)
-  pushed_on dispatched.Quiet t all =
-      subst (λ (hs : List Hand). ArePushed link_new hs) (sym t.1.0)
+  pushed_on own dispatched.Quiet t all =
+      subst (λ (hs : List Hand). HasPushedOf link_new hs) (sym t.1.0)
       (same_heard link_old link_new (hands_of old) (ap (λ (l : LinkState). l.received) t.0) all)
-  pushed_on dispatched.Link t all =
-      subst (λ (hs : List Hand). ArePushed link_new hs) (sym t.1.0)
+  pushed_on own dispatched.Link t all =
+      subst (λ (hs : List Hand). HasPushedOf link_new hs) (sym t.1.0)
       (same_heard link_old link_new (hands_of old) (ap (λ (l : LinkState). l.received) t.0.rest) all)
-  pushed_on dispatched.Clock t all =
-      subst (λ (hs : List Hand). ArePushed link_new hs) (sym t.2.0)
+  pushed_on own dispatched.Clock t all =
+      subst (λ (hs : List Hand). HasPushedOf link_new hs) (sym t.2.0)
       (heard_one t.0.0 link_old link_new (hands_of old) (ap (λ (l : LinkState). l.received) t.0.1) all)
-  pushed_on dispatched.NoMemory t all =
-      subst (λ (hs : List Hand). ArePushed link_new hs) (sym t.1.0)
+  pushed_on own dispatched.NoMemory t all =
+      subst (λ (hs : List Hand). HasPushedOf link_new hs) (sym t.1.0)
       (heard_one t.0.0 link_old link_new (hands_of old) (ap (λ (l : LinkState). l.received) t.0.1) all)
 
   -- neither the address nor what was sent changes
@@ -176,11 +206,11 @@ module _ (inboxes : List Inbox) (old new : Dispatcher) (link_old link_new : Link
 module _ {L : Type 0} (tells : paths.Ghosts L) (inboxes : List Inbox) (old new : Reception L) (d : Dispatched) (clock clock' : ℕ)
     (told : TellsOf inboxes old.dispatcher new.dispatcher (link_of tells old) (link_of tells new) clock clock' d)
     (stops : new.stop ≡ stop_behind d) where
-  pub dispatched_on : (at : Addr) → HasDispatched tells at old → HasDispatched tells at new
-  dispatched_on at h =
+  pub dispatched_on : AreOfEach inboxes (passes_of old.dispatcher) → (at : Addr) → HasDispatched tells at old → HasDispatched tells at new
+  dispatched_on own at h =
       let path = path_on inboxes old.dispatcher new.dispatcher (link_of tells old) (link_of tells new) clock clock' d told in
       record {
-        pushed = pushed_on inboxes old.dispatcher new.dispatcher (link_of tells old) (link_of tells new) clock clock' d told h.pushed;
+        pushed = pushed_on inboxes old.dispatcher new.dispatcher (link_of tells old) (link_of tells new) clock clock' own d told h.pushed;
         address = path.0 ∙ h.address;
         unsent = subst (λ sent. IfSome sent (λ list. list ≡ [])) (sym path.1) h.unsent;
         cause = λ is. failed_on inboxes old.dispatcher new.dispatcher (link_of tells old) (link_of tells new) clock clock' d told

@@ -1,8 +1,8 @@
 -- What a gateway that served hands back, by what each of its parts has done.
-use Rattle.std.proofs.Common.{◌≡◌, ⊎_elim, inl, inr, ℕ, zero, suc, ◌≤◌, Bool, true, List, [], ◌∷◌, ◌++◌, Option, None, Some, sym, ap, subst, ◌∙◌, append_assoc, arith}
+use Rattle.std.proofs.Common.{◌≡◌, ◌⊎◌, ⊎_elim, inl, inr, ℕ, zero, suc, ◌≤◌, Bool, true, List, [], ◌∷◌, ◌++◌, length, Option, None, Some, refl, sym, ap, subst, ◌∙◌, append_assoc, arith}
 use Rattle.std.specs.Prelude.{All, IfSome}
 use Rattle.std.specs.List.{Contains}
-use Rattle.std.proofs.lemmas.List.Elements.{All-append, All-cons, All-contains, All-head, All-nil, All-tail, All-weaker, Contains-append_left, Contains-append_right}
+use Rattle.std.proofs.lemmas.List.Elements.{All-cons, All-contains, All-head, All-nil, All-tail}
 use Rattle.area_disk.specs.Disk.{Rose}
 use Rattle.cdr_shelf.specs.declared.shelf.Shelf as shelves
 use Rattle.file_writer.specs.declared.writer.Writer.{Writer}
@@ -15,30 +15,32 @@ use Rattle.job_inbox.specs.declared.hand.Hand.{Hand}
 use Rattle.job_inbox.specs.declared.job.Job.{Job}
 use Rattle.net_link.specs.Datagrams.{Datagram}
 use Rattle.net_link.specs.declared.link.Link as paths
-use Rattle.node_session.specs.Answering.{AddsAnswers, AreAnswers, IsAnswer}
 use Rattle.node_session.specs.Receiving.{hands_of}
 use Rattle.node_session.specs.Serving.{caller_of}
 use Rattle.node_session.specs.Writing as writing
 use Rattle.node_session.specs.Turns.{entries_of}
 use Rattle.turn_cell.specs.Knowing.{Follows, IsLegal, facts_of}
-use Rattle.turn_cell.specs.Passes.{AreOwned, Ended}
-use Rattle.turn_cell.specs.Placed.{placed}
+use Rattle.turn_cell.specs.Passes.{Ended}
+use Rattle.turn_cell.specs.Placed.{added_by, by_session, placed}
 use Rattle.turn_cell.specs.declared.knowing.KeptTurn.{KeptTurn}
 use Rattle.turn_cell.specs.declared.knowing.Knowledge.{Knowledge}
-use Rattle.session_run.specs.Desks.{AreRepliesTo, began_at, HasFailedSince, HasWorked, IsReplyTo, hand_at, known_at, link_at}
+use Rattle.session_run.specs.Desks.{AreRepliesTo, HasFailedSince, HasWorked, RepliesTo, began_at, hand_at, known_at, link_at}
 use Rattle.session_run.specs.Ending.{AreAllSettled, known_among, links_of}
 use Rattle.session_run.specs.Filing.{HasWritten, KeepsWriter}
-use Rattle.session_run.specs.History.{GoesOnUntil, IsAnswered, IsCalledFor, IsHeard, IsReply, TellsFailure, datagram_of}
-use Rattle.session_run.specs.Latest.{later_of, latest}
-use Rattle.session_run.specs.Reception.{HasDispatched, PushedOfTold, link_of}
-use Rattle.session_run.specs.Running.{AreReplies, StaysAs, heard_by}
+use Rattle.session_run.specs.History.{AnswersJob, GoesOnUntil, InTurn, IsAnswered, IsCalledFor, IsHeard, IsJobOf, IsReply, IsReplyTo, TellsFailure, datagram_of, session_count}
+use Rattle.session_run.specs.Latest.{later_of, latest, latest_of}
+use Rattle.session_run.specs.Reception.{ArePushed, HasDispatched, IsOneFor, PushedOf, link_of}
+use Rattle.session_run.specs.Running.{HaveReplied, StaysAs, heard_by}
 use Rattle.session_run.specs.Team.{HaveServed, last_among}
 use Rattle.session_run.specs.declared.desk.Desk.{Desk}
 use Rattle.session_run.specs.declared.reception.Reception.{Reception}
 use Rattle.session_run.specs.declared.round.Team.{Team}
+use Rattle.session_run.proofs.AddedLemmas.{all_in_turn, all_sessions, none_added}
 use Rattle.session_run.proofs.DeskLemmas.{begins_then}
-use Rattle.session_run.proofs.InboxLemmas.{taken_of_pushed}
+use Rattle.session_run.proofs.InTurnLemmas.{each_contains, in_turn_all, in_turn_through}
+use Rattle.session_run.proofs.InboxLemmas.{taken_in_turn}
 use Rattle.session_run.proofs.LatestLemmas.{latest_of_both}
+use Rattle.session_run.proofs.RepliedLemmas.{all_replied}
 use Rattle.session_run.proofs.WriterLemmas.{Stays, writer_on}
 
 abbrev IsHeardJob : Option (List Datagram) → Job → Type 0
@@ -68,31 +70,41 @@ module _ {F L : Type 0} (files : shelves.Ghosts F) (tells : paths.Ghosts L) (tol
   jobs (suc (suc (suc zero))) = (hand_at team.second.1).taken
   jobs (suc (suc (suc (suc n)))) = []
 
-  put_heard : (told' : Option (List Datagram)) (hand : Hand) → PushedOfTold told' hand → All (IsHeardJob told') hand.put
-  put_heard None hand p = λ k d lt. tt
-  put_heard (Some list) hand p = p.jobs
+  -- the jobs of a session are datagrams for it that were heard, in turn
+  abbrev AreHeard : ℕ → List Job → Type 0
+  AreHeard session js = IfSome heard (λ list. InTurn (IsJobOf session) list js)
 
-  taken_heard : (push : Hand) (desk : Desk L) → PushedOfTold heard push → AreSettled (push ∷ hand_at desk ∷ []) → (hand_at desk).put ≡ [] → All (IsHeardJob heard) (hand_at desk).taken
-  taken_heard push desk p settled none = taken_of_pushed (IsHeardJob heard) push (hand_at desk) settled none (put_heard heard push p)
+  taken_heard : (session : ℕ) (push : Hand) (desk : Desk L) → PushedOf session_count session heard push → AreSettled (push ∷ hand_at desk ∷ [])
+      → (hand_at desk).put ≡ [] → AreHeard session (hand_at desk).taken
+  taken_heard session push desk p settled none = by heard p.jobs
+    where
+      by : (told' : Option (List Datagram)) → IfSome told' (λ list. InTurn (IsOneFor session_count session) list push.put)
+          → IfSome told' (λ list. InTurn (IsJobOf session) list (hand_at desk).taken)
+      by None p = tt
+      by (Some list) p = taken_in_turn (IsJobOf session) list push (hand_at desk) settled none p
 
-  -- each of them is a datagram that was heard
-  all_heard : (hands : List Hand) → All (PushedOfTold heard) hands → AreAllSettled hands team → (n : ℕ) → All (IsHeardJob heard) (jobs n)
-  all_heard (a ∷ b ∷ c ∷ d ∷ []) all s zero = taken_heard a team.first.0 (All-head (PushedOfTold heard) a (b ∷ c ∷ d ∷ []) all) s.0 one.none_put
-  all_heard (a ∷ b ∷ c ∷ d ∷ []) all s (suc zero) =
-      taken_heard b team.first.1 (All-head (PushedOfTold heard) b (c ∷ d ∷ []) (All-tail (PushedOfTold heard) a (b ∷ c ∷ d ∷ []) all)) s.1 two.none_put
-  all_heard (a ∷ b ∷ c ∷ d ∷ []) all s (suc (suc zero)) =
-      taken_heard c team.second.0 (All-head (PushedOfTold heard) c (d ∷ []) (All-tail (PushedOfTold heard) b (c ∷ d ∷ []) (All-tail (PushedOfTold heard) a (b ∷ c ∷ d ∷ []) all))) s.2 three.none_put
-  all_heard (a ∷ b ∷ c ∷ d ∷ []) all s (suc (suc (suc zero))) =
-      taken_heard d team.second.1 (All-head (PushedOfTold heard) d [] (All-tail (PushedOfTold heard) c (d ∷ []) (All-tail (PushedOfTold heard) b (c ∷ d ∷ []) (All-tail (PushedOfTold heard) a (b ∷ c ∷ d ∷ []) all)))) s.3 four.none_put
-  all_heard (a ∷ b ∷ c ∷ d ∷ []) all s (suc (suc (suc (suc n)))) = All-nil (IsHeardJob heard)
+  none_heard : (session : ℕ) (told' : Option (List Datagram)) → IfSome told' (λ list. InTurn (IsJobOf session) list [])
+  none_heard session None = tt
+  none_heard session (Some list) = tt
+
+  all_heard : (hands : List Hand) → ArePushed (length hands) 0 heard hands → AreAllSettled hands team → (n : ℕ) → AreHeard n (jobs n)
+  all_heard (a ∷ b ∷ c ∷ d ∷ []) all s zero = taken_heard 0 a team.first.0 all.0 s.0 one.none_put
+  all_heard (a ∷ b ∷ c ∷ d ∷ []) all s (suc zero) = taken_heard 1 b team.first.1 all.1.0 s.1 two.none_put
+  all_heard (a ∷ b ∷ c ∷ d ∷ []) all s (suc (suc zero)) = taken_heard 2 c team.second.0 all.1.1.0 s.2 three.none_put
+  all_heard (a ∷ b ∷ c ∷ d ∷ []) all s (suc (suc (suc zero))) = taken_heard 3 d team.second.1 all.1.1.1.0 s.3 four.none_put
+  all_heard (a ∷ b ∷ c ∷ d ∷ []) all s (suc (suc (suc (suc n)))) = none_heard (suc (suc (suc (suc n)))) heard
   all_heard [] all s n = absurd s
   all_heard (a ∷ []) all s n = absurd s
   all_heard (a ∷ b ∷ []) all s n = absurd s
   all_heard (a ∷ b ∷ c ∷ []) all s n = absurd s
   all_heard (a ∷ b ∷ c ∷ d ∷ e ∷ hands) all s n = absurd s
 
-  adds_at : (k : Knowledge) (n : ℕ) → k.number ≡ n → AddsAnswers (jobs n) k → AddsAnswers (jobs k.number) k
-  adds_at k n is adds = subst (λ m. AddsAnswers (jobs m) k) (sym is) adds
+  no_more_jobs : (session : ℕ) → session_count ≤ session → jobs session ≡ []
+  no_more_jobs zero many = absurd (omega (arith, many))
+  no_more_jobs (suc zero) many = absurd (omega (arith, many))
+  no_more_jobs (suc (suc zero)) many = absurd (omega (arith, many))
+  no_more_jobs (suc (suc (suc zero))) many = absurd (omega (arith, many))
+  no_more_jobs (suc (suc (suc (suc n)))) many = refl
 
   -- what the passes after the first, the second, the third and the fourth knew
   abbrev known4 : List Knowledge
@@ -121,46 +133,38 @@ module _ {F L : Type 0} (files : shelves.Ghosts F) (tells : paths.Ghosts L) (tol
   links0 = team.first.0.link ∷ links1
 
   abbrev Adds : Knowledge → Type 0
-  Adds k = (k.size ≡ start.size) × AddsAnswers (jobs k.number) k
+  Adds k = InTurn (AnswersJob start.size k.number) (jobs k.number) (added_by k.turns)
+
+  adds_at : (k : Knowledge) (n : ℕ) → k.number ≡ n → InTurn (AnswersJob start.size n) (jobs n) (added_by k.turns) → Adds k
+  adds_at k n is adds = subst (λ m. InTurn (AnswersJob start.size m) (jobs m) (added_by k.turns)) (sym is) adds
 
   module _ (writer : Writer F files) (written : HasWritten files told (began_at start 4) writer team.actor)
       (settled : AreAllSettled (hands_of reception.dispatcher) team) where
-    jobs_heard : (n : ℕ) → All (IsHeardJob heard) (jobs n)
+    jobs_heard : (n : ℕ) → AreHeard n (jobs n)
     jobs_heard = all_heard (hands_of reception.dispatcher) dispatched.pushed settled
+
+    each_heard : (n : ℕ) → All (IsHeardJob heard) (jobs n)
+    each_heard n = by heard (jobs_heard n)
+      where
+        by : (told' : Option (List Datagram)) → IfSome told' (λ list. InTurn (IsJobOf n) list (jobs n)) → All (IsHeardJob told') (jobs n)
+        by None p = λ k d lt. tt
+        by (Some list) p = in_turn_all (IsJobOf n) (λ (d : Datagram). Contains list d) (IsHeardJob (Some list))
+            (λ d job has is. subst (λ (x : Datagram). Contains list x) (sym is.1) has) list (jobs n)
+            (each_contains list) p
 
     all_add : told ≡ true → All Adds (known_among team)
     all_add y =
-        All-cons Adds (known_at team.first.0) known1 (one.size, adds_at (known_at team.first.0) 0 one.number (one.answers y))
-        (All-cons Adds (known_at team.first.1) known2 (two.size, adds_at (known_at team.first.1) 1 two.number (two.answers y))
-        (All-cons Adds (known_at team.second.0) known3 (three.size, adds_at (known_at team.second.0) 2 three.number (three.answers y))
-        (All-cons Adds (known_at team.second.1) known4 (four.size, adds_at (known_at team.second.1) 3 four.number (four.answers y))
-        (All-cons Adds (writing.knowledge_of team.actor) [] (written.size, adds_at (writing.knowledge_of team.actor) 4 written.number written.adds) (All-nil Adds)))))
+        All-cons Adds (known_at team.first.0) known1 (adds_at (known_at team.first.0) 0 one.number (one.answers y))
+        (All-cons Adds (known_at team.first.1) known2 (adds_at (known_at team.first.1) 1 two.number (two.answers y))
+        (All-cons Adds (known_at team.second.0) known3 (adds_at (known_at team.second.0) 2 three.number (three.answers y))
+        (All-cons Adds (known_at team.second.1) known4 (adds_at (known_at team.second.1) 3 four.number (four.answers y))
+        (All-cons Adds (writing.knowledge_of team.actor) [] writer_adds (All-nil Adds)))))
+      where
+        writer_adds : Adds (writing.knowledge_of team.actor)
+        writer_adds = subst (λ l. InTurn (AnswersJob start.size (writing.knowledge_of team.actor).number)
+            (jobs (writing.knowledge_of team.actor).number) l) (sym (none_added (writing.knowledge_of team.actor) written.adds)) tt
 
-    -- the jobs that all took, and the latest moment of them
-    abbrev all_jobs : List Job
-    all_jobs = (jobs 0 ++ jobs 1) ++ (jobs 2 ++ jobs 3)
-
-    all_were_heard : All (IsHeardJob heard) all_jobs
-    all_were_heard =
-        All-append (IsHeardJob heard) (jobs 0 ++ jobs 1) (jobs 2 ++ jobs 3)
-        (All-append (IsHeardJob heard) (jobs 0) (jobs 1) (jobs_heard 0) (jobs_heard 1))
-        (All-append (IsHeardJob heard) (jobs 2) (jobs 3) (jobs_heard 2) (jobs_heard 3))
-
-    among_all : (n : ℕ) (job : Job) → Contains (jobs n) job → Contains all_jobs job
-    among_all zero job has =
-        Contains-append_left (jobs 0 ++ jobs 1) (jobs 2 ++ jobs 3) job (Contains-append_left (jobs 0) (jobs 1) job has)
-    among_all (suc zero) job has =
-        Contains-append_left (jobs 0 ++ jobs 1) (jobs 2 ++ jobs 3) job (Contains-append_right (jobs 0) (jobs 1) job has)
-    among_all (suc (suc zero)) job has =
-        Contains-append_right (jobs 0 ++ jobs 1) (jobs 2 ++ jobs 3) job (Contains-append_left (jobs 2) (jobs 3) job has)
-    among_all (suc (suc (suc zero))) job has =
-        Contains-append_right (jobs 0 ++ jobs 1) (jobs 2 ++ jobs 3) job (Contains-append_right (jobs 2) (jobs 3) job has)
-    among_all (suc (suc (suc (suc n)))) job has = absurd (let lt = has.1 in omega (arith, lt))
-
-    answers_one : (p : HistoryEntry × List HistoryEntry) → IsAnswer start.size jobs p → IsAnswer start.size (λ session. all_jobs) p
-    answers_one p a = (a.0, among_all p.0.caller.session a.0 a.1, a.2)
-
-    last_of_all : last_among team ≡ latest all_jobs
+    last_of_all : last_among team ≡ latest_of jobs
     last_of_all =
         let each : last_among team ≡ later_of (later_of (latest (jobs 0)) (latest (jobs 1))) (later_of (latest (jobs 2)) (latest (jobs 3))) =
         λ i. later_of (later_of (one.last i) (two.last i)) (later_of (three.last i) (four.last i)) in
@@ -169,23 +173,22 @@ module _ {F L : Type 0} (files : shelves.Ghosts F) (tells : paths.Ghosts L) (tol
         λ i. later_of (latest_of_both (jobs 0) (jobs 1) i) (latest_of_both (jobs 2) (jobs 3) i) in
         each ∙ sym (latest_of_both (jobs 0 ++ jobs 1) (jobs 2 ++ jobs 3) ∙ halves)
 
-    called_for_heard : (p : HistoryEntry × List HistoryEntry) → IsAnswer start.size jobs p → IsCalledFor start.size heard p
-    called_for_heard p a = record {
-      datagram = datagram_of a.0;
-      was_heard = All-contains (IsHeardJob heard) (jobs p.0.caller.session) a.0 (jobs_heard p.0.caller.session) a.1;
-      now = a.0.moment;
-      who = caller_of p.0.caller.session a.0;
-      called = a.2;
+    called_for_heard : (session : ℕ) (job : Job) (p : HistoryEntry × List HistoryEntry) → IsHeardJob heard job
+        → AnswersJob start.size session job p → IsCalledFor start.size heard p
+    called_for_heard session job p was a = record {
+      datagram = datagram_of job;
+      was_heard = was;
+      now = job.moment;
+      who = caller_of session job;
+      called = a;
     }
 
-    history_goes_on : ((size : ℕ) (of : ℕ → List Job) (begun left : Facts) (passes : List Knowledge)
-        → All (λ k. (k.size ≡ size) × AddsAnswers (of k.number) k) passes → (owned : AreOwned begun left passes)
-        → AreAnswers size of owned.stood owned.tail) → (last : Option ℕ) → last ≡ last_among team
-        → WhereTold told (GoesOnUntil heard start now last)
-    history_goes_on law last is y =
+    history_goes_on : (last : Option ℕ) → last ≡ last_among team → WhereTold told (GoesOnUntil heard start now last)
+    history_goes_on last is y =
         let owned = ended.entries y in
-        let each : AreAnswers start.size jobs owned.stood owned.tail =
-        law start.size jobs start now (known_among team) (all_add y) owned in
+        let ps = placed owned.stood owned.tail in
+        let in_turn : (session : ℕ) → InTurn (AnswersJob start.size session) (jobs session) (by_session session ps) =
+        all_in_turn start.size jobs owned.stood owned.tail (known_among team) (all_add y) owned.numbers owned.owns in
         record {
           goes = record {
             stood = owned.stood;
@@ -195,27 +198,27 @@ module _ {F L : Type 0} (files : shelves.Ghosts F) (tells : paths.Ghosts L) (tol
             firm = owned.stands.firm;
             begins = owned.stands.begins;
             first = firm_first now (ended.sound.begins y);
-            answers = All-weaker (IsAnswer start.size jobs) (IsCalledFor start.size heard) called_for_heard
-                (placed owned.stood owned.tail) each;
+            answers = all_sessions (IsCalledFor start.size heard) ps
+                (λ session. in_turn_all (AnswersJob start.size session) (IsHeardJob heard) (IsCalledFor start.size heard)
+                (called_for_heard session) (jobs session) (by_session session ps) (each_heard session) (in_turn session));
           };
-          jobs = all_jobs;
-          were_heard = all_were_heard;
-          answers = All-weaker (IsAnswer start.size jobs) (IsAnswer start.size (λ session. all_jobs)) answers_one
-              (placed owned.stood owned.tail) each;
+          jobs = jobs;
+          answers = record { were_heard = jobs_heard; answers = in_turn; no_more = no_more_jobs };
           latest = is ∙ last_of_all;
         }
 
+    abbrev At : Datagram → Datagram → Type 0
+    At asked sent = (sent.peer ≡ asked.peer)
+        × (IsAnswered start.size now.firm asked sent.octets ⊎ (TellsFailure asked sent.octets × Rose start.faults now.faults))
+
     -- a reply of a session rests on what is firm at the end
-    reply_at : (jobs' : List Job) (k : Knowledge) → All (IsHeardJob heard) jobs' → k.size ≡ start.size → k.faults ≡ start.faults
-        → IsLegal told k now → told ≡ true → (d : Datagram) → IsReplyTo jobs' k d
-        → IsReply heard start.size now.firm start.faults now.faults d
-    reply_at jobs' k were size faults legal y d r = record {
-      asked = datagram_of r.job;
-      was_heard = All-contains (IsHeardJob heard) jobs' r.job were r.was_taken;
-      peer = r.peer;
-      says = ⊎_elim
-          (λ (a : IsAnswered k.size k.known (datagram_of r.job) d.octets).
-          inl (subst (λ (n : ℕ). IsAnswered n now.firm (datagram_of r.job) d.octets) size
+    reply_at : (k : Knowledge) → k.size ≡ start.size → k.faults ≡ start.faults → IsLegal told k now → told ≡ true
+        → (job : Job) (d : Datagram) → RepliesTo k job d → At (datagram_of job) d
+    reply_at k size faults legal y job d r = (
+      r.peer,
+      ⊎_elim
+          (λ (a : IsAnswered k.size k.known (datagram_of job) d.octets).
+          inl (subst (λ (n : ℕ). IsAnswered n now.firm (datagram_of job) d.octets) size
           (record {
             history = a.history;
             act = a.act;
@@ -224,7 +227,7 @@ module _ {F L : Type 0} (files : shelves.Ghosts F) (tells : paths.Ghosts L) (tol
             who = a.who;
             rests = begins_then (a.history ++ entries_of a.history a.now a.who a.act) k.known now.firm a.rests (legal.known y);
           })))
-          (λ (f : TellsFailure (datagram_of r.job) d.octets × HasFailedSince k).
+          (λ (f : TellsFailure (datagram_of job) d.octets × HasFailedSince k).
           let t = f.1.0 in
           let follows : Follows told (facts_of t.left) now = All-contains (λ (u : KeptTurn). Follows told (facts_of u.left) now) k.turns t legal.turns f.1.1 in
           inr (
@@ -232,8 +235,8 @@ module _ {F L : Type 0} (files : shelves.Ghosts F) (tells : paths.Ghosts L) (tol
             subst (λ (n : ℕ). Rose n now.faults) faults
                 (rose_to k.faults t.left.faults now.faults follows.faults f.1.2),
           ))
-          r.says;
-    }
+          r.says,
+    )
 
     replies_at : (n : ℕ) (desk : Desk L) → HasWorked tells told at (began_at start n) desk → All (IsHeardJob heard) (hand_at desk).taken
         → IsLegal told (known_at desk) now → told ≡ true
@@ -243,8 +246,28 @@ module _ {F L : Type 0} (files : shelves.Ghosts F) (tells : paths.Ghosts L) (tol
         by_sent : (sent : Option (List Datagram)) → AreRepliesTo (hand_at desk).taken (known_at desk) sent
             → IfSome sent (All (IsReply heard start.size now.firm start.faults now.faults))
         by_sent None are = tt
-        by_sent (Some list) are = All-weaker (IsReplyTo (hand_at desk).taken (known_at desk)) (IsReply heard start.size now.firm start.faults now.faults)
-            (reply_at (hand_at desk).taken (known_at desk) were w.size w.faults legal y) list are
+        by_sent (Some list) are = in_turn_all (RepliesTo (known_at desk)) (IsHeardJob heard) (IsReply heard start.size now.firm start.faults now.faults)
+            (λ job d was r.
+            let at_end : At (datagram_of job) d = reply_at (known_at desk) w.size w.faults legal y job d r in
+            record { asked = datagram_of job; was_heard = was; peer = at_end.0; says = at_end.1 })
+            (hand_at desk).taken list were are
+
+    in_turn_at : (n : ℕ) (desk : Desk L) → HasWorked tells told at (began_at start n) desk → AreHeard n (hand_at desk).taken
+        → IsLegal told (known_at desk) now → told ≡ true
+        → IfSome heard (λ list. IfSome (link_at tells desk).sent (InTurn (IsReplyTo n start.size now.firm start.faults now.faults) list))
+    in_turn_at n desk w were legal y = by heard (link_at tells desk).sent were (w.replies y)
+      where
+        by : (told' sent : Option (List Datagram)) → IfSome told' (λ list. InTurn (IsJobOf n) list (hand_at desk).taken)
+            → AreRepliesTo (hand_at desk).taken (known_at desk) sent
+            → IfSome told' (λ list. IfSome sent (InTurn (IsReplyTo n start.size now.firm start.faults now.faults) list))
+        by None sent took are = tt
+        by (Some list) None took are = tt
+        by (Some list) (Some sent) took are = in_turn_through (IsJobOf n) (RepliesTo (known_at desk))
+            (IsReplyTo n start.size now.firm start.faults now.faults)
+            (λ d job reply is r.
+            let at_end : At d reply = subst (λ (x : Datagram). At x reply) is.1 (reply_at (known_at desk) w.size w.faults legal y job reply r) in
+            record { session_is = is.0; peer = at_end.0; says = at_end.1 })
+            list (hand_at desk).taken sent took are
 
     none_sent : (sent : Option (List Datagram)) → IfSome sent (λ list. list ≡ []) → (P : Datagram → Type 0) → IfSome sent (All P)
     none_sent None is P = tt
@@ -256,18 +279,34 @@ module _ {F L : Type 0} (files : shelves.Ghosts F) (tells : paths.Ghosts L) (tol
     abbrev Legal : Knowledge → Type 0
     Legal k = IsLegal told k now
 
-    all_replies : WhereTold told (AreReplies tells heard start now (links_of reception team))
+    all_replies : WhereTold told (HaveReplied tells heard start now (links_of reception team))
     all_replies y =
         let l1 = ended.legal in
         let l2 : All Legal known1 = All-tail Legal (known_at team.first.0) known1 l1 in
         let l3 : All Legal known2 = All-tail Legal (known_at team.first.1) known2 l2 in
         let l4 : All Legal known3 = All-tail Legal (known_at team.second.0) known3 l3 in
-        All-cons Sent reception.link links0 (none_sent (link_of tells reception).sent dispatched.unsent (IsReply heard start.size now.firm start.faults now.faults))
-        (All-cons Sent team.first.0.link links1 (replies_at 0 team.first.0 one (jobs_heard 0) (All-head Legal (known_at team.first.0) known1 l1) y)
-        (All-cons Sent team.first.1.link links2 (replies_at 1 team.first.1 two (jobs_heard 1) (All-head Legal (known_at team.first.1) known2 l2) y)
-        (All-cons Sent team.second.0.link links3 (replies_at 2 team.second.0 three (jobs_heard 2) (All-head Legal (known_at team.second.0) known3 l3) y)
-        (All-cons Sent team.second.1.link [] (replies_at 3 team.second.1 four (jobs_heard 3) (All-head Legal (known_at team.second.1) known4 l4) y)
-        (All-nil Sent)))))
+        let legal0 = All-head Legal (known_at team.first.0) known1 l1 in
+        let legal1 = All-head Legal (known_at team.first.1) known2 l2 in
+        let legal2 = All-head Legal (known_at team.second.0) known3 l3 in
+        let legal3 = All-head Legal (known_at team.second.1) known4 l4 in
+        record {
+          each = All-cons Sent reception.link links0 (none_sent (link_of tells reception).sent dispatched.unsent (IsReply heard start.size now.firm start.faults now.faults))
+              (All-cons Sent team.first.0.link links1 (replies_at 0 team.first.0 one (each_heard 0) legal0 y)
+              (All-cons Sent team.first.1.link links2 (replies_at 1 team.first.1 two (each_heard 1) legal1 y)
+              (All-cons Sent team.second.0.link links3 (replies_at 2 team.second.0 three (each_heard 2) legal2 y)
+              (All-cons Sent team.second.1.link [] (replies_at 3 team.second.1 four (each_heard 3) legal3 y)
+              (All-nil Sent)))));
+          in_turn = all_replied tells start.size now.firm start.faults now.faults heard reception.link links0 dispatched.unsent (
+            in_turn_at 0 team.first.0 one (jobs_heard 0) legal0 y,
+            (
+              in_turn_at 1 team.first.1 two (jobs_heard 1) legal1 y,
+              (
+                in_turn_at 2 team.second.0 three (jobs_heard 2) legal2 y,
+                (in_turn_at 3 team.second.1 four (jobs_heard 3) legal3 y, refl),
+              ),
+            ),
+          );
+        }
 
     first_since : (k : Knowledge) → k.faults ≡ start.faults → Legal k → start.faults ≤ now.faults
     first_since k same l = let s = l.since in omega (arith, same, s)
@@ -293,13 +332,11 @@ module _ {F L : Type 0} (files : shelves.Ghosts F) (tells : paths.Ghosts L) (tol
 module _ {F L : Type 0} (files : shelves.Ghosts F) (tells : paths.Ghosts L) (told : Bool) (at : Addr) (start now : Facts) (writer : Writer F files)
     (reception : Reception L) (team : Team F L files) (s : HaveServed files tells told at start writer reception team)
     (ended : Ended told start now (known_among team)) (settled : AreAllSettled (hands_of reception.dispatcher) team) where
-  pub run_goes_on : ((size : ℕ) (of : ℕ → List Job) (begun left : Facts) (passes : List Knowledge)
-      → All (λ k. (k.size ≡ size) × AddsAnswers (of k.number) k) passes → (owned : AreOwned begun left passes)
-      → AreAnswers size of owned.stood owned.tail) → (last : Option ℕ) → last ≡ last_among team
+  pub run_goes_on : (last : Option ℕ) → last ≡ last_among team
       → WhereTold told (GoesOnUntil (heard_by tells (links_of reception team)) start now last)
-  run_goes_on law last is = history_goes_on files tells told at start now reception team s.dispatched s.one s.two s.three s.four ended writer s.written settled law last is
+  run_goes_on last is = history_goes_on files tells told at start now reception team s.dispatched s.one s.two s.three s.four ended writer s.written settled last is
 
-  pub run_replies : WhereTold told (AreReplies tells (heard_by tells (links_of reception team)) start now (links_of reception team))
+  pub run_replies : WhereTold told (HaveReplied tells (heard_by tells (links_of reception team)) start now (links_of reception team))
   run_replies = all_replies files tells told at start now reception team s.dispatched s.one s.two s.three s.four ended writer s.written settled
 
   pub run_stays : StaysAs start now

@@ -1,4 +1,5 @@
--- What a session has done at its desk: what it added are answers to jobs that it took, and what it sent are replies to them.
+-- What a session has done at its desk: what it added are answers to jobs that it took, in turn, and what it sent are
+-- replies to them, in turn.
 use Rattle.std.specs.Prelude.{◌≡◌, ◌≢◌, ◌⊎◌, ◌≤◌, ℕ, Bool, List, [], ◌∷◌, ◌++◌, All, Option, None, Some, IfSome}
 use Rattle.std.specs.List.{Contains}
 use Rattle.std.specs.Option.{option_or}
@@ -13,14 +14,14 @@ use Rattle.job_inbox.specs.declared.inbox.Inbox.{Inbox}
 use Rattle.job_inbox.specs.declared.job.Job.{Job}
 use Rattle.net_link.specs.Datagrams.{Datagram, IsEmpty, LinkState}
 use Rattle.net_link.specs.declared.link.Link.{Ghosts}
-use Rattle.node_session.specs.Answering.{AddsAnswers}
 use Rattle.node_session.specs.Passes.{IsWorkerOf, knowledge_of}
 use Rattle.node_session.specs.declared.served.Served.{Served}
 use Rattle.node_session.specs.declared.served.Served.TheVariants as served
+use Rattle.turn_cell.specs.Placed.{added_by}
 use Rattle.turn_cell.specs.declared.cell.TurnCell.{TurnCell}
 use Rattle.turn_cell.specs.declared.knowing.KeptTurn.{KeptTurn}
 use Rattle.turn_cell.specs.declared.knowing.Knowledge.{Knowledge}
-use Rattle.session_run.specs.History.{IsAnswered, TellsFailure, datagram_of}
+use Rattle.session_run.specs.History.{AnswersJob, InTurn, IsAnswered, TellsFailure, datagram_of}
 use Rattle.session_run.specs.Latest.{latest}
 use Rattle.session_run.specs.declared.desk.Desk.{Desk}
 use Rattle.session_run.specs.declared.stop.Stop.{Stop}
@@ -63,17 +64,15 @@ pub record IsSince (faults : ℕ) (t : KeptTurn) : Type 0 where
 abbrev pub HasFailedSince : Knowledge → Type 0
 HasFailedSince k = (t : KeptTurn) × Contains k.turns t × disk.Rose k.faults t.left.faults
 
--- What a session sent is the reply to a job that it took.
-pub record IsReplyTo (jobs : List Job) (k : Knowledge) (sent : Datagram) : Type 0 where
-  pub job : Job
-  pub was_taken : Contains jobs job
+-- What a session sent is the reply to a job.
+pub record RepliesTo (k : Knowledge) (job : Job) (sent : Datagram) : Type 0 where
   pub peer : sent.peer ≡ job.from
   pub says : IsAnswered k.size k.known (datagram_of job) sent.octets
       ⊎ (TellsFailure (datagram_of job) sent.octets × HasFailedSince k)
 
--- what was sent, where that is told, are replies to jobs that were taken
+-- what was sent, where that is told, are replies to jobs in turn
 abbrev pub AreRepliesTo : List Job → Knowledge → Option (List Datagram) → Type 0
-AreRepliesTo jobs k sent = IfSome sent (All (IsReplyTo jobs k))
+AreRepliesTo jobs k sent = IfSome sent (InTurn (RepliesTo k) jobs)
 
 -- a link at this address has taken no turn and heard nothing
 pub record HearsNothing (at : Addr) (link : LinkState) : Type 0 where
@@ -107,7 +106,8 @@ module _ {L : Type 0} (tells : Ghosts L) (told : Bool) (at : Addr) (began : Bega
     pub since : All (IsSince began.faults) (known_at desk).turns
     pub none_put : (hand_at desk).put ≡ []
     pub last : desk.last ≡ latest (hand_at desk).taken
-    pub answers : WhereTold told (AddsAnswers (hand_at desk).taken (known_at desk))
+    pub answers : WhereTold told
+        (InTurn (AnswersJob began.size began.number) (hand_at desk).taken (added_by (known_at desk).turns))
     pub replies : WhereTold told (AreRepliesTo (hand_at desk).taken (known_at desk) (link_at tells desk).sent)
     pub link : HearsNothing at (link_at tells desk)
     pub cause : desk.stop ≡ Some stop.Link → Rose 0 (link_at tells desk).faults

@@ -1,5 +1,5 @@
 -- What a gateway's history gains by the datagrams that its link heard, and what is sent for them.
-use Rattle.std.specs.Prelude.{◌≡◌, ◌⊎◌, ℕ, List, [], ◌∷◌, ◌++◌, All, Option, Some, IfSome}
+use Rattle.std.specs.Prelude.{◌≡◌, ◌⊎◌, ℕ, ◌%◌, ◌≤◌, ◌==◌, filter, List, [], ◌∷◌, ◌++◌, All, Option, Some, IfSome, ⊤}
 use Rattle.std.specs.List.{Contains}
 use Rattle.area_disk.specs.Disk.{Rose}
 use Rattle.gw_base.specs.Facts.{Facts, joined}
@@ -11,10 +11,10 @@ use Rattle.gateway_book.specs.Answer.{Says, failure_reply}
 use Rattle.gateway_book.specs.Preparing.{prepared_of}
 use Rattle.job_inbox.specs.declared.job.Job.{Job}
 use Rattle.net_link.specs.Datagrams.{Datagram}
-use Rattle.node_session.specs.Answering.{AreAnswers}
+use Rattle.node_session.specs.Serving.{caller_of}
 use Rattle.node_session.specs.Turns.{called_for, decided_at, entries_of}
-use Rattle.turn_cell.specs.Placed.{placed}
-use Rattle.session_run.specs.Latest.{latest}
+use Rattle.turn_cell.specs.Placed.{by_session, placed}
+use Rattle.session_run.specs.Latest.{Jobs, latest_of}
 
 -- the datagram that a job has
 abbrev pub datagram_of : Job → Datagram
@@ -45,14 +45,46 @@ pub record GoesOn (heard : Option (List Datagram)) (start now : Facts) : Type 0 
   pub first : Begins now.firm (joined now)
   pub answers : All (IsCalledFor start.size heard) (placed stood tail)
 
--- A history goes on by answers to jobs, each to one at its own moment. The jobs are datagrams that were heard, and the
--- latest moment of any is this.
+-- The second list is for the first in turn: each of its elements for one of the first, no two for the same, and in the
+-- same order.
+abbrev pub InTurn : {A B : Type 0} → (A → B → Type 0) → List A → List B → Type 0
+InTurn For xs [] = ⊤
+InTurn For [] (y ∷ ys) = ⊥
+InTurn For (x ∷ xs) (y ∷ ys) = (For x y × InTurn For xs ys) ⊎ InTurn For xs (y ∷ ys)
+
+-- how many sessions a gateway has
+abbrev pub session_count : ℕ
+session_count = 4
+
+-- a datagram is for a session: all that a node sends are for the same
+abbrev pub IsFor : ℕ → Datagram → Type 0
+IsFor session d = d.peer.ip % session_count ≡ session
+
+-- a datagram is for a session, and the job is it
+abbrev pub IsJobOf : ℕ → Datagram → Job → Type 0
+IsJobOf session d job = IsFor session d × (datagram_of job ≡ d)
+
+-- the entry, with what stands in front of it, is the one that the answer to a job of the session calls for there, at the
+-- job's moment
+abbrev pub AnswersJob : ℕ → ℕ → Job → HistoryEntry × List HistoryEntry → Type 0
+AnswersJob size session job p =
+    called_for p.1 size job.from job.octets job.moment (caller_of session job) ≡ p.0 ∷ []
+
+-- Entries, each with what stands in front of it, answer jobs. The jobs of a session are datagrams for it that were heard,
+-- each taken once and in the order in which they were heard; its entries are answers to its jobs, one to a job at most
+-- and in their order.
+pub record AnswerInTurn (size : ℕ) (heard : Option (List Datagram)) (jobs : Jobs)
+    (entries : List (HistoryEntry × List HistoryEntry)) : Type 0 where
+  pub were_heard : (session : ℕ) → IfSome heard (λ list. InTurn (IsJobOf session) list (jobs session))
+  pub answers : (session : ℕ) → InTurn (AnswersJob size session) (jobs session) (by_session session entries)
+  pub no_more : (session : ℕ) → session_count ≤ session → jobs session ≡ []
+
+-- A history goes on, and what stands behind the one at first answers jobs in turn, of which this is the latest moment.
 pub record GoesOnUntil (heard : Option (List Datagram)) (start now : Facts) (last : Option ℕ) : Type 0 where
   pub goes : GoesOn heard start now
-  pub jobs : List Job
-  pub were_heard : All (λ job. IsHeard heard (datagram_of job)) jobs
-  pub answers : AreAnswers start.size (λ session. jobs) goes.stood goes.tail
-  pub latest : last ≡ latest jobs
+  pub jobs : Jobs
+  pub answers : AnswerInTurn start.size heard jobs (placed goes.stood goes.tail)
+  pub latest : last ≡ latest_of jobs
 
 -- These octets are what is answered to a datagram at a history; it is firm, and the entry that the answer calls for, if
 -- any, is firm behind it.
@@ -77,3 +109,20 @@ pub record IsReply (heard : Option (List Datagram)) (size : ℕ) (firm : List Hi
   pub was_heard : IsHeard heard asked
   pub peer : sent.peer ≡ asked.peer
   pub says : IsAnswered size firm asked sent.octets ⊎ (TellsFailure asked sent.octets × Rose before now)
+
+-- the same of this one, which is for a session
+pub record IsReplyTo (session size : ℕ) (firm : List HistoryEntry) (before now : ℕ) (asked sent : Datagram)
+    : Type 0 where
+  pub session_is : IsFor session asked
+  pub peer : sent.peer ≡ asked.peer
+  pub says : IsAnswered size firm asked sent.octets ⊎ (TellsFailure asked sent.octets × Rose before now)
+
+-- those of datagrams that went to nodes of a session, by their addresses
+abbrev pub those_of : ℕ → List Datagram → List Datagram
+those_of session sent = filter (λ d. d.peer.ip % session_count == session) sent
+
+-- Where it is told what was heard and what was sent, what was sent to nodes of each session are replies to datagrams for
+-- it, one to each at most and in the order in which they were heard.
+abbrev pub ReplyInTurn : ℕ → List HistoryEntry → ℕ → ℕ → Option (List Datagram) → Option (List Datagram) → Type 0
+ReplyInTurn size firm before now heard sent = (session : ℕ) → IfSome heard (λ asked. IfSome sent (λ list.
+    InTurn (IsReplyTo session size firm before now) asked (those_of session list)))

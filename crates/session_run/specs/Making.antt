@@ -1,5 +1,5 @@
 -- What is made before sessions serve.
-use Rattle.std.specs.Prelude.{◌≡◌, ℕ, ◌≤◌, List, [], ◌∷◌, All, length, Vec, vec_capacity, vec_len}
+use Rattle.std.specs.Prelude.{◌≡◌, ◌≤◌, List, [], ◌∷◌, All, length, Vec, vec_capacity, vec_len}
 use lib.ListN.{replicate}
 use Rattle.job_inbox.specs.Inbox.{IsPassOf, knowledge, known_by, made_by}
 use Rattle.job_inbox.specs.Rule.{idle}
@@ -7,12 +7,9 @@ use Rattle.job_inbox.specs.declared.inbox.Inbox.{Inbox}
 use Rattle.job_inbox.specs.declared.inbox.InboxPass.{InboxPass}
 use Rattle.node_session.specs.Receiving.{AreOfEach, hands_of, passes_of}
 use Rattle.std.specs.declared.alloc.Global.{Global}
+use Rattle.session_run.specs.History.{session_count}
 use Rattle.session_run.specs.declared.making.Hall.{Hall}
 use Rattle.session_run.specs.declared.making.Place.{Place}
-
--- how many sessions there are
-abbrev pub session_count : ℕ
-session_count = 4
 
 -- an inbox has two passes
 abbrev pub HasTwo : Inbox → Type 0

@@ -1,15 +1,15 @@
 -- What who receives has done: what its link heard was pushed, and nothing else.
-use Rattle.std.specs.Prelude.{◌≡◌, ℕ, ◌+◌, ◌<◌, ◌^◌, Bool, false, true, List, [], All, Option, None, Some, ⊤}
-use Rattle.std.specs.List.{Contains}
+use Rattle.std.specs.Prelude.{◌≡◌, ℕ, suc, ◌+◌, ◌%◌, ◌<◌, ◌^◌, Bool, false, true, List, [], ◌∷◌, Option, None, Some, IfSome, length, ⊤}
 use Rattle.gw_base.specs.Faults.{Rose, next_count}
 use Rattle.gw_base.specs.declared.address.Addr.{Addr}
 use Rattle.job_inbox.specs.declared.hand.Hand.{Hand}
+use Rattle.job_inbox.specs.declared.job.Job.{Job}
 use Rattle.net_link.specs.Datagrams.{Datagram, IsEmpty, LinkState}
 use Rattle.net_link.specs.declared.link.Link.{Ghosts}
 use Rattle.node_session.specs.Receiving.{HasHeardOne, hands_of}
 use Rattle.node_session.specs.declared.dispatched.Dispatched.{Dispatched}
 use Rattle.node_session.specs.declared.dispatched.Dispatched.TheVariants as dispatched
-use Rattle.session_run.specs.History.{datagram_of}
+use Rattle.session_run.specs.History.{InTurn, datagram_of}
 use Rattle.session_run.specs.declared.reception.Reception.{Reception}
 use Rattle.session_run.specs.declared.stop.Stop.{Stop}
 use Rattle.session_run.specs.declared.stop.Stop.TheVariants as stop
@@ -34,15 +34,21 @@ was_quiet dispatched.Link = false
 was_quiet dispatched.Clock = false
 was_quiet dispatched.NoMemory = false
 
--- each job that a pass pushed is a datagram among these, and it took none
-pub record PushedOf (heard : List Datagram) (hand : Hand) : Type 0 where
-  pub jobs : All (λ job. Contains heard (datagram_of job)) hand.put
+-- the job is a datagram that is for this one of so many sessions
+abbrev pub IsOneFor : ℕ → ℕ → Datagram → Job → Type 0
+IsOneFor sessions session d job = (d.peer.ip % sessions ≡ session) × (datagram_of job ≡ d)
+
+-- Of datagrams that were heard, where that is told, those for a session were pushed by a pass, or some of them, in turn.
+-- It took none.
+pub record PushedOf (sessions session : ℕ) (heard : Option (List Datagram)) (hand : Hand) : Type 0 where
+  pub jobs : IfSome heard (λ list. InTurn (IsOneFor sessions session) list hand.put)
   pub none_taken : hand.taken ≡ []
 
--- the same of datagrams that a link tells it received
-abbrev pub PushedOfTold : Option (List Datagram) → Hand → Type 0
-PushedOfTold (Some heard) hand = PushedOf heard hand
-PushedOfTold None hand = hand.taken ≡ []
+-- the same of each pass, from that to the inbox of this session on
+abbrev pub ArePushed : ℕ → ℕ → Option (List Datagram) → List Hand → Type 0
+ArePushed sessions session heard [] = ⊤
+ArePushed sessions session heard (hand ∷ hands) =
+    PushedOf sessions session heard hand × ArePushed sessions (suc session) heard hands
 
 module _ {L : Type 0} (tells : Ghosts L) where
   abbrev pub link_of : Reception L → LinkState
@@ -51,10 +57,11 @@ module _ {L : Type 0} (tells : Ghosts L) where
   abbrev pub turns_of : Reception L → ℕ
   turns_of reception = (link_of reception).turns
 
-  -- Since its link was made at this address, each job that it pushed is a datagram that the link received, and it sent
-  -- nothing. Where the link stopped it, its count of faults rose.
+  -- Since its link was made at this address, each job that it pushed is a datagram that the link received, each once and
+  -- in their order, and it sent nothing. Where the link stopped it, its count of faults rose.
   pub record HasDispatched (at : Addr) (reception : Reception L) : Type 0 where
-    pub pushed : All (PushedOfTold (link_of reception).received) (hands_of reception.dispatcher)
+    pub pushed : ArePushed (length (hands_of reception.dispatcher)) 0 (link_of reception).received
+        (hands_of reception.dispatcher)
     pub address : (link_of reception).address ≡ at
     pub unsent : IsEmpty (link_of reception).sent
     pub cause : reception.stop ≡ Some stop.Link → Rose 0 (link_of reception).faults

@@ -3,10 +3,10 @@ use Rattle.std.specs.Prelude.{◌≡◌, ◌⊎◌, ℕ, ◌≤◌, ◌<◌, ◌
 use Rattle.gw_base.specs.Facts.{Facts}
 use Rattle.gw_base.specs.Faults.{Rose}
 use Rattle.gw_base.specs.declared.address.Addr.{Addr}
-use Rattle.net_link.specs.Datagrams.{Datagram, IsEmpty, IsNewAt, LinkState}
+use Rattle.net_link.specs.Datagrams.{Datagram, IsEmpty, IsNewAt, LinkState, joined}
 use Rattle.net_link.specs.declared.link.Link.{Ghosts}
 use Rattle.session_run.specs.Desks.{HearsNothing}
-use Rattle.session_run.specs.History.{IsReply}
+use Rattle.session_run.specs.History.{IsReply, ReplyInTurn}
 use Rattle.session_run.specs.declared.stop.Stop.{Stop}
 use Rattle.session_run.specs.declared.stop.Stop.TheVariants as stop
 use Rattle.session_run.specs.declared.until.Until.{Until}
@@ -62,6 +62,16 @@ module _ {L : Type 0} (tells : Ghosts L) where
   abbrev pub AreReplies : Option (List Datagram) → Facts → Facts → List L → Type 0
   AreReplies heard start now links =
       All (λ link. IfSome (tells.state link).sent (All (IsReply heard start.size now.firm start.faults now.faults))) links
+
+  -- what the links tell that they sent, all together, the first of them last
+  abbrev pub sent_by : List L → Option (List Datagram)
+  sent_by [] = Some []
+  sent_by (link ∷ links) = joined (sent_by links) (tells.state link).sent
+
+  -- Each of the links sent replies alone, and all together they replied in turn.
+  pub record HaveReplied (heard : Option (List Datagram)) (start now : Facts) (links : List L) : Type 0 where
+    pub each : AreReplies heard start now links
+    pub in_turn : ReplyInTurn start.size now.firm start.faults now.faults heard (sent_by links)
 
   -- the count of a link's faults rose since it was made
   abbrev pub HasFailed : L → Type 0

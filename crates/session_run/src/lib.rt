@@ -18,6 +18,7 @@ mod ending;
 mod filing;
 mod gateway;
 mod gathering;
+pub mod laws;
 mod links;
 mod making;
 mod receiving;

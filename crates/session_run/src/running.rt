@@ -14,7 +14,7 @@ ghost use Rattle.session_run.specs.Filing.{KeepsWriter};
 ghost use Rattle.session_run.specs.History.{GoesOnUntil};
 ghost use Rattle.session_run.specs.Making.{HasRoomForTwo, HasTwo, pops_in};
 ghost use Rattle.session_run.specs.Reception.{IfTurns};
-ghost use Rattle.session_run.specs.Running.{AreFiveOf, AreNewAt, AreReplies, HasStopCause, IsFew, StaysAs, heard_by, turns_by};
+ghost use Rattle.session_run.specs.Running.{AreFiveOf, AreNewAt, HasStopCause, HaveReplied, IsFew, StaysAs, heard_by, turns_by};
 ghost use Rattle.session_run.specs.Team.{IsTeamOf, last_among, stop_among};
 ghost use Rattle.session_run.specs.declared.stop.Stop.TheVariants as stop;
 
@@ -34,7 +34,6 @@ use gateway_book::laws::filed_records_stay;
 use gw_base::{Addr, Moment};
 use job_inbox::{Inbox, InboxPass};
 use net_link::Link;
-use node_session::laws::each_entry_is_an_answer;
 use node_session::{Dispatcher, FileActor, JobBatch, Worker};
 use std::alloc::Global;
 use std::sync::Wait;
@@ -61,12 +60,12 @@ pub fn run<
     requires writer { IsWriterOf (tells_lists A.Area) (value_of gateway.book).firm gateway.writer }
     requires few { IsFew until }
 
-    // The history goes on by answers to datagrams that the first link received, and nothing else: to jobs of which
-    // the latest is told.
+    // The history goes on by answers to datagrams that the first link received, and nothing else: each is answered once
+    // at most, and those of a session in their order. The latest moment of the jobs that were made of them is told.
     ensures history { WhereTold (tells_lists A.Area) (GoesOnUntil (heard_by L.Link result.gateway.links.items)
         (facts_of gateway.book) (facts_of result.gateway.book) result.last) }
-    // What the links sent are replies to such datagrams, each of which rests on what is firm.
-    ensures replies { WhereTold (tells_lists A.Area) (AreReplies L.Link
+    // What the links sent are replies to such datagrams, one to each at most, each of which rests on what is firm.
+    ensures replies { WhereTold (tells_lists A.Area) (HaveReplied L.Link
         (heard_by L.Link result.gateway.links.items) (facts_of gateway.book) (facts_of result.gateway.book)
         result.gateway.links.items) }
     ensures book { StaysAs (facts_of gateway.book) (facts_of result.gateway.book) }
@@ -80,7 +79,6 @@ pub fn run<
     ensures cause { HasStopCause L.Link (C.faults clock.old) (C.faults clock.new) result.gateway.links.items
         result.stop }
 {
-    each_entry_is_an_answer();
     filed_records_stay();
     let Gateway {
         book,

@@ -26,6 +26,6 @@ returns-clause-worked g c = λ at began w.
     worked_on g.A.Area g.L.Link _ session jobs c.args.desk
     (record { worker = c.go_on.new.self; pass = c.take_all-works.result.2; link = c.go_on.new.link; last = c.take_all-works.result.1; stop = c.or-stop.result; batch = c.go_on.new.batch })
     results all.popped served keeps (tell.tells session jobs old new results before after served)
-    (λ told earlier adds. tell.answers told session jobs earlier before after keeps (sym all.own.2 ∙ c.go_on.ensures.number) adds)
+    (sym all.own.2 ∙ c.go_on.ensures.number)
     (stops_by c.args.desk.stop c.first_stop.result c.or-stop.result c.served.result.now results
     c.or-stop.ensures c.first_stop.ensures c.served.ensures) all.last at began w

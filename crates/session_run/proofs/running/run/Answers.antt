@@ -11,11 +11,11 @@ use Rattle.session_run.specs.Filing.{KeepsWriter}
 use Rattle.session_run.specs.History.{GoesOnUntil}
 use Rattle.session_run.specs.Making.{pops_in}
 use Rattle.session_run.specs.Reception.{IfTurns}
-use Rattle.session_run.specs.Running.{AreFiveOf, AreReplies, HasStopCause, heard_by, turns_by}
+use Rattle.session_run.specs.Running.{AreFiveOf, HasStopCause, HaveReplied, heard_by, turns_by}
 use Rattle.session_run.specs.Team.{HaveServed}
 use Rattle.session_run.specs.declared.gateway.Gateway.{Gateway}
 use Rattle.session_run.proofs.BegunLemmas.{all_begun, counted, five_of, is_ready, numbered, receiver_new, team_of}
-use Rattle.session_run.proofs.EndLemmas.{are_five, goes_nowhere_until, has_cause, have_served, never_served, new_five, none_replied, turns_taken, value_begins}
+use Rattle.session_run.proofs.EndLemmas.{are_five, goes_nowhere_until, has_cause, have_served, never_served, new_five, none_have_replied, turns_taken, value_begins}
 use Rattle.session_run.proofs.RunLemmas.{run_goes_on, run_replies, run_stays, run_writer}
 use Rattle.session_run.proofs.TeamLemmas.{if_turns}
 use Rattle.session_run.proofs.running.run.Goals as goal
@@ -33,6 +33,14 @@ returns-in_default-clause-links g c =
     let w = c.args.gateway in
     subst (λ (x : Gateway _ _ _ g.A.Area g.F.Shelf). AreFiveOf g.L.Link w.address x.links.items) (sym c.unserved.ensures.gateway) (new_five g.L.Link w.address w.links.items c.requires.links)
 
+pub returns-in_default-clause-replies : goal.returns-in_default-clause-replies
+returns-in_default-clause-replies g c = λ told.
+    let w = c.args.gateway in
+    let result = c.unserved.result.gateway in
+    subst (λ (ls : List _). HaveReplied g.L.Link (heard_by g.L.Link result.links.items) (facts_of w.book) (facts_of result.book) ls)
+    (sym (ap (λ (x : Gateway _ _ _ g.A.Area g.F.Shelf). x.links.items) c.unserved.ensures.gateway))
+    (none_have_replied g.L.Link w.address (heard_by g.L.Link result.links.items) (facts_of w.book) (facts_of result.book) w.links.items c.requires.links.new)
+
 pub returns-in-Err-clause-history : goal.returns-in-Err-clause-history
 returns-in-Err-clause-history g c = λ told.
     let w = c.args.gateway in
@@ -46,9 +54,9 @@ pub returns-in-Err-clause-replies : goal.returns-in-Err-clause-replies
 returns-in-Err-clause-replies g c = λ told.
     let w = c.args.gateway in
     let result = c.unserved-in-Err.result.gateway in
-    subst (λ (ls : List _). AreReplies g.L.Link (heard_by g.L.Link result.links.items) (facts_of w.book) (facts_of result.book) ls)
+    subst (λ (ls : List _). HaveReplied g.L.Link (heard_by g.L.Link result.links.items) (facts_of w.book) (facts_of result.book) ls)
     (sym (ap (λ (x : Gateway _ _ _ g.A.Area g.F.Shelf). x.links.items) c.unserved-in-Err.ensures.gateway))
-    (none_replied g.L.Link w.address (heard_by g.L.Link result.links.items) (facts_of w.book) (facts_of result.book) w.links.items c.requires.links.new)
+    (none_have_replied g.L.Link w.address (heard_by g.L.Link result.links.items) (facts_of w.book) (facts_of result.book) w.links.items c.requires.links.new)
 
 pub returns-in-Err-clause-turns : goal.returns-in-Err-clause-turns
 returns-in-Err-clause-turns g c =
@@ -116,7 +124,7 @@ returns-in-Ok-new-clause-history g c =
     let last = c.end.result.last in
     subst (λ (l : List _). WhereTold (tells_lists g.A.Area) (GoesOnUntil (heard_by g.L.Link l) start now last)) (sym c.end.ensures.links)
     (run_goes_on g.F.Shelf g.L.Link (tells_lists g.A.Area) w.address start now w.writer r team s ended c.end.ensures.settled
-    c.each_entry_is_an_answer.ensures last c.end.ensures.last)
+    last c.end.ensures.last)
 
 pub returns-in-Ok-new-clause-replies : goal.returns-in-Ok-new-clause-replies
 returns-in-Ok-new-clause-replies g c =
@@ -137,7 +145,7 @@ returns-in-Ok-new-clause-replies g c =
     c.serve-served.ensures.worked c.serve-served.ensures.dispatched in
     let ended : HasEnded (tells_lists g.A.Area) start now team =
     subst (λ (b : Book _ g.A.Area). HasEnded (tells_lists g.A.Area) (facts_of b) now team) made.ensures.cell.1 c.end.ensures.ended in
-    subst (λ (l : List _). WhereTold (tells_lists g.A.Area) (AreReplies g.L.Link (heard_by g.L.Link l) start now l)) (sym c.end.ensures.links)
+    subst (λ (l : List _). WhereTold (tells_lists g.A.Area) (HaveReplied g.L.Link (heard_by g.L.Link l) start now l)) (sym c.end.ensures.links)
     (run_replies g.F.Shelf g.L.Link (tells_lists g.A.Area) w.address start now w.writer r team s ended c.end.ensures.settled)
 
 pub returns-in-Ok-new-clause-book : goal.returns-in-Ok-new-clause-book

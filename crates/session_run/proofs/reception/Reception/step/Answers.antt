@@ -7,7 +7,7 @@ returns-clause-dispatched g c =
     dispatched_on g.L.Link c.args.inboxes.now old
     (record { dispatcher = c.step-dispatched.new.self; link = c.step-dispatched.new.link; left = old.left; is_over = old.is_over; stop = c.stop_of-self.result })
     c.step-dispatched.result (g.C.Clock.faults c.args.clock.now) (g.C.Clock.faults c.step-dispatched.new.clock)
-    c.step-dispatched.ensures.tells c.stop_of-self.ensures
+    c.step-dispatched.ensures.tells c.stop_of-self.ensures c.requires.own
 
 pub returns-clause-turn : goal.returns-clause-turn
 returns-clause-turn g c =

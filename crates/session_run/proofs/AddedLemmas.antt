@@ -1,0 +1,162 @@
+-- What the turns of a pass added, in turn, and what stands of it in the history.
+use Rattle.std.proofs.Common.{◌≡◌, ◌⊎◌, ⊎_elim, inl, inr, ℕ, ◌==◌, Bool, true, false, if◌then◌else◌, List, [], ◌∷◌, ◌++◌, Option, None, Some, refl, sym, ap, subst, ◌∙◌, append_assoc, arith}
+use Rattle.std.specs.Prelude.{All}
+use Rattle.std.proofs.lemmas.Bool.Decides.{nat_tests}
+use Rattle.std.proofs.lemmas.List.{append-nil}
+use Rattle.std.proofs.lemmas.List.Elements.{All-cons, All-head, All-nil, All-tail}
+use Rattle.gateway_book.specs.Answered.{act_decided}
+use Rattle.gw_base.specs.Owes.{base}
+use Rattle.gw_base.specs.declared.history.HistoryAct.{HistoryAct}
+use Rattle.gw_base.specs.declared.history.HistoryEntry.{HistoryEntry}
+use Rattle.job_inbox.specs.declared.job.Job.{Job}
+use Rattle.node_session.specs.Answering.{AddsAnswers, IsAnswerTo, called_at, history_at}
+use Rattle.node_session.specs.Serving.{caller_of}
+use Rattle.node_session.specs.Together.{AreFirstsOf, KeepsTurnsOf}
+use Rattle.node_session.specs.Turns.{called_for, decided_at, entries_of}
+use Rattle.turn_cell.specs.Knowing.{facts_of}
+use Rattle.turn_cell.specs.Placed.{HasNumber, Owns, added_by, by_session, placed}
+use Rattle.turn_cell.specs.declared.knowing.KeptTurn.{KeptTurn}
+use Rattle.turn_cell.specs.declared.knowing.Knowledge.{Knowledge}
+use Rattle.session_run.specs.History.{AnswersJob, InTurn}
+use Rattle.session_run.proofs.InTurnLemmas.{in_turn_both, in_turn_sub}
+
+abbrev Placed : Type 0
+Placed = HistoryEntry × List HistoryEntry
+
+added_append : (ts us : List KeptTurn) → added_by (ts ++ us) ≡ added_by ts ++ added_by us
+added_append [] us = refl
+added_append (t ∷ ts) us =
+    let here = placed (base t.drops (facts_of t.found)) t.added in
+    ap (λ (l : List Placed). here ++ l) (added_append ts us) ∙ sym (append_assoc here (added_by ts) (added_by us))
+
+added_none : (ts : List KeptTurn) → All (λ t. t.added ≡ []) ts → added_by ts ≡ []
+added_none [] none = refl
+added_none (t ∷ ts) none =
+    let Empty : KeptTurn → Type 0 = λ t. t.added ≡ [] in
+    ap (λ (l : List HistoryEntry). placed (base t.drops (facts_of t.found)) l ++ added_by ts) (All-head Empty t ts none)
+    ∙ added_none ts (All-tail Empty t ts none)
+
+-- what a turn added that took the datagram of a job
+one_called : (size session : ℕ) (job : Job) (h : List HistoryEntry)
+    → InTurn (AnswersJob size session) (job ∷ []) (placed h (called_for h size job.from job.octets job.moment (caller_of session job)))
+one_called size session job h = by (act_decided (decided_at h size job.from job.octets)) refl
+  where
+    by : (o : Option HistoryAct) → act_decided (decided_at h size job.from job.octets) ≡ o
+        → InTurn (AnswersJob size session) (job ∷ []) (placed h (entries_of h job.moment (caller_of session job) o))
+    by None is = tt
+    by (Some act) is = inl (ap (λ (o : Option HistoryAct). entries_of h job.moment (caller_of session job) o) is, tt)
+
+one_added : (told : Bool) (size session : ℕ) (job : Job) (t : KeptTurn) → t.found.size ≡ size
+    → (t.added ≡ []) ⊎ (t.added ≡ called_at told session job t)
+    → InTurn (AnswersJob size session) (job ∷ []) (placed (base t.drops (facts_of t.found)) t.added)
+one_added told size session job t sized (inl none) =
+    subst (λ (l : List HistoryEntry). InTurn (AnswersJob size session) (job ∷ []) (placed (base t.drops (facts_of t.found)) l)) (sym none) tt
+one_added told size session job t sized (inr is) =
+    subst (λ (l : List HistoryEntry). InTurn (AnswersJob size session) (job ∷ []) (placed (history_at t) l)) (sym is)
+    (subst (λ (n : ℕ). InTurn (AnswersJob n session) (job ∷ []) (placed (history_at t) (called_at told session job t))) sized
+    (one_called t.found.size session job (history_at t)))
+
+firsts_added : (told : Bool) (session size : ℕ) (jobs : List Job) (firsts : List KeptTurn) → told ≡ true
+    → AreFirstsOf told session size jobs firsts → InTurn (AnswersJob size session) jobs (added_by firsts)
+firsts_added told session size [] firsts y are =
+    subst (λ (ts : List KeptTurn). InTurn (AnswersJob size session) [] (added_by ts)) (sym are) tt
+firsts_added told session size (job ∷ jobs) [] y are = absurd are
+firsts_added told session size (job ∷ jobs) (t ∷ firsts) y are =
+    in_turn_both (AnswersJob size session) (job ∷ []) (placed (base t.drops (facts_of t.found)) t.added) jobs (added_by firsts)
+    (one_added told size session job t are.0 (are.1 y)) (firsts_added told session size jobs firsts y are.2)
+
+-- what a pass added stays in turn behind jobs that its session served together
+pub added_on : (told : Bool) (session : ℕ) (earlier jobs : List Job) (before after : Knowledge) (size : ℕ) → told ≡ true
+    → before.size ≡ size → KeepsTurnsOf told session jobs before after
+    → InTurn (AnswersJob size session) earlier (added_by before.turns)
+    → InTurn (AnswersJob size session) (earlier ++ jobs) (added_by after.turns)
+added_on told session earlier jobs before after size y sized keeps p =
+    let all : added_by after.turns ≡ added_by before.turns ++ added_by keeps.firsts =
+    ap (λ (ts : List KeptTurn). added_by ts) keeps.turns ∙ added_append before.turns (keeps.firsts ++ keeps.later)
+    ∙ ap (λ (l : List Placed). added_by before.turns ++ l)
+    (added_append keeps.firsts keeps.later ∙ ap (λ (l : List Placed). added_by keeps.firsts ++ l) (added_none keeps.later keeps.adds_none)
+    ∙ append-nil (added_by keeps.firsts)) in
+    subst (λ (l : List Placed). InTurn (AnswersJob size session) (earlier ++ jobs) l) (sym all)
+    (in_turn_both (AnswersJob size session) earlier (added_by before.turns) jobs (added_by keeps.firsts) p
+    (firsts_added told session size jobs keeps.firsts y
+    (subst (λ (n : ℕ). AreFirstsOf told session n jobs keeps.firsts) sized keeps.each)))
+
+-- a pass that answered no job added nothing
+pub none_added : (k : Knowledge) → AddsAnswers [] k → added_by k.turns ≡ []
+none_added k adds = added_none k.turns (no_answers k.turns adds)
+  where
+    empty : (t : KeptTurn) → IsAnswerTo k.size k.number [] t → t.added ≡ []
+    empty t (inl none) = none
+    empty t (inr some) = absurd (let lt = some.1.1 in omega (arith, lt))
+
+    no_answers : (ts : List KeptTurn) → All (IsAnswerTo k.size k.number []) ts → All (λ t. t.added ≡ []) ts
+    no_answers [] all = All-nil (λ (t : KeptTurn). t.added ≡ [])
+    no_answers (t ∷ ts) all = All-cons (λ (t : KeptTurn). t.added ≡ []) t ts (empty t (All-head (IsAnswerTo k.size k.number []) t ts all))
+        (no_answers ts (All-tail (IsAnswerTo k.size k.number []) t ts all))
+
+-- ---- the history
+
+module _ (passes : List Knowledge) (session : ℕ) where
+  -- a session has no entry here, or it is that of a pass
+  has_or_none : (before tail : List HistoryEntry) → All (λ e. HasNumber e.caller.session passes) tail
+      → (by_session session (placed before tail) ≡ []) ⊎ HasNumber session passes
+  has_or_none before [] all = inl refl
+  has_or_none before (e ∷ tail) all =
+      by (e.caller.session == session) refl (has_or_none (before ++ e ∷ []) tail (All-tail Has e tail all))
+    where
+      Has : HistoryEntry → Type 0
+      Has e = HasNumber e.caller.session passes
+
+      rest : List Placed
+      rest = placed (before ++ e ∷ []) tail
+
+      by : (b : Bool) → (e.caller.session == session) ≡ b → (by_session session rest ≡ []) ⊎ HasNumber session passes
+          → ((if b then (e, before) ∷ by_session session rest else by_session session rest) ≡ []) ⊎ HasNumber session passes
+      by true is more = inr (subst (λ (n : ℕ). HasNumber n passes) (grind (arith, nat_tests, is)) (All-head Has e tail all))
+      by false is more = more
+
+module _ (size : ℕ) (jobs : ℕ → List Job) (stood tail : List HistoryEntry) where
+  -- what a pass added answers jobs of its session in turn
+  abbrev pub AddsInTurn : Knowledge → Type 0
+  AddsInTurn k = InTurn (AnswersJob size k.number) (jobs k.number) (added_by k.turns)
+
+  abbrev InTurnAt : ℕ → Type 0
+  InTurnAt session = InTurn (AnswersJob size session) (jobs session) (by_session session (placed stood tail))
+
+  of_pass : (session : ℕ) (passes : List Knowledge) → All AddsInTurn passes → All (Owns stood tail) passes → HasNumber session passes
+      → InTurnAt session
+  of_pass session [] adds owns has = absurd has
+  of_pass session (k ∷ passes) adds owns (inl is) = subst InTurnAt is
+      (in_turn_sub (AnswersJob size k.number) (jobs k.number) (by_session k.number (placed stood tail)) (added_by k.turns)
+      (All-head AddsInTurn k passes adds) (All-head (Owns stood tail) k passes owns))
+  of_pass session (k ∷ passes) adds owns (inr has) =
+      of_pass session passes (All-tail AddsInTurn k passes adds) (All-tail (Owns stood tail) k passes owns) has
+
+  -- what stands of each session answers its jobs in turn
+  pub all_in_turn : (passes : List Knowledge) → All AddsInTurn passes → All (λ e. HasNumber e.caller.session passes) tail
+      → All (Owns stood tail) passes → (session : ℕ) → InTurnAt session
+  all_in_turn passes adds numbers owns session = ⊎_elim
+      (λ (none : by_session session (placed stood tail) ≡ []).
+      subst (λ (l : List Placed). InTurn (AnswersJob size session) (jobs session) l) (sym none) tt)
+      (λ (has : HasNumber session passes). of_pass session passes adds owns has)
+      (has_or_none passes session stood tail numbers)
+
+-- what holds of the entries of each session holds of all
+pub all_sessions : (P : Placed → Type 0) (ps : List Placed) → ((session : ℕ) → All P (by_session session ps)) → All P ps
+all_sessions P [] each = All-nil P
+all_sessions P (p ∷ ps) each = All-cons P p ps own (all_sessions P ps rest)
+  where
+    same : (p.0.caller.session == p.0.caller.session) ≡ true
+    same = grind (arith, nat_tests)
+
+    own : P p
+    own = All-head P p (by_session p.0.caller.session ps)
+        (subst (λ (b : Bool). All P (if b then p ∷ by_session p.0.caller.session ps else by_session p.0.caller.session ps)) same
+        (each p.0.caller.session))
+
+    rest : (session : ℕ) → All P (by_session session ps)
+    rest session = by (p.0.caller.session == session) (each session)
+      where
+        by : (b : Bool) → All P (if b then p ∷ by_session session ps else by_session session ps) → All P (by_session session ps)
+        by true all = All-tail P p (by_session session ps) all
+        by false all = all
