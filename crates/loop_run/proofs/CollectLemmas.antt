@@ -20,6 +20,7 @@ use Rattle.loop_run.specs.declared.looped.Looped.{Looped}
 use Rattle.loop_run.specs.declared.seat.Seat.{Seat}
 use Rattle.loop_run.specs.declared.seat.Seat.TheVariants as seat
 use Rattle.loop_run.specs.declared.setup.LoopSetup.{LoopSetup}
+use Rattle.loop_run.proofs.GatewayLemmas.{ReplyLater, StaysInTurn}
 use Rattle.loop_run.proofs.LeftLemmas.{HaveLeft, KeepAll, NoneOpen, gateway_left, node_left, none_left}
 use Rattle.loop_run.proofs.ListLemmas.{get_before, get_last, length_pushed}
 use Rattle.loop_run.proofs.StillLemmas.{rose_before, rose_still}
@@ -104,7 +105,7 @@ module _ {L : Type 0} (tells : paths.Ghosts L) where
   }
 
   module _ (setup : LoopSetup) (within : IsLoop setup) (old : LinksState) where
-    module _ (keep : KeepAll setup) (none : NoneOpen setup) (mid new : LinksState) (was now : Looped)
+    module _ (keep : KeepAll setup) (none : NoneOpen setup) (stay : StaysInTurn) (reply : ReplyLater) (mid new : LinksState) (was now : Looped)
         (seats : List (Seat L)) where
       one_left : (s : Seat L) → ((at : Addr) → old.turns at < 2 ^ 63) → RanAt tells setup (length seats) s
           → HaveLeft setup old mid (length seats) was → Leaves tells s mid new was now None
@@ -112,7 +113,7 @@ module _ {L : Type 0} (tells : paths.Ghosts L) where
       one_left (seat.RanNode ended linked) few (less, ran) had left =
           node_left tells setup within old mid new few was now (length seats) had keep none linked ended less ran left
       one_left (seat.RanGateway stops g) few (behind, served) had left =
-          gateway_left tells setup within old mid new few was now (length seats) had g stops behind served left
+          gateway_left tells setup within old mid new few was now (length seats) had stay reply g stops behind served left
       one_left (seat.Node linked) few ran had left = absurd ran
       one_left (seat.Gateway g) few ran had left = absurd ran
       one_left seat.Empty few ran had left = absurd ran

@@ -16,11 +16,11 @@ use Rattle.node_core.specs.declared.port.Port.{Port}
 use Rattle.node_core.specs.declared.port.Port.TheVariants.{First, Second}
 use Rattle.node_run.specs.Running.{Turn, heard_at, sent_from}
 use Rattle.session_run.specs.declared.stop.Stop.{Stop}
-use Rattle.loop_run.specs.Addresses.{node_at}
+use Rattle.loop_run.specs.Addresses.{gateway_at, node_at}
 use Rattle.loop_run.specs.Collecting.{HasCollected}
 use Rattle.loop_run.specs.Ending.{CountsAs, EndsAs, HasTakenAll, gateway_sum, verdict}
 use Rattle.loop_run.specs.Finishing.{AreAlike, Finishes, shown}
-use Rattle.loop_run.specs.Looped.{CarriedAt, IsLoopNode, IsLooped, node_made}
+use Rattle.loop_run.specs.Looped.{CarriedAt, IsLoopBook, IsLoopNode, IsLooped, node_made}
 use Rattle.loop_run.specs.Making.{MakesSeats}
 use Rattle.loop_run.specs.Seats.{AllRan, LoopBook}
 use Rattle.loop_run.specs.declared.collecting.Collected.{Collected}
@@ -55,12 +55,29 @@ module _ (setup : LoopSetup) (old mid new : LinksState) (keeps : Keeps old mid) 
     by_second = carried_from place was.turns Second was.by_second;
   }
 
+  book_from : (place : ℕ) (book : LoopBook) → IsLoopBook mid new place book → IsLoopBook old new place book
+  book_from place book was = record {
+    history = was.history;
+    value = was.value;
+    heard = was.heard;
+    was_heard = subst (λ (o : Option (List Datagram)). GrowsBy o was.heard (new.received (gateway_at place)))
+        (keeps.received (gateway_at place)) was.was_heard;
+    jobs = was.jobs;
+    answers = was.answers;
+    sent = was.sent;
+    was_sent = subst (λ (o : Option (List Datagram)). GrowsBy o was.sent (new.sent (gateway_at place)))
+        (keeps.sent (gateway_at place)) was.was_sent;
+    replies = was.replies;
+    size = was.size;
+    name = was.name;
+  }
+
   pub looped_from : (books : List LoopBook) (nodes : List NodeValue) → IsLooped setup mid new books nodes
       → IsLooped setup old new books nodes
   looped_from books nodes was = record {
     book_count = was.book_count;
     node_count = was.node_count;
-    each_book = was.each_book;
+    each_book = λ place book at. book_from place book (was.each_book place book at);
     each_node = λ place node at. node_from place node (was.each_node place node at);
   }
 
@@ -120,7 +137,13 @@ module _ (setup : LoopSetup) (links links' : LinksState) (old new : List LoopBoo
         record {
           history = before.history;
           value = sym (ap (λ (s : BookValue × (ℕ × List ℕ)). s.0) there.is) ∙ before.value;
+          heard = before.heard;
+          was_heard = before.was_heard;
+          jobs = before.jobs;
           answers = before.answers;
+          sent = before.sent;
+          was_sent = before.was_sent;
+          replies = before.replies;
           size = sym (ap (λ (s : BookValue × (ℕ × List ℕ)). s.1.0) there.is) ∙ before.size;
           name = sym (ap (λ (s : BookValue × (ℕ × List ℕ)). s.1.1) there.is) ∙ before.name;
         };

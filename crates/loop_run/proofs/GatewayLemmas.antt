@@ -1,62 +1,58 @@
 -- The book of a gateway that served, once it is committed and the links are given back.
 use Rattle.std.proofs.Common.{◌≡◌, ◌∙◌, ℕ, ◌+◌, List, [], ◌∷◌, ◌++◌, length, append_assoc, length-append, Option, None, Some, refl, sym, ap, subst, arith}
 use Rattle.std.specs.Prelude.{All, IfSome}
-use Rattle.std.specs.List.{Contains}
 use Rattle.std.proofs.lemmas.List.{append-nil, nil_from_length}
-use Rattle.std.proofs.lemmas.List.Elements.{All-cons, All-head, All-nil, All-tail, All-weaker, Contains-append_right}
-use Rattle.std.proofs.lemmas.Option.{same_Some}
+use Rattle.std.proofs.lemmas.List.Elements.{All-head, All-tail, All-weaker}
+use Rattle.area_disk.specs.Disk.{Rose}
 use Rattle.gateway_book.specs.Turning.{facts_of}
 use Rattle.gateway_book.specs.Value.{BookValue, history_of, standing_for, torn_of}
 use Rattle.gw_base.specs.Facts.{joined as whole_of}
 use Rattle.gw_base.specs.Owes.{Begins}
 use Rattle.gw_base.specs.declared.address.Addr.{Addr}
 use Rattle.gw_base.specs.declared.history.HistoryEntry.{HistoryEntry}
-use Rattle.net_link.specs.Datagrams.{Datagram, joined}
-use Rattle.net_link.specs.Making.{LinksState}
+use Rattle.net_link.specs.Datagrams.{Datagram, IsEmpty, joined}
+use Rattle.net_link.specs.Making.{GrowsBy, LinksState}
 use Rattle.net_link.specs.declared.link.Link as paths
-use Rattle.session_run.specs.History.{IsCalledFor, IsHeard}
+use Rattle.session_run.specs.Desks.{HearsNothing}
+use Rattle.session_run.specs.History.{AnswerInTurn, ReplyInTurn}
+use Rattle.session_run.specs.Latest.{Jobs}
 use Rattle.session_run.specs.Links.{received_with}
-use Rattle.session_run.specs.Running.{AreFiveOf, heard_by}
+use Rattle.session_run.specs.Running.{AreFiveOf, heard_by, sent_by}
 use Rattle.session_run.specs.declared.stop.Stop.{Stop}
 use Rattle.turn_cell.specs.Placed.{placed}
 use Rattle.loop_run.specs.Addresses.{gateway_at}
 use Rattle.loop_run.specs.Collecting.{StillAt}
 use Rattle.loop_run.specs.Looped.{IsLoopBook, area_length}
 use Rattle.loop_run.specs.Seats.{HasCommitted, HasServedAt, LoopBook, LoopGateway, begun}
-use Rattle.loop_run.proofs.StillLemmas.{Told, still_holds}
+use Rattle.loop_run.proofs.StillLemmas.{Told, grows_before, same_told, still_holds}
 
 -- What was heard.
 
-joined_contains : (one other : Told) (list : List Datagram) (d : Datagram) → joined one other ≡ Some list
-    → IsHeard other d → Contains list d
-joined_contains (Some xs) (Some ys) list d e heard =
-    subst (λ (l : List Datagram). Contains l d) (same_Some (xs ++ ys) list e) (Contains-append_right xs ys d heard)
-joined_contains (Some xs) None list d e heard = absurd (cc e)
-joined_contains None other list d e heard = absurd (cc e)
-
 module _ {L : Type 0} (tells : paths.Ghosts L) where
-  -- what the first link heard is told of the address
+  -- links that heard nothing add nothing
+  none_heard : (told : Told) (links : List L) → All (λ l. IsEmpty (tells.state l).received) links
+      → IfSome (received_with tells told links) (λ list. told ≡ Some list)
+  none_heard told [] none = same_told told
+  none_heard told (link ∷ links) none = by (received_with tells told links) (tells.state link).received
+      (none_heard told links (All-tail (λ l. IsEmpty (tells.state l).received) link links none))
+      (All-head (λ l. IsEmpty (tells.state l).received) link links none)
+    where
+      by : (rest own : Told) → IfSome rest (λ list. told ≡ Some list) → IsEmpty own → IfSome (joined rest own) (λ list. told ≡ Some list)
+      by None own was is = tt
+      by (Some xs) None was is = tt
+      by (Some xs) (Some ys) was is = was ∙ ap (λ (l : List Datagram). Some l) (sym (ap (λ (l : List Datagram). xs ++ l) is ∙ append-nil xs))
+
+  -- what the first link heard is told of the address, behind what was told before
   heard_there : (at : Addr) (told there : Told) (links : List L) → AreFiveOf tells at links
-      → IfSome there (λ list. received_with tells told links ≡ Some list) → (d : Datagram)
-      → IsHeard (heard_by tells links) d → IsHeard there d
-  heard_there at told there [] five e d heard = absurd five
-  heard_there at told None (link ∷ links) five e d heard = tt
-  heard_there at told (Some list) (link ∷ links) five e d heard =
-      joined_contains (received_with tells told links) (tells.state link).received list d e heard
+      → IfSome there (λ list. received_with tells told links ≡ Some list) → GrowsBy told (heard_by tells links) there
+  heard_there at told there [] five e = absurd five
+  heard_there at told there (link ∷ links) five e =
+      grows_before told (received_with tells told links) there (tells.state link).received
+      (none_heard told links (All-weaker (λ l. HearsNothing at (tells.state l)) (λ l. IsEmpty (tells.state l).received) (λ l h. h.received) links five.2)) e
 
--- what was heard of an address is heard still
-heard_still : (new mid : Told) (d : Datagram) → IfSome new (λ list. mid ≡ Some list) → IsHeard mid d → IsHeard new d
-heard_still new mid d still heard = still_holds (λ list. Contains list d) new mid still heard
-
-called_there : (size size' : ℕ) (heard there : Told) → size ≡ size' → ((d : Datagram) → IsHeard heard d → IsHeard there d)
-    → (p : HistoryEntry × List HistoryEntry) → IsCalledFor size heard p → IsCalledFor size' there p
-called_there size size' heard there same more p c = subst (λ (n : ℕ). IsCalledFor n there p) same (record {
-  datagram = c.datagram;
-  was_heard = more c.datagram c.was_heard;
-  now = c.now;
-  who = c.who;
-  called = c.called;
-})
+same_heard : (told : Told) → GrowsBy (Some []) told told
+same_heard None = tt
+same_heard (Some list) = refl
 
 -- Beginnings.
 
@@ -78,84 +74,108 @@ begins_then : (xs ys zs : Entries) → Begins xs ys → Begins ys zs → Begins 
 begins_then xs ys zs one other =
     (one.0 ++ other.0, other.1 ∙ ap (λ (l : Entries). l ++ other.0) one.1 ∙ append_assoc xs one.0 other.0)
 
-placed_front : (P : HistoryEntry × Entries → Type 0) (before xs ys : Entries) → All P (placed before (xs ++ ys))
-    → All P (placed before xs)
-placed_front P before [] ys all = All-nil P
-placed_front P before (e ∷ xs) ys all = All-cons P (e, before) (placed (before ++ e ∷ []) xs)
-    (All-head P (e, before) (placed (before ++ e ∷ []) (xs ++ ys)) all)
-    (placed_front P (before ++ e ∷ []) xs ys
-    (All-tail P (e, before) (placed (before ++ e ∷ []) (xs ++ ys)) all))
+-- the laws of what is in turn
+abbrev pub StaysInTurn : Type 0
+StaysInTurn = (size : ℕ) (heard : Told) (jobs : Jobs) (before first last : Entries)
+    → AnswerInTurn size heard jobs (placed before (first ++ last)) → AnswerInTurn size heard jobs (placed before first)
+
+abbrev pub ReplyLater : Type 0
+ReplyLater = (size : ℕ) (firm later : Entries) (before now before' now' : ℕ) (earlier heard all sent : Told) → Begins firm later
+    → (Rose before now → Rose before' now') → GrowsBy earlier heard all → ReplyInTurn size firm before now heard sent
+    → ReplyInTurn size later before' now' all sent
 
 -- The book.
 
-module _ {L : Type 0} (tells : paths.Ghosts L) (place : ℕ) (stops : Option Stop) (g : LoopGateway L)
-    (served : HasServedAt tells place stops g) where
+module _ {L : Type 0} (tells : paths.Ghosts L) (stay : StaysInTurn) (reply : ReplyLater) (place : ℕ) (stops : Option Stop)
+    (g : LoopGateway L) (served : HasServedAt tells place stops g) where
   start_whole : whole_of (facts_of served.start) ≡ begun
   start_whole = ap (λ (v : BookValue). history_of v ++ torn_of v) served.begun.value
 
   start_firm : (facts_of served.start).firm ≡ begun
   start_firm = ap (λ (v : BookValue). v.firm) served.begun.value
 
-  stood_begun : served.history.stood ≡ begun
-  stood_begun = both_begin begun served.history.stood
-      (subst (λ (l : Entries). Begins l served.history.stood) start_firm served.history.firm)
-      (subst (λ (l : Entries). Begins served.history.stood l) start_whole served.history.stood_is)
+  stood_begun : served.history.goes.stood ≡ begun
+  stood_begun = both_begin begun served.history.goes.stood
+      (subst (λ (l : Entries). Begins l served.history.goes.stood) start_firm served.history.goes.firm)
+      (subst (λ (l : Entries). Begins served.history.goes.stood l) start_whole served.history.goes.stood_is)
 
-  now_whole : whole_of (facts_of g.book) ≡ begun ++ served.history.tail
-  now_whole = served.history.whole ∙ ap (λ (l : Entries). l ++ served.history.tail) stood_begun
+  now_whole : whole_of (facts_of g.book) ≡ begun ++ served.history.goes.tail
+  now_whole = served.history.goes.whole ∙ ap (λ (l : Entries). l ++ served.history.goes.tail) stood_begun
 
   now_begun : Begins begun (facts_of g.book).firm
-  now_begun = subst (λ (l : Entries). Begins l (facts_of g.book).firm) start_firm served.history.begins
+  now_begun = subst (λ (l : Entries). Begins l (facts_of g.book).firm) start_firm served.history.goes.begins
 
-  module _ (there : LinksState) (told : Told) (book : LoopBook) (committed : HasCommitted g.book book)
-      (back : IfSome (there.received g.address) (λ list. received_with tells told g.links.items ≡ Some list)) where
+  module _ (old mid new : LinksState) (still : StillAt (gateway_at place) old mid) (book : LoopBook) (committed : HasCommitted g.book book)
+      (back : IfSome (new.received g.address) (λ list. received_with tells (mid.received g.address) g.links.items ≡ Some list))
+      (sent : GrowsBy (mid.sent g.address) (sent_by tells g.links.items) (new.sent g.address)) where
     abbrev whole_begun : Begins begun committed.value.history
     whole_begun = begins_then begun (facts_of g.book).firm committed.value.history now_begun committed.value.more
 
     abbrev rest : Entries
     rest = whole_begun.0
 
-    tail_is : served.history.tail ≡ rest ++ committed.value.within.0
+    tail_is : served.history.goes.tail ≡ rest ++ committed.value.within.0
     tail_is = ap (λ (l : Entries). tail_of l)
         (sym now_whole ∙ committed.value.within.1 ∙ ap (λ (l : Entries). l ++ committed.value.within.0) whole_begun.1)
 
-    heard_now : (d : Datagram) → IsHeard (heard_by tells g.links.items) d
-        → IsHeard (there.received (gateway_at place)) d
-    heard_now d heard = subst (λ (a : Addr). IsHeard (there.received a) d) served.address
-        (heard_there tells (gateway_at place) told (there.received g.address) g.links.items served.links back d heard)
+    abbrev heard : Told
+    heard = heard_by tells g.links.items
 
-    answers : All (IsCalledFor area_length (there.received (gateway_at place))) (placed begun rest)
-    answers = placed_front (IsCalledFor area_length (there.received (gateway_at place))) begun rest
-        committed.value.within.0
-        (subst (λ (l : Entries). All (IsCalledFor area_length (there.received (gateway_at place))) (placed begun l)) tail_is
-        (subst (λ (l : Entries). All (IsCalledFor area_length (there.received (gateway_at place)))
-        (placed l served.history.tail)) stood_begun
-        (All-weaker (IsCalledFor (facts_of served.start).size (heard_by tells g.links.items))
-        (IsCalledFor area_length (there.received (gateway_at place)))
-        (called_there (facts_of served.start).size area_length (heard_by tells g.links.items)
-        (there.received (gateway_at place)) served.begun.size heard_now)
-        (placed served.history.stood served.history.tail) served.history.answers)))
+    abbrev at_address : Addr → Type 0
+    at_address a = GrowsBy (mid.received a) heard (new.received a) × GrowsBy (mid.sent a) (sent_by tells g.links.items) (new.sent a)
 
-    pub served_book : IsLoopBook there place book
+    grew : at_address (gateway_at place)
+    grew = subst at_address served.address (
+      heard_there tells (gateway_at place) (mid.received g.address) (new.received g.address) g.links.items served.links back,
+      sent,
+    )
+
+    answers : AnswerInTurn area_length heard served.history.jobs (placed begun rest)
+    answers = stay area_length heard served.history.jobs begun rest committed.value.within.0
+        (subst (λ (l : Entries). AnswerInTurn area_length heard served.history.jobs (placed begun l)) tail_is
+        (subst (λ (l : Entries). AnswerInTurn area_length heard served.history.jobs (placed l served.history.goes.tail)) stood_begun
+        (subst (λ (n : ℕ). AnswerInTurn n heard served.history.jobs (placed served.history.goes.stood served.history.goes.tail))
+        served.begun.size served.history.answers)))
+
+    replies : ReplyInTurn area_length (begun ++ rest) 0 0 heard (sent_by tells g.links.items)
+    replies = subst (λ (l : Entries). ReplyInTurn area_length l 0 0 heard (sent_by tells g.links.items)) whole_begun.1
+        (reply area_length (facts_of g.book).firm committed.value.history 0 0 0 0 (Some []) heard heard (sent_by tells g.links.items)
+        committed.value.more (λ rose. rose) (same_heard heard)
+        (subst (λ (n : ℕ). ReplyInTurn n (facts_of g.book).firm 0 0 heard (sent_by tells g.links.items)) served.begun.size
+        served.replies.in_turn))
+
+    pub served_book : IsLoopBook old new place book
     served_book = record {
       history = rest;
       value = committed.value.value ∙ ap (λ (l : Entries). standing_for l) whole_begun.1;
+      heard = heard;
+      was_heard = grows_before (old.received (gateway_at place)) (mid.received (gateway_at place)) (new.received (gateway_at place)) heard
+          still.received grew.0;
+      jobs = served.history.jobs;
       answers = answers;
+      sent = sent_by tells g.links.items;
+      was_sent = grows_before (old.sent (gateway_at place)) (mid.sent (gateway_at place)) (new.sent (gateway_at place))
+          (sent_by tells g.links.items) still.sent grew.1;
+      replies = replies;
       size = committed.size ∙ served.stays.size ∙ served.begun.size;
       name = committed.name ∙ served.stays.name ∙ served.begun.name;
     }
 
 -- a book that stands so does still where no more is told of its address
-pub book_still : (place : ℕ) (mid new : LinksState) (book : LoopBook) → StillAt (gateway_at place) mid new
-    → IsLoopBook mid place book → IsLoopBook new place book
-book_still place mid new book still was = record {
+pub book_still : (place : ℕ) (old mid new : LinksState) (book : LoopBook) → StillAt (gateway_at place) mid new
+    → IsLoopBook old mid place book → IsLoopBook old new place book
+book_still place old mid new book still was = record {
   history = was.history;
   value = was.value;
-  answers = All-weaker (IsCalledFor area_length (mid.received (gateway_at place)))
-      (IsCalledFor area_length (new.received (gateway_at place)))
-      (called_there area_length area_length (mid.received (gateway_at place)) (new.received (gateway_at place)) refl
-      (λ d heard. heard_still (new.received (gateway_at place)) (mid.received (gateway_at place)) d still.received heard))
-      (placed begun was.history) was.answers;
+  heard = was.heard;
+  was_heard = still_holds (λ list. joined (old.received (gateway_at place)) was.heard ≡ Some list) (new.received (gateway_at place))
+      (mid.received (gateway_at place)) still.received was.was_heard;
+  jobs = was.jobs;
+  answers = was.answers;
+  sent = was.sent;
+  was_sent = still_holds (λ list. joined (old.sent (gateway_at place)) was.sent ≡ Some list) (new.sent (gateway_at place))
+      (mid.sent (gateway_at place)) still.sent was.was_sent;
+  replies = was.replies;
   size = was.size;
   name = was.name;
 }

@@ -1,17 +1,20 @@
 -- One who took part, taken apart.
-use Rattle.std.proofs.Common.{◌≡◌, ◌≢◌, [], ◌∷◌, ◌++◌, Option, None, Some, refl}
+use Rattle.std.proofs.Common.{◌≡◌, ◌≢◌, List, [], ◌∷◌, ◌++◌, Option, None, Some, refl, subst}
+use Rattle.std.specs.Prelude.{IfSome}
+use Rattle.net_link.specs.Datagrams.{joined}
 use Rattle.net_link.specs.Making.{LinksState, TakesBack}
 use Rattle.net_link.specs.declared.link.Link as paths
 use Rattle.node_run.specs.declared.linked.LinkedNode.{LinkedNode}
 use Rattle.node_run.specs.declared.linked.NodeEnd.{NodeEnd}
 use Rattle.node_run.specs.declared.linked.NodeEnd.TheVariants as end
-use Rattle.session_run.specs.Links.{GivesBack}
+use Rattle.session_run.specs.Links.{GivesBack, sent_with}
+use Rattle.session_run.specs.Running.{sent_by}
 use Rattle.session_run.specs.declared.stop.Stop.{Stop}
 use Rattle.session_run.specs.declared.stop.Stop.TheVariants as stop
 use Rattle.loop_run.specs.Collecting.{LeavesGateway, LeavesNode, stop_of_node}
 use Rattle.loop_run.specs.Seats.{HasCommitted, LoopBook, LoopGateway}
 use Rattle.loop_run.specs.declared.looped.Looped.{Looped}
-use Rattle.loop_run.proofs.StillLemmas.{both_failed, both_first, both_only, both_second}
+use Rattle.loop_run.proofs.StillLemmas.{Told, both_failed, both_first, both_only, both_second}
 
 module _ {L : Type 0} (tells : paths.Ghosts L) where
   -- why it stops, by the end of a node, or by what it was said to stop for
@@ -46,11 +49,12 @@ module _ {L : Type 0} (tells : paths.Ghosts L) where
   at_end end.NoMemory = record { stops = λ is. absurd (cc is); link = λ is. absurd (cc is); no_clock = λ is. cc is }
 
   pub gateway_leaves : (g : LoopGateway L) (stops : Option Stop) (old new : LinksState) (was now : Looped)
-      (why : Option Stop) → GivesBack tells g.address old new g.links.items
+      (why : Option Stop) → ((told : Told) (links : List L) → sent_with tells told links ≡ joined told (sent_by tells links))
+      → GivesBack tells g.address old new g.links.items
       → (why ≡ None → (book : LoopBook) × HasCommitted g.book book × (now.books.items ≡ was.books.items ++ book ∷ []))
       → now.nodes.items ≡ was.nodes.items → (why ≡ None → stops ≡ None) → (why ≡ Some stop.Link → stops ≡ Some stop.Link)
       → (why ≡ Some stop.Clock → stops ≡ Some stop.Clock) → LeavesGateway tells g stops old new was now why
-  gateway_leaves g stops old new was now why gave books nodes is link clock = record {
+  gateway_leaves g stops old new was now why all_sent gave books nodes is link clock = record {
     only = record {
       on = record { made = gave.made; later = gave.later };
       others = λ a other. record {
@@ -60,6 +64,7 @@ module _ {L : Type 0} (tells : paths.Ghosts L) where
       };
     };
     received = gave.received;
+    sent = subst (λ (o : Told). IfSome (new.sent g.address) (λ list. o ≡ Some list)) (all_sent (old.sent g.address) g.links.items) gave.sent;
     failed = gave.failed;
     books = books;
     nodes = nodes;

@@ -25,7 +25,7 @@ use Rattle.loop_run.specs.declared.collecting.Collected.{Collected}
 use Rattle.loop_run.specs.declared.looped.Looped.{Looped}
 use Rattle.loop_run.specs.declared.setup.LoopSetup.{LoopSetup}
 use Rattle.loop_run.proofs.AddressLemmas.{gateway_no_node, gateways_apart, nodes_apart, ports_apart}
-use Rattle.loop_run.proofs.GatewayLemmas.{book_still, served_book}
+use Rattle.loop_run.proofs.GatewayLemmas.{ReplyLater, StaysInTurn, book_still, served_book}
 use Rattle.loop_run.proofs.ListLemmas.{all_by_place, get_pushed, get_within, length_pushed}
 use Rattle.loop_run.proofs.NodeLemmas.{node_still, ran_node, ran_turns}
 use Rattle.loop_run.proofs.StillLemmas.{still_grew, still_same, still_then}
@@ -37,19 +37,20 @@ pub record IsLeftNode (setup : LoopSetup) (old now : LinksState) (place : ℕ) (
   pub taken : 0 < length (open_numbers setup.packets node) → turns_of now place ≡ turns_of old place + setup.turns
 
 -- A book that was.
-pub record IsLeftBook (now : LinksState) (place : ℕ) (book : LoopBook) : Type 0 where
-  pub is : IsLoopBook now place book
+pub record IsLeftBook (old now : LinksState) (place : ℕ) (book : LoopBook) : Type 0 where
+  pub is : IsLoopBook old now place book
   pub firm : value_of book ≡ standing_for (value_of book).firm
 
--- So many were taken apart, the nodes first. Of the addresses of the nodes left no more is told.
+-- So many were taken apart, the nodes first. Of the addresses of the others no more is told.
 pub record HaveLeft (setup : LoopSetup) (old now : LinksState) (count : ℕ) (looped : Looped) : Type 0 where
   pub node_count : length looped.nodes.items ≡ min count setup.nodes
   pub book_count : length looped.books.items ≡ count - setup.nodes
   pub each_node : (place : ℕ) (node : NodeValue) → slice_get looped.nodes.items place ≡ Some node
       → IsLeftNode setup old now place node
   pub each_book : (place : ℕ) (book : LoopBook) → slice_get looped.books.items place ≡ Some book
-      → IsLeftBook now place book
+      → IsLeftBook old now place book
   pub still : (place : ℕ) (port : Port) → count ≤ place → place < setup.nodes → StillAt (node_at place port) old now
+  pub still_books : (place : ℕ) → count - setup.nodes ≤ place → StillAt (gateway_at place) old now
 
 none_get : {X : Type 0} (place : ℕ) (x : X) → slice_get [] place ≡ Some x → ⊥
 none_get place x e = cc e
@@ -64,6 +65,7 @@ none_left setup old looped books nodes = record {
   each_book = λ place book at. absurd (none_get place book
       (subst (λ (l : List LoopBook). slice_get l place ≡ Some book) books at));
   still = λ place port le less. still_same (node_at place port) old;
+  still_books = λ place le. still_same (gateway_at place) old;
 }
 
 -- a node that was taken apart is so still
@@ -80,10 +82,10 @@ left_node_still setup old mid new place node still was = record {
       omega (arith, one, other, all);
 }
 
-left_book_still : (mid new : LinksState) (place : ℕ) (book : LoopBook) → StillAt (gateway_at place) mid new
-    → IsLeftBook mid place book → IsLeftBook new place book
-left_book_still mid new place book still was =
-    record { is = book_still place mid new book still was.is; firm = was.firm }
+left_book_still : (old mid new : LinksState) (place : ℕ) (book : LoopBook) → StillAt (gateway_at place) mid new
+    → IsLeftBook old mid place book → IsLeftBook old new place book
+left_book_still old mid new place book still was =
+    record { is = book_still place old mid new book still was.is; firm = was.firm }
 
 -- what the laws of nodes say of those of the loop
 abbrev pub KeepAll : LoopSetup → Type 0
@@ -173,17 +175,19 @@ module _ {L : Type 0} (tells : paths.Ghosts L) (setup : LoopSetup) (within : IsL
           (subst (λ (n : NodeValue). IsLeftNode setup old new place n) (sym last.1) left_now))
           (get_pushed was.nodes.items linked.node p node
           (subst (λ (l : List NodeValue). slice_get l p ≡ Some node) (left.nodes refl) at));
-      each_book = λ p book at. left_book_still mid new p book
+      each_book = λ p book at. left_book_still old mid new p book
           (elsewhere (gateway_at p) (gateway_no_node p place First) (gateway_no_node p place Second))
           (had.each_book p book (subst (λ (l : List LoopBook). slice_get l p ≡ Some book) left.books at));
       still = λ p port le inside. still_then (node_at p port) old mid new (had.still p port (omega (arith, le)) inside)
           (elsewhere (node_at p port)
           (nodes_apart p place port First (λ (e : p ≡ place). omega (arith, e, le)))
           (nodes_apart p place port Second (λ (e : p ≡ place). omega (arith, e, le))));
+      still_books = λ p le. still_then (gateway_at p) old mid new (had.still_books p (omega (arith, less)))
+          (elsewhere (gateway_at p) (gateway_no_node p place First) (gateway_no_node p place Second));
     }
 
   -- One more gateway.
-  module _ (g : LoopGateway L) (stops : Option Stop) (behind : setup.nodes ≤ place)
+  module _ (stay : StaysInTurn) (reply : ReplyLater) (g : LoopGateway L) (stops : Option Stop) (behind : setup.nodes ≤ place)
       (served : HasServedAt tells (place - setup.nodes) stops g)
       (left : LeavesGateway tells g stops mid new was now None) where
     besides : (at : Addr) → at ≢ gateway_at (place - setup.nodes) → StillAt at mid new
@@ -192,11 +196,11 @@ module _ {L : Type 0} (tells : paths.Ghosts L) (setup : LoopSetup) (within : IsL
     abbrev pub book : LoopBook
     book = (left.books refl).0
 
-    book_now : IsLeftBook new (place - setup.nodes) book
+    book_now : IsLeftBook old new (place - setup.nodes) book
     book_now =
         let committed = (left.books refl).1 in
-        let is_book = served_book tells (place - setup.nodes) stops g served new (mid.received g.address) book committed
-        left.received in
+        let is_book = served_book tells stay reply (place - setup.nodes) stops g served old mid new
+        (had.still_books (place - setup.nodes) (omega arith)) book committed left.received left.sent in
         record {
           is = is_book;
           firm = is_book.value ∙ ap (λ (v : BookValue). standing_for v.firm) (sym is_book.value);
@@ -221,16 +225,18 @@ module _ {L : Type 0} (tells : paths.Ghosts L) (setup : LoopSetup) (within : IsL
           (λ (before : slice_get was.books.items p ≡ Some b).
           let inside = get_within was.books.items p b before in
           let count = had.book_count in
-          left_book_still mid new p b
+          left_book_still old mid new p b
           (besides (gateway_at p) (gateways_apart p (place - setup.nodes)
           (λ (e : p ≡ place - setup.nodes). omega (arith, e, inside, count))))
           (had.each_book p b before))
           (λ (last : (p ≡ length was.books.items) × (b ≡ book)).
-          subst (λ (q : ℕ). IsLeftBook new q b) (sym (last.0 ∙ had.book_count))
-          (subst (λ (x : LoopBook). IsLeftBook new (place - setup.nodes) x) (sym last.1) book_now))
+          subst (λ (q : ℕ). IsLeftBook old new q b) (sym (last.0 ∙ had.book_count))
+          (subst (λ (x : LoopBook). IsLeftBook old new (place - setup.nodes) x) (sym last.1) book_now))
           (get_pushed was.books.items book p b
           (subst (λ (l : List LoopBook). slice_get l p ≡ Some b) pushed at));
       still = λ p port le inside. absurd (omega (arith, le, inside, behind));
+      still_books = λ p le. still_then (gateway_at p) old mid new (had.still_books p (omega (arith, le, behind)))
+          (besides (gateway_at p) (gateways_apart p (place - setup.nodes) (λ (e : p ≡ place - setup.nodes). omega (arith, e, le, behind))));
     }
 
 -- All of them.

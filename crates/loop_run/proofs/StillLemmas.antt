@@ -18,7 +18,7 @@ pub still_holds : (P : List Datagram → Type 0) (new mid : Told) → IfSome new
 still_holds P None mid e f = tt
 still_holds P (Some list) mid e f = subst (λ (o : Told). IfSome o P) e f
 
-same_told : (told : Told) → IfSome told (λ list. told ≡ Some list)
+pub same_told : (told : Told) → IfSome told (λ list. told ≡ Some list)
 same_told None = tt
 same_told (Some list) = refl
 
@@ -27,7 +27,7 @@ none_joined (Some r) list e = cc e
 none_joined None list e = cc e
 
 -- a list grows as the one did that it was before
-grows_before : (old mid new more : Told) → IfSome mid (λ list. old ≡ Some list)
+pub grows_before : (old mid new more : Told) → IfSome mid (λ list. old ≡ Some list)
     → IfSome new (λ list. joined mid more ≡ Some list) → IfSome new (λ list. joined old more ≡ Some list)
 grows_before old mid None more was grew = tt
 grows_before old (Some list) (Some all) more was grew = ap (λ (o : Told). joined o more) was ∙ grew

@@ -11,7 +11,7 @@ use Rattle.node_run.specs.declared.linked.LinkedNode.{LinkedNode}
 use Rattle.node_run.specs.declared.linked.NodeEnd.{NodeEnd}
 use Rattle.node_run.specs.declared.linked.NodeEnd.TheVariants as end
 use Rattle.session_run.specs.Links.{received_with}
-use Rattle.session_run.specs.Running.{AnyOf, HasFailed, HasStopCause}
+use Rattle.session_run.specs.Running.{AnyOf, HasFailed, HasStopCause, sent_by}
 use Rattle.session_run.specs.declared.stop.Stop.{Stop}
 use Rattle.session_run.specs.declared.stop.Stop.TheVariants as stop
 use Rattle.loop_run.specs.Ending.{AreAllFirm, HandsOut, HasTakenAll}
@@ -74,6 +74,7 @@ module _ {L : Type 0} (tells : paths.Ghosts L) where
     pub only : GivesOnly (λ a. a ≡ g.address) old new
     pub received : IfSome (new.received g.address)
         (λ list. received_with tells (old.received g.address) g.links.items ≡ Some list)
+    pub sent : GrowsBy (old.sent g.address) (sent_by tells g.links.items) (new.sent g.address)
     pub failed : AnyOf (HasFailed tells) g.links.items → Rose old.faults new.faults
     pub books : why ≡ None →
         (book : LoopBook) × HasCommitted g.book book × (now.books.items ≡ was.books.items ++ book ∷ [])

@@ -21,8 +21,8 @@ use Rattle.node_run.specs.declared.linked.LinkedNode.{LinkedNode}
 use Rattle.node_run.specs.declared.linked.NodeEnd.{NodeEnd}
 use Rattle.node_run.specs.declared.linked.Work.{Work}
 use Rattle.node_session.specs.Writing.{IsWriterOf}
-use Rattle.session_run.specs.History.{GoesOn}
-use Rattle.session_run.specs.Running.{AreFiveOf, AreNewAt, HasStopCause, StaysAs, heard_by}
+use Rattle.session_run.specs.History.{GoesOnUntil}
+use Rattle.session_run.specs.Running.{AreFiveOf, AreNewAt, HasStopCause, HaveReplied, StaysAs, heard_by}
 use Rattle.session_run.specs.declared.gateway.Gateway.{Gateway}
 use Rattle.session_run.specs.declared.stop.Stop.{Stop}
 use Rattle.loop_run.specs.Addresses.{gateway_at, node_at}
@@ -90,7 +90,9 @@ module _ {L : Type 0} (tells : paths.Ghosts L) where
     pub start : LoopBook
     pub begun : IsBegun place start
     pub address : g.address ≡ gateway_at place
-    pub history : GoesOn (heard_by tells g.links.items) (facts_of start) (facts_of g.book)
+    pub last : Option ℕ
+    pub history : GoesOnUntil (heard_by tells g.links.items) (facts_of start) (facts_of g.book) last
+    pub replies : HaveReplied tells (heard_by tells g.links.items) (facts_of start) (facts_of g.book) g.links.items
     pub stays : StaysAs (facts_of start) (facts_of g.book)
     pub links : AreFiveOf tells (gateway_at place) g.links.items
     pub cause : HasStopCause tells 0 0 g.links.items stops

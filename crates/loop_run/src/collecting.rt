@@ -14,6 +14,7 @@ use area_disk::QuietArea;
 use cdr_shelf::QuietShelf;
 use net_link::Links;
 use node_run::{LinkedNode, NodeEnd};
+use session_run::laws::{what_is_in_turn_stays_so, what_links_sent};
 use session_run::{Gateway, Stop, give_back};
 use std::alloc::Global;
 
@@ -39,6 +40,7 @@ pub(crate) fn collect<L: Links>(
     ensures stopped { StoppedBy (L.state links.old) (L.state links.new) result }
 {
     nodes_of_a_loop_keep_all();
+    what_is_in_turn_stays_so();
     let mut looped = Looped::none(alloc);
     let mut stop: Option<Stop> = None;
     for seat in seats {
@@ -101,6 +103,7 @@ fn leave_gateway<L: Links>(
     ensures { LeavesGateway L.Link.Link gateway stop (L.state links.old) (L.state links.new) looped.old looped.new
         result }
 {
+    what_links_sent::<L::Link>();
     let Gateway {
         book,
         writer: _,

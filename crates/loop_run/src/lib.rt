@@ -32,5 +32,6 @@ pub use end::{GatewaySum, LoopEnd, NodeSum};
 pub use laws::nodes_of_a_loop_keep_all;
 pub use loop_audit::{Audited, audit};
 pub use looped::Looped;
-pub use looping::run_loop;
+pub use looping::{run_loop, run_loop_watched};
+pub use node_run::NodeWatch;
 pub use setup::LoopSetup;

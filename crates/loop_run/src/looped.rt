@@ -6,7 +6,7 @@ use node_core::Node;
 use std::alloc::Global;
 
 /// What a loop ran: the books of its gateways and its nodes, in their order. Both lists are empty where a link failed
-/// or there was no memory, and where there was no loop.
+/// or there was no memory for the loop, and where there was none.
 #[derive(Drop)]
 pub struct Looped {
     pub books: Vec<Book<QuietArea>>,

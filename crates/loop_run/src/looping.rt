@@ -13,6 +13,7 @@ use crate::running::run_seats;
 use crate::seating::make_all;
 use crate::setup::LoopSetup;
 use net_link::Links;
+use node_run::{NoWatch, NodeWatch};
 use session_run::Stop;
 use std::alloc::Global;
 use std::sync::Wait;
@@ -37,12 +38,30 @@ where
     ensures ends { EndsAs setup (L.state links.old) (L.state links.new) result.1 result.0 }
     ensures later { (L.state links.old).faults ≤ (L.state links.new).faults }
 {
+    run_loop_watched(rt, alloc, setup, links, &NoWatch)
+}
+
+/// The same, and the nodes tell `watch` of each of their turns.
+pub fn run_loop_watched<L: Links, W: NodeWatch + Sync, R: Threads + Wait + Clock + Sync>(
+    rt: &R,
+    alloc: Global,
+    setup: LoopSetup,
+    links: &mut L,
+    watch: &W,
+) -> (LoopEnd, Looped)
+where
+    L::Link: Send,
+    requires within { IsLoop setup }
+    requires turns { (at : Addr) → (L.state links.old).turns at < 2 ^ 63 }
+    ensures ends { EndsAs setup (L.state links.old) (L.state links.new) result.1 result.0 }
+    ensures later { (L.state links.old).faults ≤ (L.state links.new).faults }
+{
     let (seats, stop) = make_all(alloc, setup, links);
     if let Some(stop) = stop {
         let _left = collect(alloc, setup, seats, links);
         return (end_by(stop), Looped::none(alloc));
     }
-    let seats = run_seats(rt, alloc, setup, seats);
+    let seats = run_seats(rt, alloc, setup, seats, watch);
     let Collected { looped, stop } = collect(alloc, setup, seats, links);
     match stop {
         Some(stop) => (end_by(stop), Looped::none(alloc)),

@@ -134,7 +134,7 @@ impl<R: Wait + Clock> Link for AirLink<'_, R> {
 impl<'a, R: Wait + Clock> Links for Air<'a, R> {
     type Link = AirLink<'a, R>;
 
-    ghost state = { λ air. record (⟦<MemoryLinks as Links>⟧.state air.made) { received = λ at. None; sent = λ at. None } };
+    ghost state = { λ a. record (⟦<MemoryLinks as Links>⟧.state a.made) { received = λ at. None; sent = λ at. None } };
 
     fn make(&mut self, at: Addr) -> Result<AirLink<'a, R>, LinkStop> {
         Ok(AirLink {

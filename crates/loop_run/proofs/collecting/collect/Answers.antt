@@ -45,6 +45,7 @@ loop-seat-preserved g c = record {
       (left_more g.L.Link.Link c.args.setup c.requires.within (g.L.Links.state c.args.links.now)
       (λ place turns. c.nodes_of_a_loop_keep_all.ensures.kept c.args.setup place turns c.requires.within)
       (λ place turns. c.nodes_of_a_loop_keep_all.ensures.done c.args.setup place turns c.requires.within)
+      c.what_is_in_turn_stays_so.ensures.front c.what_is_in_turn_stays_so.ensures.replies
       (g.L.Links.state c.loop-seat.links) (g.L.Links.state c.leave-why.new.links) c.loop-seat.looped
       c.leave-why.new.looped c.loop-seat.yielded c.in-Some.seat c.loop-seat.stop c.leave-why.result
       c.loop-seat.invariant.so

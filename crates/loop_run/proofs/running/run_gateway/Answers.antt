@@ -10,7 +10,9 @@ returns g c = (
     start = c.args.gateway.book;
     begun = c.requires.1.book;
     address = c.requires.1.address;
-    history = (c.run-gateway.ensures.history refl).goes;
+    last = c.run-gateway.result.last;
+    history = c.run-gateway.ensures.history refl;
+    replies = c.run-gateway.ensures.replies refl;
     stays = c.run-gateway.ensures.book;
     links = subst (λ (a : Addr). AreFiveOf g.L.Link a c.run-gateway.result.gateway.links.items) c.requires.1.address
         c.run-gateway.ensures.links;

@@ -1,7 +1,7 @@
 use Rattle.std.proofs.Common.{refl, arith}
 use Rattle.loop_run.proofs.CanLemmas.{all_ran_can, all_sit_can}
 use Rattle.loop_run.proofs.EndsLemmas.{collected_of, ends_finished}
-use Rattle.loop_run.proofs.looping.run_loop.Goals as goal
+use Rattle.loop_run.proofs.looping.run_loop_watched.Goals as goal
 
 pub collect-left-requires-clause-seats : goal.collect-left-requires-clause-seats
 collect-left-requires-clause-seats g c = all_sit_can g.L.Link.Link c.args.setup _ _
