@@ -27,13 +27,13 @@ use cgf_edge::{
     Trouble, WriterSink, accept,
 };
 use cgf_top::{
-    Ended, Places, Status, StreamPlaces, Watch, run_watched, serve_places, stream_places,
+    Ended, NodeTurn, Places, Status, StreamPlaces, Watch, run_watched, serve_places, stream_places,
     tcp_address,
 };
 use gw_base::{Sink, Source};
 use net_link::UdpLinks;
 use std::env;
-use std::io::{ErrorKind, IsTerminal, Stderr, Write};
+use std::io::{ErrorKind, IsTerminal, Print, Stderr, Write};
 use std::process::ExitCode;
 use std::sync::Wait;
 use std::thread::Threads;
@@ -143,7 +143,7 @@ fn run_streamed<R: Threads + Wait + Clock + Sync>(
         Some(at) => {
             let (mut source, mut sink) = accept(rt, at);
             let line = Line::new();
-            let mut watch = Shown(Progress::new(&line, terminal(rt)));
+            let mut watch = Shown(Progress::new(rt.alloc(), &line, terminal(rt)));
             run_over(
                 threads,
                 rt,
@@ -213,7 +213,7 @@ fn run_with<A: Area + Send, F: Shelf + Send, R: Threads + Wait + Clock + Sync>(
 {
     let line = Line::new();
     let mut sink = BehindProgress::new(WriterSink::new(rt.stdout()), &line, terminal(rt));
-    let mut watch = Shown(Progress::new(&line, terminal(rt)));
+    let mut watch = Shown(Progress::new(rt.alloc(), &line, terminal(rt)));
     match path {
         Some(path) => {
             let mut source = FileSource::new(rt, path);
@@ -250,7 +250,7 @@ fn run_over<
     K: Sink,
     A: Area + Send,
     F: Shelf + Send,
-    W: Write + Drop,
+    W: Write + Print + Drop + Sync,
     R: Threads + Wait + Clock + Sync,
 >(
     threads: &R,
@@ -296,9 +296,14 @@ fn run_over<
 #[derive(Drop)]
 struct Shown<'a, W: Write + Drop>(Progress<'a, W>);
 
-impl<W: Write + Drop> Watch for Shown<'_, W> {
+impl<W: Write + Print + Drop> Watch for Shown<'_, W> {
     fn ran(&mut self, lines: u64, all: u64) {
         self.0.ran(lines, all);
+    }
+
+    fn turned(&self, turn: NodeTurn) {
+        self.0
+            .turned(turn.place, turn.done, turn.all, turn.favourite);
     }
 }
 

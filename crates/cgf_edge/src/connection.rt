@@ -13,7 +13,9 @@ use std::net::{Ipv4Addr, Net, SocketAddr, SocketAddrV4, TcpListener, TcpStream};
 pub fn accept<R: Net<Listener = TcpListener, Stream = TcpStream>>(
     net: &R,
     at: Addr,
-) -> (ConnectionSource, ConnectionSink) {
+) -> (ConnectionSource, ConnectionSink)
+    ensures { (result.0.faults ≡ 0) × (result.1.faults ≡ 0) }
+{
     match accept_one(net, at) {
         Ok((reader, writer)) => (
             ConnectionSource::of(Some(reader)),

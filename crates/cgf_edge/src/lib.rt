@@ -16,6 +16,7 @@ mod clock;
 mod connection;
 mod disk_file;
 mod name;
+mod nodes;
 mod open;
 mod part;
 mod progress;

@@ -1,39 +1,47 @@
 ghost use Rattle.std.specs.Prelude.{◌≡◌};
 
+use crate::nodes::Nodes;
 use gw_base::{Failed, Sink};
-use std::cell::Cell;
-use std::io::Write;
+use std::alloc::Global;
+use std::io::{Print, Write};
+use std::sync::atomic::{AtomicU64, Ordering};
 
 /// From so many lines on a job is long.
 const LONG: u64 = 100_000;
 
-/// What a line of the terminal is emptied by.
-const EMPTY: &[u8] = b"\r          \r";
+/// What a line of the terminal is emptied by: its start, and the control sequence EL of ECMA-48, clause 8.3.41.
+const EMPTY: &[u8] = b"\r\x1b[K";
 
-/// What the line of a terminal shows: hundredths of a job, or nothing.
+/// What the line of a terminal shows: 1 more than the hundredths of a job, or 0 where it shows nothing.
 #[derive(Drop)]
 pub struct Line {
-    shown: Cell<Option<u64>>,
+    shown: AtomicU64,
 }
 
 impl Line {
     /// Nothing is shown yet.
     pub fn new() -> Line {
         Line {
-            shown: Cell::new(None),
+            shown: AtomicU64::new(0),
         }
     }
 
     /// Empties the line on this terminal, where something is shown.
     fn clear<W: Write>(&self, terminal: &mut Option<W>) {
-        if self.shown.replace(None).is_some() {
+        if self.shown.swap(0, Ordering::SeqCst) > 0 {
             write(terminal, EMPTY);
         }
     }
 
+    /// From now on it shows so many hundredths. It tells whether that is something else than before.
+    fn turn_to(&self, hundredths: u64) -> bool {
+        let shown = hundredths.saturating_add(1);
+        self.shown.swap(shown, Ordering::SeqCst) != shown
+    }
+
     /// Shows so many hundredths on this terminal, where others are shown.
     fn show<W: Write>(&self, terminal: &mut Option<W>, hundredths: u64) {
-        if self.shown.replace(Some(hundredths)) == Some(hundredths) {
+        if !self.turn_to(hundredths) {
             return;
         }
         let line = [
@@ -68,17 +76,25 @@ fn digit(hundredths: u64, unit: u64) -> u8 {
     b'0' + (hundredths / unit % 10) as u8
 }
 
-/// Tells how far a long job is, on one line of a terminal that is written anew; without a terminal it tells nothing.
+/// Tells how far a long job or a loop is, on one line of a terminal that is written anew; without a terminal it tells
+/// nothing.
 #[derive(Drop)]
 pub struct Progress<'a, W: Write + Drop> {
+    alloc: Global,
     line: &'a Line,
     terminal: Option<W>,
+    nodes: Nodes,
 }
 
 impl<'a, W: Write + Drop> Progress<'a, W> {
     /// Shows on this line of this terminal.
-    pub fn new(line: &'a Line, terminal: Option<W>) -> Self {
-        Progress { line, terminal }
+    pub fn new(alloc: Global, line: &'a Line, terminal: Option<W>) -> Self {
+        Progress {
+            alloc,
+            line,
+            terminal,
+            nodes: Nodes::new(),
+        }
     }
 
     /// So many of all lines were run.
@@ -92,6 +108,25 @@ impl<'a, W: Write + Drop> Progress<'a, W> {
     /// Empties the line, where something is shown.
     pub fn clear(&mut self) {
         self.line.clear(&mut self.terminal);
+    }
+}
+
+impl<W: Write + Print + Drop> Progress<'_, W> {
+    /// The node of a loop in this place has so many packets done, where all nodes have so many, and this gateway is its
+    /// favourite. A line is written where the hundredths of all packets or a favourite are others than before.
+    pub fn turned(&self, place: usize, done: u64, all: u64, favourite: u8) {
+        let Some(terminal) = &self.terminal else {
+            return;
+        };
+        let has_moved = self.nodes.turned(place, done, favourite);
+        let done = self.nodes.done();
+        let is_further = self.line.turn_to(done.saturating_mul(100) / all.max(1));
+        if !has_moved && !is_further {
+            return;
+        }
+        if let Ok(line) = self.nodes.line(self.alloc, done, all) {
+            let _ = Print::write_all(terminal, line.as_bytes());
+        }
     }
 }
 

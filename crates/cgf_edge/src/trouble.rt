@@ -1,6 +1,7 @@
 // What a file or a folder has failed with.
-ghost use Rattle.std.specs.Prelude.{◌≡◌, ◌≤◌};
+ghost use Rattle.std.specs.Prelude.{◌≡◌, ◌≢◌, ◌≤◌, IfErr, IfOk, IsErr, Ok, Some};
 ghost use Rattle.area_disk.specs.Disk.{HasCause, Rose};
+ghost use Rattle.cgf_edge.specs.declared.trouble.Trouble.TheVariants as kind;
 
 use area_disk::Failed;
 use std::fs::TryLockError;
@@ -40,12 +41,18 @@ impl fmt::Display for Trouble {
 }
 
 impl From<io::Error> for Trouble {
+    ghost from_gives = { λ error t. t ≡ kind.System error };
+
     fn from(error: io::Error) -> Self {
         Trouble::System(error)
     }
 }
 
 impl From<TryLockError> for Trouble {
+    ghost use Rattle.cgf_edge.specs.Troubles.{lock_trouble};
+
+    ghost from_gives = { λ error t. t ≡ lock_trouble error };
+
     fn from(error: TryLockError) -> Self {
         match error {
             TryLockError::WouldBlock => Trouble::Locked,
@@ -77,6 +84,8 @@ impl Troubles {
     pub fn failed(&mut self, trouble: Trouble) -> Failed
         ensures later { self.old.count ≤ self.new.count }
         ensures rose { Rose self.old.count self.new.count }
+        ensures last { trouble ≢ kind.Unsynced → self.new.last ≡ Some trouble }
+        ensures kept { trouble ≡ kind.Unsynced → self.new.last ≡ self.old.last }
     {
         self.count = self.count.saturating_add(1);
         if !matches!(trouble, Trouble::Unsynced) {
@@ -87,7 +96,9 @@ impl Troubles {
 
     /// Counts a call where it failed.
     pub fn told<T>(&mut self, done: Result<T, Trouble>) -> Result<T, Failed>
-        ensures { HasCause self.old.count self.new.count result }
+        ensures cause { HasCause self.old.count self.new.count result }
+        ensures ok { IfOk done (λ value. (result ≡ Ok value) × (self.new ≡ self.old)) }
+        ensures err { IfErr done (λ _. IsErr result) }
     {
         match done {
             Ok(value) => Ok(value),

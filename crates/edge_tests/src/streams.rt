@@ -1,7 +1,8 @@
 use cgf_edge::{BehindProgress, FileSource, Line, Progress, ReaderSource, WriterSink};
 use gw_base::{Failed, Sink, Source};
-use std::fs::OpenOptions;
-use std::io::{Read, Write};
+use std::fmt::Display;
+use std::fs::{File, OpenOptions};
+use std::io::{Print, Read, Write};
 use std::test::Fail;
 use std::{fs, io};
 
@@ -124,7 +125,7 @@ fn a_long_job_is_shown_on_a_terminal_and_cleared_before_the_report(
         &line,
         Some(terminal.try_clone()?),
     );
-    let mut progress = Progress::new(&line, Some(terminal));
+    let mut progress = Progress::new(rt.alloc(), &line, Some(terminal));
     for (lines, all) in [
         (50_000, 99_999),
         (0, 200_000),
@@ -144,10 +145,70 @@ fn a_long_job_is_shown_on_a_terminal_and_cleared_before_the_report(
     let shown = fs::read(&rt, "shown")?;
     assert_eq!(rt;
         shown.as_slice(),
-        b"\rcgf:   0 %\rcgf:   1 %\rcgf:  99 %\r          \rreport\nreport\n\rcgf:  50 %\r          \r".as_slice()
+        b"\rcgf:   0 %\rcgf:   1 %\rcgf:  99 %\r\x1b[Kreport\nreport\n\rcgf:  50 %\r\x1b[K".as_slice()
     );
-    let mut nowhere: Progress<'_, SlowWriter> = Progress::new(&line, None);
+    let mut nowhere: Progress<'_, SlowWriter> = Progress::new(rt.alloc(), &line, None);
     nowhere.ran(1, 200_000);
     nowhere.clear();
+    Ok(())
+}
+
+/// A terminal that is a file.
+#[derive(Drop)]
+struct Paper(File);
+
+impl Write for Paper {
+    fn write(&mut self, from: &[u8]) -> io::Result<usize> {
+        self.0.write(from)
+    }
+
+    fn flush(&mut self) -> io::Result<()> {
+        self.0.flush()
+    }
+}
+
+impl Print for Paper {
+    fn print<D: Display + Drop>(&self, value: D) -> io::Result<()> {
+        let mut file = &self.0;
+        write!(file, "{value}")
+    }
+
+    fn println<D: Display + Drop>(&self, value: D) -> io::Result<()> {
+        let mut file = &self.0;
+        writeln!(file, "{value}")
+    }
+
+    fn write_all(&self, bytes: &[u8]) -> io::Result<()> {
+        let mut file = &self.0;
+        file.write_all(bytes)
+    }
+}
+
+/// The line of a loop says how many packets are done of all, and which gateway each node holds for its favourite. It is
+/// written anew where the hundredths of all packets or a favourite change.
+#[test]
+fn nodes_of_a_loop_are_shown_on_a_terminal(rt: HostRuntime) -> Result<(), Fail> {
+    let file = OpenOptions::new()
+        .append(true)
+        .create(true)
+        .open(&rt, "nodes")?;
+    let line = Line::new();
+    let mut progress = Progress::new(rt.alloc(), &line, Some(Paper(file)));
+    for (place, done, favourite) in [
+        (0, 0, 0),
+        (1, 1, 1),
+        (0, 1, 0),
+        (0, 2, 0),
+        (0, 2, 1),
+        (8, 9, 0),
+    ] {
+        progress.turned(place, done, 200, favourite);
+    }
+    progress.clear();
+    let shown = fs::read(&rt, "nodes")?;
+    assert_eq!(rt;
+        shown.as_slice(),
+        b"\rcgf:    0 of 200 packets done, favourites 1\rcgf:    1 of 200 packets done, favourites 1 2\rcgf:    2 of 200 packets done, favourites 1 2\rcgf:    3 of 200 packets done, favourites 2 2\r\x1b[K".as_slice()
+    );
     Ok(())
 }
