@@ -1,18 +1,19 @@
 -- What is told of an address once links of it were given back.
-use Rattle.std.proofs.Common.{◌≡◌, ◌⊎◌, ⊎_elim, inl, inr, ℕ, zero, suc, ◌+◌, ◌-◌, ◌<◌, ◌≤◌, ◌^◌, List, [], ◌∷◌, ◌++◌, min, Option, None, Some, refl, sym, ap, subst, ◌∙◌, append_assoc, arith}
+use Rattle.std.proofs.Common.{◌≡◌, ◌⊎◌, ⊎_elim, inl, inr, ℕ, zero, suc, ◌+◌, ◌-◌, ◌<◌, ◌≤◌, ◌^◌, List, [], ◌∷◌, ◌++◌, min, Option, None, Some, refl, sym, ap, subst, ◌∙◌, arith}
 use Rattle.std.specs.Prelude.{All, IfSome}
 use Rattle.std.specs.List.{Contains}
-use Rattle.std.proofs.lemmas.List.{append-nil}
 use Rattle.std.proofs.lemmas.List.Elements.{All-append, All-head, All-nil, All-tail, All-weaker, Contains-append_right}
 use Rattle.gw_base.specs.Facts.{Facts}
 use Rattle.gw_base.specs.Faults.{Rose}
 use Rattle.gw_base.specs.declared.history.HistoryEntry.{HistoryEntry}
-use Rattle.net_link.specs.Datagrams.{Datagram, added, joined}
+use Rattle.net_link.specs.Datagrams.{Datagram, IsEmpty, added, joined}
+use Rattle.net_link.specs.Making.{GrowsBy}
 use Rattle.net_link.specs.declared.link.Link as paths
-use Rattle.session_run.specs.History.{GoesOn, IsCalledFor, IsHeard, IsReply}
+use Rattle.session_run.specs.History.{GoesOnUntil, IsCalledFor, IsHeard, IsReply}
 use Rattle.session_run.specs.Links.{received_with, sent_with, turns_with}
+use Rattle.session_run.specs.Running.{sent_by}
 use Rattle.turn_cell.specs.Placed.{placed}
-use Rattle.cgf_top.specs.Served.{AllBehind}
+use Rattle.cgf_top.proofs.ServiceLemmas.{HeardInTurn}
 
 abbrev Told : Type 0
 Told = Option (List Datagram)
@@ -77,47 +78,57 @@ module _ {L : Type 0} (tells : paths.Ghosts L) where
       let here : Contains b.behind d = subst (λ o. IsHeard o d) b.other_is heard in
       subst (λ (l : List Datagram). Contains l d) (sym b.list_is) (Contains-append_right b.front b.behind d here)
 
-  -- what was sent behind what had been sent before
-  record Behind (P : Datagram → Type 0) (old all : List Datagram) : Type 0 where
-    more : List Datagram
-    whole : all ≡ old ++ more
-    each : All P more
+  -- what holds of all that each link sent holds of all that they sent together
+  pub all_sent : (P : Datagram → Type 0) (links : List L) → All (λ link. IfSome (tells.state link).sent (All P)) links
+      → IfSome (sent_by tells links) (All P)
+  all_sent P [] each = All-nil P
+  all_sent P (link ∷ links) each = by (sent_by tells links) (tells.state link).sent
+      (all_sent P links (All-tail (λ l. IfSome (tells.state l).sent (All P)) link links each))
+      (All-head (λ l. IfSome (tells.state l).sent (All P)) link links each)
+    where
+      by : (one other : Told) → IfSome one (All P) → IfSome other (All P) → IfSome (joined one other) (All P)
+      by None other p q = tt
+      by (Some xs) None p q = tt
+      by (Some xs) (Some ys) p q = All-append P xs ys p q
 
-  sent_behind : (P : Datagram → Type 0) (old : List Datagram) (links : List L) (all : List Datagram)
-      → All (λ link. IfSome (tells.state link).sent (All P)) links → sent_with tells (Some old) links ≡ Some all → Behind P old all
-  sent_behind P old [] all each e = record { more = []; whole = sym (some_same old all e) ∙ sym (append-nil old); each = All-nil P }
-  sent_behind P old (link ∷ links) all each e =
-      let b = both (sent_with tells (Some old) links) (tells.state link).sent all e in
-      let first = sent_behind P old links b.front (All-tail (λ l. IfSome (tells.state l).sent (All P)) link links each) b.one_is in
-      let own : All P b.behind = subst (λ o. IfSome o (All P)) b.other_is (All-head (λ l. IfSome (tells.state l).sent (All P)) link links each) in
-      record {
-        more = first.more ++ b.behind;
-        whole = b.list_is ∙ ap (λ (l : List Datagram). l ++ b.behind) first.whole ∙ append_assoc old first.more b.behind;
-        each = All-append P first.more b.behind first.each own;
-      }
+  -- links none of which sent anything sent nothing together
+  pub none_sent_by : (links : List L) → All (λ link. IsEmpty (tells.state link).sent) links → IsEmpty (sent_by tells links)
+  none_sent_by [] each = refl
+  none_sent_by (link ∷ links) each = by (sent_by tells links) (tells.state link).sent
+      (none_sent_by links (All-tail (λ l. IsEmpty (tells.state l).sent) link links each))
+      (All-head (λ l. IsEmpty (tells.state l).sent) link links each)
+    where
+      by : (one other : Told) → IsEmpty one → IsEmpty other → IsEmpty (joined one other)
+      by None other p q = tt
+      by (Some xs) None p q = tt
+      by (Some xs) (Some ys) p q = ap (λ (l : List Datagram). l ++ ys) p ∙ q
 
-  pub all_behind : (P : Datagram → Type 0) (before after : Told) (links : List L)
-      → All (λ link. IfSome (tells.state link).sent (All P)) links
-      → IfSome after (λ list. sent_with tells before links ≡ Some list) → AllBehind before after P
-  all_behind P before after links each e old all was is =
-      let with_all : sent_with tells before links ≡ Some all = subst (λ o. IfSome o (λ list. sent_with tells before links ≡ Some list)) is e in
-      let found = sent_behind P old links all each (subst (λ o. sent_with tells o links ≡ Some all) was with_all) in
-      (found.more, found.whole, found.each)
+  -- what they sent is told of the address behind what was told of it before
+  pub sent_grows : ((told : Told) (links : List L) → sent_with tells told links ≡ joined told (sent_by tells links))
+      → (before mid after : Told) (links : List L) → mid ≡ before → IfSome after (λ list. sent_with tells mid links ≡ Some list)
+      → GrowsBy before (sent_by tells links) after
+  sent_grows law before mid after links is e = subst (λ (o : Told). GrowsBy o (sent_by tells links) after) is
+      (subst (λ (o : Told). IfSome after (λ list. o ≡ Some list)) (law mid links) e)
 
 -- a history that goes on by what was heard goes on by what is told of the address
-pub goes_on_there : (heard there : Told) → ((d : Datagram) → IsHeard heard d → IsHeard there d) → (start now : Facts)
-    → GoesOn heard start now → GoesOn there start now
-goes_on_there heard there more start now g = record {
-  stood = g.stood;
-  tail = g.tail;
-  whole = g.whole;
-  stood_is = g.stood_is;
-  firm = g.firm;
-  begins = g.begins;
-  first = g.first;
-  answers = All-weaker (IsCalledFor start.size heard) (IsCalledFor start.size there)
-      (λ p c. record { datagram = c.datagram; was_heard = more c.datagram c.was_heard; now = c.now; who = c.who; called = c.called })
-      (placed g.stood g.tail) g.answers;
+pub goes_on_there : HeardInTurn → (earlier heard there : Told) → GrowsBy earlier heard there → ((d : Datagram) → IsHeard heard d → IsHeard there d)
+    → (start now : Facts) (last : Option ℕ) → GoesOnUntil heard start now last → GoesOnUntil there start now last
+goes_on_there law earlier heard there grows more start now last g = record {
+  goes = record {
+    stood = g.goes.stood;
+    tail = g.goes.tail;
+    whole = g.goes.whole;
+    stood_is = g.goes.stood_is;
+    firm = g.goes.firm;
+    begins = g.goes.begins;
+    first = g.goes.first;
+    answers = All-weaker (IsCalledFor start.size heard) (IsCalledFor start.size there)
+        (λ p c. record { datagram = c.datagram; was_heard = more c.datagram c.was_heard; now = c.now; who = c.who; called = c.called })
+        (placed g.goes.stood g.goes.tail) g.goes.answers;
+  };
+  jobs = g.jobs;
+  answers = law start.size g.jobs (placed g.goes.stood g.goes.tail) earlier heard there grows g.answers;
+  latest = g.latest;
 }
 
 pub reply_there : (heard there : Told) → ((d : Datagram) → IsHeard heard d → IsHeard there d) → (size : ℕ) (firm : List HistoryEntry)

@@ -1,8 +1,6 @@
 -- How a history has grown from the one that was found to the one that was settled.
 use Rattle.std.proofs.Common.{◌≡◌, ◌⊎◌, ⊎_elim, inl, inr, ℕ, ◌≤◌, Bool, true, false, if◌then◌else◌, List, [], ◌∷◌, ◌++◌, length, Option, None, Some, refl, sym, ap, subst, ◌∙◌, append_assoc, arith}
-use Rattle.std.specs.Prelude.{All}
 use Rattle.std.proofs.lemmas.List.{append-nil}
-use Rattle.std.proofs.lemmas.List.Elements.{All-cons, All-head, All-nil, All-tail}
 use Rattle.gateway_book.specs.Answered.{entry_by, no_caller, room_for, with_act}
 use Rattle.gateway_book.specs.Marks.{Makes, NotDue}
 use Rattle.gateway_book.specs.Turning.{act_marked}
@@ -16,9 +14,11 @@ use Rattle.gw_base.specs.declared.history.HistoryAct.TheVariants as act
 use Rattle.gw_base.specs.declared.history.HistoryEntry.{HistoryEntry}
 use Rattle.net_link.specs.Datagrams.{Datagram}
 use Rattle.node_session.specs.Settling.{closed_behind}
-use Rattle.session_run.specs.History.{GoesOn, IsCalledFor}
+use Rattle.session_run.specs.History.{AnswerInTurn, GoesOn, GoesOnUntil}
+use Rattle.session_run.specs.Latest.{Jobs}
 use Rattle.turn_cell.specs.Placed.{placed}
-use Rattle.cgf_top.specs.Served.{HasGrown, IsAtMost}
+use Rattle.cgf_top.specs.Served.{HasGrown, IsAtMost, moment_of}
+use Rattle.cgf_top.proofs.ServiceLemmas.{StaysInTurn}
 
 abbrev Entries : Type 0
 Entries = List HistoryEntry
@@ -50,13 +50,6 @@ two_beginnings (x ∷ xs) (y ∷ ys) (z ∷ zs) p q =
 -- a front of what is at most an entry is at most that
 at_most_front : (e : HistoryEntry) (xs ys : Entries) → IsAtMost e (xs ++ ys) → IsAtMost e xs
 at_most_front e xs ys m = (ys ++ m.0, m.1 ∙ append_assoc xs ys m.0)
-
--- the answers in front are answers
-placed_front : (P : HistoryEntry × Entries → Type 0) (before xs ys : Entries) → All P (placed before (xs ++ ys)) → All P (placed before xs)
-placed_front P before [] ys all = All-nil P
-placed_front P before (x ∷ xs) ys all =
-    All-cons P (x, before) (placed (before ++ x ∷ []) xs) (All-head P (x, before) (placed (before ++ x ∷ []) (xs ++ ys)) all)
-    (placed_front P (before ++ x ∷ []) xs ys (All-tail P (x, before) (placed (before ++ x ∷ []) (xs ++ ys)) all))
 
 -- a Close behind a history, where one is due, and then none is due any more
 record Closes (h : Entries) (now : ℕ) (who : Caller) : Type 0 where
@@ -111,14 +104,21 @@ opened_is_fresh size h = by_room (room_for (history_of (standing_for h)) size ac
     by_room false = record { firm = refl; rest = (entry_by h 0 no_caller act.Start ∷ [], refl); whole = refl }
 
 module _ (size : ℕ) (heard : Option (List Datagram)) (h s : Entries) (start now : Facts) (firm : start.firm ≡ h) (list : joined start ≡ h ++ s)
-    (sized : start.size ≡ size) (starts : IsAtMost (entry_by h 0 no_caller act.Start) s) (goes : GoesOn heard start now) where
+    (sized : start.size ≡ size) (starts : IsAtMost (entry_by h 0 no_caller act.Start) s) (last : Option ℕ)
+    (until_last : GoesOnUntil heard start now last) where
+  abbrev goes : GoesOn heard start now
+  goes = until_last.goes
+
+  abbrev jobs : Jobs
+  jobs = until_last.jobs
+
   -- what was served, behind at most one Start: answers
   pub record Front (h' : Entries) : Type 0 where
     pub opened : Entries
-    pub answers : Entries
-    pub whole : h' ≡ (h ++ opened) ++ answers
+    pub answered : Entries
+    pub whole : h' ≡ (h ++ opened) ++ answered
     pub one_start : IsAtMost (entry_by h 0 no_caller act.Start) opened
-    pub each : All (IsCalledFor size heard) (placed (h ++ opened) answers)
+    pub answers : AnswerInTurn size heard jobs (placed (h ++ opened) answered)
 
   -- of the beginning stand the history that was found, and what of the Start stands
   abbrev q : Entries
@@ -135,9 +135,9 @@ module _ (size : ℕ) (heard : Option (List Datagram)) (h s : Entries) (start no
   q_starts = at_most_front (entry_by h 0 no_caller act.Start) q goes.stood_is.0
       (subst (λ (l : Entries). IsAtMost (entry_by h 0 no_caller act.Start) l) start_is starts)
 
-  all_each : All (IsCalledFor size heard) (placed (h ++ q) goes.tail)
-  all_each = subst (λ (n : ℕ). All (IsCalledFor n heard) (placed (h ++ q) goes.tail)) sized
-      (subst (λ (l : Entries). All (IsCalledFor start.size heard) (placed l goes.tail)) stood_is goes.answers)
+  all_answer : AnswerInTurn size heard jobs (placed (h ++ q) goes.tail)
+  all_answer = subst (λ (n : ℕ). AnswerInTurn n heard jobs (placed (h ++ q) goes.tail)) sized
+      (subst (λ (l : Entries). AnswerInTurn start.size heard jobs (placed l goes.tail)) stood_is until_last.answers)
 
   whole_is : joined now ≡ (h ++ q) ++ goes.tail
   whole_is = goes.whole ∙ ap (λ (l : Entries). l ++ goes.tail) stood_is
@@ -145,15 +145,15 @@ module _ (size : ℕ) (heard : Option (List Datagram)) (h s : Entries) (start no
   whole_front : Front (joined now)
   whole_front = record {
     opened = q;
-    answers = goes.tail;
+    answered = goes.tail;
     whole = whole_is;
     one_start = q_starts;
-    each = all_each;
+    answers = all_answer;
   }
 
   -- the firm part is a beginning of that, and begins with the history that was found
-  firm_front : Front now.firm
-  firm_front = by_case (two_beginnings w q (q ++ goes.tail) (rest, sym split) (goes.tail, refl))
+  firm_front : StaysInTurn → Front now.firm
+  firm_front stay = by_case (two_beginnings w q (q ++ goes.tail) (rest, sym split) (goes.tail, refl))
     where
       w : Entries
       w = goes.begins.0
@@ -171,11 +171,11 @@ module _ (size : ℕ) (heard : Option (List Datagram)) (h s : Entries) (start no
       by_case : Begins w q ⊎ Begins q w → Front now.firm
       by_case (inl b) = record {
         opened = w;
-        answers = [];
+        answered = [];
         whole = firm_is ∙ sym (append-nil (h ++ w));
         one_start = at_most_front (entry_by h 0 no_caller act.Start) w b.0
             (subst (λ (l : Entries). IsAtMost (entry_by h 0 no_caller act.Start) l) b.1 q_starts);
-        each = All-nil (IsCalledFor size heard);
+        answers = record { were_heard = all_answer.were_heard; answers = λ session. tt; no_more = all_answer.no_more };
       }
       by_case (inr b) =
           let u = b.0 in
@@ -183,32 +183,33 @@ module _ (size : ℕ) (heard : Option (List Datagram)) (h s : Entries) (start no
           (sym split ∙ ap (λ (l : Entries). l ++ rest) b.1 ∙ append_assoc q u rest) in
           record {
             opened = q;
-            answers = u;
+            answered = u;
             whole = firm_is ∙ ap (λ (l : Entries). h ++ l) b.1 ∙ sym (append_assoc h q u);
             one_start = q_starts;
-            each = placed_front (IsCalledFor size heard) (h ++ q) u rest
-                (subst (λ (l : Entries). All (IsCalledFor size heard) (placed (h ++ q) l)) tail_is all_each);
+            answers = stay size heard jobs (h ++ q) u rest
+                (subst (λ (l : Entries). AnswerInTurn size heard jobs (placed (h ++ q) l)) tail_is all_answer);
           }
 
-  front_of : (drops : Bool) → Front (base drops now)
-  front_of true = firm_front
-  front_of false = whole_front
+  front_of : StaysInTurn → (drops : Bool) → Front (base drops now)
+  front_of stay true = firm_front stay
+  front_of stay false = whole_front
 
   -- what was settled has grown from what was found
-  pub grown : (drops : Bool) (moment : ℕ) (history : Entries) → history ≡ closed_behind (base drops now) moment no_caller
-      → HasGrown size heard h history
-  grown drops moment history is =
-      let f = front_of drops in
-      let c = closes (base drops now) moment no_caller in
+  pub grown : StaysInTurn → (drops : Bool) (history : Entries)
+      → history ≡ closed_behind (base drops now) (moment_of last) no_caller → HasGrown size heard h history
+  grown stay drops history is =
+      let f = front_of stay drops in
+      let c = closes (base drops now) (moment_of last) no_caller in
       record {
         opened = f.opened;
-        answers = f.answers;
+        answered = f.answered;
         closed = c.more;
         whole = is ∙ c.whole ∙ ap (λ (l : Entries). l ++ c.more) f.whole;
         one_start = f.one_start;
-        each = f.each;
-        now = moment;
-        one_close = subst (λ (l : Entries). IsAtMost (entry_by l moment no_caller act.Close) c.more) f.whole c.one;
+        jobs = jobs;
+        answers = f.answers;
+        one_close = subst (λ (o : Option ℕ). IsAtMost (entry_by ((h ++ f.opened) ++ f.answered) (moment_of o) no_caller act.Close) c.more) until_last.latest
+            (subst (λ (l : Entries). IsAtMost (entry_by l (moment_of last) no_caller act.Close) c.more) f.whole c.one);
       }
 
   -- what was firm is firm still, behind whatever was settled
@@ -227,7 +228,7 @@ module _ (size : ℕ) (heard : Option (List Datagram)) (h s : Entries) (start no
 pub grown_begins : (size : ℕ) (heard : Option (List Datagram)) (start history : Entries) → HasGrown size heard start history
     → Begins start history
 grown_begins size heard start history g = (
-  g.opened ++ (g.answers ++ g.closed),
-  g.whole ∙ ap (λ (l : Entries). l ++ g.closed) (append_assoc start g.opened g.answers)
-      ∙ append_assoc start (g.opened ++ g.answers) g.closed ∙ ap (λ (l : Entries). start ++ l) (append_assoc g.opened g.answers g.closed),
+  g.opened ++ (g.answered ++ g.closed),
+  g.whole ∙ ap (λ (l : Entries). l ++ g.closed) (append_assoc start g.opened g.answered)
+      ∙ append_assoc start (g.opened ++ g.answered) g.closed ∙ ap (λ (l : Entries). start ++ l) (append_assoc g.opened g.answered g.closed),
 )

@@ -1,8 +1,8 @@
 -- What a gateway keeps that was handed an area: its history, and what it answered.
-use Rattle.std.proofs.Common.{◌≡◌, ℕ, ◌≤◌, Bool, true, ◌&&◌, List, [], Option, sym, ap, subst, ◌∙◌, arith}
+use Rattle.std.proofs.Common.{◌≡◌, ℕ, ◌≤◌, Bool, true, ◌&&◌, List, [], Option, None, Some, refl, ap, subst, ◌∙◌, arith}
 use Rattle.std.proofs.lemmas.List.{append-nil}
 use Rattle.std.proofs.lemmas.List.Elements.{All-nil, All-weaker}
-use Rattle.std.proofs.lemmas.Option.{same_Some}
+use Rattle.std.specs.Prelude.{All, IfSome}
 use Rattle.area_disk.specs.Disk.{Rose}
 use Rattle.area_disk.specs.declared.area.Area as areas
 use Rattle.cdr_shelf.specs.declared.shelf.Shelf as shelves
@@ -15,26 +15,26 @@ use Rattle.gateway_book.specs.declared.book.Book.{Book}
 use Rattle.gw_base.specs.Owes.{Begins}
 use Rattle.gw_base.specs.declared.history.HistoryEntry.{HistoryEntry}
 use Rattle.net_link.specs.Datagrams.{Datagram}
-use Rattle.net_link.specs.Making.{LinksState}
+use Rattle.net_link.specs.Making.{GrowsBy, LinksState}
 use Rattle.session_run.specs.History.{IsReply}
 use Rattle.cgf_top.specs.ServeSteps.{HasServedAt}
-use Rattle.cgf_top.specs.Served.{AllBehind, GoesOnIn, LosesNothing, header_for}
+use Rattle.cgf_top.specs.Served.{GoesOnIn, HasReplied, LosesNothing, header_for}
 use Rattle.cgf_top.specs.Serving.{address_in}
 use Rattle.cgf_top.specs.declared.serving.Serving.{Serving}
 use Rattle.cgf_top.specs.declared.settling.Service.{Service}
-use Rattle.cgf_top.proofs.ServiceLemmas.{begins_self, reply_later}
+use Rattle.cgf_top.proofs.ServiceLemmas.{ReplyLater, begins_self, none_in_turn, reply_later, same_heard}
 
 pub told_lists : {A : Type 0} (tells : areas.Ghosts A) → Told tells → tells_lists tells ≡ true
 told_lists tells told = ap (λ (b : Bool). b && tells.tells_crash) told.0 ∙ told.1
 
-all_behind_weaker : (before after : Option (List Datagram)) (P Q : Datagram → Type 0) → ((d : Datagram) → P d → Q d)
-    → AllBehind before after P → AllBehind before after Q
-all_behind_weaker before after P Q more each old all was is =
-    let e = each old all was is in (e.0, e.1, All-weaker P Q more e.0 e.2)
+told_weaker : (P Q : Datagram → Type 0) → ((d : Datagram) → P d → Q d) → (sent : Option (List Datagram)) → IfSome sent (All P) → IfSome sent (All Q)
+told_weaker P Q more None all = tt
+told_weaker P Q more (Some list) all = All-weaker P Q more list all
 
 -- nothing was sent where what is told of it is as before
-none_behind : (told : Option (List Datagram)) (P : Datagram → Type 0) → AllBehind told told P
-none_behind told P old all was is = ([], same_Some all old (sym is ∙ was) ∙ sym (append-nil old), All-nil P)
+none_grows : (told : Option (List Datagram)) → GrowsBy told (Some []) told
+none_grows None = tt
+none_grows (Some list) = ap Some (append-nil list)
 
 module _ {A : Type 0} (tells : areas.Ghosts A) (of : Serving) (area area' : A) (links : LinksState) where
   -- where nothing was sent, a history goes on where it stands
@@ -44,8 +44,12 @@ module _ {A : Type 0} (tells : areas.Ghosts A) (of : Serving) (area area' : A) (
     history = start;
     stands = stands;
     begins = begins_self start;
-    replies = none_behind (links.sent (address_in of))
-        (IsReply (links.received (address_in of)) (tells.size area) start (tells.faults area) (tells.faults area'));
+    replies = record {
+      sent = Some [];
+      is_sent = none_grows (links.sent (address_in of));
+      each = All-nil (IsReply (links.received (address_in of)) (tells.size area) start (tells.faults area) (tells.faults area'));
+      in_turn = none_in_turn (tells.size area) start (tells.faults area) (tells.faults area') (links.received (address_in of)) (Some []) refl;
+    };
   }
 
 -- an area that is as it was has lost nothing
@@ -62,7 +66,7 @@ module _ {A F : Type 0} (tells : areas.Ghosts A) (files : shelves.Ghosts F) (of 
     (sized : tells.size (area_of book) ≡ tells.size area) (opens : IsOpened (header_for tells area of) area open_time book)
     (serves : HasServedAt tells files of book book' writer writer' links links' clock clock' service)
     (later : tells.faults (area_of book') ≤ tells.faults (area_of book''))
-    (history : List HistoryEntry) (begins : Begins (value_of book').firm history) where
+    (law : ReplyLater) (history : List HistoryEntry) (begins : Begins (value_of book').firm history) where
   rose : Rose (tells.faults (area_of book)) (tells.faults (area_of book')) → Rose (tells.faults (area_of book)) (tells.faults (area_of book''))
   rose up = omega (arith, up, later)
 
@@ -73,12 +77,22 @@ module _ {A F : Type 0} (tells : areas.Ghosts A) (files : shelves.Ghosts F) (of 
       (reply_later (links'.received (address_in of)) (size_of book) (value_of book').firm history (tells.faults (area_of book)) (tells.faults (area_of book'))
       (tells.faults (area_of book'')) begins rose d r)
 
+  same_rise : Rose (tells.faults (area_of book)) (tells.faults (area_of book')) → Rose (tells.faults area) (tells.faults (area_of book''))
+  same_rise up = subst (λ (n : ℕ). Rose n (tells.faults (area_of book''))) opens.faults (rose up)
+
   -- what was sent rests on a history that begins with what was firm then
-  pub replies_rest : AllBehind (links.sent (address_in of)) (links'.sent (address_in of))
-      (IsReply (links'.received (address_in of)) (tells.size area) history (tells.faults area) (tells.faults (area_of book'')))
-  replies_rest = subst (λ (size : ℕ). AllBehind (links.sent (address_in of)) (links'.sent (address_in of))
-      (IsReply (links'.received (address_in of)) size history (tells.faults area) (tells.faults (area_of book'')))) sized
-      (all_behind_weaker (links.sent (address_in of)) (links'.sent (address_in of))
-      (IsReply (links'.received (address_in of)) (size_of book) (value_of book').firm (tells.faults (area_of book)) (tells.faults (area_of book')))
-      (IsReply (links'.received (address_in of)) (size_of book) history (tells.faults area) (tells.faults (area_of book'')))
-      rests (serves.replies (told_lists tells told)))
+  pub replies_rest : HasReplied (tells.size area) history (tells.faults area) (tells.faults (area_of book'')) (address_in of) links links'
+  replies_rest =
+      let was = serves.replies (told_lists tells told) in
+      subst (λ (size : ℕ). HasReplied size history (tells.faults area) (tells.faults (area_of book'')) (address_in of) links links') sized
+      (record {
+        sent = was.sent;
+        is_sent = was.is_sent;
+        each = told_weaker
+            (IsReply (links'.received (address_in of)) (size_of book) (value_of book').firm (tells.faults (area_of book)) (tells.faults (area_of book')))
+            (IsReply (links'.received (address_in of)) (size_of book) history (tells.faults area) (tells.faults (area_of book'')))
+            rests was.sent was.each;
+        in_turn = law (size_of book) (value_of book').firm history (tells.faults (area_of book)) (tells.faults (area_of book')) (tells.faults area)
+            (tells.faults (area_of book'')) (Some []) (links'.received (address_in of)) (links'.received (address_in of)) was.sent begins same_rise
+            (same_heard (links'.received (address_in of))) was.in_turn;
+      })

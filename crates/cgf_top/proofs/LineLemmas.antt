@@ -13,19 +13,20 @@ use Rattle.gateway_book.specs.Calls.{counts_of}
 use Rattle.gateway_book.specs.Filed.{filed}
 use Rattle.gateway_book.specs.Items.{items_of}
 use Rattle.gateway_book.specs.Read.{IsUnchanged}
-use Rattle.gateway_book.specs.Turning.{tells_lists}
+use Rattle.gateway_book.specs.Turning.{facts_of, tells_lists}
 use Rattle.gateway_book.specs.Value.{BookValue, standing_for}
 use Rattle.gateway_book.specs.declared.book.Book.{Book}
 use Rattle.gateway_book.specs.declared.told.Counts.{Counts}
 use Rattle.gw_base.specs.Facts.{WhereTold}
+use Rattle.gw_base.specs.Owes.{base}
 use Rattle.gw_base.specs.declared.history.HistoryEntry.{HistoryEntry}
-use Rattle.node_session.specs.Settling.{Grows, HasSettled, HasTakenAll}
+use Rattle.node_session.specs.Settling.{Grows, HasSettled, HasTakenAll, closed_behind}
 use Rattle.node_session.specs.Writing.{KeepsFiles}
 use Rattle.replay_world.specs.Report.{counts_line, counts_text}
 use Rattle.replay_world.specs.Tally.{is_part}
 use Rattle.loop_run.specs.Ending.{part_count}
 use Rattle.cgf_top.specs.ServeSteps.{FailsBy, HasLine, HasNoLine, HasSettledAll}
-use Rattle.cgf_top.specs.Served.{served_line}
+use Rattle.cgf_top.specs.Served.{moment_of, served_line}
 use Rattle.cgf_top.specs.declared.settling.Service.{Service}
 use Rattle.cgf_top.specs.declared.status.Status.{Status}
 use Rattle.cgf_top.specs.declared.status.Status.TheVariants as status
@@ -57,7 +58,7 @@ module _ {A F : Type 0} (tells : areas.Ghosts A) (files : shelves.Ghosts F) wher
 
   -- settled, and then the line was read of the book, or not
   pub line_settled : {X : Type 0} (octets : X → List ℕ) (service : Service) (book a b : Book A tells) (writer w : Writer F files) (now : ℕ)
-      (counts : Counts) (result : Result X Status) → service.stop ≡ None → HasSettled book a now no_caller counts
+      (counts : Counts) (result : Result X Status) → service.stop ≡ None → now ≡ moment_of service.last → HasSettled book a now no_caller counts
       → (Told tells → HasTakenAll (value_of a).firm w) → Grows book a → (Stays book a × (settings_in w ≡ settings_in writer))
       → ((tells.faults (area_of book) ≤ tells.faults (area_of a)) × (files.faults (shelf_of writer) ≤ files.faults (shelf_of w)))
       → WhereTold (tells_lists tells) (KeepsFiles files (value_of a).firm writer w)
@@ -66,7 +67,7 @@ module _ {A F : Type 0} (tells : areas.Ghosts A) (files : shelves.Ghosts F) wher
       → IfErr result (FailsBy tells a b) → (IsUnchanged a b × (tells.faults (area_of a) ≤ tells.faults (area_of b)))
       → (both_told : tells_lists tells ≡ true → Told tells)
       → HasSettledAll tells files octets service book b writer w result
-  line_settled {X = X} octets service book a b writer w now counts result runs settled all grows stays later keeps line err same both_told = record {
+  line_settled {X = X} octets service book a b writer w now counts result runs moment settled all grows stays later keeps line err same both_told = record {
     stays = (
       record {
         size = same.0.stays.size ∙ stays.0.size;
@@ -91,8 +92,8 @@ module _ {A F : Type 0} (tells : areas.Ghosts A) (files : shelves.Ghosts F) wher
       by_ok (Ok l) line_of = record {
         runs = runs;
         drops = settled.settled.drops;
-        now = now;
-        firm = λ told. firm told ∙ settled.settled.firm told;
+        firm = λ told. firm told ∙ settled.settled.firm told
+            ∙ ap (λ (n : ℕ). closed_behind (base settled.settled.drops (facts_of book)) n no_caller) moment;
         none_waits = λ told. ap (λ (v : BookValue). v.rest) (same.0.value told) ∙ settled.settled.none_waits told;
         goes_on = same.0.broken ∙ settled.settled.goes_on;
         line_is = λ told. line_of told settled.settled.goes_on (settled.settled.none_waits told) (settled.told told)

@@ -135,7 +135,7 @@ pub ran_network : (lines : List Line) (played : Option Played) → PlayedOf (rep
     StandInFiles (files_in (setup_of lines)) (replayed lines).world → HandsBack (Some lines) played
 ran_network lines None is written told places there = absurd is
 ran_network lines (Some played) is written told places there =
-    record { at_rest = is written; told = told; places = places; there = there }
+    record { at_rest = is written; told = told; written = written; places = places; there = there }
 
 pub replayed_whole : (lines : List Line) (report : Report) → refusal_of_lines lines ≡ None →
     report.printed.items ≡ report_of_lines lines → report.refused ≡ None → PlayedOf (replayed lines) report.played →

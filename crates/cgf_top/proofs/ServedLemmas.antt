@@ -34,9 +34,9 @@ use Rattle.node_session.specs.Settling.{closed_behind}
 use Rattle.node_session.specs.Writing as writing
 use Rattle.replay_world.specs.Settled.{AreShut}
 use Rattle.replay_world.specs.Setup.{Setup}
-use Rattle.session_run.specs.History.{GoesOn, IsReply}
+use Rattle.session_run.specs.History.{GoesOnUntil}
 use Rattle.cgf_top.specs.ServeSteps.{AreOf, HasLine, HasServedAt}
-use Rattle.cgf_top.specs.Served.{AllBehind, HasAllFiles, HasFirstFiles, HasGrown, HasServed, IsAtMost, files_at, header_for, served_line}
+use Rattle.cgf_top.specs.Served.{HasAllFiles, HasFirstFiles, HasGrown, HasReplied, HasServed, IsAtMost, files_at, header_for, moment_of, served_line}
 use Rattle.cgf_top.specs.Serving.{address_in}
 use Rattle.cgf_top.specs.declared.serve.FileSettings.{FileSettings}
 use Rattle.cgf_top.specs.declared.serving.Serving.{Serving}
@@ -45,6 +45,7 @@ use Rattle.cgf_top.proofs.FileLemmas.{length-files_from}
 use Rattle.cgf_top.proofs.GrownLemmas as grow
 use Rattle.cgf_top.proofs.KeptLemmas.{replies_rest, told_lists}
 use Rattle.cgf_top.proofs.SealedLemmas.{all_sealed, begun_on}
+use Rattle.cgf_top.proofs.ServiceLemmas.{ReplyLater, StaysInTurn}
 
 -- the facts of a book that isn't broken have its firm entries, and then those that wait
 joined_whole : (v : BookValue) → v.is_broken ≡ false → history_of v ++ torn_of v ≡ v.firm ++ v.rest
@@ -78,7 +79,7 @@ items_begin stay h g b = (along items_by h b.0, ap (λ (l : List HistoryEntry). 
 
 module _ {A F : Type 0} (tells : areas.Ghosts A) (files : shelves.Ghosts F) (of : Serving) (setup : Setup) (told : Told tells)
     (laws : AreaLaws tells) (stay : ItemsStay) (files_grow : FilesGrow)
-    (shuts : (h : List HistoryEntry) → is_close_due h ≡ false → AreShut (items_of h))
+    (shuts : (h : List HistoryEntry) → is_close_due h ≡ false → AreShut (items_of h)) (in_turn : StaysInTurn) (later_reply : ReplyLater)
     (area : A) (shelf : F) (book book' book'' : Book A tells) (writer writer' writer'' : Writer F files)
     (links links' : LinksState) (clock clock' : ℕ) (service : Service) (open_time : ℕ) (line : List ℕ)
     (sized : tells.size (area_of book) ≡ tells.size area) (opens : IsOpened (header_for tells area of) area open_time book)
@@ -107,24 +108,23 @@ module _ {A F : Type 0} (tells : areas.Ghosts A) (files : shelves.Ghosts F) (of 
   leaves_whole : (c : List ℕ) → tells.may_leave (area_of book'') c → StandsFitFor (header_for tells area of) c history
   leaves_whole c may = subst (λ (h : List ℕ). StandsFitFor h c history) header_is (leaves.whole told has.goes_on c may)
 
-  goes : GoesOn (links'.received (address_in of)) (facts_of book) (facts_of book')
-  goes = serves.goes_on lists
+  until_last : GoesOnUntil (links'.received (address_in of)) (facts_of book) (facts_of book') service.last
+  until_last = serves.goes_on lists
 
   list_is : joined (facts_of book) ≡ start ++ (value_of book).rest
   list_is = joined_whole (value_of book) is_fresh.whole ∙ ap (λ (l : List HistoryEntry). l ++ (value_of book).rest) is_fresh.firm
 
   has_grown : HasGrown (tells.size area) (links'.received (address_in of)) start history
   has_grown = grow.grown (tells.size area) (links'.received (address_in of)) start (value_of book).rest (facts_of book) (facts_of book')
-      is_fresh.firm list_is sized is_fresh.rest goes has.drops has.now history (has.firm told)
+      is_fresh.firm list_is sized is_fresh.rest service.last until_last in_turn has.drops history (has.firm told)
 
   begins : Begins (value_of book').firm history
   begins = grow.firm_begins (tells.size area) (links'.received (address_in of)) start (value_of book).rest (facts_of book) (facts_of book')
-      is_fresh.firm list_is sized is_fresh.rest goes has.drops has.now history (has.firm told)
+      is_fresh.firm list_is sized is_fresh.rest service.last until_last has.drops (moment_of service.last) history (has.firm told)
 
-  replies : AllBehind (links.sent (address_in of)) (links'.sent (address_in of))
-      (IsReply (links'.received (address_in of)) (tells.size area) history (tells.faults area) (tells.faults (area_of book'')))
+  replies : HasReplied (tells.size area) history (tells.faults area) (tells.faults (area_of book'')) (address_in of) links links'
   replies = replies_rest tells files of told area book book' book'' writer writer' links links' clock clock' service open_time sized opens serves later
-      history begins
+      later_reply history begins
 
   settings_are : settings_in writer'' ≡ files_at of setup
   settings_are = set ∙ serves.kept.settings ∙ by
@@ -173,5 +173,5 @@ module _ {A F : Type 0} (tells : areas.Ghosts A) (files : shelves.Ghosts F) (of 
     grown = has_grown;
     replies = replies;
     sealed = sealed;
-    shut = shuts history (ap is_close_due (has.firm told) ∙ grow.none_due_behind (base has.drops (facts_of book')) has.now no_caller);
+    shut = shuts history (ap is_close_due (has.firm told) ∙ grow.none_due_behind (base has.drops (facts_of book')) (moment_of service.last) no_caller);
   }

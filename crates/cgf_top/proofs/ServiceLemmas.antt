@@ -1,15 +1,17 @@
 -- What a service comes to, by what was run and what was given back.
 use Rattle.std.proofs.Common.{◌≡◌, ◌⊎◌, ⊎_elim, inl, inr, ℕ, ◌≤◌, Bool, true, List, [], ◌∷◌, arith, ◌++◌, Option, None, Some, refl, sym, ap, subst, ◌∙◌, append_assoc}
-use Rattle.std.specs.Prelude.{All, IfSome}
+use Rattle.std.specs.Prelude.{IfSome}
 use Rattle.std.proofs.lemmas.List.{append-nil}
-use Rattle.std.proofs.lemmas.List.Elements.{All-nil, All-weaker}
+use Rattle.std.proofs.lemmas.List.Elements.{All-nil}
 use Rattle.area_disk.specs.Disk.{Rose}
 use Rattle.gw_base.specs.Facts.{AreSound, Facts, WhereTold, joined}
 use Rattle.gw_base.specs.Owes.{Begins}
 use Rattle.gw_base.specs.declared.history.HistoryEntry.{HistoryEntry}
-use Rattle.net_link.specs.Datagrams.{Datagram}
+use Rattle.net_link.specs.Datagrams.{Datagram, IsEmpty}
+use Rattle.net_link.specs.Making.{GrowsBy}
 use Rattle.node_session.specs.Turns.{entries_of}
-use Rattle.session_run.specs.History.{GoesOn, IsAnswered, IsCalledFor, IsReply, TellsFailure}
+use Rattle.session_run.specs.History.{AnswerInTurn, GoesOnUntil, InTurn, IsAnswered, IsCalledFor, IsJobOf, IsReply, IsReplyTo, ReplyInTurn, TellsFailure, those_of}
+use Rattle.session_run.specs.Latest.{Jobs}
 use Rattle.session_run.specs.Running.{StaysAs}
 use Rattle.turn_cell.specs.Placed.{placed}
 
@@ -25,17 +27,53 @@ firm_first told f sound y =
     (b.0 ++ f.torn, ap (λ (l : List HistoryEntry). l ++ f.torn) b.1 ∙ append_assoc f.firm b.0 f.torn)
 
 -- a history that nothing befell goes on
-pub nothing_befell : (told : Bool) (heard : Option (List Datagram)) (f : Facts) → AreSound told f → WhereTold told (GoesOn heard f f)
+pub nothing_befell : (told : Bool) (heard : Option (List Datagram)) (f : Facts) → AreSound told f
+    → WhereTold told (GoesOnUntil heard f f None)
 nothing_befell told heard f sound y = record {
-  stood = joined f;
-  tail = [];
-  whole = sym (append-nil (joined f));
-  stood_is = begins_self (joined f);
-  firm = firm_first told f sound y;
-  begins = begins_self f.firm;
-  first = firm_first told f sound y;
-  answers = All-nil (IsCalledFor f.size heard);
+  goes = record {
+    stood = joined f;
+    tail = [];
+    whole = sym (append-nil (joined f));
+    stood_is = begins_self (joined f);
+    firm = firm_first told f sound y;
+    begins = begins_self f.firm;
+    first = firm_first told f sound y;
+    answers = All-nil (IsCalledFor f.size heard);
+  };
+  jobs = λ session. [];
+  answers = record { were_heard = λ session. none_of session heard; answers = λ session. tt; no_more = λ session many. refl };
+  latest = refl;
 }
+  where
+    none_of : (session : ℕ) (o : Option (List Datagram)) → IfSome o (λ list. InTurn (IsJobOf session) list [])
+    none_of session None = tt
+    none_of session (Some list) = tt
+
+-- where nothing was sent it was sent in turn
+pub none_in_turn : (size : ℕ) (firm : List HistoryEntry) (before now : ℕ) (heard sent : Option (List Datagram)) → IsEmpty sent
+    → ReplyInTurn size firm before now heard sent
+none_in_turn size firm before now None sent is session = tt
+none_in_turn size firm before now (Some asked) None is session = tt
+none_in_turn size firm before now (Some asked) (Some list) is session =
+    subst (λ (l : List Datagram). InTurn (IsReplyTo session size firm before now) asked (those_of session l)) (sym is) tt
+
+-- What the laws of what is in turn say.
+abbrev pub StaysInTurn : Type 0
+StaysInTurn = (size : ℕ) (heard : Option (List Datagram)) (jobs : Jobs) (before first last : List HistoryEntry)
+    → AnswerInTurn size heard jobs (placed before (first ++ last)) → AnswerInTurn size heard jobs (placed before first)
+
+abbrev pub HeardInTurn : Type 0
+HeardInTurn = (size : ℕ) (jobs : Jobs) (entries : List (HistoryEntry × List HistoryEntry)) (earlier heard all : Option (List Datagram))
+    → GrowsBy earlier heard all → AnswerInTurn size heard jobs entries → AnswerInTurn size all jobs entries
+
+abbrev pub ReplyLater : Type 0
+ReplyLater = (size : ℕ) (firm later : List HistoryEntry) (before now before' now' : ℕ) (earlier heard all sent : Option (List Datagram))
+    → Begins firm later → (Rose before now → Rose before' now') → GrowsBy earlier heard all
+    → ReplyInTurn size firm before now heard sent → ReplyInTurn size later before' now' all sent
+
+pub same_heard : (told : Option (List Datagram)) → GrowsBy (Some []) told told
+same_heard None = tt
+same_heard (Some list) = refl
 
 pub same_facts : (f : Facts) → StaysAs f f
 same_facts f = record { size = refl; name = refl; later = omega arith }

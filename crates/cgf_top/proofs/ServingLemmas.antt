@@ -14,23 +14,23 @@ use Rattle.gw_base.specs.Faults.{Rose}
 use Rattle.gw_base.specs.declared.address.Addr.{Addr}
 use Rattle.gw_base.specs.declared.history.HistoryEntry.{HistoryEntry}
 use Rattle.gw_base.specs.declared.moment.Moment.{Moment}
-use Rattle.net_link.specs.Datagrams.{Datagram, IsEmpty, added}
+use Rattle.net_link.specs.Datagrams.{Datagram, IsEmpty, added, joined}
 use Rattle.net_link.specs.Making.{LinksState}
 use Rattle.net_link.specs.declared.link.Link as paths
 use Rattle.session_run.specs.Desks.{HearsNothing}
 use Rattle.session_run.specs.Filing.{KeepsWriter}
-use Rattle.session_run.specs.History.{GoesOn, IsHeard, IsReply}
-use Rattle.session_run.specs.Links.{GivesBack, HasMade, IsIdleAt, turns_with}
-use Rattle.session_run.specs.Running.{AnyOf, AreFiveOf, AreReplies, HasFailed, HasStopCause, StaysAs, heard_by, turns_by}
+use Rattle.session_run.specs.History.{GoesOnUntil, IsHeard, IsReply}
+use Rattle.session_run.specs.Links.{GivesBack, HasMade, IsIdleAt, received_with, sent_with, turns_with}
+use Rattle.session_run.specs.Running.{AnyOf, AreFiveOf, HasFailed, HasStopCause, HaveReplied, StaysAs, heard_by, sent_by, turns_by}
 use Rattle.session_run.specs.declared.stop.Stop.{Stop}
 use Rattle.session_run.specs.declared.stop.Stop.TheVariants as stop
 use Rattle.cgf_top.specs.ServeSteps.{HasServedAt}
-use Rattle.cgf_top.specs.Served.{AllBehind}
+use Rattle.cgf_top.specs.Served.{HasReplied}
 use Rattle.cgf_top.specs.Serving.{address_in}
 use Rattle.cgf_top.specs.declared.serving.Serving.{Serving}
 use Rattle.cgf_top.specs.declared.settling.Service.{Service}
-use Rattle.cgf_top.proofs.GivenBackLemmas.{all_behind, goes_on_there, heard_there, reply_there, rose_before, rose_still, turns_none}
-use Rattle.cgf_top.proofs.ServiceLemmas.{nothing_befell, same_facts}
+use Rattle.cgf_top.proofs.GivenBackLemmas.{all_sent, goes_on_there, heard_there, none_sent_by, reply_there, rose_before, rose_still, sent_grows, turns_none}
+use Rattle.cgf_top.proofs.ServiceLemmas.{HeardInTurn, ReplyLater, begins_self, none_in_turn, nothing_befell, same_facts}
 
 none_sent : (P : Datagram → Type 0) (sent : Option (List Datagram)) → IsEmpty sent → IfSome sent (λ list. All P list)
 none_sent P None e = tt
@@ -45,6 +45,10 @@ some_stop : (why : Stop) → ◌≡◌ {A = Option Stop} (Some why) None → ⊥
 some_stop why is = cc is
 
 module _ {A F L : Type 0} (tells : areas.Ghosts A) (files : shelves.Ghosts F) (links : paths.Ghosts L) (of : Serving) (old mid new : LinksState) where
+  -- what the law of what links sent says
+  abbrev SentBehind : Type 0
+  SentBehind = (told : Option (List Datagram)) (all : List L) → sent_with links told all ≡ joined told (sent_by links all)
+
   -- Where links weren't made the gateway didn't serve.
 
   kept_self : (h : List HistoryEntry) (writer : Writer F files) → is_broken writer ≡ true → KeepsWriter files (tells_lists tells) h writer writer
@@ -62,12 +66,12 @@ module _ {A F L : Type 0} (tells : areas.Ghosts A) (files : shelves.Ghosts F) (l
       (λ (a : AnyOf (HasFailed links) made). rose_before old.faults mid.faults new.faults has.later (gave.failed a))
       cause
 
-  pub unserved : (book : Book A tells) (writer : Writer F files) (clock : ℕ) (made : List L) (why : Stop) (stops : Option Stop)
+  pub unserved : SentBehind → (book : Book A tells) (writer : Writer F files) (clock : ℕ) (made : List L) (why : Stop) (stops : Option Stop)
       → stops ≡ Some why → is_broken writer ≡ true
       → AreSound (tells_lists tells) (facts_of book) → HasMade links (address_in of) old mid made stops
-      → GivesBack links (address_in of) mid new made → (last : Option Moment)
-      → HasServedAt tells files of book book writer writer old new clock clock (record { last = last; stop = Some why })
-  unserved book writer clock made why stops is_why broken sound made_so gave last = record {
+      → GivesBack links (address_in of) mid new made
+      → HasServedAt tells files of book book writer writer old new clock clock (record { last = None; stop = Some why })
+  unserved law book writer clock made why stops is_why broken sound made_so gave = record {
     goes_on = nothing_befell (tells_lists tells) (new.received (address_in of)) (facts_of book) sound;
     replies = λ told. sent_none;
     stays = same_facts (facts_of book);
@@ -81,14 +85,21 @@ module _ {A F L : Type 0} (tells : areas.Ghosts A) (files : shelves.Ghosts F) (l
       has : HasMade links (address_in of) old mid made (Some why)
       has = subst (λ (s : Option Stop). HasMade links (address_in of) old mid made s) is_why made_so
 
-      Fits : Datagram → Type 0
-      Fits = IsReply (new.received (address_in of)) (size_of book) (value_of book).firm (tells.faults (area_of book)) (tells.faults (area_of book))
+      none : IsEmpty (sent_by links made)
+      none = none_sent_by links made (All-weaker (λ (l : L). IsIdleAt (address_in of) (links.state l)) (λ (l : L). IsEmpty (links.state l).sent)
+          (λ (l : L) idle. idle.sent) made has.idle)
 
-      sent_none : AllBehind (old.sent (address_in of)) (new.sent (address_in of)) Fits
-      sent_none = subst (λ (o : Option (List Datagram)). AllBehind o (new.sent (address_in of)) Fits) (has.keeps.sent (address_in of))
-          (all_behind links Fits (mid.sent (address_in of)) (new.sent (address_in of)) made
-          (All-weaker (λ (l : L). IsIdleAt (address_in of) (links.state l)) (λ (l : L). IfSome (links.state l).sent (λ list. All Fits list))
-          (λ (l : L) idle. none_sent Fits (links.state l).sent idle.sent) made has.idle) gave.sent)
+      faults : ℕ
+      faults = tells.faults (area_of book)
+
+      sent_none : HasReplied (size_of book) (value_of book).firm faults faults (address_in of) old new
+      sent_none = record {
+        sent = sent_by links made;
+        is_sent = sent_grows links law (old.sent (address_in of)) (mid.sent (address_in of)) (new.sent (address_in of)) made
+            (has.keeps.sent (address_in of)) gave.sent;
+        each = none_sent (IsReply (new.received (address_in of)) (size_of book) (value_of book).firm faults faults) (sent_by links made) none;
+        in_turn = none_in_turn (size_of book) (value_of book).firm faults faults (new.received (address_in of)) (sent_by links made) none;
+      }
 
   -- All links were made, and the sessions ran on them.
 
@@ -99,9 +110,10 @@ module _ {A F L : Type 0} (tells : areas.Ghosts A) (files : shelves.Ghosts F) (l
       (λ (l : L) h. h.address) others five.2)
 
   -- what ran: the book, the writer and the links that came back, and why it stopped, if it did
-  pub record HasRun (book book' : Book A tells) (writer writer' : Writer F files) (clock clock' : ℕ) (back : List L) (stops : Option Stop) : Type 0 where
-    pub history : WhereTold (tells_lists tells) (GoesOn (heard_by links back) (facts_of book) (facts_of book'))
-    pub replies : WhereTold (tells_lists tells) (AreReplies links (heard_by links back) (facts_of book) (facts_of book') back)
+  pub record HasRun (book book' : Book A tells) (writer writer' : Writer F files) (clock clock' : ℕ) (back : List L) (stops : Option Stop)
+      (last : Option Moment) : Type 0 where
+    pub history : WhereTold (tells_lists tells) (GoesOnUntil (heard_by links back) (facts_of book) (facts_of book') last)
+    pub replies : WhereTold (tells_lists tells) (HaveReplied links (heard_by links back) (facts_of book) (facts_of book') back)
     pub stays : StaysAs (facts_of book) (facts_of book')
     pub five : AreFiveOf links (address_in of) back
     pub turns : stops ≡ None → turns_by links back ≡ of.turns
@@ -109,17 +121,25 @@ module _ {A F L : Type 0} (tells : areas.Ghosts A) (files : shelves.Ghosts F) (l
     pub later : clock ≤ clock'
     pub cause : HasStopCause links clock clock' back stops
 
-  pub served : (book book' : Book A tells) (writer writer' : Writer F files) (clock clock' : ℕ) (made back : List L) (stops : Option Stop)
-      (last : Option Moment) (made_stops : Option Stop) → HasMade links (address_in of) old mid made made_stops → HasRun book book' writer writer' clock clock' back stops
+  pub served : SentBehind → HeardInTurn → ReplyLater → (book book' : Book A tells) (writer writer' : Writer F files) (clock clock' : ℕ) (made back : List L) (stops : Option Stop)
+      (last : Option Moment) (made_stops : Option Stop) → HasMade links (address_in of) old mid made made_stops → HasRun book book' writer writer' clock clock' back stops last
       → GivesBack links (address_in of) mid new back → old.turns (address_in of) < 2 ^ 63 → of.turns ≤ 2 ^ 40
       → HasServedAt tells files of book book' writer writer' old new clock clock' (record { last = last; stop = stops })
-  served book book' writer writer' clock clock' made [] stops last made_stops has ran gave few short = absurd ran.five
-  served book book' writer writer' clock clock' made (link ∷ others) stops last made_stops has ran gave few short = record {
-    goes_on = λ told. goes_on_there heard there more (facts_of book) (facts_of book') (ran.history told);
-    replies = λ told. subst (λ (o : Option (List Datagram)). AllBehind o (new.sent (address_in of)) (Fits there)) (has.keeps.sent (address_in of))
-        (all_behind links (Fits there) (mid.sent (address_in of)) (new.sent (address_in of)) (link ∷ others)
-        (All-weaker (λ (l : L). IfSome (links.state l).sent (λ list. All (Fits heard) list)) (λ (l : L). IfSome (links.state l).sent (λ list. All (Fits there) list))
-        (λ (l : L) all. told_weaker (Fits heard) (Fits there) reply_is_there (links.state l).sent all) (link ∷ others) (ran.replies told)) gave.sent);
+  served sends hears replies book book' writer writer' clock clock' made [] stops last made_stops has ran gave few short = absurd ran.five
+  served sends hears replies book book' writer writer' clock clock' made (link ∷ others) stops last made_stops has ran gave few short = record {
+    goes_on = λ told. goes_on_there hears (received_with links (mid.received (address_in of)) others) heard there gave.received more
+        (facts_of book) (facts_of book') last (ran.history told);
+    replies = λ told. record {
+      sent = sent_by links (link ∷ others);
+      is_sent = sent_grows links sends (old.sent (address_in of)) (mid.sent (address_in of)) (new.sent (address_in of)) (link ∷ others)
+          (has.keeps.sent (address_in of)) gave.sent;
+      each = all_sent links (Fits there) (link ∷ others)
+          (All-weaker (λ (l : L). IfSome (links.state l).sent (λ list. All (Fits heard) list)) (λ (l : L). IfSome (links.state l).sent (λ list. All (Fits there) list))
+          (λ (l : L) all. told_weaker (Fits heard) (Fits there) reply_is_there (links.state l).sent all) (link ∷ others) (ran.replies told).each);
+      in_turn = replies (size_of book) (value_of book').firm (value_of book').firm (tells.faults (area_of book)) (tells.faults (area_of book'))
+          (tells.faults (area_of book)) (tells.faults (area_of book')) (received_with links (mid.received (address_in of)) others) heard there
+          (sent_by links (link ∷ others)) (begins_self (value_of book').firm) (λ rose. rose) gave.received (ran.replies told).in_turn;
+    };
     stays = ran.stays;
     kept = ran.kept;
     turns = λ none. gave.turns ∙ ap (λ (n : ℕ). added n (links.state link).turns) others_none ∙ exact (ran.turns none);

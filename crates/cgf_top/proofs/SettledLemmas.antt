@@ -38,7 +38,7 @@ use Rattle.cgf_top.specs.declared.status.StoreFault.TheVariants as fault
 use Rattle.cgf_top.proofs.GrownLemmas.{opened_is_fresh}
 use Rattle.cgf_top.proofs.KeptLemmas.{goes_on_unsent, replies_rest, told_lists}
 use Rattle.cgf_top.proofs.ServedLemmas.{FilesGrow, ItemsStay, has_served}
-use Rattle.cgf_top.proofs.ServiceLemmas.{begins_self, begins_then}
+use Rattle.cgf_top.proofs.ServiceLemmas.{ReplyLater, StaysInTurn, begins_self, begins_then}
 
 -- ---- it wasn't opened
 
@@ -177,7 +177,7 @@ module _ {A F : Type 0} (tells : areas.Ghosts A) (files : shelves.Ghosts F) (of 
       (λ s. absurd (others (tells.octets area) at foreign s.0)) (opens.found told).1
 
   module _ (setup : Setup) (told : Told tells) (laws : AreaLaws tells) (stay : ItemsStay) (grow : FilesGrow)
-      (shuts : (h : List HistoryEntry) → is_close_due h ≡ false → AreShut (items_of h)) (fresh : is_broken writer ≡ true)
+      (shuts : (h : List HistoryEntry) → is_close_due h ≡ false → AreShut (items_of h)) (in_turn : StaysInTurn) (later_reply : ReplyLater) (fresh : is_broken writer ≡ true)
       (by : settings_in writer ≡ files_at of setup) (leaves : LeavesFit book'') where
     by_ok : (r : Result X Status) → IfOk r (λ x. HasLine tells files service book' book'' writer'' (octets x))
         → IfOk r (λ x. (history : List HistoryEntry) × HasServed tells files of setup area (area_of book'') shelf (shelf_of writer'') links links' history
@@ -185,7 +185,7 @@ module _ {A F : Type 0} (tells : areas.Ghosts A) (files : shelves.Ghosts F) (of 
     by_ok (Err ended) has = tt
     by_ok (Ok x) has = (
       (value_of book'').firm,
-      has_served tells files of setup told laws stay grow shuts area shelf book book' book'' writer writer' writer'' links links' clock clock' service open_time (octets x)
+      has_served tells files of setup told laws stay grow shuts in_turn later_reply area shelf book book' book'' writer writer' writer'' links links' clock clock' service open_time (octets x)
           sized opens fresh on by serves settles.stays.0 settles.later.0 settles.stays.1 (settles.files_stay (told_lists tells told)) has leaves,
       has.line_is told,
     )
@@ -205,7 +205,7 @@ module _ {A F : Type 0} (tells : areas.Ghosts A) (files : shelves.Ghosts F) (of 
 
   -- Nothing is lost.
 
-  module _ (laws : AreaLaws tells) (leaves : LeavesFit book'')
+  module _ (laws : AreaLaws tells) (later_reply : ReplyLater) (leaves : LeavesFit book'')
       (reads : Told tells → (h : List HistoryEntry) → StandsFitFor (header_for tells area of) (tells.octets area) h → FindsHistory {tells = tells} area (Ok book) h)
       (anew : Told tells → Starts (header_for tells area of) (tells.octets area) → IsMadeAnew {tells = tells} area (Ok book) (header_for tells area of)) where
     found_is : Told tells → (start : List HistoryEntry) → StandsOrStarts (header_for tells area of) (tells.octets area) start → (value_of book).firm ≡ start
@@ -226,7 +226,7 @@ module _ {A F : Type 0} (tells : areas.Ghosts A) (files : shelves.Ghosts F) (of 
         named = settles.stays.0.header ∙ serves.stays.name ∙ opens.named
 
         served : Begins start (value_of book').firm
-        served = subst (λ (h : List HistoryEntry). Begins h (value_of book').firm) (found_is told start found) (serves.goes_on (told_lists tells told)).begins
+        served = subst (λ (h : List HistoryEntry). Begins h (value_of book').firm) (found_is told start found) (serves.goes_on (told_lists tells told)).goes.begins
 
         stands_for : (history : List HistoryEntry) → Begins (value_of book'').firm history → StandsFitFor (header_of book'') c history
             → GoesOnIn tells of area (area_of book'') links links' start c
@@ -237,7 +237,7 @@ module _ {A F : Type 0} (tells : areas.Ghosts A) (files : shelves.Ghosts F) (of 
               stands = inl (subst (λ (h : List ℕ). StandsFitFor h c history) named stands);
               begins = begins_then start (value_of book').firm history served behind;
               replies = replies_rest tells files of told area book book' book'' writer writer' links links' clock clock' service open_time sized opens serves
-                  settles.later.0 history behind;
+                  settles.later.0 later_reply history behind;
             }
 
     pub keeps_as : (area'' : A) → area'' ≡ area_of book'' → LosesNothing tells of area area'' links links'

@@ -73,7 +73,8 @@ IsFine setup links links' looped = HandsOut setup links links' looped
 module _ (setup : LoopSetup) (job : Job) (links links' : LinksState) (ended : Status) (looped : Looped) where
   -- What a loop does, as a whole.
   pub record Loops (played : Option Played) : Type 0 where
-    -- At `Done` each packet is done and stands once, and what all count is written, and nothing else.
+    -- At `Done` each packet is done, hence known to be filed, and the audit finds none that doesn't stand once; what all
+    -- count is written, and nothing else.
     pub done : ended ≡ status.Done →
         IsFine setup links links' looped × Appends job.before job.after (loop_report looped)
     -- At `Write` a front of that is written.
@@ -95,10 +96,10 @@ module _ (setup : LoopSetup) (job : Job) (links links' : LinksState) (ended : St
     -- At `Link` a link failed; at `Write` the sink did, and at no other end.
     pub link : ended ≡ status.Link → HandsNone setup links links' looped × Rose links.faults links'.faults
     pub cause : HasCause ended job.read_before job.read_after job.written_before job.written_after
-    -- It ends in one of these ways, or for want of memory, and hands back no network.
+    -- It ends in one of these ways, and hands back no network.
     pub known : IsLoopEnd ended
     pub none : played ≡ None
-    -- Where no link and no sink fails, what it handed back decides, unless memory runs out.
+    -- Where no link and no sink fails, it ends as `Done`, `Audit` or `Unfinished`, unless memory runs out.
     pub complete : ¬ (Rose links.faults links'.faults) → ¬ (Rose job.written_before job.written_after) → IsCalmEnd ended
 
 -- What a job hands back of a loop by its words: of the one that they ask for, and else nothing.

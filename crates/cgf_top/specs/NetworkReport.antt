@@ -3,7 +3,7 @@ use Rattle.std.specs.Prelude.{ℕ, ◌≡◌, ◌++◌, List, [], Option, Some, 
 use Rattle.once_core.specs.StandsOnce.{StandsOnce}
 use Rattle.replay_world.specs.Report.{refusal_of_lines, replayed, report_of, report_of_lines}
 use Rattle.replay_world.specs.Report.{Refusal as WorldRefusal}
-use Rattle.replay_world.specs.Settled.{HasPlayedOut, StandInFiles}
+use Rattle.replay_world.specs.Settled.{AreWritten, HasPlayedOut, StandInFiles}
 use Rattle.replay_world.specs.Setup.{files_in, setup_of}
 use Rattle.replay_world.specs.Summary.{summary_of, summary_text}
 use Rattle.replay_world.specs.declared.replay.Played.{Played}
@@ -53,15 +53,17 @@ drill_report of = summary_text (summary_of (replayed (seeded_lines of)))
 abbrev pub EndsByReport : List Line → Type 0
 EndsByReport lines = (front : List ℕ) × (report_of_lines lines ≡ front ++ report_of (replayed lines))
 
--- The areas, shelves and nodes are those of the world that the lines make. Each gateway runs, its whole history is firm,
--- and its area stands for it. The sealed files of its shelf are those that the history closes, which have all its records,
--- and no file is unsealed. The report of the lines, which `drill` doesn't print, ends with these files.
+-- The areas, shelves and nodes are those of the world that the lines make (`at_rest`; the rest speaks of that world alone).
+-- Each gateway runs, its whole history is firm, and its area stands for it. The sealed files of its shelf are those that
+-- the history closes, which have all its records, and no file is unsealed. What the lines print, which isn't what `drill`
+-- prints, ends with the report, and this has all files that the histories close.
 -- In the files of all its gateways each record of each packet that was ever resolved stands at exactly one place of its
 -- own, and each record of any other packet at one at most; no copy that is held or was cancelled puts one there, and the
 -- files have no other record. The places are those of these files.
 pub record RanNetwork (lines : List Line) (played : Played) : Type 0 where
   pub at_rest : HasPlayedOut (replayed lines) played
   pub told : EndsByReport lines
+  pub written : AreWritten (replayed lines)
   pub places : StandsOnce (files_in (setup_of lines)) (replayed lines).world
   pub there : StandInFiles (files_in (setup_of lines)) (replayed lines).world
 

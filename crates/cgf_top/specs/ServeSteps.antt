@@ -25,7 +25,7 @@ use Rattle.node_session.specs.Writing.{KeepsFiles}
 use Rattle.replay_world.specs.Settings.{AreSet, AreSound}
 use Rattle.replay_world.specs.Setup.{Setup, setup_of}
 use Rattle.session_run.specs.Filing.{KeepsWriter}
-use Rattle.session_run.specs.History.{GoesOn, IsReply}
+use Rattle.session_run.specs.History.{GoesOnUntil}
 use Rattle.session_run.specs.Running.{StaysAs}
 use Rattle.session_run.specs.declared.stop.Stop.TheVariants as stop
 use Rattle.world_script.specs.Script.{Refusal, most_text, script_in}
@@ -33,7 +33,7 @@ use Rattle.world_script.specs.declared.kind.ScriptKind.TheVariants as kind
 use Rattle.world_script.specs.declared.line.Line.{Line}
 use Rattle.cgf_top.specs.Kinds.{of_line}
 use Rattle.cgf_top.specs.Run.{IsRead}
-use Rattle.cgf_top.specs.Served.{AllBehind, header_for, served_line}
+use Rattle.cgf_top.specs.Served.{HasReplied, header_for, moment_of, served_line}
 use Rattle.cgf_top.specs.Serving.{address_in}
 use Rattle.cgf_top.specs.declared.serve.FileSettings.{FileSettings}
 use Rattle.cgf_top.specs.declared.serving.Serving.{Serving}
@@ -92,10 +92,9 @@ module _ {A F : Type 0} (tells : areas.Ghosts A) (files : shelves.Ghosts F) wher
   pub record HasServedAt (of : Serving) (book book' : Book A tells) (writer writer' : Writer F files)
       (links links' : LinksState) (clock clock' : ℕ) (service : Service) : Type 0 where
     pub goes_on : WhereTold (tells_lists tells)
-        (GoesOn (links'.received (address_in of)) (facts_of book) (facts_of book'))
-    pub replies : WhereTold (tells_lists tells) (AllBehind (links.sent (address_in of)) (links'.sent (address_in of))
-        (IsReply (links'.received (address_in of)) (size_of book) (value_of book').firm
-        (tells.faults (area_of book)) (tells.faults (area_of book'))))
+        (GoesOnUntil (links'.received (address_in of)) (facts_of book) (facts_of book') service.last)
+    pub replies : WhereTold (tells_lists tells) (HasReplied (size_of book) (value_of book').firm
+        (tells.faults (area_of book)) (tells.faults (area_of book')) (address_in of) links links')
     pub stays : StaysAs (facts_of book) (facts_of book')
     pub kept : KeepsWriter files (tells_lists tells) (value_of book').firm writer writer'
     pub turns : service.stop ≡ None → links'.turns (address_in of) ≡ links.turns (address_in of) + of.turns
@@ -109,8 +108,8 @@ module _ {A F : Type 0} (tells : areas.Ghosts A) (files : shelves.Ghosts F) wher
       : Type 0 where
     pub runs : service.stop ≡ None
     pub drops : Bool
-    pub now : ℕ
-    pub firm : Told tells → (value_of book').firm ≡ closed_behind (base drops (facts_of book)) now no_caller
+    pub firm : Told tells →
+        (value_of book').firm ≡ closed_behind (base drops (facts_of book)) (moment_of service.last) no_caller
     pub none_waits : Told tells → (value_of book').rest ≡ []
     pub goes_on : is_closed book'.trail ≡ false
     pub line_is : Told tells → line ≡ served_line (value_of book').firm

@@ -1,5 +1,5 @@
 -- What `serve` hands back: the journal's area, the shelf and the links of a gateway that served, and what it wrote.
-use Rattle.std.specs.Prelude.{◌≡◌, ◌⊎◌, ℕ, ◌+◌, ◌<◌, ◌≤◌, IsTrue, List, [], ◌∷◌, ◌++◌, All, IfSome, Option, Some, length}
+use Rattle.std.specs.Prelude.{◌≡◌, ◌⊎◌, ℕ, ◌+◌, ◌<◌, ◌≤◌, IsTrue, List, [], ◌∷◌, ◌++◌, All, IfSome, Option, None, Some, length}
 use Rattle.area_disk.specs.declared.area.Area as areas
 use Rattle.cdr_shelf.specs.Files.{SealedFile, in_stream}
 use Rattle.cdr_shelf.specs.declared.shelf.Shelf as shelves
@@ -14,15 +14,17 @@ use Rattle.gateway_book.specs.Items.{items_of}
 use Rattle.gateway_book.specs.Opened.{StandsOrStarts}
 use Rattle.gateway_book.specs.Value.{standing_for}
 use Rattle.gw_base.specs.Owes.{Begins}
+use Rattle.gw_base.specs.declared.address.Addr.{Addr}
 use Rattle.gw_base.specs.declared.history.HistoryAct.TheVariants as act
 use Rattle.gw_base.specs.declared.history.HistoryEntry.{HistoryEntry}
 use Rattle.net_link.specs.Datagrams.{Datagram}
-use Rattle.net_link.specs.Making.{LinksState}
+use Rattle.net_link.specs.Making.{GrowsBy, LinksState}
 use Rattle.node_session.specs.Writing.{none_closed, none_stood}
 use Rattle.replay_world.specs.Report.{counts_line}
 use Rattle.replay_world.specs.Settled.{AreShut}
 use Rattle.replay_world.specs.Setup.{Setup}
-use Rattle.session_run.specs.History.{IsCalledFor, IsReply}
+use Rattle.session_run.specs.History.{AnswerInTurn, IsReply, ReplyInTurn}
+use Rattle.session_run.specs.Latest.{Jobs, latest_of}
 use Rattle.turn_cell.specs.Placed.{placed}
 use Rattle.cgf_top.specs.Serving.{address_in}
 use Rattle.cgf_top.specs.declared.serving.Serving.{Serving}
@@ -31,18 +33,24 @@ use Rattle.cgf_top.specs.declared.serving.Serving.{Serving}
 abbrev pub IsAtMost : HistoryEntry → List HistoryEntry → Type 0
 IsAtMost entry entries = Begins entries (entry ∷ [])
 
--- A history is another with at most the Start of the opening behind it, then entries each of which is the answer, at the
--- entries in front of it, to a datagram that was heard, and then at most one Close, of some moment. No session made the
--- Start or the Close.
+-- the moment of a Close behind jobs of which this is the latest moment
+abbrev pub moment_of : Option ℕ → ℕ
+moment_of None = 0
+moment_of (Some moment) = moment
+
+-- A history is another with at most the Start of the opening behind it, then entries that answer datagrams in turn, and
+-- then at most one Close, of the latest moment of the jobs that were made of these. No session made the Start or the
+-- Close.
 pub record HasGrown (size : ℕ) (heard : Option (List Datagram)) (start history : List HistoryEntry) : Type 0 where
   pub opened : List HistoryEntry
-  pub answers : List HistoryEntry
+  pub answered : List HistoryEntry
   pub closed : List HistoryEntry
-  pub whole : history ≡ ((start ++ opened) ++ answers) ++ closed
+  pub whole : history ≡ ((start ++ opened) ++ answered) ++ closed
   pub one_start : IsAtMost (entry_by start 0 no_caller act.Start) opened
-  pub each : All (IsCalledFor size heard) (placed (start ++ opened) answers)
-  pub now : ℕ
-  pub one_close : IsAtMost (entry_by ((start ++ opened) ++ answers) now no_caller act.Close) closed
+  pub jobs : Jobs
+  pub answers : AnswerInTurn size heard jobs (placed (start ++ opened) answered)
+  pub one_close : IsAtMost
+      (entry_by ((start ++ opened) ++ answered) (moment_of (latest_of jobs)) no_caller act.Close) closed
 
 -- the settings of the files of a gateway that serves, by those of its script
 abbrev pub files_at : Serving → Setup → Settings
@@ -62,10 +70,14 @@ abbrev pub HasAllFiles : Settings → List HistoryEntry → List SealedFile → 
 HasAllFiles settings h sealed =
     (s : ℕ) → s < stream_count → in_stream s sealed ≡ stream_files settings s (items_of h)
 
--- What an address was sent behind what it had been sent before, where that is told, holds of each.
-abbrev pub AllBehind : Option (List Datagram) → Option (List Datagram) → (Datagram → Type 0) → Type 0
-AllBehind before after P = (old all : List Datagram) → before ≡ Some old → after ≡ Some all
-    → (more : List Datagram) × (all ≡ old ++ more) × All P more
+-- What was sent from an address since, where that is told, are replies to datagrams that it received, one to each at most
+-- and in turn. They rest on a history on so many octets, or tell that the device failed, whose count of faults rose.
+pub record HasReplied (size : ℕ) (history : List HistoryEntry) (before now : ℕ) (at : Addr) (links links' : LinksState)
+    : Type 0 where
+  pub sent : Option (List Datagram)
+  pub is_sent : GrowsBy (links.sent at) sent (links'.sent at)
+  pub each : IfSome sent (All (IsReply (links'.received at) size history before now))
+  pub in_turn : ReplyInTurn size history before now (links'.received at) sent
 
 -- the header of the journal of a gateway that serves on this area
 abbrev pub header_for : {A : Type 0} (tells : areas.Ghosts A) → A → Serving → List ℕ
@@ -74,7 +86,7 @@ header_for tells area of = header (tells.size area) of.ip 0
 module _ {A F : Type 0} (tells : areas.Ghosts A) (files : shelves.Ghosts F) (of : Serving) (setup : Setup)
     (area area' : A) (shelf shelf' : F) (links links' : LinksState) where
   -- The area handed in stood for a history, or started, and had none; the one handed back stands for one that has grown
-  -- from it, now and after any crash. Each datagram that was sent is a reply that rests on it. Where the shelf had the
+  -- from it, now and after any crash. What was sent are replies that rest on it. Where the shelf had the
   -- first ones of the files that the handed-in history closes, it has just those that this one closes; and these have
   -- all records of the history, none of which stands in a file that is open.
   pub record HasServed (history : List HistoryEntry) : Type 0 where
@@ -83,8 +95,7 @@ module _ {A F : Type 0} (tells : areas.Ghosts A) (files : shelves.Ghosts F) (of 
     pub stands : StandsFitFor (header_for tells area of) (tells.octets area') history
     pub crash : (c : List ℕ) → tells.may_leave area' c → StandsFitFor (header_for tells area of) c history
     pub grown : HasGrown (tells.size area) (links'.received (address_in of)) start history
-    pub replies : AllBehind (links.sent (address_in of)) (links'.sent (address_in of))
-        (IsReply (links'.received (address_in of)) (tells.size area) history (tells.faults area) (tells.faults area'))
+    pub replies : HasReplied (tells.size area) history (tells.faults area) (tells.faults area') (address_in of) links links'
     pub sealed : IsTrue files.tells_files → HasFirstFiles (files_at of setup) start (files.files shelf)
         → HasAllFiles (files_at of setup) history (files.files shelf')
     pub shut : AreShut (items_of history)
@@ -101,8 +112,7 @@ module _ {A : Type 0} (tells : areas.Ghosts A) (of : Serving) (area area' : A) (
     pub history : List HistoryEntry
     pub stands : StandsOrStarts (header_for tells area of) octets history
     pub begins : Begins start history
-    pub replies : AllBehind (links.sent (address_in of)) (links'.sent (address_in of))
-        (IsReply (links'.received (address_in of)) (tells.size area) history (tells.faults area) (tells.faults area'))
+    pub replies : HasReplied (tells.size area) history (tells.faults area) (tells.faults area') (address_in of) links links'
 
   -- A history goes on in the area that is handed back, and in what any crash leaves of it.
   pub record KeepsHistory (start : List HistoryEntry) : Type 0 where

@@ -72,7 +72,7 @@ use std::sync::Wait;
 use std::thread::Threads;
 use std::time::Clock;
 pub use streaming::{StreamPlaces, Streaming, stream_places, tcp_address};
-pub use watch::Watch;
+pub use watch::{NodeTurn, Watch};
 use world_script::{InputFault, Script};
 
 /// How a job ended, and what it ran.
@@ -82,7 +82,8 @@ pub struct Ended<A: Area, F: Shelf> {
     /// The area and the shelf that were handed in, as the job left them. `serve` and `stream` alone use them.
     pub area: A,
     pub shelf: F,
-    /// The books and the nodes of a loop that ran. Both lists are empty for every other job, and where a link failed.
+    /// The books and the nodes of a loop that ran, also where its report wasn't written. Both lists are empty for every
+    /// other job, where a link failed, and where there was no memory for the loop.
     pub looped: Looped,
     /// The network of a `replay` or a `drill` that is done: its areas, its shelves and its nodes.
     pub played: Option<Played>,
@@ -194,7 +195,7 @@ where
     )
 }
 
-/// The same, and tells `watch` how far the lines of a network are.
+/// The same, and tells `watch` how far the lines of a network and the nodes of a loop are.
 pub fn run_watched<
     S: Source,
     K: Sink,
@@ -202,7 +203,7 @@ pub fn run_watched<
     F: Shelf + Send,
     L: Links,
     C: gw_base::Clock,
-    W: Watch,
+    W: Watch + Sync,
     R: Threads + Wait + Clock + Sync,
 >(
     rt: &R,
@@ -262,7 +263,7 @@ fn run_unserved<
     F: Shelf,
     L: Links,
     C: gw_base::Clock,
-    W: Watch,
+    W: Watch + Sync,
     R: Threads + Wait + Clock + Sync,
 >(
     rt: &R,
@@ -303,7 +304,7 @@ where
 {
     match looping_of(words) {
         Some(setup) => {
-            let (status, looped) = loop_back(rt, alloc, setup, sink, links);
+            let (status, looped) = loop_back(rt, alloc, setup, sink, links, watch);
             Ended {
                 status,
                 area,

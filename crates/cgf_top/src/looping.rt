@@ -9,8 +9,9 @@ ghost use Rattle.cgf_top.specs.Run.{may_have_written};
 use crate::output::write_all;
 use crate::serving::between;
 use crate::status::Status;
+use crate::watch::{LoopWatch, Watch};
 use gw_base::{NoMemory, Sink};
-use loop_run::{GatewaySum, LoopEnd, LoopSetup, Looped, NodeSum, run_loop};
+use loop_run::{GatewaySum, LoopEnd, LoopSetup, Looped, NodeSum, run_loop_watched};
 use net_link::Links;
 use std::alloc::Global;
 use std::sync::Wait;
@@ -66,13 +67,15 @@ fn by_numbers(gateways: &[u8], nodes: &[u8], packets: &[u8], turns: &[u8]) -> Op
     })
 }
 
-/// Lets a loop run over these links, and writes what its nodes and gateways count where the audit of it is fine.
-pub(crate) fn loop_back<K: Sink, L: Links, R: Threads + Wait + Clock + Sync>(
+/// Lets a loop run over these links, and writes what its nodes and gateways count where the audit of it is fine. The
+/// watch is told how far the nodes are.
+pub(crate) fn loop_back<K: Sink, L: Links, W: Watch + Sync, R: Threads + Wait + Clock + Sync>(
     rt: &R,
     alloc: Global,
     setup: LoopSetup,
     sink: &mut K,
     links: &mut L,
+    watch: &W,
 ) -> (Status, Looped)
 where
     L::Link: Send,
@@ -82,7 +85,8 @@ where
         (K.faults sink.old) (K.faults sink.new) result.0 result.1 }
     ensures untouched { may_have_written result.0 ≡ false → sink.new ≡ sink.old }
 {
-    let (end, looped) = run_loop(rt, alloc, setup, links);
+    let watch = LoopWatch { setup, watch };
+    let (end, looped) = run_loop_watched(rt, alloc, setup, links, &watch);
     (write_end(alloc, sink, end), looped)
 }
 

@@ -15,7 +15,7 @@ ghost use Rattle.loop_run.specs.Ending.{part_count};
 ghost use Rattle.replay_world.specs.Settings.{AreSound};
 ghost use Rattle.replay_world.specs.Setup.{Setup as SetupValue};
 ghost use Rattle.node_session.specs.Writing.{IsWriterOf};
-ghost use Rattle.cgf_top.specs.Served.{HasServed, LosesNothing, served_line};
+ghost use Rattle.cgf_top.specs.Served.{HasServed, LosesNothing, moment_of, served_line};
 ghost use Rattle.cgf_top.specs.ServeSteps.{AreOf, FailsBy, HasServedAt, HasSettledAll, NeverFalls, RefusesAsForeign, StopsServing, status_by};
 ghost use Rattle.cgf_top.specs.Serving.{IsServingWithin, address_in};
 
@@ -35,6 +35,7 @@ use loop_run::count_records;
 use net_link::Links;
 use node_session::{SettleFault, settle};
 use replay_world::laws::{a_history_filed_its_parts, no_file_is_open_where_no_close_is_due};
+use session_run::laws::{what_is_in_turn_stays_so, what_links_sent};
 use session_run::{Gateway, Ran, Stop, Until, give_back, make_links, run};
 use std::alloc::Global;
 use std::sync::Wait;
@@ -131,6 +132,7 @@ where
     files_only_grow();
     filed_records_stay();
     no_file_is_open_where_no_close_is_due();
+    what_is_in_turn_stays_so();
     what_stands_is_ours();
     let FileSettings { settings, rules } = by;
     let setup = Setup {
@@ -189,6 +191,8 @@ where
     ensures { HasServedAt A.Area F.Shelf serving book result.1.0 writer result.1.1 (L.state links.old)
         (L.state links.new) (C.faults clock.old) (C.faults clock.new) result.0 }
 {
+    what_is_in_turn_stays_so();
+    what_links_sent::<L::Link>();
     let address = Addr {
         ip: serving.ip,
         port: serving.port,
@@ -265,7 +269,9 @@ fn settled_line<A: Area, F: Shelf>(
 }
 
 /// The moment of a Close behind the last job: its own, and 0 where there was none.
-pub(crate) fn moment_of(last: Option<Moment>) -> Moment {
+pub(crate) fn moment_of(last: Option<Moment>) -> Moment
+    ensures { result ≡ moment_of last }
+{
     match last {
         Some(moment) => moment,
         None => {

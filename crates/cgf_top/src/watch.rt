@@ -1,9 +1,27 @@
 //! Who is told how far a job is.
+use loop_run::{LoopSetup, NodeWatch};
+use node_core::Node;
 
-/// One who is told how far the lines of a network are. No clause speaks of it: nothing that a job does depends on it.
+/// One who is told how far a job is. No clause speaks of it: nothing that a job does depends on it.
 pub trait Watch {
-    /// So many of all lines were run.
+    /// So many of all lines of a network were run.
     fn ran(&mut self, lines: u64, all: u64);
+
+    /// A node of a loop has taken a turn. The threads of the nodes tell it.
+    fn turned(&self, turn: NodeTurn);
+}
+
+/// How far a node of a loop is after a turn.
+#[derive(Clone, Copy)]
+pub struct NodeTurn {
+    /// The place of the node, counted from 0.
+    pub place: usize,
+    /// How many of its packets are done.
+    pub done: u64,
+    /// How many packets all nodes have.
+    pub all: u64,
+    /// The place of the gateway that is its favourite, counted from 0.
+    pub favourite: u8,
 }
 
 /// Nobody is told.
@@ -12,4 +30,25 @@ pub(crate) struct Nobody;
 
 impl Watch for Nobody {
     fn ran(&mut self, _lines: u64, _all: u64) {}
+
+    fn turned(&self, _turn: NodeTurn) {}
+}
+
+/// Who is told of the nodes of a loop.
+#[derive(Drop)]
+pub(crate) struct LoopWatch<'a, W: Watch> {
+    pub setup: LoopSetup,
+    pub watch: &'a W,
+}
+
+impl<W: Watch> NodeWatch for LoopWatch<'_, W> {
+    fn turned(&self, place: usize, node: &Node) {
+        let LoopSetup { nodes, packets, .. } = self.setup;
+        self.watch.turned(NodeTurn {
+            place,
+            done: node.counts().done,
+            all: u64::from(nodes).saturating_mul(u64::from(packets)),
+            favourite: node.favourite(),
+        });
+    }
 }

@@ -11,6 +11,7 @@ pub returns-clause-ok : goal.returns-clause-ok
 returns-clause-ok g c told setup are =
     serves_as _ _ _ _ _ _ _ _ _ _ _ _ _ _ _ _ _ _ _ c.in-Ok.ensures.size c.in-Ok.ensures.ok c.new-writer.ensures.shelf c.serve_at-service.ensures c.settle_all-line.ensures
     setup told c.area_laws.ensures c.filed_records_stay.ensures.items c.files_only_grow.ensures c.no_file_is_open_where_no_close_is_due.ensures
+    c.what_is_in_turn_stays_so.ensures.front c.what_is_in_turn_stays_so.ensures.replies
     c.new-writer.ensures.broken (c.new-writer.ensures.settings ∙ settings_at c.args.serving setup c.args.by are) c.into_area.ensures.leaves
     c.into_area.result c.into_shelf.result c.into_area.ensures.area c.into_shelf.ensures
 
@@ -33,4 +34,4 @@ returns-in-Err-clause-keeps g c =
 pub returns-clause-keeps : goal.returns-clause-keeps
 returns-clause-keeps g c =
     keeps_as _ _ _ _ _ _ _ _ _ _ _ _ _ _ _ _ _ _ _ c.in-Ok.ensures.size c.in-Ok.ensures.ok c.new-writer.ensures.shelf c.serve_at-service.ensures c.settle_all-line.ensures
-    c.area_laws.ensures c.into_area.ensures.leaves c.in-Ok.ensures.reads c.in-Ok.ensures.anew c.into_area.result c.into_area.ensures.area
+    c.area_laws.ensures c.what_is_in_turn_stays_so.ensures.replies c.into_area.ensures.leaves c.in-Ok.ensures.reads c.in-Ok.ensures.anew c.into_area.result c.into_area.ensures.area
