@@ -29,6 +29,7 @@ import world
 PATIENCE = 60
 MODELS = {"feed": feed.feed, "replay": world.replay, "show": show.show}
 STATUSES = range(10)
+TOLD = ("stopped ", "fault ", "shelf fault ", "resolved ")
 
 
 def ran(program, command, text):
@@ -72,18 +73,24 @@ def copies(text, output):
     return wrong
 
 
+def told(output):
+    """How often a replay tells of a stop, of a failure, and of a packet that became resolved."""
+    lines = output.decode().splitlines()
+    return Counter({word.strip(): sum(line.startswith(word) for line in lines) for word in TOLD})
+
+
 def faults(program, command, text, wanted=None):
-    """What is wrong with the run of a text, and how it ended; what should come of it may be known."""
+    """What is wrong with the run of a text, how it ended, and what it told; what should come of it may be known."""
     if command == "serve":
         found, wanted = served(program, text)
-        return against_serve.difference(found, wanted), found.status
+        return against_serve.difference(found, wanted), found.status, Counter()
     found, wanted = ran(program, command, text), wanted or MODELS[command](text)
     wrong = [] if found[1] in STATUSES else [f"it ended with {found[1]}"]
     if found != wanted:
         wrong.append("another output than the model's")
     if command == "replay" and found[1] == 0:
         wrong += copies(text, found[0])
-    return wrong, found[1]
+    return wrong, found[1], told(found[0]) if command == "replay" else Counter()
 
 
 def smaller(program, command, text):
@@ -113,19 +120,22 @@ def case(what, number):
 
 def main(what, first, count, program):
     program, folder = str(Path(program).resolve()), Path(tempfile.mkdtemp(prefix=f"hostile-{what}-"))
-    ends, wrong = Counter(), 0
+    ends, met, wrong = Counter(), Counter(), 0
     count = -(-count // hostile_cases.DATAGRAMS) if what == "datagrams" else count
     for number in range(first, first + count):
         command, text, wanted = case(what, number)
-        found, status = faults(program, command, text, wanted)
+        found, status, tells = faults(program, command, text, wanted)
         ends[f"{command} {status}"] += 1
+        met += tells
         if found:
             wrong += 1
             print(f"{what} {number}: {'; '.join(found)}", flush=True)
             (folder / f"{number}.whole").write_bytes(text)
             (folder / f"{number}.{command}").write_bytes(smaller(program, command, text))
-    told = ", ".join(f"{name}: {ends[name]}" for name in sorted(ends))
-    print(f"{wrong} of {count} wrong{f', kept in {folder}' if wrong else ''}; the statuses are {told}", flush=True)
+    listed = [", ".join(f"{name}: {found[name]}" for name in sorted(found)) for found in (ends, met)]
+    print(f"{wrong} of {count} wrong{f', kept in {folder}' if wrong else ''}; the statuses are {listed[0]}", flush=True)
+    if met:
+        print(f"told were {listed[1]}", flush=True)
     if not wrong:
         folder.rmdir()
     return wrong > 0

@@ -7,11 +7,12 @@ import random
 import files
 import script
 import serve_cases
+import shelf
 import show_files
 import wire
 from feed_scripts import Feed
-from replay_scripts import Replay
-from world import ARMS, Refused, Stopped
+from replay_scripts import MODES, Replay
+from world import Refused, Stopped
 
 DATAGRAMS = 200
 SIGN = b"\x85\x04"
@@ -57,17 +58,23 @@ def mangled(draw, octets, other):
 class Storm(Replay):
     """A replay with many stops and failures, each of whose packets has records of its own."""
 
-    rounds = (5, 10, 20, 30)
+    rounds = (10, 20, 40)
 
     def __init__(self, seed):
         super().__init__(seed)
-        for form in ARMS:
-            if form in self.shares:
-                self.shares[form] = 3 * self.pick(1, 2, 4)
-        for form in ("stop", "open", "commit", "write"):
-            self.shares[form] *= self.pick(1, 2, 4)
+        self.is_large = self.is_large or self.is_rare(0.01)
+        self.shares["round"] *= self.pick(1, 4, 10)
+        self.shares["bad commit"] = self.pick(2, 10, 30)
+        self.shares["lost request"] = self.pick(1, 5, 10)
         if "armshelf" in self.shares:
-            self.shares["write"] *= 4
+            self.shares["bad write"] = self.pick(2, 10, 30)
+
+    def settings(self):
+        """Most often there is room, and files are closed often, in streams of their own."""
+        lines = super().settings()
+        if self.is_rare(0.7):
+            lines += [("reserve", self.pick(4_000, 30_000)), ("limit records", self.pick(1, 2, 3))]
+        return lines + [("rule", b"rule * %d %d" % (each, each + 3)) for each in (1, 2) if self.is_rare(0.3)]
 
     def add(self, *line):
         """Plays a line, and leaves it out where the world refuses it."""
@@ -81,15 +88,71 @@ class Storm(Replay):
         return True
 
     def line(self, form):
-        """Behind a line that arms something comes mostly one that may meet it, and behind a stop an opening."""
-        goes_on = super().line(form)
-        if form in ARMS and self.lines[-1][0] == form and self.is_rare(0.7):
-            gateway = self.lines[-1][1]
-            meets = ("write",) if ARMS[form] == "shelf" else ("commit", "commit", "commit", "mark", "close")
-            self.add(self.pick(*meets), gateway)
-            if self.is_rare(0.7):
+        made = {"bad commit": self.bad_commit, "bad write": self.bad_write, "lost request": self.lost_request}
+        if form not in made:
+            return super().line(form)
+        for gateway in range(1, self.gateways + 1):
+            self.add("open", gateway)
+        return made[form]()
+
+    def told(self):
+        """Packets for the gateways: each has something to commit where it takes one."""
+        for node in range(1, min(self.nodes, 3) + 1):
+            self.submit(node)
+            self.add("tick", node)
+        return self.add(*self.pick(("flow",), ("flow",), ("mix", self.random.randrange(2**64))))
+
+    def one_of(self, is_fit):
+        """The number of a gateway that is fit, or else of any."""
+        fit = [each.number for each in self.world.gateways if is_fit(each)]
+        return self.pick(*fit) if fit else self.number(self.gateways)
+
+    def bad_commit(self):
+        """A call of a commit stops or fails, and most often a call of the opening again behind it."""
+        self.told()
+        gateway = self.one_of(lambda each: each.state == "broken" or each.firm < len(each.history))
+        for _ in range(self.pick(1, 2, 2, 3)):
+            call = 1 if self.world.gateways[gateway - 1].state == "broken" else self.number(4)
+            self.add(*self.pick(("fail", gateway, call), ("arm", gateway, call, self.pick(*MODES))))
+            if "bad write" in self.shares and self.is_rare(0.2):
+                self.bad_write()
+            self.meets(gateway)
+        return self.is_rare(0.3) or self.add("open", gateway)
+
+    def meets(self, gateway):
+        """A line that may call the area of a gateway: a message for it does so where it is broken."""
+        there = [number for number, each in enumerate(self.world.messages, 1) if each.receiver == ("g", gateway)][-20:]
+        lines = [("commit", gateway), ("commit", gateway), ("mark", gateway), ("close", gateway), ("flow",)]
+        lines += [("deliver", self.pick(*there))] * 3 if there else []
+        return self.add(*self.pick(*lines))
+
+    def left(self, gateway):
+        """How many calls of its shelf the next write of a gateway makes."""
+        items, sealed = files.items(gateway.history[: gateway.firm]), shelf.sealed_up_to(gateway.files)
+        return sum(place >= (gateway.taken or 0) for place, _ in shelf.calls(items, sealed, self.world.settings, 0))
+
+    def bad_write(self):
+        """A call of a write, or the one behind it, stops or fails, and then perhaps one of the next write."""
+        self.told()
+        gateway = self.one_of(lambda each: each.state == "runs" and each.firm < len(each.history))
+        self.add("commit", gateway)
+        gateway = self.one_of(lambda each: each.state != "down" and self.left(each))
+        for _ in range(self.pick(1, 2, 3)):
+            call = self.number(self.left(self.world.gateways[gateway - 1]) + 1)
+            self.add(*self.pick(("failshelf", gateway, call), ("armshelf", gateway, call, self.pick(*MODES))))
+            self.add("write", gateway)
+            if not self.is_rare(0.2):
                 self.add("open", gateway)
-        return goes_on
+        return True
+
+    def lost_request(self):
+        """A node is sent elsewhere while its packet, or the answer to it, is on its way."""
+        self.told()
+        gateway = self.one_of(lambda each: each.waiting)
+        if self.is_rare(0.5):
+            self.add("commit", gateway)
+        self.add("redirect", gateway, 63, None)
+        return self.wild_round()
 
     def case(self):
         """Its text, and what a replay of it should write and end with: most often what the world wrote that was played
