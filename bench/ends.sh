@@ -204,12 +204,18 @@ unsynced() {
         echo "left out: a sync that fails, since strace is missing"
         return
     fi
-    try 'a sync that fails as it opens' 6 grown 'cgf: area area: .*; cgf: store' \
-        serve strace -f -qq -o trace -e trace=fsync -e inject=fsync:error=EIO:when=1
+    # the first sync is the folder's, before the journal's file is there
+    try 'a sync of the folder that fails' 6 none 'cgf: folder cdrs: .*; cgf: store' serve_failing 1
+    try 'a sync that fails as it opens' 6 grown 'cgf: area area: .*; cgf: store' serve_failing 2
     try 'and again without' 0 grown '' serve
     turns=200 try 'syncs that fail while it serves' 6 grown 'cgf: area area: .*; cgf: store' serve_unsynced
     grep -q ' 01 CC FD ' loaded || { echo "  nothing was answered by 204"; failed=1; }
     try 'and again without' 0 grown '' serve
+}
+
+# where the sync of all of a file fails that is so many calls from the first
+serve_failing() {
+    serve strace -f -qq -o trace -e trace=fsync -e inject=fsync:error=EIO:when="$1"
 }
 
 serve_unsynced() {

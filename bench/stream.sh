@@ -4,7 +4,7 @@
 # fill.
 #
 #   bench/stream.sh [MIB]   of so many MiB, 1,024 where nothing is said, and of twice as many, in turn: the best of
-#                           ROUNDS (3) each, in seconds of the processor
+#                           ROUNDS (3) each, in seconds of the processor and by the clock
 #   bench/stream.sh count   how many instructions 1, 2 and 4 MiB take, which doesn't depend on what else the machine
 #                           does: by `valgrind`
 #
@@ -36,10 +36,11 @@ stream() {
     [ "$(cat "$folder/replies")" = "$replies" ] || { echo "$(cat "$folder/replies") octets of replies, not $replies"; exit 1; }
 }
 
-# The seconds of the processor and the MiB of memory of a run, in a line of the file that the second word names.
+# The seconds of the processor and by the clock, and the MiB of memory of a run, in a line of the file that the second
+# word names.
 run() {
-    stream "$1" /usr/bin/time -f '%U %S %M' -o time
-    awk '{ print $1 + $2, $3 / 1024 }' "$folder/time" >>"$folder/$2"
+    stream "$1" /usr/bin/time -f '%U %S %e %M' -o time
+    awk '{ print $1 + $2, $3, $4 / 1024 }' "$folder/time" >>"$folder/$2"
 }
 
 # The instructions of a run.
@@ -63,7 +64,7 @@ for ((round = 0; round < ROUNDS; round++)); do
     run "$mebibytes" once
     run $((2 * mebibytes)) twice
 done
-read -r once memory < <(sort -n "$folder/once")
-read -r twice more < <(sort -n "$folder/twice")
-echo "$mebibytes MiB: $once s, $memory MiB; twice that: $twice s, $more MiB"
+read -r once clock memory < <(sort -n "$folder/once")
+read -r twice clocks more < <(sort -n "$folder/twice")
+echo "$mebibytes MiB: $once s, $clock by the clock, $memory MiB; twice that: $twice s, $clocks by the clock, $more MiB"
 is_linear "$once" "$twice"
