@@ -4,22 +4,23 @@ use crate::fault::NoMemory;
 use std::alloc::Global;
 use std::marker::Model;
 
-/// A list of octets with a fixed capacity: what it holds grows up to that and takes no memory.
+/// A list of octets with a fixed capacity: what it holds grows up to that and takes no memory. Memory that it has never
+/// held octets in isn't touched.
 #[derive(Debug, Drop)]
 pub struct Buffer {
     octets: Vec<u8>,
-    used: usize,
+    capacity: usize,
 }
 
 impl Model for Buffer {
-    ghost use Rattle.std.specs.Prelude.{◌≤◌, take, length};
+    ghost use Rattle.std.specs.Prelude.{◌≤◌, length, vec_capacity};
     ghost use Rattle.gw_base.specs.Buffer.{Buffered};
 
     ghost Value = { Buffered };
 
-    ghost view = { λ b. record { octets = take b.used b.octets.items; capacity = length b.octets.items } };
+    ghost view = { λ b. record { octets = b.octets.items; capacity = b.capacity } };
 
-    ghost invariant = { λ b. b.used ≤ length b.octets.items };
+    ghost invariant = { λ b. (length b.octets.items ≤ b.capacity) × (b.capacity ≤ vec_capacity b.octets) };
 }
 
 impl Buffer {
@@ -28,8 +29,8 @@ impl Buffer {
         ensures { IfOk result (λ buffer. buffer ≡ record { octets = []; capacity = capacity }) }
     {
         Ok(Buffer {
-            octets: vec![in alloc; 0; capacity]?,
-            used: 0,
+            octets: Vec::with_capacity(alloc, capacity)?,
+            capacity,
         })
     }
 
@@ -37,14 +38,14 @@ impl Buffer {
     pub fn octets(&self) -> &[u8]
         ensures { result.now ≡ self.now.octets }
     {
-        &self.octets[..self.used]
+        &self.octets
     }
 
     /// How many octets it has room for.
     pub fn free(&self) -> usize
         ensures { result + length self.now.octets ≡ self.now.capacity }
     {
-        self.octets.len() - self.used
+        self.capacity - self.octets.len()
     }
 
     /// Appends octets for which there is room.
@@ -52,15 +53,16 @@ impl Buffer {
         requires { length self.old.octets + length from.now ≤ self.old.capacity }
         ensures { self.new ≡ record { octets = self.old.octets ++ from.now; capacity = self.old.capacity } }
     {
-        let end = self.used + from.len();
-        self.octets[self.used..end].copy_from_slice(from);
-        self.used = end;
+        match self.octets.extend_from_slice(from) {
+            Ok(()) => {}
+            Err(_) => unreachable!(),
+        }
     }
 
     /// Empties the buffer.
     pub fn clear(&mut self)
         ensures { self.new ≡ record { octets = []; capacity = self.old.capacity } }
     {
-        self.used = 0;
+        self.octets.clear();
     }
 }
