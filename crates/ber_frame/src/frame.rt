@@ -1,4 +1,4 @@
-ghost use Rattle.std.specs.Prelude.{◌≡◌, ◌↔◌, Ok, Err};
+ghost use Rattle.std.specs.Prelude.{◌≡◌, ◌↔◌, Ok, Err, IfSome};
 ghost use Rattle.gw_base.specs.declared.tag.Tag.{Tag};
 ghost use Rattle.ber_frame.specs.declared.fault.BerFault.{BerFault};
 ghost use Rattle.ber_frame.specs.Head.{IsIdentifier};
@@ -9,7 +9,7 @@ ghost use Rattle.ber_frame.specs.Checked.{checked};
 ghost use Rattle.ber_frame.specs.Walk.{Walks};
 
 use crate::fault::{BerFault, BerKind};
-use crate::head::identifier_at;
+use crate::head::{head, identifier_at};
 use crate::walk::Walk;
 use gw_base::Tag;
 
@@ -24,10 +24,26 @@ pub fn check(octets: &[u8]) -> Result<Tag, BerFault>
     walk_through(octets)
 }
 
-/// Enters the outer value, goes on until it is over, and looks whether octets follow.
+/// The tag of octets that are exactly one primitive value, where they are that.
+fn primitive(octets: &[u8]) -> Option<Tag>
+    ensures { IfSome result (λ tag. Walks octets.now (Ok tag)) }
+{
+    let Ok((tag, size, rest)) = head(octets) else {
+        return None;
+    };
+    if tag.constructed || size != Some(rest.len()) {
+        return None;
+    }
+    Some(tag)
+}
+
+/// Enters the outer value, goes on until it is over, and looks whether octets follow. A primitive value takes no walk.
 fn walk_through(octets: &[u8]) -> Result<Tag, BerFault>
     ensures { Walks octets.now result }
 {
+    if let Some(tag) = primitive(octets) {
+        return Ok(tag);
+    }
     let mut walk = Walk::new(octets);
     let tag = walk.enter()?;
     while walk.is_inside() {
