@@ -36,7 +36,8 @@ pub enum SettleFault {
 }
 
 /// Ends a gateway: makes its history firm, closes the open files, makes that firm, lets a broken writer recover, and
-/// gives the writer all firm items that it doesn't have. It answers the counts of the history.
+/// gives the writer all firm items that it doesn't have. It answers the counts of the history. Where the area doesn't
+/// fail, the history is closed and firm, whatever the writer could do.
 ///
 /// The writer is broken, or it has taken items of this book. It takes fewer than 2^31 items, and the history of an area
 /// that tells what it holds has fewer.
@@ -49,6 +50,7 @@ pub fn settle<A: Area, F: Shelf>(
 ) -> Result<Counts, SettleFault>
     requires { IsWriterOf (tells_lists A.Area) (value_of book.old).firm writer.old }
     ensures settled { IfOk result (λ counts. HasSettled book.old book.new now who counts) }
+    ensures closed { result ≢ Err fault.Area → IsSettled book.old book.new now who }
     ensures all { Told A.Area → OnOk result (HasTakenAll (value_of book.new).firm writer.new) }
     ensures grows { Grows book.old book.new }
     ensures stays { Stays book.old book.new × (settings_in writer.new ≡ settings_in writer.old) }
@@ -86,8 +88,8 @@ fn make_firm<A: Area>(book: &mut Book<A>) -> Result<(), SettleFault>
 fn close<A: Area>(book: &mut Book<A>, now: Moment, who: Caller) -> Result<(), SettleFault>
     requires { is_closed book.old.trail ≡ false }
     ensures ok { OnOk result (HasClosed book.old book.new now who) }
-    ensures area { result ≡ Err fault.Area → Rose (A.faults (area_of book.old)) (A.faults (area_of book.new)) }
-    ensures shelf { result ≢ Err fault.Shelf }
+    ensures area { OnErr result ((result ≡ Err fault.Area)
+        × Rose (A.faults (area_of book.old)) (A.faults (area_of book.new))) }
     ensures later { A.faults (area_of book.old) ≤ A.faults (area_of book.new) }
     ensures grows { Grows book.old book.new }
     ensures stays { Stays book.old book.new }
@@ -104,8 +106,8 @@ fn close<A: Area>(book: &mut Book<A>, now: Moment, who: Caller) -> Result<(), Se
 // Makes the history firm, with a Close behind it.
 fn end<A: Area>(book: &mut Book<A>, now: Moment, who: Caller) -> Result<(), SettleFault>
     ensures ok { OnOk result (IsSettled book.old book.new now who) }
-    ensures area { result ≡ Err fault.Area → Rose (A.faults (area_of book.old)) (A.faults (area_of book.new)) }
-    ensures shelf { result ≢ Err fault.Shelf }
+    ensures area { OnErr result ((result ≡ Err fault.Area)
+        × Rose (A.faults (area_of book.old)) (A.faults (area_of book.new))) }
     ensures later { A.faults (area_of book.old) ≤ A.faults (area_of book.new) }
     ensures grows { Grows book.old book.new }
     ensures stays { Stays book.old book.new }

@@ -51,3 +51,11 @@ returns-in_err-give_all-clause-grows g c =
 
 pub returns-clause-grows : goal.returns-clause-grows
 returns-clause-grows g c = grows_same c.args.book.now c.end.new.book c.give_all.new.book c.end.ensures.grows c.give_all.ensures.same.0
+
+pub returns-in_err-give_all-clause-closed : goal.returns-in_err-give_all-clause-closed
+returns-in_err-give_all-clause-closed g c =
+    λ is. settled_stays c.args.book.now c.end.new.book c.give_all.new.book c.args.now c.args.who c.in_ok-end.ensures.ok c.give_all.ensures.same.0
+
+pub returns-clause-closed : goal.returns-clause-closed
+returns-clause-closed g c =
+    λ is. settled_stays c.args.book.now c.end.new.book c.give_all.new.book c.args.now c.args.who c.in_ok-end.ensures.ok c.give_all.ensures.same.0
