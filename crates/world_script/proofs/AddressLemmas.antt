@@ -168,12 +168,15 @@ offset_printed (s ∷ a ∷ b ∷ c ∷ d ∷ e ∷ f ∷ word) z h = let no : �
 pub same_bytes : (a b : List ℕ) → bytes_eq a b ≡ true → a ≡ b
 same_bytes a b h = (bytes_eq-Decides a b).0 h
 
-mode_case : (word : List ℕ) (m : Mode) (old new : Bool) → bytes_eq word (codes "old") ≡ old →
-    bytes_eq word (codes "new") ≡ new →
-    (if old then Some mode.Old else if new then Some mode.New else None) ≡ Some m → word ≡ mode_text m
-mode_case word m true new e f h = same_bytes word (codes "old") e ∙ ap mode_text (some_same mode.Old m h)
-mode_case word m false true e f h = same_bytes word (codes "new") f ∙ ap mode_text (some_same mode.New m h)
-mode_case word m false false e f h = let no : ⊥ = cc in absurd no
+mode_case : (word : List ℕ) (m : Mode) (old new rot : Bool) → bytes_eq word (codes "old") ≡ old →
+    bytes_eq word (codes "new") ≡ new → bytes_eq word (codes "rot") ≡ rot →
+    (if old then Some mode.Old else if new then Some mode.New else if rot then Some mode.Rot else None) ≡ Some m →
+    word ≡ mode_text m
+mode_case word m true new rot e f g h = same_bytes word (codes "old") e ∙ ap mode_text (some_same mode.Old m h)
+mode_case word m false true rot e f g h = same_bytes word (codes "new") f ∙ ap mode_text (some_same mode.New m h)
+mode_case word m false false true e f g h = same_bytes word (codes "rot") g ∙ ap mode_text (some_same mode.Rot m h)
+mode_case word m false false false e f g h = let no : ⊥ = cc in absurd no
 
 pub mode_printed : (word : List ℕ) (m : Mode) → mode_of word ≡ Some m → word ≡ mode_text m
-mode_printed word m h = mode_case word m (bytes_eq word (codes "old")) (bytes_eq word (codes "new")) refl refl h
+mode_printed word m h =
+    mode_case word m (bytes_eq word (codes "old")) (bytes_eq word (codes "new")) (bytes_eq word (codes "rot")) refl refl refl h

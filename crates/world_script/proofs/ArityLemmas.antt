@@ -5,6 +5,7 @@ use Rattle.world_script.specs.Outcome.{Says}
 use Rattle.world_script.specs.Saying.{arm_on, arm_said, datagram_said, fail_on, fail_said, in_said, limit_on, limit_said, packet_said, redirect_on, redirect_said, redirect_to, rule_said, ruled, submit_said}
 use Rattle.world_script.specs.declared.fault.LineFault.{LineFault}
 use Rattle.world_script.specs.declared.line.Line.{Line}
+use Rattle.world_script.specs.declared.mode.Mode.{Mode}
 use Rattle.world_script.specs.declared.fault.InputKind.TheVariants.{Arity}
 
 abbrev now_of : List (Bor (List ℕ)) → List (List ℕ)
@@ -24,37 +25,37 @@ limit_two (a ∷ b ∷ []) what number h p q =
     ap (λ (w : Bor (List ℕ)). limit_on w.now number.now) p ∙ ap (λ (n : Bor (List ℕ)). limit_on a.now n.now) q
 limit_two (a ∷ b ∷ c ∷ words) what number h p q = absurd (omega arith)
 
-pub arm_other : (words : List (Bor (List ℕ))) → length words ≢ 3 → Err Arity ≡ arm_said (now_of words)
-arm_other [] h = refl
-arm_other (a ∷ []) h = refl
-arm_other (a ∷ b ∷ []) h = refl
-arm_other (a ∷ b ∷ c ∷ []) h = absurd (h refl)
-arm_other (a ∷ b ∷ c ∷ d ∷ words) h = refl
+pub arm_other : (arms : ℕ → ℕ → Mode → Line) (words : List (Bor (List ℕ))) → length words ≢ 3 → Err Arity ≡ arm_said arms (now_of words)
+arm_other arms [] h = refl
+arm_other arms (a ∷ []) h = refl
+arm_other arms (a ∷ b ∷ []) h = refl
+arm_other arms (a ∷ b ∷ c ∷ []) h = absurd (h refl)
+arm_other arms (a ∷ b ∷ c ∷ d ∷ words) h = refl
 
-pub arm_three : (words : List (Bor (List ℕ))) (gateway call mode : Bor (List ℕ)) → length words ≡ 3 →
+pub arm_three : (arms : ℕ → ℕ → Mode → Line) (words : List (Bor (List ℕ))) (gateway call mode : Bor (List ℕ)) → length words ≡ 3 →
     gateway ≡ get_or words 0 gateway → call ≡ get_or words 1 call → mode ≡ get_or words 2 mode →
-    arm_on gateway.now call.now mode.now ≡ arm_said (now_of words)
-arm_three [] gateway call mode h p q r = absurd (omega arith)
-arm_three (a ∷ []) gateway call mode h p q r = absurd (omega arith)
-arm_three (a ∷ b ∷ []) gateway call mode h p q r = absurd (omega arith)
-arm_three (a ∷ b ∷ c ∷ []) gateway call mode h p q r =
-    ap (λ (x : Bor (List ℕ)). arm_on x.now call.now mode.now) p ∙ ap (λ (x : Bor (List ℕ)). arm_on a.now x.now mode.now) q
-    ∙ ap (λ (x : Bor (List ℕ)). arm_on a.now b.now x.now) r
-arm_three (a ∷ b ∷ c ∷ d ∷ words) gateway call mode h p q r = absurd (omega arith)
+    arm_on arms gateway.now call.now mode.now ≡ arm_said arms (now_of words)
+arm_three arms [] gateway call mode h p q r = absurd (omega arith)
+arm_three arms (a ∷ []) gateway call mode h p q r = absurd (omega arith)
+arm_three arms (a ∷ b ∷ []) gateway call mode h p q r = absurd (omega arith)
+arm_three arms (a ∷ b ∷ c ∷ []) gateway call mode h p q r =
+    ap (λ (x : Bor (List ℕ)). arm_on arms x.now call.now mode.now) p ∙ ap (λ (x : Bor (List ℕ)). arm_on arms a.now x.now mode.now) q
+    ∙ ap (λ (x : Bor (List ℕ)). arm_on arms a.now b.now x.now) r
+arm_three arms (a ∷ b ∷ c ∷ d ∷ words) gateway call mode h p q r = absurd (omega arith)
 
-pub fail_other : (words : List (Bor (List ℕ))) → length words ≢ 2 → Err Arity ≡ fail_said (now_of words)
-fail_other [] h = refl
-fail_other (a ∷ []) h = refl
-fail_other (a ∷ b ∷ []) h = absurd (h refl)
-fail_other (a ∷ b ∷ c ∷ words) h = refl
+pub fail_other : (fails : ℕ → ℕ → Line) (words : List (Bor (List ℕ))) → length words ≢ 2 → Err Arity ≡ fail_said fails (now_of words)
+fail_other fails [] h = refl
+fail_other fails (a ∷ []) h = refl
+fail_other fails (a ∷ b ∷ []) h = absurd (h refl)
+fail_other fails (a ∷ b ∷ c ∷ words) h = refl
 
-pub fail_two : (words : List (Bor (List ℕ))) (gateway call : Bor (List ℕ)) → length words ≡ 2 → gateway ≡ get_or words 0 gateway → call ≡ get_or words 1 call →
-    fail_on gateway.now call.now ≡ fail_said (now_of words)
-fail_two [] gateway call h p q = absurd (omega arith)
-fail_two (a ∷ []) gateway call h p q = absurd (omega arith)
-fail_two (a ∷ b ∷ []) gateway call h p q =
-    ap (λ (w : Bor (List ℕ)). fail_on w.now call.now) p ∙ ap (λ (n : Bor (List ℕ)). fail_on a.now n.now) q
-fail_two (a ∷ b ∷ c ∷ words) gateway call h p q = absurd (omega arith)
+pub fail_two : (fails : ℕ → ℕ → Line) (words : List (Bor (List ℕ))) (gateway call : Bor (List ℕ)) → length words ≡ 2 → gateway ≡ get_or words 0 gateway → call ≡ get_or words 1 call →
+    fail_on fails gateway.now call.now ≡ fail_said fails (now_of words)
+fail_two fails [] gateway call h p q = absurd (omega arith)
+fail_two fails (a ∷ []) gateway call h p q = absurd (omega arith)
+fail_two fails (a ∷ b ∷ []) gateway call h p q =
+    ap (λ (w : Bor (List ℕ)). fail_on fails w.now call.now) p ∙ ap (λ (n : Bor (List ℕ)). fail_on fails a.now n.now) q
+fail_two fails (a ∷ b ∷ c ∷ words) gateway call h p q = absurd (omega arith)
 
 pub redirect_two : (words : List (Bor (List ℕ))) (gateway cause : Bor (List ℕ)) → length words ≡ 2 → gateway ≡ get_or words 0 gateway → cause ≡ get_or words 1 cause →
     redirect_on gateway.now cause.now ≡ redirect_said (now_of words)

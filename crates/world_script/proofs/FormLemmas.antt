@@ -1,10 +1,9 @@
 -- Lemmas on lines of every form: what a line says is printed as words that say it, and that are no longer.
 use Rattle.std.proofs.Common.{◌≡◌, ℕ, ◌^◌, ◌<◌, Bool, true, false, if◌then◌else◌, List, [], ◌∷◌, ◌++◌, map, Some, None, Result, Ok, Err, refl, ap, sym, ◌∙◌, arith, codes}
 use Rattle.std.specs.Fmt.{decimal}
-use Rattle.std.specs.Str.{bytes_eq}
 use Rattle.hex.specs.Hex.{encode_upper}
 use Rattle.route_filter.specs.Words.{number_up_to, octets_of}
-use Rattle.world_script.specs.Printing.{line_text, mode_text, version_text, words_text}
+use Rattle.world_script.specs.Printing.{armed_text, line_text, mode_text, two_numbers, version_text, words_text}
 use Rattle.world_script.specs.Saying.{arm_said, call_of, fail_said, in_said, packet_said, read_or, read_then, redirect_said, said_by, submit_said}
 use Rattle.world_script.specs.Values.{address_of, mode_of, number_between, number_of, records_of, version_of}
 use Rattle.world_script.specs.declared.fault.InputKind.{InputKind}
@@ -14,9 +13,10 @@ use Rattle.world_script.specs.declared.keyword.Keyword.TheVariants as keyword
 use Rattle.world_script.specs.declared.kind.ScriptKind.{ScriptKind}
 use Rattle.world_script.specs.declared.line.Line.{Line}
 use Rattle.world_script.specs.declared.line.Line.TheVariants as line
+use Rattle.world_script.specs.declared.mode.Mode.{Mode}
 use Rattle.world_script.proofs.AddressLemmas.{address_printed, mode_printed}
 use Rattle.world_script.proofs.OctetLemmas.{datagram_printed, records_printed, version_printed}
-use Rattle.world_script.proofs.SpokenLemmas.{IsSpoken, any_number, at_spoken, close_spoken, limit_spoken, mark_spoken, more_words, offset_spoken, one_word, or_read, ranged, same, then_read}
+use Rattle.world_script.proofs.SpokenLemmas.{IsSpoken, any_number, at_spoken, close_spoken, limit_spoken, mark_spoken, more_words, name, offset_spoken, one_word, or_read, ranged, same, then_read}
 use Rattle.world_script.proofs.ValueLemmas.{any_printed, between_printed, number_printed}
 use Rattle.world_script.proofs.WordLemmas.{AreWords, span}
 
@@ -25,48 +25,45 @@ use Rattle.world_script.proofs.WordLemmas.{AreWords, span}
 call_limit : 18446744073709551615 < 2 ^ 64
 call_limit = omega arith
 
-fail_spoken : (of : ScriptKind) (words : List (List ℕ)) (said : Line) → AreWords words → fail_said words ≡ Ok said →
-    IsSpoken of keyword.Fail words said
-fail_spoken of [] said are h = let no : ⊥ = cc in absurd no
-fail_spoken of (a ∷ []) said are h = let no : ⊥ = cc in absurd no
-fail_spoken of (gateway ∷ call ∷ []) said are h =
+-- a failure, of an area or of a shelf
+fail_spoken : (of : ScriptKind) (form : Keyword) (fails : ℕ → ℕ → Line) →
+    ((g c : ℕ) → line_text of (fails g c) ≡ two_numbers (name form) g c) →
+    (words : List (List ℕ)) (said : Line) → AreWords words → fail_said fails words ≡ Ok said →
+    ((rules : ℕ) (content : List ℕ) → said_by of form rules content words ≡ Ok said) →
+    IsSpoken of form words said
+fail_spoken of form fails text [] said are h again = let no : ⊥ = cc in absurd no
+fail_spoken of form fails text (a ∷ []) said are h again = let no : ⊥ = cc in absurd no
+fail_spoken of form fails text (gateway ∷ call ∷ []) said are h again =
     let p = then_read kind.Number (number_of gateway) _ said h in
-    let q = or_read kind.Number (line.Fail p.0) (call_of call) said p.2 in
+    let q = or_read kind.Number (fails p.0) (call_of call) said p.2 in
     let e = any_printed gateway p.0 p.1 in
     let f = between_printed 1 18446744073709551615 call q.0 call_limit q.1 in
-    same of keyword.Fail (gateway ∷ call ∷ []) said are
-    (ap (λ (l : Line). line_text of l) (sym q.2) ∙ (λ i. codes "fail" ++ words_text (sym e i ∷ sym f i ∷ []))) (λ rules content. h)
-fail_spoken of (a ∷ b ∷ c ∷ words) said are h = let no : ⊥ = cc in absurd no
+    same of form (gateway ∷ call ∷ []) said are
+    (ap (λ (l : Line). line_text of l) (sym q.2) ∙ text p.0 q.0
+    ∙ (λ i. name form ++ words_text (sym e i ∷ sym f i ∷ []))) again
+fail_spoken of form fails text (a ∷ b ∷ c ∷ words) said are h again = let no : ⊥ = cc in absurd no
 
-arm_of_mode : (of : ScriptKind) (gateway call word : List ℕ) (said : Line) → AreWords (gateway ∷ call ∷ word ∷ []) →
-    read_then kind.Number (number_of gateway)
-    (λ gateway. read_then kind.Number (call_of call) (λ call. read_or kind.Number (line.Arm gateway call) (mode_of word))) ≡ Ok said →
-    ((rules : ℕ) (content : List ℕ) → said_by of keyword.Arm rules content (gateway ∷ call ∷ word ∷ []) ≡ Ok said) →
-    IsSpoken of keyword.Arm (gateway ∷ call ∷ word ∷ []) said
-arm_of_mode of gateway call word said are h again =
+-- a stop, of an area or of a shelf
+arm_spoken : (of : ScriptKind) (form : Keyword) (arms : ℕ → ℕ → Mode → Line) →
+    ((g c : ℕ) (m : Mode) → line_text of (arms g c m) ≡ armed_text (name form) g c m) →
+    (words : List (List ℕ)) (said : Line) → AreWords words → arm_said arms words ≡ Ok said →
+    ((rules : ℕ) (content : List ℕ) → said_by of form rules content words ≡ Ok said) →
+    IsSpoken of form words said
+arm_spoken of form arms text [] said are h again = let no : ⊥ = cc in absurd no
+arm_spoken of form arms text (a ∷ []) said are h again = let no : ⊥ = cc in absurd no
+arm_spoken of form arms text (a ∷ b ∷ []) said are h again = let no : ⊥ = cc in absurd no
+arm_spoken of form arms text (gateway ∷ call ∷ word ∷ []) said are h again =
     let p = then_read kind.Number (number_of gateway) _ said h in
     let q = then_read kind.Number (call_of call) _ said p.2 in
-    let r = or_read kind.Number (line.Arm p.0 q.0) (mode_of word) said q.2 in
+    let r = or_read kind.Number (arms p.0 q.0) (mode_of word) said q.2 in
     let e = any_printed gateway p.0 p.1 in
     let f = between_printed 1 18446744073709551615 call q.0 call_limit q.1 in
     let g = mode_printed word r.0 r.1 in
-    same of keyword.Arm (gateway ∷ call ∷ word ∷ []) said are
-    (ap (λ (l : Line). line_text of l) (sym r.2) ∙ more_words (codes "arm") (decimal p.0 ∷ decimal q.0 ∷ []) (mode_text r.0 ∷ [])
-    ∙ (λ i. codes "arm" ++ words_text (sym e i ∷ sym f i ∷ sym g i ∷ []))) again
-
-unless_rot : (rot : Bool) (r : Result Line InputKind) (said : Line) →
-    (if rot then Err kind.NotBuilt else r) ≡ Ok said → r ≡ Ok said
-unless_rot true r said h = let no : ⊥ = cc in absurd no
-unless_rot false r said h = h
-
-arm_spoken : (of : ScriptKind) (words : List (List ℕ)) (said : Line) → AreWords words → arm_said words ≡ Ok said →
-    IsSpoken of keyword.Arm words said
-arm_spoken of [] said are h = let no : ⊥ = cc in absurd no
-arm_spoken of (a ∷ []) said are h = let no : ⊥ = cc in absurd no
-arm_spoken of (a ∷ b ∷ []) said are h = let no : ⊥ = cc in absurd no
-arm_spoken of (gateway ∷ call ∷ word ∷ []) said are h =
-    arm_of_mode of gateway call word said are (unless_rot (bytes_eq word (codes "rot")) _ said h) (λ rules content. h)
-arm_spoken of (a ∷ b ∷ c ∷ d ∷ words) said are h = let no : ⊥ = cc in absurd no
+    same of form (gateway ∷ call ∷ word ∷ []) said are
+    (ap (λ (l : Line). line_text of l) (sym r.2) ∙ text p.0 q.0 r.0
+    ∙ more_words (name form) (decimal p.0 ∷ decimal q.0 ∷ []) (mode_text r.0 ∷ [])
+    ∙ (λ i. name form ++ words_text (sym e i ∷ sym f i ∷ sym g i ∷ []))) again
+arm_spoken of form arms text (a ∷ b ∷ c ∷ d ∷ words) said are h again = let no : ⊥ = cc in absurd no
 
 redirect_spoken : (of : ScriptKind) (words : List (List ℕ)) (said : Line) → AreWords words →
     redirect_said words ≡ Ok said → IsSpoken of keyword.Redirect words said
@@ -194,7 +191,13 @@ spoken of keyword.Stop rules content words said other are h =
     any_number of keyword.Stop line.Stop (λ m. refl) words said are h (λ r c. h)
 spoken of keyword.Open rules content words said other are h =
     any_number of keyword.Open line.Open (λ m. refl) words said are h (λ r c. h)
-spoken of keyword.Arm rules content words said other are h = arm_spoken of words said are h
-spoken of keyword.Fail rules content words said other are h = fail_spoken of words said are h
+spoken of keyword.Arm rules content words said other are h =
+    arm_spoken of keyword.Arm line.Arm (λ g c m. refl) words said are h (λ r c. h)
+spoken of keyword.Fail rules content words said other are h =
+    fail_spoken of keyword.Fail line.Fail (λ g c. refl) words said are h (λ r c. h)
+spoken of keyword.ArmShelf rules content words said other are h =
+    arm_spoken of keyword.ArmShelf line.ArmShelf (λ g c m. refl) words said are h (λ r c. h)
+spoken of keyword.FailShelf rules content words said other are h =
+    fail_spoken of keyword.FailShelf line.FailShelf (λ g c. refl) words said are h (λ r c. h)
 spoken of keyword.Settle rules content words said other are h =
     one_word of keyword.Settle line.Settle refl (λ r c. refl) words said h

@@ -62,8 +62,9 @@ gateway_named word form h =
     is_named word (codes "commit") form keyword.Commit _ refl (is_named word (codes "write") form keyword.Write _ refl
     (is_named word (codes "redirect") form keyword.Redirect _ refl (is_named word (codes "stop") form keyword.Stop _ refl
     (is_named word (codes "open") form keyword.Open _ refl (is_named word (codes "arm") form keyword.Arm _ refl
-    (is_named word (codes "fail") form keyword.Fail _ refl (is_named word (codes "settle") form keyword.Settle _ refl
-    (no_form word form)))))))) h
+    (is_named word (codes "fail") form keyword.Fail _ refl (is_named word (codes "armshelf") form keyword.ArmShelf _ refl
+    (is_named word (codes "failshelf") form keyword.FailShelf _ refl
+    (is_named word (codes "settle") form keyword.Settle _ refl (no_form word form)))))))))) h
 
 serve_named : (word : List ℕ) (form : Keyword) → serve_form word ≡ Some form → word ≡ name form
 serve_named word form h =
@@ -129,6 +130,8 @@ names_show keyword.Stop rest = refl
 names_show keyword.Open rest = refl
 names_show keyword.Arm rest = refl
 names_show keyword.Fail rest = refl
+names_show keyword.ArmShelf rest = refl
+names_show keyword.FailShelf rest = refl
 names_show keyword.Settle rest = refl
 
 -- After these lines the line's text says it.

@@ -1,8 +1,7 @@
 -- Lemmas on scripts that are read: settings stand before all other lines.
-use Rattle.std.proofs.Common.{◌≡◌, ℕ, ◌+◌, ◌&&◌, ◌||◌, not, nat_lt, Bool, true, false, if◌then◌else◌, List, [], ◌∷◌, ◌++◌, length, Option, Some, None, Result, Ok, Err, refl, ap, subst, ◌∙◌, codes}
+use Rattle.std.proofs.Common.{◌≡◌, ℕ, ◌+◌, ◌&&◌, ◌||◌, not, nat_lt, Bool, true, false, if◌then◌else◌, List, [], ◌∷◌, ◌++◌, length, Option, Some, None, Result, Ok, Err, refl, ap, subst, ◌∙◌}
 use Rattle.std.proofs.lemmas.List.Folds.{list_any-append}
 use Rattle.std.specs.List.{list_any}
-use Rattle.std.specs.Str.{bytes_eq}
 use Rattle.route_filter.specs.Words.{number_up_to, octets_of, words_of}
 use Rattle.world_script.specs.Forms.{is_setting, keyword_of}
 use Rattle.world_script.specs.Saying.{arm_said, at_said, call_of, fail_said, in_said, last_moment, one_gateway, one_number, read_or, read_then, redirect_said, said_as, said_by, submit_said, word_said}
@@ -17,6 +16,7 @@ use Rattle.world_script.specs.declared.keyword.Keyword.TheVariants as keyword
 use Rattle.world_script.specs.declared.kind.ScriptKind.{ScriptKind}
 use Rattle.world_script.specs.declared.line.Line.{Line}
 use Rattle.world_script.specs.declared.line.Line.TheVariants as line
+use Rattle.world_script.specs.declared.mode.Mode.{Mode}
 use Rattle.world_script.specs.declared.progress.Progress.{Progress}
 
 -- Lines of forms that are no settings.
@@ -76,26 +76,24 @@ redirect_acts (gateway ∷ cause ∷ to ∷ []) =
     or_acts kind.Number (λ to. line.Redirect gateway cause (Some to)) (number_of to) (λ x. refl)))
 redirect_acts (a ∷ b ∷ c ∷ d ∷ words) = refl
 
-arm_acts : (words : List (List ℕ)) → acts (arm_said words) ≡ true
-arm_acts [] = refl
-arm_acts (a ∷ []) = refl
-arm_acts (a ∷ b ∷ []) = refl
-arm_acts (gateway ∷ call ∷ mode ∷ []) = by (bytes_eq mode (codes "rot"))
-  where
-    by : (rot : Bool) → acts (if rot then Err kind.NotBuilt else read_then kind.Number (number_of gateway) (λ gateway.
-        read_then kind.Number (call_of call) (λ call. read_or kind.Number (line.Arm gateway call) (mode_of mode)))) ≡ true
-    by true = refl
-    by false =
-        then_acts kind.Number (number_of gateway) _ (λ gateway. then_acts kind.Number (call_of call) _ (λ call.
-        or_acts kind.Number (line.Arm gateway call) (mode_of mode) (λ x. refl)))
-arm_acts (a ∷ b ∷ c ∷ d ∷ words) = refl
+arm_acts : (arms : ℕ → ℕ → Mode → Line) → ((g c : ℕ) (m : Mode) → is_setting_line (arms g c m) ≡ false) →
+    (words : List (List ℕ)) → acts (arm_said arms words) ≡ true
+arm_acts arms are [] = refl
+arm_acts arms are (a ∷ []) = refl
+arm_acts arms are (a ∷ b ∷ []) = refl
+arm_acts arms are (gateway ∷ call ∷ mode ∷ []) =
+    then_acts kind.Number (number_of gateway) _ (λ gateway. then_acts kind.Number (call_of call) _ (λ call.
+    or_acts kind.Number (arms gateway call) (mode_of mode) (are gateway call)))
+arm_acts arms are (a ∷ b ∷ c ∷ d ∷ words) = refl
 
-fail_acts : (words : List (List ℕ)) → acts (fail_said words) ≡ true
-fail_acts [] = refl
-fail_acts (a ∷ []) = refl
-fail_acts (gateway ∷ call ∷ []) =
-    then_acts kind.Number (number_of gateway) _ (λ gateway. or_acts kind.Number (line.Fail gateway) (call_of call) (λ x. refl))
-fail_acts (a ∷ b ∷ c ∷ words) = refl
+fail_acts : (fails : ℕ → ℕ → Line) → ((g c : ℕ) → is_setting_line (fails g c) ≡ false) →
+    (words : List (List ℕ)) → acts (fail_said fails words) ≡ true
+fail_acts fails are [] = refl
+fail_acts fails are (a ∷ []) = refl
+fail_acts fails are (gateway ∷ call ∷ []) =
+    then_acts kind.Number (number_of gateway) _ (λ gateway.
+    or_acts kind.Number (fails gateway) (call_of call) (are gateway))
+fail_acts fails are (a ∷ b ∷ c ∷ words) = refl
 
 said_acts : (of : ScriptKind) (form : Keyword) (rules : ℕ) (content : List ℕ) (words : List (List ℕ)) → is_setting form ≡ false
     → acts (said_by of form rules content words) ≡ true
@@ -116,8 +114,10 @@ said_acts of keyword.Write rules content words h = as_acts line.Write (one_numbe
 said_acts of keyword.Redirect rules content words h = redirect_acts words
 said_acts of keyword.Stop rules content words h = as_acts line.Stop (one_number words) (λ x. refl)
 said_acts of keyword.Open rules content words h = as_acts line.Open (one_number words) (λ x. refl)
-said_acts of keyword.Arm rules content words h = arm_acts words
-said_acts of keyword.Fail rules content words h = fail_acts words
+said_acts of keyword.Arm rules content words h = arm_acts line.Arm (λ g c m. refl) words
+said_acts of keyword.Fail rules content words h = fail_acts line.Fail (λ g c. refl) words
+said_acts of keyword.ArmShelf rules content words h = arm_acts line.ArmShelf (λ g c m. refl) words
+said_acts of keyword.FailShelf rules content words h = fail_acts line.FailShelf (λ g c. refl) words
 said_acts of keyword.Settle rules content words h = word_acts line.Settle words refl
 said_acts of keyword.Reserve rules content words h = absurd (cc)
 said_acts of keyword.Limit rules content words h = absurd (cc)

@@ -48,6 +48,8 @@ name keyword.Stop = codes "stop"
 name keyword.Open = codes "open"
 name keyword.Arm = codes "arm"
 name keyword.Fail = codes "fail"
+name keyword.ArmShelf = codes "armshelf"
+name keyword.FailShelf = codes "failshelf"
 name keyword.Settle = codes "settle"
 
 -- A line of this form is printed as words after the first that say it again, and that are no longer than these.

@@ -53,6 +53,8 @@ gateway_form word =
     else if bytes_eq word (codes "open") then Some keyword.Open
     else if bytes_eq word (codes "arm") then Some keyword.Arm
     else if bytes_eq word (codes "fail") then Some keyword.Fail
+    else if bytes_eq word (codes "armshelf") then Some keyword.ArmShelf
+    else if bytes_eq word (codes "failshelf") then Some keyword.FailShelf
     else if bytes_eq word (codes "settle") then Some keyword.Settle
     else None
 
@@ -75,11 +77,10 @@ form_in script.Serve word = serve_form word
 abbrev pub is_later : List ℕ → Bool
 is_later word = bytes_eq word (codes "renew")
 
--- in a replay also: shelves that stop or fail, nodes with a journal of their own, standbys
+-- in a replay also: nodes with a journal of their own, standbys
 abbrev pub is_later_in_replay : List ℕ → Bool
 is_later_in_replay word =
-    bytes_eq word (codes "armshelf") || bytes_eq word (codes "failshelf")
-    || bytes_eq word (codes "store") || bytes_eq word (codes "nodestop") || bytes_eq word (codes "nodeopen")
+    bytes_eq word (codes "store") || bytes_eq word (codes "nodestop") || bytes_eq word (codes "nodeopen")
     || bytes_eq word (codes "nodearm") || bytes_eq word (codes "nodefail")
     || bytes_eq word (codes "standby") || bytes_eq word (codes "ship") || bytes_eq word (codes "takeover")
 

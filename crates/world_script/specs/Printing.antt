@@ -41,6 +41,7 @@ version_text version = encode_upper (version / 256 ∷ version % 256 ∷ [])
 abbrev pub mode_text : Mode → List ℕ
 mode_text mode.Old = codes "old"
 mode_text mode.New = codes "new"
+mode_text mode.Rot = codes "rot"
 
 -- Lines, without the line feed.
 
@@ -54,6 +55,9 @@ one_number name n = name ++ words_text (decimal n ∷ [])
 
 abbrev pub two_numbers : List ℕ → ℕ → ℕ → List ℕ
 two_numbers name n m = name ++ words_text (decimal n ∷ decimal m ∷ [])
+
+abbrev pub armed_text : List ℕ → ℕ → ℕ → Mode → List ℕ
+armed_text name gateway call mode = two_numbers name gateway call ++ words_text (mode_text mode ∷ [])
 
 -- the number of the gateway in a replay; elsewhere there is one, which isn't named
 abbrev pub gateway_text : ScriptKind → List ℕ → ℕ → List ℕ
@@ -95,8 +99,10 @@ line_text of (line.Write gateway) = one_number (codes "write") gateway
 line_text of (line.Redirect gateway cause to) = redirect_text gateway cause to
 line_text of (line.Stop gateway) = one_number (codes "stop") gateway
 line_text of (line.Open gateway) = one_number (codes "open") gateway
-line_text of (line.Arm gateway call mode) = two_numbers (codes "arm") gateway call ++ words_text (mode_text mode ∷ [])
+line_text of (line.Arm gateway call mode) = armed_text (codes "arm") gateway call mode
 line_text of (line.Fail gateway call) = two_numbers (codes "fail") gateway call
+line_text of (line.ArmShelf gateway call mode) = armed_text (codes "armshelf") gateway call mode
+line_text of (line.FailShelf gateway call) = two_numbers (codes "failshelf") gateway call
 line_text of line.Settle = codes "settle"
 
 -- lines, each with a line feed

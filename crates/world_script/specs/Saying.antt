@@ -11,6 +11,7 @@ use Rattle.world_script.specs.declared.kind.ScriptKind.{ScriptKind}
 use Rattle.world_script.specs.declared.kind.ScriptKind.TheVariants as script
 use Rattle.world_script.specs.declared.line.Line.{Line}
 use Rattle.world_script.specs.declared.line.Line.TheVariants as line
+use Rattle.world_script.specs.declared.mode.Mode.{Mode}
 use Rattle.world_script.specs.declared.fault.InputKind.{InputKind}
 use Rattle.world_script.specs.declared.fault.InputKind.TheVariants as kind
 
@@ -128,25 +129,24 @@ redirect_said _ = Err kind.Arity
 abbrev pub call_of : List ℕ → Option ℕ
 call_of word = number_between 1 18446744073709551615 word
 
--- `arm G K MODE`: the mode `rot` isn't built yet
-abbrev pub arm_on : List ℕ → List ℕ → List ℕ → Result Line InputKind
-arm_on gateway call mode =
-    if bytes_eq mode (codes "rot") then Err kind.NotBuilt
-    else read_then kind.Number (number_of gateway) (λ gateway. read_then kind.Number (call_of call) (λ call.
-    read_or kind.Number (line.Arm gateway call) (mode_of mode)))
+-- `arm G K MODE`, or `armshelf G K MODE` of a shelf
+abbrev pub arm_on : (ℕ → ℕ → Mode → Line) → List ℕ → List ℕ → List ℕ → Result Line InputKind
+arm_on arms gateway call mode =
+    read_then kind.Number (number_of gateway) (λ gateway. read_then kind.Number (call_of call) (λ call.
+    read_or kind.Number (arms gateway call) (mode_of mode)))
 
-abbrev pub arm_said : List (List ℕ) → Result Line InputKind
-arm_said (gateway ∷ call ∷ mode ∷ []) = arm_on gateway call mode
-arm_said _ = Err kind.Arity
+abbrev pub arm_said : (ℕ → ℕ → Mode → Line) → List (List ℕ) → Result Line InputKind
+arm_said arms (gateway ∷ call ∷ mode ∷ []) = arm_on arms gateway call mode
+arm_said arms _ = Err kind.Arity
 
--- `fail G K`
-abbrev pub fail_on : List ℕ → List ℕ → Result Line InputKind
-fail_on gateway call =
-    read_then kind.Number (number_of gateway) (λ gateway. read_or kind.Number (line.Fail gateway) (call_of call))
+-- `fail G K`, or `failshelf G K` of a shelf
+abbrev pub fail_on : (ℕ → ℕ → Line) → List ℕ → List ℕ → Result Line InputKind
+fail_on fails gateway call =
+    read_then kind.Number (number_of gateway) (λ gateway. read_or kind.Number (fails gateway) (call_of call))
 
-abbrev pub fail_said : List (List ℕ) → Result Line InputKind
-fail_said (gateway ∷ call ∷ []) = fail_on gateway call
-fail_said _ = Err kind.Arity
+abbrev pub fail_said : (ℕ → ℕ → Line) → List (List ℕ) → Result Line InputKind
+fail_said fails (gateway ∷ call ∷ []) = fail_on fails gateway call
+fail_said fails _ = Err kind.Arity
 
 -- what a line of this form says, by its words after the first, where so many rules stand before it
 abbrev pub said_by : ScriptKind → Keyword → ℕ → List ℕ → List (List ℕ) → Result Line InputKind
@@ -174,6 +174,8 @@ said_by of keyword.Write rules content words = said_as line.Write (one_number wo
 said_by of keyword.Redirect rules content words = redirect_said words
 said_by of keyword.Stop rules content words = said_as line.Stop (one_number words)
 said_by of keyword.Open rules content words = said_as line.Open (one_number words)
-said_by of keyword.Arm rules content words = arm_said words
-said_by of keyword.Fail rules content words = fail_said words
+said_by of keyword.Arm rules content words = arm_said line.Arm words
+said_by of keyword.Fail rules content words = fail_said line.Fail words
+said_by of keyword.ArmShelf rules content words = arm_said line.ArmShelf words
+said_by of keyword.FailShelf rules content words = fail_said line.FailShelf words
 said_by of keyword.Settle rules content words = word_said line.Settle words

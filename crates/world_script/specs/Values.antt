@@ -70,9 +70,10 @@ records_of (word ∷ words) = do
   records ← records_of words
   Some (record_octets ∷ records)
 
--- what a stop of an area leaves of the octets that weren't synced
+-- what a stop of an area or a shelf leaves of the octets that weren't synced
 abbrev pub mode_of : List ℕ → Option Mode
 mode_of word =
     if bytes_eq word (codes "old") then Some mode.Old
     else if bytes_eq word (codes "new") then Some mode.New
+    else if bytes_eq word (codes "rot") then Some mode.Rot
     else None

@@ -7,7 +7,7 @@ pub enum InputKind {
     TooLong,
     /// The first word isn't one of a script's, or an octet isn't a printable one of ASCII.
     Word,
-    /// The line is of a form that isn't built yet; so is one of the mode `rot`, but that is tested after `Arity`.
+    /// The line is of a form that isn't built yet.
     NotBuilt,
     /// It stands after `end`.
     After,

@@ -33,6 +33,8 @@ pub enum Keyword {
     Open,
     Arm,
     Fail,
+    ArmShelf,
+    FailShelf,
     Settle,
 }
 
@@ -186,6 +188,10 @@ fn gateway_form(word: &[u8]) -> Option<Keyword>
         Some(Keyword::Arm)
     } else if word == b"fail".as_slice() {
         Some(Keyword::Fail)
+    } else if word == b"armshelf".as_slice() {
+        Some(Keyword::ArmShelf)
+    } else if word == b"failshelf".as_slice() {
+        Some(Keyword::FailShelf)
     } else if word == b"settle".as_slice() {
         Some(Keyword::Settle)
     } else {
@@ -213,9 +219,7 @@ fn is_later(word: &[u8]) -> bool
 fn is_later_in_replay(word: &[u8]) -> bool
     ensures { result ≡ is_later_in_replay word.now }
 {
-    word == b"armshelf".as_slice()
-        || word == b"failshelf".as_slice()
-        || word == b"store".as_slice()
+    word == b"store".as_slice()
         || word == b"nodestop".as_slice()
         || word == b"nodeopen".as_slice()
         || word == b"nodearm".as_slice()

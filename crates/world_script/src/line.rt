@@ -127,6 +127,18 @@ pub enum Line {
         gateway: u64,
         call: u64,
     },
+    /// A gateway stops in this call of its shelf from now on, counted from 1: a beginning of a file, a write, a sync or
+    /// a seal.
+    ArmShelf {
+        gateway: u64,
+        call: u64,
+        mode: Mode,
+    },
+    /// This call of a gateway's shelf from now on fails.
+    FailShelf {
+        gateway: u64,
+        call: u64,
+    },
     /// Nothing is armed any more, and each gateway runs, closes its files and writes them.
     Settle,
 }

@@ -4,7 +4,7 @@ ghost use Rattle.std.specs.Prelude.{◌≡◌, ◌<◌, ◌++◌, ◌∷◌, [],
 ghost use Rattle.std.specs.Fmt.{decimal};
 ghost use Rattle.hex.specs.Hex.{encode_upper};
 ghost use Rattle.world_script.specs.Script.{script_in};
-ghost use Rattle.world_script.specs.Printing.{address_text, fitted, gateway_text, hours_text, line_text, mode_text, offset_text, one_number, pair_text, printed, redirect_text, two_digits_text, two_numbers, version_text, words_text};
+ghost use Rattle.world_script.specs.Printing.{address_text, armed_text, fitted, gateway_text, hours_text, line_text, mode_text, offset_text, one_number, pair_text, printed, redirect_text, two_digits_text, two_numbers, version_text, words_text};
 
 use crate::kind::ScriptKind;
 use crate::line::Line;
@@ -110,8 +110,16 @@ fn append_line(
             gateway,
             call,
             mode,
-        } => append_armed(alloc, text, *gateway, *call, *mode),
+        } => append_armed(alloc, text, b"arm", *gateway, *call, *mode),
         Line::Fail { gateway, call } => append_two(alloc, text, b"fail", *gateway, *call),
+        Line::ArmShelf {
+            gateway,
+            call,
+            mode,
+        } => append_armed(alloc, text, b"armshelf", *gateway, *call, *mode),
+        Line::FailShelf { gateway, call } => {
+            append_two(alloc, text, b"failshelf", *gateway, *call)
+        }
         Line::Settle => append(text, b"settle"),
     }
 }
@@ -271,21 +279,22 @@ fn append_redirect(
     }
 }
 
-/// `arm G K MODE`
+/// `NAME G K MODE`
 fn append_armed(
     alloc: Global,
     text: &mut Vec<u8>,
+    name: &[u8],
     gateway: u64,
     call: u64,
     mode: Mode,
 ) -> Result<(), NoMemory>
-    ensures { OnOk result (text.new.items ≡ text.old.items
-        ++ two_numbers (codes "arm") gateway call ++ words_text (mode_text mode ∷ [])) }
+    ensures { OnOk result (text.new.items ≡ text.old.items ++ armed_text name.now gateway call mode) }
 {
-    append_two(alloc, text, b"arm", gateway, call)?;
+    append_two(alloc, text, name, gateway, call)?;
     match mode {
         Mode::Old => append_word(text, b"old"),
         Mode::New => append_word(text, b"new"),
+        Mode::Rot => append_word(text, b"rot"),
     }
 }
 

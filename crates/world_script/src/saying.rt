@@ -1,11 +1,13 @@
-ghost use Rattle.std.specs.Prelude.{◌≡◌, ◌≤◌, map, IfOk};
+ghost use Rattle.std.specs.Prelude.{◌≡◌, ◌≤◌, ℕ, map, IfOk};
 ghost use Rattle.world_script.specs.Outcome.{Says};
-ghost use Rattle.world_script.specs.Saying.{arm_on, arm_said, at_said, datagram_said, fail_on, fail_said, in_said, limit_on, limit_said, offset_said, one_between, one_gateway, one_number, packet_said, redirect_on, redirect_said, redirect_to, rule_said, ruled, said_by, submit_said, word_said};
+ghost use Rattle.world_script.specs.declared.line.Line.TheVariants as line;
+ghost use Rattle.world_script.specs.Saying.{arm_on, arm_said, at_said, datagram_said, fail_on, fail_said, in_said, limit_on, limit_said, offset_said, one_between, one_gateway, one_number, packet_said, redirect_on, redirect_said, redirect_to, rule_said, ruled, said_as, said_by, submit_said, word_said};
 
 use crate::fault::{InputKind, LineFault};
 use crate::keyword::Keyword;
 use crate::kind::ScriptKind;
 use crate::line::Line;
+use crate::mode::Mode;
 use crate::values::{address, any_number, mode, number_between, offset, records, version};
 use gw_base::{Moment, Octets};
 use route_filter::{Rule, Rules, number, octets};
@@ -22,7 +24,7 @@ pub fn said_by(
 ) -> Result<Line, LineFault>
     ensures { Says (said_by kind form rules content.now (map (λ word. word.now) words.now)) result }
 {
-    let said = match form {
+    Ok(match form {
         Keyword::In => return datagram(alloc, words),
         Keyword::Rule => return rule(alloc, rules, content, words),
         Keyword::Submit => return submit(alloc, words),
@@ -79,9 +81,10 @@ pub fn said_by(
         },
         Keyword::Arm => arm(words)?,
         Keyword::Fail => fail(words)?,
+        Keyword::ArmShelf => arm_shelf(words)?,
+        Keyword::FailShelf => fail_shelf(words)?,
         Keyword::Settle => word(Line::Settle, words)?,
-    };
-    Ok(said)
+    })
 }
 
 /// A line that is one word.
@@ -312,51 +315,88 @@ fn redirect_to(gateway: &[u8], cause: &[u8], to: &[u8]) -> Result<Line, InputKin
 }
 
 /// `arm G K MODE`
-#[tactic(auto, using(crate::proofs::ArityLemmas::arm_other, crate::proofs::ArityLemmas::arm_three))]
 fn arm(words: &[&[u8]]) -> Result<Line, InputKind>
-    ensures { result ≡ arm_said (map (λ word. word.now) words.now) }
+    ensures { result ≡ arm_said line.Arm (map (λ word. word.now) words.now) }
+{
+    let (gateway, call, mode) = stop(words)?;
+    Ok(Line::Arm {
+        gateway,
+        call,
+        mode,
+    })
+}
+
+/// `armshelf G K MODE`
+fn arm_shelf(words: &[&[u8]]) -> Result<Line, InputKind>
+    ensures { result ≡ arm_said line.ArmShelf (map (λ word. word.now) words.now) }
+{
+    let (gateway, call, mode) = stop(words)?;
+    Ok(Line::ArmShelf {
+        gateway,
+        call,
+        mode,
+    })
+}
+
+/// The words of a stop: a gateway, a call from 1, and a mode.
+#[tactic(auto, using(crate::proofs::ArityLemmas::arm_other, crate::proofs::ArityLemmas::arm_three))]
+fn stop(words: &[&[u8]]) -> Result<(u64, u64, Mode), InputKind>
+    ensures { (arms : ℕ → ℕ → Mode → Line) → said_as (λ w. arms w.0 w.1 w.2) result
+        ≡ arm_said arms (map (λ word. word.now) words.now) }
 {
     if words.len() != 3 {
         return Err(InputKind::Arity);
     }
-    arm_on(words[0], words[1], words[2])
+    stop_in(words[0], words[1], words[2])
 }
 
-fn arm_on(gateway: &[u8], call: &[u8], left: &[u8]) -> Result<Line, InputKind>
-    ensures { result ≡ arm_on gateway.now call.now left.now }
+fn stop_in(gateway: &[u8], call: &[u8], left: &[u8]) -> Result<(u64, u64, Mode), InputKind>
+    ensures { (arms : ℕ → ℕ → Mode → Line) → said_as (λ w. arms w.0 w.1 w.2) result
+        ≡ arm_on arms gateway.now call.now left.now }
 {
-    if left == b"rot".as_slice() {
-        return Err(InputKind::NotBuilt);
-    }
     let gateway = any_number(gateway).ok_or(InputKind::Number)?;
     let call = number_between(1, u64::MAX, call).ok_or(InputKind::Number)?;
     match mode(left) {
-        Some(mode) => Ok(Line::Arm {
-            gateway,
-            call,
-            mode,
-        }),
+        Some(mode) => Ok((gateway, call, mode)),
         None => Err(InputKind::Number),
     }
 }
 
 /// `fail G K`
-#[tactic(auto, using(crate::proofs::ArityLemmas::fail_other, crate::proofs::ArityLemmas::fail_two))]
 fn fail(words: &[&[u8]]) -> Result<Line, InputKind>
-    ensures { result ≡ fail_said (map (λ word. word.now) words.now) }
+    ensures { result ≡ fail_said line.Fail (map (λ word. word.now) words.now) }
+{
+    let (gateway, call) = failure(words)?;
+    Ok(Line::Fail { gateway, call })
+}
+
+/// `failshelf G K`
+fn fail_shelf(words: &[&[u8]]) -> Result<Line, InputKind>
+    ensures { result ≡ fail_said line.FailShelf (map (λ word. word.now) words.now) }
+{
+    let (gateway, call) = failure(words)?;
+    Ok(Line::FailShelf { gateway, call })
+}
+
+/// The words of a failure: a gateway, and a call from 1.
+#[tactic(auto, using(crate::proofs::ArityLemmas::fail_other, crate::proofs::ArityLemmas::fail_two))]
+fn failure(words: &[&[u8]]) -> Result<(u64, u64), InputKind>
+    ensures { (fails : ℕ → ℕ → Line) → said_as (λ w. fails w.0 w.1) result
+        ≡ fail_said fails (map (λ word. word.now) words.now) }
 {
     if words.len() != 2 {
         return Err(InputKind::Arity);
     }
-    fail_on(words[0], words[1])
+    failure_in(words[0], words[1])
 }
 
-fn fail_on(gateway: &[u8], call: &[u8]) -> Result<Line, InputKind>
-    ensures { result ≡ fail_on gateway.now call.now }
+fn failure_in(gateway: &[u8], call: &[u8]) -> Result<(u64, u64), InputKind>
+    ensures { (fails : ℕ → ℕ → Line) → said_as (λ w. fails w.0 w.1) result
+        ≡ fail_on fails gateway.now call.now }
 {
     let gateway = any_number(gateway).ok_or(InputKind::Number)?;
     match number_between(1, u64::MAX, call) {
-        Some(call) => Ok(Line::Fail { gateway, call }),
+        Some(call) => Ok((gateway, call)),
         None => Err(InputKind::Number),
     }
 }

@@ -122,6 +122,8 @@ pub fn mode(word: &[u8]) -> Option<Mode>
         Some(Mode::Old)
     } else if word == b"new".as_slice() {
         Some(Mode::New)
+    } else if word == b"rot".as_slice() {
+        Some(Mode::Rot)
     } else {
         None
     }
