@@ -26,14 +26,14 @@ use Rattle.once_core.specs.declared.message.Message.{Message}
 use Rattle.once_core.specs.declared.message.Waiting.{Waiting}
 use Rattle.replay_world.specs.Called.{AfterCall, IsCalled, firm_in, moved_after, taken_of}
 use Rattle.replay_world.specs.Taking.{HasAnswered, dropped_as, IsAnswered, IsTaken, taking, waits_then}
-use Rattle.replay_world.specs.Device.{disarmed, entries_kept, is_stop, machine_after, machine_with, sequel_on}
+use Rattle.replay_world.specs.Device.{entries_kept, is_stop, machine_after, machine_with, sequel_on}
 use Rattle.replay_world.specs.Moves.{GoesAsArmed, HasMoved, came_of, ending_notices, moved_by}
 use Rattle.replay_world.specs.Notices.{Notice, Down, Expired}
 use Rattle.replay_world.specs.Setup.{Setup, files_in, rules_in}
 use Rattle.replay_world.specs.Stands.{MachineStands, SiteStands, header_at}
 use Rattle.replay_world.specs.Written.{FilesStand}
 use Rattle.replay_world.specs.Telling.{gateway_notices, notices_by, silence_notices}
-use Rattle.replay_world.specs.Value.{Machine}
+use Rattle.replay_world.specs.Value.{Machine, disarmed}
 use Rattle.replay_world.specs.declared.machine.Came.{Came}
 use Rattle.replay_world.specs.declared.machine.Came.TheVariants.{Went, Failed}
 use Rattle.replay_world.specs.declared.machine.Machine as real
@@ -190,7 +190,7 @@ module _ (setup : Setup) (place : ℕ) (g : Gateway) (m : Machine) (now : ℕ) (
               unreached = none_reached v ws;
               redirects = ap (λ (r : real.Machine). r.redirects) done.2 ∙ has.stands.redirects;
               named = ap (λ (r : real.Machine). r.setup) done.2 ∙ has.stands.named;
-              writes = subst (λ (r : real.Machine). FilesStand (files_in setup place) m.written
+              writes = subst (λ (r : real.Machine). FilesStand (files_in setup place) m.filing
                   (items_of v.firm) r.files) (sym done.2) has.stands.writes;
             };
             sends = done.0

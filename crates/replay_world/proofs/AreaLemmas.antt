@@ -12,7 +12,6 @@ use Rattle.area_disk.specs.declared.plan.Outcome3.TheVariants.{Old}
 use Rattle.area_disk.specs.declared.plan.Plan.{Plan}
 use Rattle.cdr_shelf.specs.declared.memory.MemoryShelf.{MemoryShelf}
 use Rattle.cgf_journal.specs.Trail.{stop_stands}
-use Rattle.file_writer.specs.Files.{AreFilesOf}
 use Rattle.file_writer.specs.Leaving.{AreOpenFiles}
 use Rattle.gateway_book.specs.Items.{items_of}
 use Rattle.gateway_book.specs.Book.{Stays, area_of, value_of}
@@ -27,7 +26,7 @@ use Rattle.once_core.specs.Gateway.{Gateway}
 use Rattle.replay_world.specs.Played.{IsAreaOf, IsHandedOut}
 use Rattle.replay_world.specs.Setup.{Setup, files_in}
 use Rattle.replay_world.specs.Stands.{area_tells, header_at}
-use Rattle.replay_world.specs.Written.{shelf_tells}
+use Rattle.replay_world.specs.Written.{AreSealed, shelf_tells}
 use Rattle.replay_world.specs.Value.{Machine}
 
 -- one that was revived, and for whose calls nothing is armed
@@ -114,8 +113,9 @@ left_kept false w v is = inl (ap (λ (x : BookValue). x.firm) is)
 -- what a gateway hands out, whose area this is
 pub handed_out : (setup : Setup) (place : ℕ) (g : Gateway) (m : Machine) (o : Option MemoryArea) (s : MemoryShelf) →
     MatchOption o ⊥ (IsAreaOf setup place g) →
-    AreFilesOf (files_in setup place) (take m.written (items_of g.book.firm)) (shelf_tells.files s) →
-    AreOpenFiles (files_in setup place) (λ s. 0) (take m.written (items_of g.book.firm)) (shelf_tells.unsealed s) →
+    AreSealed (files_in setup place) (items_of g.book.firm) m.filing.sealed (shelf_tells.files s) →
+    ((n : ℕ) → m.filing.taken ≡ Some n →
+    AreOpenFiles (files_in setup place) (λ s. 0) (take n (items_of g.book.firm)) (shelf_tells.unsealed s)) →
     MatchOption o ⊥ (λ area. IsHandedOut setup place g m area s)
 handed_out setup place g m None s none files unsealed = none
 handed_out setup place g m (Some area) s is files unsealed =

@@ -1,14 +1,11 @@
 -- What a gateway stands for once its area was called and its answers were sent or given up.
 use Rattle.std.proofs.Common.{◌≡◌, ◌∙◌, refl, sym, ap, subst, ℕ, ◌-◌, nat_le, Bool, true, false, not, if◌then◌else◌, List, [], ◌++◌, All, length, map, filter, take, Option, Some, None, arith, length-append}
-use Rattle.std.proofs.lemmas.List.{append-nil, take-append-le, take_all}
+use Rattle.std.proofs.lemmas.List.{append-nil, take_all}
 use Rattle.std.proofs.lemmas.List.Elements.{filter_passes}
 use Rattle.area_disk.specs.Armed.{Armed}
 use Rattle.area_disk.specs.Armed.Armed.{Nothing}
 use Rattle.area_disk.specs.declared.memory.MemoryArea.{MemoryArea}
-use Rattle.file_writer.specs.Files.{AreFilesOf}
-use Rattle.file_writer.specs.Leaving.{AreOpenFiles}
 use Rattle.file_writer.specs.Streams.{Settings}
-use Rattle.file_writer.specs.Writer.{shelf_of}
 use Rattle.gateway_book.specs.Book.{Stays}
 use Rattle.gateway_book.specs.Calls.{Left}
 use Rattle.gateway_book.specs.Filed.{along}
@@ -23,18 +20,23 @@ use Rattle.once_core.specs.Messages.{failing, is_response}
 use Rattle.once_core.specs.declared.message.Message.{Message}
 use Rattle.once_core.specs.declared.message.Waiting.{Waiting}
 use Rattle.replay_world.specs.Called.{AfterCall, BookStands, IsCalled, SiteIsCalled, SiteIsCut, SiteIsDown, firm_in}
-use Rattle.replay_world.specs.Device.{disarmed, entries_kept, is_stop}
+use Rattle.replay_world.specs.Device.{entries_kept, is_stop}
 use Rattle.replay_world.specs.Moves.{HasMoved, came_of}
 use Rattle.replay_world.specs.Setup.{Setup, files_in}
 use Rattle.replay_world.specs.Stands.{MachineStands, SiteStands, StandsUp, area_tells, header_at}
-use Rattle.replay_world.specs.Written.{FilesStand, HasTaken, shelf_tells}
-use Rattle.replay_world.specs.Value.{Machine}
+use Rattle.replay_world.specs.Written.{FilesStand}
+use Rattle.replay_world.specs.Value.{Filing, Machine, disarmed, ended}
 use Rattle.replay_world.specs.declared.files.Files.{Files}
 use Rattle.replay_world.specs.declared.machine.Came.TheVariants.{Went, Failed, Halted}
 use Rattle.replay_world.specs.declared.machine.Machine as real
 use Rattle.replay_world.specs.declared.machine.Sent.{Sent}
 use Rattle.replay_world.specs.declared.site.Site.{Site}
 use Rattle.replay_world.specs.declared.site.Site.TheVariants.{Up, Down}
+
+-- more items change nothing of what was written
+abbrev pub WrittenStays : Type 0
+WrittenStays = (settings : Settings) (f : Filing) (items more : List Item) (r : Files) → FilesStand settings f items r →
+    FilesStand settings f (items ++ more) r
 
 not_true : (b : Bool) → not b ≡ true → b ≡ false
 not_true true is = cc
@@ -88,7 +90,7 @@ module _ (setup : Setup) (place : ℕ) (g : Gateway) (m : Machine) (value : Book
           unreached = none_reached value g.waiting;
           redirects = ap (λ (r : real.Machine). r.redirects) rest ∙ called.redirects;
           named = ap (λ (r : real.Machine). r.setup) rest ∙ called.named;
-          writes = subst (λ (r : real.Machine). FilesStand (files_in setup place) m.written
+          writes = subst (λ (r : real.Machine). FilesStand (files_in setup place) m.filing
               (items_of value.firm) r.files) (sym rest) called.writes;
         };
         sends = due_are
@@ -112,7 +114,7 @@ module _ (setup : Setup) (place : ℕ) (g : Gateway) (m : Machine) (value : Book
       unreached = λ k d h. absurd (omega (arith, h));
       redirects = ap (λ (r : real.Machine). r.redirects) rest ∙ called.redirects;
       named = ap (λ (r : real.Machine). r.setup) rest ∙ called.named;
-      writes = subst (λ (r : real.Machine). FilesStand (files_in setup place) m.written
+      writes = subst (λ (r : real.Machine). FilesStand (files_in setup place) m.filing
           (items_of value.firm) r.files) (sym rest) called.writes;
     };
     sends = told_are
@@ -158,7 +160,7 @@ module _ (setup : Setup) (place : ℕ) (g : Gateway) (m : Machine) (value : Book
     stopped = down;
     down = subst (λ (q : List HistoryEntry). HoldsHistory area_tells (header_at setup place) q fallen.area) (sym is) stands.down;
     is_armed = stands.is_armed;
-    unarmed = refl;
+    unarmed = (refl, refl);
     silent = none;
     size = stands.size;
   }
@@ -167,9 +169,12 @@ module _ (setup : Setup) (place : ℕ) (g : Gateway) (m : Machine) (value : Book
       IsCalled setup place g m value (Stops stands) old →
       ((h : List HistoryEntry) → SiteIsCut setup place h old.site →
       SiteIsDown setup place h new.site × (new.waiting.items ≡ [])) →
-      new ≡ record old { site = new.site; waiting = new.waiting } → told ≡ [] →
+      ((h : List HistoryEntry) (items : List Item) → SiteIsCut setup place h old.site →
+      FilesStand (files_in setup place) m.filing items old.files →
+      FilesStand (files_in setup place) (ended m.filing) items new.files) →
+      new ≡ record old { site = new.site; waiting = new.waiting; files = new.files } → told ≡ [] →
       HasMoved setup place (still (cut (entries_kept stands g) g)) (disarmed m) told new
-  halted stands old new told called cuts rest none =
+  halted stands old new told called cuts ends rest none =
       let h : List HistoryEntry = if stands then value.firm ++ value.rest else value.firm in
       let same = called.cut refl in
       let down = cuts h (site_cut stands old.site called.site) in
@@ -180,9 +185,8 @@ module _ (setup : Setup) (place : ℕ) (g : Gateway) (m : Machine) (value : Book
           unreached = λ k d h. absurd (omega (arith, h));
           redirects = ap (λ (r : real.Machine). r.redirects) rest ∙ called.redirects;
           named = ap (λ (r : real.Machine). r.setup) rest ∙ called.named;
-          writes = subst (λ (r : real.Machine). FilesStand (files_in setup place) m.written
-              (items_of g.book.firm) r.files) (sym rest)
-              (subst (λ (firm : List HistoryEntry). FilesStand (files_in setup place) m.written
+          writes = ends h (items_of g.book.firm) (site_cut stands old.site called.site)
+              (subst (λ (firm : List HistoryEntry). FilesStand (files_in setup place) m.filing
               (items_of firm) old.files) same.0 called.writes);
         };
         sends = none;
@@ -213,34 +217,17 @@ module _ (setup : Setup) (place : ℕ) (g : Gateway) (m : Machine) (value : Book
       came_of s ≡ Halted → sent.came ≡ Halted → sent.messages.items ≡ [] →
       ((h : List HistoryEntry) → SiteIsCut setup place h old.site →
       SiteIsDown setup place h new.site × (new.waiting.items ≡ [])) →
-      new ≡ record old { site = new.site; waiting = new.waiting } → AfterCall setup place g m value s sent new
-  after_halted (GoesOn armed) old new sent called came is none cuts rest = absurd (cc)
-  after_halted (Breaks last) old new sent called came is none cuts rest = absurd (cc)
-  after_halted (Stops stands) old new sent called came is none cuts rest =
-      record { moved = halted stands old new sent.messages.items called cuts rest none; came = is }
+      ((h : List HistoryEntry) (items : List Item) → SiteIsCut setup place h old.site →
+      FilesStand (files_in setup place) m.filing items old.files →
+      FilesStand (files_in setup place) (ended m.filing) items new.files) →
+      new ≡ record old { site = new.site; waiting = new.waiting; files = new.files } →
+      AfterCall setup place g m value s sent new
+  after_halted (GoesOn armed) old new sent called came is none cuts ends rest = absurd (cc)
+  after_halted (Breaks last) old new sent called came is none cuts ends rest = absurd (cc)
+  after_halted (Stops stands) old new sent called came is none cuts ends rest =
+      record { moved = halted stands old new sent.messages.items called cuts ends rest none; came = is }
 
   -- The book was called.
-
-  pub writes_more : (settings : Settings) (written : ℕ) (items more : List Item) (f : Files) →
-      FilesStand settings written items f → FilesStand settings written (items ++ more) f
-  writes_more settings written items more f stands =
-      let writes = stands.writes in
-      let same : take written items ≡ take written (items ++ more) = sym (take-append-le written items more writes.most) in
-      record {
-        writes = record {
-          settings_are = writes.settings_are;
-          is_armed = writes.is_armed;
-          files = subst (λ (xs : List Item). AreFilesOf settings xs (shelf_tells.files (shelf_of f.writer))) same writes.files;
-          unsealed = subst (λ (xs : List Item). AreOpenFiles settings (λ s. 0) xs (shelf_tells.unsealed (shelf_of f.writer)))
-              same writes.unsealed;
-          most = omega (arith, writes.most, length-append items more);
-        };
-        few = stands.few;
-        goes_on = λ n is. (
-          (stands.goes_on n is).0,
-          subst (λ (xs : List Item). HasTaken settings xs f.writer) same (stands.goes_on n is).1,
-        );
-      }
 
   pub book_stands : {R : Type 0} (s : Sequel) (left : Left R) (result : R) (old new : Book MemoryArea area_tells) →
       StandsUp setup place g m old → HasLeft (header_at setup place) s left new result → Stays old new →
@@ -249,12 +236,12 @@ module _ (setup : Setup) (place : ℕ) (g : Gateway) (m : Machine) (value : Book
       record { stands = has.stands; size = stays.size ∙ up.size; open_time = stays.open_time ∙ up.open_time }
 
   pub is_called : (s : Sequel) (old new : real.Machine) (site : Site) →
-      ((h more : List HistoryEntry) → items_of (h ++ more) ≡ items_of h ++ along items_by h more) →
+      ((h more : List HistoryEntry) → items_of (h ++ more) ≡ items_of h ++ along items_by h more) → WrittenStays →
       MachineStands setup place g m old → g.is_down ≡ false → new ≡ record old { site = Some site } →
       SiteIsCalled setup place value s (Some site) → (more : List HistoryEntry) × (value.firm ≡ g.book.firm ++ more) →
       (is_stop s ≡ true → (value.firm ≡ g.book.firm) × (value.rest ≡ g.book.rest)) →
       IsCalled setup place g m value s new
-  is_called s old new site more_items stands runs is called grown cut = record {
+  is_called s old new site more_items stay stands runs is called grown cut = record {
     runs = runs;
     site = subst (λ (r : real.Machine). SiteIsCalled setup place value s r.site) (sym is) called;
     grown = grown;
@@ -262,26 +249,26 @@ module _ (setup : Setup) (place : ℕ) (g : Gateway) (m : Machine) (value : Book
     waiting = ap (λ (r : real.Machine). r.waiting.items) is ∙ stands.waiting;
     redirects = ap (λ (r : real.Machine). r.redirects) is ∙ stands.redirects;
     named = ap (λ (r : real.Machine). r.setup) is ∙ stands.named;
-    writes = subst (λ (r : real.Machine). FilesStand (files_in setup place) m.written
+    writes = subst (λ (r : real.Machine). FilesStand (files_in setup place) m.filing
         (items_of value.firm) r.files) (sym is)
-        (subst (λ (xs : List Item). FilesStand (files_in setup place) m.written xs old.files)
+        (subst (λ (xs : List Item). FilesStand (files_in setup place) m.filing xs old.files)
         (sym (ap items_of grown.1 ∙ more_items g.book.firm grown.0))
-        (writes_more (files_in setup place) m.written (items_of g.book.firm) (along items_by g.book.firm grown.0)
-        old.files stands.writes));
+        (stay (files_in setup place) m.filing (items_of g.book.firm) (along items_by g.book.firm grown.0) old.files
+        stands.writes));
   }
 
 -- A stop between two calls.
 pub stopped : (setup : Setup) (place : ℕ) (g : Gateway) (m : Machine) (old new : real.Machine) →
     MachineStands setup place g m old → SiteIsDown setup place g.book.firm new.site → new.waiting.items ≡ [] →
-    new ≡ record old { site = new.site; waiting = new.waiting } →
+    FilesStand (files_in setup place) (ended m.filing) (items_of g.book.firm) new.files →
+    new ≡ record old { site = new.site; waiting = new.waiting; files = new.files } →
     MachineStands setup place (cut 0 g) (disarmed m) new
-stopped setup place g m old new stands down none rest = record {
+stopped setup place g m old new stands down none ends rest = record {
   site = site_down setup place g m g.book g.book.firm (cut 0 g) new.site refl refl
       (cut_leaves setup place g m g.book false (refl, refl)) down;
   waiting = none;
   unreached = λ k d h. absurd (omega (arith, h));
   redirects = ap (λ (r : real.Machine). r.redirects) rest ∙ stands.redirects;
   named = ap (λ (r : real.Machine). r.setup) rest ∙ stands.named;
-  writes = subst (λ (r : real.Machine). FilesStand (files_in setup place) m.written
-      (items_of g.book.firm) r.files) (sym rest) stands.writes;
+  writes = ends;
 }

@@ -1,4 +1,4 @@
--- Steps at gateways for whose areas nothing is armed.
+-- Steps at gateways for whose areas and shelves nothing is armed.
 use Rattle.std.proofs.Common.{◌≡◌, ◌∙◌, refl, sym, ap, subst, ℕ, zero, suc, ◌-◌, ◌≤◌, ◌<◌, ◌&&◌, ◌||◌, nat_le, nat_lt, Bool, true, false, not, if◌then◌else◌, List, [], ◌∷◌, All, length, set, Option, Some, None, slice_get, arith, length-set, lt-ltb, le-leb}
 use Rattle.std.specs.Option.{option_map_or, option_or}
 use Rattle.std.proofs.lemmas.List.Elements.{All-set}
@@ -19,7 +19,7 @@ use Rattle.once_core.specs.declared.event.Event.{Event}
 use Rattle.once_core.specs.declared.event.WorldKind.TheVariants.{NoGateway, Stopped}
 use Rattle.replay_world.specs.Device.{asked_of, is_stop, machine_after, machine_with, sequel_on}
 use Rattle.replay_world.specs.Moves.{moved_by}
-use Rattle.replay_world.specs.Settling.{AreUnarmed, Stays}
+use Rattle.replay_world.specs.Settling.{AreUnarmed, IsIdle, Stays}
 use Rattle.replay_world.specs.Steps.{Site, Step, Plays, after_step, ends_line, machines_at, machines_in, sequel_at, site_of}
 use Rattle.replay_world.specs.Value.{Machine, ReplayValue}
 use Rattle.once_core.specs.declared.message.Message.{Message}
@@ -48,18 +48,18 @@ found (x ∷ xs) (suc k) less = found xs k (omega (arith, less))
 
 -- of each machine nothing is armed
 pub unarmed_there : (v : ReplayValue) (k : ℕ) (m : Machine) → slice_get v.machines k ≡ Some m → AreUnarmed v →
-    m.armed ≡ Nothing
+    IsIdle m
 unarmed_there v k m is unarmed =
-    subst (λ (n : Machine). n.armed ≡ Nothing) (get_or_from_slice_get v.machines k m m is)
+    subst IsIdle (get_or_from_slice_get v.machines k m m is)
     (unarmed k m (slice_get_within v.machines k m is))
 
 -- A step that sets one gateway.
 module _ (v : ReplayValue) (step : Step) (k : ℕ) (g : Gateway) (m : Machine) (sends : List Message)
     (sets : Sets v step k g m sends) where
-  pub stays_set : m.armed ≡ Nothing → AreUnarmed v → Stays v (after_step v step) k
+  pub stays_set : IsIdle m → AreUnarmed v → Stays v (after_step v step) k
   stays_set is unarmed = record {
-    unarmed = subst (λ (ms : List Machine). All (λ (n : Machine). n.armed ≡ Nothing) ms) (sym sets.machines)
-        (All-set (λ (n : Machine). n.armed ≡ Nothing) v.machines k m is unarmed);
+    unarmed = subst (λ (ms : List Machine). All IsIdle ms) (sym sets.machines)
+        (All-set IsIdle v.machines k m is unarmed);
     count = ap (λ (w : World). length w.gateways) sets.world ∙ length-set v.world.gateways k g;
     others = λ j other. ap (λ (w : World). slice_get w.gateways j) sets.world ∙ get_other v.world.gateways k j g other;
   }
@@ -104,10 +104,16 @@ nothing_on AsksReopening at_last = refl
 goes_on_then : (m : Machine) (asked : Asked) → m.armed ≡ Nothing → sequel_on m asked ≡ GoesOn Nothing
 goes_on_then m asked is = ap (λ (a : Armed). sequel_of asked a m.at_last) is ∙ nothing_on asked m.at_last
 
-pub unarmed_after : (asked : Asked) (m : Machine) → m.armed ≡ Nothing → (machine_after asked m).armed ≡ Nothing
+idle_with : (m : Machine) (s : Sequel) → s ≡ GoesOn Nothing → IsIdle m → IsIdle (machine_with m s)
+idle_with m s is idle = (
+  ap (λ (t : Sequel). (machine_with m t).armed) is,
+  ap (λ (t : Sequel). (machine_with m t).filing.armed) is ∙ idle.1,
+)
+
+pub unarmed_after : (asked : Asked) (m : Machine) → IsIdle m → IsIdle (machine_after asked m)
 unarmed_after AsksNothing m is = is
-unarmed_after AsksCommit m is = ap (λ (s : Sequel). (machine_with m s).armed) (goes_on_then m AsksCommit is)
-unarmed_after AsksReopening m is = ap (λ (s : Sequel). (machine_with m s).armed) (goes_on_then m AsksReopening is)
+unarmed_after AsksCommit m is = idle_with m (sequel_on m AsksCommit) (goes_on_then m AsksCommit is.0) is
+unarmed_after AsksReopening m is = idle_with m (sequel_on m AsksReopening) (goes_on_then m AsksReopening is.0) is
 
 -- a commit, or a Close, leaves the gateway up
 with_by : (b : Bool) (w : BookValue) (g : Gateway) →
@@ -140,7 +146,7 @@ close_stays_up rules f now g =
 -- An event at a gateway for whose area nothing is armed.
 module _ (v : ReplayValue) (e : Event) (number : ℕ) (g : Gateway) (m : Machine) (move : Fortune → Gateway → Moved)
     (at : IsAt v e number g m move) (same : machines_in v e ≡ option_map_or (machines_at v e) (site_of v e) v.machines)
-    (unarmed : m.armed ≡ Nothing) where
+    (unarmed : IsIdle m) where
   abbrev asked : Asked
   asked = asked_of v.world g e
 
@@ -156,7 +162,7 @@ module _ (v : ReplayValue) (e : Event) (number : ℕ) (g : Gateway) (m : Machine
   pub line_goes_on : ends_line v (Plays e) ≡ false
   line_goes_on =
       ap (λ (o : Option Site). option_map_or (λ site. is_stop (sequel_at v e site)) o false) (site_is v e number g m move at)
-      ∙ ap is_stop (goes_on_then m asked unarmed)
+      ∙ ap is_stop (goes_on_then m asked unarmed.0)
 
   pub stays_at : AreUnarmed v → Stays v (after_step v (Plays e)) (number - 1)
   stays_at all =
@@ -166,7 +172,7 @@ module _ (v : ReplayValue) (e : Event) (number : ℕ) (g : Gateway) (m : Machine
   -- it is up as before
   pub up_at : ((f : Fortune) → (move f g).gateway.is_down ≡ g.is_down) → done.gateway.is_down ≡ g.is_down
   up_at stays =
-      ap (λ (s : Sequel). (moved_by s move m g).gateway.is_down) (goes_on_then m asked unarmed)
+      ap (λ (s : Sequel). (moved_by s move m g).gateway.is_down) (goes_on_then m asked unarmed.0)
       ∙ stays (fortune_by m.at_last (GoesOn Nothing))
 
   pub runs_after : 1 ≤ number → number ≤ length v.world.gateways → g.is_down ≡ false → AreUnarmed v →

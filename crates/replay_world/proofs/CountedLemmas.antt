@@ -1,17 +1,18 @@
 -- How many files items close: at most two for each item, so that an octet's four say the number of each.
-use Rattle.std.proofs.Common.{◌≡◌, ℕ, ◌+◌, ◌-◌, ◌≤◌, ◌<◌, ◌^◌, ◌==◌, Bool, true, false, List, [], ◌∷◌, length, take, take_all, Option, Some, None, arith, length-append, length-take}
+use Rattle.std.proofs.Common.{◌≡◌, ◌∙◌, sym, ℕ, ◌+◌, ◌-◌, ◌≤◌, ◌<◌, ◌^◌, ◌==◌, Bool, true, false, List, [], ◌∷◌, length, take, take_all, Option, Some, None, arith, length-append, length-take}
 use Rattle.cdr_file.specs.declared.closure.ClosureReason.{ClosureReason}
 use Rattle.file_rotate.specs.Division.{Division, closed_first, cuts_at, divided_from, joined, run_after}
 use Rattle.file_rotate.specs.Items as stream
 use Rattle.file_rotate.specs.Items.{Filed}
 use Rattle.file_rotate.specs.declared.limits.Limits.{Limits}
 use Rattle.file_writer.specs.Files.{stream_files}
-use Rattle.file_writer.specs.Streams.{Settings, record_if, stream_item, stream_items, stream_record}
+use Rattle.file_writer.specs.Streams.{Settings, closed_of, record_if, stream_division, stream_item, stream_items, stream_record}
 use Rattle.gw_base.specs.declared.item.Item.{Item}
 use Rattle.gw_base.specs.declared.item.Item.TheVariants as item
 use Rattle.route_filter.specs.Rules.{stream_of}
 use Rattle.route_filter.specs.declared.rule.Rule.{Rule}
-use Rattle.replay_world.proofs.WriterLemmas.{files_count}
+use Rattle.replay_world.proofs.FileLemmas.{first_are, first_files}
+use Rattle.replay_world.proofs.WriterLemmas.{files_length}
 
 first_more : {P : Type 0} (o : Option ClosureReason) (run : List (Filed P)) (d : Division P) →
     length (closed_first o run d).closed ≤ length d.closed + 1
@@ -52,11 +53,19 @@ as_few profile rules s (i ∷ items) =
     omega (arith, one, more, both)
 
 -- fewer files than 2^32 are closed by fewer items than 2^31
-pub all_files : (settings : Settings) (s written : ℕ) (items : List Item) → written < 2 ^ 31 →
-    take (4294967295 - 1) (stream_files settings s (take written items)) ≡ stream_files settings s (take written items)
-all_files settings s written items few =
-    let count = files_count settings s (take written items) in
-    let twice = closed_twice settings.limits [] (stream_items settings.profile settings.rules s (take written items)) in
-    let fewer = as_few settings.profile settings.rules s (take written items) in
-    let front = length-take written items in
-    take_all (4294967295 - 1) (stream_files settings s (take written items)) (omega (arith, count, twice, fewer, front, few))
+pub numbers_fit : (settings : Settings) (s : ℕ) (items : List Item) → length items < 2 ^ 31 →
+    closed_of settings s items < 4294967295
+numbers_fit settings s items few =
+    let twice = closed_twice settings.limits [] (stream_items settings.profile settings.rules s items) in
+    let fewer = as_few settings.profile settings.rules s items in
+    omega (arith, twice, fewer, few)
+
+-- so the numbers up to the greatest one are those of all sealed files
+pub all_files : (settings : Settings) (s sealed : ℕ) (items : List Item) → sealed < 4294967295 →
+    take (4294967295 - 1) (first_files settings s sealed items) ≡ take sealed (stream_files settings s items)
+all_files settings s sealed items few =
+    let closed = (stream_division settings s items).closed in
+    let count = files_length settings.file s 1 (take sealed closed) in
+    let front = length-take sealed closed in
+    take_all (4294967295 - 1) (first_files settings s sealed items) (omega (arith, count, front, few))
+    ∙ sym (first_are settings s sealed items)

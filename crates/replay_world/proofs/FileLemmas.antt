@@ -5,7 +5,9 @@ use Rattle.cdr_file.specs.CdrFile.{FileSettings}
 use Rattle.cdr_shelf.specs.Files.{SealedFile, file_named, in_stream}
 use Rattle.cdr_shelf.specs.declared.file_name.FileName.{FileName}
 use Rattle.file_rotate.specs.Division.{ClosedRun}
-use Rattle.file_writer.specs.Files.{files_from, sealed_file}
+use Rattle.file_writer.specs.Files.{files_from, sealed_file, stream_files}
+use Rattle.file_writer.specs.Streams.{Settings, stream_division}
+use Rattle.gw_base.specs.declared.item.Item.{Item}
 use Rattle.replay_world.specs.Report.{file_line}
 
 abbrev name_at : ℕ → ℕ → FileName
@@ -62,6 +64,21 @@ kth_name file s first zero (run ∷ closed) f is =
 kth_name file s first (suc k) (run ∷ closed) f is =
     let next : first + 1 + k ≡ first + suc k = omega arith in
     kth_name file s (first + 1) k closed f is ∙ ap (λ (n : ℕ). name_at s n) next
+
+-- the first files of a stream, so many
+abbrev pub first_files : Settings → ℕ → ℕ → List Item → List SealedFile
+first_files settings s n items = files_from settings.file s 1 (take n (stream_division settings s items).closed)
+
+files_take : (file : FileSettings) (s first n : ℕ) (closed : List (ClosedRun (List ℕ))) →
+    take n (files_from file s first closed) ≡ files_from file s first (take n closed)
+files_take file s first zero closed = refl
+files_take file s first (suc n) [] = refl
+files_take file s first (suc n) (run ∷ closed) =
+    ap (λ (fs : List SealedFile). sealed_file file s first run ∷ fs) (files_take file s (first + 1) n closed)
+
+pub first_are : (settings : Settings) (s n : ℕ) (items : List Item) →
+    take n (stream_files settings s items) ≡ first_files settings s n items
+first_are settings s n items = files_take settings.file s 1 n (stream_division settings s items).closed
 
 -- What is printed of a stream, file after file.
 

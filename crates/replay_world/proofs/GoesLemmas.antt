@@ -276,6 +276,11 @@ module _ (setup : Setup) (place : ℕ) where
       }
 
 -- what follows from what was answered
+pub ok_on : {T E : Type 0} {P : T → Type 0} {Q : Type 0} (result : Result T E) → ((x : T) → P x → Q) → IfOk result P →
+    OnOk result Q
+ok_on (Ok x) implies holds = implies x holds
+ok_on (Err e) implies holds = tt
+
 pub if_ok : {T E : Type 0} {P Q : T → Type 0} (result : Result T E) → ((x : T) → P x → Q x) → IfOk result P → IfOk result Q
 if_ok (Ok x) implies holds = implies x holds
 if_ok (Err e) implies holds = holds

@@ -4,7 +4,7 @@ use Rattle.area_disk.specs.declared.memory.MemoryArea.{MemoryArea}
 use Rattle.cdr_shelf.specs.Files.{UnsealedFile}
 use Rattle.cdr_shelf.specs.declared.memory.MemoryShelf.{MemoryShelf}
 use Rattle.file_rotate.specs.Items.{Filed}
-use Rattle.file_writer.specs.Files.{AreFilesOf}
+use Rattle.file_writer.specs.Files.{AreFilesOf, stream_files}
 use Rattle.file_writer.specs.Leaving.{AreOpenFiles, IsOpenFile}
 use Rattle.file_writer.specs.Streams.{Settings, closed_of, stream_count}
 use Rattle.gateway_book.specs.Items.{items_of}
@@ -16,8 +16,9 @@ use Rattle.replay_world.specs.Played.{EachHandedOut, IsHandedOut, LeavesHistory}
 use Rattle.replay_world.specs.Settled.{AreShut, EachAtRest, IsAllWritten, IsAtRest}
 use Rattle.replay_world.specs.Setup.{Setup, files_in}
 use Rattle.replay_world.specs.Stands.{area_tells, header_at}
-use Rattle.replay_world.specs.Value.{Machine}
+use Rattle.replay_world.specs.Value.{Filing, Machine}
 use Rattle.replay_world.specs.Written.{shelf_tells}
+use Rattle.replay_world.proofs.WriterLemmas.{files_count}
 
 module _ (setup : Setup) where
   -- as many as there are gateways
@@ -109,34 +110,58 @@ left_firm g h kept runs firm =
       | inr is ↦ is ∙ ap (λ (rest : List HistoryEntry). g.book.firm ++ rest) firm ∙ append-nil g.book.firm
     ]
 
-gateway_at_rest : (setup : Setup) (place : ℕ) (g : Gateway) (m : Machine) (a : MemoryArea) (shelf : MemoryShelf) →
-    IsHandedOut setup place g m a shelf → IsAllWritten g m → IsAtRest setup place g a shelf
-gateway_at_rest setup place g m a shelf is settled =
-    let items : List Item = items_of g.book.firm in
-    let all : take m.written items ≡ items =
-    ap (λ (n : ℕ). take n items) settled.written ∙ take_all (length items) items (omega arith) in
-    record {
-      runs = settled.runs;
-      whole = settled.whole;
-      firm = settled.firm;
-      area = subst (λ (h : List HistoryEntry). StandsFitFor (header_at setup place) (area_tells.octets a) h)
-          (left_firm g is.area.history is.area.kept settled.runs settled.firm) is.area.holds.stands;
-      crash = is.area.crash settled.runs settled.whole;
-      files = subst (λ (xs : List Item). AreFilesOf (files_in setup place) xs (shelf_tells.files shelf)) all is.files;
-      shut = settled.shut;
-      sealed = none_unsealed (files_in setup place) items (shelf_tells.unsealed shelf)
-          (subst (λ (xs : List Item). AreOpenFiles (files_in setup place) (λ s. 0) xs (shelf_tells.unsealed shelf)) all
-          is.unsealed) settled.shut;
-    }
+-- the files are all that the items close, and none is left
+module _ (setup : Setup) (place : ℕ) (g : Gateway) (m : Machine) (a : MemoryArea) (shelf : MemoryShelf)
+    (is : IsHandedOut setup place g m a shelf) (settled : IsAllWritten (files_in setup place) g m) where
+  abbrev items : List Item
+  items = items_of g.book.firm
 
-pub gateways_at_rest : (setup : Setup) (place : ℕ) (gs : List Gateway) (ms : List Machine) (areas : List MemoryArea)
+  abbrev settings : Settings
+  settings = files_in setup place
+
+  all_files : AreFilesOf settings items (shelf_tells.files shelf)
+  all_files = record {
+    each = λ s small. is.files.each s small
+        ∙ ap (λ (f : Filing). take (f.sealed s) (stream_files settings s items)) settled.written
+        ∙ take_all (closed_of settings s items) (stream_files settings s items) (omega (arith, files_count settings s items));
+    only = is.files.only;
+  }
+
+  all_open : AreOpenFiles settings (λ s. 0) items (shelf_tells.unsealed shelf)
+  all_open =
+      subst (λ (xs : List Item). AreOpenFiles settings (λ s. 0) xs (shelf_tells.unsealed shelf))
+      (take_all (length items) items (omega arith))
+      (is.unsealed (length items) (ap (λ (f : Filing). f.taken) settled.written))
+
+  gateway_at_rest : IsAtRest setup place g a shelf
+  gateway_at_rest = record {
+    runs = settled.runs;
+    whole = settled.whole;
+    firm = settled.firm;
+    area = subst (λ (h : List HistoryEntry). StandsFitFor (header_at setup place) (area_tells.octets a) h)
+        (left_firm g is.area.history is.area.kept settled.runs settled.firm) is.area.holds.stands;
+    crash = is.area.crash settled.runs settled.whole;
+    files = all_files;
+    shut = settled.shut;
+    sealed = none_unsealed settings items (shelf_tells.unsealed shelf) all_open settled.shut;
+  }
+
+first : (place : ℕ) → place + 0 ≡ place
+first place = omega arith
+
+next : (place k : ℕ) → place + suc k ≡ suc place + k
+next place k = omega arith
+
+gateways_at_rest : (setup : Setup) (place : ℕ) (gs : List Gateway) (ms : List Machine) (areas : List MemoryArea)
     (shelves : List MemoryShelf) → EachHandedOut setup place gs ms areas shelves →
-    ((k : ℕ) (g : Gateway) (m : Machine) → slice_get gs k ≡ Some g → slice_get ms k ≡ Some m → IsAllWritten g m) →
-    EachAtRest setup place gs areas shelves
+    ((k : ℕ) (g : Gateway) (m : Machine) → slice_get gs k ≡ Some g → slice_get ms k ≡ Some m →
+    IsAllWritten (files_in setup (place + k)) g m) → EachAtRest setup place gs areas shelves
 gateways_at_rest setup place [] [] [] [] each settled = tt
 gateways_at_rest setup place (g ∷ gs) (m ∷ ms) (a ∷ areas) (shelf ∷ shelves) each settled = (
-  gateway_at_rest setup place g m a shelf each.0 (settled 0 g m refl refl),
-  gateways_at_rest setup (suc place) gs ms areas shelves each.1 (λ k f n has is. settled (suc k) f n has is),
+  gateway_at_rest setup place g m a shelf each.0
+      (subst (λ (p : ℕ). IsAllWritten (files_in setup p) g m) (first place) (settled 0 g m refl refl)),
+  gateways_at_rest setup (suc place) gs ms areas shelves each.1 (λ k f n has is.
+      subst (λ (p : ℕ). IsAllWritten (files_in setup p) f n) (next place k) (settled (suc k) f n has is)),
 )
 gateways_at_rest setup place [] [] [] (s ∷ shelves) each settled = absurd each
 gateways_at_rest setup place [] [] (a ∷ areas) shelves each settled = absurd each
@@ -144,6 +169,18 @@ gateways_at_rest setup place [] (m ∷ ms) areas shelves each settled = absurd e
 gateways_at_rest setup place (g ∷ gs) [] areas shelves each settled = absurd each
 gateways_at_rest setup place (g ∷ gs) (m ∷ ms) [] shelves each settled = absurd each
 gateways_at_rest setup place (g ∷ gs) (m ∷ ms) (a ∷ areas) [] each settled = absurd each
+
+-- the same of all gateways
+from_none : (k : ℕ) → k ≡ 0 + k
+from_none k = omega arith
+
+pub all_at_rest : (setup : Setup) (gs : List Gateway) (ms : List Machine) (areas : List MemoryArea)
+    (shelves : List MemoryShelf) → EachHandedOut setup 0 gs ms areas shelves →
+    ((k : ℕ) (g : Gateway) (m : Machine) → slice_get gs k ≡ Some g → slice_get ms k ≡ Some m →
+    IsAllWritten (files_in setup k) g m) → EachAtRest setup 0 gs areas shelves
+all_at_rest setup gs ms areas shelves each settled =
+    gateways_at_rest setup 0 gs ms areas shelves each (λ k g m has is.
+    subst (λ (p : ℕ). IsAllWritten (files_in setup p) g m) (from_none k) (settled k g m has is))
 
 -- there is room for one more
 pub room_left : {A B : Type 0} (n most capacity : ℕ) (gs : List A) (kept : List B) → length kept ≡ length (take n gs) →

@@ -44,6 +44,7 @@ mod RedirectLemmas
 mod RefusalLemmas
 mod ReopenedLemmas
 mod ReportLemmas
+mod ReportedLemmas
 mod RunLemmas
 mod SentLemmas
 mod SetLemmas

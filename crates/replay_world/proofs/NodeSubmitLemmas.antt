@@ -116,6 +116,13 @@ one_step v step before after r goes does = record {
   goes = ap (λ (b : Bool). if b then false else true) (sym goes);
 }
 
+-- what prints nothing prints nothing behind a text
+pub does_behind : (v : ReplayValue) (step : Step) (text : List ℕ) (r : Replay) → Does v step [] [] r → Does v step text text r
+does_behind v step text r done = record {
+  stands = done.stands;
+  prints = sym (append-nil text) ∙ ap (λ (t : List ℕ). text ++ t) done.prints;
+}
+
 -- a step that only tells something changes nothing
 tells_only : (v : ReplayValue) (notice : Notice) → after_step v (Tells notice) ≡ v
 tells_only v notice =

@@ -39,7 +39,7 @@ use Rattle.replay_world.specs.Value.{Machine, first_machine}
 use Rattle.replay_world.specs.declared.machine.Machine as real
 use Rattle.replay_world.specs.declared.site.Site.{Site}
 use Rattle.replay_world.specs.declared.site.Site.TheVariants.{Up, Down}
-use Rattle.replay_world.proofs.CallLemmas.{writes_more}
+use Rattle.replay_world.proofs.CallLemmas.{WrittenStays}
 
 -- what an empty plan arms
 abbrev pub ArmsNothing : Type 0
@@ -252,7 +252,7 @@ module _ (setup : Setup) (place : ℕ) (g : Gateway) (m : Machine) where
 
   -- what a site tells that is down
   pub down_tells : (s : Option Site) → g.is_down ≡ true → SiteStands setup place g m s →
-      (m.armed ≡ Nothing) × (g.waiting ≡ [])
+      ((m.armed ≡ Nothing) × (m.filing.armed ≡ Nothing)) × (g.waiting ≡ [])
   down_tells None down stands = absurd stands
   down_tells (Some (Up book)) down stands = absurd (true≢false (sym down ∙ stands.runs))
   down_tells (Some (Down fallen)) down stands = (stands.unarmed, stands.silent)
@@ -264,24 +264,24 @@ module _ (setup : Setup) (place : ℕ) (g : Gateway) (m : Machine) where
 
   pub opened_machine :
       ((firm more : List HistoryEntry) → items_of (firm ++ more) ≡ items_of firm ++ along items_by firm more) →
-      (old mid : real.Machine) → MachineStands setup place g m old → g.is_down ≡ true →
+      WrittenStays → (old mid : real.Machine) → MachineStands setup place g m old → g.is_down ≡ true →
       IsOpenedForCounts setup place g old mid → MachineStands setup place again m (record mid { redirects = 0 })
-  opened_machine items_more old mid stands down is_opened =
+  opened_machine items_more stay old mid stands down is_opened =
       let tells = down_tells old.site down stands.site in
       let grown = history_more g.book.is_broken in
       let more : List HistoryEntry = grown.0 in
       record {
-        site = site_again mid.site tells.0 is_opened.site;
+        site = site_again mid.site tells.0.0 is_opened.site;
         waiting = ap (λ (r : real.Machine). r.waiting.items) is_opened.rest ∙ stands.waiting ∙ tells.1;
         unreached = λ k d h. absurd (omega (arith, h));
         redirects = refl;
         named = ap (λ (r : real.Machine). r.setup) is_opened.rest ∙ stands.named;
-        writes = subst (λ (r : real.Machine). FilesStand (files_in setup place) m.written
+        writes = subst (λ (r : real.Machine). FilesStand (files_in setup place) m.filing
             (items_of again.book.firm) r.files) (sym is_opened.rest)
-            (subst (λ (xs : List Item). FilesStand (files_in setup place) m.written xs old.files)
+            (subst (λ (xs : List Item). FilesStand (files_in setup place) m.filing xs old.files)
             (sym (ap items_of (firm_again ∙ grown.1) ∙ items_more g.book.firm more))
-            (writes_more setup place g m g.book (files_in setup place) m.written (items_of g.book.firm)
-            (along items_by g.book.firm more) old.files stands.writes));
+            (stay (files_in setup place) m.filing (items_of g.book.firm) (along items_by g.book.firm more) old.files
+            stands.writes));
       }
 
   -- It is closed again, with nothing but what is firm.

@@ -24,7 +24,7 @@ use Rattle.replay_world.specs.Value.{Machine}
 use Rattle.replay_world.specs.declared.machine.Machine as real
 use Rattle.replay_world.specs.declared.site.Site.{Site}
 use Rattle.replay_world.proofs.BookLemmas.{Keeps, answer_grows, stop_breaks}
-use Rattle.replay_world.proofs.CallLemmas.{is_called}
+use Rattle.replay_world.proofs.CallLemmas.{WrittenStays, is_called}
 
 -- a failure records nothing
 failure_acts : (d : PreparedValue) → act_decided (decided (failure_answer d)) ≡ None
@@ -58,21 +58,21 @@ SiteTook setup place g m from octets now site result =
 
 pub outcome_called : (setup : Setup) (place : ℕ) (g : Gateway) (m : Machine) (message : Message) (now : ℕ) (from : Addr)
     (octets : List ℕ) (old new : real.Machine) (site : Site) (result : Outcome) →
-    ((h more : List HistoryEntry) → items_of (h ++ more) ≡ items_of h ++ along items_by h more) →
+    ((h more : List HistoryEntry) → items_of (h ++ more) ≡ items_of h ++ along items_by h more) → WrittenStays →
     MachineStands setup place g m old → g.is_down ≡ false → from ≡ node_address message.node message.port →
     octets ≡ message.octets → new ≡ record old { site = Some site } →
     SiteTook setup place g m from octets now site result →
     (let s = ready_sequel_of m.armed m.at_last g.book in
     IsCalled setup place g m (taken_of setup m g message now s).value s new
     × (result ≡ (taken_of setup m g message now s).answer))
-outcome_called setup place g m message now from octets old new site result more_items stands runs from_is octets_are is took =
+outcome_called setup place g m message now from octets old new site result more_items stay stands runs from_is octets_are is took =
     let s : Sequel = ready_sequel_of m.armed m.at_last g.book in
     let sender : Addr = node_address message.node message.port in
     let datagram : PreparedValue = prepared_of message.octets in
     let there : SiteTook setup place g m sender message.octets now site result =
     subst (λ (o : List ℕ). SiteTook setup place g m sender o now site result) octets_are
     (subst (λ (a : Addr). SiteTook setup place g m a octets now site result) from_is took) in (
-      is_called setup place g m (taken_of setup m g message now s).value s old new site more_items stands runs is there.0
+      is_called setup place g m (taken_of setup m g message now s).value s old new site more_items stay stands runs is there.0
           (answer_grows (fortune_by m.at_last s) g.book now no_caller
           (decided (given_at (readied (fortune_by m.at_last s) g.book) sender datagram setup.size)))
           (λ stops. answer_keeps m.armed m.at_last g.book sender datagram setup.size now stops),

@@ -1,9 +1,11 @@
 -- What is done at a gateway that asks no device: it is stopped between two calls, opened again, redirects, or its files are
--- written, or something is armed for its area.
-use Rattle.std.proofs.Common.{◌≡◌, ◌∙◌, refl, sym, ap, subst, ℕ, ◌-◌, ◌≤◌, Bool, true, false, not, List, [], ◌++◌, length, set, Option, Some, None, option_map, slice_get, arith, append-nil}
+-- written, or something is armed for its area or its shelf.
+use Rattle.std.proofs.Common.{◌≡◌, ◌∙◌, refl, sym, ap, subst, ℕ, ◌-◌, ◌≤◌, Bool, true, false, not, List, [], ◌∷◌, ◌++◌, length, set, Option, Some, None, option_map, slice_get, arith, append-nil}
 use Rattle.std.specs.Option.{option_map_or, option_or}
-use Rattle.area_disk.specs.Armed.{Armed}
+use Rattle.area_disk.specs.Armed.{Armed, Came}
+use Rattle.area_disk.specs.Armed.Came.{Ran, FailedAt, StoppedAt}
 use Rattle.gateway_book.specs.Items.{items_of}
+use Rattle.gw_base.specs.declared.item.Item.{Item}
 use Rattle.once_core.specs.Answers.{redirected}
 use Rattle.once_core.specs.Gateway.{Gateway, Moved}
 use Rattle.once_core.specs.Turn.{at_gateway, calm, gateway_moved, is_down_in, is_none_of, no_gateway, no_running_gateway, refusal_of, refusing, turn, turn_by}
@@ -17,11 +19,16 @@ use Rattle.replay_world.specs.Does.{Does}
 use Rattle.replay_world.specs.Moves.{HasMoved}
 use Rattle.replay_world.specs.Notices.{Notice}
 use Rattle.replay_world.specs.Sending.{HasSent}
-use Rattle.replay_world.specs.Setup.{rules_in}
+use Rattle.replay_world.specs.Filing.{filing_then, shelf_came}
+use Rattle.replay_world.specs.Lines.{came_of_write, came_steps, write_steps}
+use Rattle.replay_world.specs.Setup.{files_in, rules_in}
 use Rattle.replay_world.specs.Stands.{MachineStands, Stands}
-use Rattle.replay_world.specs.Steps.{Site, Step, Arms, Plays, Writes, items_firm, machines_in, sent_by, sequel_at, site_of, turn_at, waiting_left, with_machine, world_after}
+use Rattle.replay_world.specs.Steps.{Site, Step, Arms, ArmsShelf, Disarms, Plays, Writes, files_written, items_firm, machines_in, sent_by, sequel_at, site_of, turn_at, waiting_left, with_machine, world_after}
 use Rattle.replay_world.specs.Telling.{device_notices, notices_last, sent_notices, step_notices}
-use Rattle.replay_world.specs.Value.{Machine, ReplayValue}
+use Rattle.replay_world.specs.Value.{Machine, ReplayValue, shelf_armed, unarmed}
+use Rattle.replay_world.specs.Written.{wrote_by}
+use Rattle.replay_world.specs.WritingFiles.{steps_behind}
+use Rattle.replay_world.specs.declared.files.Wrote.{Wrote}
 use Rattle.replay_world.specs.declared.machine.Machine as real
 use Rattle.replay_world.specs.declared.replay.Replay.{Replay}
 use Rattle.replay_world.proofs.GatewayEventLemmas.{machines_count, none_of}
@@ -29,6 +36,10 @@ use Rattle.replay_world.proofs.NodeHearLemmas.{set_same}
 use Rattle.replay_world.proofs.SentLemmas.{sent_none}
 use Rattle.replay_world.proofs.SetLemmas.{Sets, does_set, sends_are}
 use Rattle.replay_world.proofs.StepLemmas.{allowed_turn, moved_there}
+
+-- what a gateway in a place runs on once its files were written
+abbrev pub filed_machine : ReplayValue → ℕ → Gateway → Machine → Machine
+filed_machine v k g m = record m { filing = filing_then (files_in v.setup k) (items_of g.book.firm) m.filing }
 
 module _ (v : ReplayValue) (k : ℕ) (g : Gateway) (m : Machine) (has_gateway : slice_get v.world.gateways k ≡ Some g)
     (has_machine : slice_get v.machines k ≡ Some m) where
@@ -54,15 +65,48 @@ module _ (v : ReplayValue) (k : ℕ) (g : Gateway) (m : Machine) (has_gateway : 
   pub arms : (armed : Armed) → Sets v (Arms k armed) k g (record m { armed = armed }) []
   arms armed = record { world = same_world; machines = changed (λ n. record n { armed = armed }) }
 
-  written_is : items_firm v k ≡ length (items_of g.book.firm)
-  written_is = ap (λ (o : Option Gateway). option_map_or (λ (h : Gateway). length (items_of h.book.firm)) o 0) has_gateway
+  pub arms_shelf : (armed : Armed) → Sets v (ArmsShelf k armed) k g (shelf_armed armed m) []
+  arms_shelf armed = record { world = same_world; machines = changed (shelf_armed armed) }
 
-  pub writes : Sets v (Writes k) k g (record m { written = length (items_of g.book.firm) }) []
+  pub disarms : Sets v (Disarms k) k g (unarmed m) []
+  disarms = record { world = same_world; machines = changed unarmed }
+
+  pub items_are : items_firm v k ≡ items_of g.book.firm
+  items_are = ap (λ (o : Option Gateway). option_map_or (λ (h : Gateway). items_of h.book.firm) o []) has_gateway
+
+  pub writes : Sets v (Writes k) k g (filed_machine v k g m) []
   writes = record {
     world = same_world;
-    machines = changed (λ n. record n { written = items_firm v k })
-        ∙ ap (λ (n : ℕ). set v.machines k (record m { written = n })) written_is;
+    machines = changed (files_written v k)
+        ∙ ap (λ (items : List Item). set v.machines k (record m { filing = filing_then (files_in v.setup k) items m.filing }))
+        items_are;
   }
+
+  -- what comes of the calls of its shelf
+  pub written_steps : (number : ℕ) → number - 1 ≡ k →
+      write_steps v number
+      ≡ Writes (number - 1) ∷ came_steps number (shelf_came (files_in v.setup k) (items_of g.book.firm) m.filing)
+  written_steps number is =
+      ap (λ (j : ℕ). Writes (number - 1)
+      ∷ option_map_or (λ (n : Machine). came_steps number (came_of_write v j n)) (slice_get v.machines j) []) is
+      ∙ ap (λ (o : Option Machine). Writes (number - 1)
+      ∷ option_map_or (λ (n : Machine). came_steps number (came_of_write v k n)) o []) has_machine
+      ∙ ap (λ (items : List Item). Writes (number - 1)
+      ∷ came_steps number (shelf_came (files_in v.setup k) items m.filing)) items_are
+
+  behind_is : (number : ℕ) (c : Came) → steps_behind number (wrote_by c) ≡ came_steps number c
+  behind_is number (Ran a) = refl
+  behind_is number (FailedAt call) = refl
+  behind_is number (StoppedAt call outcome) = refl
+
+  pub written_behind : (number : ℕ) (w : Wrote) → number - 1 ≡ k →
+      w ≡ wrote_by (shelf_came (files_in v.setup k) (items_of g.book.firm) m.filing) →
+      write_steps v number ≡ Writes (number - 1) ∷ steps_behind number w
+  written_behind number w is came =
+      let c : Came = shelf_came (files_in v.setup k) (items_of g.book.firm) m.filing in
+      written_steps number is
+      ∙ ap (λ (steps : List Step). Writes (number - 1) ∷ steps) (sym (behind_is number c))
+      ∙ ap (λ (x : Wrote). Writes (number - 1) ∷ steps_behind number x) (sym came)
 
   -- An event moves the gateway.
   module _ (e : Event) (move : Gateway → Moved) (no_site : site_of v e ≡ None) (allowed : refusal_of v.world e ≡ None)

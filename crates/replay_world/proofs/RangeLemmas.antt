@@ -20,7 +20,7 @@ use Rattle.route_filter.specs.declared.rule.Rule.{Rule}
 use Rattle.route_filter.specs.Words.{at_most, is_decimal, number_up_to, octets_of, words_of, ◌>>=◌}
 use Rattle.world_script.specs.Forms.{is_setting, keyword_of}
 use Rattle.world_script.specs.Printing.{ReadsBack, printed}
-use Rattle.world_script.specs.Saying.{arm_on, arm_said, at_said, call_of, fail_said, in_said, last_moment, limit_on, limit_said, offset_said, one_between, one_gateway, one_number, read_or, read_then, redirect_said, rule_said, ruled, said_as, said_by, submit_said, word_said}
+use Rattle.world_script.specs.Saying.{arm_said, at_said, call_of, fail_said, in_said, last_moment, limit_on, limit_said, offset_said, one_between, one_gateway, one_number, read_or, read_then, redirect_said, rule_said, ruled, said_as, said_by, submit_said, word_said}
 use Rattle.world_script.specs.Script.{Refusal, ScriptValue, contented, is_rule_line, keyed, most_text, onward, progress_of, reading_of, script_after, script_in, worded}
 use Rattle.world_script.specs.Text.{RawLine, is_blank, is_printable, line_content, line_size, onto_line, raw_lines, size_of}
 use Rattle.world_script.specs.Values.{address_of, mode_of, number_between, number_of, offset_of, records_of, signed, two_digits, version_of}
@@ -30,6 +30,7 @@ use Rattle.world_script.specs.declared.keyword.Keyword.{Keyword}
 use Rattle.world_script.specs.declared.keyword.Keyword.TheVariants as keyword
 use Rattle.world_script.specs.declared.line.Line.{Line}
 use Rattle.world_script.specs.declared.line.Line.TheVariants as line
+use Rattle.world_script.specs.declared.mode.Mode.{Mode}
 use Rattle.world_script.specs.declared.kind.ScriptKind.{ScriptKind}
 use Rattle.world_script.specs.declared.progress.Progress.{Progress}
 use Rattle.replay_world.specs.Settings.{AreInRange, IsInRange, rules_in_line}
@@ -307,28 +308,25 @@ redirect_fine rules [] l h = no_line kind.Arity l h
 redirect_fine rules (a ∷ []) l h = no_line kind.Arity l h
 redirect_fine rules (a ∷ b ∷ c ∷ d ∷ words) l h = no_line kind.Arity l h
 
-arm_on_fine : (rules : ℕ) (gateway call mode : List ℕ) (l : Line) → arm_on gateway call mode ≡ Ok l → IsFine rules l
-arm_on_fine rules gateway call mode l h =
-    let later = read_then kind.Number (number_of gateway) (λ g. read_then kind.Number (call_of call) (λ c. read_or kind.Number (line.Arm g c) (mode_of mode))) in
-    then_fine rules kind.Number (number_of gateway) (λ g. read_then kind.Number (call_of call) (λ c. read_or kind.Number (line.Arm g c) (mode_of mode))) l (λ g h1.
-    then_fine rules kind.Number (call_of call) (λ c. read_or kind.Number (line.Arm g c) (mode_of mode)) l (λ c h2.
-    read_fine rules kind.Number (line.Arm g c) (mode_of mode) l (λ m. plain rules (line.Arm g c m) refl refl tt) h2) h1)
-    (passed (bytes_eq mode (codes "rot")) kind.NotBuilt later l h).1
+arm_fine : (arms : ℕ → ℕ → Mode → Line) (rules : ℕ) (words : List (List ℕ)) (l : Line) →
+    ((g c : ℕ) (m : Mode) → IsFine rules (arms g c m)) → arm_said arms words ≡ Ok l → IsFine rules l
+arm_fine arms rules (gateway ∷ call ∷ mode ∷ []) l fine h =
+    then_fine rules kind.Number (number_of gateway) (λ g. read_then kind.Number (call_of call) (λ c. read_or kind.Number (arms g c) (mode_of mode))) l (λ g h1.
+    then_fine rules kind.Number (call_of call) (λ c. read_or kind.Number (arms g c) (mode_of mode)) l (λ c h2.
+    read_fine rules kind.Number (arms g c) (mode_of mode) l (λ m. fine g c m) h2) h1) h
+arm_fine arms rules [] l fine h = no_line kind.Arity l h
+arm_fine arms rules (a ∷ []) l fine h = no_line kind.Arity l h
+arm_fine arms rules (a ∷ b ∷ []) l fine h = no_line kind.Arity l h
+arm_fine arms rules (a ∷ b ∷ c ∷ d ∷ words) l fine h = no_line kind.Arity l h
 
-arm_fine : (rules : ℕ) (words : List (List ℕ)) (l : Line) → arm_said words ≡ Ok l → IsFine rules l
-arm_fine rules (gateway ∷ call ∷ mode ∷ []) l h = arm_on_fine rules gateway call mode l h
-arm_fine rules [] l h = no_line kind.Arity l h
-arm_fine rules (a ∷ []) l h = no_line kind.Arity l h
-arm_fine rules (a ∷ b ∷ []) l h = no_line kind.Arity l h
-arm_fine rules (a ∷ b ∷ c ∷ d ∷ words) l h = no_line kind.Arity l h
-
-fail_fine : (rules : ℕ) (words : List (List ℕ)) (l : Line) → fail_said words ≡ Ok l → IsFine rules l
-fail_fine rules (gateway ∷ call ∷ []) l h =
-    then_fine rules kind.Number (number_of gateway) (λ g. read_or kind.Number (line.Fail g) (call_of call)) l (λ g h1.
-    read_fine rules kind.Number (line.Fail g) (call_of call) l (λ c. plain rules (line.Fail g c) refl refl tt) h1) h
-fail_fine rules [] l h = no_line kind.Arity l h
-fail_fine rules (a ∷ []) l h = no_line kind.Arity l h
-fail_fine rules (a ∷ b ∷ c ∷ words) l h = no_line kind.Arity l h
+fail_fine : (fails : ℕ → ℕ → Line) (rules : ℕ) (words : List (List ℕ)) (l : Line) →
+    ((g c : ℕ) → IsFine rules (fails g c)) → fail_said fails words ≡ Ok l → IsFine rules l
+fail_fine fails rules (gateway ∷ call ∷ []) l fine h =
+    then_fine rules kind.Number (number_of gateway) (λ g. read_or kind.Number (fails g) (call_of call)) l (λ g h1.
+    read_fine rules kind.Number (fails g) (call_of call) l (λ c. fine g c) h1) h
+fail_fine fails rules [] l fine h = no_line kind.Arity l h
+fail_fine fails rules (a ∷ []) l fine h = no_line kind.Arity l h
+fail_fine fails rules (a ∷ b ∷ c ∷ words) l fine h = no_line kind.Arity l h
 
 said_fine : (of : ScriptKind) (form : Keyword) (rules : ℕ) (content : List ℕ) (words : List (List ℕ)) (l : Line) → is_printable content ≡ true
     → said_by of form rules content words ≡ Ok l → IsFine rules l
@@ -356,8 +354,10 @@ said_fine of keyword.Write rules content words l shown h = value_fine rules line
 said_fine of keyword.Redirect rules content words l shown h = redirect_fine rules words l h
 said_fine of keyword.Stop rules content words l shown h = value_fine rules line.Stop (one_number words) l (λ n. plain rules (line.Stop n) refl refl tt) h
 said_fine of keyword.Open rules content words l shown h = value_fine rules line.Open (one_number words) l (λ n. plain rules (line.Open n) refl refl tt) h
-said_fine of keyword.Arm rules content words l shown h = arm_fine rules words l h
-said_fine of keyword.Fail rules content words l shown h = fail_fine rules words l h
+said_fine of keyword.Arm rules content words l shown h = arm_fine line.Arm rules words l (λ g c m. plain rules (line.Arm g c m) refl refl tt) h
+said_fine of keyword.Fail rules content words l shown h = fail_fine line.Fail rules words l (λ g c. plain rules (line.Fail g c) refl refl tt) h
+said_fine of keyword.ArmShelf rules content words l shown h = arm_fine line.ArmShelf rules words l (λ g c m. plain rules (line.ArmShelf g c m) refl refl tt) h
+said_fine of keyword.FailShelf rules content words l shown h = fail_fine line.FailShelf rules words l (λ g c. plain rules (line.FailShelf g c) refl refl tt) h
 said_fine of keyword.Settle rules content words l shown h = word_fine rules line.Settle l words (plain rules line.Settle refl refl tt) h
 
 -- ---- one line

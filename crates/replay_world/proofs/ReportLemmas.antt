@@ -2,7 +2,8 @@
 use Rattle.std.proofs.Common.{◌≡◌, ◌∙◌, refl, sym, ap, subst, ℕ, suc, ◌+◌, Bool, true, false, true≢false, if◌then◌else◌, List, [], ◌∷◌, ◌++◌, length, take, Option, Some, None, arith, append_assoc, append-nil}
 use Rattle.std.specs.List.{flat_map}
 use Rattle.std.proofs.lemmas.List.Concat.{flat_map-append}
-use Rattle.file_writer.specs.Files.{files_below, stream_files}
+use Rattle.cdr_shelf.specs.Files.{SealedFile}
+use Rattle.file_writer.specs.Files.{stream_files}
 use Rattle.gateway_book.specs.declared.told.Counts as told
 use Rattle.gateway_book.specs.Answered.{entry_by, no_caller, room_for}
 use Rattle.gateway_book.specs.Filed.{filed}
@@ -12,13 +13,12 @@ use Rattle.gw_base.specs.History.{begins_epoch, copies_of, fate_of, names, with_
 use Rattle.gw_base.specs.declared.history.HistoryAct.{HistoryAct}
 use Rattle.gw_base.specs.declared.history.HistoryAct.TheVariants.{Start, Path, File, Hold, Seal, Release, Cancel, Tick, Close}
 use Rattle.gw_base.specs.declared.history.HistoryEntry.{HistoryEntry}
-use Rattle.gw_base.specs.declared.item.Item.{Item}
 use Rattle.gw_base.specs.declared.scan.Copies.{Copies}
 use Rattle.gw_base.specs.declared.scan.HoldFate.{HoldFate}
 use Rattle.gw_base.specs.declared.scan.HoldFate.TheVariants as fate
 use Rattle.once_core.specs.Gateway.{Gateway, opened as reopened}
 use Rattle.replay_world.specs.Opening.{IsOpenedForCounts, SiteIsOpened}
-use Rattle.replay_world.specs.Report.{book_of, counts_line, counts_text, file_line, file_lines, gateway_text, written_items}
+use Rattle.replay_world.specs.Report.{book_of, counts_line, counts_text, file_line, gateway_text, sealed_below, sealed_lines}
 use Rattle.replay_world.specs.Setup.{Setup, files_in, rules_in}
 use Rattle.replay_world.specs.Stands.{SiteStands}
 use Rattle.replay_world.specs.Tally.{Counts, IsTallied, Tells}
@@ -134,7 +134,7 @@ module _ (setup : Setup) (place : ℕ) (g : Gateway) (m : Machine) where
 
   -- the lines of its files, and then of its counts
   pub reported : (tally : Tally) (before middle after : List ℕ) → IsTallied g tally →
-      middle ≡ before ++ file_lines setup place (written_items g m) →
+      middle ≡ before ++ sealed_lines setup place g m →
       after ≡ middle ++ counts_text place tally.entries tally.records tally.counts.held tally.counts.stranded →
       after ≡ before ++ gateway_text setup place g m
   reported tally before middle after is files counts =
@@ -147,23 +147,25 @@ module _ (setup : Setup) (place : ℕ) (g : Gateway) (m : Machine) where
       ∙ ap (λ (n : ℕ). middle ++ counts_text place (length (history_of (book_of g))) (length (filed (book_of g).firm))
       (copies_of (history_of (book_of g))).held n) is.stranded
       ∙ ap (λ (text : List ℕ). text ++ counts_line place (book_of g)) files
-      ∙ append_assoc before (file_lines setup place (written_items g m)) (counts_line place (book_of g))
+      ∙ append_assoc before (sealed_lines setup place g m) (counts_line place (book_of g))
 
   -- the lines of the files of the first streams
 
   abbrev pub lines_below : ℕ → List ℕ
-  lines_below k = flat_map (file_line place) (files_below k (files_in setup place) (take m.written (items_of g.book.firm)))
+  lines_below k =
+      flat_map (file_line place) (sealed_below k (files_in setup place) (items_of g.book.firm) m.filing.sealed)
 
   pub stream_more : (k : ℕ) (before middle after : List ℕ) → middle ≡ before ++ lines_below k →
       after ≡ middle ++ flat_map (file_line place)
-      (stream_files (files_in setup place) k (take m.written (items_of g.book.firm))) →
+      (take (m.filing.sealed k) (stream_files (files_in setup place) k (items_of g.book.firm))) →
       after ≡ before ++ lines_below (k + 1)
   stream_more k before middle after first later =
-      let items : List Item = take m.written (items_of g.book.firm) in
+      let more : List SealedFile = take (m.filing.sealed k) (stream_files (files_in setup place) k (items_of g.book.firm)) in
+      let front : List SealedFile = sealed_below k (files_in setup place) (items_of g.book.firm) m.filing.sealed in
       let next : suc k ≡ k + 1 = omega arith in
       later
-      ∙ ap (λ (text : List ℕ). text ++ flat_map (file_line place) (stream_files (files_in setup place) k items)) first
-      ∙ append_assoc before (lines_below k) (flat_map (file_line place) (stream_files (files_in setup place) k items))
+      ∙ ap (λ (text : List ℕ). text ++ flat_map (file_line place) more) first
+      ∙ append_assoc before (lines_below k) (flat_map (file_line place) more)
       ∙ ap (λ (text : List ℕ). before ++ text) (sym (flat_map-append (file_line place)
-      (files_below k (files_in setup place) items) (stream_files (files_in setup place) k items)))
+      front more))
       ∙ ap (λ (n : ℕ). before ++ lines_below n) next

@@ -3,9 +3,13 @@ use Rattle.std.proofs.Common.{◌≡◌, ◌∙◌, refl, sym, ap, subst, ℕ, z
 use Rattle.std.specs.List.{flat_map, range_with_len}
 use Rattle.std.specs.Option.{option_map_or, option_or}
 use Rattle.std.proofs.lemmas.Option.{slice_get-get_or}
+use Rattle.area_disk.specs.Armed.{Armed, Came, calls_under}
 use Rattle.area_disk.specs.Armed.Armed.{Nothing}
+use Rattle.area_disk.specs.Armed.Came.{Ran}
+use Rattle.file_writer.specs.Streams.{Settings}
 use Rattle.gateway_book.specs.Items.{items_of}
 use Rattle.gateway_book.specs.Value.{Fortune}
+use Rattle.gw_base.specs.declared.item.Item.{Item}
 use Rattle.once_core.specs.Answers.{making_close, marked}
 use Rattle.once_core.specs.Gateway.{Gateway, Moved, committing, opened, still}
 use Rattle.once_core.specs.Turn.{is_down_in, is_none_of, no_gateway, no_running_gateway, refusal_of, refusing}
@@ -16,15 +20,16 @@ use Rattle.once_core.specs.declared.event.WorldKind.{WorldKind}
 use Rattle.once_core.specs.declared.event.WorldKind.TheVariants.{NoGateway, Running, Stopped}
 use Rattle.replay_world.specs.Does.{Does, DoesAll, DoesOrEnds, Makes}
 use Rattle.replay_world.specs.Lines.{after_steps, settle_steps, settling_steps}
-use Rattle.replay_world.specs.Setup.{rules_in}
-use Rattle.replay_world.specs.Settling.{AreUnarmed, Settles, Stays, opening_steps}
+use Rattle.replay_world.specs.Filing.{all_filed, filing_after, filing_then, shelf_calls}
+use Rattle.replay_world.specs.Setup.{files_in, rules_in}
+use Rattle.replay_world.specs.Settling.{AreUnarmed, IsIdle, Settles, Stays, opening_steps}
 use Rattle.replay_world.specs.Stands.{Stands}
-use Rattle.replay_world.specs.Steps.{Step, Arms, Plays, Writes, after_step, ends_line}
-use Rattle.replay_world.specs.Value.{Machine, ReplayValue}
+use Rattle.replay_world.specs.Steps.{Step, Disarms, Plays, Writes, after_step, ends_line}
+use Rattle.replay_world.specs.Value.{Filing, Machine, ReplayValue, unarmed as unarmed_one}
 use Rattle.replay_world.specs.declared.replay.Replay.{Replay}
 use Rattle.replay_world.proofs.CalmLemmas.{both, close_stays_up, commit_stays_up, found, get_other, get_same, line_goes_on, running_there, runs_after, stays_at, stays_none, stays_set, stays_then, there_then, unarmed_there}
 use Rattle.replay_world.proofs.GatewayEventLemmas.{is_there, none_of, runs_there}
-use Rattle.replay_world.proofs.QuietLemmas.{machines_stay, plays, writes}
+use Rattle.replay_world.proofs.QuietLemmas.{filed_machine, machines_stay, plays, writes}
 use Rattle.replay_world.proofs.StandsLemmas.{each_lengths}
 use Rattle.replay_world.proofs.StepLemmas.{IsAt}
 use Rattle.replay_world.proofs.StepsLemmas.{SoFar, after_append, does_none, does_one, does_then, makes_then}
@@ -193,6 +198,17 @@ close_calm v number old stands unarmed none =
           (λ f. close_stays_up (rules_in v.setup) f v.world.now g.0),
     )
 
+-- of a write of a shelf for which nothing is armed
+under_nothing : (n : ℕ) → calls_under Nothing n ≡ Ran Nothing
+under_nothing zero = refl
+under_nothing (suc n) = refl
+
+pub calm_filing : (settings : Settings) (items : List Item) (f : Filing) → f.armed ≡ Nothing →
+    filing_then settings items f ≡ all_filed settings items Nothing
+calm_filing settings items f idle =
+    ap (λ (a : Armed). filing_after settings items f (calls_under a (length (shelf_calls settings items f)))) idle
+    ∙ ap (λ (c : Came). filing_after settings items f c) (under_nothing (length (shelf_calls settings items f)))
+
 pub write_calm : (v : ReplayValue) (number : ℕ) (old : Replay) → Stands v old → AreUnarmed v →
     no_running_gateway v.world number ≡ None →
     Stays v (after_step v (Writes (number - 1))) (number - 1)
@@ -203,10 +219,11 @@ write_calm v number old stands unarmed none =
     let k : ℕ = number - 1 in
     let g = found v.world.gateways k (omega (arith, there.0, there.1)) in
     let m = found v.machines k (omega (arith, there.0, there.1, lengths.0)) in
-    let n : Machine = record m.0 { written = length (items_of g.0.book.firm) } in
+    let n : Machine = filed_machine v k g.0 m.0 in
     let idle = unarmed_there v k m.0 m.1 unarmed in
+    let filed = calm_filing (files_in v.setup k) (items_of g.0.book.firm) m.0.filing idle.1 in
     let sets = writes v k g.0 m.0 g.1 m.1 in
-    let stays = stays_set v (Writes k) k g.0 n [] sets idle unarmed in (
+    let stays = stays_set v (Writes k) k g.0 n [] sets (idle.0, ap (λ (f : Filing). f.armed) filed) unarmed in (
       stays,
       running_there (after_step v (Writes k)).world number g.0 there.0 (omega (arith, there.1, stays.count))
           (there_then v (Writes k) k g.0 n [] sets g.0 g.1) (runs_there v.world number g.0 g.1 none),
@@ -218,15 +235,15 @@ range_next : (k n : ℕ) → k < n → range_with_len (k + 1) (n - k) ≡ (k + 1
 range_next k n less =
     let one : n - k ≡ suc (n - (k + 1)) = omega (arith, less) in ap (λ (c : ℕ). range_with_len (k + 1) c) one
 
-abbrev pub arms : List ℕ → List Step
-arms gateways = map (λ gateway. Arms (gateway - 1) Nothing) gateways
+abbrev pub disarms : List ℕ → List Step
+disarms gateways = map (λ gateway. Disarms (gateway - 1)) gateways
 
-pub arms_next : (k n : ℕ) → k < n →
-    arms (range_with_len (k + 1) (n - k)) ≡ (Arms k Nothing ∷ []) ++ arms (range_with_len (k + 1 + 1) (n - (k + 1)))
-arms_next k n less =
+pub disarms_next : (k n : ℕ) → k < n →
+    disarms (range_with_len (k + 1) (n - k)) ≡ (Disarms k ∷ []) ++ disarms (range_with_len (k + 1 + 1) (n - (k + 1)))
+disarms_next k n less =
     let back : k + 1 - 1 ≡ k = omega arith in
-    ap arms (range_next k n less)
-    ∙ ap (λ (j : ℕ). Arms j Nothing ∷ arms (range_with_len (k + 1 + 1) (n - (k + 1)))) back
+    ap disarms (range_next k n less)
+    ∙ ap (λ (j : ℕ). Disarms j ∷ disarms (range_with_len (k + 1 + 1) (n - (k + 1)))) back
 
 abbrev pub settling_from : ReplayValue → ℕ → List Step
 settling_from v k = flat_map (settling_steps v) (range_with_len (k + 1) (length v.world.gateways - k))
@@ -304,13 +321,13 @@ place_is k n less few =
 -- Nothing is armed for any gateway.
 
 -- the world is as before
-pub disarmed_world : (v : ReplayValue) (gateways : List ℕ) → (after_steps v (arms gateways)).world ≡ v.world
+pub disarmed_world : (v : ReplayValue) (gateways : List ℕ) → (after_steps v (disarms gateways)).world ≡ v.world
 disarmed_world v [] = refl
-disarmed_world v (n ∷ gateways) = disarmed_world (after_step v (Arms (n - 1) Nothing)) gateways
+disarmed_world v (n ∷ gateways) = disarmed_world (after_step v (Disarms (n - 1))) gateways
 
 -- the machines up to a place are unarmed
 abbrev pub UnarmedTo : List Machine → ℕ → Type 0
-UnarmedTo ms k = (j : ℕ) (m : Machine) → j < k → slice_get ms j ≡ Some m → m.armed ≡ Nothing
+UnarmedTo ms k = (j : ℕ) (m : Machine) → j < k → slice_get ms j ≡ Some m → IsIdle m
 
 pub lesser : (j k : ℕ) → j < k + 1 → (j ≡ k → ⊥) → j < k
 lesser j k less other = by (nat_lt j k) refl
@@ -320,17 +337,17 @@ lesser j k less other = by (nat_lt j k) refl
     by false is =
         let least : k ≤ j = ltb-false j k is in let same : j ≡ k = omega (arith, less, least) in absurd (other same)
 
-unarmed_set : (xs : List Machine) (k : ℕ) (m n : Machine) → slice_get xs k ≡ Some m → n.armed ≡ Nothing → UnarmedTo xs k →
+unarmed_set : (xs : List Machine) (k : ℕ) (m n : Machine) → slice_get xs k ≡ Some m → IsIdle n → UnarmedTo xs k →
     UnarmedTo (set xs k n) (k + 1)
 unarmed_set xs k m n has idle before j o less is = by (j == k) refl
   where
-    by : (b : Bool) → (j == k) ≡ b → o.armed ≡ Nothing
+    by : (b : Bool) → (j == k) ≡ b → IsIdle o
     by true e =
         let here : slice_get (set xs k n) k ≡ Some o =
         subst (λ (i : ℕ). slice_get (set xs k n) i ≡ Some o) (eqb-true j k e) is in
         let some : slice_get (set xs k n) k ≡ Some n = get_same xs k n m has in
         let same : n ≡ o = cc in
-        sym (ap (λ (q : Machine). q.armed) same) ∙ idle
+        subst IsIdle same idle
     by false e =
         let other : j ≡ k → ⊥ = λ same. absurd (true≢false (sym (eq-eqb j k same) ∙ e)) in
         let below : j < k = lesser j k less other in
@@ -340,30 +357,30 @@ all_unarmed_to : (v : ReplayValue) → UnarmedTo v.machines (length v.machines) 
 all_unarmed_to v unarmed = λ k d less. unarmed k (get_or v.machines k d) less (slice_get-get_or v.machines k d less)
 
 pub unarmed_from : (n a : ℕ) (v : ReplayValue) → a + n ≡ length v.machines → UnarmedTo v.machines a →
-    AreUnarmed (after_steps v (arms (range_with_len (a + 1) n)))
+    AreUnarmed (after_steps v (disarms (range_with_len (a + 1) n)))
 unarmed_from zero a v whole unarmed =
     let all : a ≡ length v.machines = omega (arith, whole) in
     all_unarmed_to v (subst (λ (k : ℕ). UnarmedTo v.machines k) all unarmed)
 unarmed_from (suc n) a v whole unarmed =
     let k : ℕ = a + 1 - 1 in
     let back : k ≡ a = omega arith in
-    let u : ReplayValue = after_step v (Arms k Nothing) in
+    let u : ReplayValue = after_step v (Disarms k) in
     let m = found v.machines k (omega (arith, whole)) in
-    let calm : Machine = record m.0 { armed = Nothing } in
+    let calm : Machine = unarmed_one m.0 in
     let machines : u.machines ≡ set v.machines k calm =
     ap (λ (o : Option Machine). option_map_or
-    (λ (machine : Machine). set v.machines k (record machine { armed = Nothing })) o v.machines) m.1 in
+    (λ (machine : Machine). set v.machines k (unarmed_one machine)) o v.machines) m.1 in
     let many : a + 1 + n ≡ length u.machines =
     omega (arith, whole, ap (λ (ms : List Machine). length ms) machines, length-set v.machines k calm) in
     let to : UnarmedTo u.machines (a + 1) =
     subst (λ (ms : List Machine). UnarmedTo ms (a + 1)) (sym machines)
     (subst (λ (j : ℕ). UnarmedTo (set v.machines k calm) (j + 1)) back
-    (unarmed_set v.machines k m.0 calm m.1 refl (subst (λ (j : ℕ). UnarmedTo v.machines j) (sym back) unarmed))) in
+    (unarmed_set v.machines k m.0 calm m.1 (refl, refl) (subst (λ (j : ℕ). UnarmedTo v.machines j) (sym back) unarmed))) in
     unarmed_from n (a + 1) u many to
 
 pub all_unarmed : (v : ReplayValue) (mid old : Replay) → Stands v old →
-    DoesAll v (arms (range_with_len 1 (length v.world.gateways))) [] [] mid true →
-    AreUnarmed (after_steps v (arms (range_with_len 1 (length v.world.gateways))))
+    DoesAll v (disarms (range_with_len 1 (length v.world.gateways))) [] [] mid true →
+    AreUnarmed (after_steps v (disarms (range_with_len 1 (length v.world.gateways))))
 all_unarmed v mid old stands did =
     let lengths = each_lengths v.setup 0 v.world.gateways v.machines old.gateways.items stands.gateways in
     unarmed_from (length v.world.gateways) 0 v (omega (arith, lengths.0)) (λ j m less is. absurd (omega (arith, less)))
@@ -377,21 +394,21 @@ all_settling w =
     ∷ Writes (gateway - 1) ∷ []) (range_with_len 1 (length w.gateways))
 
 pub settles_all : (v : ReplayValue) (old mid new : Replay) (before after : List ℕ) → Stands v old →
-    DoesAll v (arms (range_with_len 1 (length v.world.gateways))) [] [] mid true →
-    (let u = after_steps v (arms (range_with_len 1 (length v.world.gateways))) in
+    DoesAll v (disarms (range_with_len 1 (length v.world.gateways))) [] [] mid true →
+    (let u = after_steps v (disarms (range_with_len 1 (length v.world.gateways))) in
     Makes u (flat_map (settling_steps u) (range_with_len 1 (length u.world.gateways))) before after new) →
     Makes v (settle_steps v) before after new
 settles_all v old mid new before after stands did makes =
     let gateways : List ℕ = range_with_len 1 (length v.world.gateways) in
-    let u : ReplayValue = after_steps v (arms gateways) in
-    let first : DoesAll v (arms gateways) before before mid true = record {
+    let u : ReplayValue = after_steps v (disarms gateways) in
+    let first : DoesAll v (disarms gateways) before before mid true = record {
       makes = record {
         stands = did.makes.stands;
         prints = sym (append-nil before) ∙ ap (λ (text : List ℕ). before ++ text) did.makes.prints;
       };
       goes = did.goes;
     } in
-    makes_then v (arms gateways) (all_settling v.world) before before mid after new first
+    makes_then v (disarms gateways) (all_settling v.world) before before mid after new first
     (subst (λ (w : World). Makes u (all_settling w) before after new) (disarmed_world v gateways) makes)
 
 pub settling_is : (v : ReplayValue) → settling_from v 0 ≡ flat_map (settling_steps v) (range_with_len 1 (length v.world.gateways))

@@ -22,19 +22,19 @@ use Rattle.once_core.specs.declared.event.Event.{Event}
 use Rattle.once_core.specs.declared.event.Event.TheVariants as event
 use Rattle.once_core.specs.declared.event.WorldKind.TheVariants.{NoGateway}
 use Rattle.once_core.specs.declared.message.Message.{Message}
-use Rattle.replay_world.specs.Device.{asked_of, machine_after, machine_with, sequel_on}
+use Rattle.replay_world.specs.Device.{asked_of, machine_after, sequel_on}
 use Rattle.replay_world.specs.Does.{goes_on}
 use Rattle.replay_world.specs.Lines.{after_steps, settle_steps, settled, settling_steps}
 use Rattle.replay_world.specs.Moves.{moved_by}
 use Rattle.replay_world.specs.Settled.{AreShut, AreWritten, HaveMachines, IsAllWritten}
-use Rattle.replay_world.specs.Settling.{AreUnarmed}
-use Rattle.replay_world.specs.Setup.{rules_in}
-use Rattle.replay_world.specs.Steps.{Step, Arms, Plays, Writes, after_step, ends_line, machines_at, machines_in, site_of}
-use Rattle.replay_world.specs.Value.{Machine, ReplayValue}
-use Rattle.replay_world.proofs.CalmLemmas.{both, commit_stays_up, close_stays_up, found, get_other, get_same, line_goes_on, running_there, sets_at, stays_set, there_then, unarmed_there}
-use Rattle.replay_world.proofs.QuietLemmas.{machines_stay, plays, writes}
+use Rattle.replay_world.specs.Settling.{AreUnarmed, IsIdle}
+use Rattle.replay_world.specs.Setup.{Setup, files_in, rules_in}
+use Rattle.replay_world.specs.Steps.{Step, Disarms, Plays, Writes, after_step, ends_line, machines_at, machines_in, site_of}
+use Rattle.replay_world.specs.Value.{Filing, Machine, ReplayValue, unarmed as unarmed_one}
+use Rattle.replay_world.proofs.CalmLemmas.{both, commit_stays_up, close_stays_up, found, get_other, get_same, line_goes_on, running_there, sets_at, stays_set, there_then, unarmed_after, unarmed_there}
+use Rattle.replay_world.proofs.QuietLemmas.{filed_machine, machines_stay, plays, writes}
 use Rattle.replay_world.proofs.SetLemmas.{Sets}
-use Rattle.replay_world.proofs.SettleLemmas.{arms, disarmed_world, lesser, may_open, unarmed_from}
+use Rattle.replay_world.proofs.SettleLemmas.{calm_filing, disarmed_world, disarms, lesser, may_open, unarmed_from}
 use Rattle.replay_world.proofs.StepLemmas.{IsAt}
 use Rattle.replay_world.proofs.StepsLemmas.{after_append, goes_append}
 
@@ -89,7 +89,7 @@ alone_then v u w k first later = record {
 }
 
 alone_set : (v : ReplayValue) (step : Step) (k : ℕ) (g : Gateway) (m : Machine) (sends : List Message) →
-    Sets v step k g m sends → m.armed ≡ Nothing → AreUnarmed v → Alone v (after_step v step) k
+    Sets v step k g m sends → IsIdle m → AreUnarmed v → Alone v (after_step v step) k
 alone_set v step k g m sends sets idle unarmed =
     let stays = stays_set v step k g m sends sets idle unarmed in
     record {
@@ -109,7 +109,7 @@ record At (v : ReplayValue) (number : ℕ) (g : Gateway) (m : Machine) : Type 0 
   pub machine : slice_get v.machines (number - 1) ≡ Some m
   pub unarmed : AreUnarmed v
 
-idle_at : (v : ReplayValue) (number : ℕ) (g : Gateway) (m : Machine) → At v number g m → m.armed ≡ Nothing
+idle_at : (v : ReplayValue) (number : ℕ) (g : Gateway) (m : Machine) → At v number g m → IsIdle m
 idle_at v number g m at = unarmed_there v (number - 1) m at.machine at.unarmed
 
 runs_at : (v : ReplayValue) (number : ℕ) (g : Gateway) (m : Machine) → At v number g m → g.is_down ≡ false →
@@ -125,7 +125,7 @@ gateway_is_there v number some few =
 
 -- A step that sets it.
 at_set : (v : ReplayValue) (step : Step) (number : ℕ) (h g : Gateway) (n m : Machine) (sends : List Message) →
-    At v number h n → Sets v step (number - 1) g m sends → m.armed ≡ Nothing → At (after_step v step) number g m
+    At v number h n → Sets v step (number - 1) g m sends → IsIdle m → At (after_step v step) number g m
 at_set v step number h g n m sends at sets idle =
     let k : ℕ = number - 1 in
     let alone = alone_set v step k g m sends sets idle at.unarmed in
@@ -150,13 +150,6 @@ calm_asked AsksReopening at_last = refl
 calm_on : (m : Machine) (asked : Asked) → m.armed ≡ Nothing → sequel_on m asked ≡ GoesOn Nothing
 calm_on m asked is = ap (λ (a : Armed). sequel_of asked a m.at_last) is ∙ calm_asked asked m.at_last
 
-calm_armed : (asked : Asked) (m : Machine) → m.armed ≡ Nothing → (machine_after asked m).armed ≡ Nothing
-calm_armed AsksNothing m is = is
-calm_armed AsksCommit m is =
-    ap (λ (s : Sequel). (machine_with m s).armed) (calm_on m AsksCommit is)
-calm_armed AsksReopening m is =
-    ap (λ (s : Sequel). (machine_with m s).armed) (calm_on m AsksReopening is)
-
 -- An event moved it.
 record MovedTo (v : ReplayValue) (e : Event) (number : ℕ) (g : Gateway) : Type 0 where
   pub machine : Machine
@@ -172,10 +165,10 @@ moves_to v e number g m move is same at =
     let asked : Asked = asked_of v.world g e in
     let n : Machine = machine_after asked m in
     let moved : moved_by (sequel_on m asked) move m g ≡ move (calm_fortune m) g =
-    ap (λ (s : Sequel). moved_by s move m g) (calm_on m asked idle) in
+    ap (λ (s : Sequel). moved_by s move m g) (calm_on m asked idle.0) in
     let done : Moved = moved_by (sequel_on m asked) move m g in
     let sets : Sets v (Plays e) (number - 1) done.gateway n done.sends = sets_at v e number g m move is same idle in
-    let calm = calm_armed asked m idle in
+    let calm = unarmed_after asked m idle in
     record {
       machine = n;
       at = subst (λ (x : Moved). At (after_step v (Plays e)) number x.gateway n) moved
@@ -299,7 +292,8 @@ record SettledAt (v : ReplayValue) (steps : List Step) (number : ℕ) : Type 0 w
   pub g : Gateway
   pub m : Machine
   pub at : At u number g m
-  pub is : IsAllWritten g m
+  pub setup : u.setup ≡ v.setup
+  pub is : IsAllWritten (files_in u.setup (number - 1)) g m
 
 module _ (shut : (h : List HistoryEntry) → is_close_due h ≡ false → AreShut (items_of h)) where
   -- one that runs
@@ -324,10 +318,12 @@ module _ (shut : (h : List HistoryEntry) → is_close_due h ≡ false → AreShu
       let g3 : Gateway = (committing (calm_fortune second.machine) g2).gateway in
       let runs3 : g3.is_down ≡ false = commit_stays_up (calm_fortune second.machine) g2 ∙ runs2 in
       let idle = idle_at v3 number g3 third.machine third.at in
-      let n : Machine = record third.machine { written = length (items_of g3.book.firm) } in
+      let filed = calm_filing (files_in v3.setup k) (items_of g3.book.firm) third.machine.filing idle.1 in
+      let n : Machine = filed_machine v3 k g3 third.machine in
+      let calm : IsIdle n = (idle.0, ap (λ (f : Filing). f.armed) filed) in
       let sets = writes v3 k g3 third.machine third.at.gateway third.at.machine in
       let v4 : ReplayValue = after_step v3 (Writes k) in
-      let last = alone_set v3 (Writes k) k g3 n [] sets idle third.at.unarmed in
+      let last = alone_set v3 (Writes k) k g3 n [] sets calm third.at.unarmed in
       let none_due : is_close_due g3.book.firm ≡ false =
       ap is_close_due (commit_all second.machine g2 closed.whole) ∙ closed.none_due in
       record {
@@ -340,12 +336,13 @@ module _ (shut : (h : List HistoryEntry) → is_close_due h ≡ false → AreShu
             (alone_then v1 v2 v4 k second.alone (alone_then v2 v3 v4 k third.alone last));
         g = g3;
         m = n;
-        at = at_set v3 (Writes k) number g3 g3 third.machine n [] third.at sets idle;
+        at = at_set v3 (Writes k) number g3 g3 third.machine n [] third.at sets calm;
+        setup = refl;
         is = record {
           runs = runs3;
           whole = commit_whole second.machine g2;
           firm = commit_firm second.machine g2;
-          written = refl;
+          written = filed;
           shut = shut g3.book.firm none_due;
         };
       }
@@ -373,6 +370,7 @@ module _ (shut : (h : List HistoryEntry) → is_close_due h ≡ false → AreShu
         g = later.g;
         m = later.m;
         at = later.at;
+        setup = later.setup;
         is = later.is;
       }
 
@@ -385,7 +383,7 @@ module _ (shut : (h : List HistoryEntry) → is_close_due h ≡ false → AreShu
 
   abbrev SettledTo : ReplayValue → ℕ → Type 0
   SettledTo u k = (j : ℕ) (g : Gateway) (m : Machine) → j < k →
-      slice_get u.world.gateways j ≡ Some g → slice_get u.machines j ≡ Some m → IsAllWritten g m
+      slice_get u.world.gateways j ≡ Some g → slice_get u.machines j ≡ Some m → IsAllWritten (files_in u.setup j) g m
 
   settled_more : (u : ReplayValue) (k : ℕ) (steps : List Step) → SettledTo u k → (did : SettledAt u steps (k + 1)) →
       SettledTo did.u (k + 1)
@@ -394,7 +392,7 @@ module _ (shut : (h : List HistoryEntry) → is_close_due h ≡ false → AreShu
       back : k + 1 - 1 ≡ k
       back = omega arith
 
-      by : (b : Bool) → (j == k) ≡ b → IsAllWritten g m
+      by : (b : Bool) → (j == k) ≡ b → IsAllWritten (files_in did.u.setup j) g m
       by true e =
           let here : j ≡ k + 1 - 1 = eqb-true j k e ∙ sym back in
           let gateway : slice_get did.u.world.gateways j ≡ Some did.g =
@@ -403,13 +401,15 @@ module _ (shut : (h : List HistoryEntry) → is_close_due h ≡ false → AreShu
           ap (λ (i : ℕ). slice_get did.u.machines i) here ∙ did.at.machine in
           let same_gateway : did.g ≡ g = cc in
           let same_machine : did.m ≡ m = cc in
-          subst (λ (x : Gateway). IsAllWritten x m) same_gateway
-          (subst (λ (x : Machine). IsAllWritten did.g x) same_machine did.is)
+          subst (λ (i : ℕ). IsAllWritten (files_in did.u.setup i) g m) (sym here)
+          (subst (λ (x : Gateway). IsAllWritten (files_in did.u.setup (k + 1 - 1)) x m) same_gateway
+          (subst (λ (x : Machine). IsAllWritten (files_in did.u.setup (k + 1 - 1)) did.g x) same_machine did.is))
       by false e =
           let apart : j ≡ k → ⊥ = λ same. absurd (true≢false (sym (eq-eqb j k same) ∙ e)) in
           let other : j ≡ k + 1 - 1 → ⊥ = λ same. apart (same ∙ back) in
-          before j g m (lesser j k less apart) (sym (did.alone.other_gateways j other) ∙ has_gateway)
-          (sym (did.alone.other_machines j other) ∙ has_machine)
+          subst (λ (x : Setup). IsAllWritten (files_in x j) g m) (sym did.setup)
+          (before j g m (lesser j k less apart) (sym (did.alone.other_gateways j other) ∙ has_gateway)
+          (sym (did.alone.other_machines j other) ∙ has_machine))
 
   record SettledFrom (v u : ReplayValue) (k n : ℕ) : Type 0 where
     pub w : ReplayValue
@@ -480,34 +480,34 @@ module _ (shut : (h : List HistoryEntry) → is_close_due h ≡ false → AreShu
 
   -- What was armed is armed no more, and then all settle.
 
-  arms_go : (v : ReplayValue) (gateways : List ℕ) → goes_on v (arms gateways) ≡ true
-  arms_go v [] = refl
-  arms_go v (n ∷ gateways) = arms_go (after_step v (Arms (n - 1) Nothing)) gateways
+  disarms_go : (v : ReplayValue) (gateways : List ℕ) → goes_on v (disarms gateways) ≡ true
+  disarms_go v [] = refl
+  disarms_go v (n ∷ gateways) = disarms_go (after_step v (Disarms (n - 1))) gateways
 
   count_by : (o : Option Machine) (ms : List Machine) (k : ℕ) →
-      length (option_map_or (λ (machine : Machine). set ms k (record machine { armed = Nothing })) o ms) ≡ length ms
+      length (option_map_or (λ (machine : Machine). set ms k (unarmed_one machine)) o ms) ≡ length ms
   count_by None ms k = refl
-  count_by (Some m) ms k = length-set ms k (record m { armed = Nothing })
+  count_by (Some m) ms k = length-set ms k (unarmed_one m)
 
-  arms_count : (v : ReplayValue) (gateways : List ℕ) → length (after_steps v (arms gateways)).machines ≡ length v.machines
-  arms_count v [] = refl
-  arms_count v (n ∷ gateways) =
-      arms_count (after_step v (Arms (n - 1) Nothing)) gateways
+  disarms_count : (v : ReplayValue) (gateways : List ℕ) → length (after_steps v (disarms gateways)).machines ≡ length v.machines
+  disarms_count v [] = refl
+  disarms_count v (n ∷ gateways) =
+      disarms_count (after_step v (Disarms (n - 1))) gateways
       ∙ count_by (slice_get v.machines (n - 1)) v.machines (n - 1)
 
   pub all_settled : (v : ReplayValue) → HaveMachines v → AreWritten (settled v)
   all_settled v pairs =
       let gateways : List ℕ = range_with_len 1 (length v.world.gateways) in
-      let u : ReplayValue = after_steps v (arms gateways) in
+      let u : ReplayValue = after_steps v (disarms gateways) in
       let world : u.world ≡ v.world = disarmed_world v gateways in
       let unarmed : AreUnarmed u =
       unarmed_from (length v.world.gateways) 0 v (omega (arith, pairs)) (λ j m less is. absurd (omega (arith, less))) in
       let counted : length u.world.gateways ≡ length v.world.gateways = ap (λ (w : World). length w.gateways) world in
-      let from = settle_from (length v.world.gateways) 0 v u (omega (arith, counted)) (arms_count v gateways ∙ pairs ∙ sym counted) unarmed
+      let from = settle_from (length v.world.gateways) 0 v u (omega (arith, counted)) (disarms_count v gateways ∙ pairs ∙ sym counted) unarmed
       (λ j le. ap (λ (w : World). slice_get w.gateways j) world) (λ j g m less is has. absurd (omega (arith, less))) in
       let runs : Runs v (settle_steps v) from.w =
-      runs_append v (arms gateways) (flat_map (settling_steps v) gateways) u from.w
-      (record { goes = arms_go v gateways; after = refl }) from.runs in
+      runs_append v (disarms gateways) (flat_map (settling_steps v) gateways) u from.w
+      (record { goes = disarms_go v gateways; after = refl }) from.runs in
       subst AreWritten (sym runs.after) (λ place g m has_gateway has_machine.
       let within : place < length from.w.world.gateways = slice_get_within from.w.world.gateways place g has_gateway in
       from.all place g m (omega (arith, within, from.count, counted)) has_gateway has_machine)

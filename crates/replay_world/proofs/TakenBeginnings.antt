@@ -51,7 +51,7 @@ begins_said s setup moment none gateways nodes = record {
       let parts = and_parts (nat_le 1 node) (nat_le node s.nodes) there in
       ap runs (log_get setup.nodes (node - 1) (omega (arith, leb-true 1 node parts.0, leb-true node s.nodes parts.1, nodes)));
   sent = tt;
-  unarmed = all_times Unarmed setup.gateways first_machine refl;
+  unarmed = all_times Unarmed setup.gateways first_machine (refl, refl);
 }
 
 -- ---- whole scripts
@@ -84,6 +84,8 @@ idle_line s t v (line.Deliver message) gateways nodes idle = absurd (cc)
 idle_line s t v (line.Redirect gateway cause to) gateways nodes idle = absurd (cc)
 idle_line s t v (line.Arm gateway call mode) gateways nodes idle = absurd (cc)
 idle_line s t v (line.Fail gateway call) gateways nodes idle = absurd (cc)
+idle_line s t v (line.ArmShelf gateway call mode) gateways nodes idle = absurd (cc)
+idle_line s t v (line.FailShelf gateway call) gateways nodes idle = absurd (cc)
 idle_line s t v line.End gateways nodes idle = absurd (cc)
 idle_line s t v line.Settle gateways nodes idle = absurd (cc)
 idle_line s t v line.Flow gateways nodes idle = absurd (cc)
@@ -115,6 +117,8 @@ setting_stays t (line.Deliver message) h = refl
 setting_stays t (line.Redirect gateway cause to) h = refl
 setting_stays t (line.Arm gateway call mode) h = refl
 setting_stays t (line.Fail gateway call) h = refl
+setting_stays t (line.ArmShelf gateway call mode) h = refl
+setting_stays t (line.FailShelf gateway call) h = refl
 setting_stays t line.End h = refl
 setting_stays t line.Settle h = refl
 setting_stays t line.Flow h = refl

@@ -3,7 +3,8 @@ use Rattle.std.proofs.Common.{◌≡◌, ⊎_elim, ℕ, zero, suc, ◌+◌, ◌-
 use Rattle.std.proofs.lemmas.Bool.{and_parts, eqb-false, ne_eqb}
 use Rattle.std.specs.List.{AllByRecursion, flat_map, range_with_len}
 use Rattle.std.specs.Option.{option_map_or, option_or}
-use Rattle.area_disk.specs.Armed.Armed.{Nothing}
+use Rattle.area_disk.specs.Armed.{Came}
+use Rattle.area_disk.specs.Armed.Came.{Ran, FailedAt, StoppedAt}
 use Rattle.node_core.specs.Log.{runs}
 use Rattle.once_core.specs.Gateway.{Gateway, Moved, cut, opened, still}
 use Rattle.once_core.specs.Turn.{at_gateway, gateway_moved, is_down_in, is_none_of, log_in, no_gateway, no_running_gateway, no_running_node, refusal_of, refusing}
@@ -13,14 +14,15 @@ use Rattle.once_core.specs.declared.message.Message.{Message}
 use Rattle.once_core.specs.declared.event.WorldKind.TheVariants.{Earlier, Halted, NoGateway, NoMessage, NoNode, Running, Stopped}
 use Rattle.rand_pcg.specs.Lcg.{Lcg}
 use Rattle.rand_pcg.specs.Pcg.{pcg32}
-use Rattle.replay_world.specs.Device.{disarmed}
-use Rattle.replay_world.specs.Lines.{delivers, lot_steps, mixed_steps, settling_steps}
-use Rattle.replay_world.specs.Setup.{rules_in}
-use Rattle.replay_world.specs.Steps.{Arms, Loses, Plays, Step, Writes}
+use Rattle.replay_world.specs.Filing.{shelf_calls}
+use Rattle.replay_world.specs.Lines.{came_of_write, came_steps, delivers, lot_steps, mixed_steps, settling_steps, write_steps}
+use Rattle.replay_world.specs.Notices.{ShelfFaulted}
+use Rattle.replay_world.specs.Setup.{files_in, rules_in}
+use Rattle.replay_world.specs.Steps.{Disarms, Loses, Plays, Step, Tells, Writes, items_firm}
 use Rattle.replay_world.specs.Taken.{IsAsSaid}
-use Rattle.replay_world.specs.Value.{ReplayValue}
-use Rattle.replay_world.proofs.TakenPasses.{Facts, Holds, HoldsOf, Passes, arms_passes, calm_passes, loses_passes, passes_none, quiet_passes, within, writes_passes}
-use Rattle.replay_world.proofs.TakenSteps.{both, is_there, not_not, with_unarmed}
+use Rattle.replay_world.specs.Value.{Machine, ReplayValue, disarmed}
+use Rattle.replay_world.proofs.TakenPasses.{Facts, Holds, HoldsOf, Passes, calm_passes, disarms_passes, loses_passes, passes_none, quiet_passes, tells_passes, within, writes_passes}
+use Rattle.replay_world.proofs.TakenSteps.{Unarmed, all_get, both, calls_calm, is_calm, is_there, not_not, with_unarmed}
 use Rattle.world_script.specs.World.{Scene, is_stopped}
 
 -- ---- what a scene says of a replay
@@ -215,14 +217,37 @@ mix_passes f v g (message ∷ waiting) P there h done =
     lot_passes f v ((pcg32 g).0 % 8) message (mixed_steps (pcg32 g).1 waiting) P there.0 h
     (λ u k. mix_passes f u (pcg32 g).1 waiting P there.1 k done)
 
+-- ---- files that are written
+
+-- a failure of a shelf is told, and there is no stop
+came_passes : (f : Facts) (v : ReplayValue) (gateway : ℕ) (c : Came) (P : ReplayValue → Type 0) → is_calm c ≡ true → Holds f v
+    → ((u : ReplayValue) → Holds f u → P u) → Passes v (came_steps gateway c) P
+came_passes f v gateway (Ran a) P calm h done = passes_none v P (done v h)
+came_passes f v gateway (FailedAt k) P calm h done =
+    tells_passes f v (Tells (ShelfFaulted (gateway - 1))) [] P refl refl refl h (λ u held. passes_none u P (done u held))
+came_passes f v gateway (StoppedAt k outcome) P calm h done = absurd (cc)
+
+pub write_passes : (f : Facts) (v : ReplayValue) (gateway : ℕ) (P : ReplayValue → Type 0) → Holds f v
+    → ((u : ReplayValue) → Holds f u → P u) → Passes v (write_steps v gateway) P
+write_passes f v gateway P h done =
+    writes_passes f v (gateway - 1) _ P h (λ u held. by u held (slice_get v.machines (gateway - 1)) refl)
+  where
+    by : (u : ReplayValue) → Holds f u → (o : Option Machine) → slice_get v.machines (gateway - 1) ≡ o
+        → Passes u (option_map_or (λ m. came_steps gateway (came_of_write v (gateway - 1) m)) o []) P
+    by u held None is = passes_none u P (done u held)
+    by u held (Some m) is =
+        came_passes f u gateway (came_of_write v (gateway - 1) m) P
+        (calls_calm m.filing.armed (length (shelf_calls (files_in v.setup (gateway - 1)) (items_firm v (gateway - 1)) m.filing))
+        (all_get Unarmed v.machines (gateway - 1) m is h.unarmed).1) held done
+
 -- ---- gateways that settle
 
-pub arms_all : (f : Facts) (v : ReplayValue) (gateways : List ℕ) (later : List Step) (P : ReplayValue → Type 0) → Holds f v
-    → ((u : ReplayValue) → Holds f u → Passes u later P) → Passes v (map (λ gateway. Arms (gateway - 1) Nothing) gateways ++ later) P
-arms_all f v [] later P h rest = rest v h
-arms_all f v (gateway ∷ gateways) later P h rest =
-    arms_passes f v (gateway - 1) (map (λ gateway. Arms (gateway - 1) Nothing) gateways ++ later) P h
-    (λ u k. arms_all f u gateways later P k rest)
+pub disarms_all : (f : Facts) (v : ReplayValue) (gateways : List ℕ) (later : List Step) (P : ReplayValue → Type 0) → Holds f v
+    → ((u : ReplayValue) → Holds f u → Passes u later P) → Passes v (map (λ gateway. Disarms (gateway - 1)) gateways ++ later) P
+disarms_all f v [] later P h rest = rest v h
+disarms_all f v (gateway ∷ gateways) later P h rest =
+    disarms_passes f v (gateway - 1) (map (λ gateway. Disarms (gateway - 1)) gateways ++ later) P h
+    (λ u k. disarms_all f u gateways later P k rest)
 
 weaker_holds : (s : Scene) (messages : ℕ) (down other : ℕ → Bool) (v : ReplayValue)
     → ((gateway : ℕ) → within s.gateways gateway ≡ true → down gateway ≡ other gateway) → Holds (facts s messages down) v → Holds (facts s messages other) v
@@ -265,7 +290,7 @@ module _ (s : Scene) (messages : ℕ) where
       let moves = changes s messages down v.world h.world gateway (λ g. still (cut 0 g)) true is (λ g. refl) (λ g. refl) in
       calm_passes (facts s messages down) (facts s messages (changed gateway true down)) v (event.Cut gateway 0) later P refl
       (gateway_runs (facts s messages down) v.world h.world gateway is up)
-      (with_unarmed v (gateway - 1) disarmed (λ m k. refl) h.unarmed) moves.0 moves.1 h rest
+      (with_unarmed v (gateway - 1) disarmed (λ m k. (refl, refl)) h.unarmed) moves.0 moves.1 h rest
 
   -- a gateway that runs commits, closes its files, commits again and writes
   runs_settling : (down : ℕ → Bool) (v : ReplayValue) (gateway : ℕ) (later : List Step) (P : ReplayValue → Type 0) → within s.gateways gateway ≡ true

@@ -2,7 +2,10 @@
 use Rattle.std.proofs.Common.{◌≡◌, ℕ, suc, ◌≤◌, ◌==◌, ◌&&◌, not, nat_le, Bool, true, false, if◌then◌else◌, List, [], ◌∷◌, ◌++◌, length, map, drop, Option, Some, None, refl, sym, ap, subst, ◌∙◌, arith, length-drop}
 use Rattle.std.specs.List.{AllByRecursion, enumerate_from}
 use Rattle.std.specs.Option.{option_map_or}
-use Rattle.area_disk.specs.Armed.Armed.{Nothing}
+use Rattle.area_disk.specs.Armed.{Came}
+use Rattle.area_disk.specs.Armed.Came.{Ran, FailedAt, StoppedAt}
+use Rattle.file_writer.specs.Streams.{Settings}
+use Rattle.gw_base.specs.declared.item.Item.{Item}
 use Rattle.node_core.specs.Log.{runs}
 use Rattle.once_core.specs.Gateway.{Rules}
 use Rattle.once_core.specs.Turn.{Turn, calm, is_down_in, is_none_of, log_in, refusal_of, turn, turn_by, turns, unless_refused}
@@ -13,11 +16,12 @@ use Rattle.once_core.specs.declared.event.WorldKind.{WorldKind}
 use Rattle.once_core.specs.declared.message.Message.{Message}
 use Rattle.replay_world.specs.Device.{asked_of, machine_after}
 use Rattle.replay_world.specs.Lines.{after_steps, turns_by}
-use Rattle.replay_world.specs.Setup.{rules_in}
-use Rattle.replay_world.specs.Steps.{Plays, Loses, Arms, Writes, Tells, Site, Step, after_step, ends_line, items_firm, machines_at, machines_after, machines_in, site_of, step_turns, turn_of, waiting_after, waiting_left, world_after}
-use Rattle.replay_world.specs.Taken.{Allows}
-use Rattle.replay_world.specs.Value.{ReplayValue}
-use Rattle.replay_world.proofs.TakenSteps.{Unarmed, after_unarmed, all_append, all_filter, all_weaker, event_is, numbered, still_there, stops_none, with_unarmed}
+use Rattle.replay_world.specs.Filing.{filing_after, filing_then, shelf_calls, shelf_came}
+use Rattle.replay_world.specs.Setup.{files_in, rules_in}
+use Rattle.replay_world.specs.Steps.{Plays, Loses, Arms, ArmsShelf, Disarms, Writes, Tells, files_written, Site, Step, after_step, ends_line, items_firm, machines_at, machines_after, machines_in, site_of, step_turns, turn_of, waiting_after, waiting_left, world_after}
+use Rattle.replay_world.specs.Taken.{Allows, arms_stop}
+use Rattle.replay_world.specs.Value.{Filing, ReplayValue, unarmed as unarmed_one}
+use Rattle.replay_world.proofs.TakenSteps.{Unarmed, after_unarmed, all_append, all_filter, all_weaker, calls_calm, event_is, is_calm, numbered, still_there, stops_none, true_not, with_unarmed}
 use Rattle.replay_world.proofs.TakenWorlds.{Same, is_quiet, turn_same}
 
 -- ---- a replay of which some of the world is known
@@ -73,6 +77,8 @@ left_sent P waiting (Plays (event.Mark gateway)) h = h
 left_sent P waiting (Plays (event.Close gateway)) h = h
 left_sent P waiting (Loses message) h = all_filter P (λ n. not (n == message)) waiting h
 left_sent P waiting (Arms gateway armed) h = h
+left_sent P waiting (ArmsShelf gateway armed) h = h
+left_sent P waiting (Disarms gateway) h = h
 left_sent P waiting (Writes gateway) h = h
 left_sent P waiting (Tells notice) h = h
 
@@ -175,18 +181,33 @@ pub tells_passes : (f : Facts) (v : ReplayValue) (step : Step) (later : List Ste
 tells_passes f v step later P none goes_on same h rest =
     still_passes f v step later P none goes_on (subst (AllByRecursion Unarmed) (sym same) h.unarmed) h rest
 
+-- where no stop is armed for a shelf, none is when it was written
+filed_unarmed : (settings : Settings) (items : List Item) (f : Filing) → arms_stop f.armed ≡ false →
+    arms_stop (filing_then settings items f).armed ≡ false
+filed_unarmed settings items f h =
+    by (shelf_came settings items f) (calls_calm f.armed (length (shelf_calls settings items f)) h)
+  where
+    by : (c : Came) → is_calm c ≡ true → arms_stop (filing_after settings items f c).armed ≡ false
+    by (Ran a) is = true_not (arms_stop a) is
+    by (FailedAt k) is = refl
+    by (StoppedAt k outcome) is = refl
+
 pub writes_passes : (f : Facts) (v : ReplayValue) (place : ℕ) (later : List Step) (P : ReplayValue → Type 0) → Holds f v
     → ((u : ReplayValue) → Holds f u → Passes u later P) → Passes v (Writes place ∷ later) P
 writes_passes f v place later P h rest =
     still_passes f v (Writes place) later P refl refl
-    (with_unarmed v place (λ m. record m { written = items_firm v place }) (λ m unarmed. unarmed) h.unarmed) h rest
+    (with_unarmed v place (files_written v place) (λ m unarmed. (
+      unarmed.0,
+      filed_unarmed (files_in v.setup place)
+          (items_firm v place) m.filing unarmed.1,
+    )) h.unarmed) h rest
 
 -- a step that leaves what is armed there no stop
-pub arms_passes : (f : Facts) (v : ReplayValue) (place : ℕ) (later : List Step) (P : ReplayValue → Type 0) → Holds f v
-    → ((u : ReplayValue) → Holds f u → Passes u later P) → Passes v (Arms place Nothing ∷ later) P
-arms_passes f v place later P h rest =
-    still_passes f v (Arms place Nothing) later P refl refl
-    (with_unarmed v place (λ m. record m { armed = Nothing }) (λ m unarmed. refl) h.unarmed) h rest
+pub disarms_passes : (f : Facts) (v : ReplayValue) (place : ℕ) (later : List Step) (P : ReplayValue → Type 0) → Holds f v
+    → ((u : ReplayValue) → Holds f u → Passes u later P) → Passes v (Disarms place ∷ later) P
+disarms_passes f v place later P h rest =
+    still_passes f v (Disarms place) later P refl refl
+    (with_unarmed v place unarmed_one (λ m unarmed. (refl, refl)) h.unarmed) h rest
 
 -- an event at which no device is asked, and which changes what is known of the world
 pub calm_passes : (f g : Facts) (v : ReplayValue) (e : Event) (later : List Step) (P : ReplayValue → Type 0) → site_of v e ≡ None

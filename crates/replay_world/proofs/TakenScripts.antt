@@ -1,5 +1,5 @@
 -- Each line that a world surely takes, and lines one after the other.
-use Rattle.std.proofs.Common.{◌≡◌, ℕ, suc, ◌-◌, ◌==◌, ◌||◌, not, nat_le, Bool, true, false, if◌then◌else◌, List, [], ◌∷◌, length, filter, None, Result, Ok, Err, refl, sym, ap, subst, ◌∙◌, arith, eqb-true, le-leb}
+use Rattle.std.proofs.Common.{◌≡◌, ℕ, suc, ◌==◌, ◌||◌, not, nat_le, Bool, true, false, if◌then◌else◌, List, [], ◌∷◌, length, filter, None, Result, Ok, Err, refl, sym, ap, subst, ◌∙◌, arith, eqb-true, le-leb}
 use Rattle.std.proofs.lemmas.Bool.{and_parts}
 use Rattle.std.specs.List.{flat_map, list_any, range_with_len}
 use Rattle.gtpp_message.specs.Packet.{PacketForm}
@@ -16,8 +16,8 @@ use Rattle.replay_world.specs.Steps.{Tells}
 use Rattle.replay_world.specs.Taken.{Allows, IsAsSaid}
 use Rattle.replay_world.specs.Value.{ReplayValue}
 use Rattle.replay_world.proofs.LineLemmas.{line_setup, line_world}
-use Rattle.replay_world.proofs.TakenLines.{arms_all, changed, facts, flow_passes, gateway_opens, gateway_runs, holds_said, mix_passes, moment_comes, node_runs, opens_passes, said_holds, settles_from, stops_passes}
-use Rattle.replay_world.proofs.TakenPasses.{Holds, Passes, allows_append, calm_passes, passes_none, quiet_passes, tells_passes, within, writes_passes}
+use Rattle.replay_world.proofs.TakenLines.{changed, disarms_all, facts, flow_passes, gateway_opens, gateway_runs, holds_said, mix_passes, moment_comes, node_runs, opens_passes, said_holds, settles_from, stops_passes, write_passes}
+use Rattle.replay_world.proofs.TakenPasses.{Holds, Passes, allows_append, calm_passes, passes_none, quiet_passes, tells_passes, within}
 use Rattle.replay_world.proofs.TakenSteps.{both, true_not}
 use Rattle.world_script.specs.Sample.{seeded}
 use Rattle.world_script.specs.Script.{is_setting_line}
@@ -125,8 +125,7 @@ module _ (s : Scene) (v : ReplayValue) (is : IsAsSaid s v) where
       let f = facts s (length v.world.messages) (is_stopped s) in
       record {
         allowed = gateway_runs f v.world (said_holds s v is).world gateway (runs_there gateway there).0 (runs_there gateway there).1;
-        passes = writes_passes f v (gateway - 1) [] (IsAsSaid s) (said_holds s v is)
-            (λ u h. passes_none u (IsAsSaid s) (still (length v.world.messages) u h));
+        passes = write_passes f v gateway (IsAsSaid s) (said_holds s v is) (λ u h. still (length v.world.messages) u h);
       }
 
   by_tick : (node : ℕ) → has_node s node ≡ true → IsTaken s v (line.Tick node)
@@ -198,7 +197,7 @@ module _ (s : Scene) (v : ReplayValue) (is : IsAsSaid s v) where
   settles =
       let after = record s { stopped = [] } in
       let gateways = range_with_len 1 (length v.world.gateways) in
-      arms_all (facts s (length v.world.messages) (is_stopped s)) v gateways (flat_map (settling_steps v) gateways) (IsAsSaid after) (said_holds s v is)
+      disarms_all (facts s (length v.world.messages) (is_stopped s)) v gateways (flat_map (settling_steps v) gateways) (IsAsSaid after) (said_holds s v is)
       (λ u h. subst (λ (n : ℕ). Passes u (flat_map (settling_steps v) (range_with_len 1 n)) (IsAsSaid after)) (sym is.gateways)
       (settles_from s (length v.world.messages) v 1 s.gateways (is_stopped s) u (IsAsSaid after) (omega arith) (omega arith)
       (λ gateway low high. absurd (omega (arith, low, high)))
@@ -237,6 +236,8 @@ module _ (s : Scene) (v : ReplayValue) (is : IsAsSaid s v) where
   line_taken (line.Redirect gateway cause to) action there = absurd (cc)
   line_taken (line.Arm gateway call mode) action there = absurd (cc)
   line_taken (line.Fail gateway call) action there = absurd (cc)
+  line_taken (line.ArmShelf gateway call mode) action there = absurd (cc)
+  line_taken (line.FailShelf gateway call) action there = absurd (cc)
 
 -- ---- lines one after the other
 

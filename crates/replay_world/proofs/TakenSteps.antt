@@ -41,7 +41,7 @@ all_set P [] p x y e f h = tt
 all_set P (z ∷ xs) zero x y e f h = let same : z ≡ x = cc in (f (subst P same h.0), h.1)
 all_set P (z ∷ xs) (suc p) x y e f h = (h.0, all_set P xs p x y e f h.1)
 
-all_get : {A : Type 0} (P : A → Type 0) (xs : List A) (p : ℕ) (x : A) → slice_get xs p ≡ Some x → AllByRecursion P xs → P x
+pub all_get : {A : Type 0} (P : A → Type 0) (xs : List A) (p : ℕ) (x : A) → slice_get xs p ≡ Some x → AllByRecursion P xs → P x
 all_get P [] p x e h = absurd (cc)
 all_get P (z ∷ xs) zero x e h = let same : z ≡ x = cc in subst P same h.0
 all_get P (z ∷ xs) (suc p) x e h = all_get P xs p x e h.1
@@ -72,10 +72,10 @@ numbered n first [] low high = tt
 numbered n first (x ∷ xs) low high =
     (is_there n first low (omega (arith, high)), numbered n (first + 1) xs (omega arith) (omega (arith, high)))
 
--- ---- devices on which no stop is armed
+-- ---- devices on which no stop is armed, areas and shelves
 
 abbrev pub Unarmed : Machine → Type 0
-Unarmed m = arms_stop m.armed ≡ false
+Unarmed m = (arms_stop m.armed ≡ false) × (arms_stop m.filing.armed ≡ false)
 
 -- nothing of some calls stops the gateway, or is armed then and will
 abbrev pub is_calm : Came → Bool
@@ -88,7 +88,7 @@ calm_later (Ran armed) = refl
 calm_later (FailedAt call) = refl
 calm_later (StoppedAt call outcome) = refl
 
-calls_calm : (armed : Armed) (n : ℕ) → arms_stop armed ≡ false → is_calm (calls_under armed n) ≡ true
+pub calls_calm : (armed : Armed) (n : ℕ) → arms_stop armed ≡ false → is_calm (calls_under armed n) ≡ true
 calls_calm Nothing zero h = refl
 calls_calm Nothing (suc n) h = refl
 calls_calm (Fail call) zero h = refl
@@ -112,9 +112,9 @@ reopening_calm at_last (FailedAt call) h = refl
 reopening_calm at_last (StoppedAt call outcome) h = absurd (cc)
 
 sequel_calm : (asked : Asked) (m : Machine) → Unarmed m → goes_calmly (sequel_on m asked) ≡ true
-sequel_calm AsksNothing m h = ap not h
-sequel_calm AsksCommit m h = commit_calm (calls_under m.armed 4) (calls_calm m.armed 4 h)
-sequel_calm AsksReopening m h = reopening_calm m.at_last (calls_under m.armed 1) (calls_calm m.armed 1 h)
+sequel_calm AsksNothing m h = ap not h.0
+sequel_calm AsksCommit m h = commit_calm (calls_under m.armed 4) (calls_calm m.armed 4 h.0)
+sequel_calm AsksReopening m h = reopening_calm m.at_last (calls_under m.armed 1) (calls_calm m.armed 1 h.0)
 
 no_stop : (s : Sequel) → goes_calmly s ≡ true → is_stop s ≡ false
 no_stop (GoesOn armed) h = refl
@@ -125,15 +125,15 @@ pub true_not : (b : Bool) → not b ≡ true → b ≡ false
 true_not true e = absurd (cc)
 true_not false e = refl
 
-machine_unarmed : (m : Machine) (s : Sequel) → goes_calmly s ≡ true → Unarmed (machine_with m s)
-machine_unarmed m (GoesOn armed) h = true_not (arms_stop armed) h
-machine_unarmed m (Breaks last) h = refl
-machine_unarmed m (Stops stands) h = refl
+machine_unarmed : (m : Machine) (s : Sequel) → goes_calmly s ≡ true → Unarmed m → Unarmed (machine_with m s)
+machine_unarmed m (GoesOn armed) h u = (true_not (arms_stop armed) h, u.1)
+machine_unarmed m (Breaks last) h u = (refl, u.1)
+machine_unarmed m (Stops stands) h u = (refl, refl)
 
 pub after_unarmed : (asked : Asked) (m : Machine) → Unarmed m → Unarmed (machine_after asked m)
 after_unarmed AsksNothing m h = h
-after_unarmed AsksCommit m h = machine_unarmed m (sequel_on m AsksCommit) (sequel_calm AsksCommit m h)
-after_unarmed AsksReopening m h = machine_unarmed m (sequel_on m AsksReopening) (sequel_calm AsksReopening m h)
+after_unarmed AsksCommit m h = machine_unarmed m (sequel_on m AsksCommit) (sequel_calm AsksCommit m h) h
+after_unarmed AsksReopening m h = machine_unarmed m (sequel_on m AsksReopening) (sequel_calm AsksReopening m h) h
 
 pub with_unarmed : (v : ReplayValue) (place : ℕ) (change : Machine → Machine) → ((m : Machine) → Unarmed m → Unarmed (change m))
     → AllByRecursion Unarmed v.machines → AllByRecursion Unarmed (with_machine v place change)

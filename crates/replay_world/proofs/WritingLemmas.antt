@@ -1,5 +1,5 @@
 -- The items that a gateway's firm entries make, which are read and written.
-use Rattle.std.proofs.Common.{◌≡◌, ◌∙◌, sym, ap, subst, ℕ, ◌+◌, ◌<◌, ◌^◌, List, length, take, drop, take_all, length-take, length-drop, Option, Some, None, arith}
+use Rattle.std.proofs.Common.{◌≡◌, ◌∙◌, sym, ap, subst, ℕ, ◌+◌, ◌<◌, ◌^◌, List, length, take, drop, take_all, length-take, length-drop, Option, Some, None, false, true≢false, arith}
 use Rattle.area_disk.specs.declared.memory.MemoryArea.{MemoryArea}
 use Rattle.gateway_book.specs.Items.{items_of}
 use Rattle.gateway_book.specs.Read.{IsUnchanged}
@@ -8,8 +8,11 @@ use Rattle.gateway_book.specs.declared.book.Book.{Book}
 use Rattle.once_core.specs.Gateway.{Gateway}
 use Rattle.replay_world.specs.Setup.{Setup, files_in}
 use Rattle.replay_world.specs.Stands.{MachineStands, SiteStands, StandsUp, area_tells, header_at}
-use Rattle.replay_world.specs.Written.{FilesStand}
-use Rattle.replay_world.specs.Value.{Machine}
+use Rattle.replay_world.specs.Written.{FilesStand, HasWritten}
+use Rattle.replay_world.specs.WritingFiles.{WritesFiles}
+use Rattle.replay_world.specs.Value.{Filing, Machine}
+use Rattle.replay_world.specs.Filing.{filing_then}
+use Rattle.replay_world.specs.declared.files.Wrote.{Wrote}
 use Rattle.replay_world.specs.declared.machine.Machine as real
 use Rattle.replay_world.specs.declared.site.Site.{Site}
 use Rattle.replay_world.specs.declared.site.Site.TheVariants.{Up, Down}
@@ -48,40 +51,40 @@ site_set setup place g m old new stands site rest = record {
   unreached = stands.unreached;
   redirects = ap (λ (r : real.Machine). r.redirects) rest ∙ stands.redirects;
   named = ap (λ (r : real.Machine). r.setup) rest ∙ stands.named;
-  writes = subst (λ (r : real.Machine). FilesStand (files_in setup place) m.written
+  writes = subst (λ (r : real.Machine). FilesStand (files_in setup place) m.filing
       (items_of g.book.firm) r.files) (sym rest) stands.writes;
 }
 
--- How many were written doesn't matter to its site.
-site_written : (setup : Setup) (place : ℕ) (g : Gateway) (m : Machine) (n : ℕ) (s : Site) →
-    SiteStands setup place g m (Some s) → SiteStands setup place g (record m { written = n }) (Some s)
-site_written setup place g m n (Up book) stands =
+-- What is written doesn't matter to the site of one that runs.
+site_written : (setup : Setup) (place : ℕ) (g : Gateway) (m : Machine) (f : Filing) (s : Option Site) → g.is_down ≡ false →
+    SiteStands setup place g m s → SiteStands setup place g (record m { filing = f }) s
+site_written setup place g m f None runs stands = absurd stands
+site_written setup place g m f (Some (Up book)) runs stands =
     record { runs = stands.runs; up = stands.up; size = stands.size; open_time = stands.open_time }
-site_written setup place g m n (Down fallen) stands = record {
-  stopped = stands.stopped;
-  down = stands.down;
-  is_armed = stands.is_armed;
-  unarmed = stands.unarmed;
-  silent = stands.silent;
-  size = stands.size;
-}
+site_written setup place g m f (Some (Down fallen)) runs stands = absurd (true≢false (sym stands.stopped ∙ runs))
 
-written_there : (setup : Setup) (place : ℕ) (g : Gateway) (m : Machine) (n : ℕ) (s : Option Site) →
-    SiteStands setup place g m s → SiteStands setup place g (record m { written = n }) s
-written_there setup place g m n None stands = absurd stands
-written_there setup place g m n (Some s) stands = site_written setup place g m n s stands
-
--- All items were written.
-pub has_written : (setup : Setup) (place : ℕ) (g : Gateway) (m : Machine) (old new : real.Machine) →
-    MachineStands setup place g m old → new ≡ record old { files = new.files } →
-    FilesStand (files_in setup place) (length (items_of g.book.firm)) (items_of g.book.firm) new.files →
-    MachineStands setup place g (record m { written = length (items_of g.book.firm) }) new
-has_written setup place g m old new stands rest writes = record {
-  site = subst (λ (r : real.Machine). SiteStands setup place g (record m { written = length (items_of g.book.firm) }) r.site)
-      (sym rest) (written_there setup place g m (length (items_of g.book.firm)) old.site stands.site);
+-- What is written of its items is something else.
+pub files_set : (setup : Setup) (place : ℕ) (g : Gateway) (m : Machine) (f : Filing) (old new : real.Machine) →
+    MachineStands setup place g m old → g.is_down ≡ false → new ≡ record old { files = new.files } →
+    FilesStand (files_in setup place) f (items_of g.book.firm) new.files →
+    MachineStands setup place g (record m { filing = f }) new
+files_set setup place g m f old new stands runs rest writes = record {
+  site = subst (λ (r : real.Machine). SiteStands setup place g (record m { filing = f }) r.site) (sym rest)
+      (site_written setup place g m f old.site runs stands.site);
   waiting = ap (λ (r : real.Machine). r.waiting.items) rest ∙ stands.waiting;
   unreached = stands.unreached;
   redirects = ap (λ (r : real.Machine). r.redirects) rest ∙ stands.redirects;
   named = ap (λ (r : real.Machine). r.setup) rest ∙ stands.named;
   writes = writes;
+}
+
+-- All items were to be written.
+pub writes_files : (setup : Setup) (place : ℕ) (g : Gateway) (m : Machine) (ended : Wrote) (old new : real.Machine) →
+    MachineStands setup place g m old → g.is_down ≡ false → new ≡ record old { files = new.files } →
+    HasWritten (files_in setup place) (items_of g.book.firm) m.filing ended new.files →
+    WritesFiles setup place g m ended new
+writes_files setup place g m ended old new stands runs rest written = record {
+  came = written.ends;
+  stands = files_set setup place g m (filing_then (files_in setup place) (items_of g.book.firm) m.filing) old new stands runs
+      rest written.stands;
 }

@@ -100,7 +100,7 @@ module _ (setup : Setup) (place : ℕ) (g : Gateway) (m : Machine) where
     pub waiting : r.waiting.items ≡ g.waiting
     pub redirects : r.redirects ≡ g.redirects % 65536
     pub named : r.setup ≡ record { address = (gateway_address place).ip; open_time = setup.limits.open_time }
-    pub writes : FilesStand (files_in setup place) m.written (items_of value.firm) r.files
+    pub writes : FilesStand (files_in setup place) m.filing (items_of value.firm) r.files
 
   -- What waited was sent or given up since.
   pub record AfterCall (value : BookValue) (sequel : Sequel) (sent : Sent) (r : real.Machine) : Type 0 where

@@ -12,7 +12,7 @@ use Rattle.once_core.specs.World.{World}
 use Rattle.once_core.specs.declared.event.Event.{Event}
 use Rattle.once_core.specs.declared.event.Event.TheVariants as event
 use Rattle.once_core.specs.declared.message.Message.{Message}
-use Rattle.replay_world.specs.Value.{Machine}
+use Rattle.replay_world.specs.Value.{Machine, disarmed}
 
 -- Where an event happens.
 
@@ -70,10 +70,7 @@ turn_with g place e at_last (Stops stands) = record {
   held = None;
 }
 
--- What the gateway runs on then: a stop or a failure leaves nothing armed.
-
-abbrev pub disarmed : Machine → Machine
-disarmed m = record m { armed = Nothing; at_last = false }
+-- What the gateway runs on then: a failure leaves nothing armed for the area, and a stop nothing at all.
 
 abbrev pub machine_with : Machine → Sequel → Machine
 machine_with m (GoesOn armed) = record m { armed = armed; at_last = false }

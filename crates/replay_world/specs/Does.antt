@@ -32,15 +32,17 @@ abbrev pub is_at_gateway : Line → Bool
 is_at_gateway (line.Mark gateway) = true
 is_at_gateway (line.Close gateway) = true
 is_at_gateway (line.Commit gateway) = true
+is_at_gateway (line.Write gateway) = true
 is_at_gateway (line.Redirect gateway cause to) = true
 is_at_gateway _ = false
 
 abbrev pub is_on_device : Line → Bool
-is_on_device (line.Write gateway) = true
 is_on_device (line.Stop gateway) = true
 is_on_device (line.Open gateway) = true
 is_on_device (line.Arm gateway call mode) = true
 is_on_device (line.Fail gateway call) = true
+is_on_device (line.ArmShelf gateway call mode) = true
+is_on_device (line.FailShelf gateway call) = true
 is_on_device _ = false
 
 -- the end of a line that ran, or for which there was no memory

@@ -4,6 +4,7 @@ pub mod Settings
 pub mod Value
 pub mod Notices
 pub mod Device
+pub mod Filing
 pub mod Packets
 pub mod Steps
 pub mod Telling
@@ -27,6 +28,7 @@ pub mod Asking
 pub mod Taking
 pub mod Redirecting
 pub mod Opening
+pub mod WritingFiles
 pub mod Sending
 pub mod Receiving
 pub mod Settling

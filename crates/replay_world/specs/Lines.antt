@@ -1,9 +1,12 @@
 -- What a line of a replay is: whether the world allows it, its steps, and what they come to.
-use Rattle.std.specs.Prelude.{ℕ, ◌-◌, ◌%◌, ◌==◌, if◌then◌else◌, List, [], ◌∷◌, ◌++◌, length, map, Option, None, Result, Ok, Err}
+use Rattle.std.specs.Prelude.{ℕ, ◌-◌, ◌%◌, ◌==◌, if◌then◌else◌, List, [], ◌∷◌, ◌++◌, length, map, Option, None, Result, Ok, Err, slice_get}
 use Rattle.std.specs.List.{flat_map, range_with_len}
-use Rattle.area_disk.specs.Armed.Armed.{Nothing, Fail, Stop}
+use Rattle.std.specs.Option.{option_map_or}
+use Rattle.area_disk.specs.Armed.{Came}
+use Rattle.area_disk.specs.Armed.Armed.{Fail, Stop}
+use Rattle.area_disk.specs.Armed.Came.{Ran, FailedAt, StoppedAt}
 use Rattle.area_disk.specs.declared.plan.Outcome3.{Outcome3}
-use Rattle.area_disk.specs.declared.plan.Outcome3.TheVariants.{Old, New}
+use Rattle.area_disk.specs.declared.plan.Outcome3.TheVariants.{Old, New, Rot}
 use Rattle.gtpp_message.specs.Packet.{PacketForm}
 use Rattle.node_core.specs.Drafts.{value_octets}
 use Rattle.node_core.specs.declared.fault.DraftFault.{DraftFault}
@@ -12,11 +15,13 @@ use Rattle.once_core.specs.declared.event.Event.TheVariants as event
 use Rattle.once_core.specs.declared.event.WorldKind.{WorldKind}
 use Rattle.rand_pcg.specs.Lcg.{Lcg}
 use Rattle.rand_pcg.specs.Pcg.{pcg32}
-use Rattle.replay_world.specs.Notices.{Notice, Refused, draft_fault_name}
+use Rattle.replay_world.specs.Filing.{shelf_came}
+use Rattle.replay_world.specs.Setup.{files_in}
+use Rattle.replay_world.specs.Notices.{Notice, Refused, ShelfFaulted, Stopped, draft_fault_name}
 use Rattle.replay_world.specs.Packets.{drafted}
-use Rattle.replay_world.specs.Steps.{Step, Plays, Loses, Arms, Writes, Tells, after_step, ends_line, step_turns}
+use Rattle.replay_world.specs.Steps.{Step, Plays, Loses, Arms, ArmsShelf, Disarms, Writes, Tells, after_step, ends_line, items_firm, step_turns}
 use Rattle.replay_world.specs.Telling.{step_notices}
-use Rattle.replay_world.specs.Value.{ReplayValue}
+use Rattle.replay_world.specs.Value.{Machine, ReplayValue}
 use Rattle.world_script.specs.Sample.{seeded}
 use Rattle.world_script.specs.declared.line.Line.{Line}
 use Rattle.world_script.specs.declared.line.Line.TheVariants as line
@@ -40,6 +45,8 @@ refusal_of_line v (line.Stop gateway) = refusal_of v.world (event.Cut gateway 0)
 refusal_of_line v (line.Open gateway) = refusal_of v.world (event.Open gateway)
 refusal_of_line v (line.Arm gateway call mode) = no_running_gateway v.world gateway
 refusal_of_line v (line.Fail gateway call) = no_running_gateway v.world gateway
+refusal_of_line v (line.ArmShelf gateway call mode) = no_running_gateway v.world gateway
+refusal_of_line v (line.FailShelf gateway call) = no_running_gateway v.world gateway
 refusal_of_line v _ = None
 
 -- The steps of a line.
@@ -68,6 +75,23 @@ mixed_steps g (message ∷ later) = lot_steps ((pcg32 g).0 % 8) message ++ mixed
 abbrev pub outcome_in : Mode → Outcome3
 outcome_in mode.Old = Old
 outcome_in mode.New = New
+outcome_in mode.Rot = Rot
+
+-- What follows a write whose shelf failed or stopped is told; and a stop of the shelf stops the gateway, which keeps
+-- what is firm.
+abbrev pub came_steps : ℕ → Came → List Step
+came_steps gateway (Ran armed) = []
+came_steps gateway (FailedAt call) = Tells (ShelfFaulted (gateway - 1)) ∷ []
+came_steps gateway (StoppedAt call outcome) = Tells (Stopped (gateway - 1)) ∷ Plays (event.Cut gateway 0) ∷ []
+
+-- what comes of the calls of its shelf
+abbrev pub came_of_write : ReplayValue → ℕ → Machine → Came
+came_of_write v place m = shelf_came (files_in v.setup place) (items_firm v place) m.filing
+
+abbrev pub write_steps : ReplayValue → ℕ → List Step
+write_steps v gateway =
+    Writes (gateway - 1)
+    ∷ option_map_or (λ m. came_steps gateway (came_of_write v (gateway - 1) m)) (slice_get v.machines (gateway - 1)) []
 
 -- a gateway is opened where it is stopped; it commits, closes its files, commits again, and its files are written
 abbrev pub settling_steps : ReplayValue → ℕ → List Step
@@ -80,7 +104,7 @@ settling_steps v gateway =
 abbrev pub settle_steps : ReplayValue → List Step
 settle_steps v =
     let gateways = range_with_len 1 (length v.world.gateways) in
-    map (λ gateway. Arms (gateway - 1) Nothing) gateways ++ flat_map (settling_steps v) gateways
+    map (λ gateway. Disarms (gateway - 1)) gateways ++ flat_map (settling_steps v) gateways
 
 -- of a setting, and of a line that no replay has, there are none
 abbrev pub steps_of : ReplayValue → Line → List Step
@@ -95,12 +119,14 @@ steps_of v (line.Deliver message) = delivers message ∷ []
 steps_of v line.Flow = map delivers v.waiting
 steps_of v (line.Mix seed) = mixed_steps (seeded seed) v.waiting
 steps_of v (line.Commit gateway) = Plays (event.Commit gateway) ∷ []
-steps_of v (line.Write gateway) = Writes (gateway - 1) ∷ []
+steps_of v (line.Write gateway) = write_steps v gateway
 steps_of v (line.Redirect gateway cause to) = Plays (event.Redirect gateway cause to) ∷ []
 steps_of v (line.Stop gateway) = Plays (event.Cut gateway 0) ∷ []
 steps_of v (line.Open gateway) = Plays (event.Open gateway) ∷ []
 steps_of v (line.Arm gateway call mode) = Arms (gateway - 1) (Stop (call - 1) (outcome_in mode)) ∷ []
 steps_of v (line.Fail gateway call) = Arms (gateway - 1) (Fail (call - 1)) ∷ []
+steps_of v (line.ArmShelf gateway call mode) = ArmsShelf (gateway - 1) (Stop (call - 1) (outcome_in mode)) ∷ []
+steps_of v (line.FailShelf gateway call) = ArmsShelf (gateway - 1) (Fail (call - 1)) ∷ []
 steps_of v line.Settle = settle_steps v
 steps_of v line.End = settle_steps v
 steps_of v _ = []

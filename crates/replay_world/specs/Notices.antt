@@ -27,8 +27,9 @@ pub data Notice : Type 0 where
   Expired : (message : ℕ) → Notice
   Down : (message : ℕ) → Notice
   Dropped : (message : ℕ) (why : Why) → Notice
-  -- the area of a gateway failed, or it was stopped
+  -- the area of a gateway failed, or its shelf did, or it was stopped
   Faulted : (gateway : ℕ) → Notice
+  ShelfFaulted : (gateway : ℕ) → Notice
   Stopped : (gateway : ℕ) → Notice
 
 -- Names.
@@ -81,6 +82,7 @@ notice_words (Expired message) = codes "expired " ++ decimal message
 notice_words (Down message) = codes "down " ++ decimal message
 notice_words (Dropped message why) = codes "drop " ++ decimal message ++ codes " " ++ name_of why
 notice_words (Faulted gateway) = codes "fault " ++ decimal (suc gateway)
+notice_words (ShelfFaulted gateway) = codes "shelf fault " ++ decimal (suc gateway)
 notice_words (Stopped gateway) = codes "stopped " ++ decimal (suc gateway)
 
 abbrev pub notice_line : Notice → List ℕ

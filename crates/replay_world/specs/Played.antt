@@ -1,8 +1,7 @@
 -- What a replay hands out: the areas, the shelves and the nodes that it ran.
-use Rattle.std.specs.Prelude.{◌≡◌, ◌⊎◌, ℕ, suc, Bool, true, false, List, [], ◌∷◌, ◌++◌, ◌≤◌, length, take}
+use Rattle.std.specs.Prelude.{◌≡◌, ◌⊎◌, ℕ, suc, Bool, true, false, List, [], ◌∷◌, ◌++◌, ◌≤◌, length, take, Some}
 use Rattle.area_disk.specs.declared.memory.MemoryArea.{MemoryArea}
 use Rattle.cdr_shelf.specs.declared.memory.MemoryShelf.{MemoryShelf}
-use Rattle.file_writer.specs.Files.{AreFilesOf}
 use Rattle.file_writer.specs.Leaving.{AreOpenFiles}
 use Rattle.gateway_book.specs.Items.{items_of}
 use Rattle.gateway_book.specs.Opened.{StandsFitFor}
@@ -12,7 +11,7 @@ use Rattle.gw_base.specs.declared.history.HistoryEntry.{HistoryEntry}
 use Rattle.once_core.specs.Gateway.{Gateway}
 use Rattle.replay_world.specs.Setup.{Setup, files_in}
 use Rattle.replay_world.specs.Stands.{area_tells, header_at, nodes_from}
-use Rattle.replay_world.specs.Written.{shelf_tells}
+use Rattle.replay_world.specs.Written.{AreSealed, shelf_tells}
 use Rattle.replay_world.specs.Value.{Machine, ReplayValue}
 use Rattle.replay_world.specs.declared.replay.Played.{Played}
 
@@ -31,13 +30,14 @@ pub record IsAreaOf (setup : Setup) (place : ℕ) (g : Gateway) (a : MemoryArea)
       StandsFitFor (header_at setup place) octets g.book.firm
 
 -- So does the area that is handed out. The sealed files of the shelf are those that were written, of each stream in its
--- order, and no others; and its unsealed files are those that are open, with their records so far.
+-- order, and no others; and where the writer goes on its unsealed files are those that are open, with their records so
+-- far.
 pub record IsHandedOut (setup : Setup) (place : ℕ) (g : Gateway) (m : Machine) (a : MemoryArea) (s : MemoryShelf)
     : Type 0 where
   pub area : IsAreaOf setup place g a
-  pub files : AreFilesOf (files_in setup place) (take m.written (items_of g.book.firm)) (shelf_tells.files s)
-  pub unsealed : AreOpenFiles (files_in setup place) (λ s. 0) (take m.written (items_of g.book.firm))
-      (shelf_tells.unsealed s)
+  pub files : AreSealed (files_in setup place) (items_of g.book.firm) m.filing.sealed (shelf_tells.files s)
+  pub unsealed : (n : ℕ) → m.filing.taken ≡ Some n →
+      AreOpenFiles (files_in setup place) (λ s. 0) (take n (items_of g.book.firm)) (shelf_tells.unsealed s)
 
 abbrev pub EachHandedOut : Setup → ℕ → List Gateway → List Machine → List MemoryArea → List MemoryShelf → Type 0
 EachHandedOut setup place [] [] [] [] = Unit {0}

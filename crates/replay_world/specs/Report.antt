@@ -5,7 +5,8 @@ use Rattle.std.specs.Fmt.{decimal}
 use Rattle.std.specs.List.{enumerate_from, flat_map}
 use Rattle.cdr_shelf.specs.Files.{SealedFile}
 use Rattle.cdr_shelf.specs.declared.file_name.FileName.{FileName}
-use Rattle.file_writer.specs.Files.{files_of}
+use Rattle.file_writer.specs.Files.{files_of, stream_files}
+use Rattle.file_writer.specs.Streams.{Settings, stream_count}
 use Rattle.gateway_book.specs.Filed.{filed}
 use Rattle.gateway_book.specs.Items.{items_of}
 use Rattle.gateway_book.specs.Value.{BookValue, history_of, standing_for}
@@ -70,12 +71,19 @@ counts_line place book =
 abbrev pub gateway_report : Setup → ℕ → List Item → BookValue → List ℕ
 gateway_report setup place items book = file_lines setup place items ++ counts_line place book
 
--- the items of its firm entries of which its files were written
-abbrev pub written_items : Gateway → Machine → List Item
-written_items g m = take m.written (items_of g.book.firm)
+-- its sealed files: of each of the first streams so many of those that its items close, stream after stream
+abbrev pub sealed_below : ℕ → Settings → List Item → (ℕ → ℕ) → List SealedFile
+sealed_below zero settings items sealed = []
+sealed_below (suc s) settings items sealed =
+    sealed_below s settings items sealed ++ take (sealed s) (stream_files settings s items)
+
+abbrev pub sealed_lines : Setup → ℕ → Gateway → Machine → List ℕ
+sealed_lines setup place g m =
+    flat_map (file_line place)
+    (sealed_below stream_count (files_in setup place) (items_of g.book.firm) m.filing.sealed)
 
 abbrev pub gateway_text : Setup → ℕ → Gateway → Machine → List ℕ
-gateway_text setup place g m = gateway_report setup place (written_items g m) (book_of g)
+gateway_text setup place g m = sealed_lines setup place g m ++ counts_line place (book_of g)
 
 abbrev pub site_lines : ReplayValue → Option Site → List ℕ
 site_lines v None = []

@@ -1,5 +1,6 @@
 -- A replay in which nothing is left to be made firm or to be written, and what it hands out.
 use Rattle.std.specs.Prelude.{◌≡◌, ℕ, suc, false, Contains, List, [], ◌∷◌, length, None, Some, slice_get}
+use Rattle.area_disk.specs.Armed.Armed.{Nothing}
 use Rattle.area_disk.specs.declared.memory.MemoryArea.{MemoryArea}
 use Rattle.cdr_shelf.specs.declared.memory.MemoryShelf.{MemoryShelf}
 use Rattle.file_rotate.specs.Items.{Filed}
@@ -14,6 +15,7 @@ use Rattle.once_core.specs.FilePlaces.{placed}
 use Rattle.once_core.specs.Gateway.{Gateway}
 use Rattle.once_core.specs.Once.{firm_in}
 use Rattle.once_core.specs.World.{World}
+use Rattle.replay_world.specs.Filing.{all_filed}
 use Rattle.replay_world.specs.Setup.{Setup, files_in}
 use Rattle.replay_world.specs.Stands.{area_tells, header_at, nodes_from}
 use Rattle.replay_world.specs.Value.{Machine, ReplayValue}
@@ -30,17 +32,17 @@ AreShut items = (settings : Settings) (s : ℕ) → (stream_division settings s 
 
 -- The gateway runs, and its journal is open; its whole history is firm, and all items of it were written; and the files
 -- that these close, which are sealed, have all records.
-pub record IsAllWritten (g : Gateway) (m : Machine) : Type 0 where
+pub record IsAllWritten (settings : Settings) (g : Gateway) (m : Machine) : Type 0 where
   pub runs : g.is_down ≡ false
   pub whole : g.book.is_broken ≡ false
   pub firm : g.book.rest ≡ []
-  pub written : m.written ≡ length (items_of g.book.firm)
+  pub written : m.filing ≡ all_filed settings (items_of g.book.firm) Nothing
   pub shut : AreShut (items_of g.book.firm)
 
 -- so it is of the gateway in a place, if there is one, and of all
 abbrev pub IsWritten : ReplayValue → ℕ → Type 0
 IsWritten v place = (g : Gateway) (m : Machine) → slice_get v.world.gateways place ≡ Some g →
-    slice_get v.machines place ≡ Some m → IsAllWritten g m
+    slice_get v.machines place ≡ Some m → IsAllWritten (files_in v.setup place) g m
 
 abbrev pub AreWritten : ReplayValue → Type 0
 AreWritten v = (place : ℕ) → IsWritten v place

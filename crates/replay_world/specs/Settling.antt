@@ -1,4 +1,4 @@
--- Gateways that settle, for whose areas nothing is armed.
+-- Gateways that settle, for whose areas and shelves nothing is armed.
 use Rattle.std.specs.Prelude.{◌≡◌, ℕ, ◌-◌, true, if◌then◌else◌, All, List, [], ◌∷◌, length, None, slice_get}
 use Rattle.area_disk.specs.Armed.Armed.{Nothing}
 use Rattle.once_core.specs.Turn.{is_down_in, no_running_gateway}
@@ -9,8 +9,11 @@ use Rattle.replay_world.specs.Steps.{Step, Plays}
 use Rattle.replay_world.specs.Value.{Machine, ReplayValue}
 use Rattle.replay_world.specs.declared.replay.Replay.{Replay}
 
+abbrev pub IsIdle : Machine → Type 0
+IsIdle m = (m.armed ≡ Nothing) × (m.filing.armed ≡ Nothing)
+
 abbrev pub AreUnarmed : ReplayValue → Type 0
-AreUnarmed v = All (λ (m : Machine). m.armed ≡ Nothing) v.machines
+AreUnarmed v = All IsIdle v.machines
 
 -- a gateway is opened where it is stopped
 abbrev pub opening_steps : ReplayValue → ℕ → List Step

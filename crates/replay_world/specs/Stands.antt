@@ -73,7 +73,7 @@ module _ (setup : Setup) (place : ℕ) (g : Gateway) (m : Machine) where
     pub stopped : g.is_down ≡ true
     pub down : HoldsHistory tells (header_at setup place) (history_of g.book) area
     pub is_armed : IsArmed Nothing (tells.fate area).schedule
-    pub unarmed : m.armed ≡ Nothing
+    pub unarmed : (m.armed ≡ Nothing) × (m.filing.armed ≡ Nothing)
     pub silent : g.waiting ≡ []
     pub size : tells.size area ≡ setup.size
 
@@ -96,7 +96,7 @@ pub record MachineStands (setup : Setup) (place : ℕ) (g : Gateway) (m : Machin
   pub unreached : All (λ w. is_reached g.book w ≡ false) g.waiting
   pub redirects : r.redirects ≡ g.redirects % 65536
   pub named : r.setup ≡ record { address = (gateway_address place).ip; open_time = setup.limits.open_time }
-  pub writes : FilesStand (files_in setup place) m.written (items_of g.book.firm) r.files
+  pub writes : FilesStand (files_in setup place) m.filing (items_of g.book.firm) r.files
 
 -- each gateway from a place on stands for its value
 abbrev pub EachStands : Setup → ℕ → List Gateway → List Machine → List real.Machine → Type 0

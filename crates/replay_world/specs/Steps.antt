@@ -4,6 +4,7 @@ use Rattle.std.specs.Prelude.{ℕ, suc, ◌-◌, ◌==◌, not, Bool, false, Lis
 use Rattle.std.specs.List.{enumerate_from}
 use Rattle.std.specs.Option.{option_map_or}
 use Rattle.area_disk.specs.Armed.{Armed}
+use Rattle.gw_base.specs.declared.item.Item.{Item}
 use Rattle.gateway_book.specs.Items.{items_of}
 use Rattle.gateway_book.specs.Up.{Sequel}
 use Rattle.once_core.specs.Gateway.{Gateway}
@@ -12,17 +13,21 @@ use Rattle.once_core.specs.World.{World}
 use Rattle.once_core.specs.declared.event.Event.{Event}
 use Rattle.once_core.specs.declared.event.Event.TheVariants as event
 use Rattle.once_core.specs.declared.message.Message.{Message}
-use Rattle.replay_world.specs.Device.{asked_of, disarmed, is_stop, machine_after, place_asked, sequel_on, turn_with}
+use Rattle.replay_world.specs.Device.{asked_of, is_stop, machine_after, place_asked, sequel_on, turn_with}
+use Rattle.replay_world.specs.Filing.{filing_then}
 use Rattle.replay_world.specs.Notices.{Notice}
-use Rattle.replay_world.specs.Setup.{rules_in}
-use Rattle.replay_world.specs.Value.{Machine, ReplayValue}
+use Rattle.replay_world.specs.Setup.{files_in, rules_in}
+use Rattle.replay_world.specs.Value.{Machine, ReplayValue, disarmed, shelf_armed, unarmed}
 
--- An event; a waiting message that is lost; what is armed for a gateway's area from now on; files that are written of a
--- gateway's firm entries; or something that is only told. Gateways are places, but in events.
+-- An event; a waiting message that is lost; what is armed for a gateway's area from now on, or for its shelf, or that
+-- nothing is armed for either; files that are written of a gateway's firm entries; or something that is only told.
+-- Gateways are places, but in events.
 pub data Step : Type 0 where
   Plays : Event → Step
   Loses : (message : ℕ) → Step
   Arms : (gateway : ℕ) → Armed → Step
+  ArmsShelf : (gateway : ℕ) → Armed → Step
+  Disarms : (gateway : ℕ) → Step
   Writes : (gateway : ℕ) → Step
   Tells : Notice → Step
 
@@ -88,15 +93,21 @@ abbrev pub machines_in : ReplayValue → Event → List Machine
 machines_in v (event.Cut gateway keep) = with_machine v (gateway - 1) disarmed
 machines_in v e = option_map_or (machines_at v e) (site_of v e) v.machines
 
--- how many items the firm entries of a gateway make
-abbrev pub items_firm : ReplayValue → ℕ → ℕ
-items_firm v place = option_map_or (λ (g : Gateway). length (items_of g.book.firm)) (slice_get v.world.gateways place) 0
+-- the items that the firm entries of a gateway make
+abbrev pub items_firm : ReplayValue → ℕ → List Item
+items_firm v place = option_map_or (λ (g : Gateway). items_of g.book.firm) (slice_get v.world.gateways place) []
+
+-- its files are written, as is armed for its shelf
+abbrev pub files_written : ReplayValue → ℕ → Machine → Machine
+files_written v place m = record m { filing = filing_then (files_in v.setup place) (items_firm v place) m.filing }
 
 abbrev pub machines_after : ReplayValue → Step → List Machine
 machines_after v (Plays e) = machines_in v e
 machines_after v (Loses message) = v.machines
 machines_after v (Arms place armed) = with_machine v place (λ m. record m { armed = armed })
-machines_after v (Writes place) = with_machine v place (λ m. record m { written = items_firm v place })
+machines_after v (ArmsShelf place armed) = with_machine v place (shelf_armed armed)
+machines_after v (Disarms place) = with_machine v place unarmed
+machines_after v (Writes place) = with_machine v place (files_written v place)
 machines_after v (Tells notice) = v.machines
 
 -- What it makes of the waiting messages: one that is delivered, or lost, waits no more, and those that are sent do.

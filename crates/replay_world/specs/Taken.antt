@@ -16,7 +16,7 @@ arms_stop (Fail call) = false
 arms_stop (Stop call outcome) = true
 
 -- The world has so many gateways and nodes, and it is this moment; just these gateways are stopped, and all nodes run;
--- each waiting message was sent; and no stop is armed, but failures may be.
+-- each waiting message was sent; and no stop is armed, for no area and for no shelf, but failures may be.
 pub record IsAsSaid (s : Scene) (v : ReplayValue) : Type 0 where
   pub gateways : length v.world.gateways ≡ s.gateways
   pub nodes : length v.world.nodes ≡ s.nodes
@@ -24,7 +24,8 @@ pub record IsAsSaid (s : Scene) (v : ReplayValue) : Type 0 where
   pub stopped : (gateway : ℕ) → has_gateway s gateway ≡ true → is_down_in v.world gateway ≡ is_stopped s gateway
   pub running : (node : ℕ) → has_node s node ≡ true → runs (log_in v.world node) ≡ true
   pub sent : AllByRecursion (λ message. is_none_of (length v.world.messages) message ≡ false) v.waiting
-  pub unarmed : AllByRecursion (λ (m : Machine). arms_stop m.armed ≡ false) v.machines
+  pub unarmed : AllByRecursion (λ (m : Machine). (arms_stop m.armed ≡ false) × (arms_stop m.filing.armed ≡ false))
+      v.machines
 
 -- the world allows each of these turns, one after the other
 abbrev pub Allows : Rules → World → List Turn → Type 0

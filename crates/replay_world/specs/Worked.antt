@@ -4,7 +4,7 @@ use Rattle.once_core.specs.Gateway.{Gateway}
 use Rattle.replay_world.specs.Lines.{line_notices}
 use Rattle.replay_world.specs.Notices.{Notice}
 use Rattle.replay_world.specs.Report.{lines_after, replayed}
-use Rattle.replay_world.specs.Value.{ReplayValue}
+use Rattle.replay_world.specs.Value.{Machine, ReplayValue}
 use Rattle.world_script.specs.declared.line.Line.{Line}
 use Rattle.world_script.specs.declared.line.Line.TheVariants as line
 use Rattle.world_script.specs.declared.mode.Mode.{Mode}
@@ -37,3 +37,32 @@ entries_opened v = entries_after v (line.Commit 1 ∷ line.Open 1 ∷ [])
 -- the entries once it was committed again, which opens a broken gateway again
 abbrev pub entries_again : ReplayValue → List (ℕ × ℕ)
 entries_again v = entries_after v (line.Commit 1 ∷ line.Commit 1 ∷ [])
+
+-- the packet is firm, and its file has room for no other record: a write of it makes seven calls of the shelf
+abbrev pub packet_firm : List Line
+packet_firm = line.LimitRecords 1 ∷ packet_sent ++ line.Commit 1 ∷ []
+
+-- a stop is armed for a call of the write that follows, or a failure
+abbrev pub shelf_stop_armed : ℕ → Mode → ReplayValue
+shelf_stop_armed call mode = replayed (packet_firm ++ line.ArmShelf 1 call mode ∷ [])
+
+abbrev pub shelf_failure_armed : ℕ → ReplayValue
+shelf_failure_armed call = replayed (packet_firm ++ line.FailShelf 1 call ∷ [])
+
+-- what the write tells
+abbrev pub told_by_write : ReplayValue → List Notice
+told_by_write v = line_notices v (line.Write 1)
+
+-- how many files of stream 0 of each gateway are sealed after these lines
+abbrev pub sealed_after : ReplayValue → List Line → List ℕ
+sealed_after v lines = map (λ (m : Machine). m.filing.sealed 0) (lines_after v lines).machines
+
+abbrev pub sealed_by_write : ReplayValue → List ℕ
+sealed_by_write v = sealed_after v (line.Write 1 ∷ [])
+
+-- the same where another write follows, of a gateway that is opened again where it stopped
+abbrev pub sealed_again : ReplayValue → List ℕ
+sealed_again v = sealed_after v (line.Write 1 ∷ line.Write 1 ∷ [])
+
+abbrev pub sealed_opened : ReplayValue → List ℕ
+sealed_opened v = sealed_after v (line.Write 1 ∷ line.Open 1 ∷ line.Write 1 ∷ [])

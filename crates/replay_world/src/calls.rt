@@ -1,10 +1,12 @@
 // What a gateway does: it commits, makes marks and redirects, and sends the answers that waited.
 ghost use Rattle.std.specs.Prelude.{◌≡◌, ◌≢◌, ℕ, IfOk, List, OnOk, [], ◌∷◌, ◌++◌, false, filter, if◌then◌else◌, map, nat_le, not};
+ghost use Rattle.file_writer.specs.Streams.{Settings};
 ghost use Rattle.gateway_book.specs.Comes.{asked_to_commit};
 ghost use Rattle.gateway_book.specs.Up as up;
 ghost use Rattle.gateway_book.specs.Up.{Sequel, fortune_by};
 ghost use Rattle.gateway_book.specs.Value.{BookValue, after_commit};
 ghost use Rattle.gw_base.specs.declared.history.HistoryEntry.{HistoryEntry};
+ghost use Rattle.gw_base.specs.declared.item.Item.{Item};
 ghost use Rattle.once_core.specs.Gateway.{Gateway};
 ghost use Rattle.once_core.specs.Messages.{failing, is_response};
 ghost use Rattle.replay_world.specs.Asking.{asked_by, asked_move, asked_value};
@@ -13,11 +15,13 @@ ghost use Rattle.replay_world.specs.Device.{sequel_on};
 ghost use Rattle.replay_world.specs.Moves.{GoesAsArmed, came_of};
 ghost use Rattle.replay_world.specs.Setup.{Setup};
 ghost use Rattle.replay_world.specs.Stands.{MachineStands, StandsUp};
-ghost use Rattle.replay_world.specs.Value.{Machine as MachineValue};
+ghost use Rattle.replay_world.specs.Value.{Filing, Machine as MachineValue, ended};
+ghost use Rattle.replay_world.specs.Written.{FilesStand};
 
 use crate::machine::{Came, Machine, Sent};
 use crate::messages::{failure, kept};
 use crate::site::Site;
+use crate::writing::what_was_written_stays;
 use area_disk::MemoryArea;
 use gateway_book::Book;
 use gateway_book::laws::{a_gateway_goes_as_armed, filed_records_stay, what_a_gateway_leaves};
@@ -56,6 +60,7 @@ impl Machine {
             (asked_value setup now call (fortune_by m.at_last sequel) g.book) sequel self.new }
     {
         filed_records_stay();
+        what_was_written_stays();
         match &mut self.site {
             Some(site) => site.ask(call, now),
             None => {}
@@ -111,7 +116,11 @@ impl Machine {
     fn cut(&mut self, alloc: Global)
         ensures down { (setup : Setup) (place : ℕ) (h : List HistoryEntry) → SiteIsCut setup place h self.old.site →
             SiteIsDown setup place h self.new.site × (self.new.waiting.items ≡ []) }
-        ensures rest { self.new ≡ record self.old { site = self.new.site; waiting = self.new.waiting } }
+        ensures files { (setup : Setup) (place : ℕ) (h : List HistoryEntry) (settings : Settings) (f : Filing)
+            (items : List Item) → SiteIsCut setup place h self.old.site →
+            FilesStand settings f items self.old.files → FilesStand settings (ended f) items self.new.files }
+        ensures rest { self.new ≡
+            record self.old { site = self.new.site; waiting = self.new.waiting; files = self.new.files } }
     {
         what_a_gateway_leaves::<MemoryArea>();
         let Some(Site::Up(book)) = self.site.take() else {

@@ -1,18 +1,34 @@
 // The writer of a gateway's files, which goes on behind the items that it has taken.
-ghost use Rattle.std.specs.Prelude.{◌≡◌, ◌+◌, ◌<◌, ◌^◌, ℕ, All, IfSome, List, None, OnOk, Some, drop, false, length};
+ghost use Rattle.std.specs.Prelude.{◌≡◌, ◌+◌, ◌<◌, ◌^◌, ℕ, All, IfOk, IfSome, List, None, Some, drop, false, length};
 ghost use Rattle.std.proofs.Props.{props};
 ghost use Rattle.file_writer.specs.AllStreams.{IsFit};
 ghost use Rattle.file_writer.specs.Streams.{Settings};
-ghost use Rattle.file_writer.specs.Writer.{is_broken, taken_of};
+ghost use Rattle.file_writer.specs.Writer.{is_broken, shelf_of, taken_of};
 ghost use Rattle.file_writer.specs.declared.fault.ShelfFault.{ShelfFault};
 ghost use Rattle.gw_base.specs.declared.item.Item.{Item as ItemValue};
 
+use crate::machine::calm;
+use area_disk::Plan;
+use area_disk::laws::{arms_fail, arms_nothing, arms_stop};
 use cdr_shelf::MemoryShelf;
 use file_writer::laws::{
-    calls_seal_files_of_streams, files_only_grow, first_files_are_counted, open_files_go_on,
+    calls_seal_files_of_streams, first_files_are_counted, open_files_go_on,
+    sealed_files_get_no_call, shut_streams_come_to_open_files,
 };
 use file_writer::{ShelfFault, Writer};
 use gw_base::{Item, NoMemory};
+use std::alloc::Global;
+
+/// What came of a write.
+#[derive(Clone, Copy, PartialEq, Eq)]
+pub(crate) enum Wrote {
+    /// All items were written.
+    All,
+    /// The shelf failed, and the writer has to recover.
+    Failed,
+    /// The shelf stopped, and the gateway with it.
+    Halted,
+}
 
 /// A writer, and how many items it has taken since it recovered; none where it has to recover first.
 #[derive(Drop)]
@@ -24,7 +40,10 @@ pub(crate) struct Files {
 }
 
 impl Files {
-    ghost use Rattle.replay_world.specs.Written.{FilesStand};
+    ghost use Rattle.area_disk.specs.Armed.{Armed};
+    ghost use Rattle.replay_world.specs.Opening.{ArmsAs};
+    ghost use Rattle.replay_world.specs.Value.{Filing, resting};
+    ghost use Rattle.replay_world.specs.Written.{BreaksOff, FilesStand, HasWritten, ShelfHolds, shelf_tells};
 
     /// Those of a writer that hasn't recovered yet.
     pub fn new(writer: Writer<MemoryShelf>) -> Files
@@ -37,60 +56,92 @@ impl Files {
         }
     }
 
+    /// This is armed for the calls of its shelf.
+    pub fn arm(&mut self, plan: Plan)
+        ensures { (settings : Settings) (armed : Armed) (f : Filing) (items : List ItemValue) →
+            ArmsAs armed plan → FilesStand settings f items self.old →
+            FilesStand settings (record f { armed = armed }) items self.new }
+    {
+        arms_nothing();
+        arms_fail();
+        arms_stop();
+        self.writer.arm(plan);
+    }
+
+    /// Its gateway stops: nothing is armed for its shelf, which runs, and the writer has to recover.
+    pub fn end(&mut self, alloc: Global)
+        ensures { (settings : Settings) (sealed : ℕ → ℕ) (items : List ItemValue) →
+            (shelf_tells.plan (shelf_of self.old.writer)).stopped ≡ false →
+            ShelfHolds shelf_tells settings sealed items self.old.writer →
+            FilesStand settings (resting sealed) items self.new }
+    {
+        arms_nothing();
+        self.taken = None;
+        self.writer.arm(calm(alloc));
+    }
+
     /// It takes these items, which are those behind the items that it has taken, of which there are so many.
-    pub fn go_on(&mut self, taken: u64, items: &[Item]) -> Result<(), NoMemory>
+    pub fn go_on(&mut self, alloc: Global, taken: u64, items: &[Item]) -> Result<Wrote, NoMemory>
         requires taken { self.old.taken ≡ Some taken }
         requires few { taken + length items.now < 2 ^ 31 }
         requires fit { All IsFit items.now }
-        ensures { (settings : Settings) (written : ℕ) (all : List ItemValue) →
-            FilesStand settings written all self.old → items.now ≡ drop written all →
-            OnOk result (FilesStand settings (length all) all self.new) }
+        ensures { (settings : Settings) (f : Filing) (all : List ItemValue) →
+            FilesStand settings f all self.old → items.now ≡ drop taken all →
+            IfOk result (λ wrote. HasWritten settings all f wrote self.new) }
     {
-        files_only_grow();
         calls_seal_files_of_streams();
+        sealed_files_get_no_call();
         open_files_go_on();
         self.taken = None;
         match self.writer.advance(items) {
             Ok(_taken) => {
                 self.taken = Some(taken + items.len() as u64);
-                Ok(())
+                Ok(Wrote::All)
             }
-            Err(fault) => starved(fault),
+            Err(fault) => self.broken(alloc, fault),
         }
     }
 
     /// It begins the items anew, and takes all of them.
-    pub fn begin(&mut self, items: &[Item]) -> Result<(), NoMemory>
+    pub fn begin(&mut self, alloc: Global, items: &[Item]) -> Result<Wrote, NoMemory>
+        requires taken { self.old.taken ≡ None }
         requires few { length items.now < 2 ^ 31 }
         requires fit { All IsFit items.now }
-        ensures { (settings : Settings) (written : ℕ) → FilesStand settings written items.now self.old →
-            OnOk result (FilesStand settings (length items.now) items.now self.new) }
+        ensures { (settings : Settings) (f : Filing) → FilesStand settings f items.now self.old →
+            IfOk result (λ wrote. HasWritten settings items.now f wrote self.new) }
     {
-        files_only_grow();
         first_files_are_counted();
         calls_seal_files_of_streams();
-        open_files_go_on();
-        self.taken = None;
+        sealed_files_get_no_call();
+        shut_streams_come_to_open_files();
         match self.writer.recover() {
             Ok(()) => {}
-            Err(fault) => return starved(fault),
+            // No read is planned to fail.
+            Err(fault) => return self.broken(alloc, fault),
         }
         match self.writer.advance(items) {
             Ok(_taken) => {
                 self.taken = Some(items.len() as u64);
-                Ok(())
+                Ok(Wrote::All)
             }
-            Err(fault) => starved(fault),
+            Err(fault) => self.broken(alloc, fault),
         }
     }
-}
 
-/// A fault of the shelf, unless there was no memory. No shelf of a replay has one: nothing is armed for its calls.
-fn starved(fault: ShelfFault) -> Result<(), NoMemory>
-    ensures { OnOk result (fault ≡ ShelfFault.Device) }
-{
-    match fault {
-        ShelfFault::NoMemory => Err(NoMemory),
-        ShelfFault::Device => Ok(()),
+    // What came of a write that had this fault. A shelf that stopped goes on for the gateway that is opened next, and
+    // nothing is armed for it.
+    fn broken(&mut self, alloc: Global, fault: ShelfFault) -> Result<Wrote, NoMemory>
+        ensures { IfOk result (λ wrote. BreaksOff fault self.old wrote self.new) }
+    {
+        match fault {
+            ShelfFault::NoMemory => return Err(NoMemory),
+            ShelfFault::Device => {}
+        }
+        if !self.writer.stopped() {
+            return Ok(Wrote::Failed);
+        }
+        self.writer.revive();
+        self.end(alloc);
+        Ok(Wrote::Halted)
     }
 }

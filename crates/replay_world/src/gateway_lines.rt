@@ -4,18 +4,23 @@ ghost use Rattle.area_disk.specs.Armed.{Armed};
 ghost use Rattle.once_core.specs.Turn.{no_running_gateway, refusal_of};
 ghost use Rattle.once_core.specs.declared.event.Event.TheVariants as event;
 ghost use Rattle.replay_world.specs.Asking.{event_asked};
-ghost use Rattle.replay_world.specs.Does.{Does, DoesOrEnds};
+ghost use Rattle.replay_world.specs.Does.{Does, DoesOrEnds, Makes};
+ghost use Rattle.replay_world.specs.Lines.{write_steps};
 ghost use Rattle.replay_world.specs.Moves.{ending_notices};
 ghost use Rattle.replay_world.specs.Notices.{notice_lines};
 ghost use Rattle.replay_world.specs.Opening.{ArmsAs};
 ghost use Rattle.replay_world.specs.Sending.{HasSent, IsTo, SendsDelivered, came_notices, goes_on_after, passed};
 ghost use Rattle.replay_world.specs.Stands.{Stands};
-ghost use Rattle.replay_world.specs.Steps.{Arms, Plays, Writes};
+ghost use Rattle.replay_world.specs.Steps.{Arms, ArmsShelf, Plays, Writes};
 ghost use Rattle.replay_world.specs.Value.{ReplayValue};
+ghost use Rattle.replay_world.specs.WritingFiles.{steps_behind};
 
 use crate::calls::GatewayCall;
+use crate::files::Wrote;
 use crate::machine::{Came, Sent};
-use crate::notices::{print_down, print_drop, print_expired, print_fault, print_stopped};
+use crate::notices::{
+    print_down, print_drop, print_expired, print_fault, print_shelf_fault, print_stopped,
+};
 use crate::replay::Replay;
 use crate::taking::{Delivery, Ending};
 use area_disk::Plan;
@@ -149,17 +154,73 @@ impl Replay {
         self.gateways[index].arm(plan);
     }
 
-    /// The items of a gateway's firm entries are written into files.
-    pub(crate) fn write(&mut self, alloc: Global, place: u8) -> Result<(), NoMemory>
-        ensures { (v : ReplayValue) (number : ℕ) → Stands v self.old →
+    /// This is armed for the calls of a gateway's shelf.
+    pub(crate) fn arm_shelf(&mut self, place: u8, plan: Plan)
+        ensures { (v : ReplayValue) (number : ℕ) (armed : Armed) → ArmsAs armed plan →
+            Stands v self.old →
             number - 1 ≡ place → no_running_gateway v.world number ≡ None →
-            OnOk result (Does v (Writes (number - 1)) [] [] self.new) }
+            Does v (ArmsShelf (number - 1) armed) [] [] self.new }
     {
         let index = usize::from(place);
         if index >= self.gateways.len() {
-            return Ok(());
+            return;
+        }
+        self.gateways[index].arm_shelf(plan);
+    }
+
+    /// The items of a gateway's firm entries are written into files. Where its shelf fails that is printed, and where
+    /// its shelf stops the gateway is stopped, too.
+    pub(crate) fn write_line(
+        &mut self,
+        alloc: Global,
+        place: u8,
+        out: &mut Octets,
+    ) -> Result<(), NoMemory>
+        ensures { (v : ReplayValue) (number : ℕ) → Stands v self.old →
+            number - 1 ≡ place → no_running_gateway v.world number ≡ None → OnOk result
+            (Makes v (write_steps v number) out.old out.new self.new) }
+    {
+        let wrote = self.write(alloc, place)?;
+        self.end_write(alloc, place, wrote, out)
+    }
+
+    /// The items of a gateway's firm entries are written into files.
+    pub(crate) fn write(&mut self, alloc: Global, place: u8) -> Result<Wrote, NoMemory>
+        ensures writes { (v : ReplayValue) (number : ℕ) → Stands v self.old →
+            number - 1 ≡ place → no_running_gateway v.world number ≡ None → OnOk result
+            (Does v (Writes (number - 1)) [] [] self.new) }
+        ensures came { (v : ReplayValue) (number : ℕ) → Stands v self.old →
+            number - 1 ≡ place → no_running_gateway v.world number ≡ None →
+            IfOk result (λ wrote. write_steps v number ≡ Writes (number - 1) ∷ steps_behind number wrote) }
+    {
+        let index = usize::from(place);
+        if index >= self.gateways.len() {
+            return Ok(Wrote::All);
         }
         self.gateways[index].write(alloc)
+    }
+
+    // What came of a write is printed, and a stop of the shelf stops the gateway.
+    fn end_write(
+        &mut self,
+        alloc: Global,
+        place: u8,
+        wrote: Wrote,
+        out: &mut Octets,
+    ) -> Result<(), NoMemory>
+        ensures { (v : ReplayValue) (number : ℕ) → Stands v self.old →
+            number - 1 ≡ place → no_running_gateway v.world number ≡ None → OnOk result
+            (Makes v (steps_behind number wrote) out.old out.new self.new) }
+    {
+        match wrote {
+            Wrote::All => Ok(()),
+            Wrote::Failed => print_shelf_fault(alloc, out, place),
+            Wrote::Halted => {
+                print_stopped(alloc, out, place)?;
+                self.stop(alloc, place);
+                Ok(())
+            }
+        }
     }
 
     // What the area did is printed, and the messages are sent; whether the line goes on.

@@ -7,15 +7,16 @@ ghost use Rattle.gw_base.specs.History.{is_close_due};
 ghost use Rattle.gw_base.specs.declared.history.HistoryEntry.{HistoryEntry};
 ghost use Rattle.replay_world.specs.Tally.{is_part};
 ghost use Rattle.std.specs.List.{list_any};
+ghost use Rattle.once_core.specs.Gateway.{Gateway};
 ghost use Rattle.once_core.specs.Once.{Once};
 ghost use Rattle.once_core.specs.StandsOnce.{StandsOnce};
 ghost use Rattle.once_core.specs.Turn.{turns};
 ghost use Rattle.replay_world.specs.Lines.{line_after, refusal_of_line, settled, turns_of};
-ghost use Rattle.replay_world.specs.Report.{lines_after, refused_from, refusal_of_lines, turns_from, turns_of_lines};
-ghost use Rattle.replay_world.specs.Settled.{AreShut, AreWritten, HaveMachines, StandInFiles};
+ghost use Rattle.replay_world.specs.Report.{book_of, gateway_report, gateway_text, lines_after, refused_from, refusal_of_lines, turns_from, turns_of_lines};
+ghost use Rattle.replay_world.specs.Settled.{AreShut, AreWritten, HaveMachines, IsAllWritten, StandInFiles};
 ghost use Rattle.replay_world.specs.Setup.{Setup, files_in, rules_in, setup_of};
 ghost use Rattle.replay_world.specs.Taken.{Allows, IsAsSaid};
-ghost use Rattle.replay_world.specs.Value.{ReplayValue, begun, replay_of};
+ghost use Rattle.replay_world.specs.Value.{Machine, ReplayValue, begun, replay_of};
 ghost use Rattle.world_script.specs.Sample.{sample_of};
 ghost use Rattle.world_script.specs.Script.{is_setting_line, most_text, script_in};
 ghost use Rattle.world_script.specs.World.{Scene, after_line, are_settings_first, first_scene, takes, takes_all};
@@ -62,9 +63,13 @@ pub fn no_file_is_open_where_no_close_is_due()
 }
 
 /// After a settling each gateway runs, its whole history is firm and written, and no file is open: the files that are
-/// sealed have all records that it filed. Each gateway of a replay has a machine.
+/// sealed have all records that it filed. What is reported of it are the files that all its items make. Each gateway of
+/// a replay has a machine.
 pub fn a_settling_writes_all_files()
     ensures written { (v : ReplayValue) → HaveMachines v → AreWritten (settled v) }
+    ensures reports { (setup : Setup) (place : ℕ) (g : Gateway) (m : Machine) →
+        IsAllWritten (files_in setup place) g m →
+        gateway_text setup place g m ≡ gateway_report setup place (items_of g.book.firm) (book_of g) }
     ensures machines { (setup : Setup) (lines : List Line) → HaveMachines (lines_after (begun setup) lines) }
 {
     no_file_is_open_where_no_close_is_due();

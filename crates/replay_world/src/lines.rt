@@ -33,6 +33,7 @@ fn outcome_of(mode: Mode) -> Outcome3
     match mode {
         Mode::Old => Outcome3::Old,
         Mode::New => Outcome3::New,
+        Mode::Rot => Outcome3::Rot,
     }
 }
 
@@ -218,6 +219,10 @@ impl Replay {
                 self.at_gateway(alloc, place(*gateway), GatewayCall::Commit, out)?;
                 Ok(true)
             }
+            Line::Write { gateway } => {
+                self.write_line(alloc, place(*gateway), out)?;
+                Ok(true)
+            }
             Line::Redirect { gateway, cause, to } => {
                 self.redirect(alloc, place(*gateway), *cause, other_place(*to), out)?;
                 Ok(true)
@@ -232,10 +237,6 @@ impl Replay {
             IfOk result (RunsIf v (is_on_device line.now) line.now [] [] self.old self.new) }
     {
         match line {
-            Line::Write { gateway } => {
-                self.write(alloc, place(*gateway))?;
-                Ok(true)
-            }
             Line::Stop { gateway } => {
                 self.stop(alloc, place(*gateway));
                 Ok(true)
@@ -256,6 +257,20 @@ impl Replay {
             Line::Fail { gateway, call } => {
                 let plan = failing(alloc, from_one(*call))?;
                 self.arm(place(*gateway), plan);
+                Ok(true)
+            }
+            Line::ArmShelf {
+                gateway,
+                call,
+                mode,
+            } => {
+                let plan = stopping(alloc, from_one(*call), outcome_of(*mode));
+                self.arm_shelf(place(*gateway), plan);
+                Ok(true)
+            }
+            Line::FailShelf { gateway, call } => {
+                let plan = failing(alloc, from_one(*call))?;
+                self.arm_shelf(place(*gateway), plan);
                 Ok(true)
             }
             _ => Ok(false),

@@ -1,24 +1,26 @@
 // A gateway as it runs: its book on an area, the writer of its files on a shelf, and the answers that wait.
 ghost use Rattle.std.specs.Prelude.{◌≡◌, ◌≤◌, ℕ, [], ◌∷◌, IfOk, List, MatchOption, None, OnOk, Some, false, true};
 ghost use Rattle.area_disk.specs.Armed.{Armed};
-ghost use Rattle.area_disk.specs.Armed.Armed.{Nothing};
+ghost use Rattle.file_writer.specs.Streams.{Settings as FileSettings};
 ghost use Rattle.gateway_book.specs.Up.{HoldsHistory};
+ghost use Rattle.gw_base.specs.declared.item.Item.{Item};
 ghost use Rattle.gw_base.specs.declared.history.HistoryEntry.{HistoryEntry};
 ghost use Rattle.once_core.specs.Beginning.{first_gateway};
 ghost use Rattle.once_core.specs.Gateway.{Gateway, cut, opened};
 ghost use Rattle.replay_world.specs.Called.{SiteIsDown};
-ghost use Rattle.replay_world.specs.Device.{disarmed};
 ghost use Rattle.replay_world.specs.Opening.{ArmsAs, IsOpenedForCounts};
 ghost use Rattle.replay_world.specs.Played.{IsHandedOut};
 ghost use Rattle.replay_world.specs.Settings.{AreSet, AreSound};
 ghost use Rattle.replay_world.specs.Setup.{Setup as SetupValue, rules_in};
 ghost use Rattle.replay_world.specs.Stands.{MachineStands, area_tells, header_at};
-ghost use Rattle.replay_world.specs.Value.{Machine as MachineValue, first_machine};
+ghost use Rattle.replay_world.specs.Value.{Filing, Machine as MachineValue, disarmed, ended, first_machine, shelf_armed, unarmed};
+ghost use Rattle.replay_world.specs.Written.{FilesStand};
 
 use crate::fallen::Fallen;
 use crate::files::Files;
 use crate::settings::Settings;
 use crate::site::{Site, area_of, opened, reopened};
+use crate::writing::what_was_written_stays;
 use area_disk::laws::arms_nothing;
 use area_disk::{Drill, MemoryArea, Outcome3, Plan, Stop};
 use cdr_shelf::MemoryShelf;
@@ -163,16 +165,27 @@ impl Machine {
         }
     }
 
-    /// Nothing is armed for the calls of its area any more; of one that is down nothing is.
+    /// Arms this for the calls of its shelf.
+    pub fn arm_shelf(&mut self, plan: Plan)
+        ensures { (setup : SetupValue) (place : ℕ) (g : Gateway) (m : MachineValue) (armed : Armed) →
+            ArmsAs armed plan → g.is_down ≡ false →
+            MachineStands setup place g m self.old →
+            MachineStands setup place g (shelf_armed armed m) self.new }
+    {
+        self.files.arm(plan);
+    }
+
+    /// Nothing is armed for the calls of its area and of its shelf any more; of one that is down nothing is.
     pub fn disarm(&mut self, alloc: Global)
         ensures { (setup : SetupValue) (place : ℕ) (g : Gateway) (m : MachineValue) →
             MachineStands setup place g m self.old →
-            MachineStands setup place g (record m { armed = Nothing }) self.new }
+            MachineStands setup place g (unarmed m) self.new }
     {
         if self.is_down() {
             return;
         }
         self.arm(calm(alloc));
+        self.arm_shelf(calm(alloc));
     }
 
     /// Stops it between two calls.
@@ -191,7 +204,7 @@ impl Machine {
         self.leave(alloc, area);
     }
 
-    // It is down, with this area; nothing is armed, and no answer waits.
+    // It is down, with this area; nothing is armed, no answer waits, and the writer of its files has to recover.
     pub(crate) fn leave(&mut self, alloc: Global, area: MemoryArea)
         requires long { 100 ≤ area_tells.size area }
         requires short { area_tells.size area ≤ 268435456 }
@@ -199,7 +212,10 @@ impl Machine {
             HoldsHistory area_tells (header_at setup place) h area → area_tells.size area ≡ setup.size →
             SiteIsDown setup place h self.new.site }
         ensures none { self.new.waiting.items ≡ [] }
-        ensures rest { self.new ≡ record self.old { site = self.new.site; waiting = self.new.waiting } }
+        ensures files { (settings : FileSettings) (f : Filing) (items : List Item) →
+            FilesStand settings f items self.old.files → FilesStand settings (ended f) items self.new.files }
+        ensures rest { self.new ≡
+            record self.old { site = self.new.site; waiting = self.new.waiting; files = self.new.files } }
     {
         arms_nothing();
         let mut area = area;
@@ -207,6 +223,7 @@ impl Machine {
         area.arm(calm(alloc));
         self.site = Some(Site::Down(Fallen { area }));
         self.waiting.clear();
+        self.files.end(alloc);
     }
 
     /// Opens it again.
@@ -217,6 +234,7 @@ impl Machine {
             (opened (rules_in setup) g) m self.new) }
     {
         filed_records_stay();
+        what_was_written_stays();
         self.open_book(alloc)?;
         self.redirects = 0;
         Ok(())

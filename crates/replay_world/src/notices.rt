@@ -1,6 +1,6 @@
 // The lines that a replay prints.
 ghost use Rattle.std.specs.Prelude.{◌≡◌, ◌++◌, IfOk, OnOk, string_bytes};
-ghost use Rattle.replay_world.specs.Notices.{Notice, Sent, Took, Refused, Resolved, Finished, Expired, Down, Dropped, Faulted, Stopped, gateway_name, node_name, notice_line};
+ghost use Rattle.replay_world.specs.Notices.{Notice, Sent, Took, Refused, Resolved, Finished, Expired, Down, Dropped, Faulted, ShelfFaulted, Stopped, gateway_name, node_name, notice_line};
 
 use gtpp_message::Why;
 use gw_base::{NoMemory, Octets};
@@ -131,6 +131,19 @@ pub(crate) fn print_fault(alloc: Global, out: &mut Octets, gateway: u8) -> Resul
 {
     let gateway = u64::from(gateway) + 1;
     let line = format!(in alloc; "fault {gateway}\n")?;
+    out.append(line.as_bytes())
+}
+
+/// The shelf of a gateway failed.
+pub(crate) fn print_shelf_fault(
+    alloc: Global,
+    out: &mut Octets,
+    gateway: u8,
+) -> Result<(), NoMemory>
+    ensures { OnOk result (out.new ≡ out.old ++ notice_line (ShelfFaulted gateway)) }
+{
+    let gateway = u64::from(gateway) + 1;
+    let line = format!(in alloc; "shelf fault {gateway}\n")?;
     out.append(line.as_bytes())
 }
 

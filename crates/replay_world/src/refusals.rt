@@ -45,7 +45,9 @@ impl Replay {
             | Line::Write { gateway }
             | Line::Stop { gateway }
             | Line::Arm { gateway, .. }
-            | Line::Fail { gateway, .. } => self.no_running_gateway(*gateway),
+            | Line::Fail { gateway, .. }
+            | Line::ArmShelf { gateway, .. }
+            | Line::FailShelf { gateway, .. } => self.no_running_gateway(*gateway),
             Line::Redirect { gateway, to, .. } => self.refusal_to_redirect(*gateway, *to),
             Line::Open { gateway } => self.refusal_to_open(*gateway),
             _ => None,

@@ -1,5 +1,5 @@
 // The report.
-ghost use Rattle.std.specs.Prelude.{◌≡◌, ◌<◌, ◌++◌, ℕ, IfOk, List, OnOk, count_by, false, length, true};
+ghost use Rattle.std.specs.Prelude.{◌≡◌, ◌<◌, ◌++◌, ℕ, IfOk, List, OnOk, count_by, false, length, take, true};
 ghost use Rattle.std.specs.List.{enumerate_from, flat_map, range_with_len};
 ghost use Rattle.file_writer.specs.Files.{stream_files};
 ghost use Rattle.file_writer.specs.Streams.{stream_count};
@@ -8,7 +8,7 @@ ghost use Rattle.gateway_book.specs.Filed.{filed};
 ghost use Rattle.gateway_book.specs.Items.{items_of};
 ghost use Rattle.gw_base.specs.declared.history.HistoryEntry.{HistoryEntry};
 ghost use Rattle.once_core.specs.Gateway.{Gateway};
-ghost use Rattle.replay_world.specs.Report.{counts_text, digits, file_line, file_lines, file_name, gateway_lines, gateway_text, node_line, node_text, report_of, written_items};
+ghost use Rattle.replay_world.specs.Report.{counts_text, digits, file_line, file_name, gateway_lines, gateway_text, node_line, node_text, report_of, sealed_lines};
 ghost use Rattle.replay_world.specs.Setup.{Setup, files_in};
 ghost use Rattle.replay_world.specs.Stands.{MachineStands, SiteStands, Stands};
 ghost use Rattle.replay_world.specs.Tally.{IsTallied, Tells, is_part};
@@ -168,7 +168,7 @@ impl Machine {
     // The lines of its files.
     fn report_files(&self, alloc: Global, place: u8, out: &mut Octets) -> Result<(), NoMemory>
         ensures { (setup : Setup) (g : Gateway) (m : MachineValue) → MachineStands setup place g m self.now →
-            OnOk result (out.new ≡ out.old ++ file_lines setup place (written_items g m)) }
+            OnOk result (out.new ≡ out.old ++ sealed_lines setup place g m) }
     {
         for stream in 0..STREAMS {
             self.report_stream(alloc, place, stream, out)?;
@@ -187,7 +187,7 @@ impl Machine {
         ensures { (setup : Setup) (g : Gateway) (m : MachineValue) → stream < stream_count →
             MachineStands setup place g m self.now → OnOk result
             (out.new ≡ out.old ++ flat_map (file_line place)
-            (stream_files (files_in setup place) stream (written_items g m))) }
+            (take (m.filing.sealed stream) (stream_files (files_in setup place) stream (items_of g.book.firm)))) }
     {
         for sequence in 1..u32::MAX {
             let name = FileName { stream, sequence };

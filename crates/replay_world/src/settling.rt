@@ -1,14 +1,13 @@
 // Settling.
 ghost use Rattle.std.specs.Prelude.{◌≡◌, ◌∷◌, ◌<◌, ◌-◌, ◌%◌, [], ℕ, None, OnOk, length, map, true};
 ghost use Rattle.std.specs.List.{flat_map, range_with_len};
-ghost use Rattle.area_disk.specs.Armed.Armed.{Nothing};
 ghost use Rattle.once_core.specs.Turn.{no_gateway, no_running_gateway};
 ghost use Rattle.once_core.specs.declared.event.Event.TheVariants as event;
 ghost use Rattle.replay_world.specs.Does.{Does, DoesAll, Makes};
 ghost use Rattle.replay_world.specs.Lines.{settle_steps, settling_steps};
 ghost use Rattle.replay_world.specs.Settling.{AreUnarmed, Settles, opening_steps};
 ghost use Rattle.replay_world.specs.Stands.{Stands};
-ghost use Rattle.replay_world.specs.Steps.{Arms, Plays, Writes};
+ghost use Rattle.replay_world.specs.Steps.{Disarms, Plays, Writes};
 ghost use Rattle.replay_world.specs.Value.{ReplayValue};
 
 use crate::calls::GatewayCall;
@@ -29,7 +28,7 @@ impl Replay {
     // Nothing is armed for any gateway.
     fn disarm_all(&mut self, alloc: Global)
         ensures { (v : ReplayValue) → Stands v self.old →
-            DoesAll v (map (λ gateway. Arms (gateway - 1) Nothing) (range_with_len 1 (length v.world.gateways))) [] []
+            DoesAll v (map (λ gateway. Disarms (gateway - 1)) (range_with_len 1 (length v.world.gateways))) [] []
             self.new true }
     {
         for index in 0..self.gateways.len() {
@@ -41,7 +40,7 @@ impl Replay {
     fn disarm(&mut self, alloc: Global, index: usize)
         requires { index < length self.old.gateways.items }
         ensures count { length self.new.gateways.items ≡ length self.old.gateways.items }
-        ensures does { (v : ReplayValue) → Stands v self.old → Does v (Arms index Nothing) [] [] self.new }
+        ensures does { (v : ReplayValue) → Stands v self.old → Does v (Disarms index) [] [] self.new }
     {
         self.gateways[index].disarm(alloc);
     }
@@ -110,7 +109,8 @@ impl Replay {
             (Settles v (Plays (event.Commit number) ∷ Writes (number - 1) ∷ []) number out.old out.new self.new) }
     {
         self.at_gateway(alloc, place, GatewayCall::Commit, out)?;
-        self.write(alloc, place)
+        self.write(alloc, place)?;
+        Ok(())
     }
 }
 

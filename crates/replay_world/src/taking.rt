@@ -18,6 +18,7 @@ use crate::calls::GatewayCall;
 use crate::machine::{Came, Machine, Sent};
 use crate::messages::{Ends, is_expired, kept};
 use crate::site::Site;
+use crate::writing::what_was_written_stays;
 use area_disk::MemoryArea;
 use gateway_book::laws::{a_gateway_goes_as_armed, filed_records_stay};
 use gateway_book::{Book, Outcome, Prepared, Receipt, prepare};
@@ -189,6 +190,7 @@ impl Machine {
             IsCalled setup place g m left.value sequel self.new × (result ≡ left.answer) }
     {
         filed_records_stay();
+        what_was_written_stays();
         let request = prepare(message.octets.octets());
         let from = node_address(message.node, message.port);
         match &mut self.site {

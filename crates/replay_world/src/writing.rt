@@ -1,26 +1,42 @@
 // What a gateway gives the writer of its files.
-ghost use Rattle.std.specs.Prelude.{◌≡◌, ◌+◌, ◌<◌, ◌^◌, ℕ, All, IfOk, OnOk, Some, drop, false, length};
+ghost use Rattle.std.specs.Prelude.{◌≡◌, ◌+◌, ◌++◌, ◌<◌, ◌^◌, ℕ, All, IfOk, List, None, Some, drop, false, length};
 ghost use Rattle.file_writer.specs.AllStreams.{IsFit};
+ghost use Rattle.file_writer.specs.Streams.{Settings};
 ghost use Rattle.gateway_book.specs.Items.{items_of};
+ghost use Rattle.gw_base.specs.declared.item.Item.{Item as ItemValue};
 ghost use Rattle.once_core.specs.Gateway.{Gateway};
 ghost use Rattle.replay_world.specs.Setup.{Setup};
 ghost use Rattle.replay_world.specs.Stands.{MachineStands, SiteStands, StandsUp};
-ghost use Rattle.replay_world.specs.Value.{Machine as MachineValue};
+ghost use Rattle.replay_world.specs.Value.{Filing, Machine as MachineValue};
+ghost use Rattle.replay_world.specs.WritingFiles.{WritesFiles};
+ghost use Rattle.replay_world.specs.Written.{FilesStand};
+ghost use Rattle.replay_world.specs.declared.files.Files.{Files as FilesValue};
 
+use crate::files::Wrote;
 use crate::machine::Machine;
 use area_disk::MemoryArea;
+use file_writer::laws::{begun_files_only_grow, files_only_grow};
 use gateway_book::laws::{a_book_is_within_the_limits, a_gateway_stays_up_as_it_is_read};
 use gateway_book::{Book, ItemsFault};
 use gw_base::{Item, NoMemory};
 use std::alloc::Global;
 
+/// More items change nothing of what was written.
+pub(crate) fn what_was_written_stays()
+    ensures { (settings : Settings) (f : Filing) (items more : List ItemValue) (r : FilesValue) →
+        FilesStand settings f items r → FilesStand settings f (items ++ more) r }
+{
+    files_only_grow();
+    begun_files_only_grow();
+}
+
 impl Machine {
-    /// Gives the writer the items of the firm entries that it doesn't have yet, where it is up.
-    pub fn write(&mut self, alloc: Global) -> Result<(), NoMemory>
+    /// Gives the writer the items of the firm entries that it doesn't have yet, where it is up. Where its shelf stops it
+    /// is up still.
+    pub fn write(&mut self, alloc: Global) -> Result<Wrote, NoMemory>
         ensures { (setup : Setup) (place : ℕ) (g : Gateway) (m : MachineValue) →
-            MachineStands setup place g m self.old →
-            g.is_down ≡ false → OnOk result (MachineStands setup place g
-            (record m { written = length (items_of g.book.firm) }) self.new) }
+            MachineStands setup place g m self.old → g.is_down ≡ false →
+            IfOk result (λ wrote. WritesFiles setup place g m wrote self.new) }
     {
         match self.files.taken {
             Some(taken) => self.write_on(alloc, taken),
@@ -29,24 +45,25 @@ impl Machine {
     }
 
     // The same of a writer that has taken so many items.
-    fn write_on(&mut self, alloc: Global, taken: u64) -> Result<(), NoMemory>
+    fn write_on(&mut self, alloc: Global, taken: u64) -> Result<Wrote, NoMemory>
         requires { self.old.files.taken ≡ Some taken }
         ensures { (setup : Setup) (place : ℕ) (g : Gateway) (m : MachineValue) →
-            MachineStands setup place g m self.old → g.is_down ≡ false → OnOk result (MachineStands setup place g
-            (record m { written = length (items_of g.book.firm) }) self.new) }
+            MachineStands setup place g m self.old → g.is_down ≡ false →
+            IfOk result (λ wrote. WritesFiles setup place g m wrote self.new) }
     {
         let later = self.firm_items(alloc, taken)?;
-        self.files.go_on(taken, &later)
+        self.files.go_on(alloc, taken, &later)
     }
 
     // The same of one that has to recover first.
-    fn write_anew(&mut self, alloc: Global) -> Result<(), NoMemory>
+    fn write_anew(&mut self, alloc: Global) -> Result<Wrote, NoMemory>
+        requires { self.old.files.taken ≡ None }
         ensures { (setup : Setup) (place : ℕ) (g : Gateway) (m : MachineValue) →
-            MachineStands setup place g m self.old → g.is_down ≡ false → OnOk result (MachineStands setup place g
-            (record m { written = length (items_of g.book.firm) }) self.new) }
+            MachineStands setup place g m self.old → g.is_down ≡ false →
+            IfOk result (λ wrote. WritesFiles setup place g m wrote self.new) }
     {
         let items = self.firm_items(alloc, 0)?;
-        self.files.begin(&items)
+        self.files.begin(alloc, &items)
     }
 
     // The items of the firm entries from this one on.

@@ -1,8 +1,12 @@
-use Rattle.std.proofs.Common.{◌≡◌, ap, subst, ℕ, ◌+◌, ◌<◌, ◌^◌, length, take, List, Option, IfSome, arith, length-drop, false}
-use Rattle.file_writer.specs.Writer.{is_broken, taken_of}
+use Rattle.std.proofs.Common.{◌≡◌, ◌∙◌, refl, sym, subst, ℕ, ◌+◌, ◌<◌, ◌^◌, take, Option, IfSome, arith, ap, false, length, List, length-drop}
+use Rattle.file_writer.specs.Streams.{Settings}
+use Rattle.file_writer.specs.Writer.{is_broken, settings_in, taken_of}
 use Rattle.gw_base.specs.declared.item.Item.{Item}
-use Rattle.replay_world.proofs.GoesLemmas.{on_ok}
-use Rattle.replay_world.proofs.WriterLemmas.{never_fails, same_count, went_on}
+use Rattle.replay_world.specs.Written.{FilesStand, HasWritten}
+use Rattle.replay_world.specs.declared.files.Wrote.TheVariants.{All}
+use Rattle.replay_world.proofs.CountedLemmas.{numbers_fit}
+use Rattle.replay_world.proofs.GoesLemmas.{if_ok}
+use Rattle.replay_world.proofs.WriterLemmas.{broken_behind, by_settings, gone_on}
 use Rattle.replay_world.proofs.files.Files.go_on.Goals as goal
 
 pub advance-requires-clause-ready : goal.advance-requires-clause-ready
@@ -16,29 +20,39 @@ advance-requires-clause-few c =
     omega (arith, has.0, c.requires.few)
 
 pub returns-in-Ok : goal.returns-in-Ok
-returns-in-Ok c = λ settings written all stands are.
-    let goes = stands.goes_on c.args.taken c.requires.taken in
-    let count : c.args.taken + length c.args.items.now ≡ length all =
+returns-in-Ok c = λ settings f all stands are.
+    let set = stands.writes.holds.settings_are in
+    let there = subst (λ (q : Settings). FilesStand q f all c.args.self.now) (sym set) stands in
+    let all_of : c.args.taken + length c.args.items.now ≡ length all =
     omega (
       arith,
-      goes.0,
       ap (λ (xs : List Item). length xs) are,
-      length-drop written all,
-      stands.writes.most,
+      length-drop c.args.taken all,
+      (stands.writes.on c.args.taken (sym stands.taken ∙ c.requires.taken)).some,
     ) in
-    let went = went_on c.files_only_grow.ensures c.calls_seal_files_of_streams.ensures
-    c.open_files_go_on.ensures settings written all
-    c.args.self.now.writer c.advance.new.self stands.writes goes.1 c.in-Ok.ensures.settings c.args.items.now are _
-    (c.in-Ok.ensures.moves (λ s. 0) (take written all) goes.1.at) in
-    record {
-      writes = went.0;
-      few = omega (arith, count, c.requires.few);
-      goes_on = λ n is. (same_count (c.args.taken + length c.args.items.now) n (length all) is count, went.1);
-    }
+    by_settings (settings_in c.args.self.now.writer) settings all f All _ set
+    (gone_on c.calls_seal_files_of_streams.ensures c.sealed_files_get_no_call.ensures c.open_files_go_on.ensures all
+    c.args.items.now f c.args.taken c.args.self.now c.advance.new.self
+    (λ s small. numbers_fit (settings_in c.args.self.now.writer) s all (omega (arith, all_of, c.requires.few)))
+    there c.requires.taken are c.in-Ok.ensures.settings _
+    (c.in-Ok.ensures.moves (λ s. 0) (take c.args.taken all) (stands.goes_on c.args.taken
+    (sym stands.taken ∙ c.requires.taken)).at) _ refl refl c.requires.few)
 
 pub returns-in-Err : goal.returns-in-Err
-returns-in-Err c = λ settings written all stands are.
-    let goes = stands.goes_on c.args.taken c.requires.taken in
-    on_ok c.starved.result (λ device. absurd (never_fails (λ s. 0) (take written all) c.args.items.now
-    c.args.self.now.writer c.advance.new.self c.in-Err.fault stands.writes.is_armed
-    (c.in-Err.ensures.moves (λ s. 0) (take written all) goes.1.at) device)) c.starved.ensures
+returns-in-Err c = λ settings f all stands are.
+    let set = stands.writes.holds.settings_are in
+    let there = subst (λ (q : Settings). FilesStand q f all c.args.self.now) (sym set) stands in
+    let all_of : c.args.taken + length c.args.items.now ≡ length all =
+    omega (
+      arith,
+      ap (λ (xs : List Item). length xs) are,
+      length-drop c.args.taken all,
+      (stands.writes.on c.args.taken (sym stands.taken ∙ c.requires.taken)).some,
+    ) in
+    if_ok c.broken.result (λ wrote breaks. subst (λ (q : Settings). HasWritten q all f wrote c.broken.new.self) set
+    (broken_behind c.calls_seal_files_of_streams.ensures c.sealed_files_get_no_call.ensures c.open_files_go_on.ensures
+    all c.args.items.now f c.args.taken c.args.self.now c.advance.new.self
+    (λ s small. numbers_fit (settings_in c.args.self.now.writer) s all (omega (arith, all_of, c.requires.few)))
+    there c.requires.taken are c.in-Err.ensures.settings c.in-Err.fault
+    (c.in-Err.ensures.moves (λ s. 0) (take c.args.taken all) (stands.goes_on c.args.taken
+    (sym stands.taken ∙ c.requires.taken)).at) _ c.broken.new.self wrote refl refl breaks)) c.broken.ensures

@@ -1,4 +1,5 @@
 use Rattle.std.proofs.Common.{refl, sym}
+use Rattle.replay_world.specs.Setup.{files_in}
 use Rattle.replay_world.specs.declared.machine.Came.TheVariants.{Failed, Halted, Went}
 use Rattle.replay_world.specs.declared.machine.Sent.{Sent}
 use Rattle.replay_world.proofs.CallLemmas.{after_broke, after_halted, after_went}
@@ -25,4 +26,6 @@ returns-in-Halted c = λ setup place g m book sequel called.
     let sent : Sent = record { came = Halted; messages = c.new-in-Halted.result } in
     after_halted setup place g m book sequel c.args.self.now c.cut.new.self sent called
     (sym (c.in-Halted.ensures setup place book sequel called.site)) refl c.new-in-Halted.ensures.items
-    (λ h is_cut. c.cut.ensures.down setup place h is_cut) c.cut.ensures.rest
+    (λ h is_cut. c.cut.ensures.down setup place h is_cut)
+    (λ h items is_cut files. c.cut.ensures.files setup place h (files_in setup place) m.filing items is_cut files)
+    c.cut.ensures.rest

@@ -14,7 +14,8 @@ returns-in-Some c = λ setup place g m stands runs.
     let v = asked_value setup c.args.now c.args.call (fortune_by m.at_last s) g.book in
     let there = subst (λ (x : Option Site). SiteStands setup place g m x) c.in-Some.is stands.site in
     is_called setup place g m v s c.args.self.now
-    (record c.args.self.now { site = Some c.ask.new.self }) c.ask.new.self c.filed_records_stay.ensures.items stands runs
+    (record c.args.self.now { site = Some c.ask.new.self }) c.ask.new.self c.filed_records_stay.ensures.items
+    c.what_was_written_stays.ensures stands runs
     refl (c.ask.ensures setup place g m runs there)
     (asked_grows setup c.args.now g m c.args.call (fortune_by m.at_last s))
     (asked_keeps setup c.args.now g m c.args.call)

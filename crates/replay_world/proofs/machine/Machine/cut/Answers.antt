@@ -19,3 +19,6 @@ returns-clause-down c = λ setup place h is_cut.
           (ap (λ (a : MemoryArea). area_tells.size a) c.into_area.ensures.area ∙ cut.size),
       c.leave.ensures.none,
     )
+
+pub returns-clause-files : goal.returns-clause-files
+returns-clause-files c = λ setup place h settings f items is_cut files. c.leave.ensures.files settings f items files

@@ -4,14 +4,13 @@ use Rattle.area_disk.specs.Armed.Armed.{Nothing}
 use Rattle.area_disk.specs.Plan.{Schedule, schedule_of}
 use Rattle.cdr_shelf.specs.declared.memory.MemoryShelf.{MemoryShelf}
 use Rattle.file_writer.specs.Writer.{settings_in}
-use Rattle.file_writer.specs.declared.writer.Writer.{Writer}
 use Rattle.gateway_book.specs.Items.{items_of}
 use Rattle.gateway_book.specs.declared.outcome.Setup.{Setup as BookSetup}
 use Rattle.once_core.specs.Addresses.{gateway_address}
 use Rattle.once_core.specs.Beginning.{first_gateway}
 use Rattle.replay_world.specs.Setup.{files_in, rules_in}
-use Rattle.replay_world.specs.Written.{WriterStands, shelf_tells}
-use Rattle.replay_world.proofs.WriterLemmas.{made_stands}
+use Rattle.replay_world.specs.Written.{shelf_tells}
+use Rattle.replay_world.proofs.WriterLemmas.{made_stands, rests}
 use Rattle.replay_world.proofs.machine.Machine.new.Goals as goal
 
 pub returns : goal.returns
@@ -39,16 +38,12 @@ returns c = λ setup is rules.
       unreached = λ k d h. absurd (omega (arith, h));
       redirects = refl;
       named = named;
-      writes = record {
-        writes = subst (λ (w : Writer MemoryShelf shelf_tells). WriterStands shelf_tells (files_in setup c.args.place) 0
-            (items_of (first_gateway (rules_in setup)).book.firm) w) (sym c.new-files.ensures.is)
-            (made_stands (files_in setup c.args.place) c.new-writer.result set
-            (subst (λ (s : MemoryShelf). IsArmed Nothing (shelf_tells.plan s)) (sym c.new-writer.ensures.shelf) armed)
-            (ap (λ (s : MemoryShelf). shelf_tells.files s) c.new-writer.ensures.shelf ∙ c.in-Ok.ensures.files)
-            (λ s. ap (λ (shelf : MemoryShelf). shelf_tells.unsealed shelf s) c.new-writer.ensures.shelf
-            ∙ c.in-Ok.ensures.unsealed s)
-            (items_of (first_gateway (rules_in setup)).book.firm));
-        few = omega arith;
-        goes_on = λ n is_some. absurd (cc (sym c.new-files.ensures.begins ∙ is_some));
-      };
+      writes = rests (files_in setup c.args.place) (λ s. 0) (items_of (first_gateway (rules_in setup)).book.firm)
+          c.new-writer.result c.new-files.result c.new-files.ensures.is c.new-files.ensures.begins
+          (subst (λ (s : MemoryShelf). IsArmed Nothing (shelf_tells.plan s)) (sym c.new-writer.ensures.shelf) armed)
+          (made_stands (files_in setup c.args.place) c.new-writer.result set
+          (ap (λ (s : MemoryShelf). shelf_tells.files s) c.new-writer.ensures.shelf ∙ c.in-Ok.ensures.files)
+          (λ s. ap (λ (shelf : MemoryShelf). shelf_tells.unsealed shelf s) c.new-writer.ensures.shelf
+          ∙ c.in-Ok.ensures.unsealed s)
+          (items_of (first_gateway (rules_in setup)).book.firm));
     }

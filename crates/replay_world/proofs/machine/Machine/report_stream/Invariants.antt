@@ -1,6 +1,5 @@
 use Rattle.std.proofs.Common.{◌≡◌, ◌++◌, ◌-◌, ◌<◌, take}
 use Rattle.std.specs.List.{flat_map}
-use Rattle.file_writer.specs.Files.{stream_files}
 use Rattle.file_writer.specs.Streams.{stream_count}
 use Rattle.gateway_book.specs.Items.{items_of}
 use Rattle.once_core.specs.Gateway.{Gateway}
@@ -8,10 +7,11 @@ use Rattle.replay_world.specs.Report.{file_line}
 use Rattle.replay_world.specs.Setup.{Setup, files_in}
 use Rattle.replay_world.specs.Stands.{MachineStands}
 use Rattle.replay_world.specs.Value.{Machine}
+use Rattle.replay_world.proofs.FileLemmas.{first_files}
 use Rattle.replay_world.proofs.machine.Machine.report_stream.Given as goal
 
 -- the files so far were printed
 abbrev pub invariant-loop-sequence : goal.invariant-loop-sequence
 invariant-loop-sequence l = (setup : Setup) (g : Gateway) (m : Machine) → l.stream < stream_count →
     MachineStands setup l.place g m l.self → l.out ≡ l.fn.out ++ flat_map (file_line l.place) (take (l.sequence - 1)
-    (stream_files (files_in setup l.place) l.stream (take m.written (items_of g.book.firm))))
+    (first_files (files_in setup l.place) l.stream (m.filing.sealed l.stream) (items_of g.book.firm)))

@@ -2,6 +2,8 @@ use Rattle.std.proofs.Common.{◌≡◌, refl, sym, ap, subst, ◌∙◌, ◌++�
 use Rattle.area_disk.specs.declared.memory.MemoryArea.{MemoryArea}
 use Rattle.area_disk.specs.declared.plan.Outcome3.TheVariants.{Old}
 use Rattle.gateway_book.specs.Opened.{StandsFitFor}
+use Rattle.gateway_book.specs.Items.{items_of}
+use Rattle.replay_world.specs.Setup.{files_in}
 use Rattle.replay_world.specs.Stands.{SiteStands, area_tells, header_at}
 use Rattle.replay_world.specs.declared.site.Site.{Site}
 use Rattle.replay_world.specs.declared.site.Site.TheVariants.{Up}
@@ -23,4 +25,5 @@ returns c = λ setup place g m stands runs.
     let size : area_tells.size c.stop.new.self ≡ setup.size =
     c.stop.ensures.left.size ∙ ap (λ (a : MemoryArea). area_tells.size a) c.into_area-area.ensures.area ∙ up.size in
     stopped setup place g m c.args.self.now c.leave.new.self stands
-    (c.leave.ensures.down setup place g.book.firm down size) c.leave.ensures.none c.leave.ensures.rest
+    (c.leave.ensures.down setup place g.book.firm down size) c.leave.ensures.none
+    (c.leave.ensures.files (files_in setup place) m.filing (items_of g.book.firm) stands.writes) c.leave.ensures.rest

@@ -1,9 +1,9 @@
 use Rattle.std.proofs.Common.{◌≡◌, refl, subst, ℕ, ◌+◌, length, Some, slice_get, length-set, arith}
 use Rattle.std.proofs.lemmas.Option.{slice_get_read}
-use Rattle.area_disk.specs.Armed.Armed.{Nothing}
 use Rattle.replay_world.specs.Stands.{MachineStands}
-use Rattle.replay_world.specs.Steps.{Arms}
-use Rattle.replay_world.proofs.QuietLemmas.{arms, does_quietly, told_nothing}
+use Rattle.replay_world.specs.Steps.{Disarms}
+use Rattle.replay_world.specs.Value.{unarmed}
+use Rattle.replay_world.proofs.QuietLemmas.{disarms, does_quietly, told_nothing}
 use Rattle.replay_world.proofs.RefusalLemmas.{gateway_at}
 use Rattle.replay_world.proofs.replay.Replay.disarm.Goals as goal
 
@@ -21,8 +21,8 @@ returns-clause-does c = λ v stands.
     let there = subst (λ (p : ℕ). MachineStands v.setup p here.gateway here.machine c.index_mut.result.now) same
     here.stands in
     let stood = c.disarm.ensures v.setup k here.gateway here.machine there in
-    let sets = arms v k here.gateway here.machine here.has_gateway here.has_machine Nothing in
-    does_quietly v (Arms k Nothing) k here.gateway (record here.machine { armed = Nothing }) c.disarm.new.self
+    let sets = disarms v k here.gateway here.machine here.has_gateway here.has_machine in
+    does_quietly v (Disarms k) k here.gateway (unarmed here.machine) c.disarm.new.self
     c.args.self.now _ sets
-    (told_nothing v (Arms k Nothing) k here.gateway (record here.machine { armed = Nothing }) sets refl) stands stood refl
+    (told_nothing v (Disarms k) k here.gateway (unarmed here.machine) sets refl) stands stood refl
     refl

@@ -1,10 +1,9 @@
 use Rattle.std.proofs.Common.{◌≡◌, ◌∙◌, refl, subst, ℕ, ◌+◌, ◌-◌, ◌<◌, [], ◌∷◌, List, length, true, arith}
 use Rattle.std.specs.List.{range_with_len}
-use Rattle.area_disk.specs.Armed.Armed.{Nothing}
 use Rattle.replay_world.specs.Lines.{after_steps}
-use Rattle.replay_world.specs.Steps.{Step, Arms}
+use Rattle.replay_world.specs.Steps.{Step, Disarms}
 use Rattle.replay_world.proofs.GatewayEventLemmas.{machines_count}
-use Rattle.replay_world.proofs.SettleLemmas.{arms, arms_next}
+use Rattle.replay_world.proofs.SettleLemmas.{disarms, disarms_next}
 use Rattle.replay_world.proofs.StepsLemmas.{SoFar, does_one, so_far_does, so_far_more, so_far_none}
 use Rattle.replay_world.proofs.replay.Replay.disarm_all.Goals as goal
 
@@ -14,8 +13,8 @@ loop-index-init c = record {
   done = λ v stands.
       let n : ℕ = length v.world.gateways in
       let whole : n ≡ n - 0 = omega arith in
-      subst (λ (k : ℕ). SoFar v (arms (range_with_len 1 n)) (arms (range_with_len 1 k)) [] [] c.args.self.now) whole
-      (so_far_none v (arms (range_with_len 1 n)) [] c.args.self.now stands);
+      subst (λ (k : ℕ). SoFar v (disarms (range_with_len 1 n)) (disarms (range_with_len 1 k)) [] [] c.args.self.now) whole
+      (so_far_none v (disarms (range_with_len 1 n)) [] c.args.self.now stands);
 }
 
 pub loop-index-preserved : goal.loop-index-preserved
@@ -26,12 +25,12 @@ loop-index-preserved c = record {
       let i : ℕ = c.loop-index.index in
       let less : i < n =
       omega (arith, c.len-index-end.ensures, c.args.self.now.gateways.ok.0, machines_count v c.args.self.now stands) in
-      let all : List Step = arms (range_with_len 1 n) in
-      let left : List Step = arms (range_with_len (i + 1 + 1) (n - (i + 1))) in
-      let so = subst (λ (ss : List Step). SoFar v all ss [] [] c.loop-index.self) (arms_next i n less)
+      let all : List Step = disarms (range_with_len 1 n) in
+      let left : List Step = disarms (range_with_len (i + 1 + 1) (n - (i + 1))) in
+      let so = subst (λ (ss : List Step). SoFar v all ss [] [] c.loop-index.self) (disarms_next i n less)
       (c.loop-index.invariant.done v stands) in
-      so_far_more v all [] (Arms i Nothing ∷ []) left [] [] c.loop-index.self c.disarm.new.self so
-      (does_one (after_steps v so.front) (Arms i Nothing) [] [] c.disarm.new.self true
+      so_far_more v all [] (Disarms i ∷ []) left [] [] c.loop-index.self c.disarm.new.self so
+      (does_one (after_steps v so.front) (Disarms i) [] [] c.disarm.new.self true
       (record { does = c.disarm.ensures.does (after_steps v so.front) so.does.makes.stands; goes = refl }));
 }
 
@@ -40,6 +39,6 @@ returns c = λ v stands.
     let n : ℕ = length v.world.gateways in
     let none : n - c.loop-index.index ≡ 0 =
     omega (arith, c.len-index-end.ensures, c.args.self.now.gateways.ok.0, machines_count v c.args.self.now stands) in
-    so_far_does v (arms (range_with_len 1 n)) [] [] c.loop-index.self
-    (subst (λ (k : ℕ). SoFar v (arms (range_with_len 1 n)) (arms (range_with_len (c.loop-index.index + 1) k)) [] []
+    so_far_does v (disarms (range_with_len 1 n)) [] [] c.loop-index.self
+    (subst (λ (k : ℕ). SoFar v (disarms (range_with_len 1 n)) (disarms (range_with_len (c.loop-index.index + 1) k)) [] []
     c.loop-index.self) none (c.loop-index.invariant.done v stands))

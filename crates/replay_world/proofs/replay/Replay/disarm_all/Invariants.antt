@@ -2,7 +2,7 @@ use Rattle.std.proofs.Common.{◌≡◌, ◌+◌, ◌-◌, [], length}
 use Rattle.std.specs.List.{range_with_len}
 use Rattle.replay_world.specs.Stands.{Stands}
 use Rattle.replay_world.specs.Value.{ReplayValue}
-use Rattle.replay_world.proofs.SettleLemmas.{arms}
+use Rattle.replay_world.proofs.SettleLemmas.{disarms}
 use Rattle.replay_world.proofs.StepsLemmas.{SoFar}
 use Rattle.replay_world.proofs.replay.Replay.disarm_all.Given as goal
 
@@ -11,6 +11,6 @@ abbrev pub invariant-loop-index : goal.invariant-loop-index
 invariant-loop-index l = record {
   count : length l.self.gateways.items ≡ length l.fn.self.gateways.items;
   done : (v : ReplayValue) → Stands v l.fn.self →
-      SoFar v (arms (range_with_len 1 (length v.world.gateways)))
-      (arms (range_with_len (l.index + 1) (length v.world.gateways - l.index))) [] [] l.self;
+      SoFar v (disarms (range_with_len 1 (length v.world.gateways)))
+      (disarms (range_with_len (l.index + 1) (length v.world.gateways - l.index))) [] [] l.self;
 }

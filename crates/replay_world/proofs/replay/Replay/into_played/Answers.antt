@@ -1,4 +1,4 @@
-use Rattle.replay_world.proofs.HandedLemmas.{gateways_at_rest}
+use Rattle.replay_world.proofs.HandedLemmas.{all_at_rest}
 use Rattle.replay_world.proofs.replay.Replay.into_played.Goals as goal
 
 pub returns-clause-played : goal.returns-clause-played
@@ -14,7 +14,7 @@ returns-clause-played c = λ v stands. record {
 
 pub returns-clause-at_rest : goal.returns-clause-at_rest
 returns-clause-at_rest c = λ v stands are. record {
-  gateways = gateways_at_rest v.setup 0 v.world.gateways v.machines c.hand_out-areas.result.0.items
+  gateways = all_at_rest v.setup v.world.gateways v.machines c.hand_out-areas.result.0.items
       c.hand_out-areas.result.1.items
       (c.hand_out-areas.ensures v.setup v.world.gateways v.machines stands.gateways (record {
         no_areas = stands.room.no_areas;

@@ -4,7 +4,7 @@ use Rattle.replay_world.specs.Does.{is_at_gateway}
 use Rattle.replay_world.specs.Steps.{Plays}
 use Rattle.world_script.specs.declared.line.Line.TheVariants as line
 use Rattle.replay_world.proofs.QuietLemmas.{runs_to_redirect}
-use Rattle.replay_world.proofs.RunLemmas.{gateway_place, line_does, other_placed, such_line}
+use Rattle.replay_world.proofs.RunLemmas.{gateway_place, line_does, line_makes, other_placed, such_line}
 use Rattle.replay_world.proofs.replay.Replay.run_at_gateway.Goals as goal
 
 pub returns-in_ok-at_gateway-in-Mark : goal.returns-in_ok-at_gateway-in-Mark
@@ -47,3 +47,12 @@ returns-in_ok-redirect-in-Redirect c = λ v stands none.
     c.redirect.new.out c.redirect.new.self allowed refl refl
     (c.in_ok-redirect-in-Redirect.ensures v number to stands is
     (other_placed v c.args.self.now number cause to stands allowed ∙ sym c.other_place.ensures) allowed))
+
+pub returns-in_ok-write_line-in-Write : goal.returns-in_ok-write_line-in-Write
+returns-in_ok-write_line-in-Write c = λ v stands none.
+    let number = c.in-Write.gateway in
+    such_line v is_at_gateway c.args.line.now (line.Write number) c.args.out.now c.write_line.new.out c.args.self.now
+    c.write_line.new.self c.in-Write.is refl none (λ allowed.
+    let is = gateway_place v c.args.self.now number stands allowed ∙ sym c.place-in-Write.ensures in
+    line_makes v (line.Write number) c.args.out.now c.write_line.new.out c.write_line.new.self allowed refl
+    (c.in_ok-write_line-in-Write.ensures v number stands is allowed))

@@ -3,7 +3,7 @@ use Rattle.area_disk.specs.Armed.Armed.{Stop}
 use Rattle.once_core.specs.declared.event.Event.TheVariants as event
 use Rattle.replay_world.specs.Does.{is_on_device}
 use Rattle.replay_world.specs.Lines.{outcome_in}
-use Rattle.replay_world.specs.Steps.{Arms, Plays}
+use Rattle.replay_world.specs.Steps.{Arms, ArmsShelf, Plays}
 use Rattle.world_script.specs.declared.line.Line.TheVariants as line
 use Rattle.replay_world.proofs.RunLemmas.{arms_stop, gateway_place, line_does, such_line}
 use Rattle.replay_world.proofs.replay.Replay.run_on_device.Goals as goal
@@ -13,7 +13,7 @@ returns-in-Stop c = λ v stands none.
     let number = c.in-Stop.gateway in
     such_line v is_on_device c.args.line.now (line.Stop number) [] [] c.args.self.now c.stop.new.self c.in-Stop.is refl
     none (λ allowed.
-    let is = gateway_place v c.args.self.now number stands allowed ∙ sym c.place-in-Stop.ensures in
+    let is = gateway_place v c.args.self.now number stands allowed ∙ sym c.place.ensures in
     line_does v (line.Stop number) (Plays (event.Cut number 0)) [] [] c.stop.new.self allowed refl refl
     (c.stop.ensures v number stands is allowed))
 
@@ -31,4 +31,20 @@ returns-in-Arm c = λ v stands none.
     (c.arm.ensures v number armed
     (arms_stop call (outcome_in mode) c.from_one.result c.outcome_of.result c.stopping-plan.result few c.from_one.ensures
     c.outcome_of.ensures c.stopping-plan.ensures.read_fail c.stopping-plan.ensures.fail c.stopping-plan.ensures.stop)
+    stands is allowed))
+
+pub returns-in-ArmShelf : goal.returns-in-ArmShelf
+returns-in-ArmShelf c = λ v stands none.
+    let number = c.in-ArmShelf.gateway in
+    let call = c.in-ArmShelf.call in
+    let mode = c.in-ArmShelf.mode in
+    let few : call - 1 < 18446744073709551615 = search rules in
+    let armed = Stop (call - 1) (outcome_in mode) in
+    such_line v is_on_device c.args.line.now (line.ArmShelf number call mode) [] [] c.args.self.now c.arm_shelf.new.self c.in-ArmShelf.is
+    refl none (λ allowed.
+    let is = gateway_place v c.args.self.now number stands allowed ∙ sym c.place-in-ArmShelf.ensures in
+    line_does v (line.ArmShelf number call mode) (ArmsShelf (number - 1) armed) [] [] c.arm_shelf.new.self allowed refl refl
+    (c.arm_shelf.ensures v number armed
+    (arms_stop call (outcome_in mode) c.from_one-in-ArmShelf.result c.outcome_of-in-ArmShelf.result c.stopping-plan-in-ArmShelf.result few c.from_one-in-ArmShelf.ensures
+    c.outcome_of-in-ArmShelf.ensures c.stopping-plan-in-ArmShelf.ensures.read_fail c.stopping-plan-in-ArmShelf.ensures.fail c.stopping-plan-in-ArmShelf.ensures.stop)
     stands is allowed))
