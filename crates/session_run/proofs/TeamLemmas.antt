@@ -7,7 +7,7 @@ use Rattle.job_inbox.specs.declared.inbox.Inbox.{Inbox}
 use Rattle.turn_cell.specs.declared.cell.TurnCell.{TurnCell}
 use Rattle.session_run.specs.Desks.{IsDeskOf}
 use Rattle.session_run.specs.Reception.{CountsTurns, IfTurns}
-use Rattle.session_run.specs.Team.{AreDesksOf, ArePairOf, Pair, TeamWorksOn}
+use Rattle.session_run.specs.Team.{AreDesksOf, ArePairOf, Pair, PairWorksOn, TeamWorksOn}
 use Rattle.session_run.specs.declared.reception.Reception.{Reception}
 use Rattle.session_run.specs.declared.round.Team.{Team}
 use Rattle.session_run.specs.declared.until.Until.{Until}
@@ -22,6 +22,13 @@ module _ {F L : Type 0} (files : shelves.Ghosts F) (tells : paths.Ghosts L) (tol
     four = λ at began w. q.four at began (p.four at began w);
     writes = λ began first w. q.writes began first (p.writes began first w);
   }
+
+module _ {L : Type 0} (tells : paths.Ghosts L) (told : Bool) where
+  pub pair_then : (a b c : Pair L) → PairWorksOn tells told a b → PairWorksOn tells told b c → PairWorksOn tells told a c
+  pair_then a b c p q = (λ at began w. q.0 at began (p.0 at began w), λ at began w. q.1 at began (p.1 at began w))
+
+  pub pair_same : (a b c : Pair L) → PairWorksOn tells told a b → c ≡ b → PairWorksOn tells told a c
+  pair_same a b c p is = subst (λ (x : Pair L). PairWorksOn tells told a x) (sym is) p
 
 -- turns that are counted are counted on
 module _ {L : Type 0} (tells : paths.Ghosts L) where

@@ -10,4 +10,5 @@ pub mod Ending
 pub mod Making
 pub mod Reception
 pub mod Rounds
+pub mod Taking
 pub mod Team

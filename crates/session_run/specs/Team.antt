@@ -1,4 +1,4 @@
--- Four sessions by two, and who writes the files, as they go on.
+-- Four sessions, two on a thread, and who writes the files, as they go on.
 use Rattle.std.specs.Prelude.{ℕ, Bool, List, [], ◌∷◌, Option}
 use Rattle.std.specs.Option.{option_or}
 use Rattle.cdr_shelf.specs.declared.shelf.Shelf as shelf
@@ -36,6 +36,9 @@ module _ {L : Type 0} where
 abbrev pub WorksOn : {L : Type 0} (tells : link.Ghosts L) → Bool → Desk L → Desk L → Type 0
 WorksOn tells told old new =
     (at : Addr) (began : Began) → HasWorked tells told at began old → HasWorked tells told at began new
+
+abbrev pub PairWorksOn : {L : Type 0} (tells : link.Ghosts L) → Bool → Pair L → Pair L → Type 0
+PairWorksOn tells told old new = WorksOn tells told old.0 new.0 × WorksOn tells told old.1 new.1
 
 module _ {F : Type 0} (tells : shelf.Ghosts F) (told : Bool) where
   -- whatever who writes has done since it began, it has done so still

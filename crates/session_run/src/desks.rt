@@ -1,14 +1,15 @@
-// How a session serves the jobs of its inbox.
-ghost use Rattle.std.specs.Prelude.{◌≡◌, ◌++◌, List};
+// How two sessions serve the jobs of their inboxes on one thread.
+ghost use Rattle.std.specs.Prelude.{◌≡◌, ◌++◌, List, []};
 ghost use Rattle.gateway_book.specs.Turning.{tells_lists};
-ghost use Rattle.gw_base.specs.declared.address.Addr.{Addr};
 ghost use Rattle.job_inbox.specs.Inbox.{IsPassOf, knowledge};
 ghost use Rattle.job_inbox.specs.declared.job.Job.{Job};
-ghost use Rattle.node_session.specs.Batches.{AreAllTaken, jobs_of, outcomes_of};
-ghost use Rattle.node_session.specs.Passes.{IsWorkerOf, knowledge_of, session_of};
-ghost use Rattle.node_session.specs.Together.{AreTaken, HaveTurnsFor};
-ghost use Rattle.session_run.specs.Desks.{Began, HasWorked, IsDeskOf, with_all_taken};
+ghost use Rattle.node_session.specs.Batches.{jobs_of, outcomes_of};
+ghost use Rattle.node_session.specs.Passes.{IsWorkerOf};
+ghost use Rattle.session_run.specs.Desks.{IsDeskOf, with_all_taken};
 ghost use Rattle.session_run.specs.Latest.{later_of, latest};
+ghost use Rattle.session_run.specs.Taking.{HasTaken, IsTaken};
+ghost use Rattle.session_run.specs.Team.{ArePairOf, PairWorksOn, WorksOn};
+ghost use Rattle.session_run.specs.declared.desk.Desk.{Desk};
 
 use crate::desk::{Desk, first_stop, later};
 use crate::gathering::Gathering;
@@ -18,8 +19,8 @@ use gateway_book::Book;
 use gw_base::Moment;
 use job_inbox::{Inbox, InboxPass};
 use net_link::Link;
+use node_session::JobBatch;
 use node_session::laws::what_served_jobs_tell;
-use node_session::{JobBatch, Worker};
 use std::sync::Wait;
 use std::thread;
 use std::time::{Clock, Duration};
@@ -28,11 +29,11 @@ use turn_cell::TurnCell;
 /// For how many milliseconds an idle thread sleeps.
 const IDLE_MILLISECONDS: u64 = 1;
 
-/// How often a session that served a job looks at its empty inbox again before it sleeps.
+/// How often a thread that served a job looks at its empty inboxes again before it sleeps.
 const LOOKS: u32 = 32;
 
 /// How often it then sleeps until it is called, and finds nothing, before it sleeps so many milliseconds at a time. A
-/// call wakes all sessions that sleep so, and most datagrams are for another one.
+/// call wakes all threads that sleep so, and a datagram is for one of them.
 const CALLS: u32 = 8;
 
 /// Lets a thread sleep that has nothing to do.
@@ -40,7 +41,7 @@ pub(crate) fn idle<R: Clock>(rt: &R) {
     thread::sleep(rt, Duration::from_millis(IDLE_MILLISECONDS));
 }
 
-// Lets a session wait that has looked so often at an empty inbox, and counts one look more. First it looks again soon,
+// Lets a thread wait that has looked so often at empty inboxes, and counts one look more. First it looks again soon,
 // then it sleeps until it is called once more than so often, and at last for a while.
 fn wait<R: Wait + Clock>(rt: &R, signals: &Signals, calls: u64, looks: u32) -> u32 {
     if looks >= LOOKS + CALLS {
@@ -55,20 +56,21 @@ fn wait<R: Wait + Clock>(rt: &R, signals: &Signals, calls: u64, looks: u32) -> u
     looks + 1
 }
 
-/// Serves the jobs of an inbox, until it was empty after the last was pushed, or all is to end.
+/// Two sessions serve the jobs of their inboxes in turn, until both were empty after the last was pushed, or all is to
+/// end.
 pub(crate) fn work<A: Area, L: Link, R: Wait + Clock>(
     rt: &R,
     cell: &TurnCell<Book<A>>,
-    inbox: &Inbox,
+    one: &Inbox,
+    two: &Inbox,
     signals: &Signals,
-    desk: Desk<L>,
-) -> Desk<L>
-    requires own { IsDeskOf cell.now inbox.now desk }
-    ensures own { IsDeskOf cell.now inbox.now result }
-    ensures worked { (at : Addr) (began : Began) → HasWorked L.Link (tells_lists A.Area) at began desk →
-        HasWorked L.Link (tells_lists A.Area) at began result }
+    desks: (Desk<L>, Desk<L>),
+) -> (Desk<L>, Desk<L>)
+    requires own { ArePairOf cell.now one.now two.now desks }
+    ensures own { ArePairOf cell.now one.now two.now result }
+    ensures worked { PairWorksOn L.Link (tells_lists A.Area) desks result }
 {
-    let mut desk = desk;
+    let mut desks = desks;
     let mut looks = LOOKS + CALLS;
     let mut works = false;
     for _ in rt.forever() {
@@ -77,10 +79,11 @@ pub(crate) fn work<A: Area, L: Link, R: Wait + Clock>(
         if signals.is_stopped() {
             break;
         }
-        let (served, now) = serve_next(rt, cell, inbox, signals, works, desk);
-        desk = now;
+        let (served, now) = serve_next(rt, cell, one, two, signals, works, desks);
+        desks = now;
         works = served;
-        if desk.stop.is_some() {
+        let stop = desks.0.stop.or(desks.1.stop);
+        if stop.is_some() {
             signals.stop();
         } else if served {
             looks = 0;
@@ -90,8 +93,8 @@ pub(crate) fn work<A: Area, L: Link, R: Wait + Clock>(
             looks = wait(rt, signals, calls, looks);
         }
     }
-    signals.end_session();
-    desk
+    signals.end_sessions(2);
+    desks
 }
 
 // Takes the jobs that wait in an inbox into a batch, behind those in it, as many as it has room for. The latest moment is
@@ -126,52 +129,9 @@ fn fill<R: Wait>(
     (last, pass)
 }
 
-// Takes the datagrams of the jobs that wait in an inbox, and of those that come meanwhile, as many as a batch has room
-// for. The session works from the first one on. Whether it works then is told, and the latest moment.
-fn take_all<A: Area, R: Wait>(
-    rt: &R,
-    cell: &TurnCell<Book<A>>,
-    inbox: &Inbox,
-    signals: &Signals,
-    works: bool,
-    worker: &mut Worker,
-    pass: InboxPass,
-    batch: &mut JobBatch,
-    last: Option<Moment>,
-) -> (bool, Option<Moment>, InboxPass)
-    requires own { IsPassOf inbox.now pass × IsWorkerOf cell.now worker.old }
-    ensures own { IsPassOf inbox.now result.2 × IsWorkerOf cell.now worker.new
-        × (session_of worker.new ≡ session_of worker.old) }
-    ensures popped { knowledge result.2 ≡ with_all_taken (jobs_of batch.new) (knowledge pass) }
-    ensures last { result.1 ≡ later_of last (latest (jobs_of batch.new)) }
-    ensures all { AreAllTaken batch.new }
-    ensures taken { AreTaken A.Area (session_of worker.old) (jobs_of batch.new) (outcomes_of batch.new)
-        (knowledge_of worker.old) (knowledge_of worker.new) }
-    ensures turns { HaveTurnsFor (tells_lists A.Area) (outcomes_of batch.new) (knowledge_of worker.new) }
-{
-    batch.clear();
-    let mut works = works;
-    let mut last = last;
-    let mut pass = pass;
-    for _ in rt.forever() {
-        let (latest, now) = fill(rt, inbox, pass, batch, last);
-        pass = now;
-        last = latest;
-        if batch.are_all_taken() {
-            break;
-        }
-        if !works {
-            works = true;
-            signals.begin_work();
-        }
-        worker.take(rt, cell, batch);
-    }
-    (works, last, pass)
-}
-
-// Serves the jobs that wait in an inbox together, and tells whether there were any. The session works until there are
-// none.
-fn serve_next<A: Area, L: Link, R: Wait>(
+// Takes the datagrams of the jobs that wait in an inbox, behind those in the batch of its desk, as many as that has
+// room for. The thread works from the first one on. Whether there were any is told.
+fn take_next<A: Area, L: Link, R: Wait>(
     rt: &R,
     cell: &TurnCell<Book<A>>,
     inbox: &Inbox,
@@ -180,35 +140,27 @@ fn serve_next<A: Area, L: Link, R: Wait>(
     desk: Desk<L>,
 ) -> (bool, Desk<L>)
     requires own { IsDeskOf cell.now inbox.now desk }
+    requires taken { IsTaken (tells_lists A.Area) desk }
     ensures own { IsDeskOf cell.now inbox.now result.1 }
-    ensures worked { (at : Addr) (began : Began) → HasWorked L.Link (tells_lists A.Area) at began desk →
-        HasWorked L.Link (tells_lists A.Area) at began result.1 }
+    ensures taken { IsTaken (tells_lists A.Area) result.1 }
+    ensures takes { (first : Desk L) → HasTaken A.Area first desk → HasTaken A.Area first result.1 }
 {
     let Desk {
         mut worker,
         pass,
-        mut link,
+        link,
         last,
         stop,
         mut batch,
     } = desk;
-    let (works, last, pass) = take_all(
-        rt,
-        cell,
-        inbox,
-        signals,
-        works,
-        &mut worker,
-        pass,
-        &mut batch,
-        last,
-    );
-    let has_jobs = !batch.jobs().is_empty();
-    let gate = Gathering::new(signals, works, has_jobs);
-    what_served_jobs_tell::<A, Gathering<'_>>(&gate);
-    worker.go_on(rt, cell, &mut batch, &gate, &mut link);
-    gate.leave();
-    let stop = stop.or(first_stop(batch.served()));
+    let (last, pass) = fill(rt, inbox, pass, &mut batch, last);
+    let has_come = !batch.are_all_taken();
+    if has_come {
+        if !works {
+            signals.begin_work();
+        }
+        worker.take(rt, cell, &mut batch);
+    }
     let desk = Desk {
         worker,
         pass,
@@ -217,5 +169,106 @@ fn serve_next<A: Area, L: Link, R: Wait>(
         stop,
         batch,
     };
-    (has_jobs, desk)
+    (has_come, desk)
+}
+
+// A desk whose batch has no job.
+fn clear<L: Link>(desk: Desk<L>) -> Desk<L>
+    ensures rest { result ≡ record desk { batch = result.batch } }
+    ensures none { (jobs_of result.batch ≡ []) × (outcomes_of result.batch ≡ []) }
+{
+    let mut desk = desk;
+    desk.batch.clear();
+    desk
+}
+
+// Takes the datagrams of the jobs that wait in two inboxes, and of those that come meanwhile, as many as the batches
+// have room for. Whether the thread works then is told.
+fn take_all<A: Area, L: Link, R: Wait>(
+    rt: &R,
+    cell: &TurnCell<Book<A>>,
+    one: &Inbox,
+    two: &Inbox,
+    signals: &Signals,
+    works: bool,
+    desks: (Desk<L>, Desk<L>),
+) -> (bool, (Desk<L>, Desk<L>))
+    requires own { ArePairOf cell.now one.now two.now desks }
+    ensures own { ArePairOf cell.now one.now two.now result.1 }
+    ensures taken { IsTaken (tells_lists A.Area) result.1.0 × IsTaken (tells_lists A.Area) result.1.1 }
+    ensures takes { HasTaken A.Area desks.0 result.1.0 × HasTaken A.Area desks.1 result.1.1 }
+{
+    let mut works = works;
+    let mut a = clear(desks.0);
+    let mut b = clear(desks.1);
+    for _ in rt.forever() {
+        let (first, now) = take_next(rt, cell, one, signals, works, a);
+        a = now;
+        works = works || first;
+        let (second, now) = take_next(rt, cell, two, signals, works, b);
+        b = now;
+        works = works || second;
+        if !first && !second {
+            break;
+        }
+    }
+    (works, (a, b))
+}
+
+// Goes on with the jobs of a desk's batch, whose datagrams were all taken.
+fn go_on<A: Area, L: Link, R: Wait>(
+    rt: &R,
+    cell: &TurnCell<Book<A>>,
+    gate: &Gathering<'_>,
+    desk: Desk<L>,
+) -> Desk<L>
+    requires own { IsWorkerOf cell.now desk.worker }
+    requires taken { IsTaken (tells_lists A.Area) desk }
+    ensures own { IsWorkerOf cell.now result.worker × (result.pass ≡ desk.pass) }
+    ensures worked { (first : Desk L) → HasTaken A.Area first desk →
+        WorksOn L.Link (tells_lists A.Area) first result }
+{
+    what_served_jobs_tell::<A, Gathering<'_>>(gate);
+    let Desk {
+        mut worker,
+        pass,
+        mut link,
+        last,
+        stop,
+        mut batch,
+    } = desk;
+    worker.go_on(rt, cell, &mut batch, gate, &mut link);
+    let stop = stop.or(first_stop(batch.served()));
+    Desk {
+        worker,
+        pass,
+        link,
+        last,
+        stop,
+        batch,
+    }
+}
+
+// Serves the jobs that wait in two inboxes together, and tells whether there were any. The thread works until there are
+// none.
+fn serve_next<A: Area, L: Link, R: Wait>(
+    rt: &R,
+    cell: &TurnCell<Book<A>>,
+    one: &Inbox,
+    two: &Inbox,
+    signals: &Signals,
+    works: bool,
+    desks: (Desk<L>, Desk<L>),
+) -> (bool, (Desk<L>, Desk<L>))
+    requires own { ArePairOf cell.now one.now two.now desks }
+    ensures own { ArePairOf cell.now one.now two.now result.1 }
+    ensures worked { PairWorksOn L.Link (tells_lists A.Area) desks result.1 }
+{
+    let (works, (a, b)) = take_all(rt, cell, one, two, signals, works, desks);
+    let has_jobs = !a.batch.jobs().is_empty() || !b.batch.jobs().is_empty();
+    let gate = Gathering::new(signals, works, has_jobs);
+    let a = go_on(rt, cell, &gate, a);
+    let b = go_on(rt, cell, &gate, b);
+    gate.leave();
+    (has_jobs, (a, b))
 }

@@ -1,10 +1,10 @@
-// The gate of a session, at which it waits for the others.
+// The gate of the sessions of a thread, at which they wait for those of the other.
 use crate::signals::Signals;
 use node_session::{Gate, Go};
 use std::sync::atomic::{AtomicU64, Ordering};
 
-/// The gate of a session that goes on with each answer of a batch. Before the first one it waits for a moment until no
-/// other session works; from the second one on it sends, and works again.
+/// The gate of the sessions of a thread that go on with each answer of their batches. Before the first one they wait
+/// for a moment until no other thread works; from the second one on they send, and the thread works again.
 #[derive(Drop)]
 pub(crate) struct Gathering<'a> {
     signals: &'a Signals,
@@ -12,7 +12,7 @@ pub(crate) struct Gathering<'a> {
 }
 
 impl<'a> Gathering<'a> {
-    /// The gate of a batch. It tells whether the session worked before it, and whether it has jobs.
+    /// The gate of batches. It tells whether the thread worked before them, and whether they have jobs.
     pub fn new(signals: &'a Signals, worked: bool, has_jobs: bool) -> Gathering<'a> {
         match (worked, has_jobs) {
             (false, true) => signals.begin_work(),
@@ -25,7 +25,7 @@ impl<'a> Gathering<'a> {
         }
     }
 
-    /// The jobs were served: the session works until its inbox is empty.
+    /// The jobs were served: the thread works until its inboxes are empty.
     pub fn leave(self) {
         if self.entered.load(Ordering::SeqCst) == 1 {
             self.signals.begin_work();

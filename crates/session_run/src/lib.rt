@@ -1,4 +1,4 @@
-//! The sessions of a gateway on threads: one receives, four answer on one book, one writes the files, until told.
+//! The sessions of a gateway on threads: one receives, two answer for four sessions, one writes files, until told.
 //!
 //! `run` takes a book, a writer of files and five links of one address, and hands them back with what it did: the
 //! history goes on by answers to datagrams that were heard (`GoesOn`), each reply rests on what is firm (`IsReply`,

@@ -5,9 +5,8 @@ ghost use Rattle.gw_base.specs.Faults.{Rose};
 ghost use Rattle.gw_base.specs.declared.address.Addr.{Addr};
 ghost use Rattle.node_session.specs.Receiving.{AreOfEach, passes_of};
 ghost use Rattle.node_session.specs.Writing.{IsActorOf};
-ghost use Rattle.session_run.specs.Desks.{IsDeskOf};
 ghost use Rattle.session_run.specs.Reception.{CountsTurns, HasDispatched, IfTurns};
-ghost use Rattle.session_run.specs.Team.{AreDesksOf, ArePairOf, IsReady, IsTeamOf, TeamWorksOn, WorksOn, WritesOn, last_among, stop_among};
+ghost use Rattle.session_run.specs.Team.{AreDesksOf, ArePairOf, IsReady, IsTeamOf, PairWorksOn, TeamWorksOn, WritesOn, last_among, stop_among};
 ghost use Rattle.session_run.specs.declared.stop.Stop.TheVariants as stop;
 
 use crate::beside::{beside, take_back};
@@ -63,38 +62,7 @@ impl<F: Shelf, L: Link> Team<F, L> {
     }
 }
 
-// Two sessions serve, on a thread each where one can be made.
-fn work_two<A: Area + Send, L: Link + Send, R: Threads + Wait + Clock + Sync>(
-    rt: &R,
-    cell: &TurnCell<Book<A>>,
-    one: &Inbox,
-    two: &Inbox,
-    signals: &Signals,
-    desks: (Desk<L>, Desk<L>),
-) -> (Desk<L>, Desk<L>)
-    requires own { ArePairOf cell.now one.now two.now desks }
-    ensures own { ArePairOf cell.now one.now two.now result }
-    ensures worked { WorksOn L.Link (tells_lists A.Area) desks.0 result.0
-        × WorksOn L.Link (tells_lists A.Area) desks.1 result.1 }
-{
-    let (a, b) = desks;
-    let (b, a) = thread::join(
-        rt,
-        move || -> Desk<L>
-            requires { IsDeskOf cell.now two.now b }
-            ensures own { IsDeskOf cell.entry.now two.entry.now result }
-            ensures worked { WorksOn L.Link (tells_lists A.Area) b result }
-        { work(rt, cell, two, signals, b) },
-        move || -> Desk<L>
-            requires { IsDeskOf cell.now one.now a }
-            ensures own { IsDeskOf cell.entry.now one.entry.now result }
-            ensures worked { WorksOn L.Link (tells_lists A.Area) a result }
-        { work(rt, cell, one, signals, a) },
-    );
-    (a, b)
-}
-
-// Four sessions serve.
+// Four sessions serve, two on a thread, where a second one can be made.
 fn work_four<A: Area + Send, L: Link + Send, R: Threads + Wait + Clock + Sync>(
     rt: &R,
     cell: &TurnCell<Book<A>>,
@@ -108,25 +76,21 @@ fn work_four<A: Area + Send, L: Link + Send, R: Threads + Wait + Clock + Sync>(
 ) -> ((Desk<L>, Desk<L>), (Desk<L>, Desk<L>))
     requires own { ArePairOf cell.now one.now two.now first × ArePairOf cell.now three.now four.now second }
     ensures own { ArePairOf cell.now one.now two.now result.0 × ArePairOf cell.now three.now four.now result.1 }
-    ensures first { WorksOn L.Link (tells_lists A.Area) first.0 result.0.0
-        × WorksOn L.Link (tells_lists A.Area) first.1 result.0.1 }
-    ensures second { WorksOn L.Link (tells_lists A.Area) second.0 result.1.0
-        × WorksOn L.Link (tells_lists A.Area) second.1 result.1.1 }
+    ensures first { PairWorksOn L.Link (tells_lists A.Area) first result.0 }
+    ensures second { PairWorksOn L.Link (tells_lists A.Area) second result.1 }
 {
     let (second, first) = thread::join(
         rt,
         move || -> (Desk<L>, Desk<L>)
             requires { ArePairOf cell.now three.now four.now second }
             ensures own { ArePairOf cell.entry.now three.entry.now four.entry.now result }
-            ensures worked { WorksOn L.Link (tells_lists A.Area) second.0 result.0
-                × WorksOn L.Link (tells_lists A.Area) second.1 result.1 }
-        { work_two(rt, cell, three, four, signals, second) },
+            ensures worked { PairWorksOn L.Link (tells_lists A.Area) second result }
+        { work(rt, cell, three, four, signals, second) },
         move || -> (Desk<L>, Desk<L>)
             requires { ArePairOf cell.now one.now two.now first }
             ensures own { ArePairOf cell.entry.now one.entry.now two.entry.now result }
-            ensures worked { WorksOn L.Link (tells_lists A.Area) first.0 result.0
-                × WorksOn L.Link (tells_lists A.Area) first.1 result.1 }
-        { work_two(rt, cell, one, two, signals, first) },
+            ensures worked { PairWorksOn L.Link (tells_lists A.Area) first result }
+        { work(rt, cell, one, two, signals, first) },
     );
     (first, second)
 }
@@ -142,10 +106,8 @@ fn work_all<A: Area + Send, L: Link + Send, R: Threads + Wait + Clock + Sync>(
 ) -> ((Desk<L>, Desk<L>), (Desk<L>, Desk<L>))
     requires own { AreDesksOf cell.now inboxes.now first second }
     ensures own { AreDesksOf cell.now inboxes.now result.0 result.1 }
-    ensures first { WorksOn L.Link (tells_lists A.Area) first.0 result.0.0
-        × WorksOn L.Link (tells_lists A.Area) first.1 result.0.1 }
-    ensures second { WorksOn L.Link (tells_lists A.Area) second.0 result.1.0
-        × WorksOn L.Link (tells_lists A.Area) second.1 result.1.1 }
+    ensures first { PairWorksOn L.Link (tells_lists A.Area) first result.0 }
+    ensures second { PairWorksOn L.Link (tells_lists A.Area) second result.1 }
 {
     let [one, two, three, four] = inboxes else {
         unreachable!();
@@ -188,10 +150,8 @@ fn work_and_write<
         move || -> ((Desk<L>, Desk<L>), (Desk<L>, Desk<L>))
             requires { AreDesksOf cell.now inboxes.now first second }
             ensures own { AreDesksOf cell.entry.now inboxes.entry.now result.0 result.1 }
-            ensures first { WorksOn L.Link (tells_lists A.Area) first.0 result.0.0
-                × WorksOn L.Link (tells_lists A.Area) first.1 result.0.1 }
-            ensures second { WorksOn L.Link (tells_lists A.Area) second.0 result.1.0
-                × WorksOn L.Link (tells_lists A.Area) second.1 result.1.1 }
+            ensures first { PairWorksOn L.Link (tells_lists A.Area) first result.0 }
+            ensures second { PairWorksOn L.Link (tells_lists A.Area) second result.1 }
         { work_all(rt, cell, inboxes, signals, first, second) },
     );
     Team {

@@ -44,9 +44,10 @@ use turn_cell::{Pass, TurnCell};
 /// How many passes the cell has: one for each session, and one for who writes the files.
 const PASSES: u32 = 5;
 
-/// Lets a gateway serve until it is told to end. One thread receives, four answer and send, and one writes the files;
-/// each has a link of its own that needs one. The first fault of a link or of the clock, or want of memory, ends all
-/// soon, and all is handed back whatever comes: the book and the writer may be broken then, where a device failed.
+/// Lets a gateway serve until it is told to end. One thread receives, two answer for two sessions each, and one writes
+/// the files. Who receives and each session has a link of its own. The first fault of a link or of the clock, or want
+/// of memory, ends all soon, and all is handed back whatever comes: the book and the writer may be broken then, where a
+/// device failed.
 ///
 /// The links are five new ones of the gateway's address. Of turns there are fewer than 2^63.
 pub fn run<

@@ -7,7 +7,7 @@ use std::thread;
 /// How many sessions there are.
 pub(crate) const SESSIONS: usize = 4;
 
-/// How often a session looks whether others work before it goes on without them.
+/// How often a thread looks whether others work before it goes on without them.
 const LOOKS: u32 = 512;
 
 /// What threads that serve tell one another.
@@ -84,18 +84,18 @@ impl Signals {
         let _before = self.sleepers.fetch_sub(1, Ordering::SeqCst);
     }
 
-    /// A session works: it has jobs whose datagrams it takes, or sends replies.
+    /// A thread works: its sessions have jobs whose datagrams they take, or send replies.
     pub fn begin_work(&self) {
         let _before = self.working.fetch_add(1, Ordering::SeqCst);
     }
 
-    /// A session that worked doesn't any more.
+    /// A thread that worked doesn't any more.
     pub fn end_work(&self) {
         let _before = self.working.fetch_sub(1, Ordering::SeqCst);
     }
 
-    /// Lets a session that has taken all its datagrams wait for a moment until no other works, so that one commit makes
-    /// the answers of all firm.
+    /// Lets a thread whose sessions have taken all their datagrams wait for a moment until no other works, so that one
+    /// commit makes the answers of all firm.
     pub fn gather(&self) {
         self.end_work();
         for _ in 0..LOOKS {
@@ -106,9 +106,9 @@ impl Signals {
         }
     }
 
-    /// One more session has ended.
-    pub fn end_session(&self) {
-        let _before = self.ended.fetch_add(1, Ordering::SeqCst);
+    /// So many more sessions have ended.
+    pub fn end_sessions(&self, count: u64) {
+        let _before = self.ended.fetch_add(count, Ordering::SeqCst);
     }
 
     /// Whether all sessions have ended.

@@ -1,56 +1,35 @@
-use Rattle.std.proofs.Common.{◌≡◌, ℕ, List, [], length, Option, ◌∙◌, refl, sym, subst, ap}
-use Rattle.std.proofs.lemmas.List.Elements.{All-nil}
 use Rattle.gateway_book.specs.Turning.{tells_lists}
-use Rattle.gateway_book.specs.declared.outcome.Outcome.{Outcome}
-use Rattle.job_inbox.specs.Inbox.{knowledge}
-use Rattle.job_inbox.specs.declared.job.Job.{Job}
-use Rattle.node_session.specs.Batches.{jobs_of, outcomes_of}
-use Rattle.node_session.specs.Learning.{HasTurnFor}
-use Rattle.node_session.specs.Passes.{knowledge_of, session_of}
-use Rattle.node_session.specs.Together.{AreTaken, FirstAreTaken, HaveTurnsFor}
-use Rattle.session_run.specs.Latest.{later_of, latest}
-use Rattle.session_run.proofs.LatestLemmas.{later_none}
-use Rattle.session_run.proofs.TakingLemmas.{first_taken, latest_more, popped_more, popped_none, whole_taken}
+use Rattle.session_run.proofs.TakingLemmas.{is_still, none_taken, none_to_take}
 use Rattle.session_run.proofs.desks.take_all.Goals as goal
+use Rattle.session_run.proofs.desks.take_all.Goals.{in-None, in-Some+then-not-first+then-not-second}
 
 pub loop-init : goal.loop-init
 loop-init g c =
-    let k = knowledge_of c.args.worker.now in
-    let none = c.clear.ensures.none in
+    let a = c.clear-a.ensures in
+    let b = c.clear-b.ensures in
+    let told = tells_lists g.A.Area in
     record {
-      own = c.requires.own.0;
-      works = c.requires.own.1;
-      session = refl;
-      popped = popped_none (knowledge c.args.pass) (jobs_of c.clear.new.self) none.0;
-      last = sym (later_none c.args.last) ∙ ap (λ (js : List Job). later_of c.args.last (latest js)) (sym none.0);
-      all = ap (λ (os : List Outcome). length os) none.1 ∙ sym (ap (λ (js : List Job). length js) none.0);
-      taken = subst (λ (js : List Job). AreTaken g.A.Area (session_of c.args.worker.now) js (outcomes_of c.clear.new.self) k k) (sym none.0)
-          (subst (λ (os : List Outcome). AreTaken g.A.Area (session_of c.args.worker.now) [] os k k) (sym none.1) refl);
-      turns = subst (λ (os : List Outcome). HaveTurnsFor (tells_lists g.A.Area) os k) (sym none.1) (All-nil (λ (o : Outcome). HasTurnFor (tells_lists g.A.Area) o k));
+      own = (is_still c.args.desks.0 c.clear-a.result a.rest a.none.0 a.none.1 c.args.cell.now c.args.one.now c.requires.own.0, is_still c.args.desks.1 c.clear-b.result b.rest b.none.0 b.none.1 c.args.cell.now c.args.two.now c.requires.own.1);
+      taken = (none_to_take c.args.desks.0 c.clear-a.result a.rest a.none.0 a.none.1 told, none_to_take c.args.desks.1 c.clear-b.result b.rest b.none.0 b.none.1 told);
+      takes = (none_taken c.args.desks.0 c.clear-a.result a.rest a.none.0 a.none.1 g.A.Area, none_taken c.args.desks.1 c.clear-b.result b.rest b.none.0 b.none.1 g.A.Area);
     }
 
 pub loop-preserved : goal.loop-preserved
 loop-preserved g c =
-    let inv = c.loop.invariant in
-    let filled = c.fill-latest.ensures in
-    let more = filled.taken.0 in
-    let jobs = jobs_of c.loop.batch in
-    let all = jobs_of c.fill-latest.new.batch in
-    let before = knowledge_of c.args.worker.now in
-    let own : session_of c.loop.worker ≡ session_of c.args.worker.now = inv.session in
-    let first = subst (λ (n : ℕ). FirstAreTaken g.A.Area n all (outcomes_of c.fill-latest.new.batch) before (knowledge_of c.loop.worker)) (sym own)
-    (first_taken g.A.Area (session_of c.args.worker.now) jobs more all (outcomes_of c.loop.batch) (outcomes_of c.fill-latest.new.batch) before
-    (knowledge_of c.loop.worker) filled.taken.1 filled.same inv.all inv.taken) in
+    let one = c.take_next-first.ensures in
+    let two = c.take_next-second.ensures in
+    let now = c.loop.invariant in
     record {
-      own = filled.own;
-      works = c.take.ensures.own.0;
-      session = c.take.ensures.own.1 ∙ own;
-      popped = popped_more (knowledge c.args.pass) (knowledge c.loop.pass) (knowledge c.fill-latest.result.1) jobs more (jobs_of c.take.new.batch)
-          inv.popped filled.taken.2 (c.take.ensures.jobs ∙ filled.taken.1);
-      last = latest_more c.args.last c.loop.last c.fill-latest.result.0 jobs more (jobs_of c.take.new.batch) inv.last filled.taken.3
-          (c.take.ensures.jobs ∙ filled.taken.1);
-      all = c.take.ensures.all;
-      taken = subst (λ (n : ℕ). AreTaken g.A.Area n (jobs_of c.take.new.batch) (outcomes_of c.take.new.batch) before (knowledge_of c.take.new.self)) own
-          (c.take.ensures.taken before first);
-      turns = c.take.ensures.turns (subst (λ (os : List Outcome). HaveTurnsFor (tells_lists g.A.Area) os (knowledge_of c.loop.worker)) (sym filled.same) inv.turns);
+      own = (one.own, two.own);
+      taken = (one.taken, two.taken);
+      takes = (one.takes c.args.desks.0 now.takes.0, two.takes c.args.desks.1 now.takes.1);
     }
+
+pub returns-clause-takes : goal.returns-clause-takes
+returns-clause-takes g c =
+    let now = c.loop.invariant.takes in
+    elim c.match-next.branch [
+      | in-None w ↦ rw w.a-is (rw w.b-is now)
+      | in-Some+then-not-first+then-not-second w ↦ rw w.a-is (rw w.b-is
+          (w.take_next-first.ensures.takes c.args.desks.0 now.0, w.take_next-second.ensures.takes c.args.desks.1 now.1))
+    ]
