@@ -1,4 +1,5 @@
-ghost use Rattle.std.specs.Prelude.{◌≡◌, IfOk, IsSome, OnOk};
+ghost use Rattle.std.specs.Prelude.{◌≡◌, IfOk, IsSome, OnOk, string_bytes};
+ghost use Rattle.cgf_edge.specs.Folder.{with_slash};
 
 use crate::name::{Paths, greatest};
 use crate::open::{make_new, open_folder};
@@ -40,6 +41,7 @@ impl<'a, R: Files<File = File>> FolderShelf<'a, R> {
     /// `NoMemory` where there is no memory for that. It has failed no call yet.
     pub fn new(alloc: Global, files: &'a R, path: &str) -> Result<Self, NoMemory>
         ensures files { IfOk result (λ shelf. shelf.files.now ≡ files.now) }
+        ensures path { IfOk result (λ shelf. string_bytes shelf.path ≡ with_slash path.now) }
         ensures faults { IfOk result (λ shelf. shelf.troubles.count ≡ 0) }
     {
         let path = with_slash(alloc, path)?;
@@ -137,7 +139,9 @@ impl<'a, R: Files<File = File>> FolderShelf<'a, R> {
 }
 
 /// The path of a folder with a slash behind it; an empty one names no folder, and stays so.
-fn with_slash(alloc: Global, path: &str) -> Result<String, AllocError> {
+fn with_slash(alloc: Global, path: &str) -> Result<String, AllocError>
+    ensures { IfOk result (λ whole. string_bytes whole ≡ with_slash path.now) }
+{
     let mut whole = String::from_str(alloc, path)?;
     if !path.is_empty() {
         whole.push('/')?;

@@ -208,7 +208,11 @@ fn nodes_of_a_loop_are_shown_on_a_terminal(rt: HostRuntime) -> Result<(), Fail> 
     let shown = fs::read(&rt, "nodes")?;
     assert_eq!(rt;
         shown.as_slice(),
-        b"\rcgf:    0 of 200 packets done, favourites 1\rcgf:    1 of 200 packets done, favourites 1 2\rcgf:    2 of 200 packets done, favourites 1 2\rcgf:    3 of 200 packets done, favourites 2 2\r\x1b[K".as_slice()
+        b"\rcgf:    0 of 200 packets done, favourites 1\
+\rcgf:    1 of 200 packets done, favourites 1 2\
+\rcgf:    2 of 200 packets done, favourites 1 2\
+\rcgf:    3 of 200 packets done, favourites 2 2\r\x1b[K"
+            .as_slice()
     );
     Ok(())
 }
