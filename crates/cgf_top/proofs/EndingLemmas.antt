@@ -60,6 +60,8 @@ is_end (line.Stop gateway) is = absurd (cc)
 is_end (line.Open gateway) is = absurd (cc)
 is_end (line.Arm gateway call mode) is = absurd (cc)
 is_end (line.Fail gateway call) is = absurd (cc)
+is_end (line.ArmShelf gateway call mode) is = absurd (cc)
+is_end (line.FailShelf gateway call) is = absurd (cc)
 is_end line.Settle is = absurd (cc)
 
 -- Behind an `end` only blank lines are taken.

@@ -36,8 +36,8 @@ use Rattle.cgf_top.specs.Kinds.{of_frame}
 use Rattle.cgf_top.specs.Run.{TakesUpTo}
 use Rattle.cgf_top.specs.ServeSteps.{status_by}
 use Rattle.cgf_top.specs.Served.{HoldsHistory}
-use Rattle.cgf_top.specs.StreamEnds.{EndsAsSaid, IsStreamCalm, IsStreamRead, IsUnopened, StandsBehind, Streams, end_by, header_at, most_stream, rest_place, stream_end, stream_settings}
-use Rattle.cgf_top.specs.StreamSteps.{CausesStop, HasEnded, HasGoneTo, HasServed, HasSettledStream, IsGoingOn, SettlesAs, ends_serving}
+use Rattle.cgf_top.specs.StreamEnds.{EndsAsSaid, IsStreamCalm, IsStreamRead, IsUnopened, KeepsAnswers, StandsBehind, Streams, end_by, header_at, most_stream, rest_place, stream_end, stream_settings}
+use Rattle.cgf_top.specs.StreamSteps.{CausesStop, HasClosed, HasGoneTo, HasServed, HasSettledStream, IsGoingOn, SettlesAs, ends_serving}
 use Rattle.cgf_top.specs.declared.connection.Connection.{Connection}
 use Rattle.cgf_top.specs.declared.input_kind.InputKind.{InputKind}
 use Rattle.cgf_top.specs.declared.status.Status.{Status}
@@ -48,7 +48,7 @@ use Rattle.cgf_top.specs.declared.streaming.Streaming.{Streaming}
 use Rattle.cgf_top.proofs.PieceLemmas.{ok_not_err}
 use Rattle.cgf_top.proofs.ServedLemmas.{FilesGrow, ItemsStay}
 use Rattle.cgf_top.proofs.StreamLemmas.{all_gone}
-use Rattle.cgf_top.proofs.StreamedLemmas.{answered, answered_all, answers_kept, settled_behind, written_all, written_front}
+use Rattle.cgf_top.proofs.StreamedLemmas.{answered, answered_all, answers_kept, closed_behind_them, settled_behind, written_all, written_front}
 use Rattle.cgf_top.proofs.Streams.{consumes_none}
 
 abbrev Entries : Type 0
@@ -298,6 +298,25 @@ module _ {A F : Type 0} (tells : areas.Ghosts A) (files : shelves.Ghosts F) (of 
   abbrev Holds : Type 0
   Holds = Told tells → (octets : List ℕ) → tells.may_leave area' octets → StandsBehind (header_of c.book) (value_of c.book).firm octets
 
+  abbrev Closes : Type 0
+  Closes = ¬ (disk.Rose (tells.faults (area_of c.book)) (tells.faults area')) → HasClosed tells c area'
+
+  -- nothing is lost of what was answered, and the gateway was closed behind it
+  kept : (later : tells.faults (area_of c.book) ≤ tells.faults area') → Holds → Closes → (text sent : List ℕ)
+      (consumed : Consumes job.left job.rest text) (told : Told tells) (gone : HasGoneTo tells book text sent c) (ended : Status)
+      → KeepsAnswers tells files of job area area' shelf shelf' clock clock' ended
+      (answered tells files of job area area' shelf shelf' clock clock' book c open_time sized opens node later text sent consumed told gone ended)
+  kept later keeps closes text sent consumed told gone ended =
+      answers_kept tells files of job area area' shelf shelf' clock clock' book c open_time sized opens node later text sent consumed told gone ended laws
+      (keeps told) (λ calm. (
+        _,
+        closed_behind_them tells files of job area area' shelf shelf' clock clock' book c open_time sized opens node later text sent
+            consumed told gone laws shuts (closes (still calm)) ended,
+      ))
+    where
+      still : ¬ (disk.Rose (tells.faults area) (tells.faults area')) → ¬ (disk.Rose (tells.faults (area_of c.book)) (tells.faults area'))
+      still calm rose = calm (omega (arith, rose, opens.faults, gone.cuts.later))
+
   not_behind : {P : Type 0} (ended : Status) → ended ≢ status.Memory → ended ≢ status.Store fault.Device
       → (ended ≡ status.Memory) ⊎ (ended ≡ status.Store fault.Device) → P
   not_behind ended memory device (inl is) = absurd (memory is)
@@ -324,7 +343,7 @@ module _ {A F : Type 0} (tells : areas.Ghosts A) (files : shelves.Ghosts F) (of 
       (goes : IsGoingOn tells book text sent c) (says : stream_end text ≡ status.Done) (read : IsStreamRead job.left job.rest text)
       (written : Appends job.before job.after sent)
       (later : tells.faults (area_of c.book) ≤ tells.faults area') (files_later : files.faults (shelf_of writer) ≤ files.faults shelf')
-      (keeps : Holds) (stood : (job.read_after ≡ job.read_before) × (job.written_after ≡ job.written_before)) where
+      (keeps : Holds) (closes : Closes) (stood : (job.read_after ≡ job.read_before) × (job.written_after ≡ job.written_before)) where
     abbrev gone : HasGoneTo tells book text sent c
     gone = (all_gone tells book text sent c goes).0
 
@@ -339,10 +358,10 @@ module _ {A F : Type 0} (tells : areas.Ghosts A) (files : shelves.Ghosts F) (of 
         answered tells files of job area area' shelf shelf' clock clock' book c open_time sized opens node later text sent consumed told gone status.Done,
         answered_all tells files of job area area' shelf shelf' clock clock' book c open_time sized opens node later text sent consumed told gone status.Done
             refl written read (sym says),
-        answers_kept tells files of job area area' shelf shelf' clock clock' book c open_time sized opens node later text sent consumed told gone status.Done laws (keeps told),
+        kept later keeps closes text sent consumed told gone status.Done,
         λ done. (
           _,
-          settled_behind tells files of job area area' shelf shelf' clock clock' book c open_time sized opens node later text sent consumed told goes
+          settled_behind tells files of job area area' shelf shelf' clock clock' book c open_time sized opens node later text sent consumed told gone
               laws stay files_grow shuts writer fresh on set e status.Done,
         ),
       );
@@ -351,7 +370,7 @@ module _ {A F : Type 0} (tells : areas.Ghosts A) (files : shelves.Ghosts F) (of 
       first = λ told no. inr (
         answered tells files of job area area' shelf shelf' clock clock' book c open_time sized opens node later text sent consumed told gone status.Done,
         written_all tells files of job area area' shelf shelf' clock clock' book c open_time sized opens node later text sent consumed told gone status.Done written,
-        answers_kept tells files of job area area' shelf shelf' clock clock' book c open_time sized opens node later text sent consumed told gone status.Done laws (keeps told),
+        kept later keeps closes text sent consumed told gone status.Done,
       );
       behind = λ is. not_behind status.Done (λ e. cc e) (λ e. cc e) is;
       device = λ is. absurd (cc is);
@@ -370,7 +389,7 @@ module _ {A F : Type 0} (tells : areas.Ghosts A) (files : shelves.Ghosts F) (of 
       first = λ told no. inr (
         answered tells files of job area area' shelf shelf' clock clock' book c open_time sized opens node later text sent consumed told gone status.Memory,
         written_all tells files of job area area' shelf shelf' clock clock' book c open_time sized opens node later text sent consumed told gone status.Memory written,
-        answers_kept tells files of job area area' shelf shelf' clock clock' book c open_time sized opens node later text sent consumed told gone status.Memory laws (keeps told),
+        kept later keeps closes text sent consumed told gone status.Memory,
       );
       behind = λ is. inr (text, read, says);
       device = λ is. absurd (cc is);
@@ -389,7 +408,7 @@ module _ {A F : Type 0} (tells : areas.Ghosts A) (files : shelves.Ghosts F) (of 
       first = λ told no. inr (
         answered tells files of job area area' shelf shelf' clock clock' book c open_time sized opens node later text sent consumed told gone (status.Store fault.Device),
         written_all tells files of job area area' shelf shelf' clock clock' book c open_time sized opens node later text sent consumed told gone (status.Store fault.Device) written,
-        answers_kept tells files of job area area' shelf shelf' clock clock' book c open_time sized opens node later text sent consumed told gone (status.Store fault.Device) laws (keeps told),
+        kept later keeps closes text sent consumed told gone (status.Store fault.Device),
       );
       behind = λ is. inr (text, read, says);
       device = λ is. device_rose e;
@@ -411,7 +430,7 @@ module _ {A F : Type 0} (tells : areas.Ghosts A) (files : shelves.Ghosts F) (of 
     ends_well (status.Unfinished turns packet count) e = absurd e
 
   -- something else ended it
-  module _ (later : tells.faults (area_of c.book) ≤ tells.faults area') (keeps : Holds) where
+  module _ (later : tells.faults (area_of c.book) ≤ tells.faults area') (keeps : Holds) (closes : Closes) where
     pub ends_badly : (why : Status) → HasServed tells book c job.left job.rest job.before job.after (Err why)
         → CausesStop {X = Unit} job.read_before job.read_after job.written_before job.written_after clock clock' (Err why) → Ends why
     ends_badly (status.Input place kind) served causes = record {
@@ -421,8 +440,7 @@ module _ {A F : Type 0} (tells : areas.Ghosts A) (files : shelves.Ghosts F) (of 
         answered_all tells files of job area area' shelf shelf' clock clock' book c open_time sized opens node later served.text served.sent served.consumed told
             (served.refused place kind refl).0 (status.Input place kind) (served.refused place kind refl).1 (served.whole (λ e. cc e))
             (served.refused place kind refl).3 (sym (served.refused place kind refl).2),
-        answers_kept tells files of job area area' shelf shelf' clock clock' book c open_time sized opens node later served.text served.sent served.consumed told
-            (served.refused place kind refl).0 (status.Input place kind) laws (keeps told),
+        kept later keeps closes served.text served.sent served.consumed told (served.refused place kind refl).0 (status.Input place kind),
         λ done. absurd (cc done),
       );
       decided = λ is. (served.text, (served.refused place kind refl).3, sym (served.refused place kind refl).2);
@@ -432,7 +450,7 @@ module _ {A F : Type 0} (tells : areas.Ghosts A) (files : shelves.Ghosts F) (of 
             served.err.0 (status.Input place kind),
         written_all tells files of job area area' shelf shelf' clock clock' book c open_time sized opens node later served.text served.sent served.consumed told
             served.err.0 (status.Input place kind) (served.whole no),
-        answers_kept tells files of job area area' shelf shelf' clock clock' book c open_time sized opens node later served.text served.sent served.consumed told served.err.0 (status.Input place kind) laws (keeps told),
+        kept later keeps closes served.text served.sent served.consumed told served.err.0 (status.Input place kind),
       );
       behind = λ is. not_behind (status.Input place kind) (λ e. cc e) (λ e. cc e) is;
       device = λ is. absurd (cc is);
@@ -454,7 +472,7 @@ module _ {A F : Type 0} (tells : areas.Ghosts A) (files : shelves.Ghosts F) (of 
             served.err.0 status.Read,
         written_all tells files of job area area' shelf shelf' clock clock' book c open_time sized opens node later served.text served.sent served.consumed told
             served.err.0 status.Read (served.whole no),
-        answers_kept tells files of job area area' shelf shelf' clock clock' book c open_time sized opens node later served.text served.sent served.consumed told served.err.0 status.Read laws (keeps told),
+        kept later keeps closes served.text served.sent served.consumed told served.err.0 status.Read,
       );
       behind = λ is. not_behind status.Read (λ e. cc e) (λ e. cc e) is;
       device = λ is. absurd (cc is);
@@ -474,7 +492,7 @@ module _ {A F : Type 0} (tells : areas.Ghosts A) (files : shelves.Ghosts F) (of 
             served.err.0 status.Write,
         written_front tells files of job area area' shelf shelf' clock clock' book c open_time sized opens node later served.text served.sent served.consumed told
             served.err.0 status.Write (served.front refl),
-        answers_kept tells files of job area area' shelf shelf' clock clock' book c open_time sized opens node later served.text served.sent served.consumed told served.err.0 status.Write laws (keeps told),
+        kept later keeps closes served.text served.sent served.consumed told served.err.0 status.Write,
       );
       first = λ told no. absurd (no refl);
       behind = λ is. not_behind status.Write (λ e. cc e) (λ e. cc e) is;
@@ -496,7 +514,7 @@ module _ {A F : Type 0} (tells : areas.Ghosts A) (files : shelves.Ghosts F) (of 
             served.err.0 status.Link,
         written_all tells files of job area area' shelf shelf' clock clock' book c open_time sized opens node later served.text served.sent served.consumed told
             served.err.0 status.Link (served.whole no),
-        answers_kept tells files of job area area' shelf shelf' clock clock' book c open_time sized opens node later served.text served.sent served.consumed told served.err.0 status.Link laws (keeps told),
+        kept later keeps closes served.text served.sent served.consumed told served.err.0 status.Link,
       );
       behind = λ is. not_behind status.Link (λ e. cc e) (λ e. cc e) is;
       device = λ is. absurd (cc is);
@@ -521,7 +539,7 @@ module _ {A F : Type 0} (tells : areas.Ghosts A) (files : shelves.Ghosts F) (of 
       → HasSettledStream tells files c writer served ended area' shelf' → Ends ended
   ends_streams (Ok done) ended served causes settles =
       let ok = served.ok refl in
-      ends_well served.text served.sent served.consumed served.bounded ok.0 ok.1 ok.2 ok.3 settles.later.0 settles.later.1 settles.keeps
+      ends_well served.text served.sent served.consumed served.bounded ok.0 ok.1 ok.2 ok.3 settles.later.0 settles.later.1 settles.keeps settles.closed
       (causes.source_stood (ok_not_err tt status.Read), causes.sink_stood (ok_not_err tt status.Write)) ended (settles.ok refl)
   ends_streams (Err why) ended served causes settles =
-      subst (λ (s : Status). Ends s) (sym settles.err) (ends_badly settles.later.0 settles.keeps why served causes)
+      subst (λ (s : Status). Ends s) (sym settles.err) (ends_badly settles.later.0 settles.keeps settles.closed why served causes)

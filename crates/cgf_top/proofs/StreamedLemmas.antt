@@ -38,8 +38,8 @@ use Rattle.replay_world.specs.Settled.{AreShut}
 use Rattle.cgf_top.specs.Job.{Job}
 use Rattle.cgf_top.specs.Replies.{Tried, after_all, after_message, sent_for_all}
 use Rattle.cgf_top.specs.Served.{HasAllFiles, HasFirstFiles}
-use Rattle.cgf_top.specs.StreamEnds.{HasAnswered, HasAnsweredAll, HasSettledBehind, IsStreamRead, KeepsAnswers, StandsBehind, header_at, octets_sent, stream_end, stream_settings}
-use Rattle.cgf_top.specs.StreamSteps.{AnswersAll, HasEnded, HasGoneTo, HasSettledStream, IsGoingOn, SettlesAs}
+use Rattle.cgf_top.specs.StreamEnds.{HasAnswered, HasAnsweredAll, HasClosedBehind, HasSettledBehind, IsStreamRead, KeepsAnswers, StandsBehind, header_at, octets_sent, stream_end, stream_settings}
+use Rattle.cgf_top.specs.StreamSteps.{AnswersAll, HasClosed, HasEnded, HasGoneTo, HasSettledStream, SettlesAs}
 use Rattle.cgf_top.specs.declared.connection.Connection.{Connection}
 use Rattle.cgf_top.specs.declared.status.Status.{Status}
 use Rattle.cgf_top.specs.declared.status.Status.TheVariants as status
@@ -54,7 +54,7 @@ use Rattle.cgf_top.proofs.SealedLemmas.{all_sealed, begun_on}
 use Rattle.cgf_top.proofs.ServedLemmas.{FilesGrow, ItemsStay, items_begin}
 use Rattle.cgf_top.proofs.ServiceLemmas.{begins_self, begins_then}
 use Rattle.cgf_top.proofs.SettlingLemmas.{base_firmed, mended, mending}
-use Rattle.cgf_top.proofs.StreamLemmas.{all_gone, no_cut}
+use Rattle.cgf_top.proofs.StreamLemmas.{no_cut}
 
 abbrev Entries : Type 0
 Entries = List HistoryEntry
@@ -174,8 +174,10 @@ module _ {A F : Type 0} (tells : areas.Ghosts A) (files : shelves.Ghosts F) (of 
   -- what was firm is kept
   pub answers_kept : (ended : Status) → AreaLaws tells
       → ((octets : List ℕ) → tells.may_leave area' octets → StandsBehind (header_of c.book) (value_of c.book).firm octets)
+      → (¬ (disk.Rose (tells.faults area) (tells.faults area')) → (history : Entries)
+      × HasClosedBehind tells files of job area area' shelf shelf' clock clock' ended (answered ended) history)
       → KeepsAnswers tells files of job area area' shelf shelf' clock clock' ended (answered ended)
-  answers_kept ended laws keeps = record { now = all (tells.octets area') (laws.holds area'); crash = all }
+  answers_kept ended laws keeps closes = record { now = all (tells.octets area') (laws.holds area'); crash = all; closed = closes }
     where
       named : header_of c.book ≡ header_at tells area of.ip
       named = gone.stays.header ∙ opens.named
@@ -193,99 +195,103 @@ module _ {A F : Type 0} (tells : areas.Ghosts A) (files : shelves.Ghosts F) (of 
     decided = decides;
   }
 
+  -- It was closed behind them.
+  module _ (laws : AreaLaws tells) (shuts : (h : Entries) → is_close_due h ≡ false → AreShut (items_of h)) (e : HasClosed tells c area') where
+    abbrev pub history : Entries
+    history = (value_of e.book).firm
+
+    abbrev pub firmed : Entries
+    firmed = (after_commit (mending e.settled.drops) left).firm
+
+    base_is : base e.settled.drops (facts_of c.book) ≡ firmed
+    base_is = base_firmed c.book e.settled.drops e.settled.whole ∙ ap (λ (v : BookValue). (after_commit (mending e.settled.drops) v).firm) value_gone
+
+    pub history_is : history ≡ closed_behind firmed e.now no_caller
+    history_is = e.settled.firm told ∙ ap (λ (l : Entries). closed_behind l e.now no_caller) base_is
+
+    header_is : header_of e.book ≡ header_at tells area of.ip
+    header_is = e.stays.header ∙ gone.stays.header ∙ opens.named
+
+    leaves_whole : (octets : List ℕ) → tells.may_leave area' octets → StandsFitFor (header_at tells area of.ip) octets history
+    leaves_whole octets may = subst (λ (h : List ℕ). StandsFitFor h octets history) header_is
+        (e.leaves.whole told e.settled.goes_on octets (subst (λ (a : A). tells.may_leave a octets) e.area_is may))
+
+    pub front : Begins start history
+    front = subst (λ (l : Entries). Begins start l) (sym history_is)
+        (begins_then start firmed (closed_behind firmed e.now no_caller)
+        (begins_then start left.firm firmed
+        (subst (λ (l : Entries). Begins l left.firm) (opened_is_fresh (tells.size area) start).firm
+        (all_front (tells.size area) of.node (opened (tells.size area) start) of_all.tried))
+        (commit_front (mending e.settled.drops) left))
+        (closed_begins firmed e.now no_caller))
+
+    pub closed_behind_them : (ended : Status)
+        → HasClosedBehind tells files of job area area' shelf shelf' clock clock' ended (answered ended) history
+    closed_behind_them ended = record {
+      last = mending e.settled.drops;
+      now = e.now;
+      mended = mended left e.settled.drops;
+      history_is = history_is;
+      stands = leaves_whole (tells.octets area') (laws.holds area');
+      crash = leaves_whole;
+      shut = shuts history (ap is_close_due (e.settled.firm told) ∙ none_due_behind (base e.settled.drops (facts_of c.book)) e.now no_caller);
+    }
+
 -- It has answered all of them, and was settled.
 module _ {A F : Type 0} (tells : areas.Ghosts A) (files : shelves.Ghosts F) (of : Streaming) (job : Job)
     (area area' : A) (shelf shelf' : F) (clock clock' : ℕ) (book : Book A tells) (c : Connection A tells) (open_time : ℕ)
     (sized : tells.size (area_of book) ≡ tells.size area) (opens : IsOpened (header_at tells area of.ip) area open_time book)
     (node : c.node ≡ of.node) (later : tells.faults (area_of c.book) ≤ tells.faults area') (text sent : List ℕ)
-    (consumed : Consumes job.left job.rest text) (told : Told tells) (goes : IsGoingOn tells book text sent c)
+    (consumed : Consumes job.left job.rest text) (told : Told tells) (gone : HasGoneTo tells book text sent c)
     (laws : AreaLaws tells) (stay : ItemsStay) (files_grow : FilesGrow)
     (shuts : (h : Entries) → is_close_due h ≡ false → AreShut (items_of h)) (writer : Writer F files)
     (fresh : is_broken writer ≡ true) (on : shelf_of writer ≡ shelf) (by : settings_in writer ≡ stream_settings of.ip)
     (e : HasEnded tells files c writer area' shelf') where
-  abbrev gone_all : HasGoneTo tells book text sent c
-  gone_all = (all_gone tells book text sent c goes).0
-
   abbrev begun : Entries
   begun = (opens.found told).0
 
-  abbrev value_now : BookValue
-  value_now = after_all (tells.size area) of.node (opened (tells.size area) begun) (goes.answers told).0.tried
-
-  value_is : value_of c.book ≡ value_now
-  value_is = value_gone tells files of job area area' shelf shelf' clock clock' book c open_time sized opens node later text sent consumed told gone_all
-
-  abbrev history : Entries
-  history = (value_of e.book).firm
-
-  abbrev firmed : Entries
-  firmed = (after_commit (mending e.drops) value_now).firm
-
-  base_is : base e.drops (facts_of c.book) ≡ firmed
-  base_is = base_firmed c.book e.drops e.whole ∙ ap (λ (v : BookValue). (after_commit (mending e.drops) v).firm) value_is
-
-  history_is : history ≡ closed_behind firmed e.now no_caller
-  history_is = e.firm told ∙ ap (λ (l : Entries). closed_behind l e.now no_caller) base_is
-
-  header_is : header_of e.book ≡ header_at tells area of.ip
-  header_is = e.stays.0.header ∙ goes.stays.header ∙ opens.named
-
-  leaves_whole : (octets : List ℕ) → tells.may_leave area' octets → StandsFitFor (header_at tells area of.ip) octets history
-  leaves_whole octets may = subst (λ (h : List ℕ). StandsFitFor h octets history) header_is
-      (e.leaves.whole told e.goes_on octets (subst (λ (a : A). tells.may_leave a octets) e.area_is may))
-
-  front : Begins begun history
-  front = subst (λ (l : Entries). Begins begun l) (sym history_is)
-      (begins_then begun firmed (closed_behind firmed e.now no_caller)
-      (begins_then begun value_now.firm firmed
-      (subst (λ (l : Entries). Begins l value_now.firm) (opened_is_fresh (tells.size area) begun).firm
-      (all_front (tells.size area) of.node (opened (tells.size area) begun) (goes.answers told).0.tried))
-      (commit_front (mending e.drops) value_now))
-      (closed_begins firmed e.now no_caller))
+  abbrev whole : Entries
+  whole = (value_of e.closed.book).firm
 
   settings_are : settings_in e.after ≡ stream_settings of.ip
-  settings_are = e.stays.1 ∙ by
+  settings_are = e.settings ∙ by
 
   sealed : IsTrue files.tells_files → HasFirstFiles (stream_settings of.ip) begun (files.files shelf)
-      → HasAllFiles (stream_settings of.ip) history (files.files shelf')
-  sealed tells_files first = subst (λ (f : F). HasAllFiles (stream_settings of.ip) history (files.files f)) (sym e.shelf_is)
-      (subst (λ (settings : Settings). HasAllFiles settings history (files.files (shelf_of e.after))) settings_are
-      (all_sealed files e.after (items_of history) (e.taken told).ready (e.taken told).count holds counted))
+      → HasAllFiles (stream_settings of.ip) whole (files.files shelf')
+  sealed tells_files first = subst (λ (f : F). HasAllFiles (stream_settings of.ip) whole (files.files f)) (sym e.shelf_is)
+      (subst (λ (settings : Settings). HasAllFiles settings whole (files.files (shelf_of e.after))) settings_are
+      (all_sealed files e.after (items_of whole) (e.taken told).ready (e.taken told).count holds counted))
     where
-      items_front : writing.Begins (items_of begun) (items_of history)
-      items_front = items_begin stay begun history front
+      items_front : writing.Begins (items_of begun) (items_of whole)
+      items_front = items_begin stay begun whole
+          (front tells files of job area area' shelf shelf' clock clock' book c open_time sized opens node later text sent consumed told gone laws shuts e.closed)
 
-      is_begun : IsBegun (stream_settings of.ip) writing.none_closed writing.none_stood (items_of history) (files.files shelf)
+      is_begun : IsBegun (stream_settings of.ip) writing.none_closed writing.none_stood (items_of whole) (files.files shelf)
       is_begun = subst (λ (items : List Item). IsBegun (stream_settings of.ip) writing.none_closed writing.none_stood items (files.files shelf)) (sym items_front.1)
           (begun_on files_grow (stream_settings of.ip) (items_of begun) items_front.0 (files.files shelf) first)
 
-      first_holds : writing.HoldsFilesOf (items_of history) writer
+      first_holds : writing.HoldsFilesOf (items_of whole) writer
       first_holds = record {
-        begun = λ broken. subst (λ (settings : Settings). IsBegun settings writing.none_closed writing.none_stood (items_of history) (files.files (shelf_of writer))) (sym by)
-            (subst (λ (f : F). IsBegun (stream_settings of.ip) writing.none_closed writing.none_stood (items_of history) (files.files f)) (sym on) is_begun);
+        begun = λ broken. subst (λ (settings : Settings). IsBegun settings writing.none_closed writing.none_stood (items_of whole) (files.files (shelf_of writer))) (sym by)
+            (subst (λ (f : F). IsBegun (stream_settings of.ip) writing.none_closed writing.none_stood (items_of whole) (files.files f)) (sym on) is_begun);
         held = λ whole. absurd (true≢false (sym fresh ∙ whole));
       }
 
-      holds : writing.HoldsFilesOf (items_of history) e.after
-      holds = e.files_stay (told_lists tells told) tells_files (items_of history) ([], sym (append-nil (items_of history))) first_holds
+      holds : writing.HoldsFilesOf (items_of whole) e.after
+      holds = e.files_stay (told_lists tells told) tells_files (items_of whole) ([], sym (append-nil (items_of whole))) first_holds
 
       counted : (s : ℕ) → s < stream_count
-          → length (stream_files (settings_in e.after) s (items_of history)) ≤ closed_of (settings_in e.after) s (items_of history)
+          → length (stream_files (settings_in e.after) s (items_of whole)) ≤ closed_of (settings_in e.after) s (items_of whole)
       counted s lt =
-          let same = length-files_from (settings_in e.after).file s 1 (stream_division (settings_in e.after) s (items_of history)).closed in
+          let same = length-files_from (settings_in e.after).file s 1 (stream_division (settings_in e.after) s (items_of whole)).closed in
           omega (arith, same)
 
   pub settled_behind : (ended : Status) → HasSettledBehind tells files of job area area' shelf shelf' clock clock' ended
-      (answered tells files of job area area' shelf shelf' clock clock' book c open_time sized opens node later text sent consumed told gone_all ended) history
+      (answered tells files of job area area' shelf shelf' clock clock' book c open_time sized opens node later text sent consumed told gone ended) whole
   settled_behind ended = record {
-    last = mending e.drops;
-    now = e.now;
-    mended = mended value_now e.drops;
-    history_is = history_is;
-    stands = leaves_whole (tells.octets area') (laws.holds area');
-    crash = leaves_whole;
+    closed = closed_behind_them tells files of job area area' shelf shelf' clock clock' book c open_time sized opens node later text sent consumed told gone
+        laws shuts e.closed ended;
     sealed = sealed;
-    shut = shuts history (ap is_close_due (e.firm told) ∙ none_due_behind (base e.drops (facts_of c.book)) e.now no_caller);
   }
 
 -- How the settling ends the job.
@@ -293,7 +299,8 @@ module _ {A F : Type 0} (tells : areas.Ghosts A) (files : shelves.Ghosts F) (c :
     (book : Book A tells) (after : Writer F files) (area : A) (shelf : F) (is_area : area ≡ area_of book) (is_shelf : shelf ≡ shelf_of after)
     (stays : Stays c.book book × (settings_in after ≡ settings_in writer))
     (later : (tells.faults (area_of c.book) ≤ tells.faults (area_of book)) × (files.faults (shelf_of writer) ≤ files.faults (shelf_of after)))
-    (grows : Grows c.book book) (leaves : LeavesFit book) where
+    (grows : Grows c.book book) (leaves : LeavesFit book) (now : ℕ)
+    (closes : ¬ (disk.Rose (tells.faults (area_of c.book)) (tells.faults (area_of book))) → IsSettled c.book book now no_caller) where
   -- what was firm before the settling stands in what a crash leaves behind it
   holds : Told tells → (octets : List ℕ) → tells.may_leave area octets → StandsBehind (header_of c.book) (value_of c.book).firm octets
   holds told octets may = ⊎_elim
@@ -310,6 +317,16 @@ module _ {A F : Type 0} (tells : areas.Ghosts A) (files : shelves.Ghosts F) (c :
         begins = begins_then (value_of c.book).firm (value_of book).firm history (grows told) begins;
       }
 
+  abbrev closed_by : IsSettled c.book book now no_caller → HasClosed tells c area
+  closed_by settled = record {
+    book = book;
+    area_is = is_area;
+    now = now;
+    settled = settled;
+    leaves = leaves;
+    stays = stays.0;
+  }
+
   settles : (served : Result Unit Status) (ended : Status) → (served ≡ Ok tt → SettlesAs tells files c writer area shelf ended)
       → IfErr served (λ why. ended ≡ why) → HasSettledStream tells files c writer served ended area shelf
   settles served ended ok err = record {
@@ -319,13 +336,15 @@ module _ {A F : Type 0} (tells : areas.Ghosts A) (files : shelves.Ghosts F) (c :
     );
     size = ap (λ (a : A). tells.size a) is_area ∙ stays.0.size;
     keeps = holds;
+    closed = λ calm. closed_by (closes
+        (subst (λ (a : A). ¬ (disk.Rose (tells.faults (area_of c.book)) (tells.faults a))) is_area calm));
     ok = ok;
     err = err;
   }
 
-  pub settles_ok : (served : Result Unit Status) (ended how : Status) {x : Unit} → served ≡ Ok x → ended ≡ how → SettlesAs tells files c writer area shelf how
+  pub settles_ok : (served : Result Unit Status) (ended how : Status) (x : Unit) → served ≡ Ok x → ended ≡ how → SettlesAs tells files c writer area shelf how
       → HasSettledStream tells files c writer served ended area shelf
-  settles_ok served ended how is ends so = settles served ended
+  settles_ok served ended how x is ends so = settles served ended
       (λ ok. subst (λ (s : Status). SettlesAs tells files c writer area shelf s) (sym ends) so)
       (subst (λ (r : Result Unit Status). IfErr r (λ why. ended ≡ why)) (sym is) tt)
 
@@ -335,21 +354,13 @@ module _ {A F : Type 0} (tells : areas.Ghosts A) (files : shelves.Ghosts F) (c :
       (λ ok. absurd (ok_not_err tt why (sym ok ∙ is)))
       (subst (λ (r : Result Unit Status). IfErr r (λ w. ended ≡ w)) (sym is) ends)
 
-  pub settles_done : (now : ℕ) → IsSettled c.book book now no_caller → (Told tells → HasTakenAll (value_of book).firm after)
+  pub settles_done : IsSettled c.book book now no_caller → (Told tells → HasTakenAll (value_of book).firm after)
       → WhereTold (tells_lists tells) (writing.KeepsFiles files (value_of book).firm writer after) → HasEnded tells files c writer area shelf
-  settles_done now settled taken keeps = record {
-    book = book;
+  settles_done settled taken keeps = record {
+    closed = closed_by settled;
     after = after;
-    area_is = is_area;
     shelf_is = is_shelf;
-    drops = settled.drops;
-    whole = settled.whole;
-    now = now;
-    firm = settled.firm;
-    none_waits = settled.none_waits;
-    goes_on = settled.goes_on;
-    leaves = leaves;
-    stays = stays;
+    settings = stays.1;
     taken = taken;
     files_stay = keeps;
   }

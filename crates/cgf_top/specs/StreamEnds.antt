@@ -128,10 +128,24 @@ module _ {A F : Type 0} (tells : areas.Ghosts A) (files : shelves.Ghosts F) (of 
   abbrev pub octets_sent : HasAnswered → List ℕ
   octets_sent s = sent_for_all (tells.size area) of.node (opening s.start) s.tried
 
-  -- What was firm once they were answered stands in the area that is handed back, now and after any crash.
+  -- The gateway was closed behind them: torn entries were taken in or dropped, and a Close was made where one was due. The
+  -- area handed back stands for that history, now and after any crash. Its files have all records, and none is open.
+  pub record HasClosedBehind (s : HasAnswered) (history : List HistoryEntry) : Type 0 where
+    pub last : Fortune
+    pub now : ℕ
+    pub mended : (after_commit last (value_left s)).is_broken ≡ false
+    pub history_is : history ≡ closed_behind (after_commit last (value_left s)).firm now no_caller
+    pub stands : StandsFitFor (header_at tells area of.ip) (tells.octets area') history
+    pub crash : (c : List ℕ) → tells.may_leave area' c → StandsFitFor (header_at tells area of.ip) c history
+    pub shut : AreShut (items_of history)
+
+  -- What was firm once they were answered stands in the area that is handed back, now and after any crash. Where its
+  -- device didn't fail, the gateway was closed behind them, whatever ended the stream.
   pub record KeepsAnswers (s : HasAnswered) : Type 0 where
     pub now : StandsBehind (header_at tells area of.ip) (value_left s).firm (tells.octets area')
     pub crash : (c : List ℕ) → tells.may_leave area' c → StandsBehind (header_at tells area of.ip) (value_left s).firm c
+    pub closed : ¬ (disk.Rose (tells.faults area) (tells.faults area'))
+        → (history : List HistoryEntry) × HasClosedBehind s history
 
   -- The gateway wasn't opened: nothing was read or written, and the area holds the history that it held.
   pub record IsUnopened : Type 0 where
@@ -147,19 +161,12 @@ module _ {A F : Type 0} (tells : areas.Ghosts A) (files : shelves.Ghosts F) (of 
     pub read : IsStreamRead job.left job.rest s.text
     pub decided : ended ≡ stream_end s.text
 
-  -- The gateway was settled behind them: torn entries were taken in or dropped, and a Close was made where one was due. The
-  -- area handed back stands for that history, now and after any crash. Where the shelf had the first ones of the files
-  -- that the handed-in history closes, it has just those that this one closes; and these have all records.
+  -- The gateway was settled behind them. Where the shelf had the first ones of the files that the handed-in history closes,
+  -- it has just those that this one closes.
   pub record HasSettledBehind (s : HasAnswered) (history : List HistoryEntry) : Type 0 where
-    pub last : Fortune
-    pub now : ℕ
-    pub mended : (after_commit last (value_left s)).is_broken ≡ false
-    pub history_is : history ≡ closed_behind (after_commit last (value_left s)).firm now no_caller
-    pub stands : StandsFitFor (header_at tells area of.ip) (tells.octets area') history
-    pub crash : (c : List ℕ) → tells.may_leave area' c → StandsFitFor (header_at tells area of.ip) c history
+    pub closed : HasClosedBehind s history
     pub sealed : IsTrue files.tells_files → HasFirstFiles (stream_settings of.ip) s.start (files.files shelf)
         → HasAllFiles (stream_settings of.ip) history (files.files shelf')
-    pub shut : AreShut (items_of history)
 
   -- Nothing failed: not the device of the area, that of the shelf, the clock, the source or the sink.
   pub record IsStreamCalm : Type 0 where
@@ -185,7 +192,7 @@ module _ {A F : Type 0} (tells : areas.Ghosts A) (files : shelves.Ghosts F) (of 
     pub decided : is_reported ended ≡ true →
         (text : List ℕ) × IsStreamRead job.left job.rest text × (ended ≡ stream_end text)
     -- At `Write` a front of the replies is written, and at every other end whole ones of the first messages, and nothing
-    -- else; or the gateway wasn't opened. However it ends, nothing is lost of what was answered.
+    -- else; or the gateway wasn't opened. However it ends, nothing is lost of what was answered, and the gateway settles.
     pub front : Told tells → ended ≡ status.Write →
         (s : HasAnswered) × AppendsFront job.before job.after (octets_sent s) × KeepsAnswers s
     pub first : Told tells → ended ≢ status.Write →

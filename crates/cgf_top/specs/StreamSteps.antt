@@ -3,7 +3,6 @@ use Rattle.std.specs.Prelude.{◌≡◌, ◌≢◌, ◌⊎◌, ℕ, ◌+◌, ◌
 use Rattle.std.specs.Io.KnownBytes.{Appends, Consumes, IsAtEnd}
 use Rattle.area_disk.specs.Disk.{Rose, last_count}
 use Rattle.area_disk.specs.declared.area.Area as areas
-use Rattle.cgf_journal.specs.Trail.{is_closed}
 use Rattle.cdr_shelf.specs.declared.shelf.Shelf as shelves
 use Rattle.file_writer.specs.Writer.{settings_in, shelf_of}
 use Rattle.file_writer.specs.declared.writer.Writer.{Writer}
@@ -11,16 +10,15 @@ use Rattle.gate_journal.specs.Moments.{Told}
 use Rattle.gateway_book.specs.Answered.{no_caller}
 use Rattle.gateway_book.specs.Book.{Stays, area_of, header_of, size_of, value_of}
 use Rattle.gateway_book.specs.Comes.{LeavesFit}
-use Rattle.gateway_book.specs.Turning.{facts_of, tells_lists}
+use Rattle.gateway_book.specs.Turning.{tells_lists}
 use Rattle.gateway_book.specs.declared.book.Book.{Book}
 use Rattle.gtpp_stream.specs.Frames.{first_fault, frames, rest_of}
 use Rattle.gtpp_stream.specs.Stream.{Follows, no_stream}
 use Rattle.gw_base.specs.Facts.{WhereTold}
 use Rattle.gw_base.specs.Faults as gw
-use Rattle.gw_base.specs.Owes.{base}
 use Rattle.gw_base.specs.Written.{AppendsFront}
 use Rattle.gw_base.specs.declared.address.Addr.{Addr}
-use Rattle.node_session.specs.Settling.{HasTakenAll, closed_behind}
+use Rattle.node_session.specs.Settling.{HasTakenAll, IsSettled}
 use Rattle.node_session.specs.Writing.{KeepsFiles}
 use Rattle.cgf_top.specs.Replies.{Tried, after_all, after_message, sent_for, sent_for_all}
 use Rattle.cgf_top.specs.StreamEnds.{IsStreamRead, StandsBehind, most_stream, stream_end}
@@ -155,6 +153,15 @@ module _ {A : Type 0} (tells : areas.Ghosts A) where
     pub front : IfErr result (λ ended. ended ≡ status.Write → AppendsFront before after sent)
     pub whole : IfErr result (λ ended. ended ≢ status.Write → Appends before after sent)
 
+  -- A gateway was closed behind a stream, and its area was handed back: all of its history is firm.
+  pub record HasClosed (c : Connection A tells) (area : A) : Type 0 where
+    pub book : Book A tells
+    pub area_is : area ≡ area_of book
+    pub now : ℕ
+    pub settled : IsSettled c.book book now no_caller
+    pub leaves : LeavesFit book
+    pub stays : Stays c.book book
+
 -- The counts of faults of the sink and the clock say why a message isn't answered and sent: each rose where it was that
 -- one's fault, and nowhere else did that of the sink.
 pub record CausesReply {X : Type 0} (sink sink' clock clock' : ℕ) (result : Result X Status) : Type 0 where
@@ -175,23 +182,14 @@ pub record CausesStop {X : Type 0} (source source' sink sink' clock clock' : ℕ
   pub clock_later : clock ≤ clock'
 
 module _ {A F : Type 0} (tells : areas.Ghosts A) (files : shelves.Ghosts F) where
-  -- A gateway was settled behind a stream, and its area and its shelf were handed back: all of its history is firm and
-  -- written.
+  -- It was settled too, and its shelf was handed back: all of its history is written.
   pub record HasEnded (c : Connection A tells) (writer : Writer F files) (area : A) (shelf : F) : Type 0 where
-    pub book : Book A tells
+    pub closed : HasClosed tells c area
     pub after : Writer F files
-    pub area_is : area ≡ area_of book
     pub shelf_is : shelf ≡ shelf_of after
-    pub drops : Bool
-    pub whole : is_closed c.book.trail ≡ false → drops ≡ false
-    pub now : ℕ
-    pub firm : Told tells → (value_of book).firm ≡ closed_behind (base drops (facts_of c.book)) now no_caller
-    pub none_waits : Told tells → (value_of book).rest ≡ []
-    pub goes_on : is_closed book.trail ≡ false
-    pub leaves : LeavesFit book
-    pub stays : Stays c.book book × (settings_in after ≡ settings_in writer)
-    pub taken : Told tells → HasTakenAll (value_of book).firm after
-    pub files_stay : WhereTold (tells_lists tells) (KeepsFiles files (value_of book).firm writer after)
+    pub settings : settings_in after ≡ settings_in writer
+    pub taken : Told tells → HasTakenAll (value_of closed.book).firm after
+    pub files_stay : WhereTold (tells_lists tells) (KeepsFiles files (value_of closed.book).firm writer after)
 
   -- Where the serving had ended well, the settling says how the job ends: well, or with a device that failed, or want of
   -- memory.
@@ -208,5 +206,6 @@ module _ {A F : Type 0} (tells : areas.Ghosts A) (files : shelves.Ghosts F) wher
     pub size : tells.size area ≡ size_of c.book
     pub keeps : Told tells → (octets : List ℕ) → tells.may_leave area octets
         → StandsBehind (header_of c.book) (value_of c.book).firm octets
+    pub closed : ¬ (Rose (tells.faults (area_of c.book)) (tells.faults area)) → HasClosed tells c area
     pub ok : served ≡ Ok tt → SettlesAs c writer area shelf ended
     pub err : IfErr served (λ why. ended ≡ why)
