@@ -7,6 +7,8 @@
 #[cfg(test)]
 mod devices;
 #[cfg(test)]
+mod each_call;
+#[cfg(test)]
 mod full_batches;
 #[cfg(test)]
 mod handing_out;
