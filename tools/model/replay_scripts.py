@@ -16,12 +16,11 @@ from world import LAST_START, Refused, Stopped, World
 # How often a line of each form is made; a script has factors of its own.
 SHARES = {"tick": 22, "flow": 8, "mix": 6, "deliver": 14, "submit": 8, "at": 4, "halt": 0.8, "start": 3}
 SHARES |= {"commit": 14, "write": 1, "mark": 5, "close": 1, "redirect": 4, "stop": 0.7, "open": 6, "arm": 3, "fail": 3}
-SHARES |= {"settle": 0.7, "blank": 1, "round": 6}
-SHARES |= {form: 2 for form in ("armshelf", "failshelf") if form.encode() not in script.NOT_BUILT}
-MODES = tuple(mode for mode in ("old", "new", "rot") if mode.encode() not in script.NOT_BUILT)
+SHARES |= {"armshelf": 2, "failshelf": 2, "settle": 0.7, "blank": 1, "round": 6}
+MODES = ("old", "new", "rot")
 MOMENTS = (0, 0, 1, 86_399, 1_709_164_800, script.LAST_MOMENT - 3_700)
 GREATEST = 2**64 - 1
-REFUSED = """frob|Flow| |\tflow| #|flow\x7f|in 10.0.1.1:1 00|mark\xe9|armshelf 1 1 old|failshelf 1 1|renew 1
+REFUSED = """frob|Flow| |\tflow| #|flow\x7f|in 10.0.1.1:1 00|mark\xe9|armshelf 1 1|failshelf 1 0|renew 1
 profile 0|store 1 999|nodestop|nodeopen 1|nodearm 1 1 old|nodefail 1 1|standby 1|ship 1|takeover x|arm 1 0 rot
 arm 1 1 rot x|reserve 500|limit foo 1|rule A0 1|gateways|nodes 1|offset -00:00|flow 1|tick|tick 1 1
 submit 1 1 0600|redirect 1|redirect 1 59 1 1|mix|settle 1|end 1|arm 1 1|fail 1|at|at 1 2|deliver|commit|mark

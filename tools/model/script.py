@@ -4,7 +4,6 @@ A line is a tuple: its first word, for a setting `limit` the words `limit record
 their order; an empty line or a comment is ("blank",). Addresses are pairs of numbers, octets are bytes.
 """
 
-import os
 import re
 from typing import NamedTuple, Optional
 
@@ -121,17 +120,13 @@ REPLAY = {
     b"settle": [],
 }
 MANY, MAYBE = (b"in", b"submit"), (b"redirect",)
-# What this model has and the program hasn't yet: the first words of lines, and a mode. The environment may say other.
-NOT_BUILT = set(os.environ.get("NOT_BUILT", "armshelf failshelf rot").encode().split())
 LATER = {
     "feed": (b"renew",),
-    "replay": (b"renew", b"store", b"nodestop", b"nodeopen", b"nodearm", b"nodefail", b"standby", b"ship", b"takeover")
-    + tuple(form for form in REPLAY if form in NOT_BUILT),
+    "replay": (b"renew", b"store", b"nodestop", b"nodeopen", b"nodearm", b"nodefail", b"standby", b"ship", b"takeover"),
     "serve": (),
 }
 SERVE = {form: SETTINGS[form] for form in (b"limit", b"offset", b"profile", b"rule")} | {b"end": []}
-BUILT = {form: readers for form, readers in REPLAY.items() if form not in NOT_BUILT}
-FORMS = {"feed": {**SETTINGS, **BOTH, **FEED}, "replay": {**SETTINGS, **COUNTS, **BOTH, **BUILT}, "serve": SERVE}
+FORMS = {"feed": {**SETTINGS, **BOTH, **FEED}, "replay": {**SETTINGS, **COUNTS, **BOTH, **REPLAY}, "serve": SERVE}
 
 
 class Rule(NamedTuple):
@@ -206,8 +201,6 @@ class _Text:
             raise Wrong("Late")
         if not _has_arity(first, forms[first], len(words) - 1):
             raise Wrong("Arity")
-        if first == b"arm" and words[3] in NOT_BUILT:
-            raise Wrong("NotBuilt")
         if first == b"rule":
             rule(line)
             self.rules += 1
