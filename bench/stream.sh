@@ -17,13 +17,15 @@ folder=$(mktemp -d) && trap 'rm -rf "$folder"' EXIT
 # So many mebibytes of one message, 22 octets long, cut at a message's end.
 repeats() {
     python3 -c '
-import sys
+import os, sys
 message = bytes.fromhex("4EF0001000007E01FC000B010106000005A003800105")
-left, block = int(sys.argv[1]) * 1048576 // len(message), message * 50_000
+left, block = int(sys.argv[1]) * 1048576 // len(message), memoryview(message * 50_000)
 while left:
-    count = min(left, 50_000)
-    sys.stdout.buffer.write(block[: count * len(message)])
-    left -= count' "$1"
+    part = block[: min(left, 50_000) * len(message)]
+    left -= len(part) // len(message)
+    # a buffered writer loses octets where it is stopped within a write
+    while part:
+        part = part[os.write(1, part) :]' "$1"
 }
 
 # Runs a stream of so many mebibytes, by the words behind that.
