@@ -51,6 +51,7 @@ module _ (size gate : ℕ) (some : List (List ℕ)) (places : Placed) (tally : T
         firm = ap (λ (t : Tallies). t.firm) counted ∙ taken_in.firm;
         live = live ∙ live_behind;
         enough = record {
+          short = taken_in.enough.short;
           places_last = omega (arith, taken_in.enough.places_last, same);
           keys_last = omega (arith, taken_in.enough.keys_last, ap (λ (t : Tallies). t.reserved) counted);
         };

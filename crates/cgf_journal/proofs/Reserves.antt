@@ -12,7 +12,7 @@ use Rattle.cgf_journal.specs.declared.key.KeptKey.{KeptKey}
 
 pub still_enough : (size places more keys many : ℕ) → more ≡ places → many ≡ keys → AreEnough size places keys → AreEnough size more many
 still_enough size places more keys many same_places same_keys enough =
-    record { places_last = omega (arith, enough.places_last, same_places); keys_last = omega (arith, enough.keys_last, same_keys) }
+    record { short = enough.short; places_last = omega (arith, enough.places_last, same_places); keys_last = omega (arith, enough.keys_last, same_keys) }
 
 -- an entry that holds a key costs what a Hold does at least
 pub hold_costs : (e : HistoryEntry) → 42 * count_held e.act ≤ cost_of e

@@ -31,8 +31,7 @@ pub(crate) fn take_in<J: Judge>(
 ) -> Result<bool, NoMemory>
     requires numbers { length content.now ≤ 8 * length numbers.old }
     requires costs { tally.old.live.costs + 2 * length content.now < 2 ^ 64 }
-    requires inside { at + length content.now < 2 ^ 64 }
-    requires short { length content.now < 2 ^ 32 }
+    requires inside { at + length content.now < 2 ^ 32 }
     ensures taken { result ≡ Ok true → IsContent content.now }
     ensures places { result ≡ Ok true →
         places.new.items ≡ places.old.items ++ places_from at (entries_of content.now) }
@@ -76,7 +75,7 @@ fn take_entry<J: Judge>(
 ) -> Result<Option<usize>, NoMemory>
     requires numbers { length octets.now ≤ 8 * length numbers.old }
     requires costs { tally.old.live.costs + 2 * length octets.now < 2 ^ 64 }
-    requires short { length octets.now < 2 ^ 32 }
+    requires inside { at + length octets.now < 2 ^ 32 }
     ensures some { IfOk result (λ found. IfSome found (λ count.
         IsTakenIn octets.now at count places.old places.new tally.old tally.new)) }
     ensures fit { IfOk result (λ found. IfSome found (λ count.

@@ -89,7 +89,7 @@ impl<A: Area> Trail<A> {
     /// written.
     ///
     /// It takes memory for the entries that will wait (1,048,576 octets), for the longest batch and the numbers of its
-    /// entries, and for the places and keys of as many entries as the area has octets for: 16 octets for each 30 and
+    /// entries, and for the places and keys of as many entries as the area has octets for: 8 octets for each 30 and
     /// twice 16 for each 42, and 16,384 for the keys that come last. So no later call takes any.
     pub fn open_at(
         alloc: Global,

@@ -175,6 +175,9 @@ impl SortedKeys {
         ensures { result + length (filter (λ key. stays_held (Seal node number) key) (keys_of firm self.now)) ≡
             length (keys_of firm self.now) }
     {
+        if self.count(firm) == 0 {
+            return 0;
+        }
         match search(&self.keys, node, number) {
             Ok(at) => one_if(kept_at(&self.keys, at).counts(firm, self.round)),
             Err(_) => 0,
@@ -244,6 +247,9 @@ impl SortedKeys {
         ensures live { live_keys self.new ≡ filter (λ key. stays_held (Seal node number) key) (live_keys self.old) }
         ensures grows { GrowsBy 0 self.old self.new }
     {
+        if self.live == 0 {
+            return;
+        }
         if let Ok(at) = search(&self.keys, node, number) {
             self.change(at, false);
         }

@@ -294,6 +294,7 @@ impl<A: Area> Trail<A> {
 // Keeps the place of one more entry, and counts it, where memory is reserved for both.
 fn note(places: &mut Places, tally: &mut Tally, place: Place, entry: &Entry<'_>)
     requires costs { tally.old.live.costs + cost_of (entry_view entry.now) < 2 ^ 64 }
+    requires fits { place.at < 2 ^ 32 }
     requires place { length places.old.items < places.old.reserved }
     requires key { tally.old.live.costs + cost_of (entry_view entry.now) < cheapest_hold * (tally.old.reserved + 1) }
     ensures place { places.new.items ≡ places.old.items ++ place ∷ [] }
