@@ -1,5 +1,5 @@
 // The copies that are held, on the firm side and on the live side.
-ghost use Rattle.std.specs.Prelude.{◌≡◌, ◌<◌, Bool, true, false, if◌then◌else◌, [], ◌∷◌, ◌++◌, None, is_some, IfOk};
+ghost use Rattle.std.specs.Prelude.{◌≡◌, ◌<◌, Bool, true, false, if◌then◌else◌, [], ◌∷◌, ◌++◌, None, is_some, IfOk, ◌⊎◌, ◌≤◌, ◌&&◌, ◌==◌, not, vec_len, vec_capacity, length};
 ghost use Rattle.std.proofs.Props.{props};
 ghost use Rattle.dup_buffer.specs.Copies.{most_copies, no_copies, with_copy, without_copy, without_node};
 ghost use Rattle.dup_buffer.specs.Stored.{copies_of};
@@ -80,7 +80,8 @@ fn follow(held: &mut Held, given: &[CopyStep])
 
 // Notes a step behind those that are noted, where there is room for it, and tells whether there is more than is noted.
 fn note(given: &mut Vec<CopyStep>, changed: bool, step: CopyStep) -> bool
-    ensures { result ≡ false → (changed ≡ false) × (given.new.items ≡ given.old.items ++ step ∷ []) }
+    ensures noted { result ≡ false → (changed ≡ false) × (given.new.items ≡ given.old.items ++ step ∷ []) }
+    ensures full { result ≡ true → (changed ≡ true) ⊎ (vec_capacity given.old ≤ length given.old.items) }
 {
     if given.len() >= given.capacity() {
         return true;
@@ -217,7 +218,8 @@ impl HeldPair {
 
     // Whether nothing has changed since both sides were made the same.
     fn is_same(&self) -> bool
-        ensures { result ≡ true → copies_of self.now.firm ≡ copies_of self.now.live }
+        ensures same { result ≡ true → copies_of self.now.firm ≡ copies_of self.now.live }
+        ensures value { result ≡ not self.now.changed && (vec_len self.now.given == 0) }
     {
         if self.changed {
             return false;

@@ -1,5 +1,5 @@
 // The windows of a node's request numbers, on the firm side and on the live side.
-ghost use Rattle.std.specs.Prelude.{◌≡◌, ◌≤◌, ◌+◌, ◌<◌, ◌^◌, ℕ, Bool, true, false, if◌then◌else◌, [], ◌∷◌, ◌++◌, IfOk, IfSome};
+ghost use Rattle.std.specs.Prelude.{◌≡◌, ◌≤◌, ◌+◌, ◌<◌, ◌^◌, ℕ, Bool, true, false, if◌then◌else◌, [], ◌∷◌, ◌++◌, IfOk, IfSome, ◌⊎◌, ◌&&◌, ◌==◌, not, vec_len, vec_capacity, length};
 ghost use Rattle.std.proofs.Props.{props};
 ghost use Rattle.seq_window.specs.Seen.{nothing_seen, with_state, with_states};
 ghost use Rattle.seq_window.specs.Stored.{seen_of};
@@ -49,7 +49,8 @@ fn follow(window: &mut Window<32_768>, given: &[StateGiven])
 
 // Notes a step behind those that are noted, where there is room for it, and tells whether there is more than is noted.
 fn note(given: &mut Vec<StateGiven>, changed: bool, step: StateGiven) -> bool
-    ensures { result ≡ false → (changed ≡ false) × (given.new.items ≡ given.old.items ++ step ∷ []) }
+    ensures noted { result ≡ false → (changed ≡ false) × (given.new.items ≡ given.old.items ++ step ∷ []) }
+    ensures full { result ≡ true → (changed ≡ true) ⊎ (vec_capacity given.old ≤ length given.old.items) }
 {
     if given.len() >= given.capacity() {
         return true;
@@ -151,7 +152,8 @@ impl WindowPair {
 
     // Whether nothing has changed since both sides were made the same.
     fn is_same(&self) -> bool
-        ensures { result ≡ true → seen_of half self.now.firm ≡ seen_of half self.now.live }
+        ensures same { result ≡ true → seen_of half self.now.firm ≡ seen_of half self.now.live }
+        ensures value { result ≡ not self.now.changed && (vec_len self.now.given == 0) }
     {
         if self.changed {
             return false;

@@ -13,7 +13,7 @@ hold_one-requires c = record { room = c.args.self.now.live_room; free = c.requir
 pub invariant_of-self : goal.invariant_of-self
 unfolding held_in
 invariant_of-self c = record {
-  agree = λ e. let n = c.note-self.ensures e in
+  agree = λ e. let n = c.note-self.ensures.noted e in
       noted c.args.self.now.given.items _ (Hold c.args.node c.args.number) _ _ _ n.1 c.hold_one.ensures.copies (c.requires.free, c.requires.few) (c.args.self.now.agree n.0);
   firm_room = c.args.self.now.firm_room;
   live_room = c.hold_one.ensures.room;

@@ -21,7 +21,7 @@ invariant_of-self c = record {
 }
 
 pub returns-then-is_same : goal.returns-then-is_same
-returns-then-is_same c = held_same c.args.firm c.args.self.now (c.is_same.ensures c.if-is_same.true)
+returns-then-is_same c = held_same c.args.firm c.args.self.now (c.is_same.ensures.same c.if-is_same.true)
 
 pub returns : goal.returns
 returns c = held_kept c.args.firm c.args.self.now _ c.make_same.ensures.firm c.make_same.ensures.live

@@ -6,7 +6,7 @@ use Rattle.gateway_book.proofs.held_pair.HeldPair.take_out.Goals as goal
 
 pub invariant_of-self : goal.invariant_of-self
 invariant_of-self c = record {
-  agree = λ e. let n = c.note-self.ensures e in
+  agree = λ e. let n = c.note-self.ensures.noted e in
       noted c.args.self.now.given.items _ (Take c.args.node c.args.number) _ _ _ n.1 c.take_one.ensures.copies tt (c.args.self.now.agree n.0);
   firm_room = c.args.self.now.firm_room;
   live_room = c.take_one.ensures.room;

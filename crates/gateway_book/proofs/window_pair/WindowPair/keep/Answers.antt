@@ -15,7 +15,7 @@ pub invariant_of-self : goal.invariant_of-self
 invariant_of-self c = record { agree = λ e. none_noted _ _ _ c.clear.ensures.items (c.make_same.ensures.firm ∙ sym c.make_same.ensures.live) }
 
 pub returns-then-is_same : goal.returns-then-is_same
-returns-then-is_same c = pair_same c.args.firm c.args.self.now (c.is_same.ensures c.if-is_same.true)
+returns-then-is_same c = pair_same c.args.firm c.args.self.now (c.is_same.ensures.same c.if-is_same.true)
 
 pub returns : goal.returns
 returns c = pair_kept c.args.firm c.args.self.now _ c.make_same.ensures.firm c.make_same.ensures.live
