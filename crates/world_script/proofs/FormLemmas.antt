@@ -1,12 +1,11 @@
 -- Lemmas on lines of every form: what a line says is printed as words that say it, and that are no longer.
-use Rattle.std.proofs.Common.{◌≡◌, ℕ, ◌^◌, ◌<◌, Bool, true, false, if◌then◌else◌, List, [], ◌∷◌, ◌++◌, map, Some, None, Result, Ok, Err, refl, ap, sym, ◌∙◌, arith, codes}
+use Rattle.std.proofs.Common.{◌≡◌, ℕ, ◌^◌, ◌<◌, Bool, true, false, List, [], ◌∷◌, ◌++◌, map, Some, None, Ok, refl, ap, sym, ◌∙◌, arith, codes}
 use Rattle.std.specs.Fmt.{decimal}
 use Rattle.hex.specs.Hex.{encode_upper}
 use Rattle.route_filter.specs.Words.{number_up_to, octets_of}
 use Rattle.world_script.specs.Printing.{armed_text, line_text, mode_text, two_numbers, version_text, words_text}
 use Rattle.world_script.specs.Saying.{arm_said, call_of, fail_said, in_said, packet_said, read_or, read_then, redirect_said, said_by, submit_said}
 use Rattle.world_script.specs.Values.{address_of, mode_of, number_between, number_of, records_of, version_of}
-use Rattle.world_script.specs.declared.fault.InputKind.{InputKind}
 use Rattle.world_script.specs.declared.fault.InputKind.TheVariants as kind
 use Rattle.world_script.specs.declared.keyword.Keyword.{Keyword}
 use Rattle.world_script.specs.declared.keyword.Keyword.TheVariants as keyword

@@ -10,6 +10,7 @@
 //!     let first = script.line(0);
 #![tactic(auto)]
 
+mod arming;
 mod extent;
 mod fault;
 mod keyword;

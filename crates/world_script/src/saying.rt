@@ -1,14 +1,14 @@
 ghost use Rattle.std.specs.Prelude.{◌≡◌, ◌≤◌, ℕ, map, IfOk};
 ghost use Rattle.world_script.specs.Outcome.{Says};
 ghost use Rattle.world_script.specs.declared.line.Line.TheVariants as line;
-ghost use Rattle.world_script.specs.Saying.{arm_on, arm_said, at_said, datagram_said, fail_on, fail_said, in_said, limit_on, limit_said, offset_said, one_between, one_gateway, one_number, packet_said, redirect_on, redirect_said, redirect_to, rule_said, ruled, said_as, said_by, submit_said, word_said};
+ghost use Rattle.world_script.specs.Saying.{at_said, datagram_said, in_said, limit_on, limit_said, offset_said, one_between, one_gateway, one_number, packet_said, redirect_on, redirect_said, redirect_to, rule_said, ruled, said_as, said_by, submit_said, word_said};
 
+use crate::arming::{arm, arm_shelf, fail, fail_shelf};
 use crate::fault::{InputKind, LineFault};
 use crate::keyword::Keyword;
 use crate::kind::ScriptKind;
 use crate::line::Line;
-use crate::mode::Mode;
-use crate::values::{address, any_number, mode, number_between, offset, records, version};
+use crate::values::{address, any_number, number_between, offset, records, version};
 use gw_base::{Moment, Octets};
 use route_filter::{Rule, Rules, number, octets};
 use std::alloc::Global;
@@ -41,15 +41,9 @@ pub fn said_by(
         },
         Keyword::Limit => limit(words)?,
         Keyword::Offset => offset_line(words)?,
-        Keyword::Profile => Line::Profile {
-            profile: one_between(1, 2, words)? as u8,
-        },
-        Keyword::Gateways => Line::Gateways {
-            count: one_between(1, 8, words)? as u8,
-        },
-        Keyword::Nodes => Line::Nodes {
-            count: one_between(1, 16, words)? as u8,
-        },
+        Keyword::Profile => profile(words)?,
+        Keyword::Gateways => gateways(words)?,
+        Keyword::Nodes => nodes(words)?,
         Keyword::Tick => Line::Tick {
             node: one_number(words)?,
         },
@@ -271,6 +265,30 @@ fn offset_line(words: &[&[u8]]) -> Result<Line, InputKind>
     }
 }
 
+/// `profile N`
+fn profile(words: &[&[u8]]) -> Result<Line, InputKind>
+    ensures { result ≡ said_as line.Profile (one_between 1 2 (map (λ word. word.now) words.now)) }
+{
+    let profile = one_between(1, 2, words)? as u8;
+    Ok(Line::Profile { profile })
+}
+
+/// `gateways N`
+fn gateways(words: &[&[u8]]) -> Result<Line, InputKind>
+    ensures { result ≡ said_as line.Gateways (one_between 1 8 (map (λ word. word.now) words.now)) }
+{
+    let count = one_between(1, 8, words)? as u8;
+    Ok(Line::Gateways { count })
+}
+
+/// `nodes N`
+fn nodes(words: &[&[u8]]) -> Result<Line, InputKind>
+    ensures { result ≡ said_as line.Nodes (one_between 1 16 (map (λ word. word.now) words.now)) }
+{
+    let count = one_between(1, 16, words)? as u8;
+    Ok(Line::Nodes { count })
+}
+
 /// `redirect G CAUSE`, `redirect G CAUSE H`
 #[tactic(auto, using(crate::proofs::ArityLemmas::redirect_other, crate::proofs::ArityLemmas::redirect_two, crate::proofs::ArityLemmas::redirect_three))]
 fn redirect(words: &[&[u8]]) -> Result<Line, InputKind>
@@ -310,93 +328,6 @@ fn redirect_to(gateway: &[u8], cause: &[u8], to: &[u8]) -> Result<Line, InputKin
             cause: cause as u8,
             to: Some(to),
         }),
-        None => Err(InputKind::Number),
-    }
-}
-
-/// `arm G K MODE`
-fn arm(words: &[&[u8]]) -> Result<Line, InputKind>
-    ensures { result ≡ arm_said line.Arm (map (λ word. word.now) words.now) }
-{
-    let (gateway, call, mode) = stop(words)?;
-    Ok(Line::Arm {
-        gateway,
-        call,
-        mode,
-    })
-}
-
-/// `armshelf G K MODE`
-fn arm_shelf(words: &[&[u8]]) -> Result<Line, InputKind>
-    ensures { result ≡ arm_said line.ArmShelf (map (λ word. word.now) words.now) }
-{
-    let (gateway, call, mode) = stop(words)?;
-    Ok(Line::ArmShelf {
-        gateway,
-        call,
-        mode,
-    })
-}
-
-/// The words of a stop: a gateway, a call from 1, and a mode.
-#[tactic(auto, using(crate::proofs::ArityLemmas::arm_other, crate::proofs::ArityLemmas::arm_three))]
-fn stop(words: &[&[u8]]) -> Result<(u64, u64, Mode), InputKind>
-    ensures { (arms : ℕ → ℕ → Mode → Line) → said_as (λ w. arms w.0 w.1 w.2) result
-        ≡ arm_said arms (map (λ word. word.now) words.now) }
-{
-    if words.len() != 3 {
-        return Err(InputKind::Arity);
-    }
-    stop_in(words[0], words[1], words[2])
-}
-
-fn stop_in(gateway: &[u8], call: &[u8], left: &[u8]) -> Result<(u64, u64, Mode), InputKind>
-    ensures { (arms : ℕ → ℕ → Mode → Line) → said_as (λ w. arms w.0 w.1 w.2) result
-        ≡ arm_on arms gateway.now call.now left.now }
-{
-    let gateway = any_number(gateway).ok_or(InputKind::Number)?;
-    let call = number_between(1, u64::MAX, call).ok_or(InputKind::Number)?;
-    match mode(left) {
-        Some(mode) => Ok((gateway, call, mode)),
-        None => Err(InputKind::Number),
-    }
-}
-
-/// `fail G K`
-fn fail(words: &[&[u8]]) -> Result<Line, InputKind>
-    ensures { result ≡ fail_said line.Fail (map (λ word. word.now) words.now) }
-{
-    let (gateway, call) = failure(words)?;
-    Ok(Line::Fail { gateway, call })
-}
-
-/// `failshelf G K`
-fn fail_shelf(words: &[&[u8]]) -> Result<Line, InputKind>
-    ensures { result ≡ fail_said line.FailShelf (map (λ word. word.now) words.now) }
-{
-    let (gateway, call) = failure(words)?;
-    Ok(Line::FailShelf { gateway, call })
-}
-
-/// The words of a failure: a gateway, and a call from 1.
-#[tactic(auto, using(crate::proofs::ArityLemmas::fail_other, crate::proofs::ArityLemmas::fail_two))]
-fn failure(words: &[&[u8]]) -> Result<(u64, u64), InputKind>
-    ensures { (fails : ℕ → ℕ → Line) → said_as (λ w. fails w.0 w.1) result
-        ≡ fail_said fails (map (λ word. word.now) words.now) }
-{
-    if words.len() != 2 {
-        return Err(InputKind::Arity);
-    }
-    failure_in(words[0], words[1])
-}
-
-fn failure_in(gateway: &[u8], call: &[u8]) -> Result<(u64, u64), InputKind>
-    ensures { (fails : ℕ → ℕ → Line) → said_as (λ w. fails w.0 w.1) result
-        ≡ fail_on fails gateway.now call.now }
-{
-    let gateway = any_number(gateway).ok_or(InputKind::Number)?;
-    match number_between(1, u64::MAX, call) {
-        Some(call) => Ok((gateway, call)),
         None => Err(InputKind::Number),
     }
 }
