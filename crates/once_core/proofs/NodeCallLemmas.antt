@@ -15,7 +15,7 @@ use Rattle.node_core.specs.Value.{CanFollowAll, IsNode, NodeValue, befallen, log
 use Rattle.node_core.specs.declared.fault.SubmitFault.{SubmitFault}
 use Rattle.node_core.specs.declared.port.Port.{Port}
 use Rattle.once_core.proofs.FollowLemmas.{starts_more}
-use Rattle.once_core.specs.Addresses.{gateway_address, setup_of}
+use Rattle.once_core.specs.Addresses.{gateway_address, node_setup}
 use Rattle.once_core.specs.Expired.{begins, is_expired_at_node, starts_in}
 use Rattle.once_core.specs.KeptTurn.{started_again}
 use Rattle.once_core.specs.NodeMoves.{answered_by, heard_by, submitted_entries, with_entries}
@@ -98,7 +98,7 @@ module _ (law : NodeLaw) (gateways place : ℕ) where
 
   kept_with : (entries log : List LogEntry) → are_plain entries ≡ true → with_entries entries (node_kept gateways place log) ≡ node_kept gateways place (logged entries log)
   kept_with entries log plain =
-      let node : befallen entries (value log) ≡ value (logged entries log) = law (setup_of gateways place) entries log (value log) (follow_all entries log plain) refl in
+      let node : befallen entries (value log) ≡ value (logged entries log) = law (node_setup gateways place) entries log (value log) (follow_all entries log plain) refl in
       let starts : starts_in log ≡ starts_in (logged entries log) = sym (starts_stay entries log plain) in
       λ i. record { node = node i; starts = starts i }
 
@@ -132,7 +132,7 @@ module _ (law : NodeLaw) (gateways place : ℕ) where
       by_log [] down begun = absurd (omega (arith, begun))
       by_log (e ∷ es) down begun =
           let whole : List LogEntry = e ∷ es in
-          let node : befallen (Began ∷ []) (value whole) ≡ value (Began ∷ whole) = law (setup_of gateways place) (Began ∷ []) whole (value whole) (refl, tt) refl in
+          let node : befallen (Began ∷ []) (value whole) ≡ value (Began ∷ whole) = law (node_setup gateways place) (Began ∷ []) whole (value whole) (refl, tt) refl in
           let starts : starts_in whole + 1 ≡ starts_in (Began ∷ whole) = omega (arith, starts_more whole) in
           let grown : started_again (node_kept gateways place whole) ≡ node_kept gateways place (Began ∷ whole) = λ i. record { node = node i; starts = starts i } in
           grown ∙ ap (λ (es : List LogEntry). node_kept gateways place (logged es whole))

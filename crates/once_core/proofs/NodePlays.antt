@@ -9,7 +9,7 @@ use Rattle.node_core.specs.Reached as call
 use Rattle.node_core.specs.Submitting.{refusal}
 use Rattle.node_core.specs.Value.{logged}
 use Rattle.node_core.specs.declared.fault.SubmitFault.{SubmitFault}
-use Rattle.once_core.specs.Addresses.{node_ip, setup_of}
+use Rattle.once_core.specs.Addresses.{node_ip, node_setup}
 use Rattle.once_core.specs.Deeds.{deeds_of}
 use Rattle.once_core.specs.Expired.{starts_in}
 use Rattle.once_core.specs.Happenings.{Happening, Letter, Scene}
@@ -26,7 +26,7 @@ use Rattle.once_core.proofs.MeaningLemmas.{Said}
 -- what holds of the log of each node: it is one of a node's calls, its starts are counted, and each packet can be sent
 pub record NodeRightly (gateways place : ℕ) (log : List LogEntry) : Type 0 where
   pub calls : List NodeCall
-  pub is : log ≡ log_of (setup_of gateways place) calls
+  pub is : log ≡ log_of (node_setup gateways place) calls
   pub counts : Counts log
   pub few : starts_in log ≤ 255
   pub forms : (form : PacketForm) → Contains (forms_ever log) form → GoodForm form

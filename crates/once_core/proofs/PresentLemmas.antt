@@ -19,7 +19,7 @@ use Rattle.node_core.specs.Ticks.{due}
 use Rattle.node_core.specs.declared.sending.Sending.{Sending}
 use Rattle.node_core.specs.declared.sending.Sending.TheVariants as send
 use Rattle.path_mgmt.specs.NodePath.{PathsOfNode, is_alive}
-use Rattle.once_core.specs.Addresses.{addresses_from, first_node_ip, gateway_at, node_ip, setup_of}
+use Rattle.once_core.specs.Addresses.{addresses_from, first_node_ip, gateway_at, node_ip, node_setup}
 use Rattle.once_core.specs.Answers.{answered, delivered, delivered_broken, delivered_running, failed, if_broken, taken_in}
 use Rattle.once_core.specs.Beginning.{first_world}
 use Rattle.once_core.specs.Epochs.{StartsRise}
@@ -73,18 +73,18 @@ module _ (laws : Laws) (sent : RequestsSent) (w : World) (values : ℕ → ℕ �
   rightly = made.sound.nodes (node - 1) log there
 
   abbrev setup : NodeSetup
-  setup = setup_of (length w.gateways) (node - 1)
+  setup = node_setup (length w.gateways) (node - 1)
 
   abbrev ip : ℕ
   ip = node_ip (node - 1)
 
-  some_gateways : 1 ≤ length (setup_of (length w.gateways) (node - 1)).gateways
+  some_gateways : 1 ≤ length (node_setup (length w.gateways) (node - 1)).gateways
   some_gateways = let least = made.sound.some in let many = as_many 0 (length w.gateways) in omega (arith, least, many)
 
   log_there : log_at w (node - 1) ≡ log
   log_there = ap (λ (o : Option (List LogEntry)). option_map_or (λ l. l) o []) there
 
-  running : runs (log_of (setup_of (length w.gateways) (node - 1)) (made.sound.nodes (node - 1) log there).calls) ≡ true
+  running : runs (log_of (node_setup (length w.gateways) (node - 1)) (made.sound.nodes (node - 1) log there).calls) ≡ true
   running = ap runs (sym rightly.is) ∙ ap runs (sym log_there) ∙ it_runs w node allowed
 
   -- a gateway that is alive knows the node's start as the present one, firmly and with entries that follow

@@ -27,7 +27,7 @@ use Rattle.node_core.specs.declared.port.Port.TheVariants.{First, Second}
 use Rattle.node_core.specs.declared.port.Port.{Port}
 use Rattle.node_core.specs.declared.sending.Sending.{Sending}
 use Rattle.node_core.specs.declared.sending.Sending.TheVariants as send
-use Rattle.once_core.specs.Addresses.{addresses_from, gateway_at, node_ip, setup_of}
+use Rattle.once_core.specs.Addresses.{addresses_from, gateway_at, node_ip, node_setup}
 use Rattle.once_core.specs.Deeds.{asked_by, deeds_of}
 use Rattle.once_core.specs.Deeds as did
 use Rattle.once_core.specs.Expired.{starts_in}
@@ -82,7 +82,7 @@ module _ (gateways place : ℕ) (log : List LogEntry) (rightly : NodeRightly gat
       ap (λ (b : Bool). logged (if b then tick_entries (node_value gateways place log) else []) log) running
       ∙ ticked (moved_at_tick (node_value gateways place log)) (due (node_value gateways place log))
 
-  calls_are : after_tick ≡ log_of (setup_of gateways place) (call.Tick ∷ rightly.calls)
+  calls_are : after_tick ≡ log_of (node_setup gateways place) (call.Tick ∷ rightly.calls)
   calls_are = sym tick_is ∙ ap (log_after gateways place call.Tick) rightly.is
 
   pub running_still : runs after_tick ≡ true
@@ -94,12 +94,12 @@ module _ (gateways place : ℕ) (log : List LogEntry) (rightly : NodeRightly gat
   follows : (values : ℕ → List ℕ) → Follows (deeds_of (node_ip place) values after_tick) (starts_in after_tick) values (packets_in (starts_in after_tick) after_tick)
   follows values =
       subst (λ (l : List LogEntry). Follows (deeds_of (node_ip place) values l) (starts_in after_tick) values (packets_in (starts_in after_tick) l)) (sym calls_are)
-      (follow (setup_of gateways place) (call.Tick ∷ rightly.calls) (node_ip place) (starts_in after_tick) values (omega (arith, some, many)))
+      (follow (node_setup gateways place) (call.Tick ∷ rightly.calls) (node_ip place) (starts_in after_tick) values (omega (arith, some, many)))
 
   singles : All (IsSingle (peers_of (addresses_from 0 gateways) after_tick)) (packets_of after_tick)
   singles =
       subst (λ (l : List LogEntry). All (IsSingle (peers_of (addresses_from 0 gateways) l)) (packets_of l)) (sym calls_are)
-      (one_each (setup_of gateways place) (call.Tick ∷ rightly.calls) (omega (arith, some, many)))
+      (one_each (node_setup gateways place) (call.Tick ∷ rightly.calls) (omega (arith, some, many)))
 
   present : (gateway number : ℕ) (at : AnyHasCopyAt (packets_in (starts_in after_tick) after_tick) gateway number) → Contains (packets_of after_tick) at.packet
   present gateway number at = present_packet after_tick at.packet running_still at.kept

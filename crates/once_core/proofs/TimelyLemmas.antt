@@ -24,7 +24,7 @@ use Rattle.node_core.specs.Value.{NodeValue, befallen, logged}
 use Rattle.node_core.specs.declared.sending.Sending.{Sending}
 use Rattle.node_core.specs.declared.sending.Sending.TheVariants as send
 use Rattle.path_mgmt.specs.NodePath.{is_alive}
-use Rattle.once_core.specs.Addresses.{addresses_from, gateway_at, node_ip, setup_of}
+use Rattle.once_core.specs.Addresses.{addresses_from, gateway_at, node_ip, node_setup}
 use Rattle.once_core.specs.Deeds.{deeds_of}
 use Rattle.once_core.specs.Expired.{is_expired, is_expired_request, present_start, starts_in, taken_for}
 use Rattle.once_core.specs.Gateway.{Gateway, Rules}
@@ -201,7 +201,7 @@ module _ (laws : Laws) (numbers : Numbers) (sent : RequestsSent) (rules : â„• â†
     rightly = (world_made laws rules gateways nodes all some).sound.nodes (node - 1) log there
 
     abbrev setup : NodeSetup
-    setup = setup_of (length w.gateways) (node - 1)
+    setup = node_setup (length w.gateways) (node - 1)
 
     abbrev calls : List NodeCall
     calls = rightly.calls

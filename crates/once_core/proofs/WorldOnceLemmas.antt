@@ -17,7 +17,7 @@ use Rattle.node_core.specs.Packets.{PacketState}
 use Rattle.node_core.specs.Reached.{log_of}
 use Rattle.node_core.specs.Roles.{uses, uses_by_copies}
 use Rattle.node_core.specs.declared.copy.PacketCopy.{PacketCopy}
-use Rattle.once_core.specs.Addresses.{node_ip, setup_of}
+use Rattle.once_core.specs.Addresses.{node_ip, node_setup}
 use Rattle.once_core.specs.Beginning.{first_world, world_of}
 use Rattle.once_core.specs.Deeds.{deeds_of}
 use Rattle.once_core.specs.Epochs.{epoch_with, key_in}
@@ -103,12 +103,12 @@ module _ (laws : Laws) (w : World) (made : Made (values_in w) w) where
       → Follows (made.scene.deeds (node_ip node)) start (values_in w node) (packets_in start (log_at w node))
   it_follows node log there start =
       let rightly = made.sound.nodes node log there in
-      let same : log_at w node ≡ log_of (setup_of (length w.gateways) node) rightly.calls = log_is (values_in w) w made node log there ∙ rightly.is in
+      let same : log_at w node ≡ log_of (node_setup (length w.gateways) node) rightly.calls = log_is (values_in w) w made node log there ∙ rightly.is in
       let some = made.sound.some in
       let many = as_many 0 (length w.gateways) in
       subst (λ (ds : List Deed). Follows ds start (values_in w node) (packets_in start (log_at w node))) (sym (made.shows.deeds node))
       (subst (λ (l : List LogEntry). Follows (deeds_of (node_ip node) (values_in w node) l) start (values_in w node) (packets_in start l)) (sym same)
-      (laws.follow (setup_of (length w.gateways) node) rightly.calls (node_ip node) start (values_in w node) (omega (arith, some, many))))
+      (laws.follow (node_setup (length w.gateways) node) rightly.calls (node_ip node) start (values_in w node) (omega (arith, some, many))))
 
   module _ (node : ℕ) (packet : Followed) (is : IsFollowed w node packet) where
     -- the packet was submitted

@@ -50,5 +50,5 @@ abbrev pub node_id : ℕ → NodeId
 node_id node = record { 0 = node_ip node }
 
 -- what a node is made with where there are so many gateways
-abbrev pub setup_of : ℕ → ℕ → NodeSetup
-setup_of gateways node = record { address = node_ip node; gateways = addresses_from 0 gateways; counter = 1 }
+abbrev pub node_setup : ℕ → ℕ → NodeSetup
+node_setup gateways node = record { address = node_ip node; gateways = addresses_from 0 gateways; counter = 1 }

@@ -13,7 +13,7 @@ use Rattle.node_core.specs.Octets.{outgoing}
 use Rattle.node_core.specs.Reached.{NodeCall, Submit, Tick, Hear, call_entries}
 use Rattle.node_core.specs.Ticks.{due}
 use Rattle.node_core.specs.Value.{NodeValue, logged, node_of}
-use Rattle.once_core.specs.Addresses.{gateway_address, gateway_at, setup_of}
+use Rattle.once_core.specs.Addresses.{gateway_address, gateway_at, node_setup}
 use Rattle.once_core.specs.Expired.{is_expired_at_node, starts_in}
 use Rattle.once_core.specs.Gateway.{Gateway}
 use Rattle.once_core.specs.Messages.{answering}
@@ -37,7 +37,7 @@ pub record Called : Type 0 where
 
 -- the node in this place by its log, where there are so many gateways
 abbrev pub node_value : ℕ → ℕ → List LogEntry → NodeValue
-node_value gateways node log = node_of (setup_of gateways node) log
+node_value gateways node log = node_of (node_setup gateways node) log
 
 abbrev pub log_after : ℕ → ℕ → NodeCall → List LogEntry → List LogEntry
 log_after gateways node call log = logged (call_entries (node_value gateways node log) call) log

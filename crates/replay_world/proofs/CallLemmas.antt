@@ -27,7 +27,7 @@ use Rattle.replay_world.specs.Stands.{MachineStands, SiteStands, StandsUp, area_
 use Rattle.replay_world.specs.Written.{FilesStand}
 use Rattle.replay_world.specs.Value.{Filing, Machine, disarmed, ended}
 use Rattle.replay_world.specs.declared.files.Files.{Files}
-use Rattle.replay_world.specs.declared.machine.Came.TheVariants.{Went, Failed, Halted}
+use Rattle.replay_world.specs.declared.machine.Came.TheVariants.{Went, Failed, Stopped}
 use Rattle.replay_world.specs.declared.machine.Machine as real
 use Rattle.replay_world.specs.declared.machine.Sent.{Sent}
 use Rattle.replay_world.specs.declared.site.Site.{Site}
@@ -165,7 +165,7 @@ module _ (setup : Setup) (place : ℕ) (g : Gateway) (m : Machine) (value : Book
     size = stands.size;
   }
 
-  pub halted : (stands : Bool) (old new : real.Machine) (told : List Message) →
+  pub stopped_in : (stands : Bool) (old new : real.Machine) (told : List Message) →
       IsCalled setup place g m value (Stops stands) old →
       ((h : List HistoryEntry) → SiteIsCut setup place h old.site →
       SiteIsDown setup place h new.site × (new.waiting.items ≡ [])) →
@@ -174,7 +174,7 @@ module _ (setup : Setup) (place : ℕ) (g : Gateway) (m : Machine) (value : Book
       FilesStand (files_in setup place) (ended m.filing) items new.files) →
       new ≡ record old { site = new.site; waiting = new.waiting; files = new.files } → told ≡ [] →
       HasMoved setup place (still (cut (entries_kept stands g) g)) (disarmed m) told new
-  halted stands old new told called cuts ends rest none =
+  stopped_in stands old new told called cuts ends rest none =
       let h : List HistoryEntry = if stands then value.firm ++ value.rest else value.firm in
       let same = called.cut refl in
       let down = cuts h (site_cut stands old.site called.site) in
@@ -213,8 +213,8 @@ module _ (setup : Setup) (place : ℕ) (g : Gateway) (m : Machine) (value : Book
       record { moved = broke last old new sent.messages.items called told none rest; came = is }
   after_broke (Stops stands) old new sent called came is told none rest = absurd (cc)
 
-  pub after_halted : (s : Sequel) (old new : real.Machine) (sent : Sent) → IsCalled setup place g m value s old →
-      came_of s ≡ Halted → sent.came ≡ Halted → sent.messages.items ≡ [] →
+  pub after_stopped : (s : Sequel) (old new : real.Machine) (sent : Sent) → IsCalled setup place g m value s old →
+      came_of s ≡ Stopped → sent.came ≡ Stopped → sent.messages.items ≡ [] →
       ((h : List HistoryEntry) → SiteIsCut setup place h old.site →
       SiteIsDown setup place h new.site × (new.waiting.items ≡ [])) →
       ((h : List HistoryEntry) (items : List Item) → SiteIsCut setup place h old.site →
@@ -222,10 +222,10 @@ module _ (setup : Setup) (place : ℕ) (g : Gateway) (m : Machine) (value : Book
       FilesStand (files_in setup place) (ended m.filing) items new.files) →
       new ≡ record old { site = new.site; waiting = new.waiting; files = new.files } →
       AfterCall setup place g m value s sent new
-  after_halted (GoesOn armed) old new sent called came is none cuts ends rest = absurd (cc)
-  after_halted (Breaks last) old new sent called came is none cuts ends rest = absurd (cc)
-  after_halted (Stops stands) old new sent called came is none cuts ends rest =
-      record { moved = halted stands old new sent.messages.items called cuts ends rest none; came = is }
+  after_stopped (GoesOn armed) old new sent called came is none cuts ends rest = absurd (cc)
+  after_stopped (Breaks last) old new sent called came is none cuts ends rest = absurd (cc)
+  after_stopped (Stops stands) old new sent called came is none cuts ends rest =
+      record { moved = stopped_in stands old new sent.messages.items called cuts ends rest none; came = is }
 
   -- The book was called.
 

@@ -12,7 +12,7 @@ use Rattle.node_core.specs.Reached.{Halt, Start, call_entries, entries_halted, e
 use Rattle.node_core.specs.Ticks.{due, tick_entries}
 use Rattle.node_core.specs.Value.{CanFollowAll, IsNode, NodeValue, befallen, befell, logged}
 use Rattle.node_core.specs.declared.port.Port.{Port}
-use Rattle.once_core.specs.Addresses.{setup_of}
+use Rattle.once_core.specs.Addresses.{node_setup}
 use Rattle.once_core.specs.Expired.{begins, starts_in}
 use Rattle.once_core.specs.Turn.{at_node, is_none_of, log_in, most_starts, no_running_node, refusal_of, refusing}
 use Rattle.once_core.specs.World.{Called, World, called, log_at, node_value}
@@ -96,7 +96,7 @@ module _ (law : NodeLaw) (v : ReplayValue) (e : Event) (place : ℕ) (n : NodeVa
       let gateways : ℕ = length v.world.gateways in
       let node_is : befallen entries n ≡ node_value gateways place (call there.log).log =
       ap (λ (m : NodeValue). befallen entries m) there.is
-      ∙ law (setup_of gateways place) entries there.log (node_value gateways place there.log) follow refl
+      ∙ law (node_setup gateways place) entries there.log (node_value gateways place there.log) follow refl
       ∙ sym (ap (λ (log : List LogEntry). node_value gateways place log) log_is) in
       does_called v e place there.log call here before after old mid new stands (record {
         rest = rest;

@@ -23,7 +23,7 @@ use Rattle.replay_world.specs.Sending.{HasSent}
 use Rattle.replay_world.specs.Packets.{drafted, unless_fault, with_records}
 use Rattle.replay_world.specs.Stands.{CountsStarts, Stands}
 use Rattle.replay_world.specs.Steps.{Step, Plays, Tells, after_step, ends_line, sent_by}
-use Rattle.replay_world.specs.Telling.{notices_last, step_notices, submit_notices, submitted_notice}
+use Rattle.replay_world.specs.Telling.{notices_last, step_notices, submit_notices, submitted_notice, submitted_notices}
 use Rattle.replay_world.specs.Value.{ReplayValue}
 use Rattle.replay_world.specs.declared.replay.Replay.{Replay}
 use Rattle.replay_world.proofs.NodeEventLemmas.{NodeLaw, does_node, log_there}
@@ -172,21 +172,21 @@ module _ (v : ReplayValue) (number place : ℕ) (n : NodeValue) (old : Replay) (
   sends_are : [] ≡ (submitting gateways place octets there.log).sends
   sends_are = sym (ap (λ (c : Called). c.sends) call_is)
 
-  last_is : notices_last v (event.Submit number octets) ≡ submitted_notice place n (refusal n form) ∷ []
+  last_is : notices_last v (event.Submit number octets) ≡ submitted_notices place n (refusal n form)
   last_is =
       ap (λ (k : ℕ). submit_notices v k (draft_of octets)) is
       ∙ ap (λ (o : Option PacketForm). submit_notices v place o) read
       ∙ ap (λ (log : List LogEntry).
-      submitted_notice place (node_value gateways place log) (refusal (node_value gateways place log) form) ∷ [])
+      submitted_notices place (node_value gateways place log) (refusal (node_value gateways place log) form))
       (log_there v.world place there.log there.has_log)
-      ∙ ap (λ (k : NodeValue). submitted_notice place k (refusal k form) ∷ []) (sym there.is)
+      ∙ ap (λ (k : NodeValue). submitted_notices place k (refusal k form)) (sym there.is)
 
   -- these entries befell the node, and this is told of it
   follows_by : NodeLaw → (entries : List LogEntry) (before told : List ℕ) (new : Replay) →
       submit_entries n (refusal n form) form ≡ entries → CanFollowAll entries there.log →
       CountsStarts (logged entries there.log) → new ≡ record old { nodes = new.nodes } →
       new.nodes.items ≡ set old.nodes.items place (befallen entries n) →
-      told ≡ before ++ notice_lines (submitted_notice place n (refusal n form) ∷ []) →
+      told ≡ before ++ notice_lines (submitted_notices place n (refusal n form)) →
       Does v (Plays (event.Submit number octets)) before told new
   follows_by law entries before told new entries_are follow counts rest nodes tells =
       does_node law v (event.Submit number octets) place n there (submitting gateways place octets) entries here
@@ -194,6 +194,19 @@ module _ (v : ReplayValue) (number place : ℕ) (n : NodeValue) (old : Replay) (
       stands rest nodes
       (subst (λ (ms : List Message). HasSent ms before before new new) sends_are (sent_none before new))
       (tells ∙ ap (λ (ns : List Notice). before ++ notice_lines ns) (sym last_is))
+
+  -- what is told, on this side of the most packets
+  told_by : (before : List ℕ) (b : Bool) → nat_lt n.submissions most_submissions ≡ b →
+      before ++ notice_lines (if b then submitted_notice place n (refusal n form) ∷ [] else [])
+      ≡ before ++ notice_lines (submitted_notices place n (refusal n form))
+  told_by before b side =
+      ap (λ (c : Bool). before ++ notice_lines (if c then submitted_notice place n (refusal n form) ∷ [] else []))
+      (sym side)
+
+  told_below : (before : List ℕ) → nat_lt n.submissions most_submissions ≡ true →
+      before ++ notice_lines (submitted_notice place n (refusal n form) ∷ [])
+      ≡ before ++ notice_lines (submitted_notices place n (refusal n form))
+  told_below before few = told_by before true few
 
   pub submitted : NodeLaw → (before told : List ℕ) (new : Replay) → refusal n form ≡ None →
       nat_lt n.submissions most_submissions ≡ true → new ≡ record old { nodes = new.nodes } →
@@ -206,17 +219,30 @@ module _ (v : ReplayValue) (number place : ℕ) (n : NodeValue) (old : Replay) (
       ∙ ap (λ (b : Bool). if b then Submitted form ∷ [] else []) few)
       (tt, tt) (counts_plain (Submitted form ∷ []) there.log refl there.counts) rest nodes
       (tells ∙ ap (λ (text : List ℕ). before ++ text) (sym (append-nil (notice_line (Took place (suc n.submissions)))))
-      ∙ ap (λ (o : Option SubmitFault). before ++ notice_lines (submitted_notice place n o ∷ [])) (sym taken))
+      ∙ ap (λ (o : Option SubmitFault). before ++ notice_lines (submitted_notice place n o ∷ [])) (sym taken)
+      ∙ told_below before few)
 
   pub refused : NodeLaw → (before told : List ℕ) (new : Replay) (fault : SubmitFault) → refusal n form ≡ Some fault →
-      new ≡ record old { nodes = new.nodes } → new.nodes.items ≡ set old.nodes.items place n →
+      nat_lt n.submissions most_submissions ≡ true → new ≡ record old { nodes = new.nodes } → new.nodes.items ≡ set old.nodes.items place n →
       told ≡ before ++ notice_line (Refused (submit_fault_name fault)) →
       Does v (Plays (event.Submit number octets)) before told new
-  refused law before told new fault is_refused rest nodes tells =
+  refused law before told new fault is_refused few rest nodes tells =
       follows_by law [] before told new (ap (λ (o : Option SubmitFault). submit_entries n o form) is_refused)
       tt there.counts rest nodes
       (tells ∙ ap (λ (text : List ℕ). before ++ text) (sym (append-nil (notice_line (Refused (submit_fault_name fault)))))
-      ∙ ap (λ (o : Option SubmitFault). before ++ notice_lines (submitted_notice place n o ∷ [])) (sym is_refused))
+      ∙ ap (λ (o : Option SubmitFault). before ++ notice_lines (submitted_notice place n o ∷ [])) (sym is_refused)
+      ∙ told_below before few)
+
+  -- past the most packets none is taken
+  pub full : NodeLaw → (before : List ℕ) → nat_lt n.submissions most_submissions ≡ false →
+      Does v (Plays (event.Submit number octets)) before before old
+  full law before all =
+      follows_by law [] before before old (nothing (refusal n form)) tt there.counts refl
+      (sym (set_same old.nodes.items place n has)) (sym (append-nil before) ∙ told_by before false all)
+    where
+      nothing : (o : Option SubmitFault) → submit_entries n o form ≡ []
+      nothing None = ap (λ (b : Bool). if b then Submitted form ∷ [] else []) all
+      nothing (Some fault) = refl
 
 -- A draft without records is no packet, and does nothing.
 

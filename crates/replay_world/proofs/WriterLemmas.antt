@@ -358,7 +358,7 @@ module _ (within : SealOfStreams) (items before later : List Item) (f : Filing)
         let stopped = ap (λ (v : Writer MemoryShelf shelf_tells). (shelf_tells.plan (writer.shelf_of v)).stopped) is
         ∙ comes.stopped in
         let sealed : ℕ → ℕ = (filed_by q items f (done_at k outcome)).sealed in (
-          breaks.halted stopped,
+          breaks.stopped stopped,
           breaks.rests q sealed items stopped
               (subst (λ (v : Writer MemoryShelf shelf_tells). ShelfHolds shelf_tells q sealed items v) (sym is)
               (held_after (stopped_by Device) done (done_at k outcome) (comes.sealed refl))),

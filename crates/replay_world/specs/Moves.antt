@@ -11,7 +11,7 @@ use Rattle.replay_world.specs.Setup.{Setup}
 use Rattle.replay_world.specs.Stands.{MachineStands}
 use Rattle.replay_world.specs.Value.{Machine}
 use Rattle.replay_world.specs.declared.machine.Came.{Came}
-use Rattle.replay_world.specs.declared.machine.Came.TheVariants.{Went, Failed, Halted}
+use Rattle.replay_world.specs.declared.machine.Came.TheVariants.{Went, Failed, Stopped}
 use Rattle.replay_world.specs.declared.machine.Machine as real
 use Rattle.replay_world.specs.declared.machine.Sent.{Sent}
 use Rattle.replay_world.specs.declared.taking.Ending.{Ending}
@@ -21,7 +21,7 @@ use Rattle.replay_world.specs.declared.taking.Ending.TheVariants as ending
 abbrev pub came_of : Sequel → Came
 came_of (GoesOn armed) = Went
 came_of (Breaks last) = Failed
-came_of (Stops stands) = Halted
+came_of (Stops stands) = Stopped
 
 -- a move, which a stop cuts
 abbrev pub moved_by : Sequel → (Fortune → Gateway → Moved) → Machine → Gateway → Moved

@@ -8,7 +8,7 @@ use Rattle.replay_world.specs.Steps.{without}
 use Rattle.replay_world.specs.Telling.{sent_notices}
 use Rattle.replay_world.specs.Value.{ReplayValue}
 use Rattle.replay_world.specs.declared.machine.Came.{Came}
-use Rattle.replay_world.specs.declared.machine.Came.TheVariants.{Went, Failed, Halted}
+use Rattle.replay_world.specs.declared.machine.Came.TheVariants as came
 use Rattle.replay_world.specs.declared.replay.Replay.{Replay}
 use Rattle.replay_world.specs.declared.taking.Delivery.{Delivery}
 
@@ -43,14 +43,14 @@ pub record IsTo (v : ReplayValue) (number : ℕ) (to_gateway : Bool) (place : �
 
 -- what is printed of what the area did, and whether the line goes on then
 abbrev pub came_notices : ℕ → Came → List Notice
-came_notices place Went = []
-came_notices place Failed = Faulted place ∷ []
-came_notices place Halted = Stopped place ∷ []
+came_notices place came.Went = []
+came_notices place came.Failed = Faulted place ∷ []
+came_notices place came.Stopped = Stopped place ∷ []
 
 abbrev pub goes_on_after : Came → Bool
-goes_on_after Went = true
-goes_on_after Failed = true
-goes_on_after Halted = false
+goes_on_after came.Went = true
+goes_on_after came.Failed = true
+goes_on_after came.Stopped = false
 
 -- What a message made of a gateway was sent and printed: what the area did, the messages, and what is told of the one
 -- that came.

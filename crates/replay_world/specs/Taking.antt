@@ -16,7 +16,7 @@ use Rattle.replay_world.specs.Setup.{Setup, rules_in}
 use Rattle.replay_world.specs.Telling.{gateway_notices}
 use Rattle.replay_world.specs.Value.{Machine}
 use Rattle.replay_world.specs.declared.machine.Came.{Came}
-use Rattle.replay_world.specs.declared.machine.Came.TheVariants.{Went, Failed, Halted}
+use Rattle.replay_world.specs.declared.machine.Came.TheVariants.{Went, Failed, Stopped}
 use Rattle.replay_world.specs.declared.machine.Machine as real
 use Rattle.replay_world.specs.declared.machine.Sent.{Sent}
 use Rattle.replay_world.specs.declared.taking.Delivery.{Delivery}
@@ -63,7 +63,7 @@ met_by g message =
 abbrev pub dropped_as : Came → Why → Ending
 dropped_as Went why = ending.Dropped why
 dropped_as Failed why = ending.Dropped why
-dropped_as Halted why = ending.Quiet
+dropped_as Stopped why = ending.Quiet
 
 -- Nothing comes of a message but that this is told.
 pub record IsQuiet (ends : Ending) (delivery : Delivery) : Type 0 where
@@ -84,7 +84,7 @@ IsAnswered Went m reply front first old messages new =
     × (new.waiting.items ≡ filter (λ w. not (nat_le w.front (firm_in old.site))) (waits_then m reply front old))
     × (new ≡ record old { waiting = new.waiting })
 IsAnswered Failed m reply front first old messages new = (messages ≡ first ++ answering m reply ∷ []) × (new ≡ old)
-IsAnswered Halted m reply front first old messages new = (messages ≡ first) × (new ≡ old)
+IsAnswered Stopped m reply front first old messages new = (messages ≡ first) × (new ≡ old)
 
 pub record HasAnswered (m : Message) (reply : List ℕ) (front : ℕ) (sent : Sent) (old : real.Machine)
     (delivery : Delivery) (new : real.Machine) : Type 0 where

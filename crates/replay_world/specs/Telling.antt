@@ -1,5 +1,5 @@
 -- What is told of each step of a line.
-use Rattle.std.specs.Prelude.{ℕ, suc, ◌-◌, not, Bool, if◌then◌else◌, List, [], ◌∷◌, ◌++◌, length, map, Option, Some, None}
+use Rattle.std.specs.Prelude.{ℕ, suc, ◌-◌, nat_lt, not, Bool, if◌then◌else◌, List, [], ◌∷◌, ◌++◌, length, map, Option, Some, None}
 use Rattle.std.specs.Option.{option_map_or}
 use Rattle.gateway_book.specs.Answer.{Decided, Says, Silent, decided, failure_answer}
 use Rattle.gateway_book.specs.Preparing.{prepared_of}
@@ -10,6 +10,7 @@ use Rattle.gtpp_message.specs.declared.reading.Why.{Why}
 use Rattle.gw_base.specs.declared.history.HistoryEntry.{HistoryEntry}
 use Rattle.gw_base.specs.declared.packet.PacketId.{PacketId}
 use Rattle.node_core.specs.Hearing.{heeds}
+use Rattle.node_core.specs.Reached.{most_submissions}
 use Rattle.node_core.specs.Submitting.{refusal}
 use Rattle.node_core.specs.Value.{NodeValue}
 use Rattle.node_core.specs.declared.fault.SubmitFault.{SubmitFault}
@@ -98,17 +99,21 @@ message_notices v number m =
     if m.to_gateway then option_map_or (delivery_notices v number m) (site_of v (event.Deliver number)) []
     else hearing_notices v number m
 
--- A packet that is submitted.
+-- A packet that is submitted. Past the most packets of a node none is taken, and nothing is told.
 
 abbrev pub submitted_notice : ℕ → NodeValue → Option SubmitFault → Notice
 submitted_notice node value None = Took node (suc value.submissions)
 submitted_notice node value (Some fault) = Refused (submit_fault_name fault)
 
+abbrev pub submitted_notices : ℕ → NodeValue → Option SubmitFault → List Notice
+submitted_notices node value fault =
+    if nat_lt value.submissions most_submissions then submitted_notice node value fault ∷ [] else []
+
 abbrev pub submit_notices : ReplayValue → ℕ → Option PacketForm → List Notice
 submit_notices v node None = []
 submit_notices v node (Some form) =
     let value = node_value (length v.world.gateways) node (log_at v.world node) in
-    submitted_notice node value (refusal value form) ∷ []
+    submitted_notices node value (refusal value form)
 
 abbrev pub notices_last : ReplayValue → Event → List Notice
 notices_last v (event.Deliver number) = option_map_or (message_notices v number) (message_numbered v.world number) []

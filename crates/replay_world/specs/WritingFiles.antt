@@ -18,7 +18,7 @@ use Rattle.replay_world.specs.declared.machine.Machine as real
 abbrev pub steps_behind : ℕ → Wrote → List Step
 steps_behind gateway wrote.All = []
 steps_behind gateway wrote.Failed = Tells (ShelfFaulted (gateway - 1)) ∷ []
-steps_behind gateway wrote.Halted = Tells (Stopped (gateway - 1)) ∷ Plays (event.Cut gateway 0) ∷ []
+steps_behind gateway wrote.Stopped = Tells (Stopped (gateway - 1)) ∷ Plays (event.Cut gateway 0) ∷ []
 
 -- The files of a gateway were written as was armed for its shelf.
 pub record WritesFiles (setup : Setup) (place : ℕ) (g : Gateway) (m : Machine) (ended : Wrote) (r : real.Machine)

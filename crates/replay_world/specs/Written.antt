@@ -76,7 +76,7 @@ pub record FilesStand (settings : Settings) (f : Filing) (items : List Item) (r 
 abbrev pub wrote_by : Came → Wrote
 wrote_by (Ran armed) = wrote.All
 wrote_by (FailedAt call) = wrote.Failed
-wrote_by (StoppedAt call outcome) = wrote.Halted
+wrote_by (StoppedAt call outcome) = wrote.Stopped
 
 -- All these items were to be written, and what was armed decided what came of it.
 pub record HasWritten (settings : Settings) (items : List Item) (f : Filing) (ended : Wrote) (r : Files) : Type 0 where
@@ -87,7 +87,7 @@ pub record HasWritten (settings : Settings) (items : List Item) (f : Filing) (en
 pub record BreaksOff (fault : ShelfFault) (old : Files) (ended : Wrote) (new : Files) : Type 0 where
   pub cause : fault ≡ Device
   pub failed : (shelf_tells.plan (writer.shelf_of old.writer)).stopped ≡ false → (ended ≡ wrote.Failed) × (new ≡ old)
-  pub halted : (shelf_tells.plan (writer.shelf_of old.writer)).stopped ≡ true → ended ≡ wrote.Halted
+  pub stopped : (shelf_tells.plan (writer.shelf_of old.writer)).stopped ≡ true → ended ≡ wrote.Stopped
   pub rests : (settings : Settings) (sealed : ℕ → ℕ) (items : List Item) →
       (shelf_tells.plan (writer.shelf_of old.writer)).stopped ≡ true →
       ShelfHolds shelf_tells settings sealed items old.writer → FilesStand settings (resting sealed) items new

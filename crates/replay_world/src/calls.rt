@@ -91,10 +91,10 @@ impl Machine {
                     messages,
                 })
             }
-            Came::Halted => {
+            Came::Stopped => {
                 self.cut(alloc);
                 Ok(Sent {
-                    came: Came::Halted,
+                    came: Came::Stopped,
                     messages: Vec::new(alloc),
                 })
             }
@@ -190,7 +190,7 @@ fn came_of(book: &Book<MemoryArea>) -> Came
         result ≡ came_of sequel }
 {
     if book.stopped() {
-        return Came::Halted;
+        return Came::Stopped;
     }
     if book.is_broken() {
         Came::Failed

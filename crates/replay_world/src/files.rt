@@ -27,7 +27,7 @@ pub(crate) enum Wrote {
     /// The shelf failed, and the writer has to recover.
     Failed,
     /// The shelf stopped, and the gateway with it.
-    Halted,
+    Stopped,
 }
 
 /// A writer, and how many items it has taken since it recovered; none where it has to recover first.
@@ -142,6 +142,6 @@ impl Files {
         }
         self.writer.revive();
         self.end(alloc);
-        Ok(Wrote::Halted)
+        Ok(Wrote::Stopped)
     }
 }

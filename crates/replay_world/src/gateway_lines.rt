@@ -215,7 +215,7 @@ impl Replay {
         match wrote {
             Wrote::All => Ok(()),
             Wrote::Failed => print_shelf_fault(alloc, out, place),
-            Wrote::Halted => {
+            Wrote::Stopped => {
                 print_stopped(alloc, out, place)?;
                 self.stop(alloc, place);
                 Ok(())
@@ -238,10 +238,10 @@ impl Replay {
         match sent.came {
             Came::Went => {}
             Came::Failed => print_fault(alloc, out, place)?,
-            Came::Halted => print_stopped(alloc, out, place)?,
+            Came::Stopped => print_stopped(alloc, out, place)?,
         }
         self.send_all(alloc, sent.messages, out)?;
-        Ok(sent.came != Came::Halted)
+        Ok(sent.came != Came::Stopped)
     }
 }
 

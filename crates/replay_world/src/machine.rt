@@ -40,7 +40,7 @@ pub(crate) enum Came {
     /// The area failed, and the book is broken.
     Failed,
     /// The area stopped, and the gateway is down.
-    Halted,
+    Stopped,
 }
 
 /// What a call made of a gateway: what the area made of it, and the messages that it sent.

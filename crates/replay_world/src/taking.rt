@@ -213,7 +213,7 @@ impl Machine {
     {
         let Sent { came, messages } = sent;
         match came {
-            Came::Halted => Ok(answered(came, messages)),
+            Came::Stopped => Ok(answered(came, messages)),
             Came::Failed => {
                 let mut messages = messages;
                 let answer = answer_to(alloc, message, receipt)?;
@@ -296,7 +296,7 @@ fn ending_of(came: Came, why: Why) -> Ending
     ensures { result ≡ dropped_as came why }
 {
     match came {
-        Came::Halted => Ending::Quiet,
+        Came::Stopped => Ending::Quiet,
         Came::Went | Came::Failed => Ending::Dropped(why),
     }
 }

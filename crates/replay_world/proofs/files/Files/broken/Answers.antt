@@ -10,7 +10,7 @@ returns-then-not-stopped c =
     record {
       cause = c.in-Device.is;
       failed = λ runs. (refl, refl);
-      halted = λ stopped. absurd (true≢false (sym stopped ∙ running));
+      stopped = λ stopped. absurd (true≢false (sym stopped ∙ running));
       rests = λ settings sealed items stopped holds. absurd (true≢false (sym stopped ∙ running));
     }
 
@@ -20,7 +20,7 @@ returns c =
     record {
       cause = c.in-Device.is;
       failed = λ runs. absurd (true≢false (sym stopped ∙ runs));
-      halted = λ is. refl;
+      stopped = λ is. refl;
       rests = λ settings sealed items is holds. c.end.ensures settings sealed items
           (ap (λ (s : Schedule). s.stopped) c.revive.ensures.running)
           (kept_holds settings sealed items c.args.self.now.writer c.revive.new.self c.revive.ensures.settings

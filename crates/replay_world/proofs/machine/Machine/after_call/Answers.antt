@@ -1,8 +1,8 @@
 use Rattle.std.proofs.Common.{refl, sym}
 use Rattle.replay_world.specs.Setup.{files_in}
-use Rattle.replay_world.specs.declared.machine.Came.TheVariants.{Failed, Halted, Went}
+use Rattle.replay_world.specs.declared.machine.Came.TheVariants.{Failed, Stopped, Went}
 use Rattle.replay_world.specs.declared.machine.Sent.{Sent}
-use Rattle.replay_world.proofs.CallLemmas.{after_broke, after_halted, after_went}
+use Rattle.replay_world.proofs.CallLemmas.{after_broke, after_stopped, after_went}
 use Rattle.replay_world.proofs.machine.Machine.after_call.Goals as goal
 
 pub returns-in_ok-messages-in-Went : goal.returns-in_ok-messages-in-Went
@@ -21,11 +21,11 @@ returns-in_ok-messages-in-Failed c = λ setup place g m book sequel called.
     (cc (c.in_ok-messages-in-Failed.ensures, c.replace-waiting.ensures.value))
     (cc (c.replace-waiting.ensures.after, c.new.ensures.items)) refl
 
-pub returns-in-Halted : goal.returns-in-Halted
-returns-in-Halted c = λ setup place g m book sequel called.
-    let sent : Sent = record { came = Halted; messages = c.new-in-Halted.result } in
-    after_halted setup place g m book sequel c.args.self.now c.cut.new.self sent called
-    (sym (c.in-Halted.ensures setup place book sequel called.site)) refl c.new-in-Halted.ensures.items
+pub returns-in-Stopped : goal.returns-in-Stopped
+returns-in-Stopped c = λ setup place g m book sequel called.
+    let sent : Sent = record { came = Stopped; messages = c.new-in-Stopped.result } in
+    after_stopped setup place g m book sequel c.args.self.now c.cut.new.self sent called
+    (sym (c.in-Stopped.ensures setup place book sequel called.site)) refl c.new-in-Stopped.ensures.items
     (λ h is_cut. c.cut.ensures.down setup place h is_cut)
     (λ h items is_cut files. c.cut.ensures.files setup place h (files_in setup place) m.filing items is_cut files)
     c.cut.ensures.rest

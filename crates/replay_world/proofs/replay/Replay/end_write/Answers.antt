@@ -24,13 +24,13 @@ returns-in-Failed c = λ v number stands is none.
     (does_tell v (ShelfFaulted (number - 1)) c.args.out.now c.print_shelf_fault.new.out c.args.self.now stands
     (prints ∙ ap (λ (k : ℕ). c.args.out.now ++ notice_line (ShelfFaulted k)) (sym is))))) c.print_shelf_fault.ensures
 
-pub returns-in_ok-print_stopped-in-Halted : goal.returns-in_ok-print_stopped-in-Halted
-returns-in_ok-print_stopped-in-Halted c = λ v number stands is none.
+pub returns-in_ok-print_stopped-in-Stopped : goal.returns-in_ok-print_stopped-in-Stopped
+returns-in_ok-print_stopped-in-Stopped c = λ v number stands is none.
     let told = does_tell v (Stopped (number - 1)) c.args.out.now c.print_stopped.new.out c.args.self.now stands
-    (c.in_ok-print_stopped-in-Halted.ensures ∙ ap (λ (k : ℕ). c.args.out.now ++ notice_line (Stopped k)) (sym is)) in
+    (c.in_ok-print_stopped-in-Stopped.ensures ∙ ap (λ (k : ℕ). c.args.out.now ++ notice_line (Stopped k)) (sym is)) in
     let u = after_step v (Tells (Stopped (number - 1))) in
     subst (λ (w : Wrote). Makes v (steps_behind number w) c.args.out.now c.print_stopped.new.out c.stop.new.self)
-    (sym c.in-Halted.is)
+    (sym c.in-Stopped.is)
     (makes_then v (Tells (Stopped (number - 1)) ∷ []) (Plays (event.Cut number 0) ∷ []) c.args.out.now
     c.print_stopped.new.out c.args.self.now c.print_stopped.new.out c.stop.new.self
     (one_step v (Tells (Stopped (number - 1))) c.args.out.now c.print_stopped.new.out c.args.self.now refl told)

@@ -4,12 +4,12 @@ use Rattle.node_core.specs.Drafts.{is_without_records, value_octets}
 use Rattle.node_core.specs.Reached.{most_submissions}
 use Rattle.node_core.specs.Value.{NodeValue}
 use Rattle.node_core.specs.declared.counts.NodeCounts.{NodeCounts}
-use Rattle.std.proofs.lemmas.Bool.{lt-ltb}
+use Rattle.std.proofs.lemmas.Bool.{le-ltb, lt-ltb}
 use Rattle.gw_base.specs.declared.packet.PacketId.{PacketId}
 use Rattle.replay_world.specs.Notices.{Took, notice_line, submit_fault_name}
 use Rattle.replay_world.proofs.GoesLemmas.{on_ok}
 use Rattle.replay_world.proofs.NodeEventLemmas.{no_node_beyond}
-use Rattle.replay_world.proofs.NodeSubmitLemmas.{emptied, refused, submitted}
+use Rattle.replay_world.proofs.NodeSubmitLemmas.{emptied, full, refused, submitted}
 use Rattle.replay_world.proofs.NodeTickLemmas.{node_running}
 use Rattle.replay_world.proofs.ReasonLemmas.{reason_there, reason_told}
 use Rattle.replay_world.proofs.replay.Replay.submit_draft.Goals as goal
@@ -33,6 +33,22 @@ returns-then-not-runs c = λ v number stands is none read.
     within c.index.ensures in
     absurd (true≢false (sym (node_running v number c.args.place c.index.result.now c.args.self.now stands is none has)
     ∙ sym c.runs.ensures ∙ c.if-not-runs.true))
+
+pub returns-then-counts-ge-MOST_SUBMISSIONS : goal.returns-then-counts-ge-MOST_SUBMISSIONS
+returns-then-counts-ge-MOST_SUBMISSIONS c = λ v number stands is none read.
+    let within : c.from-index.result < length c.args.self.now.nodes.items =
+    omega (arith, c.if-index-len.false, c.len.ensures, c.args.self.now.nodes.ok.0) in
+    let has : slice_get c.args.self.now.nodes.items c.args.place ≡ Some c.index-2.result.now =
+    ap (λ (k : ℕ). slice_get c.args.self.now.nodes.items k) (sym c.from-index.ensures)
+    ∙ slice_get_read c.args.self.now.nodes.items (length c.args.self.now.nodes.items) c.from-index.result
+    c.index-2.result.now refl within c.index-2.ensures in
+    let some : is_without_records c.args.draft ≡ false = sym c.is_empty.ensures ∙ c.if-is_empty.false in
+    let packets : c.counts.result.packets ≡ c.index-2.result.now.submissions =
+    ap (λ (n : NodeCounts). n.packets) c.counts.ensures in
+    full v number c.args.place c.index-2.result.now c.args.self.now stands is none has c.args.draft
+    (value_octets c.args.draft) (read some) c.a_node_stands_for_its_log.ensures c.args.out.now
+    (le-ltb c.index-2.result.now.submissions most_submissions
+    (omega (arith, packets, c.if-counts-ge-MOST_SUBMISSIONS.true)))
 
 pub returns : goal.returns
 returns c = λ v number stands is none read.
@@ -71,12 +87,20 @@ returns-in-Err c = λ v number stands is none read.
     ∙ slice_get_read old.nodes.items (length old.nodes.items) c.from-index.result n refl within
     c.index_mut.ensures.value in
     let some : is_without_records c.args.draft ≡ false = sym c.is_empty.ensures ∙ c.if-is_empty.false in
+    let has_counted : slice_get old.nodes.items c.args.place ≡ Some c.index-2.result.now =
+    ap (λ (k : ℕ). slice_get old.nodes.items k) (sym c.from-index.ensures)
+    ∙ slice_get_read old.nodes.items (length old.nodes.items) c.from-index.result c.index-2.result.now refl within
+    c.index-2.ensures in
+    let both : Some c.index-2.result.now ≡ Some n = sym has_counted ∙ has in
+    let one : c.index-2.result.now ≡ n = cc in
+    let packets : c.counts.result.packets ≡ n.submissions =
+    ap (λ (m : NodeCounts). m.packets) c.counts.ensures ∙ ap (λ (m : NodeValue). m.submissions) one in
     on_ok c.refuse.result (λ told.
     let own = reason_there _ c.submit_fault_name.result c.submit_fault_name.ensures.own told in
     let text = reason_told c.submit_fault_name.result (λ m. m.now) (submit_fault_name c.in-Err.fault) c.args.out.now
     c.refuse.new.out c.submit_fault_name.ensures.name told in
     refused v number c.args.place n old stands is none has c.args.draft (value_octets c.args.draft) (read some)
     c.a_node_stands_for_its_log.ensures c.args.out.now c.refuse.new.out _ c.in-Err.fault
-    (sym c.in-Err.ensures.refused ∙ own) refl
+    (sym c.in-Err.ensures.refused ∙ own) (lt-ltb n.submissions most_submissions (omega (arith, packets))) refl
     (ap (λ (k : ℕ). set old.nodes.items k c.submit.new.self) c.from-index.ensures
     ∙ ap (λ (m : NodeValue). set old.nodes.items c.args.place m) c.in-Err.ensures.unchanged) text) c.refuse.ensures
