@@ -265,10 +265,10 @@ fn serve_next<A: Area, L: Link, R: Wait>(
     ensures worked { PairWorksOn L.Link (tells_lists A.Area) desks result.1 }
 {
     let (works, (a, b)) = take_all(rt, cell, one, two, signals, works, desks);
-    let has_jobs = !a.batch.jobs().is_empty() || !b.batch.jobs().is_empty();
-    let gate = Gathering::new(signals, works, has_jobs);
+    let jobs = a.batch.jobs().len().saturating_add(b.batch.jobs().len());
+    let gate = Gathering::new(signals, works, jobs);
     let a = go_on(rt, cell, &gate, a);
     let b = go_on(rt, cell, &gate, b);
     gate.leave();
-    (has_jobs, (a, b))
+    (jobs > 0, (a, b))
 }

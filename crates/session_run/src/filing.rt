@@ -17,6 +17,9 @@ use std::sync::Wait;
 use std::time::Clock;
 use turn_cell::TurnCell;
 
+/// How many items a step takes at most.
+const MANY: u64 = 64;
+
 /// Takes firm items to the writer of files, up to the first time, after all sessions have ended, that there was none.
 pub(crate) fn write_files<A: Area, F: Shelf, R: Wait + Clock>(
     rt: &R,
@@ -48,8 +51,16 @@ pub(crate) fn write_files<A: Area, F: Shelf, R: Wait + Clock>(
     actor
 }
 
+// Lets the thread rest behind a step that took items, but fewer than it may: it takes more together then, and holds up
+// the sessions less often.
+fn rest<R: Clock>(rt: &R, items: u64) {
+    if items > 0 && items < MANY {
+        idle(rt);
+    }
+}
+
 // Takes some firm items to the writer of files, and tells whether there were any.
-fn write_next<A: Area, F: Shelf, R: Wait>(
+fn write_next<A: Area, F: Shelf, R: Wait + Clock>(
     rt: &R,
     alloc: Global,
     cell: &TurnCell<Book<A>>,
@@ -66,7 +77,10 @@ fn write_next<A: Area, F: Shelf, R: Wait>(
     filed_records_stay();
     let mut actor = actor;
     let has_taken = match actor.step(rt, alloc, cell) {
-        Filing::Took { items } => items > 0,
+        Filing::Took { items } => {
+            rest(rt, items);
+            items > 0
+        }
         Filing::Area | Filing::Shelf | Filing::NoMemory => false,
     };
     (has_taken, actor)

@@ -21,6 +21,7 @@ mod gathering;
 pub mod laws;
 mod links;
 mod making;
+mod pace;
 mod receiving;
 mod reception;
 mod round;

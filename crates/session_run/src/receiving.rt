@@ -7,6 +7,7 @@ ghost use Rattle.session_run.specs.Reception.{CountsTurns, HasDispatched, IfTurn
 ghost use Rattle.session_run.specs.declared.stop.Stop.TheVariants as stop;
 
 use crate::beside::Task;
+use crate::pace::Pace;
 use crate::reception::Reception;
 use crate::signals::Signals;
 use crate::until::Until;
@@ -14,10 +15,11 @@ use job_inbox::Inbox;
 use net_link::Link;
 use std::sync::Wait;
 use std::sync::atomic::{AtomicU64, Ordering};
+use std::time::Clock;
 
 /// A reception that is to receive, with what it is lent.
 #[derive(Drop)]
-pub(crate) struct Receiving<'a, L: Link, C: gw_base::Clock, R: Wait> {
+pub(crate) struct Receiving<'a, L: Link, C: gw_base::Clock, R: Wait + Clock> {
     pub rt: &'a R,
     pub inboxes: &'a [Inbox],
     pub signals: &'a Signals,
@@ -26,7 +28,7 @@ pub(crate) struct Receiving<'a, L: Link, C: gw_base::Clock, R: Wait> {
     pub clock: &'a mut C,
 }
 
-impl<'a, L: Link, C: gw_base::Clock, R: Wait> Task for Receiving<'a, L, C, R> {
+impl<'a, L: Link, C: gw_base::Clock, R: Wait + Clock> Task for Receiving<'a, L, C, R> {
     ghost use Rattle.std.specs.Prelude.{◌≡◌};
     ghost use Rattle.session_run.specs.Rounds.{CanReceive, HasReceived};
 
@@ -52,7 +54,7 @@ impl<'a, L: Link, C: gw_base::Clock, R: Wait> Task for Receiving<'a, L, C, R> {
 }
 
 // Receives until it is to end, or a link or the clock fails, or there is no memory.
-fn receive<L: Link, C: gw_base::Clock, R: Wait>(
+fn receive<L: Link, C: gw_base::Clock, R: Wait + Clock>(
     rt: &R,
     inboxes: &[Inbox],
     signals: &Signals,
@@ -82,8 +84,8 @@ fn receive<L: Link, C: gw_base::Clock, R: Wait>(
     reception
 }
 
-// Takes the turns that are left.
-fn receive_turns<L: Link, C: gw_base::Clock, R: Wait>(
+// Takes the turns that are left. Where datagrams come fast it rests between them.
+fn receive_turns<L: Link, C: gw_base::Clock, R: Wait + Clock>(
     rt: &R,
     inboxes: &[Inbox],
     signals: &Signals,
@@ -100,6 +102,7 @@ fn receive_turns<L: Link, C: gw_base::Clock, R: Wait>(
     ensures cause { result.stop ≡ Some stop.Clock → Rose (C.faults clock.old) (C.faults clock.new) }
 {
     let mut reception = reception;
+    let mut pace = Pace::new();
     while reception.left > 0 && !signals.is_stopped() {
         reception.left -= 1;
         let is_quiet = reception.step(rt, inboxes, clock);
@@ -107,6 +110,7 @@ fn receive_turns<L: Link, C: gw_base::Clock, R: Wait>(
         if reception.stop.is_some() {
             return reception;
         }
+        pace.count(rt, is_quiet);
     }
     reception.is_over = reception.left == 0;
     reception

@@ -94,10 +94,9 @@ impl Signals {
         let _before = self.working.fetch_sub(1, Ordering::SeqCst);
     }
 
-    /// Lets a thread whose sessions have taken all their datagrams wait for a moment until no other works, so that one
-    /// commit makes the answers of all firm.
+    /// Lets a thread whose sessions have taken all their datagrams, and which doesn't work any more, wait for a moment
+    /// until no other works, so that one commit makes the answers of all firm.
     pub fn gather(&self) {
-        self.end_work();
         for _ in 0..LOOKS {
             if self.working.load(Ordering::SeqCst) == 0 {
                 return;
