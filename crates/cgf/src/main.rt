@@ -138,7 +138,7 @@ fn run_streamed<R: Threads + Wait + Clock + Sync>(
     let Ok(shelf) = FolderShelf::new(rt.alloc(), rt, places.folder) else {
         return Status::Memory;
     };
-    let area = FileArea::new(rt, places.area, places.length);
+    let area = FileArea::new(rt.alloc(), rt, places.area, places.length);
     let ended = match tcp_address(places.file.as_bytes()) {
         Some(at) => {
             let (mut source, mut sink) = accept(rt, at);
@@ -179,7 +179,7 @@ fn run_served<R: Threads + Wait + Clock + Sync>(
     let Ok(shelf) = FolderShelf::new(rt.alloc(), rt, places.folder) else {
         return Status::Memory;
     };
-    let area = FileArea::new(rt, places.area, places.length);
+    let area = FileArea::new(rt.alloc(), rt, places.area, places.length);
     let ended = run_with(threads, rt, words, None, area, shelf);
     tell(rt, "area", places.area, ended.area.trouble());
     tell(rt, "folder", places.folder, ended.shelf.trouble());

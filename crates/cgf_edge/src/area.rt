@@ -1,16 +1,24 @@
 ghost use Rattle.std.specs.Prelude.{◌≡◌, None, IsSome, OnOk};
 
+use crate::ahead::Ahead;
 use crate::open::open_area;
 use crate::trouble::Troubles;
 use crate::{DiskFile, Trouble};
 use area_disk::{Area, Failed};
+use std::alloc::Global;
 use std::fs::{File, Files};
+
+/// So many octets are read alone.
+const FEW: usize = 2048;
 
 /// The area in a file, which is opened, locked and allocated at the first call: where it is missing it is made, and
 /// where an earlier start was stopped while it filled it, it is filled to its end.
 ///
 /// A call fails where the file can't be opened so, and the next one tries again. A file that somebody else has locked,
 /// one that isn't regular, and one of another length stay as they were.
+///
+/// Few octets are read with those behind them, up to the next write: who reads one entry behind the other has most
+/// without a call of the system. Where there is no memory for that each read is a call.
 ///
 /// It tells nothing of what it holds. From a `sync` that failed on each write and sync fails, while reads go on.
 #[derive(Drop)]
@@ -19,12 +27,13 @@ pub struct FileArea<'a, R: Files> {
     path: &'a str,
     length: u64,
     file: Option<DiskFile>,
+    ahead: Ahead,
     troubles: Troubles,
 }
 
 impl<'a, R: Files<File = File>> FileArea<'a, R> {
     /// The area of `length` octets in the file at this path, which isn't opened yet. It has failed no call yet.
-    pub fn new(files: &'a R, path: &'a str, length: u64) -> Self
+    pub fn new(alloc: Global, files: &'a R, path: &'a str, length: u64) -> Self
         ensures files { result.files.now ≡ files.now }
         ensures path { result.path.now ≡ path.now }
         ensures length { result.length ≡ length }
@@ -36,6 +45,7 @@ impl<'a, R: Files<File = File>> FileArea<'a, R> {
             path,
             length,
             file: None,
+            ahead: Ahead::new(alloc),
             troubles: Troubles::new(),
         }
     }
@@ -66,7 +76,17 @@ impl<'a, R: Files<File = File>> FileArea<'a, R> {
         ensures troubles { self.new.troubles ≡ self.old.troubles }
     {
         self.open()?;
-        self.file.as_ref().unwrap().read(at, into)
+        let file = self.file.as_ref().unwrap();
+        if self.ahead.give(at, into) {
+            return Ok(());
+        }
+        if into.len() < FEW {
+            self.ahead.read(file, at, self.length);
+            if self.ahead.give(at, into) {
+                return Ok(());
+            }
+        }
+        file.read(at, into)
     }
 
     fn write(&mut self, at: u64, from: &[u8]) -> Result<(), Trouble>
@@ -74,6 +94,7 @@ impl<'a, R: Files<File = File>> FileArea<'a, R> {
         ensures troubles { self.new.troubles ≡ self.old.troubles }
     {
         self.open()?;
+        self.ahead.forget();
         self.file.as_ref().unwrap().write(at, from)
     }
 

@@ -5,12 +5,13 @@
 //! nothing of what they hold: their clauses are that a call fails only where the count of faults rose, and that from a
 //! failed sync on each write and sync of a file fails. What the system does with a file is trusted.
 //!
-//!     let mut area = FileArea::new(&rt, "journal.area", 16_777_216);
+//!     let mut area = FileArea::new(rt.alloc(), &rt, "journal.area", 16_777_216);
 //!     let mut shelf = FolderShelf::new(rt.alloc(), &rt, "cdrs")?;
 //!     let mut clock = SystemClock::new(&rt);
 #![tactic(auto)]
 
 mod again;
+mod ahead;
 mod area;
 mod clock;
 mod connection;

@@ -18,16 +18,18 @@ fn is_length(trouble: Option<Trouble>, found: u64) -> bool {
 
 #[test]
 fn what_is_written_is_read_after_opening_again(rt: HostRuntime) -> Result<(), Fail> {
-    let mut area = FileArea::new(&rt, "again.area", 10_000);
+    let mut area = FileArea::new(rt.alloc(), &rt, "again.area", 10_000);
     assert!(rt; !fs::exists(&rt, "again.area")?);
     let mut into = [9; 4];
     area.read_at(9_996, &mut into)?;
     assert_eq!(rt; into, [0; 4]);
     area.write_at(9_997, b"abc")?;
+    area.read_at(9_996, &mut into)?;
+    assert_eq!(rt; into.as_slice(), b"\0abc".as_slice());
     area.sync()?;
     drop(area);
     assert_eq!(rt; fs::metadata(&rt, "again.area")?.len(), 10_000);
-    let mut area = FileArea::new(&rt, "again.area", 10_000);
+    let mut area = FileArea::new(rt.alloc(), &rt, "again.area", 10_000);
     area.read_at(9_996, &mut into)?;
     assert_eq!(rt; into.as_slice(), b"\0abc".as_slice());
     Ok(())
@@ -37,9 +39,9 @@ fn what_is_written_is_read_after_opening_again(rt: HostRuntime) -> Result<(), Fa
 #[test]
 fn a_file_that_is_locked_is_refused(rt: HostRuntime) -> Result<(), Fail> {
     let mut into = [0; 1];
-    let mut holder = FileArea::new(&rt, "held.area", 100);
+    let mut holder = FileArea::new(rt.alloc(), &rt, "held.area", 100);
     holder.write_at(0, b"x")?;
-    let mut second = FileArea::new(&rt, "held.area", 100);
+    let mut second = FileArea::new(rt.alloc(), &rt, "held.area", 100);
     assert_eq!(rt; second.write_at(0, b"y"), Err(Failed));
     assert_eq!(rt; second.sync(), Err(Failed));
     assert!(rt; is_locked(second.trouble()));
@@ -56,7 +58,7 @@ fn a_file_that_is_locked_is_refused(rt: HostRuntime) -> Result<(), Fail> {
 fn a_file_of_another_length_is_refused_and_stays(rt: HostRuntime) -> Result<(), Fail> {
     for octets in ["0123456789ab", "0123456789"] {
         fs::write(&rt, "other.area", octets)?;
-        let mut area = FileArea::new(&rt, "other.area", 11);
+        let mut area = FileArea::new(rt.alloc(), &rt, "other.area", 11);
         let mut into = [0; 1];
         assert_eq!(rt; area.read_at(0, &mut into), Err(Failed));
         assert!(rt; is_length(area.trouble(), octets.len() as u64));
@@ -70,7 +72,7 @@ fn a_file_of_another_length_is_refused_and_stays(rt: HostRuntime) -> Result<(), 
 #[test]
 fn what_is_no_regular_file_is_refused(rt: HostRuntime) {
     for path in [".", "/dev/full", "missing/a.area"] {
-        let mut area = FileArea::new(&rt, path, 100);
+        let mut area = FileArea::new(rt.alloc(), &rt, path, 100);
         assert_eq!(rt; area.sync(), Err(Failed), "{path}");
     }
 }
@@ -80,7 +82,7 @@ fn what_is_no_regular_file_is_refused(rt: HostRuntime) {
 fn a_file_that_was_left_short_is_filled_to_its_end(rt: HostRuntime) -> Result<(), Fail> {
     for left in ["", "\0", "\0\0\0\0\0"] {
         fs::write(&rt, "short.area", left)?;
-        let mut area = FileArea::new(&rt, "short.area", 9_000);
+        let mut area = FileArea::new(rt.alloc(), &rt, "short.area", 9_000);
         let mut into = [9; 8];
         area.read_at(8_992, &mut into)?;
         assert_eq!(rt; into, [0; 8]);
@@ -130,7 +132,7 @@ fn a_write_that_the_system_refuses_is_a_fault(rt: HostRuntime) -> Result<(), Fai
 #[test]
 fn the_number_of_a_standard_stream_is_left_free(rt: HostRuntime) -> Result<(), Fail> {
     assert_eq!(rt; libc::close(0), 0);
-    let mut area = FileArea::new(&rt, "streams.area", 100);
+    let mut area = FileArea::new(rt.alloc(), &rt, "streams.area", 100);
     area.write_at(0, b"x")?;
     let next = fs::open(&rt, "streams.area")?;
     assert_eq!(rt; next.as_raw_fd(), 0);

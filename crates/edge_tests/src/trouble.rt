@@ -27,7 +27,7 @@ fn each_trouble_says_what_happened(rt: HostRuntime) -> Result<(), Fail> {
 /// An area that has failed no call yet has no trouble.
 #[test]
 fn what_the_system_refuses_is_told_as_it_says_it(rt: HostRuntime) -> Result<(), Fail> {
-    let mut area = FileArea::new(&rt, "missing/a.area", 100);
+    let mut area = FileArea::new(rt.alloc(), &rt, "missing/a.area", 100);
     assert!(rt; area.trouble().is_none());
     assert_eq!(rt; area.sync(), Err(Failed));
     let Some(trouble) = area.trouble() else {
