@@ -67,7 +67,7 @@ pub record RanNetwork (lines : List Line) (played : Played) : Type 0 where
   pub places : StandsOnce (files_in (setup_of lines)) (replayed lines).world
   pub there : StandInFiles (files_in (setup_of lines)) (replayed lines).world
 
--- the lines of the network that a command runs
+-- for `job` alone: the lines of the network that a command runs
 abbrev pub lines_ok : Result (List Line) LineRefusal → Option (List Line)
 lines_ok (Ok lines) = Some lines
 lines_ok (Err refusal) = None

@@ -142,7 +142,8 @@ where
     // each packet that its node ever resolved stands at exactly one place of its own, and each record of any other
     // packet at one at most; no copy that is held or was cancelled puts one there, and the files have no other record.
     // Each file is sealed, and no shelf has another. What its lines print, which `job` says is written, ends with these
-    // files. So does a drill, which prints sums instead: the script is that of its seed.
+    // files. A drill prints sums instead; all else holds of it too, for the script of its seed. Of a replay it holds
+    // where the source tells the script. docs/PROMISES.md (The headline) reads the definitions aloud.
     ensures once { HandsNetwork (map string_bytes words.now) (S.left source.old) result.status result.played }
     // A gateway that served hands back the area of a history that has grown from the one handed in by answers to
     // datagrams that its links received, and the shelf with just its files, stream by stream; each reply that they sent
