@@ -1,6 +1,6 @@
-ghost use Rattle.std.specs.Prelude.{◌≡◌, ◌≤◌, ◌<◌, ◌↔◌, Some, length, slice_get, IsErr, OnOk, OnErr, IfOk, Contains, is_ok, if◌then◌else◌};
-ghost use Rattle.gw_base.specs.Faults.{Rose, next_count};
-ghost use Rattle.gw_base.specs.MemoryClock.{after_first};
+ghost use Rattle.std.specs.Prelude.{◌≡◌, ◌≤◌, ◌<◌, Some, length, slice_get, OnOk, OnErr};
+ghost use Rattle.gw_base.specs.Faults.{Rose};
+ghost use Rattle.gw_base.specs.MemoryClock.{after_first, GivesAsPlanned};
 
 use crate::clock::Clock;
 use crate::fault::Failed;
@@ -69,14 +69,7 @@ impl Clock for MemoryClock {
         ensures counted { self.old.faults ≤ self.new.faults }
         ensures ok { OnOk result (self.new.faults ≡ self.old.faults) }
         ensures failed { OnErr result (Rose self.old.faults self.new.faults) }
-
-        ensures fails { IsErr result ↔ Contains self.old.fail (next_count self.old.calls) }
-        ensures given { IfOk result (λ moment. slice_get self.old.left 0 ≡ Some moment) }
-        ensures left { OnOk result (self.new.left ≡ after_first self.old.left) }
-        ensures kept { OnErr result (self.new.left ≡ self.old.left) }
-        ensures faults { self.new.faults ≡ (if is_ok result then self.old.faults else next_count self.old.faults) }
-        ensures calls { self.new.calls ≡ next_count self.old.calls }
-        ensures plan { self.new.fail ≡ self.old.fail }
+        ensures gives { GivesAsPlanned self.old self.new result }
     {
         self.calls = self.calls.saturating_add(1);
         if self.fail.contains(&self.calls) {

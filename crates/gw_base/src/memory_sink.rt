@@ -1,6 +1,7 @@
-ghost use Rattle.std.specs.Prelude.{◌≡◌, ◌≢◌, ◌<◌, ◌≤◌, ◌↔◌, ◌+◌, ◌⊎◌, [], length, take, IsErr, OnOk, OnErr, IfOk, Contains, is_ok, if◌then◌else◌};
+ghost use Rattle.std.specs.Prelude.{◌≡◌, ◌≢◌, ◌<◌, ◌≤◌, ◌⊎◌, [], length, take, OnOk, OnErr, IfOk};
 ghost use Rattle.std.specs.Io.KnownBytes.{Appends};
-ghost use Rattle.gw_base.specs.Faults.{Rose, next_count};
+ghost use Rattle.gw_base.specs.Faults.{Rose};
+ghost use Rattle.gw_base.specs.MemorySink.{PutsAsPlanned};
 ghost use Rattle.gw_base.specs.Written.{AppendsFront};
 
 use crate::fault::{Failed, NoMemory};
@@ -76,14 +77,7 @@ impl Sink for MemorySink {
         ensures counted { self.old.faults ≤ self.new.faults }
         ensures ok { OnOk result (result ≢ Ok 0 ⊎ length from.now ≡ 0 → self.new.faults ≡ self.old.faults) }
         ensures failed { OnErr result (Rose self.old.faults self.new.faults) }
-
-        ensures whole { IfOk result (λ n. n ≡ length from.now) }
-        ensures fails { IsErr result ↔ (Contains self.old.fail (next_count self.old.calls)
-            ⊎ (self.old.room < length self.old.written + length from.now)) }
-        ensures nothing { OnErr result (self.new.written ≡ self.old.written) }
-        ensures calls { self.new.calls ≡ next_count self.old.calls }
-        ensures faults { self.new.faults ≡ (if is_ok result then self.old.faults else next_count self.old.faults) }
-        ensures plan { (self.new.room ≡ self.old.room) × (self.new.fail ≡ self.old.fail) }
+        ensures puts { PutsAsPlanned self.old self.new from.now result }
     {
         self.calls = self.calls.saturating_add(1);
         let room = self.buffer.len() - self.written;

@@ -1,6 +1,7 @@
-ghost use Rattle.std.specs.Prelude.{◌≡◌, ◌≤◌, ◌↔◌, ◌+◌, length, take, drop, min, IsErr, OnOk, OnErr, IfOk, Contains, is_ok, if◌then◌else◌};
+ghost use Rattle.std.specs.Prelude.{◌≡◌, ◌≤◌, ◌+◌, length, take, drop, min, OnOk, OnErr, IfOk};
 ghost use Rattle.std.specs.Io.KnownBytes.{ReadConsumes};
-ghost use Rattle.gw_base.specs.Faults.{Rose, next_count};
+ghost use Rattle.gw_base.specs.Faults.{Rose};
+ghost use Rattle.gw_base.specs.MemorySource.{TakesAsPlanned};
 
 use crate::fault::Failed;
 use crate::octets::Octets;
@@ -80,12 +81,7 @@ impl Source for MemorySource {
         ensures counted { self.old.faults ≤ self.new.faults }
         ensures ok { OnOk result (self.new.faults ≡ self.old.faults) }
         ensures failed { OnErr result (Rose self.old.faults self.new.faults) }
-
-        ensures fails { IsErr result ↔ Contains self.old.fail (next_count self.old.calls) }
-        ensures count { IfOk result (λ n. n ≡ min self.old.piece (min (length into.old) (length self.old.left))) }
-        ensures calls { self.new.calls ≡ next_count self.old.calls }
-        ensures faults { self.new.faults ≡ (if is_ok result then self.old.faults else next_count self.old.faults) }
-        ensures plan { (self.new.piece ≡ self.old.piece) × (self.new.fail ≡ self.old.fail) }
+        ensures takes { TakesAsPlanned self.old self.new (length into.old) result }
     {
         self.calls = self.calls.saturating_add(1);
         if self.fail.contains(&self.calls) {
