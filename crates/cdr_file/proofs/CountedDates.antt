@@ -1,6 +1,6 @@
 -- Counting days on gives the date that `jiff_core`'s calendar gives a day, and so its timestamp. The lengths of years and
 -- months are the same in both by computation.
-use Rattle.std.proofs.Common.{◌≡◌, ℕ, zero, suc, ◌+◌, ◌-◌, ◌*◌, ◌/◌, ◌%◌, ◌<◌, ◌≤◌, inl, inr, refl, arith, ℤ, pos, negsuc, ◌+ℤ◌, ◌*ℤ◌, ◌≤ℤ◌, unsigned_abs}
+use Rattle.std.proofs.Common.{◌≡◌, ℕ, zero, suc, ◌+◌, ◌-◌, ◌*◌, ◌/◌, ◌%◌, ◌<◌, ◌≤◌, ◌^◌, inl, inr, refl, arith, ℤ, pos, negsuc, ◌+ℤ◌, ◌*ℤ◌, ◌≤ℤ◌, unsigned_abs}
 use Rattle.std.proofs.lemmas.Bool.{cases_lt, lt-ltb, le-ltb}
 use Rattle.std.proofs.lemmas.Int.{by_lt_z}
 use Rattle.jiff_core.specs.Calendar.{IsCivilDate, IsWithin, day_count, day_of_year, days_of_months}
@@ -12,7 +12,7 @@ use Rattle.jiff_core.specs.declared.civil.date.Date.{Date}
 use Rattle.jiff_core.specs.declared.civil.datetime.DateTime.{DateTime}
 use Rattle.jiff_core.proofs.DateLemmas.{civil}
 use Rattle.jiff_core.proofs.DateTimeLemmas.{civil_nanos-parts}
-use Rattle.jiff_core.proofs.CalendarLemmas.{days_from_civil-day_count, day_count-day_of_year, day_count-later_year, day_count-lt_year, day_count-next_year, day_of_year_bound, days_of_months-zero, days_of_months_more, days_of_months_mono}
+use Rattle.jiff_core.proofs.CalendarLemmas.{days_from_civil-day_count, day_count-day_of_year, day_count-later_year, day_count-lt_year, day_count-next_year, day_of_year_bound, days_in_month_bounds, days_of_months_all, days_of_months-zero, days_of_months_more, days_of_months_mono}
 use Rattle.jiff_core.proofs.MarchLemmas.{day_count-early}
 use Rattle.jiff_core.proofs.SignedLemmas.{signed_arith}
 use Rattle.cdr_file.specs.Timestamp.{local_second, packed_fields, sign_bit, stamp_of}
@@ -141,3 +141,75 @@ stamp_of-shown moment offset shown last within e =
     let hour : local_second moment offset % 86_400 / 3_600 ≡ shown.time.hour = omega (arith, signed_arith) in
     let minute : local_second moment offset % 3_600 / 60 ≡ shown.time.minute = omega (arith, signed_arith) in
     rw (date_since_1969-is shown.date (local_second moment offset / 86_400) day high, hour, minute)
+
+-- Dates fit their fields.
+
+-- so many days after the beginning of a month, in what is left of its year
+date_from_month-fits : (later year k month days : ℕ) → month ≡ k + 1 → k + later ≡ 11
+    → days + days_of_months (pos year) k < days_of_year year
+    → ((date_from_month later year month days).month ≤ 12) × ((date_from_month later year month days).day ≤ 31)
+unfolding date_from_month
+date_from_month-fits zero year k month days e last h =
+    let same : k ≡ 11 = omega arith in
+    let here = rw same at h in
+    (omega arith, omega (arith, here, days_of_months_all (pos year), days_of_months_more (pos year) 12 (omega arith), days_in_month_bounds (pos year) 12))
+date_from_month-fits (suc later) year k month days e last h =
+    let length : days_of_months (pos year) month ≡ days_of_months (pos year) (month - 1) + days_of_month year month =
+    days_of_months_more (pos year) month (omega arith) in
+    let back : month - 1 ≡ k = omega arith in
+    let more = rw back at length in
+    elim (cases_lt days (days_of_month year month)) [
+      | inl lt ↦ rw (lt-ltb days (days_of_month year month) lt) (omega arith, omega (arith, days_in_month_bounds (pos year) month))
+      | inr ge ↦
+          let next : days_of_months (pos year) (k + 1) ≡ days_of_months (pos year) month = rw e refl in
+          rw (le-ltb days (days_of_month year month) ge)
+          (date_from_month-fits later year (k + 1) (month + 1) (days - days_of_month year month) (omega arith) (omega arith) (omega arith))
+    ]
+
+-- so many days after the beginning of a year, in one of those up to the last
+date_from_year-fits : (later year end days : ℕ) → end ≡ year + later + 1
+    → days + day_count (pos year) 1 1 < day_count (pos end) 1 1
+    → ((date_from_year later year days).month ≤ 12) × ((date_from_year later year days).day ≤ 31)
+unfolding date_from_year
+date_from_year-fits zero year end days e h =
+    let next : day_count (pos end) 1 1 ≡ day_count (pos year) 1 1 + days_of_year year =
+    day_count-next_year (pos year) (pos end) (omega (arith, signed_arith)) (omega (arith, signed_arith)) in
+    date_from_month-fits 11 year 0 1 days (omega arith) (omega arith) (omega (arith, days_of_months-zero (pos year)))
+date_from_year-fits (suc later) year end days e h =
+    let next : day_count (pos (year + 1)) 1 1 ≡ day_count (pos year) 1 1 + days_of_year year =
+    day_count-next_year (pos year) (pos (year + 1)) (omega (arith, signed_arith)) (omega (arith, signed_arith)) in
+    elim (cases_lt days (days_of_year year)) [
+      | inl lt ↦ rw (lt-ltb days (days_of_year year) lt)
+          (date_from_month-fits 11 year 0 1 days (omega arith) (omega arith) (omega (arith, days_of_months-zero (pos year))))
+      | inr ge ↦ rw (le-ltb days (days_of_year year) ge)
+          (date_from_year-fits later (year + 1) end (days - days_of_year year) (omega arith) (omega arith))
+    ]
+
+date_since_1969-fits : (days : ℕ) → days ≤ 48_211 → ((date_since_1969 days).month ≤ 12) × ((date_since_1969 days).day ≤ 31)
+unfolding date_since_1969
+date_since_1969-fits days high =
+    let end : day_count (pos 2101) 1 1 ≡ day_count (pos 2100) 1 1 + 365 =
+    day_count-next_year (pos 2100) (pos 2101) (omega (arith, signed_arith)) (omega (arith, signed_arith)) in
+    date_from_year-fits 131 1969 2101 days refl (omega (arith, day_count-1969, day_count-2100))
+
+-- the bit of a sign
+sign_bit-fits : (offset : ℤ) → sign_bit offset < 2
+sign_bit-fits (pos n) = omega arith
+sign_bit-fits (negsuc n) = omega arith
+
+-- an offset's size
+distance : (offset : ℤ) → IsWithin 959 offset → unsigned_abs offset ≤ 959
+distance (pos n) within = omega (arith, signed_arith)
+distance (negsuc n) within = omega (arith, signed_arith)
+
+-- each moment has a timestamp of four octets
+pub stamp_of-fits : (moment : ℕ) (offset : ℤ) → moment ≤ 4_102_444_799 → IsWithin 959 offset → stamp_of moment offset < 2 ^ 32
+unfolding stamp_of
+stamp_of-fits moment offset last within =
+    let ahead : pos (local_second moment offset) ≡ pos (moment + 365 * 86_400) +ℤ (offset *ℤ pos 60) =
+    unsigned_abs-is (pos (moment + 365 * 86_400) +ℤ (offset *ℤ pos 60)) (omega (arith, signed_arith)) in
+    let second : ℕ = local_second moment offset in
+    let high : second ≤ 4_165_516_799 = omega (arith, signed_arith) in
+    let date = date_since_1969-fits (second / 86_400) (omega arith) in
+    let minutes = distance offset within in
+    omega (arith, date, sign_bit-fits offset)

@@ -1,16 +1,17 @@
 //! Laws of CDR files. Each holds for every file, and stands on a function that does nothing.
 
-ghost use Rattle.std.specs.Prelude.{◌≡◌, ◌≢◌, ◌<◌, ◌^◌, ◌↔◌, ◌++◌, ◌∷◌, [], ℕ, List, length, Ok};
+ghost use Rattle.std.specs.Prelude.{◌≡◌, ◌≢◌, ◌<◌, ◌≤◌, ◌^◌, ◌↔◌, ◌++◌, ◌∷◌, [], ℕ, ℤ, List, length, Ok};
 ghost use Rattle.byteorder.specs.Endian.{big_number};
 ghost use Rattle.cdr_file.specs.CdrFile.{FiledRecord, FileSettings, cdr_octets, facts_of, facts_of_one, facts_with, file_header, file_octets, read_file, run_octets};
 ghost use Rattle.cdr_file.specs.CdrHeader.{AreCdrs};
 ghost use Rattle.cdr_file.specs.FileHeader.{IsFileHeader, extends, header_octets};
 ghost use Rattle.cdr_file.specs.Reading.{file_in};
 ghost use Rattle.cdr_file.specs.Spelling.{AreOctets, IsFile, Spells, spelled_file};
-ghost use Rattle.cdr_file.specs.Timestamp.{AreFields, fields_of, packed};
+ghost use Rattle.cdr_file.specs.Timestamp.{AreFields, fields_of, packed, stamp_of};
 ghost use Rattle.cdr_file.specs.declared.closure.ClosureReason.{ClosureReason};
 ghost use Rattle.cdr_file.specs.declared.file.CdrFile.{CdrFile};
 ghost use Rattle.cdr_file.specs.declared.stamp_fields.StampFields.{StampFields};
+ghost use Rattle.jiff_core.specs.Calendar.{IsWithin};
 
 /// What holds of the octets of every file: both lengths in its header are true, and a record more is
 /// a CDR more at its end. Below 2^32 octets, the first four say how many there are.
@@ -59,4 +60,9 @@ pub fn what_is_written_is_read()
 pub fn stamp_fields_law()
     ensures again { (stamp : ℕ) → stamp < 2 ^ 32 → packed (fields_of stamp) ≡ stamp }
     ensures fields { (fields : StampFields) → AreFields fields → fields_of (packed fields) ≡ fields }
+{}
+
+/// Each moment has a timestamp of four octets, by each clock.
+pub fn each_stamp_fits()
+    ensures { (moment : ℕ) (offset : ℤ) → moment ≤ 4102444799 → IsWithin 959 offset → stamp_of moment offset < 2 ^ 32 }
 {}

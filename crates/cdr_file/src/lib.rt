@@ -34,7 +34,7 @@ pub use file_header::{FileHeader, write_header};
 pub use filed_kind::FiledKind;
 pub use head_octets::HeadOctets;
 pub use laws::{
-    file_octets_law, run_facts_law, stamp_fields_law, what_is_read_is_spelled,
+    each_stamp_fits, file_octets_law, run_facts_law, stamp_fields_law, what_is_read_is_spelled,
     what_is_spelled_is_read, what_is_written_is_read,
 };
 pub use listing::{cdr_line, head_lines, list};
