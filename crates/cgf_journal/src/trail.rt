@@ -198,7 +198,7 @@ impl<A: Area> Trail<A> {
         self.tally.free(self.journal.is_closed(), self.size)
     }
 
-    /// How many entries it has. Each costs 30 octets of the area at least.
+    /// How many entries it has; of a closed trail, the firm ones. Each costs 30 octets of the area at least.
     pub fn length(&self) -> u64
         ensures counted { result ≡ length_of self.now }
         ensures length { Told A.Area → result ≡ length (entries self.now) }
