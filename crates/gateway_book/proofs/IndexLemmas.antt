@@ -27,7 +27,6 @@ use Rattle.gateway_book.specs.Tells.{AreCopiesOf, Tells, totals_of}
 use Rattle.gateway_book.specs.Told.{key_of}
 use Rattle.gateway_book.specs.Windows.{if_held, narrowed}
 use Rattle.gateway_book.specs.declared.index.Index.{Index}
-use Rattle.gateway_book.specs.declared.totals.Totals.{Totals}
 use Rattle.gateway_book.proofs.Tellings.{CountLaw, HeldLaw, PresentLaw, WindowLaw, fit_is, new_is_free, observed_is, tells_after}
 use Rattle.gateway_book.proofs.WindowLemmas.{meant_is_near, narrowed_answer}
 
@@ -146,11 +145,17 @@ follows_same side firm old new e h t = subst (λ (s : Side). Tells s h) (sym e) 
 
 -- ---- one more entry
 
-pub after_step : (e : HistoryEntry) (old new : Index) (live : Totals) → Stepped (acted e.act) old new → live ≡ totals_after e new.live → Stepped (side_after e) old (record { nodes = new.nodes; held = new.held; firm = new.firm; live = live })
+pub after_step : (e : HistoryEntry) (old new after : Index) → Stepped (acted e.act) old new → after.nodes ≡ new.nodes → after.held ≡ new.held → after.firm ≡ new.firm → after.live ≡ totals_after e new.live → Stepped (side_after e) old after
 unfolding side_of
-after_step e old new live stepped after = record {
-  live = λ i. record (stepped.live i) { totals = (after ∙ ap (λ (s : Side). totals_after e s.totals) stepped.live) i };
-  firm = stepped.firm;
+after_step e old new after stepped nodes held firm live = record {
+  live = λ i. record {
+    nodes = (ap (nodes_in false) nodes ∙ ap (λ (s : Side). s.nodes) stepped.live) i;
+    held = (ap (held_in false) held ∙ ap (λ (s : Side). s.held) stepped.live) i;
+    totals = (live ∙ ap (λ (s : Side). totals_after e s.totals) stepped.live) i;
+  };
+  firm =
+      let same : side_of true after ≡ side_of true new = λ i. record { nodes = nodes_in true (nodes i); held = held_in true (held i); totals = firm i } in
+      same ∙ stepped.firm;
 }
 
 pub follows_after : HeldLaw → PresentLaw → CountLaw → WindowLaw → (e : HistoryEntry) (old new : Index) → is_act_fit (observed_by false old) e.act ≡ true → Stepped (side_after e) old new

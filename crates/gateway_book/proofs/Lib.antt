@@ -14,6 +14,7 @@ pub mod HeldCopiesLemmas
 pub mod HeldCounts
 pub mod HeldLemmas
 pub mod HeldPairLemmas
+pub mod HeldStates
 pub mod IndexLemmas
 pub mod ItemsLemmas
 pub mod JudgeLemmas

@@ -57,7 +57,7 @@ pub record WindowLaw : Type 0 where
 
 -- ---- what a side tells of states
 
-held_state : (s : KeyState) → is_held s ≡ true → s ≡ Held
+pub held_state : (s : KeyState) → is_held s ≡ true → s ≡ Held
 held_state Held e = refl
 held_state Fresh e = absurd (true≢false (sym e))
 held_state Filed e = absurd (true≢false (sym e))

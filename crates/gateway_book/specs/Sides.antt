@@ -1,5 +1,5 @@
 -- What one side of an index keeps, and how one more entry changes it.
-use Rattle.std.specs.Prelude.{ℕ, ◌+◌, ◌-◌, ◌^◌, min, ◌==◌, false, if◌then◌else◌, List, [], ◌∷◌, Option, Some, None, is_some}
+use Rattle.std.specs.Prelude.{◌≡◌, ℕ, ◌+◌, ◌-◌, ◌^◌, min, ◌==◌, true, false, if◌then◌else◌, List, [], ◌∷◌, Option, Some, None, is_some}
 use Rattle.dup_buffer.specs.Copies.{Copies, with_copy, without_copy, without_node}
 use Rattle.gw_base.specs.declared.address.NodeId.{NodeId}
 use Rattle.gw_base.specs.declared.history.HistoryAct.{HistoryAct}
@@ -33,6 +33,10 @@ pub record Side : Type 0 where
 -- the state of a node's number: that of a copy which is held, and else what the node's window says
 abbrev pub state_in : Side → ℕ → ℕ → KeyState
 state_in side node number = if is_some (side.held.place_of node number) then Held else (side.nodes.window node).state number
+
+-- Each number that a node's window has as held is held.
+abbrev pub AreHeldIn : Copies → NodeSide → Type 0
+AreHeldIn held nodes = (node number : ℕ) → (nodes.window node).state number ≡ Held → is_some (held.place_of node number) ≡ true
 
 -- what is kept of no entry
 abbrev pub no_totals : Totals

@@ -111,12 +111,12 @@ impl<A: Area> Book<A> {
     {
         an_index_tells_its_history();
         held_keys_are_as_many_as_held_copies();
-        let firm = self.trail.is_closed();
+        let of_firm_side = self.trail.is_closed();
         Counts {
             entries: self.trail.length(),
             firm: self.trail.firm(),
-            held: self.index.held(firm),
-            stranded: self.index.totals(firm).stranded,
+            held: self.index.held(of_firm_side),
+            stranded: self.index.totals(of_firm_side).stranded,
             free: self.trail.free(),
         }
     }

@@ -2,9 +2,12 @@
 ghost use Rattle.std.specs.Prelude.{◌≡◌, Bool, true, false, List, [], ◌∷◌, ◌++◌, IfOk, IfSome, ◌<◌, ◌^◌};
 ghost use Rattle.gw_base.specs.Entry.{act_view, entry_view};
 ghost use Rattle.gw_base.specs.declared.history.HistoryEntry.{HistoryEntry};
+ghost use Rattle.transfer_cmd.specs.Lists.{is_held};
 ghost use Rattle.gateway_book.specs.Fit.{is_new};
+ghost use Rattle.gateway_book.specs.HeldPairs.{held_in};
 ghost use Rattle.gateway_book.specs.Limits.{has_place, may_hold};
-ghost use Rattle.gateway_book.specs.Sides.{acted, copied, listed, numbered, opened, side_after};
+ghost use Rattle.gateway_book.specs.NodeSides.{nodes_in};
+ghost use Rattle.gateway_book.specs.Sides.{AreHeldIn, acted, copied, listed, numbered, opened, side_after};
 
 use crate::held_pair::HeldPair;
 use crate::nodes::{MOST_NODES, NodeTable};
@@ -16,6 +19,7 @@ use gw_base::scan::{
 use gw_base::{Absolute, Act, Entry, KeyState, NoMemory, NodeId, Opening};
 use seq_window::laws::a_window_follows_its_history;
 use std::alloc::Global;
+use transfer_cmd::is_held;
 
 /// The most copies that a gateway holds.
 const MOST_COPIES: u64 = 65_536;
@@ -25,13 +29,14 @@ const MOST_COPIES: u64 = 65_536;
 /// the firm entries, and a live side, which follows these with those that wait for a commit or are torn.
 ///
 /// All its memory is taken as it is made. A look-up takes a time that grows with the known nodes, of which there are 64
-/// at most, and with the logarithm of the number of held copies.
+/// at most, and with the logarithm of the number of held copies, but where a window says that the number is held.
 #[derive(Drop)]
 pub struct Index {
     pub(crate) nodes: NodeTable,
     pub(crate) held: HeldPair,
     pub(crate) firm: Totals,
     pub(crate) live: Totals,
+    ghost told: { (firm : Bool) → AreHeldIn (held_in firm held) (nodes_in firm nodes) },
 }
 
 impl Index {
@@ -93,10 +98,14 @@ impl Index {
     pub fn state(&self, firm: bool, node: NodeId, number: Absolute) -> KeyState
         ensures { result ≡ (observed_by firm self.now node).state number }
     {
+        let state = self.nodes.state(firm, node, number);
+        if is_held(state) {
+            return state;
+        }
         if self.held.holds(firm, node, number) {
             KeyState::Held
         } else {
-            self.nodes.state(firm, node, number)
+            state
         }
     }
 
@@ -116,9 +125,10 @@ impl Index {
         self.held(firm) < MOST_COPIES
     }
 
-    // An entry gives a number its first state.
+    // An entry gives a number its first state, which isn't that of a held one.
     fn number(&mut self, node: NodeId, number: Absolute, state: KeyState)
-        requires { is_new (observed_by false self.old node) number ≡ true }
+        requires new { is_new (observed_by false self.old node) number ≡ true }
+        requires other { is_held state ≡ false }
         ensures { Stepped (numbered node number state) self.old self.new }
     {
         self.nodes.set(node, number, state);
@@ -136,6 +146,7 @@ impl Index {
 
     // An entry gives numbers that are held this state.
     fn list(&mut self, node: NodeId, numbers: &[Absolute], state: KeyState)
+        requires { is_held state ≡ false }
         ensures { Stepped (listed node numbers.now state) self.old self.new }
     {
         self.nodes.set_within(node, numbers, state);

@@ -2,6 +2,7 @@ use Rattle.std.proofs.Common.{refl}
 use Rattle.dup_buffer.specs.Copies.{with_copy}
 use Rattle.gw_base.specs.declared.key_state.KeyState.TheVariants.{Held}
 use Rattle.gateway_book.specs.Sides.{no_place, numbered_nodes}
+use Rattle.gateway_book.proofs.HeldStates.{copied_told}
 use Rattle.gateway_book.proofs.IndexLemmas.{both_stepped, few_held, new_facts, none_there}
 use Rattle.gateway_book.proofs.index.Index.hold.Goals as goal
 
@@ -19,6 +20,9 @@ hold-requires-clause-free c = none_there _ ((new_facts c.args.self.now c.args.no
 
 pub hold-requires-clause-few : goal.hold-requires-clause-few
 hold-requires-clause-few c = few_held c.args.self.now c.args.node c.requires.few
+
+pub invariant_of-self : goal.invariant_of-self
+invariant_of-self c = record { told = copied_told c.args.node c.args.number _ _ _ _ c.set.ensures c.hold.ensures c.args.self.now.told }
 
 pub returns : goal.returns
 returns c = both_stepped (numbered_nodes c.args.node c.args.number Held) (with_copy c.args.node.0 c.args.number no_place) c.args.self.now _ c.set.ensures c.hold.ensures refl refl
