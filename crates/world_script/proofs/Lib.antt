@@ -1,7 +1,10 @@
 pub mod AddressLemmas
 pub mod ArityLemmas
 pub mod FormLemmas
+pub mod HexadecimalLemmas
+pub mod KeywordLemmas
 pub mod LineLemmas
+pub mod NumberLemmas
 pub mod OctetLemmas
 pub mod PrintLemmas
 pub mod PrintedLemmas

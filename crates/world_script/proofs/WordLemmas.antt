@@ -1,10 +1,10 @@
 -- Lemmas on the words of a line: those of a line that is printed, and how long a line with some words is at least.
-use Rattle.std.proofs.Common.{◌≡◌, ℕ, ◌+◌, ◌<◌, ◌≤◌, Bool, true, false, not, ◌==◌, nat_le, if◌then◌else◌, List, [], ◌∷◌, ◌++◌, length, refl, ap, ◌∙◌, arith, append-nil, length-append, filter}
+use Rattle.std.proofs.Common.{◌≡◌, ℕ, ◌+◌, ◌<◌, ◌≤◌, Bool, true, false, not, ◌==◌, nat_le, if◌then◌else◌, List, [], ◌∷◌, ◌++◌, length, refl, ap, ◌∙◌, arith, append-nil, append_assoc, length-append, filter, Option, Some, None, option_map, sym, subst}
 use Rattle.std.proofs.lemmas.Bool.{and_parts, leb-true}
 use Rattle.std.proofs.lemmas.List.Folds.{list_all-append}
 use Rattle.std.specs.Int.{is_in_range}
 use Rattle.std.specs.List.{onto_first, slice_split}
-use Rattle.route_filter.specs.Words.{is_empty, words_of}
+use Rattle.route_filter.specs.Words.{cut_at, is_empty, with_word, words_of}
 use Rattle.world_script.specs.Printing.{words_text}
 use Rattle.world_script.specs.Text.{is_printable}
 
@@ -146,3 +146,40 @@ pub joined_printable : (word : List ℕ) (words : List (List ℕ)) → IsWord wo
     is_printable (word ++ words_text words) ≡ true
 joined_printable word words h hs =
     both_printable word (words_text words) (glyphs_printable word h.1) (words_printable words hs)
+
+-- A line that is cut at its spaces.
+
+abbrev pub PartsAre : List ℕ → Option (List ℕ × List ℕ) → Type 0
+PartsAre xs None = parts_of xs ≡ xs ∷ []
+PartsAre xs (Some p) = parts_of xs ≡ p.0 ∷ parts_of p.1
+
+parts_after : (x : ℕ) (xs : List ℕ) (b : Bool) → (x == 32) ≡ b → (parts : Option (List ℕ × List ℕ)) → PartsAre xs parts →
+    PartsAre (x ∷ xs) (if b then Some ([], xs) else option_map (λ p. (x ∷ p.0, p.1)) parts)
+parts_after x xs true e parts h = rw e refl
+parts_after x xs false e None h = rw e (ap (onto_first x) h)
+parts_after x xs false e (Some p) h = rw e (ap (onto_first x) h)
+
+parts_at : (xs : List ℕ) → PartsAre xs (cut_at 32 xs)
+parts_at [] = refl
+parts_at (x ∷ xs) = parts_after x xs (x == 32) refl (cut_at 32 xs) (parts_at xs)
+
+with_first : (word : List ℕ) (words : List (List ℕ)) →
+    filter (λ w. not (is_empty w)) (word ∷ words) ≡ with_word word [] ++ filter (λ w. not (is_empty w)) words
+with_first [] words = refl
+with_first (x ∷ xs) words = refl
+
+-- a space stands in the rest of the line
+pub word_taken : (front new : List (List ℕ)) (xs before later : List ℕ) (all : List (List ℕ)) → Some (before, later) ≡ cut_at 32 xs →
+    new ≡ front ++ with_word before [] → front ++ words_of xs ≡ all → new ++ words_of later ≡ all
+word_taken front new xs before later all e grown so_far =
+    let parts : parts_of xs ≡ before ∷ parts_of later = subst (PartsAre xs) (sym e) (parts_at xs) in
+    let words : words_of xs ≡ with_word before [] ++ words_of later =
+    ap (filter (λ w. not (is_empty w))) parts ∙ with_first before (parts_of later) in
+    ap (λ (ws : List (List ℕ)). ws ++ words_of later) grown ∙ append_assoc front (with_word before []) (words_of later)
+    ∙ ap (λ (ws : List (List ℕ)). front ++ ws) (sym words) ∙ so_far
+
+-- none does
+pub last_word : (xs : List ℕ) → None ≡ cut_at 32 xs → words_of xs ≡ with_word xs []
+last_word xs e =
+    let parts : parts_of xs ≡ xs ∷ [] = subst (PartsAre xs) (sym e) (parts_at xs) in
+    ap (filter (λ w. not (is_empty w))) parts ∙ with_first xs [] ∙ append-nil (with_word xs [])

@@ -13,11 +13,13 @@
 mod arming;
 mod extent;
 mod fault;
+mod hexadecimal;
 mod keyword;
 mod kind;
 pub mod laws;
 mod line;
 mod mode;
+mod numbers;
 mod printing;
 mod progress;
 mod records;
@@ -26,6 +28,7 @@ mod saying;
 mod script;
 mod text;
 mod values;
+mod words;
 
 pub use fault::{InputFault, InputKind};
 pub use kind::ScriptKind;

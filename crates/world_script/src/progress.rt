@@ -9,7 +9,7 @@ use crate::kind::ScriptKind;
 use crate::line::Line;
 use crate::saying::said_by;
 use crate::text::{TextLine, is_blank, is_printable};
-use route_filter::words;
+use crate::words::split;
 use std::alloc::Global;
 
 /// The most octets that the text of a script may have.
@@ -64,8 +64,13 @@ impl Progress {
         }
     }
 
-    /// What the next line says.
-    pub fn read(self, alloc: Global, line: &TextLine<'_>) -> Result<Line, LineFault>
+    /// What the next line says. Its words are put in the place of those before.
+    pub fn read<'a>(
+        self,
+        alloc: Global,
+        line: &TextLine<'a>,
+        words: &mut Vec<&'a [u8]>,
+    ) -> Result<Line, LineFault>
         requires { self.size + line_size (lent_line line.now) < 2 ^ 64 }
         ensures { Says (reading_of self (lent_line line.now)) result }
     {
@@ -79,7 +84,7 @@ impl Progress {
         if !is_printable(content) {
             return Err(LineFault::Refused(InputKind::Word));
         }
-        let words = words(alloc, content)?;
+        split(words, content)?;
         let Some((first, rest)) = words.split_first() else {
             return Err(LineFault::Refused(InputKind::Word));
         };

@@ -84,9 +84,10 @@ pub fn read(alloc: Global, text: &[u8], kind: ScriptKind) -> Result<Script, Inpu
 {
     let mut lines = Vec::new(alloc);
     let mut progress = Progress::begin(kind);
+    let mut words = Vec::new(alloc);
     let mut rest = text;
     while let Some((raw, later)) = first_line(rest) {
-        let line = match progress.read(alloc, &raw) {
+        let line = match progress.read(alloc, &raw, &mut words) {
             Ok(line) => line,
             Err(fault) => return Err(at(progress.place, fault)),
         };

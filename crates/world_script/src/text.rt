@@ -1,7 +1,9 @@
-ghost use Rattle.std.specs.Prelude.{◌≡◌, ◌+◌, ◌<◌, [], ◌∷◌, length, MatchOption};
+ghost use Rattle.std.specs.Prelude.{◌≡◌, ◌+◌, ◌<◌, [], ◌∷◌, length, option_map, IfSome, MatchOption};
+ghost use Rattle.std.specs.Int.{is_in_range};
+ghost use Rattle.route_filter.specs.Words.{cut_at, cut_parts};
 ghost use Rattle.world_script.specs.Text.{is_blank, is_printable, lent_line, line_size, raw_lines, without_return};
 
-use route_filter::cut;
+use memchr::memchr;
 
 const LINE_FEED: u8 = b'\n';
 
@@ -67,6 +69,19 @@ pub fn first_line(text: &[u8]) -> Option<(TextLine<'_>, &[u8])>
     }
 }
 
+/// What stands before the first octet that is the separator, and what follows it. It is made for long texts.
+pub fn cut(octets: &[u8], separator: u8) -> Option<(&[u8], &[u8])>
+    ensures parts { option_map cut_parts result ≡ cut_at separator octets.now }
+    ensures whole { IfSome result (λ parts. length parts.0.now + 1 + length parts.1.now ≡ length octets.now) }
+{
+    let Some(place) = memchr(separator, octets) else {
+        return None;
+    };
+    let (before, _) = octets.split_at(place);
+    let (_, after) = octets.split_at(place + 1);
+    Some((before, after))
+}
+
 fn without_return(octets: &[u8]) -> &[u8]
     ensures { result.now ≡ without_return octets.now }
 {
@@ -87,8 +102,19 @@ pub fn is_blank(content: &[u8]) -> bool
 }
 
 /// Whether all octets are printable ones of ASCII.
+#[tactic(auto, using(crate::proofs::TextLemmas::printable_more, crate::proofs::TextLemmas::printable_all))]
 pub fn is_printable(content: &[u8]) -> bool
     ensures { result ≡ is_printable content.now }
 {
-    content.iter().all(|octet| (b' '..=b'~').contains(octet))
+    let mut printable = true;
+    for octet in content {
+        printable &= is_glyph(*octet);
+    }
+    printable
+}
+
+fn is_glyph(octet: u8) -> bool
+    ensures { result ≡ is_in_range 32 126 octet }
+{
+    (b' '..=b'~').contains(&octet)
 }
