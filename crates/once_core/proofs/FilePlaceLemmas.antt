@@ -175,6 +175,22 @@ is_at settings h place filing is =
     let index = of_numbered 0 file.0.1 found.0 found.1 in
     at_from settings h place filing stream.0 file.0 found.0 found.2 number.0 number.1 number.2 index.0 index.1 index.2
 
+in_that : (ss : List ℕ) (place : FilePlace) (filing : FiledRecord) (s sequence : ℕ) (x : ℕ × Filed FiledRecord) → at_place s sequence x ≡ (place, filing)
+    → Contains ss s → Contains ss place.stream
+in_that ss place filing s sequence x is there =
+    let same : s ≡ place.stream = ap (λ (p : FilePlace × FiledRecord). p.0.stream) is in subst (Contains ss) same there
+
+-- the place is in a stream that the rules may choose
+pub stream_there : (settings : Settings) (h : List HistoryEntry) (place : FilePlace) (filing : FiledRecord) → Contains (placed settings h) (place, filing)
+    → Contains (streams_of settings) place.stream
+stream_there settings h place filing is =
+    let runs : ℕ → List (ℕ × List (Filed FiledRecord)) = λ s. enumerate_from 1 (filed_runs settings s h) in
+    let records : ℕ → ℕ × List (Filed FiledRecord) → List (FilePlace × FiledRecord) = λ s file. map (at_place s file.0) (enumerate_from 0 file.1) in
+    let stream = of_flat_map (λ s. flat_map (records s) (runs s)) (streams_of settings) (place, filing) is in
+    let file = of_flat_map (records stream.0) (runs stream.0) (place, filing) stream.2 in
+    let found = of_map (at_place stream.0 file.0.0) (enumerate_from 0 file.0.1) (place, filing) file.2 in
+    in_that (streams_of settings) place filing stream.0 file.0.0 found.0 found.2 stream.1
+
 -- it went to the stream, and was filed
 in_stream : Divides → (settings : Settings) (s : ℕ) (h : List HistoryEntry) (k : ℕ) (run : List (Filed FiledRecord)) (i : ℕ) (r : Filed FiledRecord)
     → slice_get (filed_runs settings s h) k ≡ Some run → slice_get run i ≡ Some r

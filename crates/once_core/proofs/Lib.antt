@@ -76,6 +76,8 @@ pub mod LifeNodes
 pub mod LifeWorlds
 pub mod PresentLemmas
 pub mod RisingLemmas
+pub mod LeadingLemmas
 pub mod MarkLemmas
 pub mod StandsLemmas
+pub mod ReadableLemmas
 pub mod ToldLemmas

@@ -1,8 +1,8 @@
 -- What holds of what turns make of each first world of a gateway or more holds of each world that is reached.
-use Rattle.std.proofs.Common.{◌≡◌, ℕ, ◌≤◌, List, [], ◌∷◌, ◌++◌, map, refl, ap, subst, ◌∙◌}
+use Rattle.std.proofs.Common.{◌≡◌, ℕ, ◌≤◌, List, map, refl, subst}
 use Rattle.once_core.specs.Beginning.{IsReached, first_world, world_of}
 use Rattle.once_core.specs.Gateway.{Rules}
-use Rattle.once_core.specs.Turn.{RuledTurn, Turn, ruled, ruled_turns, turn, turns}
+use Rattle.once_core.specs.Turn.{RuledTurn, Turn, ruled, ruled_turns, turns}
 use Rattle.once_core.specs.World.{World}
 use Rattle.once_core.proofs.WorldOnceLemmas.{same_worlds}
 
@@ -16,18 +16,3 @@ reached_by rules gateways nodes all some = record { rules = rules; gateways = ga
 pub reached_alike : (rules : Rules) (gateways nodes : ℕ) (all : List Turn) → 1 ≤ gateways → IsReached (turns rules (world_of rules gateways nodes) all)
 reached_alike rules gateways nodes all some =
     subst IsReached (same_worlds rules gateways nodes all) (reached_by (λ place. rules) gateways nodes (map (ruled rules) all) some)
-
-ruled_more : (w : World) (all later : List RuledTurn) → ruled_turns w (all ++ later) ≡ ruled_turns (ruled_turns w all) later
-ruled_more w [] later = refl
-ruled_more w (t ∷ all) later = ruled_more (turn t.rules w t.turn) all later
-
-pub reached_on : (w : World) (later : List RuledTurn) → IsReached w → IsReached (ruled_turns w later)
-reached_on w later reached = record {
-  rules = reached.rules;
-  gateways = reached.gateways;
-  nodes = reached.nodes;
-  all = reached.all ++ later;
-  some = reached.some;
-  is = ruled_more (first_world reached.rules reached.gateways reached.nodes) reached.all later
-      ∙ ap (λ (v : World). ruled_turns v later) reached.is;
-}

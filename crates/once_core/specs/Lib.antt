@@ -14,11 +14,13 @@ pub mod FiledOnce
 pub mod Once
 pub mod FilePlaces
 pub mod StandsOnce
+pub mod Readable
 -- What else they say.
 pub mod Growing
 pub mod Admitted
 pub mod Worked
 -- ---- No promise above is read from here on.
+pub mod ReachedLaws
 -- What messages mean, and what a world is by that: letters, the deeds of nodes and the posts of gateways, in scenes. They
 -- are steps of the proof, with laws of their own; `Told` says of a world what its messages tell for certain.
 pub mod Deeds

@@ -20,6 +20,7 @@ mod gateway_turn;
 mod message;
 mod node_turn;
 pub mod once_laws;
+pub mod reading_laws;
 mod refusing;
 mod room;
 pub mod shown_laws;

@@ -1,18 +1,20 @@
 //! Laws of worlds. Each holds for all settings, and whatever a gateway is told, each time it asks, of which acts may be
 //! recorded and whether its batch is full. Each stands on a function that does nothing.
 
-ghost use Rattle.std.specs.Prelude.{◌≡◌, ◌-◌, ◌<◌, ◌≤◌, ◌++◌, ℕ, Bool, true, false, Contains, List, None, Some, count_by, length, slice_get};
+ghost use Rattle.std.specs.Prelude.{◌≡◌, ◌-◌, ◌<◌, ◌≤◌, ◌++◌, ℕ, Bool, true, false, All, Contains, List, None, Some, count_by, length, slice_get};
 ghost use Rattle.file_rotate.specs.Items.{Filed};
 ghost use Rattle.file_writer.specs.Places.{FilePlace, place_in, record_at};
 ghost use Rattle.file_writer.specs.Streams.{Settings, stream_record};
 ghost use Rattle.gateway_book.specs.Filed.{filed};
 ghost use Rattle.gateway_book.specs.Items.{items_of};
 ghost use Rattle.gateway_book.specs.Once.{is_record_of, times_filed};
+ghost use Rattle.gateway_book.specs.Told.{paths_of};
 ghost use Rattle.gateway_book.specs.Value.{BookValue, Gone, Refused, Whole, faulted, history_of, reopened, standing_for};
 ghost use Rattle.gateway_book.specs.declared.filing.FiledRecord.{FiledRecord};
 ghost use Rattle.gw_base.specs.History.{state_of};
 ghost use Rattle.gw_base.specs.declared.history.HistoryEntry.{HistoryEntry};
 ghost use Rattle.gw_base.specs.declared.history.PacketKey.{PacketKey};
+ghost use Rattle.once_core.specs.Addresses.{node_at};
 ghost use Rattle.once_core.specs.Admitted.{AllAdmitted, AllKeepLimits, AllLimited, AllMarksDue, KeepLimits, moves_on};
 ghost use Rattle.once_core.specs.Answers.{taken_in};
 ghost use Rattle.once_core.specs.Beginning.{IsReached, default_rules, first_world, world_of};
@@ -164,6 +166,18 @@ pub fn histories_keep_to_the_table()
 /// with the same start, and the present one begins with the greatest.
 pub fn starts_only_rise()
     ensures { (w : World) (place : ℕ) → IsReached w → StartsRise (firm_in w place) }
+{
+    gtpp_message::laws::written_is_read_back();
+    gtpp_message::laws::a_role_reads_what_is_read();
+    gtpp_message::laws::records_are_spelled();
+    node_core::laws::a_gateway_gets_one_copy();
+    a_node_follows_the_procedure();
+}
+
+/// Each path that a gateway knows is that of a node of its world.
+pub fn paths_lead_to_nodes()
+    ensures { (w : World) (place : ℕ) (g : Gateway) → IsReached w → slice_get w.gateways place ≡ Some g →
+        All (λ path. node_at path < length w.nodes) (paths_of (history_of g.book)) }
 {
     gtpp_message::laws::written_is_read_back();
     gtpp_message::laws::a_role_reads_what_is_read();
