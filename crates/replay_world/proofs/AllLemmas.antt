@@ -84,6 +84,7 @@ stands_same v k g m old new r stands stood has_gateway has_machine rest gateways
           (subst (λ (rs : List real.Machine). EachStands v.setup 0 (set v.world.gateways k g) (set v.machines k m) rs)
           (sym gateways) each));
       few_gateways = stands.few_gateways;
+      reached = stands.reached;
       few_nodes = stands.few_nodes;
       nodes = ap (λ (p : Replay). p.nodes.items) rest ∙ stands.nodes;
       starts = stands.starts;

@@ -2,7 +2,7 @@
 use Rattle.std.proofs.Common.{◌≡◌, ◌∙◌, refl, sym, ap, subst, ℕ, zero, suc, ◌+◌, ◌≤◌, List, [], ◌∷◌, ◌++◌, All, length, arith, vec_capacity, false}
 use Rattle.node_core.specs.Log.{LogEntry, Began}
 use Rattle.node_core.specs.Value.{NodeValue}
-use Rattle.once_core.specs.Beginning.{first_gateway, times_of}
+use Rattle.once_core.specs.Beginning.{IsReached, first_gateway, times_of}
 use Rattle.once_core.specs.Expired.{starts_in}
 use Rattle.once_core.specs.Gateway.{Gateway}
 use Rattle.once_core.specs.World.{node_value}
@@ -78,18 +78,19 @@ began_counts =
     record { some = omega (arith, one); most = omega (arith, one); counter = refl }
 
 -- A replay that has begun.
-pub begun_stands : (s : Setup) (r : Replay) →
+pub begun_stands : (s : Setup) (r : Replay) → IsReached (begun s).world →
     EachStands s 0 (times_of s.gateways (first_gateway (rules_in s))) (times_of s.gateways first_machine) r.gateways.items →
     s.gateways ≤ 255 → s.nodes ≤ 255 → r.nodes.items ≡ nodes_from s.gateways 0 (times_of s.nodes (Began ∷ [])) →
     r.moment ≡ 0 → r.messages.items ≡ [] → r.waiting.keys ≡ [] → r.areas.items ≡ [] → r.shelves.items ≡ [] →
     s.gateways ≤ vec_capacity r.areas → s.gateways ≤ vec_capacity r.shelves → r.has_failed ≡ false → Stands (begun s) r
-begun_stands s r each few few_nodes nodes moment messages waits no_areas no_shelves areas shelves whole =
+begun_stands s r reached each few few_nodes nodes moment messages waits no_areas no_shelves areas shelves whole =
     let count : length (times_of s.gateways (first_gateway (rules_in s))) ≡ s.gateways =
     times_length s.gateways (first_gateway (rules_in s)) in
     let machines = (each_lengths s 0 (times_of s.gateways (first_gateway (rules_in s))) (times_of s.gateways first_machine)
     r.gateways.items each).1 in
     let logs : length (times_of s.nodes (Began ∷ [])) ≡ s.nodes = times_length s.nodes (Began ∷ []) in
     record {
+      reached = reached;
       gateways = each;
       few_gateways = omega (arith, count, few);
       few_nodes = omega (arith, logs, few_nodes);

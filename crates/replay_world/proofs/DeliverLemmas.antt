@@ -26,6 +26,7 @@ passed_stands v number old new stands rest keys = record {
   gateways = subst (λ (r : Replay). EachStands v.setup 0 v.world.gateways v.machines r.gateways.items) (sym rest)
       stands.gateways;
   few_gateways = stands.few_gateways;
+  reached = stands.reached;
   few_nodes = stands.few_nodes;
   nodes = ap (λ (r : Replay). r.nodes.items) rest ∙ stands.nodes;
   starts = stands.starts;

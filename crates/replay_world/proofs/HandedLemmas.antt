@@ -140,6 +140,7 @@ module _ (setup : Setup) (place : ℕ) (g : Gateway) (m : Machine) (a : MemoryAr
     firm = settled.firm;
     area = subst (λ (h : List HistoryEntry). StandsFitFor (header_at setup place) (area_tells.octets a) h)
         (left_firm g is.area.history is.area.kept settled.runs settled.firm) is.area.holds.stands;
+    size = is.area.size;
     crash = is.area.crash settled.runs settled.whole;
     files = all_files;
     shut = settled.shut;

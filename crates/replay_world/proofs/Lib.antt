@@ -39,6 +39,7 @@ mod PickLemmas
 mod PrintedLemmas
 mod QuietLemmas
 mod RangeLemmas
+mod ReadableLemmas
 mod ReasonLemmas
 mod RedirectLemmas
 mod RefusalLemmas

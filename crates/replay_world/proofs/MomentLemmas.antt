@@ -1,6 +1,7 @@
 -- The present moment of a replay.
 use Rattle.std.proofs.Common.{◌≡◌, ◌∙◌, sym, ap, subst, ℕ, suc, ◌≤◌, List, [], ◌++◌, length, map, drop, None, vec_capacity, append-nil}
 use Rattle.std.specs.List.{enumerate_from}
+use Rattle.once_core.specs.Beginning.{IsReached}
 use Rattle.once_core.specs.Turn.{calm, refusal_of}
 use Rattle.once_core.specs.World.{World}
 use Rattle.once_core.specs.declared.event.Event.{Event}
@@ -14,11 +15,12 @@ use Rattle.replay_world.specs.Telling.{sent_notices}
 use Rattle.replay_world.specs.Value.{ReplayValue}
 use Rattle.replay_world.specs.declared.replay.Replay.{Replay}
 use Rattle.replay_world.proofs.NodeHearLemmas.{drop_all}
-use Rattle.replay_world.proofs.StepLemmas.{allowed_turn}
+use Rattle.replay_world.proofs.StepLemmas.{allowed_turn, reached_after}
 
 moment_set : (v : ReplayValue) (moment : ℕ) (old new : Replay) → Stands v old →
-    new ≡ record old { moment = moment } → Stands (record v { world = record v.world { now = moment } }) new
-moment_set v moment old new stands rest = record {
+    IsReached (record v.world { now = moment }) → new ≡ record old { moment = moment } → Stands (record v { world = record v.world { now = moment } }) new
+moment_set v moment old new stands reached rest = record {
+  reached = reached;
   gateways = subst (λ (r : Replay). EachStands v.setup 0 v.world.gateways v.machines r.gateways.items) (sym rest)
       stands.gateways;
   few_gateways = stands.few_gateways;
@@ -53,6 +55,7 @@ does_moment v moment old new allowed stands rest =
     let after_is : after_step v (Plays e) ≡ record v { world = record v.world { now = moment } } =
     λ i. record { setup = v.setup; world = world i; machines = v.machines; waiting = waits i } in
     record {
-      stands = subst (λ (u : ReplayValue). Stands u new) (sym after_is) (moment_set v moment old new stands rest);
+      stands = subst (λ (u : ReplayValue). Stands u new) (sym after_is)
+          (moment_set v moment old new stands (subst IsReached world (reached_after v (Plays e) stands.reached)) rest);
       prints = sym (ap (λ (ss : List (ℕ × Message)). notice_lines (sent_notices ss ++ [])) none);
     }

@@ -18,7 +18,7 @@ use Rattle.replay_world.specs.declared.machine.Machine as real
 use Rattle.replay_world.specs.declared.machine.Sent.{Sent}
 use Rattle.replay_world.specs.declared.replay.Replay.{Replay}
 use Rattle.replay_world.proofs.StandsLemmas.{each_set}
-use Rattle.replay_world.proofs.StepLemmas.{IsAt, site_is, world_moved}
+use Rattle.replay_world.proofs.StepLemmas.{IsAt, reached_after, site_is, world_moved}
 
 pub drop_front : {A : Type 0} (xs ys : List A) → drop (length xs) (xs ++ ys) ≡ ys
 drop_front [] ys = refl
@@ -178,6 +178,7 @@ module _ (v : ReplayValue) (e : Event) (number : ℕ) (g : Gateway) (m : Machine
 
     pub stands_after : Stands (after_step v (Plays e)) new
     stands_after = record {
+      reached = reached_after v (Plays e) stands.reached;
       gateways = gateways_stand;
       few_gateways = subst (λ (n : ℕ). n ≤ 255) (sym same_gateways) stands.few_gateways;
       few_nodes = subst (λ (w : World). length w.nodes ≤ 255) (sym world_is) stands.few_nodes;

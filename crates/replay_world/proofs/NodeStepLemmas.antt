@@ -27,6 +27,7 @@ use Rattle.replay_world.specs.Value.{Machine, ReplayValue}
 use Rattle.replay_world.specs.declared.replay.Replay.{Replay}
 use Rattle.replay_world.proofs.MovedLemmas.{all_within, drop_front, numbers_from_one, numbers_within}
 use Rattle.replay_world.proofs.PrintedLemmas.{lines_join}
+use Rattle.replay_world.proofs.StepLemmas.{reached_after}
 
 -- The restart counter.
 
@@ -212,6 +213,7 @@ module _ (v : ReplayValue) (e : Event) (place : ℕ) (log : List LogEntry) (call
 
       pub stands_called : Stands (after_step v (Plays e)) new
       stands_called = record {
+        reached = reached_after v (Plays e) stands.reached;
         gateways = subst (λ (w : World). EachStands v.setup 0 w.gateways (machines_in v e) new.gateways.items) (sym world_called)
             (subst (λ (ms : List Machine). EachStands v.setup 0 v.world.gateways ms new.gateways.items) (sym at.machines)
             (subst (λ (p : Replay). EachStands v.setup 0 v.world.gateways v.machines p.gateways.items) (sym old_rest)

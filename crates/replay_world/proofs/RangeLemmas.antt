@@ -47,11 +47,11 @@ taken : {A E : Type 0} (b : Bool) (e : E) (r : Result A E) (x : A) → (if b the
 taken true e r x h = (refl, h)
 taken false e r x h = let no : ⊥ = cc in absurd no
 
-where_some : {A : Type 0} (b : Bool) (o : Option A) (x : A) → (if b then o else None) ≡ Some x → (b ≡ true) × (o ≡ Some x)
+pub where_some : {A : Type 0} (b : Bool) (o : Option A) (x : A) → (if b then o else None) ≡ Some x → (b ≡ true) × (o ≡ Some x)
 where_some true o x h = (refl, h)
 where_some false o x h = let no : ⊥ = cc in absurd no
 
-then_some : {A B : Type 0} (o : Option A) (f : A → Option B) (y : B) → option_and_then f o ≡ Some y → (x : A) × (o ≡ Some x) × (f x ≡ Some y)
+pub then_some : {A B : Type 0} (o : Option A) (f : A → Option B) (y : B) → option_and_then f o ≡ Some y → (x : A) × (o ≡ Some x) × (f x ≡ Some y)
 then_some None f y h = let no : ⊥ = cc in absurd no
 then_some (Some x) f y h = (x, refl, h)
 
@@ -65,7 +65,7 @@ at_most_within most v n h =
     let found = where_some (nat_le v most) (Some v) n h in
     subst (λ m. m ≤ most) (same_number v n found.1) (leb-true v most found.0)
 
-number_within : (most : ℕ) (word : List ℕ) (n : ℕ) → number_up_to most word ≡ Some n → n ≤ most
+pub number_within : (most : ℕ) (word : List ℕ) (n : ℕ) → number_up_to most word ≡ Some n → n ≤ most
 number_within most word n h =
     at_most_within most (digits_value 10 word) n (where_some (is_decimal word) (at_most most (digits_value 10 word)) n h).1
 
@@ -75,7 +75,7 @@ number_from least most word n h =
     let kept = where_some (nat_le least found.0) (Some found.0) n found.2 in
     subst (λ k. (least ≤ k) × (k ≤ most)) (same_number found.0 n kept.1) (leb-true least found.0 kept.0, number_within most word found.0 found.1)
 
-pos_within : (n : ℕ) → n ≤ 959 → IsWithin 959 (pos n)
+pub pos_within : (n : ℕ) → n ≤ 959 → IsWithin 959 (pos n)
 pos_within n h = (grind (arith, ints), grind (arith, ints))
 
 neg_within : (n : ℕ) → n ≤ 959 → IsWithin 959 (neg_ℤ (pos n))
@@ -496,7 +496,7 @@ pub script_within : (of : ScriptKind) (text : List ℕ) (lines : List Line) → 
 script_within of text lines h =
     omega (arith, (after_fine of 0 [] (raw_lines text) lines no_lines (omega arith) h).short, size_of-raw_lines text)
 
-lines_in_range : (of : ScriptKind) (text : List ℕ) (lines : List Line) → script_in of text ≡ Ok lines → AreInRange lines
+pub lines_in_range : (of : ScriptKind) (text : List ℕ) (lines : List Line) → script_in of text ≡ Ok lines → AreInRange lines
 lines_in_range of text lines h =
     let all = after_fine of 0 [] (raw_lines text) lines no_lines (omega arith) h in
     record {

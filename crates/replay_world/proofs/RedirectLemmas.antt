@@ -1,6 +1,7 @@
 -- The requests of a gateway to all nodes that it has a path to.
-use Rattle.std.proofs.Common.{◌≡◌, ◌∙◌, refl, sym, ap, subst, ℕ, zero, suc, ◌+◌, ◌%◌, ◌≤◌, false, List, [], ◌∷◌, ◌++◌, length, map, take, Option, Some, None, option_and_then, option_map, slice_get, take_all, arith}
+use Rattle.std.proofs.Common.{◌≡◌, ◌∙◌, refl, sym, ap, subst, ℕ, zero, suc, ◌+◌, ◌%◌, ◌≤◌, ◌<◌, false, List, [], ◌∷◌, ◌++◌, All, length, map, take, Option, Some, None, option_and_then, option_map, slice_get, take_all, arith}
 use Rattle.std.specs.List.{cons_option, filter_map}
+use Rattle.std.proofs.lemmas.List.Elements.{All-head, All-tail}
 use Rattle.area_disk.specs.declared.memory.MemoryArea.{MemoryArea}
 use Rattle.gateway_book.specs.Book.{value_of}
 use Rattle.gateway_book.specs.Limits.{most_nodes}
@@ -11,11 +12,12 @@ use Rattle.gw_base.specs.Known.{known_nodes}
 use Rattle.gw_base.specs.Starts.{start_of}
 use Rattle.gw_base.specs.declared.address.Addr.{Addr}
 use Rattle.gw_base.specs.declared.address.NodeId.{NodeId}
-use Rattle.once_core.specs.Answers.{redirected}
+use Rattle.once_core.specs.Addresses.{node_at}
+use Rattle.once_core.specs.Answers.{redirected, redirecting}
 use Rattle.once_core.specs.Gateway.{Gateway}
 use Rattle.once_core.specs.declared.message.Message.{Message}
 use Rattle.replay_world.specs.Called.{book_in}
-use Rattle.replay_world.specs.Redirecting.{asking, path_in}
+use Rattle.replay_world.specs.Redirecting.{KnowsNear, asking, path_in}
 use Rattle.replay_world.specs.Moves.{HasMoved}
 use Rattle.replay_world.specs.Setup.{Setup}
 use Rattle.replay_world.specs.Stands.{MachineStands, SiteStands, area_tells}
@@ -135,10 +137,27 @@ book_there setup place g m None runs stands = absurd stands
 book_there setup place g m (Some (Up book)) runs stands = ap Some stands.up.value
 book_there setup place g m (Some (Down fallen)) runs stands = absurd (cc (sym runs ∙ stands.stopped))
 
-pub asked_as : (place cause number : ℕ) (to : Option ℕ) (g : Gateway) → number ≡ g.redirects % 65536 →
-    map (asks_path place cause number to g.book) (paths_of (history_of g.book)) ≡ (redirected place cause to g).sends
-asked_as place cause number to g is =
-    ap (λ (n : ℕ). map (asks_path place cause n to g.book) (paths_of (history_of g.book))) is
+module _ (place cause number : ℕ) (to : Option ℕ) (g : Gateway) (is : number ≡ g.redirects % 65536) where
+  -- the request to a node whose number is an octet
+  asked_path : (path : Addr) → node_at path < 256 →
+      asks_path place cause number to g.book path ≡ redirecting place cause to g path
+  asked_path path near =
+      let whole : node_at path % 256 ≡ node_at path = omega (arith, near) in
+      ap (λ (n : ℕ). record (asks_path place cause number to g.book path) { node = n }) whole
+      ∙ ap (λ (n : ℕ). record (asks_path place cause n to g.book path) { node = node_at path }) is
+
+  asked_paths : (paths : List Addr) → All (λ path. node_at path < 256) paths →
+      map (asks_path place cause number to g.book) paths ≡ map (redirecting place cause to g) paths
+  asked_paths [] near = refl
+  asked_paths (path ∷ paths) near =
+      ap (λ (m : Message). m ∷ map (asks_path place cause number to g.book) paths)
+      (asked_path path (All-head (λ p. node_at p < 256) path paths near))
+      ∙ ap (λ (ms : List Message). redirecting place cause to g path ∷ ms)
+      (asked_paths paths (All-tail (λ p. node_at p < 256) path paths near))
+
+  pub asked_as : KnowsNear g →
+      map (asks_path place cause number to g.book) (paths_of (history_of g.book)) ≡ (redirected place cause to g).sends
+  asked_as near = asked_paths (paths_of (history_of g.book)) near
 
 -- Its count of redirections rises.
 

@@ -16,6 +16,7 @@ use Rattle.replay_world.specs.declared.machine.Machine as real
 use Rattle.replay_world.specs.declared.replay.Replay.{Replay}
 use Rattle.replay_world.proofs.MovedLemmas.{all_within, drop_front, numbers_from_one, numbers_within}
 use Rattle.replay_world.proofs.StandsLemmas.{each_set}
+use Rattle.replay_world.proofs.StepLemmas.{reached_after}
 
 module _ (v : ReplayValue) (step : Step) (k : ℕ) (g : Gateway) (m : Machine) (told : List Message) where
   -- The step sets the gateway in a place, and what it runs on, and sends these messages.
@@ -130,6 +131,7 @@ module _ (v : ReplayValue) (step : Step) (k : ℕ) (g : Gateway) (m : Machine) (
 
       pub stands_set : Stands (after_step v step) new
       stands_set = record {
+        reached = reached_after v step stands.reached;
         gateways = gateways_stand;
         few_gateways = subst (λ (n : ℕ). n ≤ 255) (sym same_gateways) stands.few_gateways;
         few_nodes = subst (λ (w : World). length w.nodes ≤ 255) (sym sets.world) stands.few_nodes;

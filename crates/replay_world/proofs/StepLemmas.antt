@@ -3,7 +3,9 @@ use Rattle.std.proofs.Common.{◌≡◌, ◌∙◌, refl, ap, ℕ, ◌+◌, ◌-
 use Rattle.std.specs.Option.{option_map_or}
 use Rattle.gateway_book.specs.Up.{Sequel, GoesOn, Breaks, Stops, fortune_by}
 use Rattle.gateway_book.specs.Value.{Fortune}
+use Rattle.once_core.specs.Beginning.{IsReached}
 use Rattle.once_core.specs.Gateway.{Gateway, Moved, cut, still}
+use Rattle.once_core.specs.ReachedLaws.{reached_then}
 use Rattle.once_core.specs.Turn.{Turn, at_gateway, calm, gateway_moved, lost_if, no_running_gateway, refusal_of, turn, turn_by, unless_refused}
 use Rattle.once_core.specs.World.{World}
 use Rattle.once_core.specs.declared.event.Event.{Event}
@@ -11,8 +13,18 @@ use Rattle.once_core.specs.declared.event.WorldKind.{WorldKind}
 use Rattle.replay_world.specs.Device.{asked_of, entries_kept, is_stop, place_asked, sequel_on, turn_with}
 use Rattle.replay_world.specs.Moves.{moved_by}
 use Rattle.replay_world.specs.Setup.{rules_in}
-use Rattle.replay_world.specs.Steps.{Site, Plays, site_in, site_of, site_with, turn_at, world_after}
+use Rattle.replay_world.specs.Steps.{Site, Step, Arms, ArmsShelf, Disarms, Loses, Plays, Tells, Writes, site_in, site_of, site_with, turn_at, turn_of, world_after}
 use Rattle.replay_world.specs.Value.{Machine, ReplayValue}
+
+-- a step of a world that is reached reaches one
+pub reached_after : (v : ReplayValue) (step : Step) → IsReached v.world → IsReached (world_after v step)
+reached_after v (Plays e) reached = reached_then (rules_in v.setup) v.world (turn_of v e) reached
+reached_after v (Loses message) reached = reached
+reached_after v (Arms gateway armed) reached = reached
+reached_after v (ArmsShelf gateway armed) reached = reached
+reached_after v (Disarms gateway) reached = reached
+reached_after v (Writes gateway) reached = reached
+reached_after v (Tells notice) reached = reached
 
 -- a move at a gateway that is there
 pub moved_there : (w : World) (k : ℕ) (g : Gateway) (move : Gateway → Moved) → slice_get w.gateways k ≡ Some g →

@@ -20,9 +20,11 @@ abbrev pub LeavesHistory : Bool → Gateway → List HistoryEntry → Type 0
 LeavesHistory true g h = h ≡ history_of g.book
 LeavesHistory false g h = (h ≡ g.book.firm) ⊎ (h ≡ g.book.firm ++ g.book.rest)
 
--- The area of a gateway stands for its history, or, of one that isn't down, for the firm entries and maybe those behind
--- them. Of one that goes on a crash leaves the firm entries, whatever else it does to the area.
+-- The area of a gateway, as long as the settings say, stands for its history, or, of one that isn't down, for the firm
+-- entries and maybe those behind them. Of one that goes on a crash leaves the firm entries, whatever else it does to
+-- the area.
 pub record IsAreaOf (setup : Setup) (place : ℕ) (g : Gateway) (a : MemoryArea) : Type 0 where
+  pub size : area_tells.size a ≡ setup.size
   pub history : List HistoryEntry
   pub holds : HoldsHistory area_tells (header_at setup place) history a
   pub kept : LeavesHistory g.is_down g history

@@ -6,6 +6,7 @@ use Rattle.cdr_shelf.specs.declared.memory.MemoryShelf.{MemoryShelf}
 use Rattle.file_rotate.specs.Items.{Filed}
 use Rattle.file_writer.specs.Files.{AreFilesOf}
 use Rattle.file_writer.specs.Places.{FilePlace, record_at}
+use Rattle.file_writer.specs.Reading.{ReadsAt}
 use Rattle.file_writer.specs.Streams.{Settings, stream_division, stream_record}
 use Rattle.gateway_book.specs.Items.{items_of}
 use Rattle.gateway_book.specs.Opened.{StandsFitFor}
@@ -47,15 +48,16 @@ IsWritten v place = (g : Gateway) (m : Machine) → slice_get v.world.gateways p
 abbrev pub AreWritten : ReplayValue → Type 0
 AreWritten v = (place : ℕ) → IsWritten v place
 
--- A gateway with its area and its shelf, with nothing left to do: it runs, its journal is open, and its whole history is
--- firm. The area stands for that history, and a crash leaves it, whatever else it does to the area. The sealed files of
--- the shelf are those that the history's items are divided into, of each stream in their order, and no others; they have
--- all records, and no file is unsealed.
+-- A gateway with its area and its shelf, with nothing left to do: it runs, its journal is open, and its whole history
+-- is firm. The area, as long as the settings say, stands for that history, and a crash leaves it, whatever else it does
+-- to the area. The sealed files of the shelf are those that the history's items are divided into, of each stream in
+-- their order, and no others; they have all records, and no file is unsealed.
 pub record IsAtRest (setup : Setup) (place : ℕ) (g : Gateway) (a : MemoryArea) (shelf : MemoryShelf) : Type 0 where
   pub runs : g.is_down ≡ false
   pub whole : g.book.is_broken ≡ false
   pub firm : g.book.rest ≡ []
   pub area : StandsFitFor (header_at setup place) (area_tells.octets a) g.book.firm
+  pub size : area_tells.size a ≡ setup.size
   pub crash : (octets : List ℕ) → area_tells.may_leave a octets →
       StandsFitFor (header_at setup place) octets g.book.firm
   pub files : AreFilesOf (files_in setup place) (items_of g.book.firm) (shelf_tells.files shelf)
@@ -85,3 +87,12 @@ pub record StandInFiles (settings : ℕ → Settings) (w : World) : Type 0 where
   pub all : (gateway : ℕ) (place : FilePlace) (found : Filed (List ℕ)) →
       record_at (settings gateway) (items_of (firm_in w gateway)) place ≡ Some found →
       (filing : FiledRecord) × Contains (placed (settings gateway) (firm_in w gateway)) (place, filing)
+
+-- What stands at a place is read there: in the file of that name on its gateway's shelf, as `file_in` of `cdr_file`
+-- reads it, it is the CDR with the place's index.
+abbrev pub AreRead : (ℕ → Settings) → World → List MemoryShelf → Type 0
+AreRead settings w shelves =
+    (gateway : ℕ) (shelf : MemoryShelf) (place : FilePlace) (filing : FiledRecord) →
+    slice_get shelves gateway ≡ Some shelf → Contains (placed (settings gateway) (firm_in w gateway)) (place, filing) →
+    ReadsAt (shelf_tells.files shelf) place
+    (stream_record (settings gateway).profile filing.kind filing.octets filing.moment)

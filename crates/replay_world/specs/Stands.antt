@@ -14,6 +14,7 @@ use Rattle.gateway_book.specs.declared.book.Book.{Book}
 use Rattle.node_core.specs.Log.{LogEntry, counter_of}
 use Rattle.node_core.specs.Value.{NodeValue}
 use Rattle.once_core.specs.Addresses.{gateway_address}
+use Rattle.once_core.specs.Beginning.{IsReached}
 use Rattle.once_core.specs.Expired.{starts_in}
 use Rattle.once_core.specs.Gateway.{Gateway, is_reached}
 use Rattle.once_core.specs.World.{node_value}
@@ -109,8 +110,10 @@ EachStands setup place _ _ _ = ⊥
 abbrev pub has_failed : Replay → Bool
 has_failed replay = replay.has_failed
 
--- All gateways, nodes and messages stand for those of the value, and nothing lacked memory. A message that waits was sent.
+-- All gateways, nodes and messages stand for those of the value, whose world is reached, and nothing lacked memory. A
+-- message that waits was sent.
 pub record Stands (v : ReplayValue) (replay : Replay) : Type 0 where
+  pub reached : IsReached v.world
   pub gateways : EachStands v.setup 0 v.world.gateways v.machines replay.gateways.items
   pub few_gateways : length v.world.gateways ≤ 255
   pub few_nodes : length v.world.nodes ≤ 255

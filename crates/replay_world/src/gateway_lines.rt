@@ -25,6 +25,7 @@ use crate::replay::Replay;
 use crate::taking::{Delivery, Ending};
 use area_disk::Plan;
 use gw_base::{NoMemory, Octets};
+use once_core::world_laws::paths_lead_to_nodes;
 use std::alloc::Global;
 
 impl Replay {
@@ -109,6 +110,7 @@ impl Replay {
         if index >= self.gateways.len() {
             return Ok(());
         }
+        paths_lead_to_nodes();
         let messages = self.gateways[index].redirect(alloc, place, cause, to)?;
         self.send_all(alloc, messages, out)
     }

@@ -12,11 +12,12 @@ ghost use Rattle.once_core.specs.Once.{Once};
 ghost use Rattle.once_core.specs.StandsOnce.{StandsOnce};
 ghost use Rattle.once_core.specs.Turn.{turns};
 ghost use Rattle.replay_world.specs.Lines.{line_after, refusal_of_line, settled, turns_of};
-ghost use Rattle.replay_world.specs.Report.{book_of, gateway_report, gateway_text, lines_after, refused_from, refusal_of_lines, turns_from, turns_of_lines};
-ghost use Rattle.replay_world.specs.Settled.{AreShut, AreWritten, HaveMachines, IsAllWritten, StandInFiles};
+ghost use Rattle.replay_world.specs.Report.{book_of, gateway_report, gateway_text, lines_after, refused_from, refusal_of_lines, replayed, turns_from, turns_of_lines};
+ghost use Rattle.replay_world.specs.Settled.{AreRead, AreShut, AreWritten, HasPlayedOut, HaveMachines, IsAllWritten, StandInFiles};
 ghost use Rattle.replay_world.specs.Setup.{Setup, files_in, rules_in, setup_of};
 ghost use Rattle.replay_world.specs.Taken.{Allows, IsAsSaid};
 ghost use Rattle.replay_world.specs.Value.{Machine, ReplayValue, begun, replay_of};
+ghost use Rattle.replay_world.specs.declared.replay.Played.{Played};
 ghost use Rattle.world_script.specs.Sample.{sample_of};
 ghost use Rattle.world_script.specs.Script.{is_setting_line, most_text, script_in};
 ghost use Rattle.world_script.specs.World.{Scene, after_line, are_settings_first, first_scene, takes, takes_all};
@@ -120,3 +121,14 @@ pub fn no_line_of_a_sample_is_refused()
 pub fn a_history_filed_its_parts()
     ensures { (h : List HistoryEntry) → count_by is_part (items_of h) ≡ length (filed h) }
 {}
+
+/// Each record that the gateways of a script filed is read at its place, in the files that are handed out once nothing
+/// is left to do.
+pub fn what_is_handed_out_is_read()
+    ensures { (of : ScriptKind) (text : List ℕ) (lines : List Line) (played : Played) →
+        script_in of text ≡ Ok lines → HasPlayedOut (replayed lines) played →
+        AreRead (files_in (setup_of lines)) (replayed lines).world played.shelves.items }
+{
+    once_core::world_laws::what_stands_at_a_place_was_filed();
+    once_core::reading_laws::what_a_history_files_is_read();
+}

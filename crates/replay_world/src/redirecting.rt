@@ -3,7 +3,7 @@ ghost use Rattle.std.specs.Prelude.{◌≡◌, IfOk, false, option_and_then};
 ghost use Rattle.once_core.specs.Answers.{redirected};
 ghost use Rattle.once_core.specs.Gateway.{Gateway};
 ghost use Rattle.replay_world.specs.Called.{book_in};
-ghost use Rattle.replay_world.specs.Redirecting.{asking, path_in};
+ghost use Rattle.replay_world.specs.Redirecting.{KnowsNear, asking, path_in};
 ghost use Rattle.replay_world.specs.Moves.{HasMoved};
 ghost use Rattle.replay_world.specs.Setup.{Setup};
 ghost use Rattle.replay_world.specs.Stands.{MachineStands};
@@ -31,7 +31,7 @@ impl Machine {
         to: Option<u8>,
     ) -> Result<Vec<Message>, NoMemory>
         ensures { (setup : Setup) (g : Gateway) (m : MachineValue) →
-            MachineStands setup place g m self.old → g.is_down ≡ false →
+            MachineStands setup place g m self.old → g.is_down ≡ false → KnowsNear g →
             IfOk result (λ messages. HasMoved setup place
             (redirected place cause to g) m messages.items self.new) }
     {
@@ -49,7 +49,7 @@ impl Machine {
         to: Option<u8>,
     ) -> Result<Vec<Message>, NoMemory>
         ensures { (setup : Setup) (g : Gateway) (m : MachineValue) →
-            MachineStands setup place g m self.now → g.is_down ≡ false →
+            MachineStands setup place g m self.now → g.is_down ≡ false → KnowsNear g →
             IfOk result (λ messages. messages.items ≡ (redirected place cause to g).sends) }
     {
         a_book_is_within_the_limits::<MemoryArea>();
@@ -89,10 +89,7 @@ fn redirection_to(
 ) -> Result<Message, NoMemory>
     ensures { IfOk result (λ message. message ≡ asking place cause number to (path, start)) }
 {
-    // Each path is a node's.
-    let Ok(node) = u8::try_from(path.ip.saturating_sub(node_id(0).0)) else {
-        return Err(NoMemory);
-    };
+    let node = (path.ip.saturating_sub(node_id(0).0) % 256) as u8;
     let octets = kept(alloc, &redirection(number, cause, to))?;
     Ok(Message {
         to_gateway: false,

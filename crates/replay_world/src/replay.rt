@@ -20,6 +20,7 @@ use cdr_shelf::MemoryShelf;
 use gw_base::{Addr, Moment, NoMemory, Octets};
 use indexmap::IndexSet;
 use node_core::Node;
+use once_core::world_laws::turns_reach_worlds;
 use once_core::{Message, addresses_of, node_id};
 use std::alloc::Global;
 use world_script::Script;
@@ -60,6 +61,7 @@ impl Replay {
         ensures stands { IfOk result (Stands (replay_of script.now.lines)) }
         ensures gateways { OnOk result (1 ≤ (setup_of script.now.lines).gateways) }
     {
+        turns_reach_worlds();
         let settings = Settings::of(script);
         let gateways = machines_of(alloc, script, &settings)?;
         let addresses = addresses_of(alloc, settings.gateways)?;

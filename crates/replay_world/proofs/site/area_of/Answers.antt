@@ -18,6 +18,7 @@ returns-in-Some-Up c = λ setup place g m stands.
     (c.in-Some-Up.is ∙ ap (λ (y : Site). Some y) c.in-Some-Up.field-0-is) stands in
     let history = left_by_stop New c.in-Some-Up.book in
     record {
+      size = ap (λ (a : MemoryArea). area_tells.size a) c.into_area.ensures.area ∙ up.size;
       history = history;
       holds = record {
         stands = subst (λ (a : MemoryArea). StandsFitFor (header_at setup place) (area_tells.octets a) history)

@@ -17,8 +17,10 @@ returns-clause-stands c =
     c.in_ok-nodes.ensures c.of-settings.result.gateways (c.deref.ensures.value ∙ c.in_ok-addresses.ensures.addresses)
     ∙ ap (λ (n : ℕ). nodes_from n 0 (times_of c.of-settings.result.nodes (Began ∷ []))) (sym set.gateways)
     ∙ ap (λ (n : ℕ). nodes_from s.gateways 0 (times_of n (Began ∷ []))) (sym set.nodes) in
-    begun_stands s _ each (search rules) (search rules) nodes (search rules) (search rules) (search rules) (search rules)
-    (search rules) (search rules) (search rules) (search rules)
+    let reached = c.turns_reach_worlds.ensures.alike (rules_in s) s.gateways s.nodes []
+    (subst (λ (n : ℕ). 1 ≤ n) (sym set.gateways) c.of-settings.ensures.sound.some) in
+    begun_stands s _ reached each (search rules) (search rules) nodes (search rules) (search rules) (search rules)
+    (search rules) (search rules) (search rules) (search rules) (search rules)
 
 pub returns-clause-gateways : goal.returns-clause-gateways
 returns-clause-gateways c =

@@ -1,7 +1,12 @@
 use Rattle.std.proofs.Common.{◌≡◌, ◌∙◌, refl, sym, ap, subst, ℕ, ◌-◌, ◌<◌, length, set, Option, Some, slice_get, arith}
+use Rattle.std.proofs.lemmas.List.Elements.{All-weaker}
 use Rattle.std.proofs.lemmas.Option.{slice_get_read}
+use Rattle.gateway_book.specs.Told.{paths_of}
+use Rattle.gateway_book.specs.Value.{history_of}
+use Rattle.once_core.specs.Addresses.{node_at}
 use Rattle.once_core.specs.Answers.{redirected}
 use Rattle.replay_world.specs.Moves.{HasMoved}
+use Rattle.replay_world.specs.Redirecting.{KnowsNear}
 use Rattle.replay_world.specs.Stands.{MachineStands}
 use Rattle.replay_world.proofs.GatewayEventLemmas.{called_stands, machine_at, no_machine, runs_there}
 use Rattle.replay_world.proofs.GoesLemmas.{on_ok}
@@ -25,8 +30,13 @@ returns c = λ v number other stands is same none.
     let there = called_stands v number c.index_mut.result.now here in
     let runs = runs_there v.world number here.gateway here.has_gateway
     (runs_to_redirect v.world number c.args.cause other none) in
+    let few = stands.few_nodes in
+    let near : KnowsNear here.gateway =
+    All-weaker (λ p. node_at p < length v.world.nodes) (λ p. node_at p < 256) (λ p less. omega (arith, less, few))
+    (paths_of (history_of here.gateway.book))
+    (c.paths_lead_to_nodes.ensures v.world (number - 1) here.gateway stands.reached here.has_gateway) in
     let moved = c.in_ok-messages.ensures v.setup here.gateway here.machine
-    (subst (λ (p : ℕ). MachineStands v.setup p here.gateway here.machine c.index_mut.result.now) is there) runs in
+    (subst (λ (p : ℕ). MachineStands v.setup p here.gateway here.machine c.index_mut.result.now) is there) runs near in
     let as_said = subst (λ (o : Option ℕ). HasMoved v.setup (number - 1)
     (redirected (number - 1) c.args.cause o here.gateway) here.machine c.in_ok-messages.messages.items c.redirect.new.self)
     (sym same)
