@@ -3,13 +3,13 @@ use std::thread;
 use std::time::{Clock, Duration, Instant};
 
 /// So many datagrams are looked at together.
-const MANY: u32 = 16;
+const MANY: u32 = 8;
 
 /// Where they took less more of them wait, in microseconds.
-const LEAST: u128 = 30;
+const LEAST: u128 = 15;
 
 /// Where they took more few come, in microseconds.
-const MOST: u128 = 400;
+const MOST: u128 = 200;
 
 /// How long who receives rests, in microseconds. The system makes some fifty of it.
 const REST: u64 = 1;
