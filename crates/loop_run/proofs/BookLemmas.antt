@@ -1,11 +1,12 @@
 -- What a commit leaves of a book whose area never fails, and what an opening of one comes to.
-use Rattle.std.proofs.Common.{◌≡◌, ◌∙◌, inl, ℕ, zero, suc, ◌≤◌, Bool, true, false, true≢false, List, [], ◌∷◌, ◌++◌, refl, sym, ap, subst, arith}
+use Rattle.std.proofs.Common.{◌≡◌, ◌∙◌, inl, inr, ℕ, zero, suc, ◌≤◌, Bool, true, false, true≢false, List, [], ◌∷◌, ◌++◌, take, refl, sym, ap, subst, arith}
 use Rattle.std.proofs.lemmas.List.{append-nil}
 use Rattle.std.specs.Prelude.{slice_index}
 use Rattle.area_disk.specs.Disk.{zeros}
 use Rattle.cgf_journal.specs.Trail as trail
-use Rattle.gate_journal.specs.Format.{Starts, header}
+use Rattle.gate_journal.specs.Format.{Starts, header, spelled}
 use Rattle.gateway_book.specs.Book.{Stays, fortune_of, header_of, reopening_of, size_of, value_of}
+use Rattle.gateway_book.specs.Opened.{IsNotOurs}
 use Rattle.gateway_book.specs.Value.{BookValue, Fortune, after_commit, opened, standing_for}
 use Rattle.gw_base.specs.Owes.{Begins}
 use Rattle.gw_base.specs.declared.history.HistoryEntry.{HistoryEntry}
@@ -86,6 +87,26 @@ zeros_first (suc n) = refl
 -- an area of zeros starts
 pub zeros_start : (name octets : List ℕ) (n : ℕ) → octets ≡ zeros n → Starts name octets
 zeros_start name octets n is = inl (ap (λ (o : List ℕ). slice_index o 0) is ∙ zeros_first n)
+
+-- so that it isn't another's
+header_first : (size address : ℕ) (octets : List ℕ) → slice_index (header size address 0 ++ octets) 0 ≡ 67
+unfolding header
+header_first size address octets = refl
+
+front_first : (at : ℕ) (octets : List ℕ) → slice_index octets 0 ≡ 0 → slice_index (take at octets) 0 ≡ 0
+front_first zero [] is = refl
+front_first zero (x ∷ octets) is = refl
+front_first (suc at) [] is = refl
+front_first (suc at) (x ∷ octets) is = is
+
+pub zeros_ours : (size address : ℕ) (octets : List ℕ) (n at : ℕ) → octets ≡ zeros n
+    → IsNotOurs (header size address 0) octets at → ⊥
+zeros_ours size address octets n at is (inl differs) = differs.begun (zeros_start (header size address 0) octets n is)
+zeros_ours size address octets n at is (inr spoiled) =
+    let same : 67 ≡ 0 = sym (header_first size address (spelled spoiled.batches))
+    ∙ ap (λ (o : List ℕ). slice_index o 0) (sym spoiled.before.front)
+    ∙ front_first at octets (ap (λ (o : List ℕ). slice_index o 0) is ∙ zeros_first n) in
+    absurd (omega (arith, same))
 
 -- once it is committed
 pub opened_begun : (place : ℕ) (mid new : LoopBook) → value_of mid ≡ opened area_length [] → HasCommitted mid new

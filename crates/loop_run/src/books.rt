@@ -4,7 +4,7 @@ ghost use Rattle.loop_run.specs.Seats.{HasCommitted, IsBegun};
 
 use crate::addresses::gateway_at;
 use area_disk::QuietArea;
-use gateway_book::{Book, Setup};
+use gateway_book::{Book, BookFault, Setup};
 use gw_base::{Counted, NoMemory};
 use std::alloc::Global;
 
@@ -28,7 +28,9 @@ pub(crate) fn open_book(alloc: Global, place: u8) -> Result<Book<QuietArea>, NoM
     };
     match Book::open(alloc, area, setup) {
         Ok(book) => Ok(commit(book)),
-        Err(_) => Err(NoMemory),
+        Err((BookFault::NoMemory, _)) => Err(NoMemory),
+        Err((BookFault::Device, _)) => unreachable!(),
+        Err((BookFault::NotOurs { .. }, _)) => unreachable!(),
     }
 }
 
