@@ -1,8 +1,9 @@
 ghost use Rattle.std.specs.Prelude.{◌≡◌, None, IsSome, OnOk};
 
-use crate::ahead::Ahead;
+use crate::coming::Coming;
 use crate::open::open_area;
 use crate::trouble::Troubles;
+use crate::window::Window;
 use crate::{DiskFile, Trouble};
 use area_disk::{Area, Failed};
 use std::alloc::Global;
@@ -11,14 +12,21 @@ use std::fs::{File, Files};
 /// So many octets are read alone.
 const FEW: usize = 2048;
 
+/// How many are read at once else.
+const AHEAD: usize = 4096;
+
+/// How many of those that were written last are kept.
+const WRITTEN: usize = 65_536;
+
 /// The area in a file, which is opened, locked and allocated at the first call: where it is missing it is made, and
 /// where an earlier start was stopped while it filled it, it is filled to its end.
 ///
 /// A call fails where the file can't be opened so, and the next one tries again. A file that somebody else has locked,
 /// one that isn't regular, and one of another length stay as they were.
 ///
-/// Few octets are read with those behind them, up to the next write: who reads one entry behind the other has most
-/// without a call of the system. Where there is no memory for that each read is a call.
+/// Few octets are read with those behind them, up to the next write, and what was written last is kept: who reads one
+/// entry behind the other has most without a call of the system. Where there is no memory for that each read is a call.
+/// Those behind a write are asked for, so that the next one finds them in memory.
 ///
 /// It tells nothing of what it holds. From a `sync` that failed on each write and sync fails, while reads go on.
 #[derive(Drop)]
@@ -27,7 +35,9 @@ pub struct FileArea<'a, R: Files> {
     path: &'a str,
     length: u64,
     file: Option<DiskFile>,
-    ahead: Ahead,
+    ahead: Window,
+    written: Window,
+    coming: Coming,
     troubles: Troubles,
 }
 
@@ -45,7 +55,9 @@ impl<'a, R: Files<File = File>> FileArea<'a, R> {
             path,
             length,
             file: None,
-            ahead: Ahead::new(alloc),
+            ahead: Window::new(alloc, AHEAD),
+            written: Window::new(alloc, WRITTEN),
+            coming: Coming::new(),
             troubles: Troubles::new(),
         }
     }
@@ -77,7 +89,7 @@ impl<'a, R: Files<File = File>> FileArea<'a, R> {
     {
         self.open()?;
         let file = self.file.as_ref().unwrap();
-        if self.ahead.give(at, into) {
+        if self.written.give(at, into) || self.ahead.give(at, into) {
             return Ok(());
         }
         if into.len() < FEW {
@@ -95,7 +107,18 @@ impl<'a, R: Files<File = File>> FileArea<'a, R> {
     {
         self.open()?;
         self.ahead.forget();
-        self.file.as_ref().unwrap().write(at, from)
+        let file = self.file.as_ref().unwrap();
+        self.coming.ask(file, at, self.length);
+        match file.write(at, from) {
+            Ok(()) => {
+                self.written.note(at, from);
+                Ok(())
+            }
+            Err(trouble) => {
+                self.written.forget();
+                Err(trouble)
+            }
+        }
     }
 
     fn settle(&mut self) -> Result<(), Trouble>

@@ -2,6 +2,7 @@ ghost use Rattle.std.specs.Prelude.{◌≡◌, ◌||◌, true, false, is_err};
 
 use crate::Trouble;
 use std::fs::File;
+use std::os::fd::AsRawFd;
 use std::os::unix::fs::FileExt;
 
 /// An open file whose octets stand once a sync succeeds.
@@ -36,6 +37,20 @@ impl DiskFile {
     pub fn read(&self, at: u64, into: &mut [u8]) -> Result<(), Trouble> {
         self.file.read_exact_at(into, at)?;
         Ok(())
+    }
+
+    /// Asks the system to read so many octets from place `at` on, which are used soon. Where it doesn't, it reads them
+    /// once they are used.
+    pub fn will_need(&self, at: u64, count: u32) {
+        if let Ok(at) = i64::try_from(at) {
+            let descriptor = self.file.as_raw_fd();
+            let _ = libc::posix_fadvise(
+                descriptor,
+                at,
+                i64::from(count),
+                libc::POSIX_FADV_WILLNEED,
+            );
+        }
     }
 
     /// Writes all of `from` from place `at` on.

@@ -11,9 +11,9 @@
 #![tactic(auto)]
 
 mod again;
-mod ahead;
 mod area;
 mod clock;
+mod coming;
 mod connection;
 mod disk_file;
 mod name;
@@ -25,6 +25,7 @@ mod shelf;
 mod sink;
 mod source;
 mod trouble;
+mod window;
 
 pub use area::FileArea;
 pub use clock::SystemClock;

@@ -35,6 +35,27 @@ fn what_is_written_is_read_after_opening_again(rt: HostRuntime) -> Result<(), Fa
     Ok(())
 }
 
+/// Writes behind one another, inside those before, in front of them and over their beginning.
+#[test]
+fn what_was_written_last_is_read_as_the_file_has_it(rt: HostRuntime) -> Result<(), Fail> {
+    let mut area = FileArea::new(rt.alloc(), &rt, "last.area", 10_000);
+    let mut into = [9; 8];
+    area.write_at(100, b"abcdef")?;
+    area.write_at(99, b"x")?;
+    area.write_at(103, b"YZ")?;
+    area.write_at(106, b"gh")?;
+    area.read_at(100, &mut into)?;
+    assert_eq!(rt; into.as_slice(), b"abcYZfgh".as_slice());
+    area.write_at(98, b"123")?;
+    area.read_at(98, &mut into)?;
+    assert_eq!(rt; into.as_slice(), b"123bcYZf".as_slice());
+    drop(area);
+    let mut area = FileArea::new(rt.alloc(), &rt, "last.area", 10_000);
+    area.read_at(98, &mut into)?;
+    assert_eq!(rt; into.as_slice(), b"123bcYZf".as_slice());
+    Ok(())
+}
+
 /// A second handle fails at each call while the first has the lock, and changes nothing.
 #[test]
 fn a_file_that_is_locked_is_refused(rt: HostRuntime) -> Result<(), Fail> {
