@@ -6,7 +6,7 @@ use Rattle.replay_world.specs.Does.{LineRan}
 use Rattle.replay_world.specs.Lines.{line_after, refusal_of_line}
 use Rattle.replay_world.specs.Report.{Refusal as WorldRefusal, replayed}
 use Rattle.replay_world.specs.Report.{line_text, lines_after, printed_by, printed_unless, refusal_of_lines, refused_from, refused_or, report_of_lines}
-use Rattle.replay_world.specs.Settled.{AreWritten, StandInFiles}
+use Rattle.replay_world.specs.Settled.{AreRead, AreWritten, HasPlayedOut, StandInFiles}
 use Rattle.replay_world.specs.Setup.{files_in, setup_of}
 use Rattle.replay_world.specs.Stands.{Stands}
 use Rattle.replay_world.specs.Value.{ReplayValue, replay_of}
@@ -130,22 +130,33 @@ run_first lines replay printed stands gateways none = record {
 
 -- What is handed back.
 
+-- each network that is handed back with nothing left to do has files that are read
+abbrev pub HandsRead : List Line → Type 0
+HandsRead lines = (played : Played) → HasPlayedOut (replayed lines) played →
+    AreRead (files_in (setup_of lines)) (replayed lines).world played.shelves.items
+
 pub ran_network : (lines : List Line) (played : Option Played) → PlayedOf (replayed lines) played →
     AreWritten (replayed lines) → EndsByReport lines → StandsOnce (files_in (setup_of lines)) (replayed lines).world →
-    StandInFiles (files_in (setup_of lines)) (replayed lines).world → HandsBack (Some lines) played
-ran_network lines None is written told places there = absurd is
-ran_network lines (Some played) is written told places there =
-    record { at_rest = is written; told = told; written = written; places = places; there = there }
+    StandInFiles (files_in (setup_of lines)) (replayed lines).world → HandsRead lines → HandsBack (Some lines) played
+ran_network lines None is written told places there read = absurd is
+ran_network lines (Some played) is written told places there read = record {
+  at_rest = is written;
+  told = told;
+  written = written;
+  places = places;
+  there = there;
+  read = read played (is written);
+}
 
 pub replayed_whole : (lines : List Line) (report : Report) → refusal_of_lines lines ≡ None →
     report.printed.items ≡ report_of_lines lines → report.refused ≡ None → PlayedOf (replayed lines) report.played →
     AreWritten (replayed lines) → EndsByReport lines → StandsOnce (files_in (setup_of lines)) (replayed lines).world →
-    StandInFiles (files_in (setup_of lines)) (replayed lines).world → IsReplayed lines report
-replayed_whole lines report none printed refused played written told places there = record {
+    StandInFiles (files_in (setup_of lines)) (replayed lines).world → HandsRead lines → IsReplayed lines report
+replayed_whole lines report none printed refused played written told places there read = record {
   printed = printed;
   refused = refused ∙ sym (ap refusal_at_line none);
   played = subst (λ (o : Option WorldRefusal). HandsBack (lines_unless o lines) report.played) (sym none)
-      (ran_network lines report.played played written told places there);
+      (ran_network lines report.played played written told places there read);
 }
 
 pub replayed_front : (lines : List Line) (report : Report) (refusal : WorldRefusal) →

@@ -3,7 +3,7 @@ use Rattle.std.specs.Prelude.{ℕ, ◌≡◌, ◌++◌, List, [], Option, Some, 
 use Rattle.once_core.specs.StandsOnce.{StandsOnce}
 use Rattle.replay_world.specs.Report.{refusal_of_lines, replayed, report_of, report_of_lines}
 use Rattle.replay_world.specs.Report.{Refusal as WorldRefusal}
-use Rattle.replay_world.specs.Settled.{AreWritten, HasPlayedOut, StandInFiles}
+use Rattle.replay_world.specs.Settled.{AreRead, AreWritten, HasPlayedOut, StandInFiles}
 use Rattle.replay_world.specs.Setup.{files_in, setup_of}
 use Rattle.replay_world.specs.Summary.{summary_of, summary_text}
 use Rattle.replay_world.specs.declared.replay.Played.{Played}
@@ -59,13 +59,15 @@ EndsByReport lines = (front : List ℕ) × (report_of_lines lines ≡ front ++ r
 -- prints, ends with the report, and this has all files that the histories close.
 -- In the files of all its gateways each record of each packet that was ever resolved stands at exactly one place of its
 -- own, and each record of any other packet at one at most; no copy that is held or was cancelled puts one there, and the
--- files have no other record. The places are those of these files.
+-- files have no other record. The places are those of these files, and in those that are handed out a reader of CDR
+-- files finds each record at its place.
 pub record RanNetwork (lines : List Line) (played : Played) : Type 0 where
   pub at_rest : HasPlayedOut (replayed lines) played
   pub told : EndsByReport lines
   pub written : AreWritten (replayed lines)
   pub places : StandsOnce (files_in (setup_of lines)) (replayed lines).world
   pub there : StandInFiles (files_in (setup_of lines)) (replayed lines).world
+  pub read : AreRead (files_in (setup_of lines)) (replayed lines).world played.shelves.items
 
 -- for `job` alone: the lines of the network that a command runs
 abbrev pub lines_ok : Result (List Line) LineRefusal → Option (List Line)

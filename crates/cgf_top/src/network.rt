@@ -20,7 +20,7 @@ use gw_base::{NoMemory, Octets};
 use once_core::WorldKind;
 use replay_world::laws::{
     a_replay_files_each_record_once, a_script_is_short, a_settling_writes_all_files,
-    no_line_of_a_sample_is_refused,
+    no_line_of_a_sample_is_refused, what_is_handed_out_is_read,
 };
 use replay_world::{LineEnd, Replay, print_summary};
 use std::alloc::Global;
@@ -90,6 +90,7 @@ fn replay<W: Watch>(alloc: Global, script: &Script, watch: &mut W) -> Result<Rep
 {
     a_replay_files_each_record_once();
     a_settling_writes_all_files();
+    what_is_handed_out_is_read();
     // The clause of `kind` says that its lines are read, so that they end with `end`.
     let _kind = script.kind();
     let mut replay = Replay::new(alloc, script)?;
@@ -146,6 +147,7 @@ fn drill<W: Watch>(alloc: Global, script: &Script, watch: &mut W) -> Result<Repo
 {
     a_replay_files_each_record_once();
     a_settling_writes_all_files();
+    what_is_handed_out_is_read();
     // The clause of `kind` says that its lines are read, so that they end with `end`.
     let _kind = script.kind();
     let mut replay = Replay::new(alloc, script)?;

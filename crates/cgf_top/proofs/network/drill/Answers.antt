@@ -6,6 +6,7 @@ use Rattle.replay_world.specs.Summary.{summary_text}
 use Rattle.replay_world.specs.declared.summary.Summary.{Summary}
 use Rattle.cgf_top.proofs.NetworkLemmas.{at_end, at_first, at_next, never_refused, ran_network}
 use Rattle.cgf_top.proofs.PlaceLemmas.{below_at}
+use Rattle.world_script.specs.Printing.{printed}
 use Rattle.cgf_top.proofs.network.drill.Goals as goal
 
 pub loop-line-init : goal.loop-line-init
@@ -61,5 +62,7 @@ returns g c =
           c.a_settling_writes_all_files.ensures.written)
           (ended_told lines (reads_ends c.args.script.now.kind lines c.kind-kind.ensures.reads) c.requires.taken)
           (c.a_replay_files_each_record_once.ensures.stands (setup_of lines) lines here.gateways)
-          (c.a_replay_files_each_record_once.ensures.there (setup_of lines) lines);
+          (c.a_replay_files_each_record_once.ensures.there (setup_of lines) lines)
+          (λ played. c.what_is_handed_out_is_read.ensures c.args.script.now.kind
+          (printed c.args.script.now.kind lines) lines played c.kind-kind.ensures.reads);
     }

@@ -4,6 +4,7 @@ use Rattle.replay_world.specs.Value.{replay_of}
 use Rattle.cgf_top.proofs.EndingLemmas.{ended_told, ended_written, reads_ends}
 use Rattle.cgf_top.proofs.NetworkLemmas.{all_printed, at_end, line_ran, line_refused, none_refused, refused_at, replayed_front, replayed_whole, run_first}
 use Rattle.cgf_top.proofs.PlaceLemmas.{below_at}
+use Rattle.world_script.specs.Printing.{printed}
 use Rattle.cgf_top.proofs.network.replay.Goals as goal
 
 pub loop-line-init : goal.loop-line-init
@@ -63,3 +64,5 @@ returns g c =
     (none_refused lines at none c.loop-line.replay run.here))
     (c.a_replay_files_each_record_once.ensures.stands (setup_of lines) lines run.here.gateways)
     (c.a_replay_files_each_record_once.ensures.there (setup_of lines) lines)
+    (λ played. c.what_is_handed_out_is_read.ensures c.args.script.now.kind (printed c.args.script.now.kind lines) lines
+    played c.kind-kind.ensures.reads)
