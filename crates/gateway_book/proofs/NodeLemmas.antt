@@ -1,7 +1,7 @@
 -- What each call makes of the nodes that an index keeps.
 use Rattle.std.proofs.Common.{◌≡◌, ℕ, zero, suc, ◌+◌, ◌<◌, ◌≤◌, ◌==◌, ◌&&◌, ◌⊎◌, inl, inr, Bool, true, false, if◌then◌else◌, List, [], ◌∷◌, ◌++◌, Some, length, length-append, map, take, refl, sym, ap, subst, ◌∙◌, arith}
-use Rattle.std.specs.Prelude.{IfSome, nat_lt}
-use Rattle.std.proofs.lemmas.Bool.{eq-eqb, eqb-true, eqb-false, ltb-false, ne_eqb}
+use Rattle.std.specs.Prelude.{IfSome}
+use Rattle.std.proofs.lemmas.Bool.{eq-eqb, eqb-true, eqb-false, ne_eqb}
 use Rattle.std.proofs.lemmas.List.{length-map, length-take, take-append-le}
 use Rattle.gw_base.specs.declared.address.NodeId.{NodeId}
 use Rattle.gw_base.specs.declared.history.Opening.{Opening}
@@ -10,13 +10,13 @@ use Rattle.gw_base.specs.Known.{is_known}
 use Rattle.seq_window.specs.Seen.{Seen, nothing_seen, with_state, with_states}
 use Rattle.gateway_book.specs.Limits.{half}
 use Rattle.gateway_book.specs.NodeSides.{AreNew, IsNodesStep, MayBeKnown, nodes_in}
-use Rattle.gateway_book.specs.Nodes.{AreSlots, IsLearnt, fresh_slot, kept_slots, known_at, nodes_of, opening_at, place_in, reopened}
+use Rattle.gateway_book.specs.Nodes.{AreSame, AreSlots, IsLearnt, fresh_slot, kept_slots, known_at, nodes_of, opening_at, place_in, reopened}
 use Rattle.gateway_book.specs.Sides.{NodeSide, listed_nodes, numbered_nodes, opened_nodes}
 use Rattle.gateway_book.specs.WindowPairs.{AreBeside, AreBlank, AreKeptTo, IsStepAt, seen_at}
 use Rattle.gateway_book.specs.declared.nodes.NodeTable.{NodeTable}
 use Rattle.gateway_book.specs.declared.nodes.Slot.{Slot}
 use Rattle.gateway_book.specs.declared.window_pair.WindowPair.{WindowPair}
-use Rattle.gateway_book.proofs.PairLemmas.{kept_all, seen_behind}
+use Rattle.gateway_book.proofs.PairLemmas.{kept_all}
 use Rattle.gateway_book.proofs.PlaceLemmas.{apart, known_inside, place_cut, place_map, place_more, place_new, place_settled, unknown_behind}
 use Rattle.gateway_book.proofs.SlotLemmas.{known_more, known_reopened, known_reopened_firm, known_same, firm_reopened, live_reopened, openings_more, reopened_node, settled, settled_known, settled_length, settled_openings, slots_more}
 
@@ -89,6 +89,14 @@ module _ (node : NodeId) (place : ℕ) (old new : List Slot) (learnt : IsLearnt 
       by_test true e = e
       by_test false e = absurd (omega (arith, learnt.inside, learnt.here, unknown_behind node new e))
 
+  -- where it was known before, no slot changes
+  pub learnt_still : (firm : ℕ) → place < length old → AreSame firm old → AreSame firm new
+  learnt_still firm before same = by_slots learnt.slots
+    where
+      by_slots : (new ≡ old) ⊎ ((new ≡ old ++ fresh_slot node ∷ []) × (is_known (nodes_of old) node ≡ false)) → AreSame firm new
+      by_slots (inl is) = subst (λ (slots : List Slot). AreSame firm slots) (sym is) same
+      by_slots (inr more) = absurd (omega (arith, before, learnt.here, ap (λ (slots : List Slot). place_in slots node.0) more.0, place_new node old (fresh_slot node) refl more.1))
+
 -- ---- a step of the windows at a node's place
 
 module _ (node : NodeId) (place : ℕ) (slots : List Slot) (here : place ≡ place_in slots node.0) (inside : place < length slots) where
@@ -111,49 +119,49 @@ beside_step firm nodes more place step pairs after beside s inside grows = recor
 -- ---- each call
 
 pub numbered_step : (node : NodeId) (number : ℕ) (state : KeyState) (place : ℕ) (old new : NodeTable) → new.firm ≡ old.firm → IsLearnt node place old.slots.items new.slots.items
-    → IsStepAt place (with_state half number state) old.pairs.items new.pairs.items → IsNodesStep (numbered_nodes node number state) old new
+    → IsStepAt place (with_state half number state) old.windows.pairs.items new.windows.pairs.items → IsNodesStep (numbered_nodes node number state) old new
 unfolding nodes_in numbered_nodes
 numbered_step node number state place old new same learnt s = record {
   live = same_nodes (nodes_in false new) (numbered_nodes node number state (nodes_in false old)) learnt.known
       (λ n. learnt_openings node place old.slots.items new.slots.items learnt false n)
-      (λ n. at_place node place new.slots.items learnt.here learnt.inside (with_state half number state) old.pairs.items new.pairs.items s n
-      ∙ ap (λ (seen : Seen). if node.0 == n then with_state half number state seen else seen) (learnt_windows node place old.slots.items new.slots.items learnt false old.pairs.items old.beside.live_behind n));
+      (λ n. at_place node place new.slots.items learnt.here learnt.inside (with_state half number state) old.windows.pairs.items new.windows.pairs.items s n
+      ∙ ap (λ (seen : Seen). if node.0 == n then with_state half number state seen else seen) (learnt_windows node place old.slots.items new.slots.items learnt false old.windows.pairs.items old.beside.live_behind n));
   firm = same_nodes (nodes_in true new) (nodes_in true old)
       (ap (λ (count : ℕ). nodes_of (take count new.slots.items)) same ∙ learnt_firm node place old.slots.items new.slots.items learnt old.firm old.are_slots.within)
       (λ n. learnt_openings node place old.slots.items new.slots.items learnt true n)
       (λ n. s.firm (place_in new.slots.items n)
-      ∙ learnt_windows node place old.slots.items new.slots.items learnt true old.pairs.items (λ k behind. old.beside.firm_behind k (omega (arith, behind, old.are_slots.within))) n);
+      ∙ learnt_windows node place old.slots.items new.slots.items learnt true old.windows.pairs.items (λ k behind. old.beside.firm_behind k (omega (arith, behind, old.are_slots.within))) n);
 }
 
 pub opened_step : (node : NodeId) (opening : Opening) (place : ℕ) (old new : NodeTable) (known : List Slot) → new.firm ≡ old.firm → IsLearnt node place old.slots.items known
-    → new.slots.items ≡ map (λ slot. reopened node.0 (Some opening) slot) known → IsStepAt place (λ seen. nothing_seen) old.pairs.items new.pairs.items → IsNodesStep (opened_nodes node opening) old new
+    → new.slots.items ≡ map (λ slot. reopened node.0 (Some opening) slot) known → IsStepAt place (λ seen. nothing_seen) old.windows.pairs.items new.windows.pairs.items → IsNodesStep (opened_nodes node opening) old new
 unfolding nodes_in opened_nodes
 opened_step node opening place old new known same learnt slots s = record {
   live = same_nodes (nodes_in false new) (opened_nodes node opening (nodes_in false old))
       (ap nodes_of slots ∙ known_reopened node.0 (Some opening) known ∙ learnt.known)
       (λ n. ap (λ (xs : List Slot). opening_at false xs n) slots ∙ live_reopened node n (Some opening) known
       ∙ (λ i. if learnt_is_known node place old.slots.items known learnt i && (node.0 == n) then Some opening else learnt_openings node place old.slots.items known learnt false n i))
-      (λ n. ap (λ (k : ℕ). seen_at false new.pairs.items k) (places n)
-      ∙ at_place node place known learnt.here learnt.inside (λ seen. nothing_seen) old.pairs.items new.pairs.items s n
-      ∙ ap (λ (seen : Seen). if node.0 == n then nothing_seen else seen) (learnt_windows node place old.slots.items known learnt false old.pairs.items old.beside.live_behind n));
+      (λ n. ap (λ (k : ℕ). seen_at false new.windows.pairs.items k) (places n)
+      ∙ at_place node place known learnt.here learnt.inside (λ seen. nothing_seen) old.windows.pairs.items new.windows.pairs.items s n
+      ∙ ap (λ (seen : Seen). if node.0 == n then nothing_seen else seen) (learnt_windows node place old.slots.items known learnt false old.windows.pairs.items old.beside.live_behind n));
   firm = same_nodes (nodes_in true new) (nodes_in true old)
       ((λ i. nodes_of (take (same i) (slots i))) ∙ known_reopened_firm node.0 (Some opening) old.firm known ∙ learnt_firm node place old.slots.items known learnt old.firm old.are_slots.within)
       (λ n. ap (λ (xs : List Slot). opening_at true xs n) slots ∙ firm_reopened node.0 n (Some opening) known ∙ learnt_openings node place old.slots.items known learnt true n)
-      (λ n. s.firm (place_in new.slots.items n) ∙ ap (λ (k : ℕ). seen_at true old.pairs.items k) (places n)
-      ∙ learnt_windows node place old.slots.items known learnt true old.pairs.items (λ k behind. old.beside.firm_behind k (omega (arith, behind, old.are_slots.within))) n);
+      (λ n. s.firm (place_in new.slots.items n) ∙ ap (λ (k : ℕ). seen_at true old.windows.pairs.items k) (places n)
+      ∙ learnt_windows node place old.slots.items known learnt true old.windows.pairs.items (λ k behind. old.beside.firm_behind k (omega (arith, behind, old.are_slots.within))) n);
 }
   where
     places : (n : ℕ) → place_in new.slots.items n ≡ place_in known n
     places n = ap (λ (xs : List Slot). place_in xs n) slots ∙ place_map (λ slot. reopened node.0 (Some opening) slot) (reopened_node node.0 (Some opening)) n known
 
 pub listed_step : (node : NodeId) (numbers : List ℕ) (state : KeyState) (place : ℕ) (old new : NodeTable) → new.firm ≡ old.firm → new.slots.items ≡ old.slots.items → place ≡ place_in old.slots.items node.0 → place < length old.slots.items
-    → IsStepAt place (with_states half numbers state) old.pairs.items new.pairs.items → IsNodesStep (listed_nodes node numbers state) old new
+    → IsStepAt place (with_states half numbers state) old.windows.pairs.items new.windows.pairs.items → IsNodesStep (listed_nodes node numbers state) old new
 unfolding nodes_in listed_nodes
 listed_step node numbers state place old new same slots here inside s = record {
   live = same_nodes (nodes_in false new) (listed_nodes node numbers state (nodes_in false old)) (ap nodes_of slots) (λ n. ap (λ (xs : List Slot). opening_at false xs n) slots)
-      (λ n. ap (λ (xs : List Slot). window_by false xs new.pairs.items n) slots ∙ at_place node place old.slots.items here inside (with_states half numbers state) old.pairs.items new.pairs.items s n);
+      (λ n. ap (λ (xs : List Slot). window_by false xs new.windows.pairs.items n) slots ∙ at_place node place old.slots.items here inside (with_states half numbers state) old.windows.pairs.items new.windows.pairs.items s n);
   firm = same_nodes (nodes_in true new) (nodes_in true old) (λ i. nodes_of (take (same i) (slots i))) (λ n. ap (λ (xs : List Slot). opening_at true xs n) slots)
-      (λ n. s.firm (place_in new.slots.items n) ∙ ap (λ (xs : List Slot). window_by true xs old.pairs.items n) slots);
+      (λ n. s.firm (place_in new.slots.items n) ∙ ap (λ (xs : List Slot). window_by true xs old.windows.pairs.items n) slots);
 }
 
 -- numbers of a node without a window change nothing
@@ -164,37 +172,18 @@ listed_none node numbers state old past = record {
   firm = refl;
 }
   where
-    none : window_by false old.slots.items old.pairs.items node.0 ≡ nothing_seen
+    none : window_by false old.slots.items old.windows.pairs.items node.0 ≡ nothing_seen
     none = old.beside.live_behind (place_in old.slots.items node.0) past
 
     still : (seen : Seen) → seen ≡ nothing_seen → seen ≡ with_states half numbers state seen
     still seen e = subst (λ (w : Seen). w ≡ with_states half numbers state w) (sym e) refl
 
     by_test : (n : ℕ) (b : Bool) → (node.0 == n) ≡ b
-        → window_by false old.slots.items old.pairs.items n ≡ (if b then with_states half numbers state (window_by false old.slots.items old.pairs.items n) else window_by false old.slots.items old.pairs.items n)
-    by_test n true e = still (window_by false old.slots.items old.pairs.items n) (ap (λ (m : ℕ). window_by false old.slots.items old.pairs.items m) (sym (eqb-true node.0 n e)) ∙ none)
+        → window_by false old.slots.items old.windows.pairs.items n ≡ (if b then with_states half numbers state (window_by false old.slots.items old.windows.pairs.items n) else window_by false old.slots.items old.windows.pairs.items n)
+    by_test n true e = still (window_by false old.slots.items old.windows.pairs.items n) (ap (λ (m : ℕ). window_by false old.slots.items old.windows.pairs.items m) (sym (eqb-true node.0 n e)) ∙ none)
     by_test n false e = refl
 
 -- ---- both sides one side's
-
--- behind the known nodes no window has a number, so that all are kept where those of the nodes are
-pub kept_behind : (firm : Bool) (count : ℕ) (slots : List Slot) (pairs after : List WindowPair) → AreSlots count slots → AreBeside count (length slots) pairs → AreKeptTo (length slots) firm pairs after
-    → AreKeptTo (length pairs) firm pairs after
-kept_behind firm count slots pairs after are beside kept = record {
-  count = kept.count;
-  kept = λ side k. kept.kept side k ∙ at side k (nat_lt k (length slots)) (nat_lt k (length pairs)) refl refl;
-}
-  where
-    none : (side : Bool) (k : ℕ) → length slots ≤ k → seen_at side pairs k ≡ nothing_seen
-    none true k past = beside.firm_behind k (omega (arith, are.within, past))
-    none false k past = beside.live_behind k past
-
-    at : (side : Bool) (k : ℕ) (known made : Bool) → nat_lt k (length slots) ≡ known → nat_lt k (length pairs) ≡ made
-        → (if known then seen_at firm pairs k else seen_at side pairs k) ≡ (if made then seen_at firm pairs k else seen_at side pairs k)
-    at side k true true e f = refl
-    at side k true false e f = let past = ltb-false k (length pairs) f in seen_behind firm pairs k past ∙ sym (seen_behind side pairs k past)
-    at side k false true e f = let past = ltb-false k (length slots) e in none side k past ∙ sym (none firm k past)
-    at side k false false e f = refl
 
 module _ (firm : Bool) (count : ℕ) (slots : List Slot) (pairs after : List WindowPair) (are : AreSlots count slots) (beside : AreBeside count (length slots) pairs) (kept : AreKeptTo (length pairs) firm pairs after) where
   kept_window : (n : ℕ) → window_by firm (kept_slots firm count slots) pairs n ≡ window_by firm slots pairs n
@@ -227,16 +216,16 @@ module _ (firm : Bool) (count : ℕ) (slots : List Slot) (pairs after : List Win
   }
 
 pub settled_nodes : (firm : Bool) (old new : NodeTable) → new.firm ≡ length (kept_slots firm old.firm old.slots.items) → new.slots.items ≡ settled firm old.firm old.slots.items
-    → AreKeptTo (length old.pairs.items) firm old.pairs.items new.pairs.items → (side : Bool) → nodes_in side new ≡ nodes_in firm old
+    → AreKeptTo (length old.windows.pairs.items) firm old.windows.pairs.items new.windows.pairs.items → (side : Bool) → nodes_in side new ≡ nodes_in firm old
 unfolding nodes_in
 settled_nodes firm old new count slots kept side = same_nodes (nodes_in side new) (nodes_in firm old)
     (ap (λ (xs : List Slot). known_at side new.firm xs) slots ∙ settled_known side firm old.firm new.firm old.slots.items count)
     (λ n. ap (λ (xs : List Slot). opening_at side xs n) slots ∙ settled_openings side firm old.firm n old.slots.items old.are_slots)
-    (λ n. ap (λ (xs : List Slot). window_by side xs new.pairs.items n) slots ∙ settled_windows firm old.firm old.slots.items old.pairs.items new.pairs.items old.are_slots old.beside kept side n)
+    (λ n. ap (λ (xs : List Slot). window_by side xs new.windows.pairs.items n) slots ∙ settled_windows firm old.firm old.slots.items old.windows.pairs.items new.windows.pairs.items old.are_slots old.beside kept side n)
 
 -- ---- what the calls ask, and what stays true
 
-pub no_nodes : (table : NodeTable) → table.slots.items ≡ [] → AreBlank 64 table.pairs.items → (firm : Bool) → AreNew (nodes_in firm table)
+pub no_nodes : (table : NodeTable) → table.slots.items ≡ [] → AreBlank 64 table.windows.pairs.items → (firm : Bool) → AreNew (nodes_in firm table)
 unfolding nodes_in
 no_nodes table none blank firm = record {
   known = ap (λ (slots : List Slot). known_at firm table.firm slots) none ∙ none_known firm table.firm;
@@ -260,13 +249,13 @@ module _ (node : NodeId) (place : ℕ) (old : NodeTable) (new : List Slot) (lear
   pub learnt_are_slots : AreSlots old.firm new
   learnt_are_slots = learnt_slots node place old.slots.items new learnt old.firm (may_room node old may) old.are_slots
 
-  pub learnt_inside : place < length old.pairs.items
+  pub learnt_inside : place < length old.windows.pairs.items
   learnt_inside = omega (arith, learnt.inside, learnt_are_slots.bound, old.beside.count)
 
-  pub learnt_not_below : (number : ℕ) → IfSome ((nodes_in false old).window node.0).top (λ top. top ≤ number + half) → IfSome (seen_at false old.pairs.items place).top (λ top. top ≤ number + half)
+  pub learnt_not_below : (number : ℕ) → IfSome ((nodes_in false old).window node.0).top (λ top. top ≤ number + half) → IfSome (seen_at false old.windows.pairs.items place).top (λ top. top ≤ number + half)
   unfolding nodes_in
   learnt_not_below number = subst (λ (seen : Seen). IfSome seen.top (λ top. top ≤ number + half))
-      (sym (ap (λ (k : ℕ). seen_at false old.pairs.items k) learnt.here ∙ learnt_windows node place old.slots.items new learnt false old.pairs.items old.beside.live_behind node.0))
+      (sym (ap (λ (k : ℕ). seen_at false old.windows.pairs.items k) learnt.here ∙ learnt_windows node place old.slots.items new learnt false old.windows.pairs.items old.beside.live_behind node.0))
 
-  pub learnt_beside : (step : Seen → Seen) (after : List WindowPair) → IsStepAt place step old.pairs.items after → AreBeside old.firm (length new) after
-  learnt_beside step after s = beside_step old.firm (length old.slots.items) (length new) place step old.pairs.items after old.beside s learnt.inside (learnt_length node place old.slots.items new learnt)
+  pub learnt_beside : (step : Seen → Seen) (after : List WindowPair) → IsStepAt place step old.windows.pairs.items after → AreBeside old.firm (length new) after
+  learnt_beside step after s = beside_step old.firm (length old.slots.items) (length new) place step old.windows.pairs.items after old.beside s learnt.inside (learnt_length node place old.slots.items new learnt)

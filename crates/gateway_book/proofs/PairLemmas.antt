@@ -1,12 +1,12 @@
 -- What one step at a place changes of windows.
-use Rattle.std.proofs.Common.{◌≡◌, ℕ, zero, suc, ◌+◌, ◌<◌, ◌≤◌, ◌==◌, Bool, true, false, if◌then◌else◌, List, [], ◌∷◌, ◌++◌, length, length-append, refl, sym, subst, ap, ◌∙◌, true≢false, arith}
-use Rattle.std.specs.Prelude.{nat_lt, slice_index_or, slice_set}
-use Rattle.std.proofs.lemmas.Bool.{eq-eqb, eqb-true, eqb-false, ne_eqb, lt-ltb, ltb-false, ltb-true, le-ltb}
+use Rattle.std.proofs.Common.{◌≡◌, ℕ, zero, suc, ◌+◌, ◌<◌, ◌≤◌, ◌==◌, ◌&&◌, min, Bool, true, false, if◌then◌else◌, List, [], ◌∷◌, ◌++◌, length, length-append, refl, sym, subst, ap, ◌∙◌, true≢false, arith}
+use Rattle.std.specs.Prelude.{nat_le, nat_lt, slice_index_or, slice_set}
+use Rattle.std.proofs.lemmas.Bool.{eq-eqb, eqb-true, eqb-false, ne_eqb, leb-false, leb-true, le-leb, lt-ltb, ltb-false, ltb-true, le-ltb}
 use Rattle.seq_window.specs.Seen.{Seen, nothing_seen, with_state}
 use Rattle.seq_window.specs.Stored.{Stored, seen_of}
 use Rattle.gateway_book.specs.GivenStates.{MaySet, MaySetEach, with_each}
 use Rattle.gateway_book.specs.Limits.{half}
-use Rattle.gateway_book.specs.WindowPairs.{AreBlank, AreKeptTo, IsPairStep, IsStepAt, seen_at, seen_in}
+use Rattle.gateway_book.specs.WindowPairs.{AreBlank, AreKeptIn, AreKeptTo, IsPairStep, IsStepAt, seen_at, seen_in}
 use Rattle.gateway_book.specs.declared.window_pair.StateGiven.{StateGiven}
 use Rattle.gateway_book.specs.declared.window_pair.WindowPair.{WindowPair}
 
@@ -84,27 +84,74 @@ blank_more count pairs pair blank one = record {
 
 -- ---- both sides one side's
 
-pub kept_none : (firm : Bool) (pairs : List WindowPair) → AreKeptTo 0 firm pairs pairs
-kept_none firm pairs = record { count = refl; kept = λ side k. rw (le-ltb k 0 (omega arith)) refl }
+-- one of both, which are the same
+either : {A : Type 0} (b : Bool) (x : A) → (if b then x else x) ≡ x
+either true x = refl
+either false x = refl
 
-pub kept_more : (firm : Bool) (count : ℕ) (old now : List WindowPair) (d new : WindowPair) → count < length now → AreKeptTo count firm old now
-    → ((side : Bool) → seen_in side new ≡ seen_in firm (slice_index_or now count d)) → AreKeptTo (count + 1) firm old (slice_set now count new)
-kept_more firm count old now d new inside so_far one = record {
+pub kept_none : (firm : Bool) (from : ℕ) (pairs : List WindowPair) → AreKeptIn from from firm pairs pairs
+kept_none firm from pairs = record { count = refl; kept = λ side k. at side k (nat_le from k) (nat_lt k from) refl refl }
+  where
+    at : (side : Bool) (k : ℕ) (low high : Bool) → nat_le from k ≡ low → nat_lt k from ≡ high → seen_at side pairs k ≡ (if low && high then seen_at firm pairs k else seen_at side pairs k)
+    at side k true true e f = absurd (omega (arith, leb-true from k e, ltb-true k from f))
+    at side k true false e f = refl
+    at side k false high e f = refl
+
+pub kept_more : (firm : Bool) (from count : ℕ) (old now : List WindowPair) (d new : WindowPair) → from ≤ count → count < length now → AreKeptIn from count firm old now
+    → ((side : Bool) → seen_in side new ≡ seen_in firm (slice_index_or now count d)) → AreKeptIn from (count + 1) firm old (slice_set now count new)
+kept_more firm from count old now d new order inside so_far one = record {
   count = length_set now count new ∙ so_far.count;
-  kept = λ side k. seen_set side now count k new inside ∙ at side k (count == k) (nat_lt k count) refl refl;
+  kept = λ side k. seen_set side now count k new inside ∙ at side k (count == k) (nat_le from k) (nat_lt k count) refl refl refl;
 }
   where
     here : (side : Bool) → seen_in side new ≡ seen_at firm old count
-    here side = one side ∙ sym (seen_there firm now count d inside) ∙ so_far.kept firm count ∙ rw (le-ltb count count (omega arith)) refl
+    here side = one side ∙ sym (seen_there firm now count d inside) ∙ so_far.kept firm count ∙ either (nat_le from count && nat_lt count count) (seen_at firm old count)
 
-    at : (side : Bool) (k : ℕ) (same before : Bool) → (count == k) ≡ same → nat_lt k count ≡ before
-        → (if same then seen_in side new else seen_at side now k) ≡ (if nat_lt k (count + 1) then seen_at firm old k else seen_at side old k)
-    at side k true before e f = here side ∙ ap (λ (j : ℕ). seen_at firm old j) (eqb-true count k e) ∙ sym (rw (lt-ltb k (count + 1) (omega (arith, eqb-true count k e))) refl)
-    at side k false true e f = so_far.kept side k ∙ rw (f, lt-ltb k (count + 1) (omega (arith, ltb-true k count f))) refl
-    at side k false false e f = so_far.kept side k ∙ rw (f, le-ltb k (count + 1) (after k e f)) refl
-      where
-        after : (k : ℕ) → (count == k) ≡ false → nat_lt k count ≡ false → count + 1 ≤ k
-        after k e f = omega (arith, eqb-false count k e, ltb-false k count f)
+    at : (side : Bool) (k : ℕ) (same low before : Bool) → (count == k) ≡ same → nat_le from k ≡ low → nat_lt k count ≡ before
+        → (if same then seen_in side new else seen_at side now k) ≡ (if nat_le from k && nat_lt k (count + 1) then seen_at firm old k else seen_at side old k)
+    at side k true low before e f g =
+        let is : count ≡ k = eqb-true count k e in
+        here side ∙ ap (λ (j : ℕ). seen_at firm old j) is ∙ sym (rw (le-leb from k (omega (arith, is, order)), lt-ltb k (count + 1) (omega (arith, is))) refl)
+    at side k false false before e f g = so_far.kept side k ∙ rw f refl
+    at side k false true true e f g = so_far.kept side k ∙ rw (f, g, lt-ltb k (count + 1) (omega (arith, ltb-true k count g))) refl
+    at side k false true false e f g = so_far.kept side k ∙ rw (f, g, le-ltb k (count + 1) (omega (arith, eqb-false count k e, ltb-false k count g))) refl
+
+-- where both sides are the same around the places that are kept, all are
+pub kept_around : (firm : Bool) (from end : ℕ) (old new : List WindowPair) → ((k : ℕ) → k < from → seen_at true old k ≡ seen_at false old k) → ((k : ℕ) → end ≤ k → seen_at true old k ≡ seen_at false old k)
+    → AreKeptIn from end firm old new → AreKeptTo (length old) firm old new
+kept_around firm from end old new before behind kept = record { count = kept.count; kept = λ side k. kept.kept side k ∙ at side k (nat_le from k) (nat_lt k end) (nat_lt k (length old)) refl refl refl }
+  where
+    same : (a b : Bool) (k : ℕ) → seen_at true old k ≡ seen_at false old k → seen_at a old k ≡ seen_at b old k
+    same true true k e = refl
+    same true false k e = e
+    same false true k e = sym e
+    same false false k e = refl
+
+    outside : (side : Bool) (k : ℕ) (made : Bool) → seen_at true old k ≡ seen_at false old k → seen_at side old k ≡ (if made then seen_at firm old k else seen_at side old k)
+    outside side k true e = same side firm k e
+    outside side k false e = refl
+
+    at : (side : Bool) (k : ℕ) (low high made : Bool) → nat_le from k ≡ low → nat_lt k end ≡ high → nat_lt k (length old) ≡ made
+        → (if low && high then seen_at firm old k else seen_at side old k) ≡ (if made then seen_at firm old k else seen_at side old k)
+    at side k true true true e f g = refl
+    at side k true true false e f g = let past = ltb-false k (length old) g in seen_behind firm old k past ∙ sym (seen_behind side old k past)
+    at side k true false made e f g = outside side k made (behind k (ltb-false k end f))
+    at side k false high made e f g = outside side k made (before k (leb-false from k e))
+
+-- both sides are the same behind the places that may differ, and behind all
+pub same_behind : (end least : ℕ) (pairs : List WindowPair) → least ≡ min end (length pairs) → ((k : ℕ) → end ≤ k → seen_at true pairs k ≡ seen_at false pairs k) → (k : ℕ) → least ≤ k → seen_at true pairs k ≡ seen_at false pairs k
+same_behind end least pairs is behind k past = at (nat_lt k (length pairs)) refl
+  where
+    at : (b : Bool) → nat_lt k (length pairs) ≡ b → seen_at true pairs k ≡ seen_at false pairs k
+    at true e = behind k (omega (arith, is, past, ltb-true k (length pairs) e))
+    at false e = let over = ltb-false k (length pairs) e in seen_behind true pairs k over ∙ sym (seen_behind false pairs k over)
+
+-- a step at a place leaves both sides the same where they were, but there
+pub same_after : (step : Seen → Seen) (place k : ℕ) (old new : List WindowPair) → IsStepAt place step old new → (place ≡ k → ⊥) → seen_at true old k ≡ seen_at false old k → seen_at true new k ≡ seen_at false new k
+same_after step place k old new s apart same = s.firm k ∙ same ∙ sym (s.live k ∙ rw (ne_eqb place k apart) refl)
+
+pub blank_same : (count : ℕ) (pairs : List WindowPair) → AreBlank count pairs → (k : ℕ) → seen_at true pairs k ≡ seen_at false pairs k
+blank_same count pairs blank k = blank.blank true k ∙ sym (blank.blank false k)
 
 -- all are kept
 pub kept_all : (firm : Bool) (old new : List WindowPair) → AreKeptTo (length old) firm old new → (side : Bool) (k : ℕ) → seen_at side new k ≡ seen_at firm old k
@@ -113,6 +160,9 @@ kept_all firm old new kept side k = kept.kept side k ∙ at (nat_lt k (length ol
     at : (b : Bool) → nat_lt k (length old) ≡ b → (if b then seen_at firm old k else seen_at side old k) ≡ seen_at firm old k
     at true e = refl
     at false e = let past = ltb-false k (length old) e in seen_behind side old k past ∙ sym (seen_behind firm old k past)
+
+pub kept_same : (firm : Bool) (old new : List WindowPair) → AreKeptTo (length old) firm old new → (k : ℕ) → seen_at true new k ≡ seen_at false new k
+kept_same firm old new kept k = kept_all firm old new kept true k ∙ sym (kept_all firm old new kept false k)
 
 -- ---- one pair
 

@@ -91,3 +91,18 @@ place_cut (suc k) n (slot ∷ slots) within = by_test (slot.node.0 == n) (place_
 
 pub place_settled : (firm : Bool) (k n : ℕ) (slots : List Slot) → place_in (settled firm k slots) n ≡ place_in (kept_slots firm k slots) n
 place_settled firm k n slots = place_map (λ slot. settled_slot firm slot) (λ slot. refl) n (kept_slots firm k slots)
+
+-- a node is known whose place is that of a slot, and no other
+pub known_by_place : (node : NodeId) (slots : List Slot) → place_in slots node.0 < length slots → is_known (nodes_of slots) node ≡ true
+known_by_place node slots inside = by_test (is_known (nodes_of slots) node) refl
+  where
+    by_test : (b : Bool) → is_known (nodes_of slots) node ≡ b → b ≡ true
+    by_test true e = refl
+    by_test false e = absurd (omega (arith, inside, unknown_behind node slots e))
+
+pub unknown_by_place : (node : NodeId) (slots : List Slot) → length slots ≤ place_in slots node.0 → is_known (nodes_of slots) node ≡ false
+unknown_by_place node slots behind = by_test (is_known (nodes_of slots) node) refl
+  where
+    by_test : (b : Bool) → is_known (nodes_of slots) node ≡ b → b ≡ false
+    by_test true e = absurd (omega (arith, behind, known_inside node slots e))
+    by_test false e = refl

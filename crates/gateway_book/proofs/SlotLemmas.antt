@@ -8,7 +8,7 @@ use Rattle.std.proofs.Math.Seq.{drop-cons}
 use Rattle.gw_base.specs.declared.address.NodeId.{NodeId}
 use Rattle.gw_base.specs.declared.history.Opening.{Opening}
 use Rattle.gw_base.specs.Known.{is_known, with_node}
-use Rattle.gateway_book.specs.Nodes.{AreSlots, IsNew, fresh_slot, kept_slots, known_at, nodes_of, opening_at, opening_in, reopened, settled_slot}
+use Rattle.gateway_book.specs.Nodes.{AreSame, AreSlots, IsNew, IsSame, fresh_slot, kept_slots, known_at, nodes_of, opening_at, opening_in, reopened, settled_slot}
 use Rattle.gateway_book.specs.declared.nodes.Slot.{Slot}
 
 -- ---- what is kept of a node
@@ -182,3 +182,29 @@ settled_slots firm k now slots are count = record {
   bound = omega (arith, are.bound, kept_length firm k slots, settled_length firm k slots);
   unnamed = none_behind now (settled firm k slots) (omega (arith, count, settled_length firm k slots));
 }
+
+-- ---- both sides the same
+
+-- each slot that is settled has the same on both sides
+pub all_same : (firm : Bool) (slots : List Slot) → All IsSame (map (λ slot. settled_slot firm slot) slots)
+all_same firm [] = λ i d inside. absurd (omega (arith, inside))
+all_same firm (slot ∷ slots) = All-cons IsSame (settled_slot firm slot) (map (λ s. settled_slot firm s) slots) refl (all_same firm slots)
+
+-- where they have, none changes
+one_still : (firm : Bool) (slot : Slot) → IsSame slot → settled_slot firm slot ≡ slot
+one_still true slot same = λ i. record slot { live = same i }
+one_still false slot same = λ i. record slot { firm = sym same i }
+
+all_still : (firm : Bool) (slots : List Slot) → All IsSame slots → map (λ slot. settled_slot firm slot) slots ≡ slots
+all_still firm [] same = refl
+all_still firm (slot ∷ slots) same = λ i. one_still firm slot (All-head IsSame slot slots same) i ∷ all_still firm slots (All-tail IsSame slot slots same) i
+
+kept_still : (firm : Bool) (k : ℕ) (slots : List Slot) → k ≡ length slots → kept_slots firm k slots ≡ slots
+kept_still true k slots all = take_all k slots (omega (arith, all))
+kept_still false k slots all = refl
+
+pub settled_still : (firm : Bool) (k : ℕ) (slots : List Slot) → AreSame k slots → slots ≡ settled firm k slots
+settled_still firm k slots same = sym (ap (λ (xs : List Slot). map (λ slot. settled_slot firm slot) xs) (kept_still firm k slots same.known) ∙ all_still firm slots same.openings)
+
+pub count_still : (firm : Bool) (k : ℕ) (slots : List Slot) → AreSame k slots → k ≡ length (kept_slots firm k slots)
+count_still firm k slots same = same.known ∙ sym (ap (λ (xs : List Slot). length xs) (kept_still firm k slots same.known))

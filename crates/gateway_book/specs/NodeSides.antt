@@ -13,7 +13,7 @@ unfoldable pub nodes_in : Bool → NodeTable → NodeSide
 nodes_in firm table = record {
   known = known_at firm table.firm table.slots.items;
   opening = λ node. opening_at firm table.slots.items node;
-  window = λ node. seen_at firm table.pairs.items (place_in table.slots.items node);
+  window = λ node. seen_at firm table.windows.pairs.items (place_in table.slots.items node);
 }
 
 -- The live side took a step, and the firm side stays.

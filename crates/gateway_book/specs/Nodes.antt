@@ -45,6 +45,10 @@ settled_slot firm slot = record slot { firm = opening_in firm slot; live = openi
 abbrev pub IsNew : Slot → Type 0
 IsNew slot = slot.firm ≡ None
 
+-- both sides of a slot have the same
+abbrev pub IsSame : Slot → Type 0
+IsSame slot = slot.firm ≡ slot.live
+
 -- the slot of a node that becomes known
 abbrev pub fresh_slot : NodeId → Slot
 fresh_slot node = record { node = node; firm = None; live = None }
@@ -54,6 +58,11 @@ pub record AreSlots (firm : ℕ) (slots : List Slot) : Type 0 where
   pub within : firm ≤ length slots
   pub bound : length slots ≤ 64
   pub unnamed : All IsNew (drop firm slots)
+
+-- The firm side knows all nodes, and of each what the live side does.
+pub record AreSame (firm : ℕ) (slots : List Slot) : Type 0 where
+  pub known : firm ≡ length slots
+  pub openings : All IsSame slots
 
 -- A node is known, in this place.
 pub record IsLearnt (node : NodeId) (place : ℕ) (old new : List Slot) : Type 0 where

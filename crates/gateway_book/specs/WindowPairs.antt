@@ -1,5 +1,5 @@
 -- The windows of a node on the firm side and on the live side, and those of all places.
-use Rattle.std.specs.Prelude.{◌≡◌, ℕ, zero, suc, ◌≤◌, ◌==◌, nat_lt, Bool, true, false, if◌then◌else◌, List, [], ◌∷◌, length}
+use Rattle.std.specs.Prelude.{◌≡◌, ℕ, zero, suc, ◌≤◌, ◌==◌, ◌&&◌, nat_le, nat_lt, Bool, true, false, if◌then◌else◌, List, [], ◌∷◌, length}
 use Rattle.seq_window.specs.Seen.{Seen, nothing_seen}
 use Rattle.seq_window.specs.Stored.{seen_of}
 use Rattle.gateway_book.specs.Limits.{half}
@@ -30,6 +30,11 @@ pub record IsStepAt (place : ℕ) (step : Seen → Seen) (old new : List WindowP
 pub record AreKeptTo (places : ℕ) (firm : Bool) (old new : List WindowPair) : Type 0 where
   pub count : length new ≡ length old
   pub kept : (side : Bool) (k : ℕ) → seen_at side new k ≡ (if nat_lt k places then seen_at firm old k else seen_at side old k)
+
+-- Both windows of these places are what one of them was.
+pub record AreKeptIn (from end : ℕ) (firm : Bool) (old new : List WindowPair) : Type 0 where
+  pub count : length new ≡ length old
+  pub kept : (side : Bool) (k : ℕ) → seen_at side new k ≡ (if nat_le from k && nat_lt k end then seen_at firm old k else seen_at side old k)
 
 -- There are so many pairs of windows, which know no number.
 pub record AreBlank (places : ℕ) (pairs : List WindowPair) : Type 0 where

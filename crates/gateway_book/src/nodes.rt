@@ -1,14 +1,13 @@
 // The nodes that an index keeps.
-ghost use Rattle.std.specs.Prelude.{◌≡◌, ◌≤◌, ◌+◌, ◌<◌, ◌^◌, ◌++◌, Bool, false, [], ◌∷◌, ◌==◌, length, slice_get, map, IfOk, IfSome, Some, vec_capacity};
+ghost use Rattle.std.specs.Prelude.{◌≡◌, ◌≤◌, ◌+◌, ◌<◌, ◌^◌, ◌++◌, Bool, true, false, [], ◌∷◌, ◌==◌, length, slice_get, map, IfOk, IfSome, Some, vec_capacity};
 ghost use Rattle.std.specs.List.{list_any};
 ghost use Rattle.gw_base.specs.Known.{is_known};
 ghost use Rattle.gateway_book.specs.Limits.{half};
-ghost use Rattle.gateway_book.specs.Nodes.{AreSlots, IsLearnt, fresh_slot, kept_slots, opening_in, opening_at, nodes_of, place_in, reopened, settled_slot};
+ghost use Rattle.gateway_book.specs.Nodes.{AreSame, AreSlots, IsLearnt, fresh_slot, kept_slots, opening_in, opening_at, nodes_of, place_in, reopened, settled_slot};
 ghost use Rattle.gateway_book.specs.Sides.{listed_nodes, numbered_nodes, opened_nodes};
 ghost use Rattle.gateway_book.specs.WindowPairs.{AreBeside};
 
-use crate::window_pair::WindowPair;
-use crate::windows::{clear_at, keep_all, make, set_at, set_within_at, state_at, top_at};
+use crate::windows::WindowTable;
 use gw_base::{Absolute, KeyState, NoMemory, NodeId, Opening};
 use std::alloc::Global;
 
@@ -161,11 +160,18 @@ fn learn(slots: &mut Vec<Slot>, node: NodeId) -> usize
     ensures room { vec_capacity slots.old ≤ vec_capacity slots.new }
 {
     let place = place_of(slots, node);
-    if is_known(slots, node) {
+    if place < slots.len() {
         return place;
     }
     push(slots, node);
     place
+}
+
+// Whether both sides are the same still, where a node has this place and so many were known.
+fn is_still(is_same: bool, place: usize, count: usize) -> bool
+    ensures { result ≡ true → (is_same ≡ true) × (place < count) }
+{
+    if place < count { is_same } else { false }
 }
 
 /// The known nodes, in the order in which entries first named them, with a pair of windows for each. All 64 pairs are
@@ -173,12 +179,15 @@ fn learn(slots: &mut Vec<Slot>, node: NodeId) -> usize
 #[derive(Drop)]
 pub(crate) struct NodeTable {
     slots: Vec<Slot>,
-    pairs: Vec<WindowPair>,
+    windows: WindowTable,
     /// How many of the nodes the firm side knows.
     firm: usize,
+    /// Whether it knows all, and of each the opening that the live side knows.
+    is_same: bool,
     ghost room: { 64 ≤ vec_capacity slots },
     ghost are_slots: { AreSlots firm slots.items },
-    ghost beside: { AreBeside firm (length slots.items) pairs.items },
+    ghost same: { is_same ≡ true → AreSame firm slots.items },
+    ghost beside: { AreBeside firm (length slots.items) windows.pairs.items },
 }
 
 impl NodeTable {
@@ -189,11 +198,12 @@ impl NodeTable {
         ensures { IfOk result (λ table. (firm : Bool) → AreNew (nodes_in firm table)) }
     {
         let slots = Vec::with_capacity(alloc, MOST_NODES)?;
-        let pairs = make(alloc, MOST_NODES)?;
+        let windows = WindowTable::new(alloc, MOST_NODES)?;
         Ok(NodeTable {
             slots,
-            pairs,
+            windows,
             firm: 0,
+            is_same: true,
         })
     }
 
@@ -241,7 +251,7 @@ impl NodeTable {
         ensures value { result ≡ ((nodes_in firm self.now).window node.0).top }
         ensures low { IfSome result (λ top. top < 2 ^ 63) }
     {
-        top_at(&self.pairs, firm, place_of(&self.slots, node))
+        self.windows.top(firm, place_of(&self.slots, node))
     }
 
     /// The state of a node's number by its window.
@@ -249,7 +259,8 @@ impl NodeTable {
     pub(crate) fn state(&self, firm: bool, node: NodeId, number: Absolute) -> KeyState
         ensures { result ≡ ((nodes_in firm self.now).window node.0).state number }
     {
-        state_at(&self.pairs, firm, place_of(&self.slots, node), number)
+        self.windows
+            .state(firm, place_of(&self.slots, node), number)
     }
 
     /// Gives a state to a number of a node, which is known from then on.
@@ -259,8 +270,10 @@ impl NodeTable {
         requires high { number < 2 ^ 63 }
         ensures { IsNodesStep (numbered_nodes node number state) self.old self.new }
     {
+        let count = self.slots.len();
         let place = learn(&mut self.slots, node);
-        set_at(&mut self.pairs, place, number, state);
+        self.is_same = is_still(self.is_same, place, count);
+        self.windows.set(place, number, state);
     }
 
     /// Gives a state to those of these numbers that the node's window holds.
@@ -271,7 +284,7 @@ impl NodeTable {
         if place >= self.slots.len() {
             return;
         }
-        set_within_at(&mut self.pairs, place, numbers, state);
+        self.windows.set_within(place, numbers, state);
     }
 
     /// Begins an epoch of a node, which is known from then on.
@@ -281,16 +294,20 @@ impl NodeTable {
     {
         let place = learn(&mut self.slots, node);
         reopen_all(&mut self.slots, node, Some(opening));
-        clear_at(&mut self.pairs, place);
+        self.is_same = false;
+        self.windows.clear(place);
     }
 
     /// Makes both sides what one of them is.
     pub(crate) fn keep(&mut self, firm: bool)
         ensures { (side : Bool) → nodes_in side self.new ≡ nodes_in firm self.old }
     {
-        // Behind the known nodes no window has a number.
-        keep_all(&mut self.pairs, self.slots.len(), firm);
+        self.windows.keep(firm);
+        if self.is_same {
+            return;
+        }
         self.firm = cut(&mut self.slots, firm, self.firm);
         settle_all(&mut self.slots, firm);
+        self.is_same = true;
     }
 }

@@ -1,4 +1,4 @@
-use Rattle.std.proofs.Common.{Bool, true, sym, ap, ◌∙◌, if◌then◌else◌}
+use Rattle.std.proofs.Common.{Bool, sym, ap, ◌∙◌, if◌then◌else◌}
 use Rattle.gw_base.specs.declared.key_state.KeyState.TheVariants.{Held}
 use Rattle.gateway_book.specs.Index.{observed_by, side_of}
 use Rattle.gateway_book.specs.NodeSides.{nodes_in}

@@ -1,4 +1,4 @@
-use Rattle.std.proofs.Common.{ℕ, List, Some, length, refl, sym, ap, subst, arith}
+use Rattle.std.proofs.Common.{ℕ, List, Some, length, refl, sym, ap, subst, arith, true≢false}
 use Rattle.std.proofs.lemmas.List.{length-map}
 use Rattle.seq_window.specs.Seen.{nothing_seen}
 use Rattle.gateway_book.specs.Nodes.{AreSlots, reopened}
@@ -11,8 +11,8 @@ use Rattle.gateway_book.proofs.nodes.NodeTable.open.Goals as goal
 pub learn-place-requires-clause-place : goal.learn-place-requires-clause-place
 learn-place-requires-clause-place c = may_room c.args.node c.args.self.now c.requires
 
-pub clear_at-requires : goal.clear_at-requires
-clear_at-requires c = learnt_inside c.args.node c.learn-place.result c.args.self.now c.learn-place.new.slots.items c.learn-place.ensures.learnt c.requires
+pub clear-requires : goal.clear-requires
+clear-requires c = learnt_inside c.args.node c.learn-place.result c.args.self.now c.learn-place.new.slots.items c.learn-place.ensures.learnt c.requires
 
 pub invariant_of-self : goal.invariant_of-self
 invariant_of-self c =
@@ -22,9 +22,10 @@ invariant_of-self c =
       room = omega (arith, c.learn-place.ensures.room, c.reopen_all.ensures.room);
       are_slots = subst (λ (slots : List Slot). AreSlots firm slots) (sym c.reopen_all.ensures.items)
           (slots_reopened firm c.args.node.0 (Some c.args.opening) known (learnt_are_slots c.args.node c.learn-place.result c.args.self.now known c.learn-place.ensures.learnt c.requires));
-      beside = subst (λ (n : ℕ). AreBeside firm n c.clear_at.new.pairs.items) (omega (arith, ap (λ (slots : List Slot). length slots) c.reopen_all.ensures.items, length-map known (λ (slot : Slot). reopened c.args.node.0 (Some c.args.opening) slot)))
-          (learnt_beside c.args.node c.learn-place.result c.args.self.now known c.learn-place.ensures.learnt c.requires (λ seen. nothing_seen) c.clear_at.new.pairs.items c.clear_at.ensures);
+      same = λ e. absurd (true≢false (sym e));
+      beside = subst (λ (n : ℕ). AreBeside firm n c.clear.new.self.pairs.items) (omega (arith, ap (λ (slots : List Slot). length slots) c.reopen_all.ensures.items, length-map known (λ (slot : Slot). reopened c.args.node.0 (Some c.args.opening) slot)))
+          (learnt_beside c.args.node c.learn-place.result c.args.self.now known c.learn-place.ensures.learnt c.requires (λ seen. nothing_seen) c.clear.new.self.pairs.items c.clear.ensures);
     }
 
 pub returns : goal.returns
-returns c = opened_step c.args.node c.args.opening c.learn-place.result c.args.self.now _ c.learn-place.new.slots.items refl c.learn-place.ensures.learnt c.reopen_all.ensures.items c.clear_at.ensures
+returns c = opened_step c.args.node c.args.opening c.learn-place.result c.args.self.now _ c.learn-place.new.slots.items refl c.learn-place.ensures.learnt c.reopen_all.ensures.items c.clear.ensures

@@ -6,13 +6,13 @@ use Rattle.gateway_book.specs.declared.nodes.Slot.{Slot}
 use Rattle.gateway_book.proofs.NodeLemmas.{beside_step, listed_none, listed_step}
 use Rattle.gateway_book.proofs.nodes.NodeTable.set_within.Goals as goal
 
-pub set_within_at-requires : goal.set_within_at-requires
-set_within_at-requires c = omega (arith, c.if-place-len.false, c.len.ensures, c.args.self.now.are_slots.bound, c.args.self.now.beside.count)
+pub set_within-requires : goal.set_within-requires
+set_within-requires c = omega (arith, c.if-place-len.false, c.len.ensures, c.args.self.now.are_slots.bound, c.args.self.now.beside.count)
 
 pub invariant_of-self-clause-beside : goal.invariant_of-self-clause-beside
 invariant_of-self-clause-beside c =
     let old = c.args.self.now in
-    beside_step old.firm _ _ c.place_of-place.result (with_states half c.args.numbers.now c.args.state) old.pairs.items c.set_within_at.new.pairs.items old.beside c.set_within_at.ensures (omega (arith, c.if-place-len.false, c.len.ensures)) (omega arith)
+    beside_step old.firm _ _ c.place_of-place.result (with_states half c.args.numbers.now c.args.state) old.windows.pairs.items c.set_within.new.self.pairs.items old.beside c.set_within.ensures (omega (arith, c.if-place-len.false, c.len.ensures)) (omega arith)
 
 pub returns-then-place-len : goal.returns-then-place-len
 returns-then-place-len c =
@@ -22,4 +22,4 @@ returns-then-place-len c =
 pub returns : goal.returns
 returns c =
     let here : c.place_of-place.result ≡ place_in c.args.self.now.slots.items c.args.node.0 = c.place_of-place.ensures ∙ ap (λ (slots : List Slot). place_in slots c.args.node.0) c.deref.ensures.value in
-    listed_step c.args.node c.args.numbers.now c.args.state c.place_of-place.result c.args.self.now _ refl refl here (omega (arith, c.if-place-len.false, c.len.ensures)) c.set_within_at.ensures
+    listed_step c.args.node c.args.numbers.now c.args.state c.place_of-place.result c.args.self.now _ refl refl here (omega (arith, c.if-place-len.false, c.len.ensures)) c.set_within.ensures
