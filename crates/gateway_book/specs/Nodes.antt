@@ -45,7 +45,7 @@ settled_slot firm slot = record slot { firm = opening_in firm slot; live = openi
 abbrev pub IsNew : Slot → Type 0
 IsNew slot = slot.firm ≡ None
 
--- both sides of a slot have the same
+-- both sides of a slot know the same opening
 abbrev pub IsSame : Slot → Type 0
 IsSame slot = slot.firm ≡ slot.live
 

@@ -20,11 +20,12 @@ const NO_PLACE: Place = Place { at: 0, length: 0 };
 /// How many steps a pair notes at most. Behind more of them all copies are copied.
 const MOST_NOTED: usize = 64;
 
-/// A copy was held on the live side, or taken out.
+/// A copy was held on the live side, or taken out, or all of a node were.
 #[derive(Clone, Copy)]
 pub(crate) enum CopyStep {
     Hold(NodeId, Absolute),
     Take(NodeId, Absolute),
+    DropNode(NodeId),
 }
 
 // Holds one more copy, which isn't held yet.
@@ -51,6 +52,16 @@ fn take_one(held: &mut Held, node: NodeId, number: Absolute)
     held.take(node, number);
 }
 
+// Takes out all copies of a node, and says how many there were.
+fn drop_each(held: &mut Held, node: NodeId) -> u64
+    requires room { HasRoom held.old }
+    ensures count { result ≡ (copies_of held.old).count_of node.0 }
+    ensures copies { copies_of held.new ≡ without_node node.0 (copies_of held.old) }
+    ensures room { HasRoom held.new }
+{
+    held.drop_node(node)
+}
+
 // Takes a step.
 fn step_one(held: &mut Held, step: CopyStep)
     requires room { HasRoom held.old }
@@ -61,6 +72,9 @@ fn step_one(held: &mut Held, step: CopyStep)
     match step {
         CopyStep::Hold(node, number) => hold_one(held, node, number),
         CopyStep::Take(node, number) => take_one(held, node, number),
+        CopyStep::DropNode(node) => {
+            drop_each(held, node);
+        }
     }
 }
 
@@ -132,7 +146,7 @@ pub(crate) struct HeldPair {
     live: Held,
     /// The steps that the live side took since both were the same.
     given: Vec<CopyStep>,
-    /// Whether it took others.
+    /// Whether it took more than those noted.
     changed: bool,
     ghost agree: { changed ≡ false → MayStepEach given.items (copies_of firm)
         × (with_steps given.items (copies_of firm) ≡ copies_of live) } by { Prim.hlevel (MayStepEach-prop, props) },
@@ -212,8 +226,8 @@ impl HeldPair {
         ensures count { result ≡ (held_in false self.old).count_of node.0 }
         ensures others { IsHeldStep (without_node node.0) self.old self.new }
     {
-        self.changed = true;
-        self.live.drop_node(node)
+        self.changed = note(&mut self.given, self.changed, CopyStep::DropNode(node));
+        drop_each(&mut self.live, node)
     }
 
     // Whether nothing has changed since both sides were made the same.

@@ -1,22 +1,45 @@
-use Rattle.std.proofs.Common.{◌≡◌, Bool, false, List, sym, ap, subst, ◌∙◌, ℕ}
+use Rattle.std.proofs.Common.{◌≡◌, Bool, false, if◌then◌else◌, List, sym, ap, subst, ◌∙◌, ℕ}
 use Rattle.std.specs.Prelude.{is_err}
 use Rattle.std.proofs.lemmas.Bool.{false≢true}
 use Rattle.cgf_journal.specs.Trail.{is_closed, torn_stands}
 use Rattle.entry_codec.specs.Room.{IsWithin}
 use Rattle.gw_base.specs.declared.history.HistoryEntry.{HistoryEntry}
-use Rattle.gateway_book.specs.Answer.{decided}
+use Rattle.gateway_book.specs.Answer.{Given, decided, failure_answer}
 use Rattle.gateway_book.specs.Answered.{act_decided, answer_to}
-use Rattle.gateway_book.specs.Book.{reopening_of, size_of, value_of}
+use Rattle.gateway_book.specs.Book.{fortune_of, reopening_of, size_of, value_of}
+use Rattle.gateway_book.specs.Calls.{Left, given_at, left_by, taken}
 use Rattle.gateway_book.specs.Caller.{HasStorage, IsAnswered, IsFailure}
 use Rattle.gateway_book.specs.Cases.{case_value}
 use Rattle.gateway_book.specs.FitHistoryLaws.{fit_is_within}
 use Rattle.gateway_book.specs.Followed.{all_entries}
 use Rattle.gateway_book.specs.Preparing.{PreparedValue, prepared_of}
-use Rattle.gateway_book.specs.Value.{history_of, readied, recorded_if}
+use Rattle.gateway_book.specs.Value.{BookValue, history_of, readied, recorded_if}
+use Rattle.gateway_book.specs.declared.outcome.Outcome.{Outcome}
 use Rattle.gateway_book.proofs.CallerLemmas.{has_storage, running_is_sound}
 use Rattle.gateway_book.proofs.Causing.{cause_then}
 use Rattle.gateway_book.proofs.TakingLemmas.{history_is}
 use Rattle.gateway_book.proofs.book.Book.take.Goals as goal
+
+pub returns-in-Ok-clause-taken : goal.returns-in-Ok-clause-taken
+returns-in-Ok-clause-taken g c = λ told.
+    let old = c.args.self.now in
+    let ready = c.ready.new.self in
+    let new = c.respond.new.self in
+    let from = c.args.from in
+    let datagram = prepared_of c.args.request.now in
+    let opened = c.respond.ensures.adds.stays.opened in
+    let goes : is_closed ready.trail ≡ false = c.ready.ensures.closed ∙ ap is_err c.in-Ok.is in
+    let same : value_of ready ≡ readied (fortune_of old new) (value_of old) =
+    c.ready.ensures.moved told ∙ sym (ap (λ (b : Bool). readied (record { fails = b; reopening = reopening_of b (torn_stands old.trail) }) (value_of old)) opened) in
+    let given : answer_to (history_of (value_of ready)) from (case_value c.case-case.result.now) (size_of ready) ≡ given_at (value_of ready) from datagram (size_of old) =
+    (λ i. answer_to (history_of (value_of ready)) from (c.case-case.ensures.value i) (c.ready.ensures.stays.size i))
+    ∙ sym (ap (λ (b : Bool). if b then failure_answer datagram else answer_to (history_of (value_of ready)) from datagram (size_of old)) goes) in
+    let left : left_by (value_of ready) c.args.now c.args.who (decided (answer_to (history_of (value_of ready)) from (case_value c.case-case.result.now) (size_of ready)))
+    ≡ taken (fortune_of old new) from datagram (size_of old) c.args.now c.args.who (value_of old) =
+    ap (λ (d : Given). left_by (value_of ready) c.args.now c.args.who (decided d)) given
+    ∙ ap (λ (v : BookValue). left_by v c.args.now c.args.who (decided (given_at v from datagram (size_of old)))) same in
+    let was = c.respond.ensures.left told in
+    record { value = was.value ∙ ap (λ (l : Left Outcome). l.value) left; answer = was.answer ∙ ap (λ (l : Left Outcome). l.answer) left }
 
 pub returns-in-Ok-clause-told : goal.returns-in-Ok-clause-told
 returns-in-Ok-clause-told g c =
