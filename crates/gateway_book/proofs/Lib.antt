@@ -39,3 +39,4 @@ pub mod TakingLemmas
 pub mod Tellings
 pub mod TurnLemmas
 pub mod WindowLemmas
+pub mod WithinLemmas

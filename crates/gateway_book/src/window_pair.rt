@@ -134,12 +134,31 @@ impl WindowPair {
         self.live.set(number, state);
     }
 
+    // Gives a state to a number, where the window of the live side holds it.
+    fn set_held(&mut self, number: Absolute, state: KeyState)
+        ensures { IsPairStep (with_states half (number ∷ []) state) self.old self.new }
+    {
+        // Its clause bounds what the window holds.
+        let _top = self.live.top();
+        if !self.live.holds(number) {
+            return;
+        }
+        self.set(number, state);
+    }
+
     /// Gives a state to those of these numbers that the window of the live side holds.
     pub(crate) fn set_within(&mut self, numbers: &[Absolute], state: KeyState)
         ensures { IsPairStep (with_states half numbers.now state) self.old self.new }
     {
-        self.changed = true;
-        self.live.set_within(numbers, state);
+        if numbers.len() > MOST_NOTED {
+            // They aren't noted.
+            self.changed = true;
+            self.live.set_within(numbers, state);
+            return;
+        }
+        for number in numbers {
+            self.set_held(*number, state);
+        }
     }
 
     /// Forgets all numbers on the live side.
