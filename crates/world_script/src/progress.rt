@@ -9,7 +9,7 @@ use crate::kind::ScriptKind;
 use crate::line::Line;
 use crate::saying::said_by;
 use crate::text::{TextLine, is_blank, is_printable};
-use crate::words::split;
+use crate::words::{behind_in, split};
 use std::alloc::Global;
 
 /// The most octets that the text of a script may have.
@@ -64,7 +64,8 @@ impl Progress {
         }
     }
 
-    /// What the next line says. Its words are put in the place of those before.
+    /// What the next line says. Its words may be put in the place of those before.
+    #[tactic(auto, using(crate::proofs::KeywordLemmas::in_line))]
     pub fn read<'a>(
         self,
         alloc: Global,
@@ -83,6 +84,12 @@ impl Progress {
         }
         if !is_printable(content) {
             return Err(LineFault::Refused(InputKind::Word));
+        }
+        // Most lines of a feed are of this form.
+        if self.kind == ScriptKind::Feed {
+            if let Some((from, octets)) = behind_in(content) {
+                return self.formed(alloc, Keyword::In, content, &[from, octets]);
+            }
         }
         split(words, content)?;
         let Some((first, rest)) = words.split_first() else {

@@ -1,6 +1,6 @@
 //! The words of a line.
 
-ghost use Rattle.std.specs.Prelude.{◌≡◌, ◌++◌, [], map, OnOk};
+ghost use Rattle.std.specs.Prelude.{◌≡◌, ◌++◌, ◌∷◌, [], map, codes, IfSome, OnOk};
 ghost use Rattle.route_filter.specs.Words.{with_word, words_of};
 
 use crate::text::cut;
@@ -19,6 +19,27 @@ pub fn split<'a>(words: &mut Vec<&'a [u8]>, line: &'a [u8]) -> Result<(), NoMemo
     }
     push_word(words, rest)?;
     Ok(())
+}
+
+/// What stands behind `in` in a line of three words, where that is the first and one space stands between two.
+pub fn behind_in(line: &[u8]) -> Option<(&[u8], &[u8])>
+    ensures { IfSome result (λ words.
+        words_of line.now ≡ codes "in" ∷ words.0.now ∷ words.1.now ∷ []) }
+{
+    let [i, n, space, rest @ ..] = line else {
+        return None;
+    };
+    if *i != b'i' || *n != b'n' || *space != b' ' {
+        return None;
+    }
+    let (second, third) = cut(rest, b' ')?;
+    if second.is_empty() || third.is_empty() {
+        return None;
+    }
+    match cut(third, b' ') {
+        Some(_) => None,
+        None => Some((second, third)),
+    }
 }
 
 /// Appends a word, if it isn't empty.
