@@ -1,8 +1,10 @@
 -- The lines that are printed, step by step.
-use Rattle.std.proofs.Common.{◌≡◌, ℕ, zero, suc, ◌+◌, ◌-◌, ◌/◌, ◌%◌, ◌==◌, List, [], ◌∷◌, ◌++◌, drop, Some, None, slice_get, refl, ap, sym, ◌∙◌, arith, append_assoc, append-nil}
+use Rattle.std.proofs.Common.{◌≡◌, ℕ, zero, suc, ◌+◌, ◌-◌, ◌*◌, ◌/◌, ◌%◌, ◌≤◌, ◌==◌, List, [], ◌∷◌, ◌++◌, length, length-append, take, drop, slice_set, Some, None, slice_get, refl, ap, sym, ◌∙◌, arith, append_assoc, append-nil}
 use Rattle.std.specs.List.{flat_map}
 use Rattle.std.proofs.lemmas.Grind.{flat_map-append}
 use Rattle.std.proofs.lemmas.List.Elements.{filter-append}
+use Rattle.std.proofs.lemmas.List.{at_drop_all, length-set, take_all, take_at, take_more_set}
+use Rattle.hex.specs.Hex.{encode_upper, encode_with}
 use Rattle.cdr_shelf.specs.Files.{SealedFile, in_stream}
 use Rattle.file_writer.specs.Files.{files_below, stream_files}
 use Rattle.file_writer.specs.Streams.{Settings}
@@ -17,6 +19,31 @@ last_digit (suc count) n some = ap (λ (k : ℕ). digits k (n / 10) ++ (48 + n %
   where
     less : (k : ℕ) → suc k - 1 ≡ k
     less k = omega arith
+
+-- the digits of all octets are spelt, and the end of the line behind them
+pub line_spelt : (octets line : List ℕ) (k : ℕ) → length octets ≤ k → length line ≡ 2 * length octets + 1
+    → take (2 * k) line ++ encode_upper (drop k octets) ≡ encode_upper octets
+    → k ≡ length octets → slice_set line (2 * length octets) 10 ≡ encode_upper octets ++ 10 ∷ []
+unfolding encode_with
+line_spelt octets line k all long spelt end =
+    let digits : take (2 * k) line ≡ encode_upper octets =
+    sym (append-nil (take (2 * k) line)) ∙ sym (at_drop_all (λ (xs : List ℕ). take (2 * k) line ++ encode_upper xs) octets k all) ∙ spelt in
+    let front : take (2 * length octets) line ≡ encode_upper octets = ap (λ (n : ℕ). take (2 * n) line) (sym end) ∙ digits in
+    let size : length (slice_set line (2 * length octets) 10) ≡ length line = length-set line (2 * length octets) 10 in
+    sym (take_all (2 * length octets + 1) (slice_set line (2 * length octets) 10) (omega (arith, size, long)))
+    ∙ take_more_set line (2 * length octets) 10 (omega (arith, long))
+    ∙ ap (λ (xs : List ℕ). xs ++ 10 ∷ []) front
+
+-- what stood in a list before it was made longer
+pub kept_before : (old more : List ℕ) (start size : ℕ) → length old ≡ start → start ≤ size → take start (take size old ++ more) ≡ old
+kept_before old more start size is within =
+    ap (λ (xs : List ℕ). take start (xs ++ more)) (take_all size old (omega (arith, is, within))) ∙ take_at old more start is
+
+-- a line is written behind what stood there
+pub line_added : (front line rest old text : List ℕ) (size : ℕ) → length front + length line ≡ size → front ≡ old → line ≡ text
+    → take size (front ++ line ++ rest) ≡ old ++ text
+line_added front line rest old text size long is shows =
+    take_at (front ++ line) rest size (omega (arith, length-append front line, long)) ∙ (λ i. is i ++ shows i)
 
 -- the line of a file, part by part
 pub file_printed : (start begun named spaced now word name octets : List ℕ) → begun ≡ start ++ word → named ≡ begun ++ name

@@ -43,7 +43,7 @@ pub fn report(alloc: Global, script: Script) -> Result<Report, NoMemory>
         if feed.is_earlier(line) {
             return Ok(feed.refused(at));
         }
-        feed.run(alloc, line)?;
+        feed.run(line)?;
         at += 1;
     }
     drop(script);
@@ -80,7 +80,7 @@ impl Feed {
     }
 
     /// Does what a line says.
-    fn run(&mut self, alloc: Global, line: &Line) -> Result<(), NoMemory>
+    fn run(&mut self, line: &Line) -> Result<(), NoMemory>
         ensures state { OnOk result (state_of self.new ≡ after_line (state_of self.old) line.now) }
         ensures printed { OnOk result (self.new.printed.items ≡
             self.old.printed.items ++ printed_for (state_of self.old) line.now) }
@@ -90,7 +90,7 @@ impl Feed {
                 self.moment = *moment;
                 Ok(())
             }
-            Line::Datagram { from, octets } => self.take(alloc, *from, octets.octets()),
+            Line::Datagram { from, octets } => self.take(*from, octets.octets()),
             Line::Mark { .. } => {
                 self.gateway.tick(self.moment);
                 Ok(())
@@ -105,7 +105,7 @@ impl Feed {
     }
 
     /// Takes a datagram of this sender, and prints what becomes of it.
-    fn take(&mut self, alloc: Global, from: Addr, octets: &[u8]) -> Result<(), NoMemory>
+    fn take(&mut self, from: Addr, octets: &[u8]) -> Result<(), NoMemory>
         ensures gateway { OnOk result (self.new.gateway ≡
             after_datagram self.old.gateway self.old.moment from octets.now) }
         ensures moment { self.new.moment ≡ self.old.moment }
@@ -113,7 +113,7 @@ impl Feed {
             self.old.printed.items ++ reply_line (answered self.old.gateway from octets.now)) }
     {
         let outcome = self.gateway.take(from, octets, self.moment);
-        print_outcome(alloc, &mut self.printed, &outcome)?;
+        print_outcome(&mut self.printed, &outcome)?;
         Ok(())
     }
 
@@ -179,7 +179,7 @@ fn print_files(
     let shelf = write_files(alloc, settings, rules, &items)?;
     drop(items);
     for stream in 0..STREAMS {
-        print_stream(alloc, printed, &shelf, stream)?;
+        print_stream(printed, &shelf, stream)?;
     }
     Ok(())
 }

@@ -1,5 +1,5 @@
 //! The lines that `feed` prints.
-ghost use Rattle.std.specs.Prelude.{◌≡◌, ◌++◌, ◌∷◌, [], OnOk};
+ghost use Rattle.std.specs.Prelude.{◌≡◌, ◌+◌, ◌*◌, ◌++◌, ◌∷◌, [], OnOk, length};
 ghost use Rattle.std.specs.List.{flat_map};
 ghost use Rattle.cdr_shelf.specs.Files.{file_of, in_stream};
 ghost use Rattle.replay_world.specs.Report.{counts_text, digits, file_line, file_name};
@@ -11,16 +11,15 @@ use gateway_book::{Counts, Outcome};
 use gw_base::NoMemory;
 use std::alloc::Global;
 
+/// The digits of numbers in hexadecimal.
+const DIGITS: &[u8; 16] = b"0123456789ABCDEF";
+
 /// Appends the reply to a datagram, or why it isn't answered.
-pub fn print_outcome(
-    alloc: Global,
-    printed: &mut Vec<u8>,
-    outcome: &Outcome,
-) -> Result<(), NoMemory>
+pub fn print_outcome(printed: &mut Vec<u8>, outcome: &Outcome) -> Result<(), NoMemory>
     ensures { OnOk result (printed.new.items ≡ printed.old.items ++ outcome_line outcome.now) }
 {
     match outcome {
-        Outcome::Answer(receipt) => print_octets(alloc, printed, receipt.reply.octets()),
+        Outcome::Answer(receipt) => print_octets(printed, receipt.reply.octets()),
         Outcome::Drop(why) => {
             printed.extend_from_slice(b"- ")?;
             printed.extend_from_slice(why.name().as_bytes())?;
@@ -31,28 +30,43 @@ pub fn print_outcome(
 }
 
 /// Appends octets in hexadecimal, as a line.
-fn print_octets(alloc: Global, printed: &mut Vec<u8>, octets: &[u8]) -> Result<(), NoMemory>
+fn print_octets(printed: &mut Vec<u8>, octets: &[u8]) -> Result<(), NoMemory>
     ensures { OnOk result (printed.new.items ≡ printed.old.items ++ octets_line octets.now) }
 {
-    let digits = hex::encode_upper(alloc, octets)?;
-    printed.extend_from_slice(digits.as_bytes())?;
-    printed.push(b'\n')?;
+    let start = printed.len();
+    let Some(digits) = octets.len().checked_mul(2) else {
+        return Err(NoMemory);
+    };
+    let Some(end) = digits.checked_add(start + 1) else {
+        return Err(NoMemory);
+    };
+    printed.resize(end, 0)?;
+    let (_, line) = printed.as_mut_slice().split_at_mut(start);
+    spell_line(line, octets);
     Ok(())
 }
 
+/// Writes octets in hexadecimal, as a line.
+fn spell_line(line: &mut [u8], octets: &[u8])
+    requires { length line.old ≡ 2 * length octets.now + 1 }
+    ensures { line.new ≡ octets_line octets.now }
+{
+    'octets: for k in 0..octets.len() {
+        let octet = octets[k];
+        line[2 * k] = DIGITS[(octet >> 4) as usize];
+        line[2 * k + 1] = DIGITS[(octet & 0x0F) as usize];
+    }
+    line[2 * octets.len()] = b'\n';
+}
+
 /// Appends the lines of the sealed files of a stream, in the order in which they were sealed.
-pub fn print_stream(
-    alloc: Global,
-    printed: &mut Vec<u8>,
-    shelf: &QuietShelf,
-    stream: u8,
-) -> Result<(), NoMemory>
+pub fn print_stream(printed: &mut Vec<u8>, shelf: &QuietShelf, stream: u8) -> Result<(), NoMemory>
     ensures { OnOk result (printed.new.items ≡
         printed.old.items ++ flat_map (file_line 0) (in_stream stream (⟦<QuietShelf as Shelf>⟧.files shelf.now))) }
 {
     let mut at = 0;
     while let Some((name, octets)) = shelf.nth(at) {
-        print_if_in(alloc, printed, stream, name, octets)?;
+        print_if_in(printed, stream, name, octets)?;
         at += 1;
     }
     Ok(())
@@ -60,7 +74,6 @@ pub fn print_stream(
 
 /// Appends the line of a file, where it is one of the stream.
 fn print_if_in(
-    alloc: Global,
     printed: &mut Vec<u8>,
     stream: u8,
     name: FileName,
@@ -70,24 +83,19 @@ fn print_if_in(
         printed.old.items ++ flat_map (file_line 0) (in_stream stream (file_of name octets.now ∷ []))) }
 {
     if name.stream == stream {
-        print_file(alloc, printed, name, octets)?;
+        print_file(printed, name, octets)?;
     }
     Ok(())
 }
 
 /// Appends the line of a file.
-fn print_file(
-    alloc: Global,
-    printed: &mut Vec<u8>,
-    name: FileName,
-    octets: &[u8],
-) -> Result<(), NoMemory>
+fn print_file(printed: &mut Vec<u8>, name: FileName, octets: &[u8]) -> Result<(), NoMemory>
     ensures { OnOk result (printed.new.items ≡ printed.old.items ++ file_line 0 (file_of name octets.now)) }
 {
     printed.extend_from_slice(b"file 1 ")?;
     print_name(printed, name)?;
     printed.push(b' ')?;
-    print_octets(alloc, printed, octets)?;
+    print_octets(printed, octets)?;
     Ok(())
 }
 
