@@ -233,7 +233,7 @@ no_memory() {
 
 serve_small() {
     (
-        ulimit -v 30000
+        ulimit -v 10000
         serve
     )
 }
