@@ -1,5 +1,5 @@
 -- Lemmas on addresses, offsets and modes: what a word says is printed as a word that says it, and that is as long.
-use Rattle.std.proofs.Common.{◌≡◌, ℕ, zero, suc, ◌+◌, ◌-◌, ◌*◌, ◌/◌, ◌%◌, ◌<◌, ◌≤◌, Bool, true, false, ◌&&◌, ◌==◌, nat_le, if◌then◌else◌, List, [], ◌∷◌, ◌++◌, length, Option, Some, None, option_map, option_and_then, refl, ap, sym, ◌∙◌, subst, arith, append_assoc, le-leb, ℤ, pos, neg_ℤ, codes}
+use Rattle.std.proofs.Common.{◌≡◌, ℕ, zero, suc, ◌+◌, ◌-◌, ◌*◌, ◌/◌, ◌%◌, ◌^◌, ◌<◌, ◌≤◌, Bool, true, false, ◌&&◌, ◌==◌, nat_le, if◌then◌else◌, List, [], ◌∷◌, ◌++◌, length, Option, Some, None, option_map, option_and_then, refl, ap, sym, ◌∙◌, subst, arith, append_assoc, length-append, le-leb, ℤ, pos, neg_ℤ, codes}
 use Rattle.std.proofs.lemmas.Bool.{eqb-true, leb-true}
 use Rattle.std.proofs.lemmas.Slice.Eq.{bytes_eq-Decides}
 use Rattle.std.specs.Char.{is_ascii_digit}
@@ -11,7 +11,7 @@ use Rattle.world_script.specs.Printing.{address_text, hours_text, mode_text, off
 use Rattle.world_script.specs.Values.{address_of, ip_of, mode_of, offset_of, signed, two_digits}
 use Rattle.world_script.specs.declared.mode.Mode.{Mode}
 use Rattle.world_script.specs.declared.mode.Mode.TheVariants as mode
-use Rattle.world_script.proofs.ValueLemmas.{number_printed, some_same, then_some, where_some}
+use Rattle.world_script.proofs.ValueLemmas.{decimal_is_word, number_printed, some_same, then_some, where_some}
 use Rattle.world_script.proofs.WordLemmas.{AllGlyphs, IsWord}
 
 -- Parts of a word.
@@ -33,7 +33,7 @@ cut_case separator x xs a b false (Some p) e later h =
     let same : ◌≡◌ {A = List ℕ × List ℕ} (x ∷ p.0, p.1) (a, b) = some_same (x ∷ p.0, p.1) (a, b) h in
     ap (λ (l : List ℕ). x ∷ l) (later p.0 p.1 refl) ∙ ap (λ (q : List ℕ × List ℕ). q.0 ++ separator ∷ q.1) same
 
-cut_joined : (separator : ℕ) (xs a b : List ℕ) → cut_at separator xs ≡ Some (a, b) → xs ≡ a ++ separator ∷ b
+pub cut_joined : (separator : ℕ) (xs a b : List ℕ) → cut_at separator xs ≡ Some (a, b) → xs ≡ a ++ separator ∷ b
 cut_joined separator [] a b h = let no : ⊥ = cc in absurd no
 cut_joined separator (x ∷ xs) a b h =
     cut_case separator x xs a b (x == separator) (cut_at separator xs) refl (λ c d e. cut_joined separator xs c d e) h
@@ -88,6 +88,44 @@ address_printed word a h =
     cut_joined 58 word p.0.0 p.0.1 p.1
     ∙ (λ i. ip_printed p.0.0 ip.0 ip.1 i ++ 58 ∷ said i)
     ∙ address_joined ip.0 port.0 ∙ ap address_text is
+
+-- They are words.
+
+joined_glyphs : (a b : List ℕ) (x : ℕ) → AllGlyphs a → 32 < x → x ≤ 126 → AllGlyphs b → AllGlyphs (a ++ x ∷ b)
+joined_glyphs [] b x ha low high hb = (low, high, hb)
+joined_glyphs (y ∷ ys) b x ha low high hb = (ha.0, ha.1, joined_glyphs ys b x ha.2 low high hb)
+
+number_glyphs : (most : ℕ) (word : List ℕ) (n : ℕ) → most < 2 ^ 64 → number_up_to most word ≡ Some n → AllGlyphs word
+number_glyphs most word n small h =
+    let is = number_printed most word n small h in
+    subst AllGlyphs (sym is.1) (decimal_is_word n (omega (arith, is.0, small))).1
+
+ip_glyphs : (text : List ℕ) (ip : ℕ) → ip_of text ≡ Some ip → AllGlyphs text
+ip_glyphs text ip h =
+    let p = then_some (cut_at 46 text) _ ip h in
+    let q = then_some (cut_at 46 p.0.1) _ ip p.2 in
+    let r = then_some (cut_at 46 q.0.1) _ ip q.2 in
+    let a = then_some (number_up_to 255 p.0.0) _ ip r.2 in
+    let b = then_some (number_up_to 255 q.0.0) _ ip a.2 in
+    let c = then_some (number_up_to 255 r.0.0) _ ip b.2 in
+    let d = then_some (number_up_to 255 r.0.1) _ ip c.2 in
+    let na = number_glyphs 255 p.0.0 a.0 (omega arith) a.1 in
+    let nb = number_glyphs 255 q.0.0 b.0 (omega arith) b.1 in
+    let nc = number_glyphs 255 r.0.0 c.0 (omega arith) c.1 in
+    let nd = number_glyphs 255 r.0.1 d.0 (omega arith) d.1 in
+    let third = subst AllGlyphs (sym (cut_joined 46 q.0.1 r.0.0 r.0.1 r.1)) (joined_glyphs r.0.0 r.0.1 46 nc (omega arith) (omega arith) nd) in
+    let second = subst AllGlyphs (sym (cut_joined 46 p.0.1 q.0.0 q.0.1 q.1)) (joined_glyphs q.0.0 q.0.1 46 nb (omega arith) (omega arith) third) in
+    subst AllGlyphs (sym (cut_joined 46 text p.0.0 p.0.1 p.1)) (joined_glyphs p.0.0 p.0.1 46 na (omega arith) (omega arith) second)
+
+pub address_word : (word : List ℕ) (a : Addr) → address_of word ≡ Some a → IsWord word
+address_word word a h =
+    let p = then_some (cut_at 58 word) _ a h in
+    let ip = then_some (ip_of p.0.0) _ a p.2 in
+    let port = then_some (number_up_to 65535 p.0.1) _ a ip.2 in
+    let long : 0 < length (p.0.0 ++ 58 ∷ p.0.1) = omega (arith, length-append p.0.0 (58 ∷ p.0.1)) in
+    let glyphs = joined_glyphs p.0.0 p.0.1 58 (ip_glyphs p.0.0 ip.0 ip.1) (omega arith) (omega arith)
+    (number_glyphs 65535 p.0.1 port.0 (omega arith) port.1) in
+    subst IsWord (sym (cut_joined 58 word p.0.0 p.0.1 p.1)) (long, glyphs)
 
 -- Offsets.
 

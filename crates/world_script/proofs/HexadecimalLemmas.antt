@@ -1,13 +1,14 @@
 -- Lemmas on octets that are read from pairs of digits.
-use Rattle.std.proofs.Common.{◌≡◌, ◌≢◌, ℕ, ◌+◌, ◌*◌, ◌%◌, ◌<◌, ◌≤◌, List, [], ◌∷◌, ◌++◌, length, take, drop, map, slice_index, slice_set, Option, Some, None, unwrap_or, option_and_then, Result, Ok, Err, refl, ap, sym, ◌∙◌, arith, append-nil}
+use Rattle.std.proofs.Common.{◌≡◌, ◌≢◌, ℕ, ◌+◌, ◌*◌, ◌%◌, ◌<◌, ◌≤◌, ◌==◌, Bool, true, false, if◌then◌else◌, List, [], ◌∷◌, ◌++◌, length, take, drop, map, slice_index, slice_set, Option, Some, None, unwrap_or, option_and_then, Result, Ok, Err, refl, ap, sym, ◌∙◌, arith, append-nil}
 use Rattle.std.specs.Borrow.{Bor}
 use Rattle.std.specs.Result.{result_ok}
 use Rattle.hex.proofs.HexLemmas.{decode_of-even}
 use Rattle.hex.proofs.Pairs.{decode_done, decode_err, decode_step, prepend}
 use Rattle.hex.specs.Hex.{decode_of, decode_pairs, digit_or_error, hex_digit_value, pair_value, value_at, ◌>>=◌}
 use Rattle.hex.specs.declared.error.FromHexError.{FromHexError}
-use Rattle.hex.specs.declared.error.FromHexError.TheVariants.{InvalidHexCharacter}
+use Rattle.hex.specs.declared.error.FromHexError.TheVariants.{InvalidHexCharacter, OddLength}
 use Rattle.route_filter.specs.Words.{decoded, octets_in, octets_of}
+use Rattle.world_script.proofs.WordLemmas.{AllGlyphs}
 
 -- Digits.
 
@@ -92,3 +93,45 @@ joined_one (Some octets) = ap Some (sym (append-nil octets))
 
 pub one_word : (word : List ℕ) → octets_in word ≡ octets_of (word ∷ [])
 one_word word = joined_one (octets_in word)
+
+-- Their digits are printable.
+
+then_ok : {A B : Type 0} (r : Result A FromHexError) (f : A → Result B FromHexError) (y : B) → (r >>= f) ≡ Ok y →
+    (x : A) × (r ≡ Ok x) × (f x ≡ Ok y)
+then_ok (Ok x) f y h = (x, refl, h)
+then_ok (Err e) f y h = absurd (cc)
+
+digit_glyph : (c v : ℕ) → hex_digit_value c ≡ Some v → (32 < c) × (c ≤ 126)
+digit_glyph c v h = (grind (arith, h), grind (arith, h))
+
+glyph : (c place v : ℕ) → value_at c place ≡ Ok v → (32 < c) × (c ≤ 126)
+glyph c place v h = by (hex_digit_value c) refl h
+  where
+    by : (o : Option ℕ) → hex_digit_value c ≡ o → digit_or_error c place o ≡ Ok v → (32 < c) × (c ≤ 126)
+    by None e k = absurd (cc)
+    by (Some w) e k = digit_glyph c w e
+
+pairs_glyphs : (place : ℕ) (digits octets : List ℕ) → decode_pairs place digits ≡ Ok octets → AllGlyphs digits
+unfolding decode_pairs
+pairs_glyphs place [] octets h = tt
+pairs_glyphs place (d ∷ []) octets h = absurd (cc)
+pairs_glyphs place (high ∷ low ∷ rest) octets h =
+    let octet = then_ok (pair_value high low place) _ octets h in
+    let first = then_ok (value_at high place) _ octet.0 octet.1 in
+    let second = then_ok (value_at low (place + 1)) _ octet.0 first.2 in
+    let later = then_ok (decode_pairs (place + 2) rest) _ octets octet.2 in
+    let a = glyph high place first.0 first.1 in
+    let b = glyph low (place + 1) second.0 second.1 in
+    (a.0, a.1, (b.0, b.1, pairs_glyphs (place + 2) rest later.0 later.1))
+
+from_decoded : (r : Result (List ℕ) FromHexError) (octets : List ℕ) → decoded r ≡ Some octets → r ≡ Ok octets
+from_decoded (Ok found) octets h = cc
+from_decoded (Err e) octets h = absurd (cc)
+
+-- a word that spells octets has no space
+pub octets_glyphs : (word octets : List ℕ) → octets_in word ≡ Some octets → AllGlyphs word
+octets_glyphs word octets h = by (length word % 2 == 1) (from_decoded (decode_of word) octets h)
+  where
+    by : (odd : Bool) → (if odd then Err OddLength else decode_pairs 0 word) ≡ Ok octets → AllGlyphs word
+    by true e = absurd (cc)
+    by false e = pairs_glyphs 0 word octets e

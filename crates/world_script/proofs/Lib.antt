@@ -1,5 +1,6 @@
 pub mod AddressLemmas
 pub mod ArityLemmas
+pub mod DatagramLemmas
 pub mod FormLemmas
 pub mod HexadecimalLemmas
 pub mod KeywordLemmas

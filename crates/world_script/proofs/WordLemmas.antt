@@ -1,7 +1,6 @@
 -- Lemmas on the words of a line: those of a line that is printed, and how long a line with some words is at least.
-use Rattle.std.proofs.Common.{◌≡◌, ℕ, ◌+◌, ◌-◌, ◌<◌, ◌≤◌, Bool, true, false, not, ◌==◌, nat_le, if◌then◌else◌, List, [], ◌∷◌, ◌++◌, length, refl, ap, ◌∙◌, arith, append-nil, append_assoc, length-append, take, drop, slice_index, filter, Option, Some, None, option_map, sym, subst, codes}
+use Rattle.std.proofs.Common.{◌≡◌, ℕ, ◌+◌, ◌<◌, ◌≤◌, Bool, true, false, not, ◌==◌, nat_le, if◌then◌else◌, List, [], ◌∷◌, ◌++◌, length, refl, ap, ◌∙◌, arith, append-nil, append_assoc, length-append, filter, Option, Some, None, option_map, sym, subst}
 use Rattle.std.proofs.lemmas.Bool.{and_parts, leb-true}
-use Rattle.std.proofs.lemmas.List.{take_all}
 use Rattle.std.proofs.lemmas.List.Folds.{list_all-append}
 use Rattle.std.specs.Int.{is_in_range}
 use Rattle.std.specs.List.{onto_first, slice_split}
@@ -184,25 +183,3 @@ pub last_word : (xs : List ℕ) → None ≡ cut_at 32 xs → words_of xs ≡ wi
 last_word xs e =
     let parts : parts_of xs ≡ xs ∷ [] = subst (PartsAre xs) (sym e) (parts_at xs) in
     ap (filter (λ w. not (is_empty w))) parts ∙ with_first xs [] ∙ append-nil (with_word xs [])
-
-kept : (word : List ℕ) → false ≡ (length word == 0) → with_word word [] ≡ word ∷ []
-kept [] h = cc
-kept (x ∷ xs) h = refl
-
-three : (rest second third : List ℕ) → Some (second, third) ≡ cut_at 32 rest →
-    false ≡ (length second == 0) → false ≡ (length third == 0) → None ≡ cut_at 32 third → words_of (105 ∷ 110 ∷ 32 ∷ rest) ≡ codes "in" ∷ second ∷ third ∷ []
-three rest second third e some more none =
-    let one : with_word second [] ++ words_of third ≡ words_of rest = word_taken [] (with_word second []) rest second third (words_of rest) e refl refl in
-    let last : words_of third ≡ third ∷ [] = last_word third none ∙ kept third more in
-    ap (λ (ws : List (List ℕ)). codes "in" ∷ ws) (sym one ∙ (λ i. kept second some i ++ last i))
-
--- three words with one space between two, of which the first is `in`
-pub three_words : (line second third : List ℕ) → 3 ≤ length line → slice_index line 0 ≡ 105 → slice_index line 1 ≡ 110 →
-    slice_index line 2 ≡ 32 → Some (second, third) ≡ cut_at 32 (take (length line - 3) (drop 3 line)) →
-    false ≡ (length second == 0) → false ≡ (length third == 0) → None ≡ cut_at 32 third → words_of line ≡ codes "in" ∷ second ∷ third ∷ []
-three_words [] second third h i n s e some more none = absurd (omega (arith, h))
-three_words (a ∷ []) second third h i n s e some more none = absurd (omega (arith, h))
-three_words (a ∷ b ∷ []) second third h i n s e some more none = absurd (omega (arith, h))
-three_words (a ∷ b ∷ c ∷ rest) second third h i n s e some more none =
-    let whole : take (length (a ∷ b ∷ c ∷ rest) - 3) rest ≡ rest = take_all (length (a ∷ b ∷ c ∷ rest) - 3) rest (omega arith) in
-    (λ k. words_of (i k ∷ n k ∷ s k ∷ rest)) ∙ three rest second third (e ∙ ap (cut_at 32) whole) some more none

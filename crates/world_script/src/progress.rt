@@ -1,15 +1,18 @@
-ghost use Rattle.std.specs.Prelude.{◌≡◌, ◌+◌, ◌<◌, ◌^◌, [], map};
+ghost use Rattle.std.specs.Prelude.{◌≡◌, ◌+◌, ◌<◌, ◌^◌, [], map, false, Ok, IfOk, IfSome};
 ghost use Rattle.world_script.specs.Outcome.{Says, progress_after};
-ghost use Rattle.world_script.specs.Script.{formed, is_action_line, is_end_line, is_rule_line, is_setting_line, progress_of, reading_of};
+ghost use Rattle.world_script.specs.Script.{contented, formed, is_action_line, is_end_line, is_rule_line, is_setting_line, progress_of, reading_of};
 ghost use Rattle.world_script.specs.Text.{lent_line, line_size};
 
 use crate::fault::{InputKind, LineFault};
+use crate::hexadecimal::decoded;
 use crate::keyword::Keyword;
 use crate::kind::ScriptKind;
 use crate::line::Line;
 use crate::saying::said_by;
 use crate::text::{TextLine, is_blank, is_printable};
+use crate::values::address;
 use crate::words::{behind_in, split};
+use gw_base::{NoMemory, Octets};
 use std::alloc::Global;
 
 /// The most octets that the text of a script may have.
@@ -65,7 +68,6 @@ impl Progress {
     }
 
     /// What the next line says. Its words may be put in the place of those before.
-    #[tactic(auto, using(crate::proofs::KeywordLemmas::in_line))]
     pub fn read<'a>(
         self,
         alloc: Global,
@@ -79,17 +81,17 @@ impl Progress {
             return Err(LineFault::Refused(InputKind::TooLong));
         }
         let content = line.content();
+        // Most lines of a feed are of this form.
+        if self.kind == ScriptKind::Feed && !self.has_end {
+            if let Some(line) = self.one_datagram(alloc, content)? {
+                return Ok(line);
+            }
+        }
         if is_blank(content) {
             return Ok(Line::Blank);
         }
         if !is_printable(content) {
             return Err(LineFault::Refused(InputKind::Word));
-        }
-        // Most lines of a feed are of this form.
-        if self.kind == ScriptKind::Feed {
-            if let Some((from, octets)) = behind_in(content) {
-                return self.formed(alloc, Keyword::In, content, &[from, octets]);
-            }
         }
         split(words, content)?;
         let Some((first, rest)) = words.split_first() else {
@@ -99,6 +101,29 @@ impl Progress {
             Ok(form) => self.formed(alloc, form, content, rest),
             Err(kind) => Err(LineFault::Refused(kind)),
         }
+    }
+
+    /// The datagram that a line of a feed says, where one space stands before its address, and one before its octets,
+    /// which are one word.
+    fn one_datagram(self, alloc: Global, content: &[u8]) -> Result<Option<Line>, NoMemory>
+        requires feed { self.kind ≡ ScriptKind.Feed }
+        requires open { self.has_end ≡ false }
+        ensures { IfOk result (λ said. IfSome said (λ line. contented self content.now ≡ Ok line)) }
+    {
+        let Some((from, word)) = behind_in(content) else {
+            return Ok(None);
+        };
+        if word.is_empty() {
+            return Ok(None);
+        }
+        let Some(from) = address(from) else {
+            return Ok(None);
+        };
+        let Some(octets) = decoded(alloc, word)? else {
+            return Ok(None);
+        };
+        let octets = Octets::from_vec(octets);
+        Ok(Some(Line::Datagram { from, octets }))
     }
 
     /// What a line of this form says, by its words after the first.

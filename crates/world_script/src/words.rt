@@ -2,6 +2,7 @@
 
 ghost use Rattle.std.specs.Prelude.{◌≡◌, ◌++◌, ◌∷◌, [], map, codes, IfSome, OnOk};
 ghost use Rattle.route_filter.specs.Words.{with_word, words_of};
+ghost use Rattle.world_script.specs.Printing.{words_text};
 
 use crate::text::cut;
 use gw_base::NoMemory;
@@ -21,10 +22,10 @@ pub fn split<'a>(words: &mut Vec<&'a [u8]>, line: &'a [u8]) -> Result<(), NoMemo
     Ok(())
 }
 
-/// What stands behind `in` in a line of three words, where that is the first and one space stands between two.
+/// What stands before the first space behind `in ` at the beginning of a line, and what follows it.
 pub fn behind_in(line: &[u8]) -> Option<(&[u8], &[u8])>
-    ensures { IfSome result (λ words.
-        words_of line.now ≡ codes "in" ∷ words.0.now ∷ words.1.now ∷ []) }
+    ensures { IfSome result (λ parts.
+        line.now ≡ codes "in" ++ words_text (parts.0.now ∷ parts.1.now ∷ [])) }
 {
     let [i, n, space, rest @ ..] = line else {
         return None;
@@ -32,14 +33,8 @@ pub fn behind_in(line: &[u8]) -> Option<(&[u8], &[u8])>
     if *i != b'i' || *n != b'n' || *space != b' ' {
         return None;
     }
-    let (second, third) = cut(rest, b' ')?;
-    if second.is_empty() || third.is_empty() {
-        return None;
-    }
-    match cut(third, b' ') {
-        Some(_) => None,
-        None => Some((second, third)),
-    }
+    let (first, later) = cut(rest, b' ')?;
+    Some((first, later))
 }
 
 /// Appends a word, if it isn't empty.
