@@ -4,13 +4,9 @@ use Rattle.std.proofs.lemmas.Grind.{flat_map-append}
 use Rattle.std.proofs.lemmas.List.{append-nil}
 use Rattle.std.proofs.lemmas.List.Elements.{All-push}
 use Rattle.gw_base.specs.declared.history.HistoryEntry.{HistoryEntry}
-use Rattle.entry_codec.specs.Content.{IsContent, entries_of, spelled}
+use Rattle.entry_codec.specs.Content.{IsContent, entries_of}
 use Rattle.entry_codec.specs.Room.{capacity_of, costs_of}
-use Rattle.entry_codec.specs.Spelling.{spelling}
 use Rattle.cgf_journal.specs.Format.{AreBatches, cheapest_entry, entries_in}
-
-pub spelled-push : (h : List HistoryEntry) (e : HistoryEntry) → spelled (h ++ e ∷ []) ≡ spelled h ++ spelling e
-spelled-push h e = flat_map-append spelling h (e ∷ []) ∙ ap (λ (l : List ℕ). spelled h ++ l) (append-nil (spelling e))
 
 pub entries_in-push : (batches : List (List ℕ)) (batch : List ℕ) → entries_in (batches ++ batch ∷ []) ≡ entries_in batches ++ entries_of batch
 entries_in-push batches batch = flat_map-append entries_of batches (batch ∷ []) ∙ ap (λ (h : List HistoryEntry). entries_in batches ++ h) (append-nil (entries_of batch))

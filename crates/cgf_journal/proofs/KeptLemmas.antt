@@ -138,25 +138,6 @@ emptied_none s emptied none p = ap (λ (l : List KeptKey). passing p (counted_ke
 absorbed_held : (s : Bool) (early late early_new late_new : SortedKeys) → IsAbsorbed early late early_new late_new → (p : HeldKey → Bool) → held_in s early_new late_new p ≡ held_in s early late p
 absorbed_held s early late early_new late_new absorbed p = omega (arith, absorbed.held s p, emptied_none s late_new absorbed.none p)
 
-pub room_made : (early late early_new late_new : SortedKeys) → 1 ≤ late.reserved → IsAbsorbed early late early_new late_new → HaveRoom early late early_new late_new
-room_made early late early_new late_new some absorbed = record {
-  held = λ s p. absorbed_held s early late early_new late_new absorbed p;
-  count = omega (arith, absorbed.count, ap (λ (l : List KeptKey). length l) absorbed.none);
-  reserved = absorbed.reserved;
-  room = omega (arith, some, absorbed.room, ap (λ (l : List KeptKey). length l) absorbed.none);
-}
-
-pub ready_absorbed : (early late early_new late_new : SortedKeys) (spare spare_new : ℕ) → AreReady early late spare → IsAbsorbed early late early_new late_new → early.reserved ≤ spare_new → AreReady early_new late_new spare_new
-ready_absorbed early late early_new late_new spare spare_new ready absorbed room = record {
-  room = omega (arith, room, absorbed.reserved);
-  some = omega (arith, ready.some, absorbed.room);
-  firm_once = once_same (λ p. held_in true early late p) (λ p. held_in true early_new late_new p) (λ p. absorbed_held true early late early_new late_new absorbed p) ready.firm_once;
-  live_once = once_same (λ p. held_in false early late p) (λ p. held_in false early_new late_new p) (λ p. absorbed_held false early late early_new late_new absorbed p) ready.live_once;
-}
-
-pub room_there : (early late : SortedKeys) → length late.keys.items < late.reserved → HaveRoom early late early late
-room_there early late room = record { held = λ s p. refl; count = omega arith; reserved = refl; room = room }
-
 -- ---- what contracts see of two lists
 
 abbrev pub seen : SortedKeys → SortedKeys → Kept
@@ -230,13 +211,6 @@ refused early late kept is full = record { one = refl; full = omega (arith, full
 
 -- ---- settled and reverted
 
-pub settled_seen : (early late early_new late_new : SortedKeys) (kept : Kept) → seen early late ≡ kept → firm_keys early_new ≡ live_keys early → live_keys early_new ≡ live_keys early → firm_keys late_new ≡ live_keys late → live_keys late_new ≡ live_keys late
-    → length early_new.keys.items ≡ length early.keys.items → length late_new.keys.items ≡ length late.keys.items → early_new.reserved ≡ early.reserved
-    → seen early_new late_new ≡ record { firm = kept.live; live = kept.live; count = kept.count; reserved = kept.reserved }
-settled_seen early late early_new late_new kept is a b c d e f g =
-    (λ i. record { firm = keys_in_order (c i) (a i); live = keys_in_order (d i) (b i); count = e i + f i; reserved = g i })
-    ∙ ap (λ (k : Kept). let r : Kept = record { firm = k.live; live = k.live; count = k.count; reserved = k.reserved } in r) is
-
 pub settled_within : (early late : SortedKeys) (kept : Kept) → seen early late ≡ kept → length kept.live ≤ kept.count
 settled_within early late kept is =
     omega (
@@ -248,15 +222,6 @@ settled_within early late kept is =
       counted_le false late.round late.keys.items,
     )
 
-pub settled_ready : (early late early_new late_new : SortedKeys) (spare : ℕ) → firm_keys early_new ≡ live_keys early → live_keys early_new ≡ live_keys early → firm_keys late_new ≡ live_keys late → live_keys late_new ≡ live_keys late
-    → early_new.reserved ≡ early.reserved → late_new.reserved ≡ late.reserved → AreReady early late spare → AreReady early_new late_new spare
-settled_ready early late early_new late_new spare a b c d g h ready = record {
-  room = omega (arith, ready.room, g);
-  some = omega (arith, ready.some, h);
-  firm_once = once_same (λ p. held_in false early late p) (λ p. held_in true early_new late_new p) (λ p i. passing p (a i) + passing p (c i)) ready.live_once;
-  live_once = once_same (λ p. held_in false early late p) (λ p. held_in false early_new late_new p) (λ p i. passing p (b i) + passing p (d i)) ready.live_once;
-}
-
 pub reverted_seen : (early late early_new late_new : SortedKeys) (kept : Kept) → seen early late ≡ kept → firm_keys early_new ≡ firm_keys early → live_keys early_new ≡ firm_keys early → firm_keys late_new ≡ firm_keys late → live_keys late_new ≡ firm_keys late
     → length early_new.keys.items ≡ length (firm_keys early) → length late_new.keys.items ≡ length (firm_keys late) → early_new.reserved ≡ early.reserved
     → seen early_new late_new ≡ record { firm = kept.firm; live = kept.firm; count = length kept.firm; reserved = kept.reserved }
@@ -266,15 +231,6 @@ reverted_seen early late early_new late_new kept is a b c d e f g =
   where
     counted : length early_new.keys.items + length late_new.keys.items ≡ length (held_in_order true early late)
     counted = omega (arith, e, f, length-in_order (firm_keys late) (firm_keys early))
-
-pub reverted_ready : (early late early_new late_new : SortedKeys) (spare : ℕ) → firm_keys early_new ≡ firm_keys early → live_keys early_new ≡ firm_keys early → firm_keys late_new ≡ firm_keys late → live_keys late_new ≡ firm_keys late
-    → early_new.reserved ≡ early.reserved → late_new.reserved ≡ late.reserved → AreReady early late spare → AreReady early_new late_new spare
-reverted_ready early late early_new late_new spare a b c d g h ready = record {
-  room = omega (arith, ready.room, g);
-  some = omega (arith, ready.some, h);
-  firm_once = once_same (λ p. held_in true early late p) (λ p. held_in true early_new late_new p) (λ p i. passing p (a i) + passing p (c i)) ready.firm_once;
-  live_once = once_same (λ p. held_in true early late p) (λ p. held_in false early_new late_new p) (λ p i. passing p (b i) + passing p (d i)) ready.firm_once;
-}
 
 pub keeps_so : (more other : ℕ) (a b : Kept) → KeepsFirm more a b → other ≡ more → KeepsFirm other a b
 keeps_so more other a b keeps same = record { firm = keeps.firm; count = omega (arith, keeps.count, same); reserved = keeps.reserved }

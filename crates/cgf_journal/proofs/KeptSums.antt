@@ -12,7 +12,7 @@ use Rattle.gw_base.specs.History.{due_after}
 use Rattle.gw_base.specs.View.{stays_held}
 use Rattle.entry_codec.specs.Room.{capacity_of}
 use Rattle.entry_codec.specs.Spelling.{cost_of}
-use Rattle.cgf_journal.specs.Kept.{ArePaid, HasNoRoom, KeepsFirm, Kept, held_of}
+use Rattle.cgf_journal.specs.Kept.{ArePaid, HasNoRoom, Kept, held_of}
 use Rattle.cgf_journal.specs.Keys.{counted_keys, counts, key_of}
 use Rattle.cgf_journal.specs.Reserved.{cheapest_hold}
 use Rattle.cgf_journal.specs.Sorted.{count_held}
@@ -58,23 +58,11 @@ one_more keys now firm live sum t e is same more places added =
 
 -- ---- each key was paid for
 
-pub paid_more : (keys now : Kept) (firm live sum : Sum) (e : HistoryEntry) → ArePaid keys firm live → KeepsFirm (count_held e.act) keys now → sum ≡ sum_after live e → ArePaid now firm sum
-paid_more keys now firm live sum e paid grows added = record {
-  firm_paid = omega (arith, paid.firm_paid, ap (λ (l : List HeldKey). length l) grows.firm);
-  live_paid = omega (arith, paid.live_paid, grows.count, hold_costs e, ap (λ (s : Sum). s.costs) added);
-}
-
 pub paid_settled : (keys now : Kept) (firm live : Sum) → ArePaid keys firm live → now ≡ record { firm = keys.live; live = keys.live; count = keys.count; reserved = keys.reserved }
     → length keys.live ≤ keys.count → ArePaid now live live
 paid_settled keys now firm live paid is within = record {
   firm_paid = omega (arith, paid.live_paid, within, ap (λ (k : Kept). length k.firm) is);
   live_paid = omega (arith, paid.live_paid, ap (λ (k : Kept). k.count) is);
-}
-
-pub paid_reverted : (keys now : Kept) (firm live : Sum) → ArePaid keys firm live → now ≡ record { firm = keys.firm; live = keys.firm; count = length keys.firm; reserved = keys.reserved } → ArePaid now firm firm
-paid_reverted keys now firm live paid is = record {
-  firm_paid = omega (arith, paid.firm_paid, ap (λ (k : Kept). length k.firm) is);
-  live_paid = omega (arith, paid.firm_paid, ap (λ (k : Kept). k.count) is);
 }
 
 -- where no key more is reserved, the next would cost more than is left

@@ -88,11 +88,6 @@ up_to_next Listed Judged size gate next some batch places tally taken_in judged 
   begins = λ all listed. let found = begins all listed in (found.0, found.1 ∙ sym (append_assoc some (batch ∷ []) found.0));
 }
 
--- at first none is
-pub up_to_first : (Listed : List (List ℕ) → Type 0) (Judged : List HistoryEntry → Type 0) (size : ℕ) (places : Placed) (tally : Tallies) → AreTakenIn size header_length [] places tally → Judged []
-    → IsTakenUpTo Listed Judged size header_length places tally
-up_to_first Listed Judged size places tally taken_in judged = record { some = []; taken_in = taken_in; judged = judged; begins = λ all listed. (all, refl) }
-
 -- where a batch was taken in and what is listed goes on with it, the listing has come to the next gate
 pub taken_next : {E : Type 0} (Listed : List (List ℕ) → Type 0) (Judged : List HistoryEntry → Type 0) (size gate : ℕ) (some : List (List ℕ)) (batch : List ℕ) (result : Result ℕ E) (places : Placed) (tally : Tallies)
     → IfOk result (λ next. next ≡ gate + 5 + length batch) → OnOk result (AreTakenIn size (gate + 5 + length batch) (some ++ batch ∷ []) places tally × Judged (entries_in (some ++ batch ∷ [])))

@@ -24,20 +24,8 @@ pub left_over : (from r i j : ℕ) (keys others : List KeptKey) → length other
 left_over from r i j keys others end =
     ap (λ (l : List KeptKey). merged r (drop i keys) (moved_keys from r l)) (drop_all j others end) ∙ merged-none r (drop i keys)
 
--- behind the last of the keys the next of the others comes
-pub takes_other : (from r i j : ℕ) (keys others : List KeptKey) (d : KeptKey) → length keys ≤ i → j < length others
-    → merged r (drop i keys) (moved_keys from r (drop j others)) ≡ moved_key from r (slice_index_or others j d) ∷ merged r (drop i keys) (moved_keys from r (drop (j + 1) others))
-takes_other from r i j keys others d end inside =
-    let none : drop i keys ≡ [] = drop_all i keys end in
-    ap (λ (l : List KeptKey). merged r l (moved_keys from r (drop j others))) none
-    ∙ ap (λ (l : List KeptKey). moved_keys from r l) (drop_more others j d inside)
-    ∙ ap (λ (l : List KeptKey). moved_key from r (slice_index_or others j d) ∷ merged r l (moved_keys from r (drop (j + 1) others))) (sym none)
-
 first_comes : (r : ℕ) (a b : KeptKey) (ks ls : List KeptKey) → nat_lt (rank a) (rank b) ≡ true → merged r (a ∷ ks) (b ∷ ls) ≡ a ∷ merged r ks (b ∷ ls)
 first_comes r a b ks ls lt = rw lt refl
-
-second_comes : (r : ℕ) (a b : KeptKey) (ks ls : List KeptKey) → nat_lt (rank a) (rank b) ≡ false → nat_lt (rank b) (rank a) ≡ true → merged r (a ∷ ks) (b ∷ ls) ≡ b ∷ merged r (a ∷ ks) ls
-second_comes r a b ks ls nt lt = rw nt (rw lt refl)
 
 both_come : (r : ℕ) (a b : KeptKey) (ks ls : List KeptKey) → nat_lt (rank a) (rank b) ≡ false → nat_lt (rank b) (rank a) ≡ false → merged r (a ∷ ks) (b ∷ ls) ≡ joined_key r a b ∷ merged r ks ls
 both_come r a b ks ls nt none = rw nt (rw none refl)
@@ -67,17 +55,6 @@ module _ (from r i j : ℕ) (keys others : List KeptKey) (d : KeptKey) (first : 
 
   here : merged r (drop i keys) (moved_keys from r (drop j others)) ≡ merged r (kept_first ∷ drop (i + 1) keys) (kept_second ∷ moved_keys from r (drop (j + 1) others))
   here = λ k. merged r (drop_more keys i d first k) (moved_keys from r (drop_more others j d second k))
-
-  pub takes_first : nat_lt (rank kept_first) (rank kept_second) ≡ true → merged r (drop i keys) (moved_keys from r (drop j others)) ≡ kept_first ∷ merged r (drop (i + 1) keys) (moved_keys from r (drop j others))
-  takes_first lt =
-      here ∙ first_comes r kept_first kept_second (drop (i + 1) keys) (moved_keys from r (drop (j + 1) others)) lt
-      ∙ (λ k. kept_first ∷ merged r (drop (i + 1) keys) (moved_keys from r (sym (drop_more others j d second) k)))
-
-  pub takes_second : nat_lt (rank kept_first) (rank kept_second) ≡ false → nat_lt (rank kept_second) (rank kept_first) ≡ true
-      → merged r (drop i keys) (moved_keys from r (drop j others)) ≡ kept_second ∷ merged r (drop i keys) (moved_keys from r (drop (j + 1) others))
-  takes_second nt lt =
-      here ∙ second_comes r kept_first kept_second (drop (i + 1) keys) (moved_keys from r (drop (j + 1) others)) nt lt
-      ∙ (λ k. kept_second ∷ merged r (sym (drop_more keys i d first) k) (moved_keys from r (drop (j + 1) others)))
 
   pub takes_both : nat_lt (rank kept_first) (rank kept_second) ≡ false → nat_lt (rank kept_second) (rank kept_first) ≡ false
       → merged r (drop i keys) (moved_keys from r (drop j others)) ≡ joined_key r kept_first kept_second ∷ merged r (drop (i + 1) keys) (moved_keys from r (drop (j + 1) others))

@@ -183,20 +183,6 @@ module _ {A : Type 0} {tells : Ghosts A} (trail : Trail A tells) where
   pub firm_costs_fit : trail.tally.firm.costs ≤ trail.size
   firm_costs_fit = omega (arith, firm_costs_below)
 
-  pub firm_within : trail.firm ≤ length_of trail
-  firm_within = by_closed (is_closed trail)
-    where
-      by_closed : (closed : Bool) → trail.firm ≤ (if closed then trail.firm else length trail.places.items)
-      by_closed true = omega arith
-      by_closed false = trail.sound.firm_places
-
-  pub within_places : length_of trail ≤ length trail.places.items
-  within_places = by_closed (is_closed trail)
-    where
-      by_closed : (closed : Bool) → (if closed then trail.firm else length trail.places.items) ≤ length trail.places.items
-      by_closed true = trail.sound.firm_places
-      by_closed false = omega arith
-
   pub bound : cheapest_entry * length trail.places.items ≤ trail.size
   bound = omega (arith, dear_places trail.journal trail.size trail.waiting trail.places.items trail.firm trail.tally trail.sound, trail.sound.within, ap capacity_of trail.sound.sized)
 

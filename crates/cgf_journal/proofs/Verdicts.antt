@@ -14,9 +14,6 @@ use Rattle.cgf_journal.specs.declared.judge.Judge.{Ghosts}
 use Rattle.cgf_journal.proofs.Fitting.{fit-append, fit-rest}
 
 module _ {J : Type 0} (asks : Ghosts J) (size : ℕ) where
-  pub none_judged : (judge : J) → asks.follows judge [] → IsJudged asks size judge []
-  none_judged judge follows = record { fit = tt; follows = follows }
-
   pub begins_judging : (judge : J) (content : List ℕ) → IsJudgedUpTo asks size judge judge content content
   begins_judging judge content = record {
     front = [];

@@ -11,15 +11,13 @@ use Rattle.gate_journal.specs.Format.{Starts, header, spelled}
 use Rattle.gateway_book.specs.Answer.{Decided, Says, Silent, decided}
 use Rattle.gateway_book.specs.Answered.{act_decided, answer_to, entry_by, no_caller, room_for, with_act}
 use Rattle.gateway_book.specs.Book.{Stays, open_time_of, size_of, value_of}
-use Rattle.gateway_book.specs.Calls.{closed, marked_at, outcome_at, taken, ticked}
+use Rattle.gateway_book.specs.Calls.{outcome_at, taken}
 use Rattle.gateway_book.specs.Items.{IsWritable, items_between, items_of}
-use Rattle.gateway_book.specs.Marks.{Mark, NotDue, NoRoom, Makes, close_mark, tick_mark}
 use Rattle.gateway_book.specs.Opened.{IsNotOurs}
 use Rattle.gateway_book.specs.Preparing.{PreparedValue}
-use Rattle.gateway_book.specs.Value.{BookValue, Fortune, after_commit, committed, history_of, opened, readied, recorded, recorded_if, standing_for}
+use Rattle.gateway_book.specs.Value.{BookValue, Fortune, after_commit, committed, history_of, opened, recorded, recorded_if, standing_for}
 use Rattle.gateway_book.specs.declared.book.Book.{Book}
 use Rattle.gateway_book.specs.declared.outcome.Outcome.{Outcome}
-use Rattle.gateway_book.specs.declared.outcome.Outcome.TheVariants as outcome
 use Rattle.gw_base.specs.declared.address.Addr.{Addr}
 use Rattle.gw_base.specs.declared.history.HistoryAct.{HistoryAct}
 use Rattle.gw_base.specs.declared.history.HistoryAct.TheVariants.{Start}
@@ -28,7 +26,7 @@ use Rattle.gw_base.specs.declared.item.Item.{Item}
 use Rattle.gw_base.specs.declared.item.Item.TheVariants as item
 use Rattle.cgf_top.specs.BookSteps.{IsAllFirm, Records, gateway_of}
 use Rattle.cgf_top.specs.FeedReport.{reply_line}
-use Rattle.cgf_top.specs.Gateway.{GatewayValue, act_made, new_gateway, recording}
+use Rattle.cgf_top.specs.Gateway.{GatewayValue, new_gateway, recording}
 use Rattle.cgf_top.specs.Steps.{outcome_line}
 
 -- ---- commits
@@ -80,9 +78,6 @@ made_same h g size size' time time' a b c =
     ap (λ (x : List HistoryEntry). made x size time) a ∙ ap (λ (n : ℕ). made g n time) b ∙ ap (λ (n : ℕ). made g size' n) c
 
 module _ {A : Type 0} {tells : Ghosts A} where
-  pub recorded_not_closed : (old new : Book A tells) (now : ℕ) (act : Option HistoryAct) → Records old new now act → (value_of new).is_broken ≡ false
-  recorded_not_closed old new now act moved = ap (λ (v : BookValue). v.is_broken) moved ∙ recorded_whole (value_of old).firm now act
-
   pub recorded_all_firm : (old middle new : Book A tells) (now : ℕ) (act : Option HistoryAct) → Records old middle now act
       → value_of new ≡ committed (value_of middle) → IsAllFirm new
   recorded_all_firm old middle new now act moved is =
@@ -138,35 +133,7 @@ module _ {A : Type 0} {tells : Ghosts A} (old middle new : Book A tells) (f : Fo
 
 -- ---- marks
 
-marked_value : (v : BookValue) (now : ℕ) (mark : Mark) → (marked_at v now no_caller mark).value ≡ recorded_if v now no_caller (act_made mark)
-marked_value v now NotDue = refl
-marked_value v now NoRoom = refl
-marked_value v now (Makes act) = refl
-
-ticked_value : (f : Fortune) (open_time size now : ℕ) (h : List HistoryEntry)
-    → (ticked f open_time size now no_caller (standing_for h)).value
-    ≡ recorded_if (standing_for h) now no_caller (act_made (tick_mark open_time now h size))
-ticked_value f open_time size now h =
-    marked_value (standing_for h) now (tick_mark open_time now (h ++ []) size)
-    ∙ ap (λ (g : List HistoryEntry). recorded_if (standing_for h) now no_caller (act_made (tick_mark open_time now g size))) (append-nil h)
-
-closed_value : (f : Fortune) (now : ℕ) (h : List HistoryEntry)
-    → (closed f now no_caller (standing_for h)).value ≡ recorded_if (standing_for h) now no_caller (act_made (close_mark h))
-closed_value f now h =
-    marked_value (standing_for h) now (close_mark (h ++ []))
-    ∙ ap (λ (g : List HistoryEntry). recorded_if (standing_for h) now no_caller (act_made (close_mark g))) (append-nil h)
-
 module _ {A : Type 0} {tells : Ghosts A} (old new : Book A tells) (f : Fortune) (now : ℕ) where
-  pub ticked_records : IsAllFirm old → value_of new ≡ (ticked f (open_time_of old) (size_of old) now no_caller (value_of old)).value
-      → Records old new now (act_made (tick_mark (open_time_of old) now (value_of old).firm (size_of old)))
-  ticked_records firm moved =
-      moved ∙ ap (λ (v : BookValue). (ticked f (open_time_of old) (size_of old) now no_caller v).value) firm
-      ∙ ticked_value f (open_time_of old) (size_of old) now (value_of old).firm
-
-  pub closed_records : IsAllFirm old → value_of new ≡ (closed f now no_caller (value_of old)).value
-      → Records old new now (act_made (close_mark (value_of old).firm))
-  closed_records firm moved =
-      moved ∙ ap (λ (v : BookValue). (closed f now no_caller v).value) firm ∙ closed_value f now (value_of old).firm
 
 -- ---- the opening
 
@@ -206,19 +173,7 @@ opened_firm size = by_room (room_for [] size Start)
     by_room true = refl
     by_room false = refl
 
-opened_sound : (size : ℕ) → ((opened size []).cuts ≡ 0) × ((opened size []).is_broken ≡ false)
-opened_sound size = by_room (room_for [] size Start)
-  where
-    by_room : (b : Bool) → ((if b then recorded (standing_for []) 0 no_caller Start else standing_for []).cuts ≡ 0)
-        × ((if b then recorded (standing_for []) 0 no_caller Start else standing_for []).is_broken ≡ false)
-    by_room true = (refl, refl)
-    by_room false = (refl, refl)
-
 module _ {A : Type 0} {tells : Ghosts A} (old new : Book A tells) (size : ℕ) where
-  pub opened_all_firm : value_of old ≡ opened size [] → value_of new ≡ committed (value_of old) → IsAllFirm new
-  opened_all_firm found is =
-      committed_firm old new is (ap (λ (v : BookValue). v.cuts) found ∙ (opened_sound size).0) (ap (λ (v : BookValue). v.is_broken) found ∙ (opened_sound size).1)
-
   pub opened_gateway : (reserved open_time : ℕ) → value_of old ≡ opened size [] → value_of new ≡ committed (value_of old) → Stays old new
       → size ≡ reserved → size_of old ≡ reserved → open_time_of old ≡ open_time → gateway_of new ≡ new_gateway reserved open_time
   opened_gateway reserved open_time found is stays long sized set =

@@ -1,7 +1,6 @@
 -- What `serve` does, by what it read, how the gateway served, and what was written.
 use Rattle.std.proofs.Common.{◌≡◌, ◌≢◌, ◌⊎◌, ⊎_elim, inl, inr, ℕ, ◌+◌, Bool, true, false, true≢false, List, [], ◌∷◌, take, Option, None, Some, Result, Ok, Err, IfErr, IfOk, OnOk, refl, sym, ap, subst, ◌∙◌}
 use Rattle.std.specs.Io.KnownBytes.{Appends}
-use Rattle.std.proofs.lemmas.Option.{same_Some}
 use Rattle.area_disk.specs.declared.area.Area as areas
 use Rattle.cdr_shelf.specs.declared.shelf.Shelf as shelves
 use Rattle.gate_journal.specs.Format.{Starts}
@@ -13,7 +12,6 @@ use Rattle.gw_base.specs.Written.{AppendsFront}
 use Rattle.gw_base.specs.declared.history.HistoryEntry.{HistoryEntry}
 use Rattle.net_link.specs.Making.{LinksState}
 use Rattle.replay_world.specs.Setup.{Setup, setup_of}
-use Rattle.replay_world.specs.declared.replay.Played.{Played}
 use Rattle.world_script.specs.Script.{Refusal, most_text, script_in}
 use Rattle.world_script.specs.declared.kind.ScriptKind.TheVariants as kind
 use Rattle.world_script.specs.declared.line.Line.{Line}
@@ -177,18 +175,6 @@ module _ {A F : Type 0} (tells : areas.Ghosts A) (files : shelves.Ghosts F) (of 
   stopped_cause (status.Audit packet places wanted) s read same = absurd s
   stopped_cause (status.Unfinished turns packet count) s read same = absurd s
 
-  pub stopped_opened : (ended : Status) → Stops ended → may_have_opened ended ≡ false → ⊥
-  stopped_opened status.Link s shut = true≢false shut
-  stopped_opened (status.Store why) s shut = true≢false shut
-  stopped_opened status.Memory s shut = true≢false shut
-  stopped_opened status.Read s shut = s
-  stopped_opened (status.Input place why) s shut = s
-  stopped_opened status.Done s shut = s
-  stopped_opened status.Words s shut = s
-  stopped_opened status.Write s shut = s
-  stopped_opened (status.Audit packet places wanted) s shut = s
-  stopped_opened (status.Unfinished turns packet count) s shut = s
-
   -- an area that is found isn't another's
   abbrev Ours : Type 0
   Ours = (octets : List ℕ) (h : List HistoryEntry) (at : ℕ) → StandsFitFor (header_for tells area of) octets h
@@ -304,14 +290,6 @@ module _ {A F : Type 0} (tells : areas.Ghosts A) (files : shelves.Ghosts F) (of 
   both_true line status.Read w = absurd w
   both_true line (status.Input place why) w = absurd w
   both_true line status.Words w = absurd w
-
-  pub written_opened : (line : List ℕ) (ended : Status) → WritesLine line job.before job.after job.written_before job.written_after ended
-      → may_have_opened ended ≡ false → ⊥
-  written_opened line ended w shut = true≢false (sym (both_true line ended (writes_by job line ended w)).0 ∙ shut)
-
-  pub written_written : (line : List ℕ) (ended : Status) → WritesLine line job.before job.after job.written_before job.written_after ended
-      → may_have_written ended ≡ false → ⊥
-  written_written line ended w shut = true≢false (sym (both_true line ended (writes_by job line ended w)).1 ∙ shut)
 
   module _ {X : Type 0} (octets : X → List ℕ) (result : Result X Status) (x : X) (line : List ℕ) (ended : Status) (text : List ℕ) (by : FileSettings) (is_ok : result ≡ Ok x)
       (is_line : line ≡ octets x) (read : IsRead (most_text + 1) job.left job.rest text)

@@ -1,10 +1,9 @@
 -- How a gateway that was to serve ends: it wasn't opened, or it was settled.
-use Rattle.std.proofs.Common.{◌≡◌, ◌⊎◌, ⊎_elim, inl, inr, ℕ, ◌+◌, ◌≤◌, true, false, List, [], ◌++◌, Option, None, Some, Result, Ok, Err, IfErr, IfOk, IsErrAnd, OnOk, refl, sym, ap, subst, ◌∙◌, arith}
+use Rattle.std.proofs.Common.{◌≡◌, ◌⊎◌, ⊎_elim, inl, inr, ℕ, ◌+◌, ◌≤◌, true, false, List, [], ◌++◌, Result, Ok, Err, IfErr, IfOk, refl, sym, ap, subst, ◌∙◌, arith}
 use Rattle.area_disk.specs.AreaLaws.{AreaLaws}
 use Rattle.area_disk.specs.Disk.{Rose}
 use Rattle.area_disk.specs.declared.area.Area as areas
 use Rattle.cdr_shelf.specs.declared.shelf.Shelf as shelves
-use Rattle.file_writer.specs.Streams.{Settings}
 use Rattle.file_writer.specs.Writer.{is_broken, settings_in, shelf_of}
 use Rattle.file_writer.specs.declared.writer.Writer.{Writer}
 use Rattle.cgf_journal.specs.Format.{StandsFor}
@@ -14,8 +13,7 @@ use Rattle.gateway_book.specs.Book.{area_of, header_of, value_of}
 use Rattle.gateway_book.specs.Comes.{LeavesFit}
 use Rattle.gateway_book.specs.FitHistory.{StandsFitFor}
 use Rattle.gateway_book.specs.Items.{items_of}
-use Rattle.gateway_book.specs.Opened.{FindsHistory, IsMadeAnew, IsNotOurs, IsOpened, IsRefused, RefusesForeign, StandsOrStarts}
-use Rattle.gateway_book.specs.Turning.{tells_lists}
+use Rattle.gateway_book.specs.Opened.{FindsHistory, IsMadeAnew, IsNotOurs, IsOpened, IsRefused, StandsOrStarts}
 use Rattle.gateway_book.specs.Value.{BookValue}
 use Rattle.gateway_book.specs.declared.book.Book.{Book}
 use Rattle.gateway_book.specs.declared.outcome.BookFault.{BookFault}
@@ -26,10 +24,8 @@ use Rattle.gw_base.specs.declared.history.HistoryEntry.{HistoryEntry}
 use Rattle.net_link.specs.Making.{LinksState}
 use Rattle.replay_world.specs.Settled.{AreShut}
 use Rattle.replay_world.specs.Setup.{Setup}
-use Rattle.cgf_top.specs.ServeSteps.{AreOf, HasLine, HasNoLine, HasServedAt, HasSettledAll, NeverFalls, RefusesAsForeign, StopsServing, status_by}
+use Rattle.cgf_top.specs.ServeSteps.{HasLine, HasNoLine, HasServedAt, HasSettledAll, NeverFalls, RefusesAsForeign, StopsServing, status_by}
 use Rattle.cgf_top.specs.Served.{GoesOnIn, HasServed, LosesNothing, files_at, header_for, served_line}
-use Rattle.cgf_top.specs.Serving.{address_in}
-use Rattle.cgf_top.specs.declared.serve.FileSettings.{FileSettings}
 use Rattle.cgf_top.specs.declared.serving.Serving.{Serving}
 use Rattle.cgf_top.specs.declared.settling.Service.{Service}
 use Rattle.cgf_top.specs.declared.status.Status.{Status}
@@ -54,31 +50,6 @@ module _ {A F : Type 0} (tells : areas.Ghosts A) (files : shelves.Ghosts F) (of 
       by_fault of_book.Device refused = inl (refused.cause refl)
       by_fault (of_book.NotOurs at) refused = λ told. (refused.place told at refl, refused.unwritten told (λ is. cc is))
       by_fault of_book.NoMemory refused = tt
-
-  pub unopened_stays : (why : BookFault) (area' : A) → IsRefused tells area (header_for tells area of) (why, area')
-      → tells.size area' ≡ tells.size area → NeverFalls tells files of area area' shelf shelf links links clock clock
-  unopened_stays why area' refused sized = record {
-    device = refused.faults;
-    shelf_too = omega arith;
-    link = omega arith;
-    time = omega arith;
-    size = sized;
-  }
-
-  pub unopened_foreign : {X : Type 0} (opened : Result (Book A tells) (BookFault × A)) (why : BookFault) (area' : A)
-      → opened ≡ Err (why, area') → ((at : ℕ) → IsNotOurs (header_for tells area of) (tells.octets area) at → RefusesForeign area opened at)
-      → RefusesAsForeign {X = X} tells of area (Err (status_by why))
-  unopened_foreign {X = X} opened why area' is refuses at foreign =
-      ⊎_elim (λ (e : why ≡ of_book.NotOurs at). inl (ap ended e))
-      (λ (o : (why ≡ of_book.Device) ⊎ (why ≡ of_book.NoMemory)). inr (⊎_elim
-      (λ (e : why ≡ of_book.Device). inl (ap ended e)) (λ (e : why ≡ of_book.NoMemory). inr (ap ended e)) o)) place
-    where
-      ended : BookFault → Result X Status
-      ended b = Err (status_by b)
-
-      place : (why ≡ of_book.NotOurs at) ⊎ ((why ≡ of_book.Device) ⊎ (why ≡ of_book.NoMemory))
-      place = subst (λ (o : Result (Book A tells) (BookFault × A)). IsErrAnd o
-          (λ f. (f.0 ≡ of_book.NotOurs at) ⊎ ((f.0 ≡ of_book.Device) ⊎ (f.0 ≡ of_book.NoMemory)))) is (refuses at foreign).place
 
   -- what a crash leaves of an area whose opening failed stands as it did, or starts, where it was to be made anew
   pub unopened_keeps : (why : BookFault) (area' : A) → AreaLaws tells
@@ -158,14 +129,6 @@ module _ {A F : Type 0} (tells : areas.Ghosts A) (files : shelves.Ghosts F) (of 
   stops_as area'' shelf'' is_area is_shelf =
       subst (λ (a : A). IfErr result (StopsServing tells files of area a shelf shelf'' links links' clock clock')) (sym is_area)
       (subst (λ (f : F). IfErr result (StopsServing tells files of area (area_of book'') shelf f links links' clock clock')) (sym is_shelf) settled_stops)
-
-  by_turns : (r : Result X Status) → IfOk r (λ x. HasLine tells files service book' book'' writer'' (octets x))
-      → OnOk r (links'.turns (address_in of) ≡ links.turns (address_in of) + of.turns)
-  by_turns (Ok x) has = serves.turns has.runs
-  by_turns (Err ended) has = tt
-
-  pub settled_turns : OnOk result (links'.turns (address_in of) ≡ links.turns (address_in of) + of.turns)
-  settled_turns = by_turns result settles.ok
 
   -- an area that was opened isn't another's
   pub settled_foreign : ((octets : List ℕ) (h : List HistoryEntry) (at : ℕ) → StandsFitFor (header_for tells area of) octets h

@@ -110,17 +110,6 @@ copies_of-same xs ys same once = same_copies _ _
 pub named_self : (one : HeldCopy) → is_copy_of one.node one.number one ≡ true
 named_self one = rw (eq-eqb one.node one.node refl, eq-eqb one.number one.number refl) refl
 
--- beside a copy there is no other of its number
-pub none_beside : (xs ys : List HeldCopy) (one : HeldCopy) → IsOnce (xs ++ one ∷ ys) → find (is_copy_of one.node one.number) (xs ++ ys) ≡ None
-none_beside xs ys one once =
-    let p : HeldCopy → Bool = is_copy_of one.node one.number in
-    none_of_none p (xs ++ ys) (omega (arith, once one.node one.number, count-append p xs (one ∷ ys), count-append p xs ys, count-cons p one ys true (named_self one)))
-
-pub once_less : (xs ys : List HeldCopy) (one : HeldCopy) → IsOnce (xs ++ one ∷ ys) → IsOnce (xs ++ ys)
-once_less xs ys one once n k =
-    let p : HeldCopy → Bool = is_copy_of n k in
-    omega (arith, once n k, count-append p xs (one ∷ ys), count-append p xs ys, sum_by-cons (λ c. if p c then 1 else 0) one ys)
-
 pub once_more : (xs ys : List HeldCopy) (one : HeldCopy) → find (is_copy_of one.node one.number) (xs ++ ys) ≡ None → IsOnce (xs ++ ys) → IsOnce (xs ++ one ∷ ys)
 once_more xs ys one none once n k = by (is_copy_of n k one) refl
   where

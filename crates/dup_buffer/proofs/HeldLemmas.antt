@@ -4,7 +4,7 @@ use Rattle.std.specs.List.{count_by, find}
 use Rattle.std.specs.Option.{option_map}
 use Rattle.std.specs.Prelude.{slice_set}
 use Rattle.std.proofs.lemmas.Bool.{and_parts, eq-eqb, eqb-true}
-use Rattle.std.proofs.lemmas.List.{append-nil, take_more}
+use Rattle.std.proofs.lemmas.List.{append-nil}
 use Rattle.std.proofs.lemmas.List.Elements.{filter-append}
 use Rattle.std.proofs.lemmas.List.Sums.{length-filter, sum_by-cons, sum_by-set, sum_by_more_le}
 use Rattle.gw_base.specs.declared.place.Place.{Place}
@@ -101,17 +101,10 @@ held_room others i d lt h =
       ap {B = ℕ} (λ (b : Bool). if b then 1 else 0) h,
     )
 
-pub held_more : (others : List HeldCopy) (i : ℕ) (d : HeldCopy) → i < length others
-    → held_in (take (i + 1) others) ≡ held_in (take i others) ++ held_in (slice_index_or others i d ∷ [])
-held_more others i d lt = ap held_in (take_more others i d lt) ∙ filter-append (λ (c : HeldCopy). c.held) (take i others) (slice_index_or others i d ∷ [])
-
 -- ---- one more, and one less
 
 pub same_length : (xs ys : List HeldCopy) → HaveSame xs ys → length xs ≡ length ys
 same_length xs ys same = sym (count_all xs) ∙ same (λ x. true) ∙ count_all ys
-
-same_sym : (xs ys : List HeldCopy) → HaveSame xs ys → HaveSame ys xs
-same_sym xs ys same p = sym (same p)
 
 -- what holds of the copies with one more
 pub record IsMore (one : HeldCopy) (old new : List HeldCopy) : Type 0 where

@@ -4,9 +4,9 @@ use Rattle.std.specs.List.{count_by, find}
 use Rattle.std.specs.Option.{option_map}
 use Rattle.std.specs.Prelude.{slice_index_or}
 use Rattle.std.proofs.lemmas.Bool.{and_parts, eqb-true}
-use Rattle.std.proofs.lemmas.List.Edits.{length-insert, length-remove}
+use Rattle.std.proofs.lemmas.List.Edits.{length-insert}
 use Rattle.std.proofs.lemmas.List.Filters.{length-filter_both}
-use Rattle.std.proofs.lemmas.List.Sums.{length-filter, sum_by-cons, sum_by-insert, sum_by-remove}
+use Rattle.std.proofs.lemmas.List.Sums.{length-filter, sum_by-cons, sum_by-insert}
 use Rattle.dup_buffer.specs.Copies.{Copies, with_copy, without_copy, without_node}
 use Rattle.dup_buffer.specs.Stored.{IsFound, Stored, copies_of, is_copy_of, is_of, place_of}
 use Rattle.dup_buffer.specs.declared.copy.HeldCopy.{HeldCopy}
@@ -110,49 +110,6 @@ pub found_is : (node number : ℕ) (copies : List HeldCopy) (at : ℕ) (d : Held
 found_is node number copies at d is =
     ap (λ (l : List HeldCopy). find (is_copy_of node number) l) (sym (whole copies at d is.inside))
     ∙ find-one (is_copy_of node number) (take at copies) (drop (suc at) copies) (slice_index_or copies at d) (is.named d) (none_left (is_copy_of node number) copies at is.inside is.others)
-
-pub held_if_found : (node number : ℕ) (copies : List HeldCopy) (at : ℕ) → IsFound copies at node number
-    → ◌≡◌ {A = ℕ} (if is_some (option_map place_of (find (is_copy_of node number) copies)) then 1 else 0) 1
-held_if_found node number copies at is = rw (found_is node number copies at nothing is) refl
-
-pub copies_of-one_less : (node number : ℕ) (copies : List HeldCopy) (at : ℕ) → IsFound copies at node number
-    → copies_of (stored (without_one copies at)) ≡ without_copy node number (copies_of (stored copies))
-copies_of-one_less node number copies at is = same_copies _ _
-    (λ i n k. place n k ((node == n) && (number == k)) refl i)
-    (omega (arith, length-remove copies at is.inside, held_if_found node number copies at is))
-    (λ i n. count n (node == n) refl i)
-  where
-    key : ((slice_index_or copies at nothing).node ≡ node) × ((slice_index_or copies at nothing).number ≡ number)
-    key = key_of node number (slice_index_or copies at nothing) (is.named nothing)
-
-    place : (n k : ℕ) (b : Bool) → ((node == n) && (number == k)) ≡ b → option_map place_of (find (is_copy_of n k) (without_one copies at))
-        ≡ (if (node == n) && (number == k) then None else option_map place_of (find (is_copy_of n k) copies))
-    place n k true e =
-        let b = and_parts (node == n) (number == k) e in
-        let same_node : node ≡ n = eqb-true node n b.0 in
-        let same_number : number ≡ k = eqb-true number k b.1 in
-        rw e (ap (λ (o : Option HeldCopy). option_map place_of o)
-        ((λ i. find (is_copy_of (sym same_node i) (sym same_number i)) (without_one copies at)) ∙ none_left (is_copy_of node number) copies at is.inside is.others))
-    place n k false e =
-        let fails : is_copy_of n k (slice_index_or copies at nothing) ≡ false = (λ i. (key.0 i == n) && (key.1 i == k)) ∙ e in
-        rw e (ap (λ (o : Option HeldCopy). option_map place_of o)
-        (sym (find-other (is_copy_of n k) (take at copies) (drop (suc at) copies) (slice_index_or copies at nothing) fails)
-        ∙ ap (λ (l : List HeldCopy). find (is_copy_of n k) l) (whole copies at nothing is.inside)))
-
-    -- the copies of a node, by whether the one that goes is one of them
-    left : (n : ℕ) → count_by (is_of n) (without_one copies at) + (if node == n then 1 else 0) ≡ count_by (is_of n) copies
-    left n =
-        ap (λ (m : ℕ). count_by (is_of n) (without_one copies at) + (if m == n then 1 else 0)) (sym key.0)
-        ∙ sum_by-remove (λ (c : HeldCopy). if is_of n c then 1 else 0) copies at nothing is.inside
-
-    count : (n : ℕ) (b : Bool) → (node == n) ≡ b → count_by (is_of n) (without_one copies at)
-        ≡ (if node == n then count_by (is_of n) copies - (if is_some (option_map place_of (find (is_copy_of node number) copies)) then 1 else 0) else count_by (is_of n) copies)
-    count n true e =
-        let all : count_by (is_of n) (without_one copies at) + 1 ≡ count_by (is_of n) copies = ap (λ (b : Bool). count_by (is_of n) (without_one copies at) + (if b then 1 else 0)) (sym e) ∙ left n in
-        rw (e, held_if_found node number copies at is) (omega (arith, all))
-    count n false e =
-        let all : count_by (is_of n) (without_one copies at) + 0 ≡ count_by (is_of n) copies = ap (λ (b : Bool). count_by (is_of n) (without_one copies at) + (if b then 1 else 0)) (sym e) ∙ left n in
-        rw e (omega (arith, all))
 
 pub copies_of-none_less : (node number : ℕ) (copies : List HeldCopy) → find (is_copy_of node number) copies ≡ None
     → copies_of (stored copies) ≡ without_copy node number (copies_of (stored copies))

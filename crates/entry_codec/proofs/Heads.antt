@@ -1,5 +1,5 @@
 -- The fields whose octets are bound by others or by a limit, each as a part.
-use Rattle.std.proofs.Common.{◌≡◌, ℕ, suc, ◌+◌, ◌-◌, ◌*◌, ◌^◌, ◌<◌, ◌≤◌, ◌==◌, Bool, true, false, cond, ltb, List, [], ◌∷◌, ◌++◌, length, get_or, take, drop, Result, Ok, Err, refl, sym, ap, subst, ◌∙◌, ◌⊎◌, inl, inr, arith}
+use Rattle.std.proofs.Common.{◌≡◌, ℕ, suc, ◌+◌, ◌-◌, ◌*◌, ◌^◌, ◌<◌, ◌≤◌, ◌==◌, Bool, true, false, cond, ltb, List, [], ◌∷◌, ◌++◌, length, take, drop, Result, Ok, Err, refl, sym, ap, subst, ◌∙◌, ◌⊎◌, inl, inr, arith}
 use Rattle.std.proofs.lemmas.Bool.{eq-eqb, eqb-true, eqb-false, ltb-false, ltb-true, le-ltb, ne_eqb, cases_lt, le-leb}
 use Rattle.std.proofs.lemmas.List.{append-nil, nil_from_length, take_at, drop_at, take-append-drop, length-append, length-take}
 use Rattle.byteorder.specs.Endian.{big_bytes, big_number}
@@ -370,10 +370,6 @@ is_length_long n le =
 
 abbrev length_if : Bool → Bool → ℕ → List ℕ → Read ℕ
 length_if cut good n octets = cond cut (Err []) (cond good (Ok (n, drop 4 octets)) (Err (drop 3 octets)))
-
-four_octets : (octets : List ℕ) → 4 ≤ length octets → octets ≡ get_or octets 0 0 ∷ get_or octets 1 0 ∷ get_or octets 2 0 ∷ get_or octets 3 0 ∷ drop 4 octets
-four_octets (a ∷ b ∷ c ∷ d ∷ rest) le = refl
-four_octets octets le = absurd (omega arith)
 
 length_takes : (octets : List ℕ) (n : ℕ) (rest : List ℕ) (cut good : Bool) → AreBelow 256 octets → ltb (length octets) 4 ≡ cut → is_length (big_number 4 octets) ≡ good → length_if cut good (big_number 4 octets) octets ≡ Ok (n, rest) → IsLength n × (octets ≡ big_bytes 4 n ++ rest)
 length_takes octets n rest true good small is-cut is-good e = absurd (not_both (n, rest) [] (sym e))

@@ -6,10 +6,6 @@ pub AreBelow-append : (bound : ℕ) (a b : List ℕ) → AreBelow bound a → Ar
 AreBelow-append bound [] b p q = q
 AreBelow-append bound (x ∷ a) b p q = (p.0, AreBelow-append bound a b p.1 q)
 
-pub AreBelow-front : (bound : ℕ) (a b : List ℕ) → AreBelow bound (a ++ b) → AreBelow bound a
-AreBelow-front bound [] b p = tt
-AreBelow-front bound (x ∷ a) b p = (p.0, AreBelow-front bound a b p.1)
-
 pub AreBelow-back : (bound : ℕ) (a b : List ℕ) → AreBelow bound (a ++ b) → AreBelow bound b
 AreBelow-back bound [] b p = p
 AreBelow-back bound (x ∷ a) b p = AreBelow-back bound a b p.1

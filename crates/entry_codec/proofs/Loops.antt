@@ -1,64 +1,22 @@
 -- Reading octet by octet, as a loop does.
-use Rattle.std.proofs.Common.{◌≡◌, ◌≢◌, ℕ, zero, suc, zero-add, ◌+◌, ◌-◌, ◌*◌, ◌/◌, ◌<◌, ◌≤◌, ◌==◌, true, false, ltb, List, [], ◌∷◌, length, get_or, take, drop, refl, sym, ap, ◌∙◌, arith}
+use Rattle.std.proofs.Common.{◌≡◌, ℕ, zero, suc, zero-add, ◌+◌, ◌-◌, ◌*◌, ◌/◌, ◌<◌, ◌≤◌, false, ltb, List, [], ◌∷◌, length, take, drop, refl, sym, ap, ◌∙◌, arith}
 use Rattle.std.proofs.Math.Seq.{drop-cons}
-use Rattle.std.proofs.lemmas.Bool.{eq-eqb, ne_eqb, le-ltb, lt-ltb}
-use Rattle.std.proofs.lemmas.List.{nil_from_length, length-drop, length-take, take-append-drop}
+use Rattle.std.proofs.lemmas.Bool.{le-ltb}
+use Rattle.std.proofs.lemmas.List.{nil_from_length, length-take, take-append-drop}
 use Rattle.byteorder.specs.Endian.{IsRead, big_number}
-use Rattle.entry_codec.specs.Reading.{at_most, behind, exactly, numbers_at, numbers_in}
+use Rattle.entry_codec.specs.Reading.{at_most, exactly, numbers_at, numbers_in}
 use Rattle.entry_codec.proofs.Fields.{numbers_in-append}
 use Rattle.entry_codec.proofs.Parts.{err, ok}
-
--- a list that isn't empty, by its first place
-pub first_and_rest : (xs : List ℕ) → 0 < length xs → xs ≡ get_or xs 0 0 ∷ drop 1 xs
-first_and_rest [] lt = absurd (omega arith)
-first_and_rest (x ∷ xs) lt = refl
 
 pub exactly_ends : (wanted octets rest : List ℕ) (i : ℕ) → i < length wanted → exactly (drop i wanted) rest ≡ exactly wanted octets → length rest ≡ 0 → exactly wanted octets ≡ err rest
 exactly_ends wanted octets rest i lt so_far none =
     let empty : rest ≡ [] = nil_from_length rest none in
     sym so_far ∙ rw (drop-cons wanted i 0, empty) refl
 
-pub exactly_wrong : (wanted octets rest : List ℕ) (i : ℕ) → i < length wanted → exactly (drop i wanted) rest ≡ exactly wanted octets → 0 < length rest → get_or rest 0 0 ≢ get_or wanted i 0 → exactly wanted octets ≡ err rest
-exactly_wrong wanted octets rest i lt so_far some apart =
-    let split : rest ≡ get_or rest 0 0 ∷ drop 1 rest = first_and_rest rest some in
-    let test : (get_or rest 0 0 == get_or wanted i 0) ≡ false = ne_eqb _ _ apart in
-    sym so_far ∙ ap (exactly (drop i wanted)) split ∙ rw (drop-cons wanted i 0, test) (ap err (sym split))
-
-pub exactly_goes_on : (wanted octets rest : List ℕ) (i : ℕ) → i < length wanted → exactly (drop i wanted) rest ≡ exactly wanted octets → 0 < length rest → get_or rest 0 0 ≡ get_or wanted i 0 → exactly (drop (i + 1) wanted) (drop 1 rest) ≡ exactly wanted octets
-exactly_goes_on wanted octets rest i lt so_far some same =
-    let split : rest ≡ get_or rest 0 0 ∷ drop 1 rest = first_and_rest rest some in
-    let test : (get_or rest 0 0 == get_or wanted i 0) ≡ true = eq-eqb _ _ same in
-    let next : i + 1 ≡ suc i = omega arith in
-    let step : exactly (drop i wanted) rest ≡ exactly (drop (suc i) wanted) (drop 1 rest) = ap (exactly (drop i wanted)) split ∙ rw (drop-cons wanted i 0, test) refl in
-    rw next (sym step ∙ so_far)
-
 pub at_most_ends : (bound octets rest : List ℕ) (i : ℕ) → i < length bound → at_most (drop i bound) rest ≡ at_most bound octets → length rest ≡ 0 → at_most bound octets ≡ err rest
 at_most_ends bound octets rest i lt so_far none =
     let empty : rest ≡ [] = nil_from_length rest none in
     sym so_far ∙ rw (drop-cons bound i 0, empty) refl
-
-pub at_most_above : (bound octets rest : List ℕ) (i : ℕ) → i < length bound → at_most (drop i bound) rest ≡ at_most bound octets → 0 < length rest → get_or bound i 0 < get_or rest 0 0 → at_most bound octets ≡ err rest
-at_most_above bound octets rest i lt so_far some above =
-    let split : rest ≡ get_or rest 0 0 ∷ drop 1 rest = first_and_rest rest some in
-    let test : (get_or rest 0 0 == get_or bound i 0) ≡ false = ne_eqb _ _ (omega arith) in
-    let higher : ltb (get_or bound i 0) (get_or rest 0 0) ≡ true = lt-ltb _ _ above in
-    sym so_far ∙ ap (at_most (drop i bound)) split ∙ rw (drop-cons bound i 0, test, higher) (ap err (sym split))
-
-pub at_most_below : (bound octets rest : List ℕ) (i : ℕ) → i < length bound → at_most (drop i bound) rest ≡ at_most bound octets → 0 < length rest → get_or rest 0 0 < get_or bound i 0 → at_most bound octets ≡ behind (length bound - i - 1) (drop 1 rest)
-at_most_below bound octets rest i lt so_far some below =
-    let split : rest ≡ get_or rest 0 0 ∷ drop 1 rest = first_and_rest rest some in
-    let test : (get_or rest 0 0 == get_or bound i 0) ≡ false = ne_eqb _ _ (omega arith) in
-    let lower : ltb (get_or bound i 0) (get_or rest 0 0) ≡ false = le-ltb _ _ (omega arith) in
-    let left : length (drop (suc i) bound) ≡ length bound - i - 1 = omega (arith, length-drop (suc i) bound) in
-    sym so_far ∙ ap (at_most (drop i bound)) split ∙ rw (drop-cons bound i 0, test, lower, left) refl
-
-pub at_most_goes_on : (bound octets rest : List ℕ) (i : ℕ) → i < length bound → at_most (drop i bound) rest ≡ at_most bound octets → 0 < length rest → get_or rest 0 0 ≡ get_or bound i 0 → at_most (drop (i + 1) bound) (drop 1 rest) ≡ at_most bound octets
-at_most_goes_on bound octets rest i lt so_far some same =
-    let split : rest ≡ get_or rest 0 0 ∷ drop 1 rest = first_and_rest rest some in
-    let test : (get_or rest 0 0 == get_or bound i 0) ≡ true = eq-eqb _ _ same in
-    let next : i + 1 ≡ suc i = omega arith in
-    let step : at_most (drop i bound) rest ≡ at_most (drop (suc i) bound) (drop 1 rest) = ap (at_most (drop i bound)) split ∙ rw (drop-cons bound i 0, test) refl in
-    rw next (sym step ∙ so_far)
 
 drop_twice : (m n : ℕ) (xs : List ℕ) → drop m (drop n xs) ≡ drop (n + m) xs
 drop_twice m zero xs = rw zero-add refl

@@ -428,9 +428,6 @@ pub mark_run : (reason : Option ClosureReason) (run : List (Filed (List ℕ))) (
 mark_run reason run true moment = sym (append-nil (still reason run []))
 mark_run reason run false moment = sym (append-nil (still reason run []))
 
-pub same_reason : (reason other : Option ClosureReason) → reason ≡ other → only_before reason ≡ only_before other
-same_reason reason other e = ap only_before e
-
 closes_some : (reason : Option ClosureReason) (run : RunFacts) → ClosesOpen reason (Some run)
 closes_some None run = tt
 closes_some (Some reason) run = tt

@@ -16,7 +16,7 @@ use Rattle.cdr_shelf.specs.Files.{SealedFile}
 use Rattle.cdr_shelf.specs.Steps.{is_done}
 use Rattle.cdr_shelf.specs.declared.shelf.Shelf.{Ghosts}
 use Rattle.file_writer.specs.Calls.{Call, seals}
-use Rattle.file_writer.specs.Making.{Comes, Ending, Failed, HasSealed, Makes, Starved, Went, calls_after, done_at, ending_at, ending_of}
+use Rattle.file_writer.specs.Making.{Comes, Ending, Failed, HasSealed, Makes, Went, calls_after, done_at, ending_at, ending_of}
 use Rattle.std.specs.Result.{IsErr, IsErrAnd}
 use Rattle.file_writer.specs.declared.fault.ShelfFault.{ShelfFault}
 use Rattle.file_writer.specs.declared.fault.ShelfFault.TheVariants.{Device, NoMemory}
@@ -170,27 +170,6 @@ module _ {A : Type 0} (tells : Ghosts A) (call : Call) (old new : A) where
     sealed = λ told. maybe_sealed (sealed told);
     faults = record { later = later; failed = λ e. rose; still = λ e. absurd (cc) };
     planned = λ told memory. failed_comes (planned told) (left told);
-  }
-
-  -- no memory for it
-  pub one_starved : (IsTrue tells.tells_calls → tells.calls new ≡ tells.calls old)
-      → tells.files new ≡ tells.files old → tells.faults new ≡ tells.faults old
-      → Makes tells (call ∷ []) Starved old new
-  one_starved called same still = record {
-    tried = 0;
-    within = omega arith;
-    all = λ e. absurd (cc);
-    some = λ e. absurd (cc);
-    called = called;
-    sealed = λ told. record {
-      count = 0;
-      at_most = omega arith;
-      at_least = omega arith;
-      each = λ e. refl;
-      files = none_sealed same;
-    };
-    faults = record { later = omega (arith, still); failed = λ e. absurd (cc); still = λ e. still };
-    planned = λ told memory. absurd (cc);
   }
 
 -- ---- calls one after the other

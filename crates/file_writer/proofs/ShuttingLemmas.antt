@@ -166,11 +166,6 @@ pub begun_then : {A : Type 0} (tells : Ghosts A) (s sequence : ℕ) (old mid new
 begun_then tells s sequence old mid new first second files plan most within shut =
     second files plan most (first files plan most within shut)
 
-pub then_begun : {A : Type 0} (tells : Ghosts A) (s sequence : ℕ) (old mid new : A) → StaysShut tells old mid
-    → BeginsShut tells s sequence mid new → BeginsShut tells s sequence old new
-then_begun tells s sequence old mid new first second files plan most within shut =
-    second files plan most within (first files plan most shut)
-
 pub any_begun : {A : Type 0} (tells : Ghosts A) (s sequence : ℕ) (old new : A) → StaysShut tells old new
     → BeginsShut tells s sequence old new
 any_begun tells s sequence old new stays files plan most within shut = stays files plan most shut

@@ -42,11 +42,6 @@ module _ (header : List ℕ) (long : length header ≡ 32) (octets : List ℕ) w
   pub one_list : (some other : List (List ℕ)) → Stands header octets some → Stands header octets other → some ≡ other
   one_list some other one two = one_stop (end_of some) (end_of other) some other (stop_of_stands some one) (stop_of_stands other two)
 
-  pub stands_or_broken : (batches : List (List ℕ)) (at : ℕ) → Stands header octets batches → IsBroken header octets at → ⊥
-  stands_or_broken batches at stands broken =
-      let at_is = one_place (end_of batches) at batches broken.batches (stop_of_stands batches stands) (stop_of_broken at broken) in
-      stands.shut (subst (λ n. gate_at octets n ≡ open_gate) (sym at_is) broken.opened)
-
   pub one_broken : (at far : ℕ) → IsBroken header octets at → IsBroken header octets far → at ≡ far
   one_broken at far one two = one_place at far one.batches two.batches (stop_of_broken at one) (stop_of_broken far two)
 

@@ -1,5 +1,5 @@
 -- How the calls of an opening come out as planned.
-use Rattle.std.proofs.Common.{◌≡◌, ℕ, false, Result, Ok, Err, refl, sym, ◌∙◌, ap}
+use Rattle.std.proofs.Common.{◌≡◌, ℕ, false, Result, Ok, Err, refl, ◌∙◌, ap}
 use Rattle.area_disk.specs.Plan.{Prospect, Schedule, next_fate, after_call, is_failure, fate_with}
 use Rattle.area_disk.specs.declared.area.Area.{Ghosts}
 use Rattle.area_disk.specs.declared.plan.Fate.{Fate}
@@ -60,18 +60,6 @@ module _ (old : Course) (runs : append_fails (ending_of old) (ending_of (after_p
 
   pub second_runs : (r : ℕ) (mid : Course) → mid ≡ with_reads r (after_put old) → is_ended (ending_of mid) ≡ false
   second_runs r mid is = ap (λ c. is_ended (ending_of c)) is ∙ ap is_ended (ending_reads r (after_put old)) ∙ (both_ran (ending_of old) (ending_of (after_put old)) runs).1
-
-  pub both_made : (r : ℕ) (mid new : Course) → mid ≡ with_reads r (after_put old) → new ≡ after_put mid → new ≡ with_reads r (after_append old)
-  both_made r mid new is came =
-      came ∙ ap after_put is ∙ put_reads r (after_put old)
-      ∙ ap (λ e. with_reads r (course_after e (after_put old) (after_put (after_put old)))) (sym (both_ran (ending_of old) (ending_of (after_put old)) runs).0)
-
--- with its own number of reads a plan is itself
-pub own_reads : (new old : Course) (r : ℕ) → new ≡ with_reads r old → new ≡ with_reads new.schedule.reads old
-own_reads new old r is = is ∙ ap (λ n. with_reads n old) (sym (ap (λ (c : Course). c.schedule.reads) is))
-
-pub own_course : (new old : Course) → new ≡ old → new ≡ with_reads new.schedule.reads old
-own_course new old is = ap (λ (c : Course). with_reads new.schedule.reads c) is
 
 fate_runs : (fate : Fate) → is_failure fate ≡ false → fate ≡ Runs
 fate_runs Runs runs = refl

@@ -26,17 +26,6 @@ left_after (Stops stop) old new leaves outcome = leaves outcome
 course_synced : (old new : Prospect) (fate : Fate) → new.schedule ≡ after_call fate old.schedule → new.spare ≡ spare_after_sync fate old.spare → course_of new ≡ after_sync fate (course_of old)
 course_synced old new fate schedule spare = λ i. record { schedule = schedule i; spare = spare i }
 
--- the sync failed
-pub sync_failed : {T E : Type 0} (old : Prospect) (result : Result T E) (new : Prospect) → SyncAsPlanned old result new → is_err result ≡ true → SyncPlanned old true new
-sync_failed old result new sync failed =
-    let came = course_synced old new (sync_fate old) sync.schedule sync.spare in
-    record {
-      fails = λ e. refl;
-      runs = λ none. sym failed ∙ sync.fails;
-      course = ap (λ (c : Course). with_reads new.schedule.reads c) came;
-      leaves = left_after (sync_fate old) old.leaves new.leaves sync.leaves;
-    }
-
 -- it ran, and reads followed
 pub sync_ran : {T E : Type 0} (old : Prospect) (result : Result T E) (mid new : Prospect) (failed : Bool) → SyncAsPlanned old result mid → is_err result ≡ false → ReadOn mid new → (ReadsRun mid.schedule → failed ≡ false) → SyncPlanned old failed new
 sync_ran old result mid new failed sync ran read runs =

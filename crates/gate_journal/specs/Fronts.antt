@@ -15,13 +15,6 @@ pub at_front : (i n d : ℕ) (a b : List ℕ) → i < n → take n a ≡ take n 
 at_front i n d a b lt same =
     sym (get_or-take n a i d lt) ∙ ap (λ (l : List ℕ). get_or l i d) same ∙ get_or-take n b i d lt
 
--- what is the same from a place on is the same from a later one
-pub back_of_back : (m n : ℕ) (a b : List ℕ) → n ≤ m → drop n a ≡ drop n b → drop m a ≡ drop m b
-back_of_back m n a b le same =
-    let is : n + (m - n) ≡ m = omega arith in
-    ap (λ k. drop k a) (sym is) ∙ sym (drop-drop (m - n) n a)
-    ∙ ap (λ (l : List ℕ). drop (m - n) l) same ∙ drop-drop (m - n) n b ∙ ap (λ k. drop k b) is
-
 -- a list is its front, the element there and what is behind it
 pub around : (at d : ℕ) (a : List ℕ) → at < length a → a ≡ take at a ++ get_or a at d ∷ drop (at + 1) a
 around at d a lt = sym (take-append-drop at a) ∙ ap (λ (l : List ℕ). take at a ++ l) (drop_more a at d lt)

@@ -1,25 +1,11 @@
 -- How a commit moves a book's value.
-use Rattle.std.proofs.Common.{◌≡◌, ◌≢◌, ℕ, Bool, true, false, if◌then◌else◌, List, [], ◌∷◌, Result, Ok, Err, length, refl, sym, ap, ◌∙◌, arith, length-append}
-use Rattle.entry_codec.specs.Content.{AreEntries, spelled}
-use Rattle.entry_codec.specs.Laws.{length_of_spelling}
-use Rattle.entry_codec.specs.Spelling.{spelling}
+use Rattle.std.proofs.Common.{◌≡◌, ◌≢◌, ℕ, Bool, true, false, if◌then◌else◌, List, [], ◌∷◌, Result, Ok, Err, length, refl, sym, ap, ◌∙◌}
 use Rattle.gw_base.specs.declared.history.HistoryEntry.{HistoryEntry}
 use Rattle.gateway_book.specs.Calls.{commit_answer}
 use Rattle.gateway_book.specs.Index.{Follows}
-use Rattle.gateway_book.specs.Value.{BookValue, Fortune, Reopening, after_commit, committed, faulted, reopened, tried, tried_with}
+use Rattle.gateway_book.specs.Value.{BookValue, Fortune, Reopening, after_commit, reopened, tried, tried_with}
 use Rattle.gateway_book.specs.declared.index.Index.{Index}
 use Rattle.gateway_book.specs.declared.outcome.Broken.{Broken}
-
--- entries that no octet spells are none
-pub none_spelled : (octets : List ℕ) (h : List HistoryEntry) → AreEntries octets h → octets ≡ [] → h ≡ []
-none_spelled octets h are none = by_list h (sym none ∙ are.spelling)
-  where
-    by_list : (h : List HistoryEntry) → [] ≡ spelled h → h ≡ []
-    by_list [] is = refl
-    by_list (e ∷ h) is = absurd (omega (arith, ap (λ (o : List ℕ). length o) is, length-append (spelling e) (spelled h), length_of_spelling e))
-
-pub some_spelled : (octets : List ℕ) (h : List HistoryEntry) → AreEntries octets h → octets ≢ [] → h ≢ []
-some_spelled octets h are some none = some (are.spelling ∙ ap spelled none)
 
 module _ (f : Fortune) (v now : BookValue) where
   asked_with : (rest : List HistoryEntry) → rest ≢ [] → tried_with f v rest ≡ tried f v
@@ -32,16 +18,6 @@ module _ (f : Fortune) (v now : BookValue) where
   pub opened_again : v.is_broken ≡ true → (r : Reopening) → f.reopening ≡ r → now ≡ reopened v r → now ≡ after_commit f v
   opened_again broken r same moved =
       moved ∙ ap (λ (o : Reopening). reopened v o) (sym same) ∙ sym (ap (λ b. if b then reopened v f.reopening else tried_with f v v.rest) broken)
-
-  pub made_firm : v.is_broken ≡ false → v.rest ≢ [] → (failed : Bool) → f.fails ≡ failed → now ≡ (if failed then faulted v else committed v) → now ≡ after_commit f v
-  made_firm whole some failed same moved =
-      moved
-      ∙ ap (λ b. if b then faulted v else committed v) (sym same)
-      ∙ sym (asked_with v.rest some)
-      ∙ sym (ap (λ b. if b then reopened v f.reopening else tried_with f v v.rest) whole)
-
-  pub left_alone : v.is_broken ≡ false → v.rest ≡ [] → v ≡ after_commit f v
-  left_alone whole none = sym (unasked v.rest none) ∙ sym (ap (λ b. if b then reopened v f.reopening else tried_with f v v.rest) whole)
 
 pub answer_ok : (v after : BookValue) → v ≡ after → v.is_broken ≡ false → (n : ℕ) → n ≡ length v.firm → ◌≡◌ {A = Result ℕ Broken} (Ok n) (commit_answer after)
 answer_ok v after moved whole n count =

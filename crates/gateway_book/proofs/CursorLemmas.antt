@@ -15,7 +15,7 @@ use Rattle.gateway_book.specs.Cursor.{AreHeldIn, HasPassed, HasStayed, IsAt, IsB
 use Rattle.gateway_book.specs.Filed.{along, filed_under, packet_of_hold, present_key, released_records}
 use Rattle.gateway_book.specs.Gathering.{Gathered, gathered}
 use Rattle.gateway_book.specs.HeldCopies.{AreBelow, CopyPlaces, HoldCopies, copies_after, copy_at, no_copies, packet_at, places_of}
-use Rattle.gateway_book.specs.Items.{items_between, items_by, items_of}
+use Rattle.gateway_book.specs.Items.{items_by, items_of}
 use Rattle.gateway_book.specs.Read.{IsRead}
 use Rattle.gateway_book.specs.declared.cursor.Cursor.{Cursor}
 use Rattle.gateway_book.proofs.GatheringLemmas.{full_stays, gathered_on, none_more}
@@ -39,12 +39,6 @@ begun_at h cursor begun = record {
   items = begun.items ∙ sym (ap (λ (k : ℕ). min (length (items_of (take k h))) (2 ^ 64 - 1)) begun.entry);
   copies = subst (λ (c : CopyPlaces). HoldCopies c (take cursor.entry h)) (sym begun.copies) (subst (λ (k : ℕ). HoldCopies no_copies (take k h)) (sym begun.entry) (λ node number. refl));
 }
-
--- all that is gathered from there on is what was asked for
-pub begun_items : (h : List HistoryEntry) (cursor : Cursor) (from room : ℕ) (into : Gathered) → IsBegun cursor → into ≡ record { skip = from; room = room; items = [] }
-    → gathered_at_last h cursor.entry into ≡ items_between from room h
-begun_items h cursor from room into begun is =
-    ap (λ (g : Gathered). gathered_at_last h cursor.entry g) is ∙ ap (λ (k : ℕ). take room (drop from (items_from k h))) begun.entry
 
 -- ---- one entry more
 
@@ -111,13 +105,6 @@ pub within_more : (n : ℕ) (act : HistoryAct) (count : ℕ) (old new : Cursor) 
 within_more n act count old new lt below passed = record {
   entry = let on = passed.entry in omega (arith, on, lt);
   copies = subst (λ (k : ℕ). AreBelow k (places_of new.copies)) (sym passed.entry) (subst (λ (c : CopyPlaces). AreBelow (old.entry + 1) c) (sym passed.copies) (below_more old.entry act (places_of old.copies) below));
-}
-
--- a cursor that stays
-pub within_still : (n : ℕ) (old new : Cursor) → HasStayed old new → IsWithin n old → IsWithin n new
-within_still n old new still within = record {
-  entry = let same = still.entry in let le = within.entry in omega (arith, same, le);
-  copies = subst (λ (k : ℕ). AreBelow k (places_of new.copies)) (sym still.entry) (subst (λ (c : CopyPlaces). AreBelow old.entry c) (sym still.copies) within.copies);
 }
 
 pub at_still : (h : List HistoryEntry) (old new : Cursor) → HasStayed old new → IsAt h old → IsAt h new

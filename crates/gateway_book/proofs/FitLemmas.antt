@@ -1,21 +1,11 @@
 -- Packets that are fit, and numbers that differ.
 use Rattle.std.proofs.Common.{◌≡◌, ◌⊎◌, inl, inr, ℕ, zero, suc, ◌-◌, ◌<◌, ◌≤◌, ◌==◌, ◌&&◌, ◌||◌, not, Bool, true, false, List, [], ◌∷◌, length, drop, refl, subst, sym, ap, ◌∙◌, arith}
 use Rattle.std.proofs.lemmas.List.{drop_more}
-use Rattle.std.specs.Prelude.{None, slice_index_or}
+use Rattle.std.specs.Prelude.{slice_index_or}
 use Rattle.std.specs.List.{list_all, list_any}
 use Rattle.std.proofs.lemmas.Bool.{eq-eqb, eqb-true, ne_eqb, true≢false}
-use Rattle.gtpp_message.specs.Packet.{is_empty_packet, packet_of}
 use Rattle.gateway_book.specs.Fit.{are_distinct}
 use Rattle.gateway_book.specs.Numbers.{AreWithin}
-
--- an empty packet has no records
-pub none_empty : (value : List ℕ) → is_empty_packet value ≡ true → packet_of value ≡ None
-none_empty [] is = refl
-none_empty (count ∷ []) is = refl
-none_empty (count ∷ format ∷ []) is = absurd (true≢false (sym is))
-none_empty (count ∷ format ∷ high ∷ []) is = absurd (true≢false (sym is))
-none_empty (count ∷ format ∷ high ∷ low ∷ []) is = rw is refl
-none_empty (count ∷ format ∷ high ∷ low ∷ x ∷ rest) is = absurd (true≢false (sym is))
 
 -- all others differ from a number where none is equal to it
 pub all_differ : (x : ℕ) (xs : List ℕ) → list_all (λ y. not (x == y)) xs ≡ not (list_any (λ y. y == x) xs)

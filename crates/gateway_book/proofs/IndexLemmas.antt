@@ -125,9 +125,6 @@ opened_stepped node opening old new stranded nodes held firm is live = record {
   firm = λ i. record { nodes = nodes.firm i; held = held.firm i; totals = firm i };
 }
 
-pub stepped_none : (a : Index) → Stepped (λ side. side) a a
-stepped_none a = record { live = refl; firm = refl }
-
 -- both sides are one side's
 pub kept_sides : (firm : Bool) (old new : Index) → ((side : Bool) → nodes_in side new.nodes ≡ nodes_in firm old.nodes) → ((side : Bool) → held_in side new.held ≡ held_in firm old.held)
     → new.firm ≡ (if firm then old.firm else old.live) → new.live ≡ (if firm then old.firm else old.live) → (side : Bool) → side_of side new ≡ side_of firm old

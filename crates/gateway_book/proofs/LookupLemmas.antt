@@ -1,29 +1,7 @@
 -- Paths, looked up one after the other.
-use Rattle.std.proofs.Common.{◌≡◌, ℕ, zero, suc, ◌+◌, ◌-◌, ◌<◌, Bool, true, false, List, [], ◌∷◌, length, take, drop, refl, sym, ap, ◌∙◌, arith, slice_get}
-use Rattle.std.specs.Prelude.{Option, Some, None, slice_index_or}
+use Rattle.std.proofs.Common.{◌≡◌, ℕ, zero, suc, ◌+◌, ◌-◌, ◌<◌, List, [], ◌∷◌, drop, sym, ap, ◌∙◌, arith, slice_get}
+use Rattle.std.specs.Prelude.{Option, Some, None}
 use Rattle.std.specs.List.{cons_option, filter_map}
-use Rattle.gateway_book.specs.Nodes.{known_at, nodes_of}
-use Rattle.gateway_book.specs.declared.nodes.Slot.{Slot}
-
--- the node of a slot
-node_in : (slots : List Slot) (k : ℕ) (d : Slot) → k < length slots → slice_get (nodes_of slots) k ≡ Some (slice_index_or slots k d).node
-node_in [] k d lt = absurd (omega (arith, lt))
-node_in (slot ∷ slots) zero d lt = refl
-node_in (slot ∷ slots) (suc k) d lt = node_in slots k d (omega (arith, lt))
-
-node_taken : (count : ℕ) (slots : List Slot) (k : ℕ) (d : Slot) → k < length (nodes_of (take count slots)) → slice_get (nodes_of (take count slots)) k ≡ Some (slice_index_or slots k d).node
-node_taken zero slots k d lt = absurd (omega (arith, lt))
-node_taken (suc count) [] k d lt = absurd (omega (arith, lt))
-node_taken (suc count) (slot ∷ slots) zero d lt = refl
-node_taken (suc count) (slot ∷ slots) (suc k) d lt = node_taken count slots k d (omega (arith, lt))
-
-pub known_node : (firm : Bool) (count : ℕ) (slots : List Slot) (k : ℕ) (d : Slot) → k < length (known_at firm count slots) → slice_get (known_at firm count slots) k ≡ Some (slice_index_or slots k d).node
-known_node true count slots k d lt = node_taken count slots k d lt
-known_node false count slots k d lt = node_in slots k d (omega (arith, lt, length-nodes slots))
-  where
-    length-nodes : (slots : List Slot) → length (nodes_of slots) ≡ length slots
-    length-nodes [] = refl
-    length-nodes (slot ∷ slots) = ap suc (length-nodes slots)
 
 -- what is left of a list from a place on
 place_on : {X : Type 0} (xs : List X) (i : ℕ) (x : X) → slice_get xs i ≡ Some x → drop i xs ≡ x ∷ drop (i + 1) xs

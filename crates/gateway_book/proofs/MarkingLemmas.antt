@@ -1,5 +1,5 @@
 -- How a mark is added to a book.
-use Rattle.std.proofs.Common.{◌≡◌, ℕ, inl, inr, Bool, true, false, if◌then◌else◌, List, refl, sym, ap, subst, ◌∙◌, arith}
+use Rattle.std.proofs.Common.{◌≡◌, ℕ, inl, inr, Bool, true, false, if◌then◌else◌, List, refl, sym, ap, subst, ◌∙◌}
 use Rattle.area_disk.specs.declared.area.Area.{Ghosts}
 use Rattle.entry_codec.specs.Room.{has_room}
 use Rattle.cgf_journal.specs.Trail.{area_of, entries, firm_entries, is_closed}
@@ -15,10 +15,9 @@ use Rattle.gateway_book.specs.Calls.{Left, marked_at, marked_if_ready, ticked}
 use Rattle.gateway_book.specs.FitLaws.{room_is_for_each}
 use Rattle.gateway_book.specs.Followed.{all_entries}
 use Rattle.gateway_book.specs.Index.{MayCome}
-use Rattle.gateway_book.specs.Marking.{IsMark, OnlyAdds, with_entry}
+use Rattle.gateway_book.specs.Marking.{IsMark, with_entry}
 use Rattle.gateway_book.specs.Marks.{Mark, NotDue, NoRoom, Makes, close_mark, made_if, tick_mark}
 use Rattle.gateway_book.specs.Value.{BookValue, Fortune, history_of, readied, recorded}
-use Rattle.gateway_book.specs.declared.book.Book.{Book}
 use Rattle.gateway_book.specs.declared.index.Index.{Index}
 use Rattle.gateway_book.specs.declared.outcome.Marked.{Marked}
 use Rattle.gateway_book.specs.declared.outcome.Marked.TheVariants as marked
@@ -34,15 +33,6 @@ room_of_open {tells = tells} trail e open_now = ap (λ b. has_room (if b then fi
 
 pub room_of_mark : (size : ℕ) (h : List HistoryEntry) (now moment : ℕ) (who : Caller) (act : HistoryAct) → moment ≡ moment_after h now → has_room h (entry_of moment who act) size ≡ room_for h size act
 room_of_mark size h now moment who act at = ap (λ (m : ℕ). has_room h (entry_of m who act) size) at ∙ room_is_for_each h size now who act
-
--- nothing was done
-pub adds_nothing : {A : Type 0} {tells : Ghosts A} (book : Book A tells) → OnlyAdds book book
-adds_nothing book = record {
-  stays = record { listed = refl; count = refl; places = λ k place is. is; opened = refl; area = refl; header = refl };
-  entries = omega arith;
-  uncut = refl;
-  kept = refl;
-}
 
 -- the entry of a mark is the one that is recorded
 pub put_is_recorded : (v : BookValue) (h : List HistoryEntry) (now moment : ℕ) (who : Caller) (act : HistoryAct) → history_of v ≡ h → moment ≡ moment_after h now → with_entry v (entry_of moment who act) ≡ recorded v now who act

@@ -1,7 +1,7 @@
 -- What each call makes of the nodes that an index keeps.
-use Rattle.std.proofs.Common.{◌≡◌, ℕ, zero, suc, ◌+◌, ◌<◌, ◌≤◌, ◌==◌, ◌&&◌, ◌⊎◌, inl, inr, Bool, true, false, if◌then◌else◌, List, [], ◌∷◌, ◌++◌, Some, length, length-append, map, take, refl, sym, ap, subst, ◌∙◌, arith}
+use Rattle.std.proofs.Common.{◌≡◌, ℕ, zero, suc, ◌+◌, ◌<◌, ◌≤◌, ◌==◌, ◌&&◌, nat_lt, ◌⊎◌, inl, inr, Bool, true, false, if◌then◌else◌, List, [], ◌∷◌, ◌++◌, Some, length, length-append, map, take, refl, sym, ap, subst, ◌∙◌, arith}
 use Rattle.std.specs.Prelude.{IfSome}
-use Rattle.std.proofs.lemmas.Bool.{eq-eqb, eqb-true, eqb-false, ne_eqb}
+use Rattle.std.proofs.lemmas.Bool.{and_parts, eq-eqb, eqb-true, eqb-false, ltb-true, ne_eqb}
 use Rattle.std.proofs.lemmas.List.{length-map, length-take, take-append-le}
 use Rattle.gw_base.specs.declared.address.NodeId.{NodeId}
 use Rattle.gw_base.specs.declared.history.Opening.{Opening}
@@ -96,6 +96,12 @@ module _ (node : NodeId) (place : ℕ) (old new : List Slot) (learnt : IsLearnt 
       by_slots : (new ≡ old) ⊎ ((new ≡ old ++ fresh_slot node ∷ []) × (is_known (nodes_of old) node ≡ false)) → AreSame firm new
       by_slots (inl is) = subst (λ (slots : List Slot). AreSame firm slots) (sym is) same
       by_slots (inr more) = absurd (omega (arith, before, learnt.here, ap (λ (slots : List Slot). place_in slots node.0) more.0, place_new node old (fresh_slot node) refl more.1))
+
+-- both sides are the same still, where a node was known
+pub both_still : (is_same : Bool) (place count : ℕ) (still : Bool) → still ≡ (is_same && nat_lt place count) → still ≡ true → (is_same ≡ true) × (place < count)
+both_still is_same place count still is e =
+    let both = and_parts is_same (nat_lt place count) (sym is ∙ e) in
+    (both.0, ltb-true place count both.1)
 
 -- ---- a step of the windows at a node's place
 

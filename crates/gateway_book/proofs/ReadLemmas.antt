@@ -1,5 +1,5 @@
 -- Reads of a trail, one after the other.
-use Rattle.std.proofs.Common.{◌≡◌, ℕ, List, [], ◌∷◌, Result, refl, subst, ◌∙◌}
+use Rattle.std.proofs.Common.{ℕ, List, [], ◌∷◌, Result, refl, ◌∙◌}
 use Rattle.std.proofs.lemmas.List.Concat.{flat_map-cons}
 use Rattle.std.proofs.lemmas.List.Elements.{All-head}
 use Rattle.area_disk.specs.CourseLaws.{read_on_trans, runs_on}
@@ -12,7 +12,7 @@ use Rattle.area_disk.specs.declared.area.Area.{Ghosts}
 use Rattle.cgf_journal.specs.Outcomes.{IsKept}
 use Rattle.cgf_journal.specs.Trail.{area_of}
 use Rattle.cgf_journal.specs.declared.trail.Trail.{Trail}
-use Rattle.gateway_book.specs.Read.{HasCauseOf, IsRead, ReadCause, RunsOn}
+use Rattle.gateway_book.specs.Read.{IsRead, RunsOn}
 use Rattle.gateway_book.specs.declared.outcome.ItemsFault.{ItemsFault}
 
 module _ {A : Type 0} {tells : Ghosts A} where
@@ -69,10 +69,6 @@ module _ {A : Type 0} {tells : Ghosts A} where
   -- after a reading no read is to fail where none was
   pub runs_after : {R : Type 0} (a b : Trail A tells) (result : Result R ItemsFault) → IsRead a b → RunsOn b result → RunsOn a result
   runs_after a b result read runs = λ fate plan. runs fate (runs_on (tells.fate (area_of a)) (tells.fate (area_of b)) (read.plan fate) plan)
-
-  -- after a read that succeeded the cause is the next one's
-  pub cause_on : {R : Type 0} (a b c : Trail A tells) (result : Result R ItemsFault) → tells.faults (area_of b) ≡ tells.faults (area_of a) → HasCauseOf b c result → HasCauseOf a c result
-  cause_on a b c result same cause = subst (λ (n : ℕ). ReadCause n (tells.faults (area_of c)) result) same cause
 
 -- what was read is the entry
 pub begins_with : (octets : List ℕ) (e : HistoryEntry) → AreEntries octets (e ∷ []) → BeginsWith octets e

@@ -5,7 +5,7 @@ use Rattle.std.proofs.lemmas.List.{append-nil, take-append-drop}
 use Rattle.area_disk.specs.Disk.{Rose, counted}
 use Rattle.area_disk.specs.declared.area.Area.{Ghosts}
 use Rattle.gate_journal.specs.Moments.{Told}
-use Rattle.cgf_journal.specs.Outcomes.{AllFirm, AreTorn, FirmStays, IsKept, TornDropped, TornStand}
+use Rattle.cgf_journal.specs.Outcomes.{AllFirm, FirmStays, IsKept, TornDropped, TornStand}
 use Rattle.cgf_journal.specs.Trail.{area_of, firm_entries, firm_length, is_closed, length_of, waiting}
 use Rattle.cgf_journal.specs.declared.trail.Trail.{Trail}
 use Rattle.gw_base.specs.declared.history.HistoryEntry.{HistoryEntry}
@@ -79,18 +79,12 @@ module _ {A : Type 0} {tells : Ghosts A} (old new : Trail A tells) (cursor : Cur
   pub stands_firm : FirmStays old new → HasCursor new cursor
   stands_firm stays = stands_same stays.count (λ told. stays.listed)
 
-  pub stands_kept : IsKept old new → HasCursor new cursor
-  stands_kept kept = stands_same kept.firm_length kept.firm_entries
-
   -- a commit
   pub stands_all : (n : ℕ) → is_closed old ≡ false → firm_length old ≤ length_of old → AllFirm old new n → HasCursor new cursor
   stands_all n open_now longer all =
       let same = all.firm_count in
       let count = all.count in
       stands_longer (omega (arith, longer, same, count)) (waiting old) (λ told. all.listed told ∙ ap (λ b. if b then firm_entries old else firm_entries old ++ waiting old) open_now)
-
-  pub stands_torn : AreTorn old new → HasCursor new cursor
-  stands_torn torn = stands_same torn.count torn.listed
 
   -- an opening again
   pub stands_again : (stood : Bool) → (stood ≡ true → TornStand old new) → (stood ≡ false → TornDropped old new) → HasCursor new cursor

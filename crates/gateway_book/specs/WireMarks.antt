@@ -16,7 +16,3 @@ pub record AreClear (marks : List Bool) : Type 0 where
 pub record AreMarked (top : Option ℕ) (marks : List Bool) (found : List ℕ) : Type 0 where
   pub size : length marks ≡ wire_numbers
   pub marked : (w : ℕ) → w < wire_numbers → slice_index_or marks w false ≡ list_any (λ y. y == nearest top w) found
-
--- two sequence numbers never mean one number
-abbrev pub KeepsApart : Type 0
-KeepsApart = (top : Option ℕ) (v w : ℕ) → v < 65536 → w < 65536 → nearest top v ≡ nearest top w → v ≡ w

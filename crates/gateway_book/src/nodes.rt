@@ -1,5 +1,5 @@
 // The nodes that an index keeps.
-ghost use Rattle.std.specs.Prelude.{◌≡◌, ◌≤◌, ◌+◌, ◌<◌, ◌^◌, ◌++◌, Bool, true, false, [], ◌∷◌, ◌==◌, length, slice_get, map, IfOk, IfSome, Some, vec_capacity};
+ghost use Rattle.std.specs.Prelude.{◌≡◌, ◌≤◌, ◌+◌, ◌<◌, ◌^◌, ◌++◌, ◌&&◌, nat_lt, Bool, true, false, [], ◌∷◌, ◌==◌, length, slice_get, map, IfOk, IfSome, Some, vec_capacity};
 ghost use Rattle.std.specs.List.{list_any};
 ghost use Rattle.gw_base.specs.Known.{is_known};
 ghost use Rattle.gateway_book.specs.Limits.{half};
@@ -169,9 +169,9 @@ fn learn(slots: &mut Vec<Slot>, node: NodeId) -> usize
 
 // Whether both sides are the same still, where a node has this place and so many were known.
 fn is_still(is_same: bool, place: usize, count: usize) -> bool
-    ensures { result ≡ true → (is_same ≡ true) × (place < count) }
+    ensures { result ≡ (is_same && nat_lt place count) }
 {
-    if place < count { is_same } else { false }
+    is_same && place < count
 }
 
 /// The known nodes, in the order in which entries first named them, with a pair of windows for each. All 64 pairs are

@@ -1,5 +1,5 @@
 -- The records of a packet, one after the other.
-use Rattle.std.proofs.Common.{◌≡◌, ◌≢◌, ℕ, zero, suc, ◌-◌, ◌<◌, ◌==◌, Bool, true, false, cond, List, [], ◌∷◌, length, drop, Option, Some, None, IfSome, is_some, slice_get, option_map, option_and_then, unwrap_or, refl, ap, sym, subst, ◌∙◌, arith}
+use Rattle.std.proofs.Common.{◌≡◌, ◌≢◌, ℕ, zero, suc, ◌-◌, ◌<◌, ◌==◌, Bool, true, false, cond, List, [], ◌∷◌, length, drop, Option, Some, None, is_some, slice_get, option_map, option_and_then, unwrap_or, refl, ap, sym, subst, ◌∙◌, arith}
 use Rattle.std.proofs.lemmas.Bool.{eqb-false}
 use Rattle.std.proofs.Math.Dec.{eqb-suc-zero}
 use Rattle.gtpp_header.specs.Header.{two_octets}
@@ -171,21 +171,6 @@ no_part k records octets there none same =
 
 -- What is read.
 
--- what the fields of a value state is what it says
-pub full_stated : (count format high low : ℕ) (octets : List ℕ) → (count == 0) ≡ false → is_some (records_at count octets) ≡ true →
-    ◌≡◌ {A = Option PacketValue} (Some (Full (stated_form count format (two_octets high low) (count ∷ format ∷ high ∷ low ∷ octets)) (count ∷ format ∷ high ∷ low ∷ octets)))
-    (full_packet (count ∷ format ∷ high ∷ low ∷ octets))
-full_stated count format high low octets some there = by_test (count == 0) (records_at count octets) some there
-  where
-    by_test : (none : Bool) (records : Option (List (List ℕ))) → none ≡ false → is_some records ≡ true →
-        ◌≡◌ {A = Option PacketValue}
-        (Some (Full (let p : PacketForm = record { format = format; version = two_octets high low; records = unwrap_or records [] } in p) (count ∷ format ∷ high ∷ low ∷ octets)))
-        (option_map (λ (form : PacketForm). Full form (count ∷ format ∷ high ∷ low ∷ octets))
-        (cond none None (option_map (λ (rs : List (List ℕ)). let p : PacketForm = record { format = format; version = two_octets high low; records = rs } in p) records)))
-    by_test true records some there = cc
-    by_test false None some there = cc
-    by_test false (Some records) some there = refl
-
 by_emptiness : (empty : Bool) (full : Option PacketValue) (form : PacketForm) (value : List ℕ) →
     cond empty (Some Empty) full ≡ Some (Full form value) → full ≡ Some (Full form value)
 by_emptiness true full form value e = cc
@@ -208,10 +193,6 @@ pub is_packet : (packet : PacketValue) (spells : List ℕ) → packet_reading sp
 is_packet Empty spells e = tt
 is_packet (Full form value) spells e =
     let read = full_read form value spells e in subst (λ (v : List ℕ). packet_of v ≡ Some form) read.1 read.0
-
-pub is_packet_of : (packet : Option PacketValue) (spells : List ℕ) → packet ≡ packet_reading spells → IfSome packet IsPacket
-is_packet_of None spells e = tt
-is_packet_of (Some packet) spells e = is_packet packet spells (sym e)
 
 -- the value of a full packet isn't of the empty one
 not_in : (count format version : ℕ) (octets : List ℕ) (form : PacketForm) → packet_in count format version octets ≡ Some form → (count == 0) ≡ false

@@ -52,13 +52,6 @@ pub follows_nothing : Follows [] [] no_stream
 unfolding frames rest_of
 follows_nothing = record { used = refl; frames = refl; rest = refl }
 
-pub follows_bad : (given : List ℕ) (messages : List (List ℕ)) (stream : Stream) (bad : Option FrameKind) → Follows given messages stream → Follows (given ++ []) messages (record stream { bad = bad })
-follows_bad given messages stream bad f = record {
-  used = f.used ∙ ap (λ (l : List ℕ). length l) (sym (append-nil given));
-  frames = ap frames (append-nil given) ∙ f.frames;
-  rest = ap rest_of (append-nil given) ∙ f.rest;
-}
-
 -- the messages of what is taken in of one
 one_message : (octets : List ℕ) (is_whole : Bool) → IsPart is_whole octets
     → (frames octets ≡ (if is_whole then octets ∷ [] else [])) × (rest_of octets ≡ (if is_whole then [] else octets))

@@ -14,9 +14,6 @@ keeps_then a b c one two = record {
   sent = λ at. two.sent at ∙ one.sent at;
 }
 
-pub grows_self : (s : LinksState) → GrowsOn s s
-grows_self s = record { made = λ a m. m; later = omega arith }
-
 pub grows_then : (a b c : LinksState) → GrowsOn a b → GrowsOn b c → GrowsOn a c
 grows_then a b c one two = record {
   made = λ at m. two.made at (one.made at m);

@@ -1,5 +1,5 @@
 -- How a node takes its next packets.
-use Rattle.std.proofs.Common.{◌≡◌, ℕ, zero, suc, ◌-◌, ◌<◌, ◌≤◌, Bool, true, false, if◌then◌else◌, None, Some, is_none, refl, sym, ap, subst, ◌∙◌, arith}
+use Rattle.std.proofs.Common.{◌≡◌, ℕ, zero, suc, ◌-◌, ◌<◌, Bool, true, false, if◌then◌else◌, None, Some, is_none, refl, sym, ap, subst, ◌∙◌, arith}
 use Rattle.gtpp_message.specs.Packet.{PacketForm}
 use Rattle.node_core.specs.Log.{Submitted}
 use Rattle.node_core.specs.Submitting.{refusal}
@@ -14,11 +14,6 @@ filled_if takes left node = if takes then filled_by left (with_next node) else n
 stuck_by : (left : ℕ) (node : NodeValue) → takes_next node ≡ false → filled_by left node ≡ node
 stuck_by zero node none = refl
 stuck_by (suc left) node none = ap (λ (b : Bool). filled_if b left node) none
-
--- it took all
-pub filled_all : (packets : ℕ) (node : NodeValue) → packets ≤ node.submissions → filled packets node ≡ node
-filled_all packets node all =
-    let none_left : packets - node.submissions ≡ zero = omega (arith, all) in ap (λ (k : ℕ). filled_by k node) none_left
 
 -- it takes no more
 pub filled_refused : (packets : ℕ) (node : NodeValue) (draft : PacketForm) (fault : SubmitFault)

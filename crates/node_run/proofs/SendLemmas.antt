@@ -41,10 +41,6 @@ all_both : (one two : List Datagram) (told : Told) → with_all two (with_all on
 all_both one two None = refl
 all_both one two (Some l) = ap (λ (x : List Datagram). Some x) (append_assoc l one two)
 
--- nothing is sent
-pub sends_none : (a : LinkState) → HasSent [] a a
-sends_none a = ap (λ (o : Told). record a { sent = o }) (all_none a.sent)
-
 -- some are sent, and then others
 pub sends_both : (one two : List Datagram) (a b c : LinkState) → HasSent one a b → HasSent two b c
     → HasSent (one ++ two) a c

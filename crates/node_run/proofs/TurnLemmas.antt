@@ -1,5 +1,5 @@
 -- What a turn does to the links of a node: it waits at one of them, and by what it heard the node sends.
-use Rattle.std.proofs.Common.{◌≡◌, ℕ, suc, ◌<◌, ◌≤◌, ◌^◌, List, [], ◌∷◌, take, Option, None, Some, Result, Ok, sym, ap, ◌∙◌, arith}
+use Rattle.std.proofs.Common.{◌≡◌, ℕ, suc, ◌<◌, ◌≤◌, ◌^◌, List, [], ◌∷◌, take, Option, Some, Result, Ok, sym, ap, ◌∙◌, arith}
 use Rattle.gw_base.specs.Faults.{next_count}
 use Rattle.gw_base.specs.declared.address.Addr.{Addr}
 use Rattle.gw_base.specs.declared.fault.Failed.{Failed}
@@ -11,10 +11,9 @@ use Rattle.net_link.specs.declared.link.Link.{Ghosts}
 use Rattle.node_core.specs.Value.{NodeValue}
 use Rattle.node_core.specs.declared.port.Port.{Port}
 use Rattle.node_core.specs.declared.port.Port.TheVariants.{First, Second}
-use Rattle.node_run.specs.Outcomes.{StaysAt, turns_of}
-use Rattle.node_run.specs.Packets.{filled}
-use Rattle.node_run.specs.Running.{Turn, after_turn, counted_at, datagrams_of, only_at, sent_by_tick, sent_in_turn, ticked}
-use Rattle.node_run.specs.Steps.{HasHeard, HasReceived, HasSent, HasTicked, HasTurned, TurnsLink, with_all}
+use Rattle.node_run.specs.Outcomes.{turns_of}
+use Rattle.node_run.specs.Running.{Turn, after_turn, counted_at, datagrams_of, only_at, sent_in_turn}
+use Rattle.node_run.specs.Steps.{HasHeard, HasReceived, HasSent, HasTurned, TurnsLink, with_all}
 use Rattle.node_run.specs.declared.linked.LinkedNode.{LinkedNode}
 use Rattle.node_run.proofs.SendLemmas.{all_none, sends_as}
 
@@ -36,11 +35,6 @@ waits_on First came a b few is = is
     ∙ ap (λ (n : ℕ). record a { turns = n; received = with_all came a.received }) (next_one a.turns few)
 waits_on Second came a b few is = is
     ∙ ap (λ (n : ℕ). record a { turns = n; received = with_all came a.received }) (next_one a.turns few)
-
-waits_none : (port : Port) (a b : LinkState) → a.turns < 2 ^ 63 → b ≡ record a { turns = next_count a.turns }
-    → Waits port port [] a b
-waits_none port a b few is = waits_on port [] a b few (is
-    ∙ ap (λ (o : Option (List Datagram)). record a { turns = next_count a.turns; received = o }) (all_none a.received))
 
 waits_apart : (a b : LinkState) → b ≡ a → b ≡ record a { received = with_all [] a.received }
 waits_apart a b is = is ∙ ap (λ (o : Option (List Datagram)). record a { received = o }) (all_none a.received)
@@ -85,18 +79,6 @@ module _ {L : Type 0} (tells : Ghosts L) where
         (tells.state b.second) (omega (arith, few)) (got.0.datagram from n is).1;
   }
 
-  pub waits_quiet : (at : Port) (into : List ℕ) (result : Result Heard Failed) (a b : LinkedNode L)
-      → turns_of tells a < 2 ^ 63 → HasReceived tells at into result a b → result ≡ Ok heard.Quiet
-      → HaveWaited at [] a b
-  waits_quiet First into result a b few got is = record {
-    first = waits_none First (tells.state a.first) (tells.state b.first) (omega (arith, few)) (got.0.quiet is);
-    second = waits_apart (tells.state a.second) (tells.state b.second) got.1;
-  }
-  waits_quiet Second into result a b few got is = record {
-    first = waits_apart (tells.state a.first) (tells.state b.first) got.1;
-    second = waits_none Second (tells.state a.second) (tells.state b.second) (omega (arith, few)) (got.0.quiet is);
-  }
-
   -- A turn in which a datagram came: the node is the same while it waits.
   pub turned_heard : (packets : ℕ) (at : Port) (d : Datagram) (a b c : LinkedNode L) → b.node ≡ a.node
       → HaveWaited at (d ∷ []) a b → HasHeard tells at d b c → HasTurned tells packets at (Some d) a c
@@ -110,31 +92,4 @@ module _ {L : Type 0} (tells : Ghosts L) where
         (tells.state c.second) waited.second
         (sends_as _ _ (tells.state b.second) (tells.state c.second)
         (ap (λ (n : NodeValue). sent_in_turn packets Second at (Some d) n) (sym same)) heard.sent.by_second);
-  }
-
-  -- a turn in which none came
-  pub turned_quiet : (packets : ℕ) (at : Port) (a b c : LinkedNode L) → b.node ≡ a.node → HaveWaited at [] a b
-      → HasTicked tells packets b c → HasTurned tells packets at None a c
-  turned_quiet packets at a b c same waited went = record {
-    node_is = went.node_is ∙ ap (λ (n : NodeValue). ticked (filled packets n)) same;
-    by_first = turns_link packets a.node None at First (tells.state a.first) (tells.state b.first)
-        (tells.state c.first) waited.first
-        (sends_as _ _ (tells.state b.first) (tells.state c.first)
-        (ap (λ (n : NodeValue). sent_by_tick First (filled packets n)) (sym same)) went.sent.by_first);
-    by_second = turns_link packets a.node None at Second (tells.state a.second) (tells.state b.second)
-        (tells.state c.second) waited.second
-        (sends_as _ _ (tells.state b.second) (tells.state c.second)
-        (ap (λ (n : NodeValue). sent_by_tick Second (filled packets n)) (sym same)) went.sent.by_second);
-  }
-
-  -- the links stay at their addresses while the node waits
-  pub stays_waiting : (at : Port) (into : List ℕ) (result : Result Heard Failed) (a b : LinkedNode L)
-      → HasReceived tells at into result a b → StaysAt tells a b
-  stays_waiting First into result a b got = record {
-    first = got.0.follows.address;
-    second = ap (λ (s : LinkState). s.address) got.1;
-  }
-  stays_waiting Second into result a b got = record {
-    first = ap (λ (s : LinkState). s.address) got.1;
-    second = got.0.follows.address;
   }

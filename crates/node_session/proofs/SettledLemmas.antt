@@ -20,7 +20,7 @@ use Rattle.gateway_book.specs.declared.outcome.Broken.{Broken}
 use Rattle.gateway_book.specs.declared.outcome.Marked.{Marked}
 use Rattle.gateway_book.specs.declared.outcome.Marked.TheVariants as marked
 use Rattle.node_session.proofs.CommittedLemmas.{commit_rests}
-use Rattle.node_session.specs.Settling.{Grows, HasClosed, HasFirmed, IsSettled, closed_behind}
+use Rattle.node_session.specs.Settling.{Grows, HasClosed, HasFirmed}
 
 both : (a b : Bool) → a ≡ true → b ≡ true → (a && b) ≡ true
 both a b is also = λ i. is i && also i
@@ -115,25 +115,6 @@ module _ {A : Type 0} {tells : Ghosts A} (old new : Book A tells) where
           → (marked_if_ready ready now who (close_mark (history_of ready))).value.is_broken ≡ false → ready.is_broken ≡ false
       by_state true is not = absurd (true≢false (sym (ready_broken true ready now who (close_mark (history_of ready)) is) ∙ not))
       by_state false is not = is
-
--- the three, one after the other
-pub settled_by_three : {A : Type 0} {tells : Ghosts A} (a b c d : Book A tells) (now : ℕ) (who : Caller)
-    → HasFirmed a b → HasClosed b c now who → HasFirmed c d → IsSettled a d now who
-settled_by_three {tells = tells} a b c d now who first close second = record {
-  drops = first.drops;
-  whole = first.whole;
-  firm = λ told.
-      second.firm told
-      ∙ ap (λ x. base x (facts_of c)) (second.whole close.goes_on)
-      ∙ joined_open (value_of c) close.goes_on
-      ∙ close.history told
-      ∙ ap (λ (h : List HistoryEntry). closed_behind h now who)
-      (history_open (value_of b) first.goes_on
-      ∙ ap (λ (h : List HistoryEntry). (value_of b).firm ++ h) (first.none_waits told) ∙ append-nil (value_of b).firm
-      ∙ first.firm told);
-  none_waits = second.none_waits;
-  goes_on = second.goes_on;
-}
 
 pub grows_then : {A : Type 0} {tells : Ghosts A} (a b c : Book A tells) → Grows a b → Grows b c → Grows a c
 grows_then a b c first second told =

@@ -76,9 +76,6 @@ module _ (letters : List Letter) (h : List HistoryEntry) (letter : Letter) (rise
   then_is e number s named s' same is =
       subst (λ (t : ℕ). IsState (h ++ e ∷ []) letter.node t number s) (sym present) (subst (IsState (h ++ e ∷ []) letter.node (start_of letter.node h) number) same is)
 
-  abbrev named_here : ℕ → Bool
-  named_here number = (letter.node == letter.node) && (number == number)
-
   names_it : (number : ℕ) → ((letter.node == letter.node) && (number == number)) ≡ true
   names_it number = and_from (letter.node == letter.node) (number == number) (eq-eqb letter.node letter.node refl) (eq-eqb number number refl)
 

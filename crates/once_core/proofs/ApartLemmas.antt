@@ -1,6 +1,6 @@
 -- No two records that nodes were given have one key: what is filed, and so what stands at a place, counts for one of them.
 use Rattle.std.proofs.Common.{◌≡◌, ℕ, zero, suc, ◌+◌, ◌≤◌, ◌==◌, ◌&&◌, Bool, true, false, cond, List, [], ◌∷◌, filter, map, Some, slice_get, refl, ap, ◌∙◌, arith}
-use Rattle.std.proofs.lemmas.Bool.{and_from, and_parts, eq-eqb, eqb-true}
+use Rattle.std.proofs.lemmas.Bool.{and_parts, eq-eqb, eqb-true}
 use Rattle.gateway_book.specs.Once.{is_record_of, same_key}
 use Rattle.gateway_book.specs.declared.filing.FiledRecord.{FiledRecord}
 use Rattle.gw_base.specs.declared.history.PacketKey.{PacketKey}
@@ -25,13 +25,6 @@ pub key_of : (key : PacketKey) (index : ℕ) (filing : FiledRecord) → is_recor
 key_of key index filing is =
     let parts = and_parts (same_key filing.key key) (filing.index == index) is in
     (equal_keys filing.key key parts.0, eqb-true filing.index index parts.1)
-
--- it is a record of the packet under its key
-pub own_index : (key : PacketKey) (index : ℕ) (filing : FiledRecord) → is_record_of key index filing ≡ true
-    → is_record_of key filing.index filing ≡ true
-own_index key index filing is =
-    and_from (same_key filing.key key) (filing.index == filing.index)
-    (and_parts (same_key filing.key key) (filing.index == index) is).0 (eq-eqb filing.index filing.index refl)
 
 -- ---- packets of one start
 

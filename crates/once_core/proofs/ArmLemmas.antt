@@ -1,25 +1,25 @@
 -- What the parts of a step give: what an event that isn't refused tells; that messages stay; how a world begins.
 use Rattle.std.proofs.Common.{◌≡◌, ℕ, zero, suc, ◌+◌, ◌-◌, ◌<◌, ◌≤◌, Bool, true, false, ◌&&◌, not, if◌then◌else◌, List, [], ◌∷◌, ◌++◌, Option, Some, None, length, map, refl, ap, sym, ◌∙◌, arith, true≢false, length-append}
-use Rattle.std.proofs.lemmas.Bool.{leb-false, leb-true, ltb-true}
+use Rattle.std.proofs.lemmas.Bool.{leb-true, ltb-true}
 use Rattle.std.specs.Option.{option_map, option_map_or}
 use Rattle.std.specs.Prelude.{nat_le, nat_lt, slice_get}
 use Rattle.node_core.specs.Log.{LogEntry}
 use Rattle.node_core.specs.Log as Log
 use Rattle.node_core.specs.Ticks.{tick_entries}
-use Rattle.once_core.proofs.StepLemmas.{first_none, not_false, or_none, refusing_none}
+use Rattle.once_core.proofs.StepLemmas.{not_false, or_none, refusing_none}
 use Rattle.once_core.specs.Answers.{delivered, making_close, making_tick, marked}
 use Rattle.once_core.specs.Beginning.{default_rules, first_gateway, times_of, world_of}
 use Rattle.once_core.specs.Gateway.{Gateway, Moved, committing, cut, opened}
-use Rattle.once_core.specs.KeptTurn.{gateway_changed, gateway_moves, no_node, no_running_node, node_changed, node_moves, reaching, refusal_to_start, runs_at, started_again, starts_at, turn_kept, with_gateway, with_node}
+use Rattle.once_core.specs.KeptTurn.{gateway_changed, gateway_moves, no_node, no_running_node, node_changed, node_moves, reaching, runs_at, started_again, turn_kept, with_gateway, with_node}
 use Rattle.once_core.specs.NodeMoves.{answered_by, due_messages, heard_by, submitted_entries, with_entries}
 use Rattle.once_core.specs.Redirecting.{redirected_kept}
 use Rattle.once_core.specs.Standing.{NodeKept, Stands, WorldKept, gateway_kept, node_kept, nodes_kept, quiet}
-use Rattle.once_core.specs.Turn.{is_none_of, most_starts, refusing}
+use Rattle.once_core.specs.Turn.{is_none_of, refusing}
 use Rattle.once_core.specs.World.{draft_of}
 use Rattle.once_core.specs.declared.event.Event.{Event}
 use Rattle.once_core.specs.declared.event.Event.TheVariants as event
 use Rattle.once_core.specs.declared.event.WorldKind.{WorldKind}
-use Rattle.once_core.specs.declared.event.WorldKind.TheVariants.{Halted, Restarts, Running}
+use Rattle.once_core.specs.declared.event.WorldKind.TheVariants.{Halted}
 use Rattle.once_core.specs.declared.message.Message.{Message}
 
 -- ---- what an event that isn't refused tells
@@ -38,29 +38,11 @@ module _ (k : WorldKept) (number : ℕ) (n : NodeKept) (found : slice_get k.node
   runs_found : runs_at k (number - 1) ≡ n.node.is_running
   runs_found = ap (λ (o : Option NodeKept). option_map_or (λ (x : NodeKept). x.node.is_running) o false) found
 
-  starts_found : starts_at k (number - 1) ≡ n.starts
-  starts_found = ap (λ (o : Option NodeKept). option_map_or (λ (x : NodeKept). x.starts) o 0) found
-
   pub runs_there : no_running_node k number ≡ None → n.node.is_running ≡ true
   runs_there allowed =
       sym runs_found
       ∙ not_false (runs_at k (number - 1))
       (refusing_none (not (runs_at k (number - 1))) Halted (or_none (no_node k number) (refusing (not (runs_at k (number - 1))) Halted) allowed))
-
-  pub is_down_there : refusal_to_start k number ≡ None → n.node.is_running ≡ false
-  is_down_there allowed =
-      sym runs_found
-      ∙ refusing_none (runs_at k (number - 1)) Running
-      (first_none (refusing (runs_at k (number - 1)) Running) (refusing (nat_le most_starts (starts_at k (number - 1))) Restarts)
-      (or_none (no_node k number) _ allowed))
-
-  pub has_few_starts : refusal_to_start k number ≡ None → n.starts < 255
-  has_few_starts allowed =
-      let many : nat_le most_starts (starts_at k (number - 1)) ≡ false =
-      refusing_none (nat_le most_starts (starts_at k (number - 1))) Restarts
-      (or_none (refusing (runs_at k (number - 1)) Running) (refusing (nat_le most_starts (starts_at k (number - 1))) Restarts)
-      (or_none (no_node k number) _ allowed)) in
-      omega (arith, starts_found, leb-false most_starts (starts_at k (number - 1)) many)
 
 -- ---- messages stay
 

@@ -21,10 +21,6 @@ use Rattle.once_core.proofs.EachLemmas.{by_each}
 abbrev first_at : ℕ → ℕ → List ℕ → Option ℕ
 first_at k s xs = option_map (λ placed. placed.0) (find (λ placed. placed.1 == s) (enumerate_from k xs))
 
-unsome : ℕ → Option ℕ → ℕ
-unsome d None = d
-unsome d (Some n) = n
-
 some_is : (a b : ℕ) → Some a ≡ Some b → a ≡ b
 some_is a b e = ap (λ (o : Option ℕ). elim o [ None ↦ a | Some n ↦ n ]) e
 
@@ -34,9 +30,6 @@ is_some_of (Some n) = true
 
 not_some : (b : ℕ) → None ≡ Some b → ⊥
 not_some b e = absurd (cc)
-
-first_cons : (b : Bool) (k : ℕ) (x : ℕ) (rest : Option (ℕ × ℕ)) → Option ℕ
-first_cons b k x rest = option_map (λ placed. placed.0) (cond b (Some (k, x)) rest)
 
 found_low : (k s j : ℕ) (xs : List ℕ) → first_at k s xs ≡ Some j → k ≤ j
 found_low k s j [] e = absurd (not_some j e)

@@ -1,7 +1,7 @@
 -- Moves of a gateway whose journal never fails, one after the other.
 use Rattle.std.proofs.Common.{◌≡◌, ℕ, zero, suc, ◌+◌, ◌-◌, ◌≤◌, max, min, Bool, true, false, ◌||◌, if◌then◌else◌, List, [], ◌∷◌, ◌++◌, length, take, drop, refl, ap, sym, ◌∙◌, subst, arith, append_assoc}
 use Rattle.std.proofs.lemmas.Bool.{ltb-false, ltb-true}
-use Rattle.std.proofs.lemmas.List.{append-nil, drop-take, length-drop, length-take-le, take-append-drop}
+use Rattle.std.proofs.lemmas.List.{drop-take, length-drop, length-take-le, take-append-drop}
 use Rattle.std.specs.Prelude.{nat_lt, OnOk, Result, Ok, Err}
 use Rattle.gw_base.specs.declared.address.Addr.{Addr}
 use Rattle.gw_base.specs.declared.history.HistoryEntry.{HistoryEntry}
@@ -78,13 +78,6 @@ delivers now m g g1 g2 s0 s1 s2 sound up fresh first second =
     ∙ ap (λ b. if b then still g else followed (readying default_rules quiet g) (if_broken (failed m) (answered default_rules now m))) fresh) in
     subst (λ (x : Moved). HasMoved x g2 s0 s2) (sym is)
     (then_moves (failed m) (answered default_rules now m) g g1 g2 s0 s1 s2 sound first second)
-
--- a move that sent nothing
-pub sent_nothing : (mark : Gateway → Moved) (g1 g2 : Gateway) (s1 : List Message) → HasMoved (mark g1) g2 [] [] → HasMoved (mark g1) g2 s1 s1
-sent_nothing mark g1 g2 s1 is = record {
-  gateway = is.gateway;
-  sends = sym (append-nil s1) ∙ ap (λ xs. s1 ++ xs) is.sends;
-}
 
 -- ---- stopping and opening
 

@@ -43,11 +43,6 @@ use Rattle.once_core.specs.HistoryKept.{AllKept, is_kept_act, is_kept_answer, is
 
 -- ---- one more entry
 
-pub kept_push : (h : List HistoryEntry) (e : HistoryEntry) → AllKept h → is_kept_act e.act ≡ true → AllKept (h ++ e ∷ [])
-kept_push h e kept one =
-    list_all-append (λ (x : HistoryEntry). is_kept_act x.act) h (e ∷ [])
-    ∙ (ap (λ b. b && (is_kept_act e.act && true)) kept ∙ ap (λ b. b && true) one)
-
 pub kept_take : (n : ℕ) (h : List HistoryEntry) → AllKept h → AllKept (take n h)
 kept_take n h kept =
     (and_parts (list_all (λ e. is_kept_act e.act) (take n h)) (list_all (λ e. is_kept_act e.act) (drop n h))

@@ -19,9 +19,6 @@ use Rattle.once_core.proofs.ListLemmas.{in_cons, in_head, in_none}
 abbrev deeds : List Deed
 deeds = Sent first_letter ∷ Heard (record first_letter { says = Answers 128 }) ∷ []
 
-deeds_are : (scene_after one_story).deeds 5 ≡ deeds
-deeds_are = refl
-
 abbrev copy_is : PacketCopy
 copy_is = record { gateway = 0; number = 65536; is_plain = true; verdict = Filed; command = None }
 

@@ -4,7 +4,7 @@ use Rattle.area_disk.specs.Armed.{Armed, IsArmed}
 use Rattle.area_disk.specs.Armed.Armed.{Nothing, Fail, Stop}
 use Rattle.area_disk.specs.Disk.{last_count}
 use Rattle.area_disk.specs.Memory.{IsKept, IsLeft}
-use Rattle.area_disk.specs.Plan.{Schedule, armed, most_unsynced, with_stopped}
+use Rattle.area_disk.specs.Plan.{Schedule, armed, most_unsynced}
 use Rattle.area_disk.specs.declared.disk.Disk.{Disk}
 use Rattle.area_disk.specs.declared.memory.MemoryArea.{MemoryArea}
 use Rattle.area_disk.specs.declared.plan.Outcome3.{Outcome3}
@@ -19,8 +19,6 @@ use Rattle.gateway_book.specs.Opened.{StandsFitFor}
 use Rattle.gateway_book.specs.Up.{HoldsHistory, IsUp}
 use Rattle.gateway_book.specs.Value.{BookValue}
 use Rattle.gateway_book.specs.declared.book.Book.{Book}
-use Rattle.gw_base.specs.declared.history.HistoryEntry.{HistoryEntry}
-use Rattle.replay_world.specs.Called.{AreaIsDown}
 use Rattle.replay_world.specs.Opening.{ArmsAs}
 use Rattle.once_core.specs.Gateway.{Gateway}
 use Rattle.replay_world.specs.Played.{IsAreaOf, IsHandedOut}
@@ -28,26 +26,6 @@ use Rattle.replay_world.specs.Setup.{Setup, files_in}
 use Rattle.replay_world.specs.Stands.{area_tells, header_at}
 use Rattle.replay_world.specs.Written.{AreSealed, shelf_tells}
 use Rattle.replay_world.specs.Value.{Machine}
-
--- one that was revived, and for whose calls nothing is armed
-pub area_down : (setup : Setup) (place : ℕ) (h : List HistoryEntry) (old revived new : MemoryArea) (plan : Plan) →
-    ((plan : Plan) (s : Schedule) → s.stopped ≡ false → plan.read_fail.items ≡ [] → plan.fail.items ≡ [] →
-    plan.stop ≡ None → IsArmed Nothing (armed plan s)) →
-    plan.read_fail.items ≡ [] → plan.fail.items ≡ [] → plan.stop ≡ None →
-    (area_tells.fate revived).schedule ≡ with_stopped false (area_tells.fate old).schedule → IsKept old revived →
-    (area_tells.fate new).schedule ≡ armed plan (area_tells.fate revived).schedule → IsKept revived new →
-    HoldsHistory area_tells (header_at setup place) h old → area_tells.size old ≡ setup.size →
-    AreaIsDown setup place h new
-area_down setup place h old revived new plan arms reads fails stops running first planned second down size =
-    let disk : new.disk ≡ old.disk = second.disk ∙ first.disk in
-    record {
-      down = record {
-        stands = subst (λ (d : Disk). StandsFitFor (header_at setup place) d.present.items h) (sym disk) down.stands;
-      };
-      is_armed = subst (λ (s : Schedule). IsArmed Nothing s) (sym planned)
-          (arms plan (area_tells.fate revived).schedule (ap (λ (s : Schedule). s.stopped) running) reads fails stops);
-      size = ap (λ (d : Disk). length d.present.items) disk ∙ size;
-    }
 
 -- The plan of one that is up.
 

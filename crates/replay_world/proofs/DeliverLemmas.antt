@@ -1,6 +1,5 @@
 -- A message that is delivered: it waits no more, and goes to a gateway or to a node.
-use Rattle.std.proofs.Common.{◌≡◌, ◌∙◌, refl, sym, ap, subst, ℕ, ◌-◌, ◌==◌, ◌≤◌, ◌<◌, Bool, true, false, not, if◌then◌else◌, List, [], ◌∷◌, length, Option, Some, None, slice_get, arith, vec_capacity}
-use Rattle.std.specs.Option.{option_map_or}
+use Rattle.std.proofs.Common.{◌≡◌, ◌∙◌, refl, sym, ap, subst, ℕ, ◌-◌, ◌==◌, ◌≤◌, ◌<◌, Bool, true, false, not, if◌then◌else◌, List, [], ◌∷◌, length, Some, None, slice_get, arith, vec_capacity}
 use Rattle.std.proofs.lemmas.List.Elements.{All-filter}
 use Rattle.std.proofs.lemmas.Option.{slice_get-get_or}
 use Rattle.once_core.specs.Turn.{is_none_of, refusal_of, refusing}
@@ -8,15 +7,12 @@ use Rattle.once_core.specs.declared.event.Event.TheVariants as event
 use Rattle.once_core.specs.declared.event.WorldKind.{WorldKind}
 use Rattle.once_core.specs.declared.event.WorldKind.TheVariants.{NoMessage}
 use Rattle.once_core.specs.declared.message.Message.{Message}
-use Rattle.replay_world.specs.Device.{is_stop}
-use Rattle.replay_world.specs.Does.{Does, DoesOrEnds}
 use Rattle.replay_world.specs.Sending.{IsTo, passed}
 use Rattle.replay_world.specs.Stands.{EachStands, Stands}
-use Rattle.replay_world.specs.Steps.{Site, Plays, sequel_at, without}
+use Rattle.replay_world.specs.Steps.{without}
 use Rattle.replay_world.specs.Value.{ReplayValue}
 use Rattle.replay_world.specs.declared.replay.Replay.{Replay}
 use Rattle.replay_world.proofs.GatewayEventLemmas.{none_of}
-use Rattle.replay_world.proofs.NodeHearLemmas.{no_site}
 
 -- It waits no more.
 pub passed_stands : (v : ReplayValue) (number : ℕ) (old new : Replay) → Stands v old →
@@ -83,13 +79,3 @@ module _ (v : ReplayValue) (number : ℕ) (old : Replay) (stands : Stands (passe
     side = side;
     at = ap (λ (c : Bool). if c then m.gateway else m.node) side;
   }
-
--- a node's line goes on
-pub node_goes : (v : ReplayValue) (number place : ℕ) → IsTo v number false place → (before after : List ℕ) (new : Replay) →
-    Does v (Plays (event.Deliver number)) before after new →
-    DoesOrEnds v (Plays (event.Deliver number)) before after new true
-node_goes v number place to before after new does = record {
-  does = does;
-  goes = sym (ap (λ (o : Option Site). not (option_map_or
-      (λ site. is_stop (sequel_at v (event.Deliver number) site)) o false)) (no_site v number place to));
-}

@@ -68,9 +68,6 @@ none_beyond (x ∷ xs) zero is = absurd (cc)
 none_beyond (x ∷ xs) (suc k) is = let later = none_beyond xs k is in omega (arith, later)
 
 module _ (place cause number : ℕ) (to : Option ℕ) (site : Option Site) where
-  pub asked_none : AskedSoFar place cause number to site 0 []
-  asked_none v is = refl
-
   pub asked_more : (k : ℕ) (before after : List Message) (path : Addr) (start : ℕ) →
       AskedSoFar place cause number to site k before →
       Some (started path start) ≡ option_and_then (λ v. path_in v k) (book_in site) →

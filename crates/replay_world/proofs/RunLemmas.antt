@@ -1,5 +1,5 @@
 -- A line that was run.
-use Rattle.std.proofs.Common.{◌≡◌, ◌∙◌, refl, sym, ap, subst, ℕ, ◌+◌, ◌-◌, ◌%◌, ◌≤◌, ◌<◌, Bool, true, false, true≢false, List, [], ◌∷◌, ◌++◌, length, Option, Some, None, option_map, Result, OnOk, arith, append_assoc, append-nil}
+use Rattle.std.proofs.Common.{◌≡◌, ◌∙◌, refl, sym, ap, subst, ℕ, ◌+◌, ◌-◌, ◌%◌, ◌≤◌, ◌<◌, Bool, true, false, true≢false, List, [], ◌∷◌, ◌++◌, length, Option, Some, None, option_map, Result, OnOk, arith, append-nil}
 use Rattle.std.specs.Option.{option_or}
 use Rattle.area_disk.specs.Armed.Armed.{Fail, Stop}
 use Rattle.area_disk.specs.Disk.{last_count}
@@ -13,7 +13,7 @@ use Rattle.replay_world.specs.Does.{Does, LineRan, Makes, RunsIf}
 use Rattle.replay_world.specs.Lines.{line_after, line_notices, refusal_of_line, steps_of}
 use Rattle.replay_world.specs.Notices.{notice_lines}
 use Rattle.replay_world.specs.Opening.{ArmsAs}
-use Rattle.replay_world.specs.Report.{report_after, report_of}
+use Rattle.replay_world.specs.Report.{report_after}
 use Rattle.replay_world.specs.Stands.{Stands}
 use Rattle.replay_world.specs.Steps.{Step}
 use Rattle.replay_world.specs.Value.{ReplayValue}
@@ -42,25 +42,6 @@ pub line_does : (v : ReplayValue) (said : Line) (step : Step) (before after : Li
 line_does v said step before after r allowed ends steps done =
     line_makes v said before after r allowed ends
     (subst (λ (ss : List Step). Makes v ss before after r) (sym steps) (makes_one v step before after r done))
-
--- it has none
-pub line_idles : (v : ReplayValue) (said : Line) (text : List ℕ) (r : Replay) → refusal_of_line v said ≡ None →
-    is_end_line said ≡ false → steps_of v said ≡ [] → Stands v r → LineRan v said text text r
-line_idles v said text r allowed ends steps stands =
-    line_makes v said text text r allowed ends
-    (subst (λ (ss : List Step). Makes v ss text text r) (sym steps)
-    (record { stands = stands; prints = sym (append-nil text) }))
-
--- it is settled, and reported
-pub line_ends : (v : ReplayValue) (before middle after : List ℕ) (r s : Replay) →
-    Makes v (steps_of v line.End) before middle r → Stands (line_after v line.End) s →
-    after ≡ middle ++ report_of (line_after v line.End) → LineRan v line.End before after s
-line_ends v before middle after r s makes stands reports = record {
-  allowed = refl;
-  stands = stands;
-  prints = reports ∙ ap (λ (text : List ℕ). text ++ report_of (line_after v line.End)) makes.prints
-      ∙ append_assoc before (notice_lines (line_notices v line.End)) (report_of (line_after v line.End));
-}
 
 -- a line of a kind
 pub runs_such : (v : ReplayValue) (is_such : Bool) (said : Line) (before after : List ℕ) (old new : Replay) →
@@ -136,13 +117,6 @@ node_place v r number stands none =
 opening_by : (a : Bool) (o : Option WorldKind) → option_or (refusing a kind.NoGateway) o ≡ None → a ≡ false
 opening_by true o is = absurd (cc)
 opening_by false o is = refl
-
-pub open_place : (v : ReplayValue) (r : Replay) (number : ℕ) → Stands v r → refusal_of v.world (event.Open number) ≡ None →
-    number - 1 ≡ (number - 1) % 256
-open_place v r number stands none =
-    let there = none_of (length v.world.gateways) number
-    (opening_by (is_none_of (length v.world.gateways) number) _ none) in
-    within number (length v.world.gateways) there.0 there.1 stands.few_gateways
 
 pub start_place : (v : ReplayValue) (r : Replay) (number : ℕ) → Stands v r →
     refusal_of v.world (event.Start number) ≡ None → number - 1 ≡ (number - 1) % 256

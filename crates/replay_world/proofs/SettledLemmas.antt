@@ -70,15 +70,6 @@ record Alone (v u : ReplayValue) (k : ℕ) : Type 0 where
   pub other_gateways : (j : ℕ) → (j ≡ k → ⊥) → slice_get u.world.gateways j ≡ slice_get v.world.gateways j
   pub other_machines : (j : ℕ) → (j ≡ k → ⊥) → slice_get u.machines j ≡ slice_get v.machines j
 
-alone_none : (v : ReplayValue) (k : ℕ) → AreUnarmed v → Alone v v k
-alone_none v k unarmed = record {
-  gateways = refl;
-  machines = refl;
-  unarmed = unarmed;
-  other_gateways = λ j other. refl;
-  other_machines = λ j other. refl;
-}
-
 alone_then : (v u w : ReplayValue) (k : ℕ) → Alone v u k → Alone u w k → Alone v w k
 alone_then v u w k first later = record {
   gateways = later.gateways ∙ first.gateways;

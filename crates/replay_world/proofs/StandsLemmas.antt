@@ -1,11 +1,10 @@
 -- What the gateways and the nodes of a replay tell that stands for a value.
-use Rattle.std.proofs.Common.{◌≡◌, ◌∙◌, refl, sym, ap, subst, ℕ, zero, suc, ◌+◌, not, List, [], ◌∷◌, length, Some, is_some, slice_get, set, option_map, arith}
+use Rattle.std.proofs.Common.{◌≡◌, ◌∙◌, refl, sym, ap, subst, ℕ, zero, suc, ◌+◌, List, [], ◌∷◌, length, Some, slice_get, set, option_map, arith}
 use Rattle.node_core.specs.Log.{LogEntry}
 use Rattle.once_core.specs.Gateway.{Gateway}
-use Rattle.once_core.specs.Turn.{is_none_of}
 use Rattle.once_core.specs.World.{node_value}
 use Rattle.replay_world.specs.Setup.{Setup}
-use Rattle.replay_world.specs.Stands.{EachStands, MachineStands, nodes_from, numbered}
+use Rattle.replay_world.specs.Stands.{EachStands, MachineStands, nodes_from}
 use Rattle.replay_world.specs.Value.{Machine}
 use Rattle.replay_world.specs.declared.machine.Machine as real
 
@@ -21,17 +20,6 @@ nodes_get gateways place (log ∷ logs) zero =
 nodes_get gateways place (log ∷ logs) (suc k) =
     let same : suc place + k ≡ place + suc k = omega arith in
     nodes_get gateways (suc place) logs k ∙ ap (λ p. option_map (node_value gateways p) (slice_get logs k)) same
-
--- there is one with a number exactly where the list is so long
-pub count_within : {A : Type 0} (xs : List A) (k : ℕ) → is_none_of (length xs) (suc k) ≡ not (is_some (slice_get xs k))
-count_within [] k = grind arith
-count_within (x ∷ xs) zero = grind arith
-count_within (x ∷ xs) (suc k) =
-    let same : is_none_of (suc (length xs)) (suc (suc k)) ≡ is_none_of (length xs) (suc k) = grind arith in
-    same ∙ count_within xs k
-
-pub numbered_behind : {A : Type 0} (xs : List A) (number place : ℕ) → number ≡ place + 1 → numbered xs number ≡ slice_get xs place
-numbered_behind xs number place e = let same : number ≡ suc place = omega (arith, e) in ap (numbered xs) same
 
 -- Gateways.
 

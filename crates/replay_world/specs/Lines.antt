@@ -161,6 +161,3 @@ line_notices v said = notices_of v (steps_of v said)
 -- the same of settling alone
 abbrev pub settled : ReplayValue → ReplayValue
 settled v = after_steps v (settle_steps v)
-
-abbrev pub settled_notices : ReplayValue → List Notice
-settled_notices v = notices_of v (settle_steps v)

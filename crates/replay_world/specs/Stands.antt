@@ -1,5 +1,5 @@
 -- When a replay in memory stands for a value.
-use Rattle.std.specs.Prelude.{◌≡◌, ℕ, zero, suc, ◌≤◌, ◌%◌, Bool, true, false, if◌then◌else◌, List, [], ◌∷◌, All, length, slice_get, vec_capacity, Option, Some, None}
+use Rattle.std.specs.Prelude.{◌≡◌, ℕ, zero, suc, ◌≤◌, ◌%◌, Bool, true, false, List, [], ◌∷◌, All, length, slice_get, vec_capacity, Option, Some, None}
 use Rattle.area_disk.specs.Armed.{IsArmed}
 use Rattle.area_disk.specs.Armed.Armed.{Nothing}
 use Rattle.area_disk.specs.contracts.memory.MemoryAreaArea.TheImpl.{ghosts as area_ghosts}
@@ -18,8 +18,6 @@ use Rattle.once_core.specs.Beginning.{IsReached}
 use Rattle.once_core.specs.Expired.{starts_in}
 use Rattle.once_core.specs.Gateway.{Gateway, is_reached}
 use Rattle.once_core.specs.World.{node_value}
-use Rattle.once_core.specs.declared.event.WorldKind.{WorldKind}
-use Rattle.once_core.specs.declared.event.WorldKind.TheVariants.{NoNode, Halted}
 use Rattle.replay_world.specs.Setup.{Setup, files_in}
 use Rattle.replay_world.specs.Value.{Machine, ReplayValue}
 use Rattle.replay_world.specs.Written.{FilesStand}
@@ -43,11 +41,6 @@ nodes_from gateways place (log ∷ logs) = node_value gateways place log ∷ nod
 abbrev pub numbered : {A : Type 0} → List A → ℕ → Option A
 numbered xs zero = None
 numbered xs (suc k) = slice_get xs k
-
--- why a node that was looked for isn't called
-abbrev pub halted_at : Option NodeValue → Option WorldKind
-halted_at None = Some NoNode
-halted_at (Some node) = if node.is_running then None else Some Halted
 
 -- a node's restart counter is the number of its starts, which one octet holds
 pub record CountsStarts (log : List LogEntry) : Type 0 where

@@ -61,13 +61,6 @@ with_one half top f x s fresh = same_seen _ _ refl (λ n. at n (is_within half (
     at n true e = ap (λ (k : KeyState). if x == n then s else k) (old n (is_within half top n) refl e)
     at n false e = refl
 
-pub within_within : (half : ℕ) (top : Option ℕ) (f : ℕ → KeyState) → within half top (within half top f).state ≡ within half top f
-within_within half top f = same_seen _ _ refl (λ n. at n (is_within half top n))
-  where
-    at : (n : ℕ) (w : Bool) → (if w then (if w then f n else Fresh) else Fresh) ≡ (if w then f n else Fresh)
-    at n true = refl
-    at n false = refl
-
 raised_twice : (top : Option ℕ) (x : ℕ) → raised (raised top x) x ≡ raised top x
 raised_twice None x = λ i. Some (same i)
   where

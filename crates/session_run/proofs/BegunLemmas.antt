@@ -115,9 +115,6 @@ tail_or (x ∷ xs) = xs
 same_head : {X : Type 0} (x y : X) (xs ys : List X) → x ∷ xs ≡ y ∷ ys → x ≡ y
 same_head x y xs ys is = ap (λ l. head_or x l) is
 
-same_tail : {X : Type 0} (x y : X) (xs ys : List X) → x ∷ xs ≡ y ∷ ys → xs ≡ ys
-same_tail x y xs ys is = ap (λ l. tail_or l) is
-
 -- what is known by passes that some have
 known_as : (passes : List Pass) (some : List (Option Pass)) → some ≡ map Some passes → map known_by some ≡ cells.known_by passes
 known_as passes some is = ap (λ (l : List (Option Pass)). map known_by l) is ∙ known_some passes

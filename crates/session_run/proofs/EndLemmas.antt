@@ -21,16 +21,13 @@ use Rattle.node_session.specs.Passes.{IsOf, known_by}
 use Rattle.node_session.specs.Receiving.{AreOfEach}
 use Rattle.node_session.specs.Writing as writing
 use Rattle.turn_cell.specs.Cell as cells
-use Rattle.turn_cell.specs.Passes.{Ended}
 use Rattle.turn_cell.specs.declared.cell.Pass.{Pass}
 use Rattle.turn_cell.specs.declared.cell.TurnCell.{TurnCell}
-use Rattle.turn_cell.specs.declared.knowing.Knowledge.{Knowledge}
 use Rattle.session_run.specs.Desks.{HasWorked, HearsNothing, began_at}
-use Rattle.session_run.specs.Ending.{AreAllSettled, ArePassesFor, ArePopsOf, AreSettledWith, HasEnded, known_among, links_of}
-use Rattle.session_run.specs.Filing.{KeepsWriter}
+use Rattle.session_run.specs.Ending.{AreAllSettled, ArePassesFor, AreSettledWith, known_among, links_of}
 use Rattle.session_run.specs.History.{GoesOn, GoesOnUntil, InTurn, IsCalledFor, IsJobOf, IsReply, IsReplyTo, those_of}
 use Rattle.session_run.specs.Reception.{CountsTurns, HasDispatched, IfTurns}
-use Rattle.session_run.specs.Running.{AnyOf, AreFiveOf, AreNewAt, AreReplies, HasFailed, HasStopCause, HaveReplied, StaysAs, sent_by, turns_by}
+use Rattle.session_run.specs.Running.{AnyOf, AreFiveOf, AreNewAt, AreReplies, HasFailed, HasStopCause, HaveReplied, sent_by, turns_by}
 use Rattle.session_run.specs.Team.{AreDesksOf, HaveServed, Pair, TeamWorksOn, stop_among}
 use Rattle.session_run.specs.declared.desk.Desk.{Desk}
 use Rattle.session_run.specs.declared.reception.Reception.{Reception}
@@ -156,18 +153,6 @@ goes_nowhere_until heard f firm last none = record {
     none_of session None = tt
     none_of session (Some list) = tt
 
-pub stays_itself : (f : Facts) → StaysAs f f
-stays_itself f = record { size = refl; name = refl; later = omega arith }
-
-pub keeps_itself : {F : Type 0} (files : shelves.Ghosts F) (told : Bool) (firm : List HistoryEntry) (writer : Writer F files)
-    → writing.IsWriterOf told firm writer → KeepsWriter files told firm writer writer
-keeps_itself files told firm writer ready = record {
-  settings = refl;
-  later = omega arith;
-  taken = ready;
-  files = λ y shown all begins holds. holds;
-}
-
 module _ {L : Type 0} (tells : paths.Ghosts L) (at : Addr) where
   abbrev IsNew : L → Type 0
   IsNew link = IsNewAt at (tells.state link)
@@ -243,14 +228,6 @@ each_length (i ∷ list) [] of_each = absurd of_each
 each_length (i ∷ list) (p ∷ passes) of_each = let n = each_length list passes of_each.1 in omega (arith, n)
 
 module _ {V : Type 0} (cell : TurnCell V) {L : Type 0} where
-  pub pops_of : (list : List Inbox) (first second : Pair L) → AreDesksOf cell list first second → ArePopsOf list first second
-  pops_of (a ∷ b ∷ c ∷ d ∷ []) first second desks = (desks.0.0.pass, desks.0.1.pass, desks.1.0.pass, desks.1.1.pass)
-  pops_of [] first second desks = absurd desks
-  pops_of (a ∷ []) first second desks = absurd desks
-  pops_of (a ∷ b ∷ []) first second desks = absurd desks
-  pops_of (a ∷ b ∷ c ∷ []) first second desks = absurd desks
-  pops_of (a ∷ b ∷ c ∷ d ∷ e ∷ list) first second desks = absurd desks
-
   -- the passes that the desks and who writes give back are those of the cell
   pub passes_of_cell : (list : List Inbox) (first second : Pair L) (passes : Pass × Pass × Pass × Pass) (has : Option Pass) (last : Pass)
       → AreDesksOf cell list first second → ArePassesFor passes first second → IsOf cell has → has ≡ Some last
@@ -273,12 +250,6 @@ module _ {F L : Type 0} (files : shelves.Ghosts F) (team : Team F L files) where
       → cells.known_by (passes.0 ∷ passes.1 ∷ passes.2 ∷ passes.3 ∷ last ∷ []) ≡ known_among team
   known_is passes last are is = λ i.
       known_by (sym are.0 i) ∷ known_by (sym are.1 i) ∷ known_by (sym are.2 i) ∷ known_by (sym are.3 i) ∷ known_by (sym is i) ∷ []
-
-  -- the cell was ended with what all know
-  pub has_ended : (told : Bool) (start now : Facts) (passes : Pass × Pass × Pass × Pass) (last : Pass) → ArePassesFor passes team.first team.second
-      → writing.pass_of team.actor ≡ Some last → Ended told start now (cells.known_by (passes.0 ∷ passes.1 ∷ passes.2 ∷ passes.3 ∷ last ∷ []))
-      → HasEnded told start now team
-  has_ended told start now passes last are is ended = subst (λ (ks : List Knowledge). Ended told start now ks) (known_is passes last are is) ended
 
   pub all_settled : (all : List InboxPass) (pushes : InboxPass × InboxPass × InboxPass × InboxPass) → all ≡ pushes.0 ∷ pushes.1 ∷ pushes.2 ∷ pushes.3 ∷ []
       → AreSettledWith pushes team.first team.second → AreAllSettled (inboxes.known_by all) team

@@ -1,5 +1,5 @@
 -- The steps, as the calls that make them see their seats.
-use Rattle.std.proofs.Common.{◌≡◌, ℕ, zero, suc, ◌+◌, ◌-◌, ◌<◌, eqb, Bool, List, [], ◌∷◌, ◌++◌, append_assoc, refl, sym, ap, ◌∙◌, subst, arith, Option, Some, None}
+use Rattle.std.proofs.Common.{◌≡◌, ℕ, zero, suc, ◌+◌, ◌-◌, ◌<◌, eqb, Bool, List, [], ◌∷◌, ◌++◌, append_assoc, sym, ap, ◌∙◌, subst, arith, Option, Some, None}
 use mathlib.Core.Option.{none}
 use mathlib.Core.List.{map-append}
 use prog.Atomic.{either}
@@ -13,7 +13,7 @@ use Rattle.turn_cell.proofs.Joins.{joins, splits}
 use Rattle.turn_cell.proofs.Keeps.{R, calls, draws, leaves, looks, placed_on, settles}
 use Rattle.turn_cell.proofs.Lists.{all_first, head_of}
 use Rattle.turn_cell.proofs.TurnLemmas.{legal_own}
-use Rattle.turn_cell.specs.Cell.{AreIn, AreNew, IsPassIn, known_by, knowledge}
+use Rattle.turn_cell.specs.Cell.{AreIn, AreNew, IsPassIn, knowledge}
 use Rattle.turn_cell.specs.Knowing.{IsLegal, after_turn, facts_of, first_of, kept, newcomer, newcomers_from, standing}
 use Rattle.gw_base.specs.Owes.{Owes}
 use Rattle.turn_cell.specs.Passes.{FoundInPlace, IsOwnSession, Took}
@@ -204,9 +204,6 @@ next_rest start first count below =
     let one : suc first ≡ first + 1 = omega arith in
     ap (λ (n : ℕ). behind_first (newcomers_from start first n)) more ∙ ap (λ (m : ℕ). newcomers_from start m (count - (first + 1))) one
 
-pub new_none : (table : TableId) (start : Facts) (passes : List Pass) → passes ≡ [] → AreNew table start 0 passes
-new_none table start passes none_yet = subst (AreNew table start 0) (sym none_yet) (All-nil (IsPassIn table), refl)
-
 pub new_more : (table : TableId) (start : Facts) (n : ℕ) (passes : List Pass) (pass : Pass) → AreNew table start n passes → IsPassIn table pass → knowledge pass ≡ newcomer n start
     → AreNew table start (n + 1) (passes ++ pass ∷ [])
 new_more table start n passes pass new own know =
@@ -217,11 +214,3 @@ new_more table start n passes pass new own know =
       All-push (IsPassIn table) passes pass new.0 own,
       map-append knowledge passes (pass ∷ []) ∙ (λ i. new.1 i ++ know i ∷ []) ∙ sym more,
     )
-
--- what all of a list with one more are, all of the list are
-pub all_but_last : (table : TableId) (all left : List Pass) (pass : Pass) → AreIn table all → all ≡ left ++ pass ∷ [] → AreIn table left × IsPassIn table pass
-all_but_last table all left pass h split =
-    let g = subst (All (IsPassIn table)) split h in (all_first (IsPassIn table) left (pass ∷ []) g, all_last (IsPassIn table) left pass g)
-
-pub known_last : (all left : List Pass) (pass : Pass) → all ≡ left ++ pass ∷ [] → known_by all ≡ known_by left ++ knowledge pass ∷ []
-known_last all left pass split = ap known_by split ∙ map-append knowledge left (pass ∷ [])
