@@ -1,8 +1,7 @@
 -- What ends a gateway does in all: its book, then its writer.
-use Rattle.std.proofs.Common.{◌≡◌, ℕ, ◌≤◌, List, [], sym, ap, subst, ◌∙◌, arith}
+use Rattle.std.proofs.Common.{◌≡◌, ℕ, List, [], sym, ap, subst, ◌∙◌}
 use Rattle.std.proofs.lemmas.Bool.{and_parts}
 use Rattle.std.proofs.lemmas.List.{append-nil}
-use Rattle.area_disk.specs.Disk.{Rose}
 use Rattle.area_disk.specs.declared.area.Area.{Ghosts}
 use Rattle.cdr_shelf.specs.declared.shelf.Shelf as shelf
 use Rattle.gate_journal.specs.Moments.{Told}
@@ -18,9 +17,6 @@ use Rattle.file_writer.specs.declared.writer.Writer.{Writer}
 use Rattle.node_session.specs.Settling.{Grows, HasTakenAll, IsSettled}
 use Rattle.node_session.specs.Writing.{IsWriterOf, KeepsFiles}
 use Rattle.node_session.proofs.ActorLemmas.{Stays, writer_grows}
-
-pub rose_from : (a b c : ℕ) → a ≤ b → Rose b c → Rose a c
-rose_from a b c later rose = omega (arith, later, rose)
 
 module _ {A : Type 0} {tells : Ghosts A} where
   pub stays_then : (a b c : Book A tells) → StaysSo a b → StaysSo b c → StaysSo a c

@@ -1,5 +1,6 @@
 -- How a gateway ends: its history is made firm and closed, and its writer is given all items.
-use Rattle.std.specs.Prelude.{◌≡◌, ℕ, ◌<◌, ◌^◌, Bool, true, false, List, [], ◌++◌, length}
+use Rattle.std.specs.Prelude.{◌≡◌, ℕ, ◌<◌, ◌≤◌, ◌^◌, Bool, true, false, List, [], ◌++◌, length, Result, Err}
+use Rattle.area_disk.specs.Disk.{Rose}
 use Rattle.area_disk.specs.declared.area.Area.{Ghosts}
 use Rattle.cdr_shelf.specs.declared.shelf.Shelf as shelf
 use Rattle.gate_journal.specs.Moments.{Told}
@@ -9,7 +10,7 @@ use Rattle.gw_base.specs.Owes.{base}
 use Rattle.gw_base.specs.declared.history.Caller.{Caller}
 use Rattle.gw_base.specs.declared.history.HistoryEntry.{HistoryEntry}
 use Rattle.gateway_book.specs.Answered.{with_act}
-use Rattle.gateway_book.specs.Book.{size_of, value_of}
+use Rattle.gateway_book.specs.Book.{area_of, size_of, value_of}
 use Rattle.gateway_book.specs.Calls.{counts_of}
 use Rattle.gateway_book.specs.Items.{items_of}
 use Rattle.gateway_book.specs.Marks.{close_mark}
@@ -18,9 +19,11 @@ use Rattle.gateway_book.specs.Turning.{act_marked, facts_of}
 use Rattle.gateway_book.specs.Value.{history_of}
 use Rattle.gateway_book.specs.declared.book.Book.{Book}
 use Rattle.gateway_book.specs.declared.told.Counts.{Counts}
-use Rattle.file_writer.specs.Writer.{IsAt, is_broken, taken_of}
+use Rattle.file_writer.specs.Writer.{IsAt, is_broken, shelf_of, taken_of}
 use Rattle.file_writer.specs.declared.writer.Writer.{Writer}
 use Rattle.node_session.specs.Writing.{none_closed}
+use Rattle.node_session.specs.declared.settling.SettleFault.{SettleFault}
+use Rattle.node_session.specs.declared.settling.SettleFault.TheVariants as fault
 
 -- a history, with a Close behind it where one is due
 abbrev pub closed_behind : List HistoryEntry → ℕ → Caller → List HistoryEntry
@@ -73,3 +76,11 @@ pub record HasGivenSome {F : Type 0} {tells : shelf.Ghosts F} (told : Bool) (h :
   pub ready : is_broken new ≡ false
   pub moves : more ≡ true → (taken_of old < taken_of new) × (taken_of new < 2 ^ 31)
   pub all : more ≡ false → WhereTold told (HasTakenAll h new)
+
+-- No count of faults falls; where the area or the shelf is said to have failed, its count rose.
+pub record TellsFaults {A X : Type 0} {F : Type 0} {tells : Ghosts A} {files : shelf.Ghosts F} (old new : Book A tells)
+    (before now : Writer F files) (result : Result X SettleFault) : Type 0 where
+  pub later : tells.faults (area_of old) ≤ tells.faults (area_of new)
+  pub shelf_later : files.faults (shelf_of before) ≤ files.faults (shelf_of now)
+  pub area : result ≡ Err fault.Area → Rose (tells.faults (area_of old)) (tells.faults (area_of new))
+  pub shelf : result ≡ Err fault.Shelf → Rose (files.faults (shelf_of before)) (files.faults (shelf_of now))

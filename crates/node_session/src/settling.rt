@@ -8,7 +8,7 @@ ghost use Rattle.gateway_book.specs.Book.{Stays, area_of, value_of};
 ghost use Rattle.gateway_book.specs.Read.{IsUnchanged};
 ghost use Rattle.gateway_book.specs.Turning.{tells_lists};
 ghost use Rattle.gw_base.specs.Facts.{WhereTold};
-ghost use Rattle.node_session.specs.Settling.{Grows, HasClosed, HasFirmed, HasGivenSome, HasSettled, HasTakenAll, IsSettled};
+ghost use Rattle.node_session.specs.Settling.{Grows, HasClosed, HasFirmed, HasGivenSome, HasSettled, HasTakenAll, IsSettled, TellsFaults};
 ghost use Rattle.node_session.specs.Writing.{IsWriterOf, KeepsFiles};
 ghost use Rattle.node_session.specs.declared.settling.SettleFault.TheVariants as fault;
 
@@ -54,10 +54,7 @@ pub fn settle<A: Area, F: Shelf>(
     ensures all { Told A.Area → OnOk result (HasTakenAll (value_of book.new).firm writer.new) }
     ensures grows { Grows book.old book.new }
     ensures stays { Stays book.old book.new × (settings_in writer.new ≡ settings_in writer.old) }
-    ensures later { (A.faults (area_of book.old) ≤ A.faults (area_of book.new))
-        × (F.faults (shelf_of writer.old) ≤ F.faults (shelf_of writer.new)) }
-    ensures area { result ≡ Err fault.Area → Rose (A.faults (area_of book.old)) (A.faults (area_of book.new)) }
-    ensures shelf { result ≡ Err fault.Shelf → Rose (F.faults (shelf_of writer.old)) (F.faults (shelf_of writer.new)) }
+    ensures faults { TellsFaults book.old book.new writer.old writer.new result }
     ensures writer { IsWriterOf (tells_lists A.Area) (value_of book.new).firm writer.new }
     // The files of the shelf stay the first ones of those that the items of the history, and more, are divided into.
     ensures files { WhereTold (tells_lists A.Area) (KeepsFiles F.Shelf (value_of book.new).firm writer.old writer.new) }
@@ -125,14 +122,12 @@ fn give_some<A: Area, F: Shelf>(
 ) -> Result<bool, SettleFault>
     requires ready { is_broken writer.old ≡ false }
     requires writer { IsWriterOf (tells_lists A.Area) (value_of book.old).firm writer.old }
-    ensures same { IsUnchanged book.old book.new × (A.faults (area_of book.old) ≤ A.faults (area_of book.new)) }
+    ensures same { IsUnchanged book.old book.new }
     ensures some { IfOk result (λ more. HasGivenSome (tells_lists A.Area) (value_of book.old).firm writer.old
         writer.new more) }
     ensures still { OnOk result (F.faults (shelf_of writer.new) ≡ F.faults (shelf_of writer.old)) }
     ensures settings { settings_in writer.new ≡ settings_in writer.old }
-    ensures later { F.faults (shelf_of writer.old) ≤ F.faults (shelf_of writer.new) }
-    ensures area { result ≡ Err fault.Area → Rose (A.faults (area_of book.old)) (A.faults (area_of book.new)) }
-    ensures shelf { result ≡ Err fault.Shelf → Rose (F.faults (shelf_of writer.old)) (F.faults (shelf_of writer.new)) }
+    ensures faults { TellsFaults book.old book.new writer.old writer.new result }
     ensures writer { IsWriterOf (tells_lists A.Area) (value_of book.old).firm writer.new }
     ensures files { WhereTold (tells_lists A.Area) (KeepsFiles F.Shelf (value_of book.old).firm writer.old writer.new) }
 {
@@ -160,12 +155,10 @@ fn give_all<A: Area, F: Shelf>(
     writer: &mut Writer<F>,
 ) -> Result<(), SettleFault>
     requires { IsWriterOf (tells_lists A.Area) (value_of book.old).firm writer.old }
-    ensures same { IsUnchanged book.old book.new × (A.faults (area_of book.old) ≤ A.faults (area_of book.new)) }
+    ensures same { IsUnchanged book.old book.new }
     ensures all { Told A.Area → OnOk result (HasTakenAll (value_of book.old).firm writer.new) }
     ensures settings { settings_in writer.new ≡ settings_in writer.old }
-    ensures later { F.faults (shelf_of writer.old) ≤ F.faults (shelf_of writer.new) }
-    ensures area { result ≡ Err fault.Area → Rose (A.faults (area_of book.old)) (A.faults (area_of book.new)) }
-    ensures shelf { result ≡ Err fault.Shelf → Rose (F.faults (shelf_of writer.old)) (F.faults (shelf_of writer.new)) }
+    ensures faults { TellsFaults book.old book.new writer.old writer.new result }
     ensures writer { IsWriterOf (tells_lists A.Area) (value_of book.old).firm writer.new }
     ensures files { WhereTold (tells_lists A.Area) (KeepsFiles F.Shelf (value_of book.old).firm writer.old writer.new) }
 {

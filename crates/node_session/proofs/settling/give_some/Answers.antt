@@ -1,4 +1,4 @@
-use Rattle.std.proofs.Common.{◌≡◌, ℕ, Bool, arith, ap, length, subst, ◌∙◌}
+use Rattle.std.proofs.Common.{rules, ◌≡◌, ℕ, Bool, arith, ap, length, subst, ◌∙◌}
 use Rattle.std.proofs.lemmas.Bool.{and_parts, false≢true}
 use Rattle.gateway_book.specs.Book.{value_of}
 use Rattle.gateway_book.specs.Turning.{tells_lists}
@@ -67,14 +67,29 @@ pub returns-in-Ok-give-clause-still : goal.returns-in-Ok-give-clause-still
 returns-in-Ok-give-clause-still g c =
     let w = c.requires.writer c.requires.ready in c.in-Ok-give.ensures.still w.items w.at
 
-pub returns-in-Ok-give-clause-later : goal.returns-in-Ok-give-clause-later
-returns-in-Ok-give-clause-later g c = let w = c.requires.writer c.requires.ready in c.give.ensures.later w.items w.at
+pub returns-in-Ok-give-clause-faults : goal.returns-in-Ok-give-clause-faults
+returns-in-Ok-give-clause-faults g c = let w = c.requires.writer c.requires.ready in record {
+  later = search rules;
+  shelf_later = c.give.ensures.later w.items w.at;
+  area = search rules;
+  shelf = search rules;
+}
 
-pub returns-in-Err-Device-give-clause-later : goal.returns-in-Err-Device-give-clause-later
-returns-in-Err-Device-give-clause-later g c = let w = c.requires.writer c.requires.ready in c.give.ensures.later w.items w.at
+pub returns-in-Err-Device-give-clause-faults : goal.returns-in-Err-Device-give-clause-faults
+returns-in-Err-Device-give-clause-faults g c = let w = c.requires.writer c.requires.ready in record {
+  later = search rules;
+  shelf_later = c.give.ensures.later w.items w.at;
+  area = search rules;
+  shelf = search rules;
+}
 
-pub returns-clause-later : goal.returns-clause-later
-returns-clause-later g c = let w = c.requires.writer c.requires.ready in c.give.ensures.later w.items w.at
+pub returns-clause-faults : goal.returns-clause-faults
+returns-clause-faults g c = let w = c.requires.writer c.requires.ready in record {
+  later = search rules;
+  shelf_later = c.give.ensures.later w.items w.at;
+  area = search rules;
+  shelf = search rules;
+}
 
 pub returns-then-taken-gt-MOST_TAKEN-clause-some : goal.returns-then-taken-gt-MOST_TAKEN-clause-some
 returns-then-taken-gt-MOST_TAKEN-clause-some g c = record {
