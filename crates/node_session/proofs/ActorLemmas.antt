@@ -1,8 +1,8 @@
 -- What a step that takes items to a writer does, by what its parts do.
-use Rattle.std.proofs.Common.{◌≡◌, ℕ, zero, suc, ◌+◌, ◌-◌, ◌<◌, ◌≤◌, ◌^◌, Bool, false, List, [], ◌∷◌, ◌++◌, length, take, drop, Option, Some, Result, Ok, Err, refl, sym, ap, subst, ◌∙◌, append_assoc, arith}
+use Rattle.std.proofs.Common.{◌≡◌, ℕ, ◌+◌, ◌-◌, ◌<◌, ◌≤◌, ◌^◌, Bool, false, List, [], ◌∷◌, ◌++◌, length, take, drop, Option, Some, Result, Ok, Err, refl, sym, ap, subst, ◌∙◌, append_assoc, arith}
 use Rattle.std.specs.Prelude.{min, IfOk}
 use Rattle.std.proofs.lemmas.Bool.{and_parts}
-use Rattle.std.proofs.lemmas.List.{append-nil}
+use Rattle.std.proofs.lemmas.List.{append-nil, length-drop, length-take}
 use Rattle.std.proofs.lemmas.List.Elements.{All-cons, All-nil}
 use Rattle.area_disk.specs.declared.area.Area.{Ghosts}
 use Rattle.cdr_shelf.specs.declared.shelf.Shelf as shelf
@@ -69,18 +69,8 @@ keeps_none before = record {
 }
 
 -- how many are taken of those that are left
-front_length : (n : ℕ) (ys : List Item) → length (take n ys) ≡ min n (length ys)
-front_length zero ys = omega arith
-front_length (suc n) [] = omega arith
-front_length (suc n) (y ∷ ys) = let less = front_length n ys in omega (arith, less)
-
-rest_length : (from : ℕ) (xs : List Item) → length (drop from xs) ≡ length xs - from
-rest_length zero xs = omega arith
-rest_length (suc from) [] = omega arith
-rest_length (suc from) (x ∷ xs) = let less = rest_length from xs in omega (arith, less)
-
 pub taken_count : (most from : ℕ) (xs : List Item) → length (take most (drop from xs)) ≡ min most (length xs - from)
-taken_count most from xs = front_length most (drop from xs) ∙ ap (λ n. min most n) (rest_length from xs)
+taken_count most from xs = length-take most (drop from xs) ∙ ap (λ n. min most n) (length-drop from xs)
 
 -- the same of the pass that is held
 pub lists_at : {A R : Type 0} (tells : Ghosts A) (most : ℕ) (items : R → List Item) (result : Result R ItemsFault) (after : Knowledge)

@@ -2,7 +2,7 @@
 use Rattle.std.proofs.Common.{◌≡◌, ℕ, zero, suc, ◌+◌, ◌<◌, ◌≤◌, ◌^◌, Bool, true, false, List, [], ◌∷◌, ◌++◌, length, take, drop, Ok, Err, refl, sym, ap, subst, ◌∙◌, append_assoc, arith, length-append}
 use Rattle.std.specs.Prelude.{IsTrue, nat_eq}
 use Rattle.std.proofs.lemmas.Bool.{true≢false, eq-eqb, eqb-true}
-use Rattle.std.proofs.lemmas.List.{append-nil}
+use Rattle.std.proofs.lemmas.List.{append-nil, nil_from_length, take-append-drop}
 use Rattle.cdr_shelf.specs.Files.{SealedFile}
 use Rattle.cdr_shelf.specs.declared.shelf.Shelf.{Ghosts}
 use Rattle.gateway_book.specs.Items.{items_between, items_of}
@@ -25,10 +25,6 @@ take_front (x ∷ xs) ys = ap (λ (zs : List Item). x ∷ zs) (take_front xs ys)
 drop_front : (xs ys : List Item) → drop (length xs) (xs ++ ys) ≡ ys
 drop_front [] ys = refl
 drop_front (x ∷ xs) ys = drop_front xs ys
-
-no_items : (xs : List Item) → length xs ≡ 0 → xs ≡ []
-no_items [] none = refl
-no_items (x ∷ xs) none = absurd (omega (arith, none))
 
 module _ {F : Type 0} {tells : Ghosts F} (old new : Writer F tells) where
   -- one that recovered has taken none
@@ -129,17 +125,11 @@ module _ {F : Type 0} {tells : Ghosts F} (old new : Writer F tells) where
           held = λ runs. absurd (true≢false (sym broken ∙ runs));
         }
 
--- the front of a list of items, and what is behind it
-front_and_rest : (n : ℕ) (xs : List Item) → take n xs ++ drop n xs ≡ xs
-front_and_rest zero xs = refl
-front_and_rest (suc n) [] = refl
-front_and_rest (suc n) (x ∷ xs) = ap (λ (ys : List Item). x ∷ ys) (front_and_rest n xs)
-
 -- so many items of a history from a number on are the next ones
 pub next_ones : (told : Bool) (h : List HistoryEntry) (from most : ℕ) (items : List Item) → WhereTold told (items ≡ items_between from most h)
     → AreNext told h from items
 next_ones told h from most items are it_is =
-    (drop most (drop from (items_of h)), sym (ap (λ (xs : List Item). xs ++ drop most (drop from (items_of h))) (are it_is) ∙ front_and_rest most (drop from (items_of h))))
+    (drop most (drop from (items_of h)), sym (ap (λ (xs : List Item). xs ++ drop most (drop from (items_of h))) (are it_is) ∙ take-append-drop most (drop from (items_of h))))
 
 -- fewer than were asked for are all that are left
 few_taken : (most : ℕ) (xs : List Item) → length (take most xs) < most → length (take most xs) ≡ length xs
@@ -173,7 +163,7 @@ all_given h new from most items are few ready count w =
     let most_in = dropped_length from (items_of h) in
     let long : length (items_of h) ≡ length w.items + length begins.0 = ap (λ (xs : List Item). length xs) begins.1 ∙ length-append w.items begins.0 in
     let is_taken = w.count in
-    let none : begins.0 ≡ [] = no_items begins.0 (omega (arith, same, left, most_in, long, is_taken, count)) in
+    let none : begins.0 ≡ [] = nil_from_length begins.0 (omega (arith, same, left, most_in, long, is_taken, count)) in
     record {
       ready = ready;
       at = subst (λ (xs : List Item). IsAt new none_closed xs) (sym (begins.1 ∙ ap (λ (xs : List Item). w.items ++ xs) none ∙ append-nil w.items)) w.at;

@@ -1,5 +1,5 @@
 -- What becomes of the passes to inboxes when one of them pushes.
-use Rattle.std.proofs.Common.{◌≡◌, ℕ, zero, suc, ◌<◌, List, [], ◌∷◌, ◌++◌, length, take, Result, Ok, Err, refl, sym, ap, subst, ◌∙◌, arith}
+use Rattle.std.proofs.Common.{◌≡◌, ℕ, zero, suc, ◌<◌, List, [], ◌∷◌, length, Result, Ok, Err, refl, sym, ap, subst, ◌∙◌, arith}
 use Rattle.std.specs.Prelude.{IfErr, OnErr, OnOk, slice_index_or}
 use Rattle.std.specs.List.{insert, remove}
 use Rattle.crossbeam_queue.specs.Fifo.{Held}
@@ -83,14 +83,6 @@ pub full_where : (r : Result Unit Job) (inboxes : List Inbox) (passes : List Inb
     → OnErr r (Held (capacity_of inbox) (Shows (made_by inbox) (knowledge pass))) → OnErr r (WasFull inboxes k (known_by passes))
 full_where (Ok done) inboxes passes k inbox pass own lt is also full = full
 full_where (Err back) inboxes passes k inbox pass own lt is also full = full_at inboxes passes k inbox pass own lt is also full
-
--- a buffer that is written whole begins with what was written
-pub written_front : (n : ℕ) (written rest : List ℕ) → length written ≡ n → take n (written ++ rest) ≡ written
-written_front n written rest is = subst (λ (k : ℕ). take k (written ++ rest) ≡ written) is (front written)
-  where
-    front : (xs : List ℕ) → take (length xs) (xs ++ rest) ≡ xs
-    front [] = refl
-    front (x ∷ xs) = ap (λ (ys : List ℕ). x ∷ ys) (front xs)
 
 -- What a step tells of a datagram that was received, by what came of it: nothing but the buffer was changed before.
 module _ (inboxes : List Inbox) (old between new : Dispatcher) (link_old link_new : LinkState) (clock_old clock_new : ℕ) (from : Addr) (octets heard : List ℕ)

@@ -1,6 +1,6 @@
 -- What ends a gateway does, step by step.
 use Rattle.std.proofs.Common.{◌≡◌, ◌≢◌, ◌↔◌, ℕ, ◌&&◌, Bool, true, false, if◌then◌else◌, List, [], ◌∷◌, ◌++◌, Option, None, Some, Result, refl, sym, ap, ◌∙◌, append_assoc}
-use Rattle.std.proofs.lemmas.Bool.{true≢false}
+use Rattle.std.proofs.lemmas.Bool.{and_from, true≢false}
 use Rattle.std.proofs.lemmas.List.{append-nil}
 use Rattle.area_disk.specs.declared.area.Area.{Ghosts}
 use Rattle.gate_journal.specs.Moments.{Told}
@@ -21,9 +21,6 @@ use Rattle.gateway_book.specs.declared.outcome.Marked.{Marked}
 use Rattle.gateway_book.specs.declared.outcome.Marked.TheVariants as marked
 use Rattle.node_session.proofs.CommittedLemmas.{commit_rests}
 use Rattle.node_session.specs.Settling.{Grows, HasClosed, HasFirmed}
-
-both : (a b : Bool) → a ≡ true → b ≡ true → (a && b) ≡ true
-both a b is also = λ i. is i && also i
 
 -- a value that isn't broken: its history, and no entry is torn
 history_open : (v : BookValue) → v.is_broken ≡ false → history_of v ≡ v.firm ++ v.rest
@@ -60,7 +57,7 @@ added_behind h ready now who (Some act) is = ap (λ g. h ++ added_to' g) is
 
 module _ {A : Type 0} {tells : Ghosts A} (old new : Book A tells) where
   tells_them : Told tells → tells_lists tells ≡ true
-  tells_them told = both tells.tells_octets tells.tells_crash told.0 told.1
+  tells_them told = and_from tells.tells_octets tells.tells_crash told.0 told.1
 
   whole : is_closed old.trail ≡ false → drops_of (fortune_of old new) (value_of old) ≡ false
   whole goes = ap (λ b. b && is_gone (fortune_of old new).reopening) goes
