@@ -3,7 +3,7 @@ use Rattle.std.specs.Prelude.{ℕ, ◌&&◌, nat_lt, if◌then◌else◌, List, 
 use Rattle.std.specs.Option.{ok_or}
 use Rattle.std.specs.Str.{bytes_eq}
 use Rattle.route_filter.specs.Rules.{most_rules, rule_of}
-use Rattle.route_filter.specs.Words.{number_up_to, octets_of}
+use Rattle.route_filter.specs.Words.{cut_at, is_empty, number_up_to, octets_in, octets_of, ◌>>=◌}
 use Rattle.world_script.specs.Values.{address_of, mode_of, number_between, number_of, offset_of, records_of, version_of}
 use Rattle.world_script.specs.declared.keyword.Keyword.{Keyword}
 use Rattle.world_script.specs.declared.keyword.Keyword.TheVariants as keyword
@@ -72,6 +72,20 @@ datagram_said from words =
 abbrev pub in_said : List (List ℕ) → Result Line InputKind
 in_said (from ∷ word ∷ words) = datagram_said from (word ∷ words)
 in_said _ = Err kind.Arity
+
+-- what stands before the first space behind `in ` at the beginning of a line, and what follows it
+abbrev pub behind_in : List ℕ → Option (List ℕ × List ℕ)
+behind_in (i ∷ n ∷ space ∷ rest) = if bytes_eq (i ∷ n ∷ space ∷ []) (codes "in ") then cut_at 32 rest else None
+behind_in _ = None
+
+-- the datagram of a line `in IP:PORT HEX`, where one space stands before each of its last two words
+abbrev pub one_datagram : List ℕ → Option Line
+one_datagram content = do
+  parts ← behind_in content
+  word ← if is_empty parts.1 then None else Some parts.1
+  from ← address_of parts.0
+  octets ← octets_in word
+  Some (line.Datagram from octets)
 
 -- `limit records N`, `limit size N`, `limit open N`
 abbrev pub limit_on : List ℕ → List ℕ → Result Line InputKind

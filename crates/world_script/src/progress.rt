@@ -1,6 +1,7 @@
-ghost use Rattle.std.specs.Prelude.{◌≡◌, ◌+◌, ◌<◌, ◌^◌, [], map, false, Ok, IfOk, IfSome};
+ghost use Rattle.std.specs.Prelude.{◌≡◌, ◌+◌, ◌<◌, ◌^◌, [], map, IfOk};
 ghost use Rattle.world_script.specs.Outcome.{Says, progress_after};
-ghost use Rattle.world_script.specs.Script.{contented, formed, is_action_line, is_end_line, is_rule_line, is_setting_line, progress_of, reading_of};
+ghost use Rattle.world_script.specs.Saying.{one_datagram};
+ghost use Rattle.world_script.specs.Script.{formed, is_action_line, is_end_line, is_rule_line, is_setting_line, progress_of, reading_of};
 ghost use Rattle.world_script.specs.Text.{lent_line, line_size};
 
 use crate::fault::{InputKind, LineFault};
@@ -83,7 +84,7 @@ impl Progress {
         let content = line.content();
         // Most lines of a feed are of this form.
         if self.kind == ScriptKind::Feed && !self.has_end {
-            if let Some(line) = self.one_datagram(alloc, content)? {
+            if let Some(line) = one_datagram(alloc, content)? {
                 return Ok(line);
             }
         }
@@ -101,29 +102,6 @@ impl Progress {
             Ok(form) => self.formed(alloc, form, content, rest),
             Err(kind) => Err(LineFault::Refused(kind)),
         }
-    }
-
-    /// The datagram that a line of a feed says, where one space stands before its address, and one before its octets,
-    /// which are one word.
-    fn one_datagram(self, alloc: Global, content: &[u8]) -> Result<Option<Line>, NoMemory>
-        requires feed { self.kind ≡ ScriptKind.Feed }
-        requires open { self.has_end ≡ false }
-        ensures { IfOk result (λ said. IfSome said (λ line. contented self content.now ≡ Ok line)) }
-    {
-        let Some((from, word)) = behind_in(content) else {
-            return Ok(None);
-        };
-        if word.is_empty() {
-            return Ok(None);
-        }
-        let Some(from) = address(from) else {
-            return Ok(None);
-        };
-        let Some(octets) = decoded(alloc, word)? else {
-            return Ok(None);
-        };
-        let octets = Octets::from_vec(octets);
-        Ok(Some(Line::Datagram { from, octets }))
     }
 
     /// What a line of this form says, by its words after the first.
@@ -144,6 +122,26 @@ impl Progress {
         }
         said_by(alloc, self.kind, form, self.rules, content, words)
     }
+}
+
+/// The datagram of a line `in IP:PORT HEX`, where one space stands before each of its last two words.
+fn one_datagram(alloc: Global, content: &[u8]) -> Result<Option<Line>, NoMemory>
+    ensures { IfOk result (λ said. said ≡ one_datagram content.now) }
+{
+    let Some((from, word)) = behind_in(content) else {
+        return Ok(None);
+    };
+    if word.is_empty() {
+        return Ok(None);
+    }
+    let Some(from) = address(from) else {
+        return Ok(None);
+    };
+    let Some(octets) = decoded(alloc, word)? else {
+        return Ok(None);
+    };
+    let octets = Octets::from_vec(octets);
+    Ok(Some(Line::Datagram { from, octets }))
 }
 
 fn is_end(line: &Line) -> bool

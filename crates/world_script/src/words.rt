@@ -1,8 +1,8 @@
 //! The words of a line.
 
-ghost use Rattle.std.specs.Prelude.{◌≡◌, ◌++◌, ◌∷◌, [], map, codes, IfSome, OnOk};
-ghost use Rattle.route_filter.specs.Words.{with_word, words_of};
-ghost use Rattle.world_script.specs.Printing.{words_text};
+ghost use Rattle.std.specs.Prelude.{◌≡◌, ◌++◌, [], map, option_map, OnOk};
+ghost use Rattle.route_filter.specs.Words.{cut_parts, with_word, words_of};
+ghost use Rattle.world_script.specs.Saying.{behind_in};
 
 use crate::text::cut;
 use gw_base::NoMemory;
@@ -24,8 +24,7 @@ pub fn split<'a>(words: &mut Vec<&'a [u8]>, line: &'a [u8]) -> Result<(), NoMemo
 
 /// What stands before the first space behind `in ` at the beginning of a line, and what follows it.
 pub fn behind_in(line: &[u8]) -> Option<(&[u8], &[u8])>
-    ensures { IfSome result (λ parts.
-        line.now ≡ codes "in" ++ words_text (parts.0.now ∷ parts.1.now ∷ [])) }
+    ensures { option_map cut_parts result ≡ behind_in line.now }
 {
     let [i, n, space, rest @ ..] = line else {
         return None;
@@ -33,8 +32,7 @@ pub fn behind_in(line: &[u8]) -> Option<(&[u8], &[u8])>
     if *i != b'i' || *n != b'n' || *space != b' ' {
         return None;
     }
-    let (first, later) = cut(rest, b' ')?;
-    Some((first, later))
+    cut(rest, b' ')
 }
 
 /// Appends a word, if it isn't empty.
