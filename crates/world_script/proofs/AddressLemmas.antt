@@ -1,6 +1,7 @@
 -- Lemmas on addresses, offsets and modes: what a word says is printed as a word that says it, and that is as long.
 use Rattle.std.proofs.Common.{◌≡◌, ℕ, zero, suc, ◌+◌, ◌-◌, ◌*◌, ◌/◌, ◌%◌, ◌^◌, ◌<◌, ◌≤◌, Bool, true, false, ◌&&◌, ◌==◌, nat_le, if◌then◌else◌, List, [], ◌∷◌, ◌++◌, length, Option, Some, None, option_map, option_and_then, refl, ap, sym, ◌∙◌, subst, arith, append_assoc, length-append, le-leb, ℤ, pos, neg_ℤ, codes}
 use Rattle.std.proofs.lemmas.Bool.{eqb-true, leb-true}
+use Rattle.std.proofs.lemmas.Option.{same_Some}
 use Rattle.std.proofs.lemmas.Slice.Eq.{bytes_eq-Decides}
 use Rattle.std.specs.Char.{is_ascii_digit}
 use Rattle.std.specs.Fmt.{decimal}
@@ -11,7 +12,7 @@ use Rattle.world_script.specs.Printing.{address_text, hours_text, mode_text, off
 use Rattle.world_script.specs.Values.{address_of, ip_of, mode_of, offset_of, signed, two_digits}
 use Rattle.world_script.specs.declared.mode.Mode.{Mode}
 use Rattle.world_script.specs.declared.mode.Mode.TheVariants as mode
-use Rattle.world_script.proofs.ValueLemmas.{decimal_is_word, number_printed, some_same, then_some, where_some}
+use Rattle.world_script.proofs.ValueLemmas.{decimal_is_word, number_printed, then_some, where_some}
 use Rattle.world_script.proofs.WordLemmas.{AllGlyphs, IsWord}
 
 -- Parts of a word.
@@ -26,11 +27,11 @@ cut_case : (separator x : ℕ) (xs a b : List ℕ) (found : Bool) (parts : Optio
     (if found then at_once xs else option_map (λ (p : List ℕ × List ℕ). (x ∷ p.0, p.1)) parts) ≡ Some (a, b) →
     x ∷ xs ≡ a ++ separator ∷ b
 cut_case separator x xs a b true parts e later h =
-    let same : ◌≡◌ {A = List ℕ × List ℕ} ([], xs) (a, b) = some_same ([], xs) (a, b) h in
+    let same : ◌≡◌ {A = List ℕ × List ℕ} ([], xs) (a, b) = same_Some ([], xs) (a, b) h in
     ap (λ (y : ℕ). y ∷ xs) (eqb-true x separator e) ∙ ap (λ (p : List ℕ × List ℕ). p.0 ++ separator ∷ p.1) same
 cut_case separator x xs a b false None e later h = let no : ⊥ = cc in absurd no
 cut_case separator x xs a b false (Some p) e later h =
-    let same : ◌≡◌ {A = List ℕ × List ℕ} (x ∷ p.0, p.1) (a, b) = some_same (x ∷ p.0, p.1) (a, b) h in
+    let same : ◌≡◌ {A = List ℕ × List ℕ} (x ∷ p.0, p.1) (a, b) = same_Some (x ∷ p.0, p.1) (a, b) h in
     ap (λ (l : List ℕ). x ∷ l) (later p.0 p.1 refl) ∙ ap (λ (q : List ℕ × List ℕ). q.0 ++ separator ∷ q.1) same
 
 pub cut_joined : (separator : ℕ) (xs a b : List ℕ) → cut_at separator xs ≡ Some (a, b) → xs ≡ a ++ separator ∷ b
@@ -68,7 +69,7 @@ ip_printed text ip h =
     let nb = number_printed 255 q.0.0 b.0 (omega arith) b.1 in
     let nc = number_printed 255 r.0.0 c.0 (omega arith) c.1 in
     let nd = number_printed 255 r.0.1 d.0 (omega arith) d.1 in
-    let sum : 16777216 * a.0 + 65536 * b.0 + 256 * c.0 + d.0 ≡ ip = some_same _ ip d.2 in
+    let sum : 16777216 * a.0 + 65536 * b.0 + 256 * c.0 + d.0 ≡ ip = same_Some _ ip d.2 in
     cut_joined 46 text p.0.0 p.0.1 p.1
     ∙ ap (λ (l : List ℕ). p.0.0 ++ 46 ∷ l) (cut_joined 46 p.0.1 q.0.0 q.0.1 q.1)
     ∙ ap (λ (l : List ℕ). p.0.0 ++ 46 ∷ (q.0.0 ++ 46 ∷ l)) (cut_joined 46 q.0.1 r.0.0 r.0.1 r.1)
@@ -84,7 +85,7 @@ address_printed word a h =
     let ip = then_some (ip_of p.0.0) _ a p.2 in
     let port = then_some (number_up_to 65535 p.0.1) _ a ip.2 in
     let said = (number_printed 65535 p.0.1 port.0 (omega arith) port.1).1 in
-    let is : record { ip = ip.0; port = port.0 } ≡ a = some_same _ a port.2 in
+    let is : record { ip = ip.0; port = port.0 } ≡ a = same_Some _ a port.2 in
     cut_joined 58 word p.0.0 p.0.1 p.1
     ∙ (λ i. ip_printed p.0.0 ip.0 ip.1 i ++ 58 ∷ said i)
     ∙ address_joined ip.0 port.0 ∙ ap address_text is
@@ -152,7 +153,7 @@ digits_within : (most tens ones n : ℕ) → two_digits most tens ones ≡ Some 
 digits_within most tens ones n h =
     let p = where_some (is_ascii_digit tens && is_ascii_digit ones) (at_most most ((tens - 48) * 10 + (ones - 48))) n h in
     let q = where_some (nat_le ((tens - 48) * 10 + (ones - 48)) most) (Some ((tens - 48) * 10 + (ones - 48))) n p.1 in
-    subst (λ (v : ℕ). v ≤ most) (some_same _ n q.1) (leb-true ((tens - 48) * 10 + (ones - 48)) most q.0)
+    subst (λ (v : ℕ). v ≤ most) (same_Some _ n q.1) (leb-true ((tens - 48) * 10 + (ones - 48)) most q.0)
 
 pub record IsOffset (word : List ℕ) (z : ℤ) : Type 0 where
   pub is : IsWord (offset_text z)
@@ -181,9 +182,9 @@ minus word (suc n) six h = record {
 signed_case : (word : List ℕ) (n : ℕ) (z : ℤ) (is_plus is_minus : Bool) → length word ≡ 6 → n ≤ 959 →
     (if is_plus then Some (pos n) else if is_minus then Some (neg_ℤ (pos n)) else None) ≡ Some z → IsOffset word z
 signed_case word n z true is_minus six small h =
-    subst (λ (v : ℤ). IsOffset word v) (some_same (pos n) z h) (plus word n six small)
+    subst (λ (v : ℤ). IsOffset word v) (same_Some (pos n) z h) (plus word n six small)
 signed_case word n z false true six small h =
-    subst (λ (v : ℤ). IsOffset word v) (some_same (neg_ℤ (pos n)) z h) (minus word n six small)
+    subst (λ (v : ℤ). IsOffset word v) (same_Some (neg_ℤ (pos n)) z h) (minus word n six small)
 signed_case word n z false false six small h = let no : ⊥ = cc in absurd no
 
 pub offset_printed : (word : List ℕ) (z : ℤ) → offset_of word ≡ Some z → IsOffset word z
@@ -210,9 +211,9 @@ mode_case : (word : List ℕ) (m : Mode) (old new rot : Bool) → bytes_eq word 
     bytes_eq word (codes "new") ≡ new → bytes_eq word (codes "rot") ≡ rot →
     (if old then Some mode.Old else if new then Some mode.New else if rot then Some mode.Rot else None) ≡ Some m →
     word ≡ mode_text m
-mode_case word m true new rot e f g h = same_bytes word (codes "old") e ∙ ap mode_text (some_same mode.Old m h)
-mode_case word m false true rot e f g h = same_bytes word (codes "new") f ∙ ap mode_text (some_same mode.New m h)
-mode_case word m false false true e f g h = same_bytes word (codes "rot") g ∙ ap mode_text (some_same mode.Rot m h)
+mode_case word m true new rot e f g h = same_bytes word (codes "old") e ∙ ap mode_text (same_Some mode.Old m h)
+mode_case word m false true rot e f g h = same_bytes word (codes "new") f ∙ ap mode_text (same_Some mode.New m h)
+mode_case word m false false true e f g h = same_bytes word (codes "rot") g ∙ ap mode_text (same_Some mode.Rot m h)
 mode_case word m false false false e f g h = let no : ⊥ = cc in absurd no
 
 pub mode_printed : (word : List ℕ) (m : Mode) → mode_of word ≡ Some m → word ≡ mode_text m

@@ -1,5 +1,5 @@
 -- Lines with too few or too many words.
-use Rattle.std.proofs.Common.{◌≡◌, ◌≢◌, ◌==◌, false, ℕ, ◌<◌, ◌≤◌, List, [], ◌∷◌, length, map, drop, Result, Err, refl, sym, ap, ◌∙◌, get_or, subst, arith}
+use Rattle.std.proofs.Common.{◌≡◌, ◌≢◌, ◌==◌, false, ℕ, ◌<◌, ◌≤◌, List, [], ◌∷◌, length, drop, Result, Err, refl, sym, ap, ◌∙◌, get_or, subst, arith}
 use Rattle.std.specs.Borrow.{Bor}
 use Rattle.world_script.specs.Outcome.{Says}
 use Rattle.world_script.specs.Saying.{arm_on, arm_said, datagram_said, fail_on, fail_said, in_said, limit_on, limit_said, packet_said, redirect_on, redirect_said, redirect_to, rule_said, ruled, submit_said}
@@ -7,9 +7,7 @@ use Rattle.world_script.specs.declared.fault.LineFault.{LineFault}
 use Rattle.world_script.specs.declared.line.Line.{Line}
 use Rattle.world_script.specs.declared.mode.Mode.{Mode}
 use Rattle.world_script.specs.declared.fault.InputKind.TheVariants.{Arity}
-
-abbrev now_of : List (Bor (List ℕ)) → List (List ℕ)
-now_of words = map (λ word. word.now) words
+use Rattle.world_script.proofs.RecordLemmas.{now_of}
 
 pub limit_other : (words : List (Bor (List ℕ))) → length words ≢ 2 → Err Arity ≡ limit_said (now_of words)
 limit_other [] h = refl

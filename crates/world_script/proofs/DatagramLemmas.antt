@@ -1,5 +1,6 @@
 -- A line of a feed that is a datagram with its octets in one word.
 use Rattle.std.proofs.Common.{◌≡◌, ℕ, ◌+◌, ◌<◌, ◌≤◌, nat_lt, true, false, if◌then◌else◌, List, [], ◌∷◌, ◌++◌, length, Some, None, Ok, Err, ap, sym, ◌∙◌, arith, append-nil, codes}
+use Rattle.std.proofs.lemmas.Option.{same_Some}
 use Rattle.std.proofs.lemmas.Slice.Eq.{bytes_eq-Decides}
 use Rattle.std.specs.Str.{bytes_eq}
 use Rattle.gw_base.specs.declared.address.Addr.{Addr}
@@ -17,7 +18,7 @@ use Rattle.world_script.specs.declared.progress.Progress.{Progress}
 use Rattle.world_script.proofs.AddressLemmas.{address_word, cut_joined}
 use Rattle.world_script.proofs.HexadecimalLemmas.{octets_glyphs, one_word}
 use Rattle.world_script.proofs.KeywordLemmas.{in_line}
-use Rattle.world_script.proofs.ValueLemmas.{some_same, then_some, where_some}
+use Rattle.world_script.proofs.ValueLemmas.{then_some, where_some}
 use Rattle.world_script.proofs.WordLemmas.{AreWords, IsWord, joined_printable, words_of_joined}
 
 -- its text
@@ -48,7 +49,7 @@ contented_datagram before text from word octets sender feed going is some addres
 
 some_word : (word found : List ℕ) → (if is_empty word then None else Some word) ≡ Some found → (word ≡ found) × (0 < length word)
 some_word [] found h = absurd (cc)
-some_word (x ∷ xs) found h = (some_same (x ∷ xs) found h, omega arith)
+some_word (x ∷ xs) found h = (same_Some (x ∷ xs) found h, omega arith)
 
 -- a datagram of one word is what its line says
 said_whole : (before : Progress) (text : List ℕ) (said : Line) → before.kind ≡ Feed → before.has_end ≡ false →
@@ -61,7 +62,7 @@ said_whole before text said feed going h =
     let whole = some_word parts.0.1 word.0 word.1 in
     contented_datagram before text parts.0.0 parts.0.1 octets.0 from.0 feed going
     (text_of text parts.0.0 parts.0.1 parts.1) whole.1 from.1 (ap octets_in whole.0 ∙ octets.1)
-    ∙ ap Ok (some_same (line.Datagram from.0 octets.0) said octets.2)
+    ∙ ap Ok (same_Some (line.Datagram from.0 octets.0) said octets.2)
 
 not_long : (n : ℕ) → n ≤ most_text → nat_lt most_text n ≡ false
 not_long n h = grind (arith, h)

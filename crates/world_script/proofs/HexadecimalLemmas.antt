@@ -1,6 +1,5 @@
 -- Lemmas on octets that are read from pairs of digits.
-use Rattle.std.proofs.Common.{◌≡◌, ◌≢◌, ℕ, ◌+◌, ◌*◌, ◌%◌, ◌<◌, ◌≤◌, ◌==◌, Bool, true, false, if◌then◌else◌, List, [], ◌∷◌, ◌++◌, length, take, drop, map, slice_index, slice_set, Option, Some, None, unwrap_or, option_and_then, Result, Ok, Err, refl, ap, sym, ◌∙◌, arith, append-nil}
-use Rattle.std.specs.Borrow.{Bor}
+use Rattle.std.proofs.Common.{◌≡◌, ◌≢◌, ℕ, ◌+◌, ◌*◌, ◌%◌, ◌<◌, ◌≤◌, ◌==◌, Bool, true, false, if◌then◌else◌, List, [], ◌∷◌, ◌++◌, length, take, drop, slice_index, slice_set, Option, Some, None, unwrap_or, option_and_then, Result, Ok, Err, refl, ap, sym, ◌∙◌, arith, append-nil}
 use Rattle.std.specs.Result.{result_ok}
 use Rattle.hex.proofs.HexLemmas.{decode_of-even}
 use Rattle.hex.proofs.Pairs.{decode_done, decode_err, decode_step, prepend}
@@ -101,7 +100,7 @@ then_ok : {A B : Type 0} (r : Result A FromHexError) (f : A → Result B FromHex
 then_ok (Ok x) f y h = (x, refl, h)
 then_ok (Err e) f y h = absurd (cc)
 
-digit_glyph : (c v : ℕ) → hex_digit_value c ≡ Some v → (32 < c) × (c ≤ 126)
+pub digit_glyph : (c v : ℕ) → hex_digit_value c ≡ Some v → (32 < c) × (c ≤ 126)
 digit_glyph c v h = (grind (arith, h), grind (arith, h))
 
 glyph : (c place v : ℕ) → value_at c place ≡ Ok v → (32 < c) × (c ≤ 126)
@@ -124,7 +123,7 @@ pairs_glyphs place (high ∷ low ∷ rest) octets h =
     let b = glyph low (place + 1) second.0 second.1 in
     (a.0, a.1, (b.0, b.1, pairs_glyphs (place + 2) rest later.0 later.1))
 
-from_decoded : (r : Result (List ℕ) FromHexError) (octets : List ℕ) → decoded r ≡ Some octets → r ≡ Ok octets
+pub from_decoded : (r : Result (List ℕ) FromHexError) (octets : List ℕ) → decoded r ≡ Some octets → r ≡ Ok octets
 from_decoded (Ok found) octets h = cc
 from_decoded (Err e) octets h = absurd (cc)
 

@@ -1,5 +1,6 @@
 -- Lemmas on one line of a script: its text is no longer than the line that said it, and says it again.
 use Rattle.std.proofs.Common.{◌≡◌, ℕ, ◌+◌, ◌≤◌, Bool, true, false, ◌&&◌, if◌then◌else◌, List, [], ◌∷◌, ◌++◌, length, count_by, Option, Some, None, Result, Ok, Err, refl, ap, sym, ◌∙◌, subst, arith, length-append, codes}
+use Rattle.std.proofs.lemmas.Option.{same_Some}
 use Rattle.std.specs.List.{list_any}
 use Rattle.std.specs.Option.{option_or}
 use Rattle.std.specs.Str.{bytes_eq}
@@ -20,7 +21,6 @@ use Rattle.world_script.specs.declared.line.Line.TheVariants as line
 use Rattle.world_script.proofs.AddressLemmas.{same_bytes}
 use Rattle.world_script.proofs.FormLemmas.{is_rule_form, spoken}
 use Rattle.world_script.proofs.SpokenLemmas.{name}
-use Rattle.world_script.proofs.ValueLemmas.{some_same}
 use Rattle.world_script.proofs.WordLemmas.{AreWords, IsWord, are_words, joined_printable, length_words, span, words_of_joined, words_span}
 
 -- The first word is that of the form.
@@ -28,7 +28,7 @@ use Rattle.world_script.proofs.WordLemmas.{AreWords, IsWord, are_words, joined_p
 named : (word text : List ℕ) (form of : Keyword) (later : Option Keyword) (b : Bool) → bytes_eq word text ≡ b →
     text ≡ name of → (later ≡ Some form → word ≡ name form) →
     (if b then Some of else later) ≡ Some form → word ≡ name form
-named word text form of later true e is otherwise h = same_bytes word text e ∙ is ∙ ap name (some_same of form h)
+named word text form of later true e is otherwise h = same_bytes word text e ∙ is ∙ ap name (same_Some of form h)
 named word text form of later false e is otherwise h = otherwise h
 
 is_named : (word text : List ℕ) (form of : Keyword) (later : Option Keyword) → text ≡ name of →

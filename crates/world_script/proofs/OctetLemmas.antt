@@ -1,22 +1,19 @@
 -- Lemmas on octets in hexadecimal: octets that words say are printed as words that say them, and that are no longer.
-use Rattle.std.proofs.Common.{◌≡◌, ℕ, zero, suc, ◌+◌, ◌*◌, ◌/◌, ◌%◌, ◌<◌, ◌≤◌, List, [], ◌∷◌, ◌++◌, length, map, Option, Some, option_and_then, Result, Ok, Err, refl, ap, sym, ◌∙◌, subst, arith, append-nil, length-append}
+use Rattle.std.proofs.Common.{◌≡◌, ℕ, zero, suc, ◌+◌, ◌*◌, ◌/◌, ◌%◌, ◌<◌, ◌≤◌, List, [], ◌∷◌, ◌++◌, length, map, Option, Some, option_and_then, refl, ap, sym, ◌∙◌, subst, arith, append-nil, length-append}
+use Rattle.std.proofs.lemmas.Option.{same_Some}
 use Rattle.hex.proofs.HexLemmas.{IsDigits-upper_digits, decode_of-encode_upper, decode_of-ok, length-encode_with}
-use Rattle.hex.specs.Hex.{IsBytes, decode_of, encode_upper, encode_with, hex_digit_value, upper_digits}
-use Rattle.hex.specs.declared.error.FromHexError.{FromHexError}
+use Rattle.hex.specs.Hex.{IsBytes, decode_of, encode_upper, encode_with, upper_digits}
 use Rattle.route_filter.specs.Words.{decoded, octets_in, octets_of}
 use Rattle.world_script.specs.Printing.{version_text}
 use Rattle.world_script.specs.Values.{records_of, two_octets, version_of}
-use Rattle.world_script.proofs.ValueLemmas.{some_same, then_some}
+use Rattle.world_script.proofs.ValueLemmas.{then_some}
 use Rattle.world_script.proofs.WordLemmas.{AllGlyphs, AreWords, IsWord, span}
-
-said_ok : (r : Result (List ℕ) FromHexError) (octets : List ℕ) → decoded r ≡ Some octets → r ≡ Ok octets
-said_ok (Ok said) octets h = ap Ok (some_same said octets h)
-said_ok (Err e) octets h = let no : ⊥ = cc in absurd no
+use Rattle.world_script.proofs.HexadecimalLemmas.{digit_glyph, from_decoded}
 
 -- octets that a word says
 pub octets_said : (word octets : List ℕ) → octets_in word ≡ Some octets →
     (length word ≡ 2 * length octets) × IsBytes octets
-octets_said word octets h = let p = decode_of-ok word octets (said_ok (decode_of word) octets h) in (p.2, p.3)
+octets_said word octets h = let p = decode_of-ok word octets (from_decoded (decode_of word) octets h) in (p.2, p.3)
 
 -- they are printed as a word that says them
 pub printed_octets : (octets : List ℕ) → IsBytes octets → octets_in (encode_upper octets) ≡ Some octets
@@ -24,9 +21,6 @@ printed_octets octets h = ap decoded (decode_of-encode_upper octets h)
 
 pub printed_length : (octets : List ℕ) → length (encode_upper octets) ≡ 2 * length octets
 printed_length octets = length-encode_with upper_digits octets
-
-digit_glyph : (c v : ℕ) → hex_digit_value c ≡ Some v → (32 < c) × (c ≤ 126)
-digit_glyph c v h = (grind (arith, h), grind (arith, h))
 
 hex_glyphs : (octets : List ℕ) → IsBytes octets → AllGlyphs (encode_upper octets)
 unfolding encode_with
@@ -65,11 +59,11 @@ one_more word octets words records some h later =
 pub records_printed : (words records : List (List ℕ)) → AreWords words → records_of words ≡ Some records →
     ArePrinted words records
 records_printed [] records are h =
-    subst (λ (rs : List (List ℕ)). ArePrinted [] rs) (some_same [] records h) none_printed
+    subst (λ (rs : List (List ℕ)). ArePrinted [] rs) (same_Some [] records h) none_printed
 records_printed (word ∷ words) records are h =
     let here = then_some (octets_in word) _ records h in
     let later = then_some (records_of words) _ records here.2 in
-    subst (λ (rs : List (List ℕ)). ArePrinted (word ∷ words) rs) (some_same (here.0 ∷ later.0) records later.2)
+    subst (λ (rs : List (List ℕ)). ArePrinted (word ∷ words) rs) (same_Some (here.0 ∷ later.0) records later.2)
     (one_more word here.0 words later.0 are.0.0 here.1 (records_printed words later.0 are.1 later.1))
 
 -- Octets of all words, joined.
@@ -79,19 +73,19 @@ joined_bytes [] b h k i = k i
 joined_bytes (x ∷ a) b h k zero = h 0
 joined_bytes (x ∷ a) b h k (suc i) = joined_bytes a b (λ j. h (suc j)) k i
 
-no_bytes : IsBytes []
+pub no_bytes : IsBytes []
 no_bytes i = omega arith
 
 octets_joined : (words : List (List ℕ)) (octets : List ℕ) → octets_of words ≡ Some octets →
     (2 * length octets + length words ≡ span words) × IsBytes octets
 octets_joined [] octets h =
-    subst (λ (os : List ℕ). (2 * length os + 0 ≡ 0) × IsBytes os) (some_same [] octets h) (refl, no_bytes)
+    subst (λ (os : List ℕ). (2 * length os + 0 ≡ 0) × IsBytes os) (same_Some [] octets h) (refl, no_bytes)
 octets_joined (word ∷ words) octets h =
     let here = then_some (octets_in word) _ octets h in
     let later = then_some (octets_of words) _ octets here.2 in
     let said = octets_said word here.0 here.1 in
     let rest = octets_joined words later.0 later.1 in
-    subst (λ (os : List ℕ). (2 * length os + length (word ∷ words) ≡ span (word ∷ words)) × IsBytes os) (some_same (here.0 ++ later.0) octets later.2)
+    subst (λ (os : List ℕ). (2 * length os + length (word ∷ words) ≡ span (word ∷ words)) × IsBytes os) (same_Some (here.0 ++ later.0) octets later.2)
     (omega (arith, said.0, rest.0, length-append here.0 later.0), joined_bytes here.0 later.0 said.1 rest.1)
 
 words_room : (words : List (List ℕ)) → AreWords words → 2 * length words ≤ span words
@@ -129,7 +123,7 @@ both_octets [] version h bytes = let no : ⊥ = cc in absurd no
 both_octets (a ∷ []) version h bytes = let no : ⊥ = cc in absurd no
 both_octets (high ∷ low ∷ []) version h bytes =
     let small : low < 256 = bytes 1 in
-    let sum : 256 * high + low ≡ version = some_same (256 * high + low) version h in
+    let sum : 256 * high + low ≡ version = same_Some (256 * high + low) version h in
     let first : version / 256 ≡ high = omega (arith, sum, small) in
     let second : version % 256 ≡ low = omega (arith, sum, small) in
     (λ i. first i ∷ second i ∷ [], refl)

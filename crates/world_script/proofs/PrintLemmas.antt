@@ -1,6 +1,7 @@
 -- Lemmas on texts that grow by a word or a line.
-use Rattle.std.proofs.Common.{◌≡◌, ℕ, suc, ◌+◌, ◌<◌, List, [], ◌∷◌, ◌++◌, length, take, get_or, map, refl, ap, sym, ◌∙◌, arith, append_assoc}
+use Rattle.std.proofs.Common.{◌≡◌, ℕ, suc, ◌+◌, ◌<◌, List, [], ◌∷◌, ◌++◌, length, take, get_or, map, ap, sym, ◌∙◌, arith, append_assoc}
 use Rattle.std.proofs.Math.Seq.{take-suc}
+use Rattle.std.proofs.lemmas.List.Folds.{flat_map-map}
 use Rattle.std.specs.List.{flat_map}
 use Rattle.hex.specs.Hex.{encode_upper}
 use Rattle.world_script.specs.Printing.{line_text, lines_text, words_text}
@@ -17,18 +18,14 @@ more f xs i d old now new h so_far grown =
     ∙ ap (λ l. old ++ l) (sym (flat-snoc f (take i xs) (get_or xs i d)) ∙ ap (flat_map f) (sym (take-suc xs i d h)))
     ∙ ap (λ (n : ℕ). old ++ flat_map f (take n xs)) (sym next)
 
-pub flat-map : {A B : Type 0} (f : A → B) (g : B → List ℕ) (xs : List A) → flat_map g (map f xs) ≡ flat_map (λ x. g (f x)) xs
-flat-map f g [] = refl
-flat-map f g (x ∷ xs) = ap (λ l. g (f x) ++ l) (flat-map f g xs)
-
 pub words_more : (records : List (List ℕ)) (i : ℕ) (r : List ℕ) (old now new : List ℕ) → i < length records → r ≡ get_or records i r →
     now ≡ old ++ words_text (map encode_upper (take i records)) → new ≡ now ++ 32 ∷ encode_upper r →
     new ≡ old ++ words_text (map encode_upper (take (i + 1) records))
 words_more records i r old now new h here so_far grown =
     more (λ (x : List ℕ). 32 ∷ encode_upper x) records i r old now new h
-    (so_far ∙ ap (λ l. old ++ l) (flat-map encode_upper (λ word. 32 ∷ word) (take i records)))
+    (so_far ∙ ap (λ l. old ++ l) (flat_map-map (λ word. 32 ∷ word) encode_upper (take i records)))
     (grown ∙ ap (λ (x : List ℕ). now ++ 32 ∷ encode_upper x) here)
-    ∙ ap (λ l. old ++ l) (sym (flat-map encode_upper (λ word. 32 ∷ word) (take (i + 1) records)))
+    ∙ ap (λ l. old ++ l) (sym (flat_map-map (λ word. 32 ∷ word) encode_upper (take (i + 1) records)))
 
 pub lines_more : (of : ScriptKind) (lines : List Line) (i : ℕ) (said : Line) (now new : List ℕ) → i < length lines → said ≡ get_or lines i said →
     now ≡ lines_text of (take i lines) → new ≡ now ++ line_text of said ++ 10 ∷ [] → new ≡ lines_text of (take (i + 1) lines)

@@ -1,5 +1,6 @@
 -- Lemmas on scripts that are read: settings stand before all other lines.
 use Rattle.std.proofs.Common.{◌≡◌, ℕ, ◌+◌, ◌&&◌, ◌||◌, not, nat_lt, Bool, true, false, if◌then◌else◌, List, [], ◌∷◌, ◌++◌, length, Option, Some, None, Result, Ok, Err, refl, ap, subst, ◌∙◌}
+use Rattle.std.proofs.lemmas.Bool.{not-true}
 use Rattle.std.proofs.lemmas.List.Folds.{list_any-append}
 use Rattle.std.specs.List.{list_any}
 use Rattle.route_filter.specs.Words.{number_up_to, octets_of, words_of}
@@ -163,10 +164,6 @@ reading_acts p raw late =
 
 -- All lines.
 
-true_not : (b : Bool) → not b ≡ true → b ≡ false
-true_not true e = absurd (cc)
-true_not false e = refl
-
 first_append : (before : List Line) (said : Line) → are_settings_first before ≡ true
     → (list_any is_action_line before ≡ true → is_setting_line said ≡ false) → are_settings_first (before ++ said ∷ []) ≡ true
 first_append [] said h k = by (is_action_line said)
@@ -183,7 +180,7 @@ first_append (x ∷ before) said h k = by (first_append before said) (is_action_
         → (if b then not (list_any is_setting_line (before ++ said ∷ [])) else are_settings_first (before ++ said ∷ [])) ≡ true
     by later true h k =
         ap not (list_any-append is_setting_line before (said ∷ [])
-        ∙ ap (λ (b : Bool). b || (is_setting_line said || false)) (true_not (list_any is_setting_line before) h)
+        ∙ ap (λ (b : Bool). b || (is_setting_line said || false)) (not-true (list_any is_setting_line before) h)
         ∙ ap (λ (b : Bool). b || false) (k refl))
     by later false h k = later h k
 
@@ -205,7 +202,7 @@ settings_after of size before (raw ∷ raws) lines first is =
         → onward (length before + 1) r (λ said. script_after of (size + line_size raw) (before ++ said ∷ []) raws) ≡ Ok lines
         → are_settings_first lines ≡ true
     by later (Err refusal) quiet e = absurd (cc)
-    by later (Ok said) quiet e = later said (λ late. true_not (is_setting_line said) (quiet late)) e
+    by later (Ok said) quiet e = later said (λ late. not-true (is_setting_line said) (quiet late)) e
 
 -- the settings of a script that is read stand before its other lines
 pub settings_first : (of : ScriptKind) (text : List ℕ) (lines : List Line) → script_in of text ≡ Ok lines → are_settings_first lines ≡ true

@@ -9,7 +9,7 @@ use Rattle.world_script.specs.Values.{records_of}
 abbrev pub after_records : List (List ℕ) → Option (List (List ℕ)) → Option (List (List ℕ))
 after_records front more = option_map (λ records. front ++ records) more
 
-abbrev now_of : List (Bor (List ℕ)) → List (List ℕ)
+abbrev pub now_of : List (Bor (List ℕ)) → List (List ℕ)
 now_of words = map (λ word. word.now) words
 
 words_from : (words : List (Bor (List ℕ))) (i : ℕ) (d : Bor (List ℕ)) → i < length words →

@@ -1,5 +1,6 @@
 -- Lemmas on samples: a sample is in the grammar.
-use Rattle.std.proofs.Common.{◌≡◌, ℕ, zero, suc, ◌+◌, ◌-◌, ◌*◌, ◌/◌, ◌%◌, ◌^◌, ◌<◌, ◌≤◌, min, ◌||◌, nat_lt, Bool, true, false, if◌then◌else◌, List, [], ◌∷◌, ◌++◌, length, map, filter, Option, Some, None, option_and_then, Ok, refl, ap, sym, ◌∙◌, subst, arith, length-append, codes, add-mul, bit_xor, mul_assoc, suc-mul, mod-lt}
+use Rattle.std.proofs.Common.{◌≡◌, ℕ, zero, suc, ◌+◌, ◌-◌, ◌*◌, ◌/◌, ◌%◌, ◌^◌, ◌<◌, ◌≤◌, min, nat_lt, Bool, true, false, if◌then◌else◌, List, [], ◌∷◌, ◌++◌, length, map, filter, Option, Some, None, option_and_then, Ok, refl, ap, sym, ◌∙◌, subst, arith, length-append, codes, add-mul, bit_xor, mul_assoc, suc-mul, mod-lt}
+use Rattle.std.proofs.Math.Bool.{or-true}
 use Rattle.std.proofs.Math.Nat.{div-le_self, mul-div-le}
 use Rattle.std.proofs.lemmas.Fmt.{length-decimal-le}
 use Rattle.std.proofs.lemmas.Grind.{flat_map-append}
@@ -22,7 +23,7 @@ use Rattle.world_script.specs.declared.keyword.Keyword.TheVariants as keyword
 use Rattle.world_script.specs.declared.kind.ScriptKind.TheVariants.{Replay}
 use Rattle.world_script.specs.declared.line.Line.{Line}
 use Rattle.world_script.specs.declared.line.Line.TheVariants as line
-use Rattle.world_script.proofs.OctetLemmas.{hex_word, printed_length, printed_octets}
+use Rattle.world_script.proofs.OctetLemmas.{hex_word, no_bytes, printed_length, printed_octets}
 use Rattle.world_script.proofs.PrintedLemmas.{AreSayable, fitting}
 use Rattle.world_script.proofs.SampleLines.{IsPlain, Part, all_pass, at_part, commit_part, done_then_end, flow_part, mark_part, mix_part, one, open_part, part_each, part_flat, part_line, part_most, part_then, plain_sayable, stop_part, tick_part, write_part}
 use Rattle.world_script.proofs.SampleTaken.{each_by, each_within}
@@ -112,9 +113,6 @@ writes_part n h =
 bytes_cons : (b : ℕ) (rest : List ℕ) → b < 256 → IsBytes rest → IsBytes (b ∷ rest)
 bytes_cons b rest h hs zero = h
 bytes_cons b rest h hs (suc i) = hs i
-
-no_bytes : IsBytes []
-no_bytes i = omega arith
 
 record_bytes : (packet n : ℕ) → packet < 2 ^ 32 → n < 256 → IsBytes (record_octets packet n)
 record_bytes packet n h k =
@@ -305,12 +303,8 @@ unfolding opening
 sample_is seed e =
     refl
 
-or_true : (b : Bool) → (b || true) ≡ true
-or_true true = refl
-or_true false = refl
-
 ends_there : (lines : List Line) → list_any is_end_line (lines ++ line.End ∷ []) ≡ true
-ends_there lines = list_any-append is_end_line lines (line.End ∷ []) ∙ or_true (list_any is_end_line lines)
+ends_there lines = list_any-append is_end_line lines (line.End ∷ []) ∙ or-true (list_any is_end_line lines)
 
 settings_long : (text first : List ℕ) (n : ℕ) → text ≡ first ++ words_text (decimal n ∷ []) → n ≤ 16 →
     length text ≤ length first + 3

@@ -1,5 +1,6 @@
 -- Lemmas on samples: lists that grow by one number at their end.
 use Rattle.std.proofs.Common.{◌≡◌, ℕ, zero, suc, ◌+◌, ◌*◌, ◌%◌, ◌≤◌, nat_lt, Bool, true, false, if◌then◌else◌, Option, List, [], ◌∷◌, ◌++◌, map, filter, refl, ap, sym, ◌∙◌, arith, append_assoc, append-nil}
+use Rattle.std.proofs.lemmas.List.{map_push}
 use Rattle.std.specs.List.{flat_map, range_with_len}
 use Rattle.rand_core.specs.Pcg32Seed.{pcg32_seed}
 use Rattle.rand_pcg.specs.Lcg.{Lcg}
@@ -26,17 +27,13 @@ flat_range f a n m old now new is so_far grown =
     ∙ ap (λ xs. old ++ xs) (sym (flat-snoc f (range_with_len a n) (a + n)) ∙ ap (flat_map f) (sym (range-snoc a n)))
     ∙ ap (λ (m : ℕ). old ++ flat_map f (range_with_len a m)) (sym next)
 
-pub map-snoc : {A B : Type 0} (f : A → B) (xs : List A) (x : A) → map f (xs ++ x ∷ []) ≡ map f xs ++ f x ∷ []
-map-snoc f [] x = refl
-map-snoc f (y ∷ ys) x = ap (λ r. f y ∷ r) (map-snoc f ys x)
-
 -- one more line, of the numbers from a on
 pub map_range : {B : Type 0} (f : ℕ → B) (a n m : ℕ) (old now new : List B) → m ≡ a + n →
     now ≡ old ++ map f (range_with_len a n) → new ≡ now ++ f m ∷ [] → new ≡ old ++ map f (range_with_len a (n + 1))
 map_range f a n m old now new is so_far grown =
     let next : n + 1 ≡ suc n = omega arith in
     grown ∙ ap (λ (k : ℕ). now ++ f k ∷ []) is ∙ ap (λ xs. xs ++ f (a + n) ∷ []) so_far ∙ append_assoc old (map f (range_with_len a n)) (f (a + n) ∷ [])
-    ∙ ap (λ xs. old ++ xs) (sym (map-snoc f (range_with_len a n) (a + n)) ∙ ap (map f) (sym (range-snoc a n)))
+    ∙ ap (λ xs. old ++ xs) (sym (map_push f (range_with_len a n) (a + n)) ∙ ap (map f) (sym (range-snoc a n)))
     ∙ ap (λ (m : ℕ). old ++ map f (range_with_len a m)) (sym next)
 
 -- where the number passes or doesn't

@@ -1,6 +1,6 @@
 -- Lemmas on samples: the world takes each line of one.
-use Rattle.std.proofs.Common.{◌≡◌, ℕ, zero, suc, ◌+◌, ◌-◌, ◌*◌, ◌%◌, ◌<◌, ◌≤◌, min, not, ◌&&◌, ◌||◌, ◌==◌, nat_le, nat_lt, Bool, true, false, if◌then◌else◌, List, [], ◌∷◌, ◌++◌, map, filter, Option, Some, None, refl, ap, sym, subst, arith, le-leb, eq-eqb, mod-lt}
-use Rattle.std.proofs.lemmas.Bool.{and_parts}
+use Rattle.std.proofs.Common.{◌≡◌, ℕ, zero, suc, ◌+◌, ◌-◌, ◌*◌, ◌%◌, ◌<◌, ◌≤◌, min, not, ◌||◌, ◌==◌, nat_le, nat_lt, Bool, true, false, if◌then◌else◌, List, [], ◌∷◌, ◌++◌, map, filter, Option, Some, None, refl, ap, sym, subst, arith, le-leb, eq-eqb, mod-lt}
+use Rattle.std.proofs.lemmas.Bool.{and_from, and_parts}
 use Rattle.std.specs.List.{flat_map, range_with_len}
 use Rattle.rand_pcg.specs.Lcg.{Lcg}
 use Rattle.world_script.specs.Sample.{after_words, block, block_time, blocks, calm_round, commits, first_moment, numbers, opening, packets_from, packets_of, runs, sample_of, seeded, stopped_during, stormy, submitted, ticks, times, wild_round, wild_rounds, word, words_of_block, writes}
@@ -19,17 +19,13 @@ pub record Leads (from : Scene) (lines : List Line) (to : Scene) : Type 0 where
   pub taken : takes_all from lines ≡ true
   pub after : after_lines from lines ≡ to
 
-both : (a b : Bool) → a ≡ true → b ≡ true → (a && b) ≡ true
-both true b h k = k
-both false b h k = h
-
 none : (s : Scene) → Leads s [] s
 none s = record { taken = refl; after = refl }
 
 first : (from to : Scene) (said : Line) (lines : List Line) → takes from said ≡ true →
     Leads (after_line from said) lines to → Leads from (said ∷ lines) to
 first from to said lines h later =
-    record { taken = both (takes from said) (takes_all (after_line from said) lines) h later.taken; after = later.after }
+    record { taken = and_from (takes from said) (takes_all (after_line from said) lines) h later.taken; after = later.after }
 
 -- a line that leaves the scene as it is
 stays : (s to : Scene) (said : Line) (lines : List Line) → takes s said ≡ true → after_line s said ≡ s →
@@ -102,15 +98,15 @@ not_less false h = refl
 runs_there : (e : Extent) (moment gateway : ℕ) (stopped : Option ℕ) → 1 ≤ gateway → gateway ≤ e.gateways →
     runs stopped gateway ≡ true →
     has_running (scene e moment (stopped_ones stopped)) gateway ≡ true
-runs_there e moment gateway None low high h = both (has_gateway (scene e moment []) gateway) true (both (nat_le 1 gateway) (nat_le gateway e.gateways) (le-leb 1 gateway low) (le-leb gateway e.gateways high)) refl
+runs_there e moment gateway None low high h = and_from (has_gateway (scene e moment []) gateway) true (and_from (nat_le 1 gateway) (nat_le gateway e.gateways) (le-leb 1 gateway low) (le-leb gateway e.gateways high)) refl
 runs_there e moment gateway (Some down) low high h =
-    both (has_gateway (scene e moment (down ∷ [])) gateway) (not (is_stopped (scene e moment (down ∷ [])) gateway))
-    (both (nat_le 1 gateway) (nat_le gateway e.gateways) (le-leb 1 gateway low) (le-leb gateway e.gateways high)) (not_less (down == gateway) h)
+    and_from (has_gateway (scene e moment (down ∷ [])) gateway) (not (is_stopped (scene e moment (down ∷ [])) gateway))
+    (and_from (nat_le 1 gateway) (nat_le gateway e.gateways) (le-leb 1 gateway low) (le-leb gateway e.gateways high)) (not_less (down == gateway) h)
 
 node_there : (e : Extent) (moment node : ℕ) (stopped : List ℕ) → 1 ≤ node → node ≤ e.nodes →
     has_node (scene e moment stopped) node ≡ true
 node_there e moment node stopped low high =
-    both (nat_le 1 node) (nat_le node e.nodes) (le-leb 1 node low) (le-leb node e.nodes high)
+    and_from (nat_le 1 node) (nat_le node e.nodes) (le-leb 1 node low) (le-leb node e.nodes high)
 
 ticks_taken : (e : Extent) (moment : ℕ) (stopped : List ℕ) →
     Leads (scene e moment stopped) (ticks e.nodes) (scene e moment stopped)
@@ -170,9 +166,9 @@ stopped_taken : (e : Extent) (moment gateway : ℕ) (g : Lcg) → 1 ≤ gateway 
 stopped_taken e moment gateway g low high =
     let s = scene e moment [] in
     let down = scene e moment (gateway ∷ []) in
-    let there : has_gateway down gateway ≡ true = both (nat_le 1 gateway) (nat_le gateway e.gateways) (le-leb 1 gateway low) (le-leb gateway e.gateways high) in
+    let there : has_gateway down gateway ≡ true = and_from (nat_le 1 gateway) (nat_le gateway e.gateways) (le-leb 1 gateway low) (le-leb gateway e.gateways high) in
     let opens : Leads down (line.Open gateway ∷ []) s =
-    first down s (line.Open gateway) [] (both (has_gateway down gateway) (is_stopped down gateway) there (it_is_stopped e moment gateway))
+    first down s (line.Open gateway) [] (and_from (has_gateway down gateway) (is_stopped down gateway) there (it_is_stopped e moment gateway))
     (record { taken = refl; after = ap (λ (stopped : List ℕ). scene e moment stopped) (opened_again gateway) }) in
     first s s (line.Stop gateway) (wild_rounds e (Some gateway) g ++ line.Open gateway ∷ []) (runs_there e moment gateway None low high refl)
     (then_lines down down s (wild_rounds e (Some gateway) g) (line.Open gateway ∷ []) (wild_rounds_taken e moment (Some gateway) g) opens)

@@ -1,5 +1,6 @@
 -- Lemmas on the lines of a script, for the loop that reads one a turn.
-use Rattle.std.proofs.Common.{◌≡◌, ℕ, ◌+◌, ◌||◌, Bool, true, false, if◌then◌else◌, List, [], ◌∷◌, ◌++◌, length, count_by, Result, Ok, Err, refl, ap, sym, ◌∙◌, arith, length-append}
+use Rattle.std.proofs.Common.{◌≡◌, ℕ, ◌+◌, ◌||◌, Bool, true, false, if◌then◌else◌, List, [], ◌∷◌, ◌++◌, length, count_by, Result, Ok, Err, ap, sym, ◌∙◌, arith, length-append}
+use Rattle.std.proofs.Math.Bool.{or-false}
 use Rattle.std.proofs.lemmas.List.Folds.{list_any-append}
 use Rattle.std.proofs.lemmas.List.Sums.{fold-append}
 use Rattle.std.specs.List.{list_any}
@@ -14,12 +15,8 @@ use Rattle.world_script.specs.declared.progress.Progress.{Progress}
 
 -- The progress after one more line.
 
-or_false : (b : Bool) → (b || false) ≡ b
-or_false true = refl
-or_false false = refl
-
 any_after : (p : Line → Bool) (before : List Line) (said : Line) → list_any p (before ++ said ∷ []) ≡ (list_any p before || p said)
-any_after p before said = list_any-append p before (said ∷ []) ∙ ap (λ b. list_any p before || b) (or_false (p said))
+any_after p before said = list_any-append p before (said ∷ []) ∙ ap (λ b. list_any p before || b) (or-false (p said))
 
 count_after : (p : Line → Bool) (before : List Line) (said : Line) → count_by p (before ++ said ∷ []) ≡ count_by p before + (if p said then 1 else 0)
 count_after p before said = fold-append (λ (n : ℕ) (line : Line). n + (if p line then 1 else 0)) 0 before (said ∷ [])

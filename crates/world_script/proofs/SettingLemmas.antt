@@ -1,5 +1,6 @@
 -- Lemmas on samples: no setting stands behind another line.
-use Rattle.std.proofs.Common.{◌≡◌, ℕ, ◌+◌, ◌-◌, ◌*◌, ◌%◌, min, not, nat_lt, Bool, true, false, ◌||◌, if◌then◌else◌, List, [], ◌∷◌, ◌++◌, map, filter, Option, Some, None, refl, ap, ◌∙◌}
+use Rattle.std.proofs.Common.{◌≡◌, ℕ, ◌+◌, ◌-◌, ◌*◌, ◌%◌, min, not, nat_lt, Bool, true, false, if◌then◌else◌, List, [], ◌∷◌, ◌++◌, map, filter, Option, Some, None, refl, ap, ◌∙◌}
+use Rattle.std.proofs.lemmas.Bool.{or_from}
 use Rattle.std.proofs.lemmas.List.Folds.{list_any-append}
 use Rattle.std.specs.List.{flat_map, list_any, range_with_len}
 use Rattle.rand_pcg.specs.Lcg.{Lcg}
@@ -14,18 +15,14 @@ use Rattle.world_script.specs.declared.line.Line.TheVariants as line
 abbrev Acts : List Line → Type 0
 Acts lines = list_any is_setting_line lines ≡ false
 
-neither : (a b : Bool) → a ≡ false → b ≡ false → (a || b) ≡ false
-neither true b h k = h
-neither false b h k = k
-
 acts_append : (xs ys : List Line) → Acts xs → Acts ys → Acts (xs ++ ys)
 acts_append xs ys h k =
-    list_any-append is_setting_line xs ys ∙ neither (list_any is_setting_line xs) (list_any is_setting_line ys) h k
+    list_any-append is_setting_line xs ys ∙ or_from (list_any is_setting_line xs) (list_any is_setting_line ys) h k
 
 acts_map : (make : ℕ → Line) (ks : List ℕ) → ((k : ℕ) → is_setting_line (make k) ≡ false) → Acts (map make ks)
 acts_map make [] h = refl
 acts_map make (k ∷ ks) h =
-    neither (is_setting_line (make k)) (list_any is_setting_line (map make ks)) (h k) (acts_map make ks h)
+    or_from (is_setting_line (make k)) (list_any is_setting_line (map make ks)) (h k) (acts_map make ks h)
 
 acts_flat : (lines : ℕ → List Line) (ks : List ℕ) → ((k : ℕ) → Acts (lines k)) → Acts (flat_map lines ks)
 acts_flat lines [] h = refl

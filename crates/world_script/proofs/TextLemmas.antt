@@ -1,6 +1,8 @@
 -- Lemmas on the lines of a text.
 use Rattle.std.proofs.Common.{◌≡◌, ℕ, zero, suc, ◌+◌, ◌<◌, ◌≤◌, Bool, true, false, ◌&&◌, ◌==◌, if◌then◌else◌, List, [], ◌∷◌, length, take, drop, get_or, slice_index, Option, Some, None, option_map, refl, ap, sym, ◌∙◌, subst, arith}
+use Rattle.std.proofs.Math.Bool.{and-true}
 use Rattle.std.proofs.Math.Seq.{drop-cons}
+use Rattle.std.proofs.lemmas.Bool.{false_from_ne_true}
 use Rattle.std.proofs.lemmas.List.{at_drop_all}
 use Rattle.std.specs.Int.{is_in_range}
 use Rattle.route_filter.specs.Words.{cut_at}
@@ -41,17 +43,13 @@ lines_none (x ∷ xs) h e = subst (LinesAre (x ∷ xs)) (sym e) (lines_at (x ∷
 
 -- Cuts.
 
-not_true : (b : Bool) → (b ≡ true → ⊥) → b ≡ false
-not_true true h = absurd (h refl)
-not_true false h = refl
-
 cut_there : (separator : ℕ) (xs : List ℕ) (k : ℕ) → k < length xs →
     ((j : ℕ) → 0 ≤ j → j < k → (slice_index xs j == separator) ≡ true → ⊥) → (slice_index xs k == separator) ≡ true →
     cut_at separator xs ≡ Some (take k xs, drop (k + 1) xs)
 cut_there separator [] k h before is = absurd (omega arith)
 cut_there separator (x ∷ xs) zero h before is = rw is refl
 cut_there separator (x ∷ xs) (suc k) h before is =
-    let other : (x == separator) ≡ false = not_true (x == separator) (before 0 (omega arith) (omega arith)) in
+    let other : (x == separator) ≡ false = false_from_ne_true (x == separator) (before 0 (omega arith) (omega arith)) in
     let later = cut_there separator xs k (omega arith) (λ j low high. before (suc j) (omega arith) (omega arith)) is in
     let here : suc k + 1 ≡ suc (k + 1) = omega arith in
     rw (here, other) (ap (option_map (λ parts. (x ∷ parts.0, parts.1))) later)
@@ -68,7 +66,7 @@ pub cut_missing : (separator : ℕ) (xs : List ℕ) → ((j : ℕ) → 0 ≤ j �
     cut_at separator xs ≡ None
 cut_missing separator [] nowhere = refl
 cut_missing separator (x ∷ xs) nowhere =
-    let other : (x == separator) ≡ false = not_true (x == separator) (nowhere 0 (omega arith) (omega arith)) in
+    let other : (x == separator) ≡ false = false_from_ne_true (x == separator) (nowhere 0 (omega arith) (omega arith)) in
     let later = cut_missing separator xs (λ j low high. nowhere (suc j) (omega arith) (omega arith)) in
     rw other (ap (option_map (λ parts. (x ∷ parts.0, parts.1))) later)
 
@@ -87,12 +85,8 @@ printable_more printable content i h =
     rw here (ap (λ (xs : List ℕ). printable && is_printable xs) (drop-cons content i 0 h)
     ∙ joined_and printable (is_in_range 32 126 (get_or content i 0)) (is_printable (drop (suc i) content)))
 
-and_true : (b : Bool) → (b && true) ≡ b
-and_true true = refl
-and_true false = refl
-
 -- all were
 pub printable_all : (printable : Bool) (content : List ℕ) (i : ℕ) → length content ≤ i →
     (printable && is_printable (drop i content)) ≡ printable
 printable_all printable content i h =
-    at_drop_all (λ (xs : List ℕ). printable && is_printable xs) content i h ∙ and_true printable
+    at_drop_all (λ (xs : List ℕ). printable && is_printable xs) content i h ∙ and-true printable

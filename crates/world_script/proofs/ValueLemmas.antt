@@ -2,6 +2,7 @@
 use Rattle.std.proofs.Common.{◌≡◌, ℕ, zero, suc, ◌^◌, ◌<◌, ◌≤◌, Bool, true, false, not, ◌==◌, nat_le, if◌then◌else◌, List, [], ◌∷◌, length, get_or, Option, Some, None, option_and_then, refl, ap, sym, ◌∙◌, subst, arith, le-leb}
 use Rattle.std.proofs.lemmas.Bool.{and_parts, leb-true}
 use Rattle.std.proofs.lemmas.Fmt.{decimal-digits_value, decimal_digit, decimal_is_IsNumeral, first_decimal}
+use Rattle.std.proofs.lemmas.Option.{same_Some}
 use Rattle.std.proofs.lemmas.Str.{digit_value_digit}
 use Rattle.std.proofs.lemmas.Str.Parse.{digit_from_value, numerals_by_value, tells_digits}
 use Rattle.std.specs.Char.{digit_value, is_ascii_digit}
@@ -14,9 +15,6 @@ use Rattle.world_script.specs.Values.{number_between, number_of}
 use Rattle.world_script.proofs.WordLemmas.{AllGlyphs, IsWord}
 
 -- Parts of what is read.
-
-pub some_same : {A : Type 0} (a b : A) → Some a ≡ Some b → a ≡ b
-some_same a b e = cc
 
 pub then_some : {A B : Type 0} (o : Option A) (f : A → Option B) (y : B) → option_and_then f o ≡ Some y →
     (x : A) × (o ≡ Some x) × (f x ≡ Some y)
@@ -65,7 +63,7 @@ pub number_printed : (most : ℕ) (word : List ℕ) (n : ℕ) → most < 2 ^ 64 
 number_printed most word n small h =
     let p = where_some (is_decimal word) (at_most most (digits_value 10 word)) n h in
     let q = where_some (nat_le (digits_value 10 word) most) (Some (digits_value 10 word)) n p.1 in
-    let same : digits_value 10 word ≡ n = some_same (digits_value 10 word) n q.1 in
+    let same : digits_value 10 word ≡ n = same_Some (digits_value 10 word) n q.1 in
     let within : digits_value 10 word ≤ most = leb-true (digits_value 10 word) most q.0 in (
       subst (λ (v : ℕ). v ≤ most) same within,
       sym (decimal_word word p.0 (omega (arith, within, small))) ∙ ap decimal same,
@@ -76,7 +74,7 @@ pub between_printed : (least most : ℕ) (word : List ℕ) (n : ℕ) → most < 
 between_printed least most word n small h =
     let p = then_some (number_up_to most word) (λ n. if nat_le least n then Some n else None) n h in
     let q = where_some (nat_le least p.0) (Some p.0) n p.2 in
-    (number_printed most word p.0 small p.1).1 ∙ ap decimal (some_same p.0 n q.1)
+    (number_printed most word p.0 small p.1).1 ∙ ap decimal (same_Some p.0 n q.1)
 
 pub any_printed : (word : List ℕ) (n : ℕ) → number_of word ≡ Some n → word ≡ decimal n
 any_printed word n h = (number_printed 18446744073709551615 word n (omega arith) h).1
