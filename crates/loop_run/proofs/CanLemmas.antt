@@ -2,6 +2,7 @@
 use Rattle.std.proofs.Common.{◌≡◌, ◌∙◌, ℕ, ◌-◌, ◌<◌, ◌≤◌, List, [], ◌∷◌, length, sym, subst, arith}
 use Rattle.std.specs.Prelude.{All}
 use Rattle.std.proofs.lemmas.List.Elements.{All-cons, All-weaker}
+use Rattle.std.proofs.lemmas.Option.{slice_get_within}
 use Rattle.gw_base.specs.declared.address.Addr.{Addr}
 use Rattle.net_link.specs.Datagrams.{IsNewAt}
 use Rattle.net_link.specs.Making.{LinksState}
@@ -19,7 +20,7 @@ use Rattle.loop_run.specs.Seats.{AllRan, AllSit, RanAt, SitsAt, work_of}
 use Rattle.loop_run.specs.declared.seat.Seat.{Seat}
 use Rattle.loop_run.specs.declared.seat.Seat.TheVariants as seat
 use Rattle.loop_run.specs.declared.setup.LoopSetup.{LoopSetup}
-use Rattle.loop_run.proofs.ListLemmas.{all_by_place, get_within}
+use Rattle.loop_run.proofs.ListLemmas.{all_by_place}
 
 module _ {L : Type 0} (tells : paths.Ghosts L) (setup : LoopSetup) (count : ℕ) (now : LinksState)
     (known : AreKnown setup count now) where
@@ -75,11 +76,11 @@ module _ {L : Type 0} (tells : paths.Ghosts L) (setup : LoopSetup) (count : ℕ)
   pub all_sit_can : (seats : List (Seat L)) → length seats ≡ count → AllSit tells setup seats
       → All (CanLeave tells now) seats
   all_sit_can seats long sit = all_by_place (CanLeave tells now) seats
-      (λ place s at. sits_can place (let inside = get_within seats place s at in omega (arith, inside, long)) s
+      (λ place s at. sits_can place (let inside = slice_get_within seats place s at in omega (arith, inside, long)) s
       (sit place s at))
 
   pub all_ran_can : (seats : List (Seat L)) → length seats ≡ count → AllRan tells setup seats
       → All (CanLeave tells now) seats
   all_ran_can seats long ran = all_by_place (CanLeave tells now) seats
-      (λ place s at. ran_can place (let inside = get_within seats place s at in omega (arith, inside, long)) s
+      (λ place s at. ran_can place (let inside = slice_get_within seats place s at in omega (arith, inside, long)) s
       (ran place s at))

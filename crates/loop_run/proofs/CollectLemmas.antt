@@ -3,6 +3,7 @@ use Rattle.std.proofs.Common.{◌≡◌, ◌≢◌, inl, inr, ◌∙◌, ℕ, su
 use Rattle.std.specs.Prelude.{All}
 use Rattle.std.specs.Option.{option_or}
 use Rattle.std.proofs.lemmas.List.Elements.{All-head, All-tail, All-weaker}
+use Rattle.std.proofs.lemmas.Option.{none-some}
 use Rattle.gw_base.specs.Faults.{Rose}
 use Rattle.gw_base.specs.declared.address.Addr.{Addr}
 use Rattle.net_link.specs.Making.{LinksState}
@@ -22,14 +23,8 @@ use Rattle.loop_run.specs.declared.seat.Seat.TheVariants as seat
 use Rattle.loop_run.specs.declared.setup.LoopSetup.{LoopSetup}
 use Rattle.loop_run.proofs.GatewayLemmas.{ReplyLater, StaysInTurn}
 use Rattle.loop_run.proofs.LeftLemmas.{HaveLeft, KeepAll, NoneOpen, gateway_left, node_left, none_left}
-use Rattle.loop_run.proofs.ListLemmas.{get_before, get_last, length_pushed}
+use Rattle.loop_run.proofs.ListLemmas.{get_before, get_last, length_pushed, some_none}
 use Rattle.loop_run.proofs.StillLemmas.{rose_before, rose_still}
-
-no_stop : (why : Stop) → ◌≡◌ {A = Option Stop} None (Some why) → ⊥
-no_stop why e = cc e
-
-some_stop : (why : Stop) → ◌≡◌ {A = Option Stop} (Some why) None → ⊥
-some_stop why e = cc e
 
 not_failed : ◌≡◌ {A = NodeEnd} end.Done end.Link → ⊥
 not_failed e = cc e
@@ -69,18 +64,18 @@ module _ {L : Type 0} (tells : paths.Ghosts L) where
         → Rose old.faults new.faults
     link_rose (seat.Node linked) can left is = absurd (not_failed (left.link is))
     link_rose (seat.RanNode ended linked) can left is = left.failed (can.1 (left.link is))
-    link_rose (seat.Gateway g) can left is = absurd (no_stop stop.Link (left.link is))
+    link_rose (seat.Gateway g) can left is = absurd (none-some stop.Link (left.link is))
     link_rose (seat.RanGateway stops g) can left is = left.failed
         (subst (λ (o : Option Stop). HasStopCause tells 0 0 g.links.items o) (left.link is) can.1)
-    link_rose seat.Empty can left is = absurd (no_stop stop.Link (sym left.2 ∙ is))
+    link_rose seat.Empty can left is = absurd (none-some stop.Link (sym left.2 ∙ is))
 
     no_clock : (s : Seat L) → CanLeave tells old s → Leaves tells s old new was now why → why ≢ Some stop.Clock
     no_clock (seat.Node linked) can left is = left.no_clock is
     no_clock (seat.RanNode ended linked) can left is = left.no_clock is
-    no_clock (seat.Gateway g) can left is = no_stop stop.Clock (left.clock is)
+    no_clock (seat.Gateway g) can left is = none-some stop.Clock (left.clock is)
     no_clock (seat.RanGateway stops g) can left is = none_rose
         (subst (λ (o : Option Stop). HasStopCause tells 0 0 g.links.items o) (left.clock is) can.1)
-    no_clock seat.Empty can left is = no_stop stop.Clock (sym left.2 ∙ is)
+    no_clock seat.Empty can left is = none-some stop.Clock (sym left.2 ∙ is)
 
   all_before : (setup : LoopSetup) (seats : List (Seat L)) (s : Seat L) → AllRan tells setup (seats ++ s ∷ [])
       → AllRan tells setup seats
@@ -99,8 +94,8 @@ module _ {L : Type 0} (tells : paths.Ghosts L) where
       → IsLeftSo setup old old [] looped None
   begun_so setup old looped books nodes = record {
     later = omega arith;
-    link = λ is. absurd (no_stop stop.Link is);
-    no_clock = λ is. no_stop stop.Clock is;
+    link = λ is. absurd (none-some stop.Link is);
+    no_clock = λ is. none-some stop.Clock is;
     left = λ ran few none. none_left setup old looped books nodes;
   }
 
@@ -126,7 +121,7 @@ module _ {L : Type 0} (tells : paths.Ghosts L) where
         link = λ is. rose_still old.faults mid.faults new.faults so.later (grows_on mid new was now why s left).later
             (so.link is);
         no_clock = λ is. so.no_clock is;
-        left = λ ran few is. absurd (some_stop first is);
+        left = λ ran few is. absurd (some_none first is);
       }
       left_more s None why so can left = record {
         later = let a = so.later in let b = (grows_on mid new was now why s left).later in omega (arith, a, b);

@@ -1,5 +1,6 @@
 -- Those who took part, once they were taken apart one after the other.
 use Rattle.std.proofs.Common.{◌≡◌, ◌≢◌, ◌⊎◌, ⊎_elim, ◌∙◌, ℕ, suc, ◌+◌, ◌-◌, ◌<◌, ◌≤◌, ◌^◌, min, IsTrue, List, [], ◌∷◌, ◌++◌, length, Option, None, Some, refl, sym, ap, subst, arith}
+use Rattle.std.proofs.lemmas.Option.{slice_get_within}
 use Rattle.std.specs.Prelude.{All, slice_get}
 use Rattle.gateway_book.specs.Book.{value_of}
 use Rattle.gateway_book.specs.Value.{BookValue, standing_for}
@@ -26,7 +27,7 @@ use Rattle.loop_run.specs.declared.looped.Looped.{Looped}
 use Rattle.loop_run.specs.declared.setup.LoopSetup.{LoopSetup}
 use Rattle.loop_run.proofs.AddressLemmas.{gateway_no_node, gateways_apart, nodes_apart, ports_apart}
 use Rattle.loop_run.proofs.GatewayLemmas.{ReplyLater, StaysInTurn, book_still, served_book}
-use Rattle.loop_run.proofs.ListLemmas.{all_by_place, get_pushed, get_within, length_pushed}
+use Rattle.loop_run.proofs.ListLemmas.{all_by_place, get_pushed, length_pushed, none_get}
 use Rattle.loop_run.proofs.NodeLemmas.{node_still, ran_node, ran_turns}
 use Rattle.loop_run.proofs.StillLemmas.{still_grew, still_same, still_then}
 
@@ -51,9 +52,6 @@ pub record HaveLeft (setup : LoopSetup) (old now : LinksState) (count : ℕ) (lo
       → IsLeftBook old now place book
   pub still : (place : ℕ) (port : Port) → count ≤ place → place < setup.nodes → StillAt (node_at place port) old now
   pub still_books : (place : ℕ) → count - setup.nodes ≤ place → StillAt (gateway_at place) old now
-
-none_get : {X : Type 0} (place : ℕ) (x : X) → slice_get [] place ≡ Some x → ⊥
-none_get place x e = cc e
 
 pub none_left : (setup : LoopSetup) (old : LinksState) (looped : Looped) → looped.books.items ≡ []
     → looped.nodes.items ≡ [] → HaveLeft setup old old 0 looped
@@ -163,7 +161,7 @@ module _ {L : Type 0} (tells : paths.Ghosts L) (setup : LoopSetup) (within : IsL
           let count = had.book_count in omega (arith, same, count, less);
       each_node = λ p node at. ⊎_elim
           (λ (before : slice_get was.nodes.items p ≡ Some node).
-          let inside = get_within was.nodes.items p node before in
+          let inside = slice_get_within was.nodes.items p node before in
           let at_place = here in
           left_node_still setup old mid new p node
           (λ (port : Port). elsewhere (node_at p port)
@@ -223,7 +221,7 @@ module _ {L : Type 0} (tells : paths.Ghosts L) (setup : LoopSetup) (within : IsL
           (had.each_node p node (subst (λ (l : List NodeValue). slice_get l p ≡ Some node) left.nodes at));
       each_book = λ p b at. ⊎_elim
           (λ (before : slice_get was.books.items p ≡ Some b).
-          let inside = get_within was.books.items p b before in
+          let inside = slice_get_within was.books.items p b before in
           let count = had.book_count in
           left_book_still old mid new p b
           (besides (gateway_at p) (gateways_apart p (place - setup.nodes)

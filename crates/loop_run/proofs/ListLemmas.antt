@@ -1,18 +1,21 @@
 -- Lists that grow by one at their end, by place.
-use Rattle.std.proofs.Common.{◌≡◌, ◌⊎◌, ⊎_elim, inl, inr, ℕ, zero, suc, ◌<◌, List, [], ◌∷◌, ◌++◌, length, take, Option, None, Some, refl, sym, ap, ◌∙◌, arith}
+use Rattle.std.proofs.Common.{◌≡◌, ◌⊎◌, ⊎_elim, inl, inr, ℕ, zero, suc, List, [], ◌∷◌, ◌++◌, length, take, Option, None, Some, refl, sym, ap, ◌∙◌}
 use Rattle.std.specs.Prelude.{All, slice_get}
 use Rattle.std.proofs.lemmas.List.Elements.{All-cons, All-nil}
-use Rattle.std.proofs.lemmas.Option.{same_Some}
+use Rattle.std.proofs.lemmas.Option.{none-some, same_Some}
 use Rattle.std.proofs.Math.Seq.{take-append_seam}
 
 module _ {X : Type 0} where
-  none_some : (x : X) → ◌≡◌ {A = Option X} None (Some x) → ⊥
-  none_some x e = cc e
+  pub some_none : (x : X) → ◌≡◌ {A = Option X} (Some x) None → ⊥
+  some_none x e = cc e
+
+  pub none_get : (place : ℕ) (x : X) → slice_get [] place ≡ Some x → ⊥
+  none_get place x e = cc e
 
   pub get_pushed : (xs : List X) (x : X) (k : ℕ) (y : X) → slice_get (xs ++ x ∷ []) k ≡ Some y
       → (slice_get xs k ≡ Some y) ⊎ ((k ≡ length xs) × (y ≡ x))
   get_pushed [] x zero y e = inr (refl, sym (same_Some x y e))
-  get_pushed [] x (suc k) y e = absurd (none_some y e)
+  get_pushed [] x (suc k) y e = absurd (none-some y e)
   get_pushed (z ∷ xs) x zero y e = inl e
   get_pushed (z ∷ xs) x (suc k) y e = ⊎_elim (λ (before : slice_get xs k ≡ Some y). inl before)
       (λ (last : (k ≡ length xs) × (y ≡ x)). inr (ap (λ (n : ℕ). suc n) last.0, last.1)) (get_pushed xs x k y e)
@@ -22,14 +25,9 @@ module _ {X : Type 0} where
   get_last (z ∷ xs) x = get_last xs x
 
   pub get_before : (xs ys : List X) (k : ℕ) (y : X) → slice_get xs k ≡ Some y → slice_get (xs ++ ys) k ≡ Some y
-  get_before [] ys k y e = absurd (none_some y e)
+  get_before [] ys k y e = absurd (none-some y e)
   get_before (z ∷ xs) ys zero y e = e
   get_before (z ∷ xs) ys (suc k) y e = get_before xs ys k y e
-
-  pub get_within : (xs : List X) (k : ℕ) (y : X) → slice_get xs k ≡ Some y → k < length xs
-  get_within [] k y e = absurd (none_some y e)
-  get_within (z ∷ xs) zero y e = omega arith
-  get_within (z ∷ xs) (suc k) y e = let rest = get_within xs k y e in omega (arith, rest)
 
   pub all_by_place : (P : X → Type 0) (xs : List X) → ((k : ℕ) (x : X) → slice_get xs k ≡ Some x → P x) → All P xs
   all_by_place P [] each = All-nil P

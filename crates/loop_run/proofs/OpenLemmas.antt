@@ -3,7 +3,7 @@ use Rattle.std.proofs.Common.{◌≡◌, ◌∙◌, ℕ, zero, suc, ◌+◌, ◌
 use Rattle.std.specs.Prelude.{filter, slice_get}
 use Rattle.std.specs.List.{range_with_len}
 use Rattle.std.proofs.lemmas.Grind.{flat_map-append}
-use Rattle.std.proofs.lemmas.List.{append-nil, take_more}
+use Rattle.std.proofs.lemmas.List.{append-nil, map-append, take_more}
 use Rattle.gw_base.specs.declared.packet.PacketId.{PacketId}
 use Rattle.loop_audit.specs.Audit.{id_of}
 use Rattle.node_core.specs.Counting.{phase_of}
@@ -34,10 +34,6 @@ range_more : (a n k : ℕ) → k ≡ a + n → range_with_len a (suc n) ≡ rang
 range_more a zero k e = ap (λ (m : ℕ). m ∷ []) (omega (arith, e))
 range_more a (suc n) k e = ap (λ (ns : List ℕ). a ∷ ns) (range_more (a + 1) n k (omega (arith, e)))
 
-map_more : {X Y : Type 0} (f : X → Y) (xs ys : List X) → map f (xs ++ ys) ≡ map f xs ++ map f ys
-map_more f [] ys = refl
-map_more f (x ∷ xs) ys = ap (λ l. f x ∷ l) (map_more f xs ys)
-
 module _ (node : NodeValue) (n : ℕ) where
   abbrev is_open : ℕ → Bool
   is_open number = not (is_done (phase_of node number))
@@ -51,7 +47,7 @@ module _ (node : NodeValue) (n : ℕ) where
   pub upto_open : is_open (n + 1) ≡ true
       → open_upto node (suc n) ≡ open_upto node n ++ record { node = id_of node; number = n + 1 } ∷ []
   upto_open is = ap (λ (ns : List ℕ). map (λ number. record { node = id_of node; number = number }) ns) (numbers_more true is)
-      ∙ map_more (λ number. record { node = id_of node; number = number }) (open_numbers n node) ((n + 1) ∷ [])
+      ∙ map-append (λ number. record { node = id_of node; number = number }) (open_numbers n node) ((n + 1) ∷ [])
 
   pub upto_done : is_open (n + 1) ≡ false → open_upto node (suc n) ≡ open_upto node n
   upto_done is = ap (λ (ns : List ℕ). map (λ number. record { node = id_of node; number = number }) ns)

@@ -1,7 +1,7 @@
 -- How many records of a history's items are counted, piece by piece.
 use Rattle.std.proofs.Common.{◌≡◌, ℕ, ◌+◌, ◌-◌, ◌<◌, ◌≤◌, ◌^◌, min, List, ◌++◌, length, take, drop, cond, sym, ap, ◌∙◌, arith, length-drop}
-use Rattle.std.proofs.Math.Seq.{take-add, take-length}
-use Rattle.std.proofs.lemmas.List.{length-take, take_min}
+use Rattle.std.proofs.Math.Seq.{take-add}
+use Rattle.std.proofs.lemmas.List.{length-take, take_all}
 use Rattle.std.proofs.lemmas.List.Sums.{count_by-le-length, sum_by-append}
 use Rattle.area_disk.specs.declared.area.Area.{Ghosts}
 use Rattle.gateway_book.specs.Read.{IsUnchanged}
@@ -12,11 +12,6 @@ use Rattle.replay_world.specs.Tally.{is_part}
 
 counts_both : (xs ys : List Item) → part_count (xs ++ ys) ≡ part_count xs + part_count ys
 counts_both xs ys = sum_by-append (λ (item : Item). cond (is_part item) 1 0) xs ys
-
-take_all : (n : ℕ) (xs : List Item) → length xs ≤ n → take n xs ≡ xs
-take_all n xs h =
-    let least : min n (length xs) ≡ length xs = omega (arith, h) in
-    sym (take_min n xs) ∙ ap (λ k. take k xs) least ∙ take-length xs
 
 -- there are no more records than items
 few_parts : (xs : List Item) → part_count xs ≤ length xs

@@ -1,5 +1,6 @@
 -- Seats that are made, one after the other.
-use Rattle.std.proofs.Common.{◌≡◌, ◌⊎◌, ⊎_elim, ◌∙◌, ℕ, suc, ◌+◌, ◌-◌, ◌<◌, ◌≤◌, List, [], ◌∷◌, ◌++◌, length, Option, None, Some, sym, ap, subst, arith}
+use Rattle.std.proofs.Common.{◌≡◌, ◌⊎◌, ⊎_elim, ◌∙◌, ℕ, suc, ◌+◌, ◌-◌, ◌<◌, ◌≤◌, List, [], ◌∷◌, ◌++◌, length, None, Some, sym, ap, subst, arith}
+use Rattle.std.proofs.lemmas.Option.{none-some, same_Some}
 use Rattle.std.specs.Prelude.{slice_get}
 use Rattle.gw_base.specs.declared.address.Addr.{Addr}
 use Rattle.net_link.specs.Making.{Keeps, LinksState}
@@ -16,22 +17,9 @@ use Rattle.loop_run.specs.Seats.{IsGatewayAt, LoopGateway, SitsAt}
 use Rattle.loop_run.specs.declared.seat.Seat.{Seat}
 use Rattle.loop_run.specs.declared.seat.Seat.TheVariants as seat
 use Rattle.loop_run.specs.declared.setup.LoopSetup.{LoopSetup}
-use Rattle.loop_run.proofs.ListLemmas.{get_pushed, length_pushed}
+use Rattle.loop_run.proofs.ListLemmas.{get_pushed, length_pushed, none_get, some_none}
 use Rattle.loop_run.proofs.MakeLemmas.{grows_then, makes_grows}
 use Rattle.loop_run.proofs.StillLemmas.{le_or, rose_before}
-
-none_get : {X : Type 0} (place : ℕ) (x : X) → slice_get [] place ≡ Some x → ⊥
-none_get place x e = cc e
-
-some_stop : (why : Stop) → ◌≡◌ {A = Option Stop} (Some why) None → ⊥
-some_stop why e = cc e
-
-same_stop : (one other : Stop) → ◌≡◌ {A = Option Stop} (Some one) (Some other) → one ≡ other
-same_stop one other e = ap (λ (o : Option Stop). stop_or o) e
-  where
-    stop_or : Option Stop → Stop
-    stop_or None = one
-    stop_or (Some s) = s
 
 -- the addresses of who sits in a place are made
 record IsKnownAt (setup : LoopSetup) (place : ℕ) (now : LinksState) : Type 0 where
@@ -133,19 +121,16 @@ module _ {L : Type 0} (tells : paths.Ghosts L) (setup : LoopSetup) where
   makes_all count old new seats has all keeps = record {
     has = has;
     all = λ none. (all, keeps);
-    cause = λ is. absurd (no_stop stop.Link is);
-    no_clock = λ is. no_stop stop.Clock is;
+    cause = λ is. absurd (none-some stop.Link is);
+    no_clock = λ is. none-some stop.Clock is;
   }
-    where
-      no_stop : (why : Stop) → ◌≡◌ {A = Option Stop} None (Some why) → ⊥
-      no_stop why e = cc e
 
   pub makes_some : (count : ℕ) (old mid new : LinksState) (seats : List (Seat L)) (why : Stop)
       → HasMadeSeats tells setup old mid seats → FailsToMake mid new why
       → MakesSeats tells setup count old new seats (Some why)
   makes_some count old mid new seats why has fails = record {
     has = seats_on old mid new seats has fails.on;
-    all = λ none. absurd (some_stop why none);
-    cause = λ is. rose_before old.faults mid.faults new.faults has.on.later (fails.cause (same_stop why stop.Link is));
-    no_clock = λ is. fails.no_clock (same_stop why stop.Clock is);
+    all = λ none. absurd (some_none why none);
+    cause = λ is. rose_before old.faults mid.faults new.faults has.on.later (fails.cause (same_Some why stop.Link is));
+    no_clock = λ is. fails.no_clock (same_Some why stop.Clock is);
   }
