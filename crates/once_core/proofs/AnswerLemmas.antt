@@ -1,6 +1,7 @@
 -- What a gateway records for a timely request rests on it, and its answer tells the state.
-use Rattle.std.proofs.Common.{◌≡◌, ℕ, ◌%◌, ◌==◌, ◌&&◌, ◌||◌, Bool, true, false, cond, if◌then◌else◌, List, [], ◌∷◌, ◌++◌, Option, Some, None, Contains, refl, sym, ap, subst, ◌∙◌}
+use Rattle.std.proofs.Common.{◌≡◌, ℕ, ◌%◌, ◌==◌, ◌&&◌, ◌||◌, Bool, true, false, cond, if◌then◌else◌, List, [], ◌∷◌, ◌++◌, Some, None, Contains, refl, sym, subst, ◌∙◌}
 use Rattle.std.proofs.lemmas.Bool.{and_parts, and_from, or_left, eqb-true, eq-eqb, false≢true}
+use Rattle.std.proofs.lemmas.Option.{none-some, same_Some}
 use Rattle.gw_base.specs.History.{names, present_state, top_of}
 use Rattle.gw_base.specs.Lists.{once}
 use Rattle.gw_base.specs.Nearest.{nearest}
@@ -32,12 +33,6 @@ pub record IsSound (letters : List Letter) (h : List HistoryEntry) (letter : Let
   pub tells : (now : ℕ) (who : Caller) → Tells (with_act h now who (act_given answer)) letter request (cause_of answer)
   pub known : is_telling (cause_of answer) ≡ true → (now : ℕ) (who : Caller) → IsKnown (with_act h now who (act_given answer)) letter.node letter.start (about request letter.number)
 
-some_act : (a b : HistoryAct) → Some a ≡ Some b → a ≡ b
-some_act a b e = ap (λ (o : Option HistoryAct). elim o [ None ↦ a | Some c ↦ c ]) e
-
-no_act : (a : HistoryAct) → None ≡ Some a → ⊥
-no_act a e = absurd (cc)
-
 module _ (letters : List Letter) (h : List HistoryEntry) (letter : Letter) (rise : StartsRise h) (present : letter.start ≡ start_of letter.node h) where
   abbrev node : NodeId
   node = node_at letter.node
@@ -45,7 +40,7 @@ module _ (letters : List Letter) (h : List HistoryEntry) (letter : Letter) (rise
   -- an answer that records nothing
   silent : (request : Request) (number cause : ℕ) → (is_telling cause ≡ true → IsKnown h letter.node letter.start (about request letter.number)) → Tells h letter request cause
       → IsSound letters h letter request (responding number cause None)
-  silent request number cause known told = record { rests = λ a e. absurd (no_act a e); tells = λ now who. told; known = λ telling now who. known telling }
+  silent request number cause known told = record { rests = λ a e. absurd (none-some a e); tells = λ now who. told; known = λ telling now who. known telling }
 
   -- one that records an act, or may not
   recorded : (may : HistoryAct → Bool) (request : Request) (number : ℕ) (a : HistoryAct) → RestsBy letters letter.gateway h a
@@ -56,7 +51,7 @@ module _ (letters : List Letter) (h : List HistoryEntry) (letter : Letter) (rise
     where
       by_test : (b : Bool) → IsSound letters h letter request (if b then responding number ACCEPTED (Some a) else responding number NO_RESOURCES None)
       by_test true = record {
-        rests = λ c e. subst (RestsBy letters letter.gateway h) (some_act a c e) rests;
+        rests = λ c e. subst (RestsBy letters letter.gateway h) (same_Some a c e) rests;
         tells = told;
         known = λ telling now who. subst (λ (t : ℕ). IsKnown (h ++ entry_by h now who a ∷ []) letter.node t (about request letter.number)) (sym present)
             (known_given_now h (entry_by h now who a) letter.node (about request letter.number) rise named);

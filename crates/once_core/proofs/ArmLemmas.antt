@@ -1,12 +1,12 @@
 -- What the parts of a step give: what an event that isn't refused tells; that messages stay; how a world begins.
 use Rattle.std.proofs.Common.{◌≡◌, ℕ, zero, suc, ◌+◌, ◌-◌, ◌<◌, ◌≤◌, Bool, true, false, ◌&&◌, not, if◌then◌else◌, List, [], ◌∷◌, ◌++◌, Option, Some, None, length, map, refl, ap, sym, ◌∙◌, arith, true≢false, length-append}
-use Rattle.std.proofs.lemmas.Bool.{leb-true, ltb-true}
+use Rattle.std.proofs.lemmas.Bool.{leb-true, ltb-true, not-false}
 use Rattle.std.specs.Option.{option_map, option_map_or}
 use Rattle.std.specs.Prelude.{nat_le, nat_lt, slice_get}
 use Rattle.node_core.specs.Log.{LogEntry}
 use Rattle.node_core.specs.Log as Log
 use Rattle.node_core.specs.Ticks.{tick_entries}
-use Rattle.once_core.proofs.StepLemmas.{not_false, or_none, refusing_none}
+use Rattle.once_core.proofs.StepLemmas.{or_none, refusing_none}
 use Rattle.once_core.specs.Answers.{delivered, making_close, making_tick, marked}
 use Rattle.once_core.specs.Beginning.{default_rules, first_gateway, times_of, world_of}
 use Rattle.once_core.specs.Gateway.{Gateway, Moved, committing, cut, opened}
@@ -41,7 +41,7 @@ module _ (k : WorldKept) (number : ℕ) (n : NodeKept) (found : slice_get k.node
   pub runs_there : no_running_node k number ≡ None → n.node.is_running ≡ true
   runs_there allowed =
       sym runs_found
-      ∙ not_false (runs_at k (number - 1))
+      ∙ not-false (runs_at k (number - 1))
       (refusing_none (not (runs_at k (number - 1))) Halted (or_none (no_node k number) (refusing (not (runs_at k (number - 1))) Halted) allowed))
 
 -- ---- messages stay

@@ -1,8 +1,7 @@
 -- What a node knows at the end of a start follows what it did in it.
-use Rattle.std.proofs.Common.{◌≡◌, ⊎_elim, ℕ, ◌+◌, ◌==◌, ◌||◌, Bool, true, false, if◌then◌else◌, List, [], ◌∷◌, ◌++◌, map, Option, Some, None, IfSome, All, Contains, get_or, refl, sym, ap, subst, ◌∙◌, arith, append_assoc}
+use Rattle.std.proofs.Common.{◌≡◌, ⊎_elim, ℕ, ◌+◌, ◌==◌, ◌||◌, Bool, true, false, if◌then◌else◌, List, [], ◌∷◌, ◌++◌, map, Option, Some, None, IfSome, All, Contains, get_or, refl, sym, ap, subst, ◌∙◌, append_assoc}
 use Rattle.std.proofs.lemmas.Bool.{eq-eqb, eqb-true, false≢true}
 use Rattle.std.proofs.lemmas.List.Elements.{Contains-append_left, Contains-append_right}
-use Rattle.std.proofs.lemmas.List.Sums.{sum_by-cons}
 use Rattle.std.specs.List.{flat_map}
 use Rattle.node_core.specs.Copies.{names}
 use Rattle.node_core.specs.Log as log
@@ -12,11 +11,12 @@ use Rattle.node_core.specs.declared.copy.Command.{Command}
 use Rattle.node_core.specs.declared.copy.PacketCopy.{PacketCopy}
 use Rattle.node_core.specs.declared.port.Port.{Port}
 use Rattle.once_core.specs.Deeds.{asked_by, deeds_of, letter_of, told_by}
-use Rattle.once_core.specs.Expired.{begins, starts_in}
+use Rattle.once_core.specs.Expired.{starts_in}
 use Rattle.once_core.specs.Following.{entries_of, heard_in}
 use Rattle.once_core.specs.Happenings as did
 use Rattle.once_core.specs.Happenings.{Answers, Deed}
 use Rattle.once_core.proofs.ListLemmas.{in_cons, in_head, in_none}
+use Rattle.once_core.proofs.LogLemmas.{starts_same}
 
 -- ---- what was heard is among the deeds
 
@@ -48,9 +48,6 @@ in_told node start port gateway cause number (n ∷ numbers) named = by (n == nu
     by false e named later =
         Contains-append_right (entries_of start (did.Heard (letter_of node start gateway port n (Answers cause)))) rest (log.Heard port gateway (Responds cause (number ∷ []))) (later named)
 
-within_start : (entry : LogEntry) (log : List LogEntry) → begins entry ≡ false → starts_in (entry ∷ log) ≡ starts_in log
-within_start entry log is = sum_by-cons (λ e. if begins e then 1 else 0) entry log ∙ ap (λ (b : Bool). (if b then 1 else 0) + starts_in log) is ∙ omega arith
-
 heard_since : (node : ℕ) (values : ℕ → List ℕ) (entries : List LogEntry) (port : Port) (gateway cause number : ℕ) (numbers : List ℕ)
     → Contains (since_start entries) (log.Heard port gateway (Responds cause numbers)) → names numbers number ≡ true
     → Contains (heard_in (starts_in entries) (deeds_of node values entries)) (log.Heard port gateway (Responds cause (number ∷ [])))
@@ -60,19 +57,19 @@ heard_since node values (log.Halted ∷ entries) port gateway cause number numbe
 heard_since node values (log.Submitted form ∷ entries) port gateway cause number numbers is named = ⊎_elim
     (λ e. absurd (cc))
     (λ later. subst (λ (s : ℕ). Contains (heard_in s (deeds_of node values entries)) (log.Heard port gateway (Responds cause (number ∷ []))))
-    (sym (within_start (log.Submitted form) entries refl)) (heard_since node values entries port gateway cause number numbers later named))
+    (sym (starts_same (log.Submitted form) entries refl)) (heard_since node values entries port gateway cause number numbers later named))
     (in_cons (log.Submitted form) (log.Heard port gateway (Responds cause numbers)) (since_start entries) is)
 heard_since node values (log.Appointed place ∷ entries) port gateway cause number numbers is named = ⊎_elim
     (λ e. absurd (cc))
     (λ later. subst (λ (s : ℕ). Contains (heard_in s (deeds_of node values entries)) (log.Heard port gateway (Responds cause (number ∷ []))))
-    (sym (within_start (log.Appointed place) entries refl)) (heard_since node values entries port gateway cause number numbers later named))
+    (sym (starts_same (log.Appointed place) entries refl)) (heard_since node values entries port gateway cause number numbers later named))
     (in_cons (log.Appointed place) (log.Heard port gateway (Responds cause numbers)) (since_start entries) is)
 heard_since node values (log.Ticked sendings ∷ entries) port gateway cause number numbers is named = ⊎_elim
     (λ e. absurd (cc))
     (λ later.
     let more = map (λ letter. did.Sent letter) (flat_map (asked_by node (starts_in entries) values) sendings) in
     subst (λ (s : ℕ). Contains (heard_in s (deeds_of node values entries ++ more)) (log.Heard port gateway (Responds cause (number ∷ []))))
-    (sym (within_start (log.Ticked sendings) entries refl))
+    (sym (starts_same (log.Ticked sendings) entries refl))
     (subst (λ es. Contains es (log.Heard port gateway (Responds cause (number ∷ [])))) (sym (heard_append (starts_in entries) (deeds_of node values entries) more))
     (Contains-append_left (heard_in (starts_in entries) (deeds_of node values entries)) (heard_in (starts_in entries) more) (log.Heard port gateway (Responds cause (number ∷ [])))
     (heard_since node values entries port gateway cause number numbers later named))))
@@ -80,7 +77,7 @@ heard_since node values (log.Ticked sendings ∷ entries) port gateway cause num
 heard_since node values (log.Heard at place saying ∷ entries) port gateway cause number numbers is named =
     let more = map (λ letter. did.Heard letter) (told_by node (starts_in entries) at place saying) in
     subst (λ (s : ℕ). Contains (heard_in s (deeds_of node values entries ++ more)) (log.Heard port gateway (Responds cause (number ∷ []))))
-    (sym (within_start (log.Heard at place saying) entries refl))
+    (sym (starts_same (log.Heard at place saying) entries refl))
     (subst (λ es. Contains es (log.Heard port gateway (Responds cause (number ∷ [])))) (sym (heard_append (starts_in entries) (deeds_of node values entries) more))
     (⊎_elim
     (λ e.

@@ -18,10 +18,10 @@ use Rattle.gateway_book.specs.Answered.{no_caller}
 use Rattle.gateway_book.specs.Preparing as of
 use Rattle.gateway_book.specs.Preparing.{PreparedValue, framed, sends_values}
 use Rattle.gateway_book.specs.PreparingLaws.{RolesRead}
-use Rattle.gateway_book.specs.Value.{BookValue, Fortune, committed, faulted, history_of, recorded, reopened, standing_for, tried}
+use Rattle.gateway_book.specs.Value.{Fortune, committed, faulted, history_of, recorded, reopened, standing_for, tried}
 use Rattle.once_core.specs.Answers.{answered, closing, delivered, delivered_broken, delivered_running, failed, failed_by, if_broken, making_close, making_tick, marked, recorded_where, unless_expired}
 use Rattle.once_core.specs.Expired.{is_expired}
-use Rattle.once_core.specs.Gateway.{Gateway, Moved, Rules, committing, cut, followed, giving_up, opened, opened_holding, readying, settling, still, with_book}
+use Rattle.once_core.specs.Gateway.{Gateway, Moved, Rules, committing, cut, followed, opened, opened_holding, readying, still, with_book}
 use Rattle.once_core.specs.Happenings.{Answers, Closes, Firms, Keeps, Letter, Note, Notes, Post, Scene, Starts, Ticks, act_noted}
 use Rattle.once_core.specs.Happenings as did
 use Rattle.once_core.specs.Meaning.{is_spoken, letter_of, meaning_of, speaks}
@@ -34,26 +34,21 @@ use Rattle.once_core.proofs.ListLemmas.{in_cons, in_head, in_none}
 use Rattle.once_core.proofs.MeaningLemmas.{FromNode, IsWritten, NodeSaid, ReadsBack, Responds, Said, meaning_is, responds_means, responds_said, role_read_of, said_by_gateway}
 use Rattle.once_core.proofs.PathPlays.{Other, other_plays}
 use Rattle.once_core.proofs.PlayLemmas.{GoesOnAt, Plays, Stands, adds, followed_plays, goes_on_at, letters_go, post_goes, settled_goes, stands_after, still_plays, with_letters}
-use Rattle.once_core.proofs.ReplyPlays.{noted_plays, whole_history}
+use Rattle.once_core.proofs.ReplyPlays.{noted_plays}
 use Rattle.once_core.proofs.RequestPlays.{request_plays}
 use Rattle.once_core.proofs.SceneLemmas.{at_same}
+use Rattle.once_core.proofs.GrowingLemmas.{book_is}
+use Rattle.once_core.proofs.StopLemmas.{history_is}
 
 -- ---- moves that come first
 
 -- a full batch that is committed leaves the history as it is
-pub book_is : (book : BookValue) (g : Gateway) → (with_book book g).gateway.book ≡ book
-book_is book g = by book.is_broken
-  where
-    by : (b : Bool) → (if b then giving_up (record g { book = book }) else settling (record g { book = book })).gateway.book ≡ book
-    by true = refl
-    by false = refl
-
 pub ready_history : (rules : Rules) (f : Fortune) (g : Gateway) → g.book.is_broken ≡ false → (readying rules f g).gateway.book.is_broken ≡ false
     → history_of (readying rules f g).gateway.book ≡ history_of g.book
 ready_history rules f g sound = by (g.book.is_broken || rules.is_full g.book)
   where
     whole : history_of (committed g.book) ≡ history_of g.book
-    whole = whole_history (committed g.book) sound ∙ append-nil (g.book.firm ++ g.book.rest) ∙ sym (whole_history g.book sound)
+    whole = history_is (committed g.book) sound ∙ append-nil (g.book.firm ++ g.book.rest) ∙ sym (history_is g.book sound)
 
     by_failing : (fails : Bool) → (with_book (if fails then faulted g.book else committed g.book) g).gateway.book.is_broken ≡ false
         → history_of (with_book (if fails then faulted g.book else committed g.book) g).gateway.book ≡ history_of g.book

@@ -3,6 +3,7 @@ use Rattle.std.proofs.Common.{◌≡◌, ◌⊎◌, inl, inr, ⊎_elim, ℕ, ◌
 use Rattle.std.proofs.lemmas.Bool.{eqb-true, eq-eqb}
 use Rattle.std.proofs.lemmas.List.{append-nil}
 use Rattle.std.proofs.lemmas.List.Elements.{filter_map-append}
+use Rattle.std.proofs.lemmas.Option.{none-some, same_Some}
 use Rattle.std.specs.List.{cons_option, enumerate_from}
 use Rattle.gw_base.specs.EntryLaws.{epoch_of-append, opening_of-append}
 use Rattle.gw_base.specs.History.{begins_epoch, epoch_of}
@@ -21,26 +22,20 @@ use Rattle.once_core.proofs.EachLemmas.{by_each}
 abbrev first_at : ℕ → ℕ → List ℕ → Option ℕ
 first_at k s xs = option_map (λ placed. placed.0) (find (λ placed. placed.1 == s) (enumerate_from k xs))
 
-some_is : (a b : ℕ) → Some a ≡ Some b → a ≡ b
-some_is a b e = ap (λ (o : Option ℕ). elim o [ None ↦ a | Some n ↦ n ]) e
-
 is_some_of : Option ℕ → Bool
 is_some_of None = false
 is_some_of (Some n) = true
 
-not_some : (b : ℕ) → None ≡ Some b → ⊥
-not_some b e = absurd (cc)
-
 found_low : (k s j : ℕ) (xs : List ℕ) → first_at k s xs ≡ Some j → k ≤ j
-found_low k s j [] e = absurd (not_some j e)
+found_low k s j [] e = absurd (none-some j e)
 found_low k s j (x ∷ xs) e = by_test (x == s) (λ f. found_low (k + 1) s j xs f) e
   where
     by_test : (b : Bool) → (first_at (k + 1) s xs ≡ Some j → k + 1 ≤ j) → option_map (λ placed. placed.0) (cond b (Some (k, x)) (find (λ placed. placed.1 == s) (enumerate_from (k + 1) xs))) ≡ Some j → k ≤ j
-    by_test true low e = omega (arith, some_is k j e)
+    by_test true low e = omega (arith, same_Some k j e)
     by_test false low e = omega (arith, low e)
 
 pub found_stays : (k s j : ℕ) (xs ys : List ℕ) → first_at k s xs ≡ Some j → first_at k s (xs ++ ys) ≡ Some j
-found_stays k s j [] ys e = absurd (not_some j e)
+found_stays k s j [] ys e = absurd (none-some j e)
 found_stays k s j (x ∷ xs) ys e = by_test (x == s) (λ f. found_stays (k + 1) s j xs ys f) e
   where
     by_test : (b : Bool) → (first_at (k + 1) s xs ≡ Some j → first_at (k + 1) s (xs ++ ys) ≡ Some j) → option_map (λ placed. placed.0) (cond b (Some (k, x)) (find (λ placed. placed.1 == s) (enumerate_from (k + 1) xs))) ≡ Some j
@@ -59,21 +54,21 @@ found_last k s y (x ∷ xs) e = by_test (x == s) (λ f. found_last (k + 1) s y x
     by_test : (b : Bool) → (first_at (k + 1) s xs ≡ None → first_at (k + 1) s (xs ++ y ∷ []) ≡ (if y == s then Some ((k + 1) + length xs) else None))
         → option_map (λ placed. placed.0) (cond b (Some (k, x)) (find (λ placed. placed.1 == s) (enumerate_from (k + 1) xs))) ≡ None
         → option_map (λ placed. placed.0) (cond b (Some (k, x)) (find (λ placed. placed.1 == s) (enumerate_from (k + 1) (xs ++ y ∷ [])))) ≡ (if y == s then Some (k + length (x ∷ xs)) else None)
-    by_test true rest e = absurd (not_some k (sym e))
+    by_test true rest e = absurd (none-some k (sym e))
     by_test false rest e =
         let longer : (k + 1) + length xs ≡ k + length (x ∷ xs) = omega arith in
         rest e ∙ ap (λ (n : ℕ). if y == s then Some n else None) longer
 
 found_one : (k s t j : ℕ) (xs : List ℕ) → first_at k s xs ≡ Some j → first_at k t xs ≡ Some j → s ≡ t
-found_one k s t j [] e f = absurd (not_some j e)
+found_one k s t j [] e f = absurd (none-some j e)
 found_one k s t j (x ∷ xs) e f = by_tests (x == s) (x == t) (λ p q. found_one (k + 1) s t j xs p q) refl refl e f
   where
     by_tests : (b c : Bool) → (first_at (k + 1) s xs ≡ Some j → first_at (k + 1) t xs ≡ Some j → s ≡ t) → (x == s) ≡ b → (x == t) ≡ c
         → option_map (λ placed. placed.0) (cond b (Some (k, x)) (find (λ placed. placed.1 == s) (enumerate_from (k + 1) xs))) ≡ Some j
         → option_map (λ placed. placed.0) (cond c (Some (k, x)) (find (λ placed. placed.1 == t) (enumerate_from (k + 1) xs))) ≡ Some j → s ≡ t
     by_tests true true rest p q e f = sym (eqb-true x s p) ∙ eqb-true x t q
-    by_tests true false rest p q e f = let low = found_low (k + 1) t j xs f in absurd (omega (arith, low, some_is k j e))
-    by_tests false true rest p q e f = let low = found_low (k + 1) s j xs e in absurd (omega (arith, low, some_is k j f))
+    by_tests true false rest p q e f = let low = found_low (k + 1) t j xs f in absurd (omega (arith, low, same_Some k j e))
+    by_tests false true rest p q e f = let low = found_low (k + 1) s j xs e in absurd (omega (arith, low, same_Some k j f))
     by_tests false false rest p q e f = rest e f
 
 -- ---- the starts of a history
@@ -194,7 +189,7 @@ last_goes_on node h e rising last = ⊎_elim begun stayed (by_entry node h e)
           where
             by_test : (b : Bool) → (is.counter == s) ≡ b → (if b then Some (0 + length (counters node h)) else None) ≡ Some j → s ≤ start_of node (h ++ e ∷ [])
             by_test true same found = omega (arith, eqb-true is.counter s same, is.start_is)
-            by_test false same found = absurd (not_some j found)
+            by_test false same found = absurd (none-some j found)
 
         by_new : start_of node h < is.counter → (o : Option ℕ) → first_at 0 is.counter (counters node h) ≡ o
             → first_at 0 is.counter (counters node h ++ is.counter ∷ []) ≡ Some (epoch_of node (h ++ e ∷ []))
@@ -212,7 +207,7 @@ is_last node =
   where
     at_first : (s j : ℕ) (b : Bool) → (0 == s) ≡ b → option_map (λ (placed : ℕ × ℕ). placed.0) (cond b (Some (0, 0)) None) ≡ Some j → s ≤ 0
     at_first s j true same found = omega (arith, eqb-true 0 s same)
-    at_first s j false same found = absurd (not_some j found)
+    at_first s j false same found = absurd (none-some j found)
 
 -- a node's present epoch is the one with its present start
 pub present_epoch : (node : ℕ) (h : List HistoryEntry) → StartsRise h → epoch_with node (start_of node h) h ≡ Some (epoch_of node h)

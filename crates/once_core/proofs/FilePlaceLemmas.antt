@@ -18,7 +18,7 @@ use Rattle.route_filter.specs.Rules.{stream_of}
 use Rattle.once_core.specs.FilePlaces.{as_filed, at_place, filed_item, filed_items, filed_items_by, filed_runs, goes_to, placed, streams_of}
 use Rattle.once_core.proofs.FileCountLemmas.{Divides, counted_there, in_runs, one_stream, records_append}
 use Rattle.once_core.proofs.FileRunLemmas.{plain, same_runs}
-use Rattle.once_core.proofs.ListLemmas.{get_contains, in_cons, in_head, in_none, in_tail}
+use Rattle.once_core.proofs.ListLemmas.{get_contains, in_cons, in_flat, in_head, in_none, in_tail}
 use Rattle.once_core.proofs.WaitingLemmas.{in_map, of_map}
 
 -- ---- lists
@@ -29,13 +29,6 @@ of_flat_map f (x ∷ xs) y is = ⊎_elim
     (λ here. (x, in_head x xs, here))
     (λ later. let there = of_flat_map f xs y later in (there.0, in_tail x there.0 xs there.1, there.2))
     (Contains-append_cases (f x) (flat_map f xs) y is)
-
-in_flat_map : {A B : Type 0} (f : A → List B) (xs : List A) (x : A) (y : B) → Contains xs x → Contains (f x) y → Contains (flat_map f xs) y
-in_flat_map f [] x y is there = absurd (in_none x is)
-in_flat_map {A} {B} f (z ∷ xs) x y is there = ⊎_elim
-    (λ e. Contains-append_left (f z) (flat_map f xs) y (subst (λ (a : A). Contains (f a) y) (sym e) there))
-    (λ later. Contains-append_right (f z) (flat_map f xs) y (in_flat_map f xs x y later there))
-    (in_cons z x xs is)
 
 of_numbered : {A : Type 0} (n : ℕ) (xs : List A) (x : ℕ × A) → Contains (enumerate_from n xs) x → (k : ℕ) × (x.0 ≡ n + k) × (slice_get xs k ≡ Some x.1)
 of_numbered n [] x is = absurd (in_none x is)
@@ -197,7 +190,7 @@ in_stream : Divides → (settings : Settings) (s : ℕ) (h : List HistoryEntry) 
     → (Contains (filed h) r.payload × (r ≡ as_filed settings.profile r.payload)) × (stream_of settings.rules r.payload.tag r.kind.format ≡ s)
 in_stream divides settings s h k run i r run_is is =
     let all : Contains (flat_map (λ (x : List (Filed FiledRecord)). x) (filed_runs settings s h)) r =
-    in_flat_map (λ (x : List (Filed FiledRecord)). x) (filed_runs settings s h) run r (get_contains (filed_runs settings s h) k run run_is) (get_contains run i r is) in
+    in_flat (λ (x : List (Filed FiledRecord)). x) (filed_runs settings s h) run r (get_contains (filed_runs settings s h) k run run_is) (get_contains run i r is) in
     let kept = stream_kept settings s (filed_items settings.profile h) r (subst (λ (rs : List (Filed FiledRecord)). Contains rs r) (in_runs divides settings s h) all) in
     (of_history settings.profile [] h r kept.0, kept.1)
 
@@ -257,8 +250,8 @@ module _ (divides : Divides) (settings : Settings) (h : List HistoryEntry) (plac
       (one_stream settings r.payload.tag r.kind.format)) in
       let sequence : 1 + k ≡ place.sequence = omega (arith, number) in
       let none_before : 0 + place.index ≡ place.index = omega arith in
-      in_flat_map (λ t. flat_map (record_places t) (enumerate_from 1 (filed_runs settings t h))) (streams_of settings) place.stream (place, r.payload) streams
-      (in_flat_map (record_places place.stream) (enumerate_from 1 mine) (place.sequence, run) (place, r.payload)
+      in_flat (λ t. flat_map (record_places t) (enumerate_from 1 (filed_runs settings t h))) (streams_of settings) place.stream (place, r.payload) streams
+      (in_flat (record_places place.stream) (enumerate_from 1 mine) (place.sequence, run) (place, r.payload)
       (subst (λ (n : ℕ). Contains (enumerate_from 1 mine) (n, run)) sequence (in_numbered 1 mine k run run_is))
       (in_map (at_place place.stream place.sequence) (enumerate_from 0 run) (place.index, r)
       (subst (λ (n : ℕ). Contains (enumerate_from 0 run) (n, r)) none_before (in_numbered 0 run place.index r r_is))))

@@ -10,7 +10,7 @@ use Rattle.once_core.specs.Addresses.{node_ip}
 use Rattle.once_core.specs.Beginning.{beginning, first_gateway, first_world, gateways_by, times_of, world_of}
 use Rattle.once_core.specs.Deeds.{deeds_of}
 use Rattle.once_core.specs.Gateway.{Gateway, Rules, settling, still}
-use Rattle.once_core.specs.Happenings.{Happening, Notes, Post, Scene, Starts}
+use Rattle.once_core.specs.Happenings.{Happening, Notes, Scene, Starts}
 use Rattle.once_core.specs.Scenes.{happened_all, nothing_yet, scene_after}
 use Rattle.once_core.specs.Shown.{post_of}
 use Rattle.once_core.proofs.CommitPlays.{firm_plays, whole_book}
@@ -19,14 +19,11 @@ use Rattle.once_core.proofs.LogLemmas.{counts_first}
 use Rattle.once_core.proofs.NodePlays.{NodeRightly}
 use Rattle.once_core.proofs.PlayLemmas.{Plays, Rightly, Stands, followed_plays, happened_more, stands_after}
 use Rattle.once_core.proofs.ReplyPlays.{noted, noted_plays}
-use Rattle.once_core.proofs.WorldPlays.{Made}
+use Rattle.once_core.proofs.WorldPlays.{Made, no_post}
 
 -- ---- one gateway
 
-abbrev no_post : Post
-no_post = record { firm = []; rest = []; waiting = [] }
-
-abbrev new_gateway : Gateway
+abbrev pub new_gateway : Gateway
 new_gateway = record { book = standing_for []; waiting = []; is_down = false; redirects = 0 }
 
 none_waits : (g : Gateway) → g.waiting ≡ [] → Rightly g

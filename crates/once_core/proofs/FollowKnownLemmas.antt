@@ -27,8 +27,9 @@ use Rattle.once_core.specs.Followed.{Followed, followed_before, following, packe
 use Rattle.once_core.specs.Following.{Knows, entries_of, heard_in}
 use Rattle.once_core.specs.Happenings as did
 use Rattle.once_core.specs.Happenings.{Deed, Letter}
-use Rattle.once_core.proofs.FollowLemmas.{before_within, began_same, halted_same, in_present, other_same, starts_halted, starts_more, starts_within, states_at}
+use Rattle.once_core.proofs.FollowLemmas.{before_within, began_same, halted_same, in_present, other_same, starts_halted, starts_within, states_at}
 use Rattle.once_core.proofs.ListLemmas.{in_none}
+use Rattle.once_core.proofs.LogLemmas.{starts_again}
 
 -- ---- what was heard stays heard
 
@@ -108,9 +109,9 @@ behind [] = record { reached_yet = tt; earlier = λ running. tt }
 behind (log.Began ∷ before) =
     let all = all_now before (behind before) in
     record {
-      reached_yet = each_weaker (UpTo (starts_in before)) (UpTo (starts_in (log.Began ∷ before))) (λ p is. omega (arith, is, starts_more before))
+      reached_yet = each_weaker (UpTo (starts_in before)) (UpTo (starts_in (log.Began ∷ before))) (λ p is. omega (arith, is, starts_again before))
           (followed_before before ++ following before) all;
-      earlier = λ running. each_weaker (UpTo (starts_in before)) (Below (starts_in (log.Began ∷ before))) (λ p is. omega (arith, is, starts_more before))
+      earlier = λ running. each_weaker (UpTo (starts_in before)) (Below (starts_in (log.Began ∷ before))) (λ p is. omega (arith, is, starts_again before))
           (followed_before before ++ following before) all;
     }
 behind (log.Halted ∷ before) = record {

@@ -1,9 +1,8 @@
 -- The packets of each start of a node only grow, and what it may send goes on being of them.
-use Rattle.std.proofs.Common.{◌≡◌, ⊎_elim, ℕ, suc, ◌+◌, ◌==◌, Bool, true, false, if◌then◌else◌, cond, List, [], ◌∷◌, ◌++◌, length, map, zip, filter, Option, Some, None, Contains, refl, sym, ap, subst, ◌∙◌, arith, length-append}
+use Rattle.std.proofs.Common.{◌≡◌, ⊎_elim, ℕ, suc, ◌+◌, ◌==◌, Bool, true, false, cond, List, [], ◌∷◌, ◌++◌, length, map, zip, filter, Option, Some, None, Contains, refl, sym, ap, subst, ◌∙◌, arith, length-append}
 use Rattle.std.proofs.lemmas.Bool.{eq-eqb, eqb-true}
 use Rattle.std.proofs.lemmas.List.{append-nil, length-map, map-append}
 use Rattle.std.proofs.lemmas.List.Elements.{Contains-append_right, filter-append}
-use Rattle.std.proofs.lemmas.List.Sums.{sum_by-cons}
 use Rattle.gtpp_message.specs.Packet.{PacketForm}
 use Rattle.node_core.specs.Growing.{CommandGrows, CopyGrows, Extends, PacketGrows, is_within_start}
 use Rattle.node_core.specs.Log.{LogEntry, Began, Halted, Submitted, Appointed, Ticked, Heard, Saying, Path, Redirects, Responds, Other, forms_of, packets_of, submitted}
@@ -12,11 +11,12 @@ use Rattle.node_core.specs.declared.copy.Command.{Command}
 use Rattle.node_core.specs.declared.copy.Order.{Order}
 use Rattle.node_core.specs.declared.copy.PacketCopy.{PacketCopy}
 use Rattle.node_core.specs.declared.port.Port.{Port}
-use Rattle.once_core.specs.Expired.{begins, starts_in}
+use Rattle.once_core.specs.Expired.{starts_in}
 use Rattle.once_core.specs.Followed.{Followed, followed_before, following, packets_in}
 use Rattle.once_core.specs.Following.{AnyHasCopyAt, MaySend}
 use Rattle.once_core.specs.Happenings.{Asks, Answers, Else, Letter, Meaning, Orders, Sends, Tests}
 use Rattle.once_core.proofs.ListLemmas.{in_cons, in_head, in_none, in_tail}
+use Rattle.once_core.proofs.LogLemmas.{starts_same}
 
 -- ---- lists that grow
 
@@ -197,12 +197,6 @@ began_same start log = ap (states_at start) (append-nil (followed_before log ++ 
 
 pub halted_same : (start : ℕ) (log : List LogEntry) → packets_in start (Halted ∷ log) ≡ packets_in start log
 halted_same start log = ap (states_at start) (append-nil (followed_before log ++ following log))
-
-starts_same : (entry : LogEntry) (log : List LogEntry) → begins entry ≡ false → starts_in (entry ∷ log) ≡ starts_in log
-starts_same entry log is = sum_by-cons (λ e. if begins e then 1 else 0) entry log ∙ ap (λ (b : Bool). (if b then 1 else 0) + starts_in log) is ∙ omega arith
-
-pub starts_more : (log : List LogEntry) → starts_in (Began ∷ log) ≡ suc (starts_in log)
-starts_more log = sum_by-cons (λ e. if begins e then 1 else 0) Began log ∙ omega arith
 
 pub starts_halted : (log : List LogEntry) → starts_in (Halted ∷ log) ≡ starts_in log
 starts_halted log = starts_same Halted log refl

@@ -1,7 +1,7 @@
 -- Moves of a gateway whose journal never fails, one after the other.
-use Rattle.std.proofs.Common.{◌≡◌, ℕ, zero, suc, ◌+◌, ◌-◌, ◌≤◌, max, min, Bool, true, false, ◌||◌, if◌then◌else◌, List, [], ◌∷◌, ◌++◌, length, take, drop, refl, ap, sym, ◌∙◌, subst, arith, append_assoc}
+use Rattle.std.proofs.Common.{◌≡◌, ℕ, ◌+◌, ◌-◌, ◌≤◌, max, min, Bool, true, false, ◌||◌, if◌then◌else◌, List, [], ◌++◌, length, take, drop, refl, ap, sym, ◌∙◌, subst, arith, append_assoc}
 use Rattle.std.proofs.lemmas.Bool.{ltb-false, ltb-true}
-use Rattle.std.proofs.lemmas.List.{drop-take, length-drop, length-take-le, take-append-drop}
+use Rattle.std.proofs.lemmas.List.{drop-take, drop_all, length-drop, length-take-le, take-append-drop, take-take, take_all}
 use Rattle.std.specs.Prelude.{nat_lt, OnOk, Result, Ok, Err}
 use Rattle.gw_base.specs.declared.address.Addr.{Addr}
 use Rattle.gw_base.specs.declared.history.HistoryEntry.{HistoryEntry}
@@ -12,11 +12,12 @@ use Rattle.once_core.specs.Addresses.{node_address}
 use Rattle.once_core.specs.Answers.{answer_at, answered, delivered, delivered_broken, delivered_running, failed, if_broken}
 use Rattle.once_core.specs.Beginning.{default_rules}
 use Rattle.once_core.specs.Expired.{is_expired}
-use Rattle.once_core.specs.Gateway.{Gateway, Moved, book_committing, committing, cut, followed, giving_up, opened, readying, settling, still, with_book}
+use Rattle.once_core.specs.Gateway.{Gateway, Moved, book_committing, committing, cut, followed, opened, readying, still}
 use Rattle.once_core.specs.Moves.{HasMoved, once_started}
 use Rattle.once_core.specs.Standing.{quiet}
 use Rattle.once_core.specs.declared.message.Message.{Message}
 use Rattle.once_core.specs.declared.message.Waiting.{Waiting}
+use Rattle.once_core.proofs.GrowingLemmas.{book_is}
 
 pub ok_maps : {A E P Q : Type 0} (r : Result A E) → (P → Q) → OnOk r P → OnOk r Q
 ok_maps (Ok a) f is = f is
@@ -31,16 +32,9 @@ decided_at g h from octets m hs fs os = λ i. decided (answer (hs i) (fs i) (os 
 
 -- ---- a journal stays sound
 
-book_stays : (book : BookValue) (g : Gateway) → (with_book book g).gateway.book ≡ book
-book_stays book g = by_test book.is_broken
-  where
-    by_test : (b : Bool) → (if b then giving_up (record g { book = book }) else settling (record g { book = book })).gateway.book ≡ book
-    by_test true = refl
-    by_test false = refl
-
 commit_sound : (g : Gateway) → g.book.is_broken ≡ false → (committing quiet g).gateway.book.is_broken ≡ false
 commit_sound g sound =
-    ap (λ (b : BookValue). b.is_broken) (book_stays (book_committing quiet g.book) g)
+    ap (λ (b : BookValue). b.is_broken) (book_is (book_committing quiet g.book) g)
     ∙ (ap (λ b. (if b then reopened g.book Whole else committed g.book).is_broken) sound ∙ sound)
 
 ready_sound : (g : Gateway) → g.book.is_broken ≡ false → (readying default_rules quiet g).gateway.book.is_broken ≡ false
@@ -81,24 +75,6 @@ delivers now m g g1 g2 s0 s1 s2 sound up fresh first second =
 
 -- ---- stopping and opening
 
-pub drop_past : {A : Type 0} (k : ℕ) (xs : List A) → length xs ≤ k → drop k xs ≡ []
-drop_past zero [] le = refl
-drop_past (suc k) [] le = refl
-drop_past zero (x ∷ xs) le = absurd (omega (arith, le))
-drop_past (suc k) (x ∷ xs) le = drop_past k xs (omega (arith, le))
-
-pub take_past : {A : Type 0} (k : ℕ) (xs : List A) → length xs ≤ k → take k xs ≡ xs
-take_past zero [] le = refl
-take_past (suc k) [] le = refl
-take_past zero (x ∷ xs) le = absurd (omega (arith, le))
-take_past (suc k) (x ∷ xs) le = ap (λ ys. x ∷ ys) (take_past k xs (omega (arith, le)))
-
-take_twice : {A : Type 0} (k left : ℕ) (xs : List A) → k ≤ left → take k (take left xs) ≡ take k xs
-take_twice zero left xs le = refl
-take_twice (suc k) zero xs le = absurd (omega (arith, le))
-take_twice (suc k) (suc left) [] le = refl
-take_twice (suc k) (suc left) (x ∷ xs) le = ap (λ ys. x ∷ ys) (take_twice k left xs (omega (arith, le)))
-
 abbrev pub book_at : ℕ → List HistoryEntry → BookValue
 book_at firm h = record { firm = take firm h; rest = drop firm h; cuts = 0; is_broken = false }
 
@@ -109,8 +85,8 @@ gateway_of firm h waiting down redirects = record { book = book_at firm h; waiti
 pub all_firm : (h : List HistoryEntry) (firm all : ℕ) → length h ≤ all
     → book_at all h ≡ standing_for (take firm h ++ drop firm h)
 all_firm h firm all le =
-    let front : take all h ≡ take firm h ++ drop firm h = take_past all h le ∙ sym (take-append-drop firm h) in
-    let rest : drop all h ≡ [] = drop_past all h le in
+    let front : take all h ≡ take firm h ++ drop firm h = take_all all h le ∙ sym (take-append-drop firm h) in
+    let rest : drop all h ≡ [] = drop_all all h le in
     λ i. record { firm = front i; rest = rest i; cuts = 0; is_broken = false }
 
 pub opens : (g : Gateway) (book : BookValue) (new : Gateway) → book ≡ standing_for (history_of g.book)
@@ -129,7 +105,7 @@ left_of h firm keep left true lt le is =
 left_of h firm keep left false ge le is =
     let few : length (drop firm h) ≤ left - firm = omega (arith, is, le, length-drop firm h, ltb-false keep (length h) ge) in
     let many : length (drop firm h) ≤ keep - firm = omega (arith, is, le, length-drop firm h, ltb-false keep (length h) ge) in
-    take_past (left - firm) (drop firm h) few ∙ sym (take_past (keep - firm) (drop firm h) many)
+    take_all (left - firm) (drop firm h) few ∙ sym (take_all (keep - firm) (drop firm h) many)
 
 pub are_left : (h : List HistoryEntry) (firm keep left : ℕ) → firm ≤ length h → left ≡ max firm (min keep (length h)) → AreLeft h firm keep left
 are_left h firm keep left le is =
@@ -137,7 +113,7 @@ are_left h firm keep left le is =
     let sum : left ≡ firm + (left - firm) = omega (arith, over) in
     let count : length (take firm h) ≡ firm = length-take-le firm h le in
     record {
-      front = take_twice firm left h over;
+      front = take-take firm left h over;
       rest = ap (λ n. drop firm (take n h)) sum
           ∙ (drop-take firm (left - firm) h
           ∙ (left_of h firm keep left (nat_lt keep (length h)) refl le is

@@ -48,7 +48,7 @@ on_on {A} xs ys zs a b = record {
 abbrev Grows : (Gateway → Moved) → Type 0
 Grows move = (g : Gateway) → GrowsTo g.book.firm (move g).gateway.book.firm
 
-book_is : (book : BookValue) (g : Gateway) → (with_book book g).gateway.book ≡ book
+pub book_is : (book : BookValue) (g : Gateway) → (with_book book g).gateway.book ≡ book
 book_is book g = by_test book.is_broken
   where
     by_test : (b : Bool) → (if b then giving_up (record g { book = book }) else settling (record g { book = book })).gateway.book ≡ book

@@ -1,7 +1,7 @@
 -- What a node hears is what happens in a scene.
 use Rattle.std.proofs.Common.{◌≡◌, ℕ, ◌%◌, ◌≤◌, ◌==◌, ◌&&◌, ◌||◌, inl, inr, not, Bool, true, false, if◌then◌else◌, List, [], ◌∷◌, ◌++◌, map, Option, Some, None, Contains, refl, sym, ap, subst, ◌∙◌, arith, append-nil}
 use Rattle.std.specs.Option.{option_map_or}
-use Rattle.std.proofs.lemmas.Bool.{eqb-true}
+use Rattle.std.proofs.lemmas.Bool.{eqb-true, not-false, or_parts}
 use Rattle.gtpp_message.specs.Message.{MessageValue, EchoRequest, EchoResponse, VersionNotSupported, NodeAliveRequest, NodeAliveResponse, RedirectionRequest, RedirectionResponse, TransferRequest, TransferResponse}
 use Rattle.gtpp_message.specs.Packet.{PacketForm}
 use Rattle.gtpp_message.specs.Reading.{Message, ReadingValue}
@@ -36,7 +36,7 @@ use Rattle.once_core.proofs.ListLemmas.{in_cons, in_none}
 use Rattle.once_core.proofs.LogLemmas.{counter_is, place_is, starts_same}
 use Rattle.once_core.proofs.MeaningLemmas.{FromGateway, FromNode, GatewaySaid, IsWritten, ReadsBack, Said, meaning_is, role_read_of, said_by_node, type_of}
 use Rattle.once_core.proofs.NodePlays.{NodePlays, NodeRightly, after_call, appointed_deeds, appointed_ever, appointed_starts, quiet_node}
-use Rattle.once_core.proofs.RequestPlays.{both_false, not_false, place_in}
+use Rattle.once_core.proofs.RequestPlays.{place_in}
 use Rattle.once_core.proofs.SceneLemmas.{at_same}
 
 -- what is heard is one entry, with an appointment or not, or nothing
@@ -204,10 +204,10 @@ module _ (gateways : ℕ) (m : world.Message) (log : List LogEntry) (rightly : N
         by false e late isnt = nothing_plays
         by true e true isnt = nothing_plays
         by true e false isnt =
-            let both = both_false (not (m.start == starts_in log)) (is_response m && is_taken_for_another value m) isnt in
-            let start = eqb-true m.start (starts_in log) (not_false (m.start == starts_in log) both.0) in
+            let both = or_parts (not (m.start == starts_in log)) (is_response m && is_taken_for_another value m) isnt in
+            let start = eqb-true m.start (starts_in log) (not-false (m.start == starts_in log) both.0) in
             heard start (λ response.
             eqb-true (nearest (Some (last_number value.gateways m.gateway)) (m.number % 65536)) m.number
-            (not_false (nearest (Some (last_number value.gateways m.gateway)) (m.number % 65536) == m.number)
+            (not-false (nearest (Some (last_number value.gateways m.gateway)) (m.number % 65536) == m.number)
             (sym (ap (λ (b : Bool). b && is_taken_for_another value m) response) ∙ both.1)))
             (place_of value.gateways (gateway_address m.gateway).ip) refl

@@ -1,6 +1,6 @@
 -- A world that is kept turns as the world that it stands for.
 use Rattle.std.proofs.Common.{◌≡◌, ℕ, zero, suc, ◌+◌, ◌-◌, Bool, true, false, not, List, [], ◌∷◌, ◌++◌, length, map, Option, Some, None, refl, ap, sym, ◌∙◌, arith}
-use Rattle.std.proofs.lemmas.List.{append-nil}
+use Rattle.std.proofs.lemmas.List.{append-nil, length-map}
 use Rattle.std.proofs.lemmas.Option.{slice_get-map}
 use Rattle.std.specs.Option.{option_map, option_map_or, option_or}
 use Rattle.std.specs.Prelude.{nat_le, slice_get, slice_set}
@@ -31,10 +31,6 @@ set_length : {A : Type 0} (xs : List A) (k : ℕ) (x : A) → length (slice_set 
 set_length [] k x = refl
 set_length (y ∷ xs) zero x = refl
 set_length (y ∷ xs) (suc k) x = ap suc (set_length xs k x)
-
-pub map_length : {A B : Type 0} (f : A → B) (xs : List A) → length (map f xs) ≡ length xs
-map_length f [] = refl
-map_length f (y ∷ xs) = ap suc (map_length f xs)
 
 get_nodes : (count first place : ℕ) (logs : List (List LogEntry)) → slice_get (nodes_kept count first logs) place ≡ option_map (node_kept count (first + place)) (slice_get logs place)
 get_nodes count first place [] = refl
@@ -138,7 +134,7 @@ starts_same w place =
 
 module _ (w : World) where
   gateways_same : length (map gateway_kept w.gateways) ≡ length w.gateways
-  gateways_same = map_length gateway_kept w.gateways
+  gateways_same = length-map w.gateways gateway_kept
 
   nodes_same : length (nodes_kept (length w.gateways) 0 w.nodes) ≡ length w.nodes
   nodes_same = nodes_length (length w.gateways) 0 w.nodes

@@ -3,6 +3,7 @@
 use Rattle.std.proofs.Common.{◌≡◌, ℕ, ◌≤◌, ◌&&◌, inl, inr, nat_lt, not, Bool, true, false, if◌then◌else◌, List, [], ◌∷◌, ◌++◌, map, Option, Some, None, Contains, refl, sym, ap, subst, ◌∙◌, arith, append_assoc, append-nil}
 use Rattle.std.specs.Prelude.{option_map}
 use Rattle.std.proofs.lemmas.Bool.{false≢true}
+use Rattle.std.proofs.lemmas.Option.{same_Some}
 use Rattle.gw_base.specs.History.{is_close_due, moment_after}
 use Rattle.gw_base.specs.Nearest.{nearest}
 use Rattle.gw_base.specs.Observed.{Observed, observed}
@@ -51,22 +52,20 @@ use Rattle.once_core.proofs.LifeMoves.{Truly, TrulyMoved, cut_truly, followed_tr
 use Rattle.once_core.proofs.ListLemmas.{in_cons, in_none}
 use Rattle.once_core.proofs.MeaningLemmas.{FromNode, NodeSaid, ReadsBack, role_read_of}
 use Rattle.once_core.proofs.PathPlays.{fresh_start, rises}
-use Rattle.once_core.proofs.ReplyPlays.{noted, whole_history}
+use Rattle.once_core.proofs.ReplyPlays.{noted}
 use Rattle.once_core.proofs.StartLemmas.{IsNoPath, known_start, opened_start, path_starts}
 use Rattle.once_core.proofs.WaitingLemmas.{of_map}
+use Rattle.once_core.proofs.StopLemmas.{history_is}
 
 -- ---- what no request is recorded as
 
 no_act : (a : HistoryAct) → None ≡ Some a → IsNoPath a
 no_act a e = absurd (cc)
 
-the_act : (a b : HistoryAct) → Some a ≡ Some b → a ≡ b
-the_act a b e = ap (λ (o : Option HistoryAct). elim o [ None ↦ a | Some c ↦ c ]) e
-
 sent_no_path : (asked : Ask) (n : NodeId) (number : ℕ) (packet : List ℕ) (given : Option KeyState) (a : HistoryAct)
     → recorded_as asked n number packet given ≡ Some a → IsNoPath a
 sent_no_path asked n number packet None a e = no_act a e
-sent_no_path asked n number packet (Some state) a e = subst IsNoPath (the_act (act_of asked n number packet) a e) (by asked)
+sent_no_path asked n number packet (Some state) a e = subst IsNoPath (same_Some (act_of asked n number packet) a e) (by asked)
   where
     by : (b : Ask) → IsNoPath (act_of b n number packet)
     by ask.Send = tt
@@ -76,7 +75,7 @@ sent_no_path asked n number packet (Some state) a e = subst IsNoPath (the_act (a
 changes_no_path : (verdict : Verdict) (release : Bool) (n : NodeId) (numbers : List ℕ) (a : HistoryAct) → changes verdict release n numbers ≡ Some a → IsNoPath a
 changes_no_path Wrong release n numbers a e = no_act a e
 changes_no_path Before release n numbers a e = no_act a e
-changes_no_path Change release n numbers a e = subst IsNoPath (the_act (changing release n numbers) a e) (by release)
+changes_no_path Change release n numbers a e = subst IsNoPath (same_Some (changing release n numbers) a e) (by release)
   where
     by : (b : Bool) → IsNoPath (changing b n numbers)
     by true = tt
@@ -174,7 +173,7 @@ module _ (bound : ℕ → ℕ) (rules : Rules) (now : ℕ) (m : world.Message) (
     -- its start is known, or becomes so
     known_truly : (number : ℕ) → start_of (node_ip m.node) (history_of g.book) ≡ m.start → Acts (Replies number NodeAliveResponse None)
     known_truly number known = replying_truly m.gateway bound g truly (life number) sound (ap not to, refl)
-        (λ alive. let same = ap (start_of (node_ip m.node)) (whole_history g.book sound) in omega (arith, known, same))
+        (λ alive. let same = ap (start_of (node_ip m.node)) (history_is g.book sound) in omega (arith, known, same))
 
     opens_truly : (number counter : ℕ) → nat_lt (start_of (node_ip m.node) (history_of g.book)) counter ≡ true → counter ≡ m.start
         → Acts (Replies number NodeAliveResponse (Some (act.Path (node_id m.node) (port_number m.port) counter)))
@@ -185,7 +184,7 @@ module _ (bound : ℕ → ℕ) (rules : Rules) (now : ℕ) (m : world.Message) (
       where
         note : TrulyMoved m.gateway bound g (still (noted now (act.Path (node_id m.node) (port_number m.port) counter) g))
         note = path_truly m.gateway bound g truly sound now (node_id m.node) (port_number m.port) counter
-            (subst (λ (h : List HistoryEntry). nat_lt (start_of (node_ip m.node) h) counter ≡ true) (whole_history g.book sound) later) (omega (arith, same, within))
+            (subst (λ (h : List HistoryEntry). nat_lt (start_of (node_ip m.node) h) counter ≡ true) (history_is g.book sound) later) (omega (arith, same, within))
 
         starts : start_of (node_ip m.node) ((noted now (act.Path (node_id m.node) (port_number m.port) counter) g).book.firm ++ (noted now (act.Path (node_id m.node) (port_number m.port) counter) g).book.rest) ≡ counter
         starts =

@@ -25,9 +25,10 @@ use Rattle.once_core.proofs.CommitPlays.{not_reached, whole_book}
 use Rattle.once_core.proofs.EachLemmas.{each_front, each_more}
 use Rattle.once_core.proofs.GrowingLemmas.{on, on_on, on_with}
 use Rattle.once_core.proofs.ListLemmas.{filtered, in_none}
-use Rattle.once_core.proofs.ReplyPlays.{noted, whole_history}
+use Rattle.once_core.proofs.ReplyPlays.{noted}
 use Rattle.once_core.proofs.StartLemmas.{IsNoPath, front_low, no_path_rises, no_path_same, one_rises, start_rises}
 use Rattle.once_core.proofs.WaitingLemmas.{of_map, passed}
+use Rattle.once_core.proofs.StopLemmas.{history_is}
 
 -- ---- a gateway
 
@@ -250,7 +251,7 @@ module _ (place : ℕ) (bound : ℕ → ℕ) where
         all_firm : is_reached g.book (out.waiting_for g m) ≡ true → g.book.firm ++ g.book.rest ≡ g.book.firm
         all_firm reached =
             let short = leb-true (length (history_of g.book)) (length g.book.firm) reached in
-            let same : length (history_of g.book) ≡ length (g.book.firm ++ g.book.rest) = ap length (whole_history g.book sound) in
+            let same : length (history_of g.book) ≡ length (g.book.firm ++ g.book.rest) = ap length (history_is g.book sound) in
             let size = length-append g.book.firm g.book.rest in
             ap (λ (r : List HistoryEntry). g.book.firm ++ r) (none_behind g.book.rest (omega (arith, short, same, size))) ∙ append-nil g.book.firm
 

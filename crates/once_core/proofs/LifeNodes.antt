@@ -1,7 +1,7 @@
 -- A gateway is alive to a node only where the node's start is firm: what a node's calls leave of that.
 use Rattle.std.proofs.Common.{◌≡◌, ⊎_elim, ℕ, ◌≤◌, ◌==◌, ◌&&◌, ◌||◌, inl, inr, not, Bool, true, false, if◌then◌else◌, List, [], ◌∷◌, ◌++◌, map, Option, Some, None, Contains, refl, sym, ap, subst, ◌∙◌, arith}
 use Rattle.std.specs.Option.{option_map_or}
-use Rattle.std.proofs.lemmas.Bool.{eqb-true, false≢true}
+use Rattle.std.proofs.lemmas.Bool.{eqb-true, false≢true, not-false, or_parts}
 use Rattle.gtpp_message.specs.Message.{MessageValue, EchoRequest, EchoResponse, VersionNotSupported, NodeAliveRequest, NodeAliveResponse, RedirectionRequest, RedirectionResponse, TransferRequest, TransferResponse}
 use Rattle.gtpp_message.specs.Packet.{PacketForm}
 use Rattle.gtpp_message.specs.Reading.{Message, ReadingValue}
@@ -34,7 +34,6 @@ use Rattle.once_core.proofs.ListLemmas.{in_cons, in_none}
 use Rattle.once_core.proofs.LogLemmas.{place_is, starts_again, starts_same}
 use Rattle.once_core.proofs.MeaningLemmas.{FromGateway, GatewaySaid, IsWritten, ReadsBack, role_read_of, type_of}
 use Rattle.once_core.proofs.NodePlays.{NodeRightly, appointed_paths, appointed_starts, either}
-use Rattle.once_core.proofs.RequestPlays.{both_false, not_false}
 use Rattle.once_core.proofs.WaitingLemmas.{of_map}
 
 -- Where a gateway is alive to the node of this log, the node's starts are at most those that the gateway knows firmly.
@@ -207,5 +206,5 @@ module _ (known : ℕ → ℕ) (gateways : ℕ) (m : world.Message) (log : List 
       by false e late isnt = nothing_life
       by true e true isnt = nothing_life
       by true e false isnt =
-          let both = both_false (not (m.start == starts_in log)) (is_response m && is_taken_for_another value m) isnt in
-          heard (eqb-true m.start (starts_in log) (not_false (m.start == starts_in log) both.0)) (place_of value.gateways (gateway_address m.gateway).ip) refl
+          let both = or_parts (not (m.start == starts_in log)) (is_response m && is_taken_for_another value m) isnt in
+          heard (eqb-true m.start (starts_in log) (not-false (m.start == starts_in log) both.0)) (place_of value.gateways (gateway_address m.gateway).ip) refl

@@ -28,7 +28,7 @@ use Rattle.once_core.specs.declared.event.WorldKind.{WorldKind}
 use Rattle.once_core.specs.declared.message.Message.{Message}
 use Rattle.once_core.proofs.AliveLemmas.{none_alive}
 use Rattle.once_core.proofs.CommitPlays.{whole_book}
-use Rattle.once_core.proofs.FirstPlays.{first_made, gateways_each, times_each}
+use Rattle.once_core.proofs.FirstPlays.{first_made, gateways_each, new_gateway, times_each}
 use Rattle.once_core.proofs.LifeAnswers.{closed_truly, delivered_truly, opened_holding_truly, redirected_truly, ticked_truly}
 use Rattle.once_core.proofs.LifeMoves.{Truly, TrulyMoved, committing_truly, cut_truly, firm_truly, followed_truly, no_path_truly, none_truly, tells_alive}
 use Rattle.once_core.proofs.LifeNodes.{LifeCalled, LifeIn, halt_life, hear_life, start_life, submit_life, tick_life}
@@ -237,9 +237,6 @@ module _ (laws : Laws) (rules : Rules) (values : ℕ → ℕ → List ℕ) (w : 
       by (Some kind) = lives
 
 -- ---- how a world begins
-
-abbrev new_gateway : Gateway
-new_gateway = record { book = standing_for []; waiting = []; is_down = false; redirects = 0 }
 
 first_truly : (rules : Rules) (place : ℕ) (bound : ℕ → ℕ) → Truly place bound (first_gateway rules)
 first_truly rules place bound = (by (rules.room (history_of (standing_for [])) act.Start)).truly

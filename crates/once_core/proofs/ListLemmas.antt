@@ -1,7 +1,8 @@
 -- Elements of lists.
 use Rattle.std.proofs.Common.{◌≡◌, ◌⊎◌, inl, inr, ⊎_elim, ℕ, zero, suc, ◌<◌, Bool, true, false, cond, List, [], ◌∷◌, length, filter, take, drop, take-append-drop, slice_get, slice_index_or, Some, Contains, refl, sym, subst, arith}
-use Rattle.std.proofs.lemmas.List.Elements.{Contains-append_left}
+use Rattle.std.proofs.lemmas.List.Elements.{Contains-append_left, Contains-append_right}
 use Rattle.std.proofs.lemmas.Option.{slice_get_read}
+use Rattle.std.specs.List.{flat_map}
 
 pub in_head : {A : Type 0} (x : A) (xs : List A) → Contains (x ∷ xs) x
 in_head x xs = (0, omega arith, refl)
@@ -37,3 +38,10 @@ filtered {A} p (y ∷ xs) x is = by (p y) is (λ c. filtered p xs x c)
     by : (b : Bool) → Contains (cond b (y ∷ filter p xs) (filter p xs)) x → (Contains (filter p xs) x → Contains xs x) → Contains (y ∷ xs) x
     by true is rest = ⊎_elim (λ e. subst (Contains (y ∷ xs)) e (in_head y xs)) (λ c. in_tail y x xs (rest c)) (in_cons y x (filter p xs) is)
     by false is rest = in_tail y x xs (rest is)
+
+pub in_flat : {A B : Type 0} (f : A → List B) (xs : List A) (x : A) (y : B) → Contains xs x → Contains (f x) y → Contains (flat_map f xs) y
+in_flat f [] x y is there = absurd (in_none x is)
+in_flat {A} {B} f (z ∷ xs) x y is there = ⊎_elim
+    (λ e. Contains-append_left (f z) (flat_map f xs) y (subst (λ (v : A). Contains (f v) y) (sym e) there))
+    (λ later. Contains-append_right (f z) (flat_map f xs) y (in_flat f xs x y later there))
+    (in_cons z x xs is)

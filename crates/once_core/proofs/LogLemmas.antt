@@ -3,6 +3,7 @@ use Rattle.std.proofs.Common.{◌≡◌, ℕ, zero, suc, min, ◌+◌, ◌-◌, 
 use Rattle.std.specs.Prelude.{option_map}
 use Rattle.std.specs.Option.{option_map_or}
 use Rattle.std.proofs.lemmas.Bool.{eqb-true}
+use Rattle.std.proofs.lemmas.List.{length-map}
 use Rattle.std.proofs.lemmas.List.Quantifiers.{position-Some}
 use Rattle.std.proofs.lemmas.List.Sums.{sum_by-cons}
 use Rattle.std.proofs.lemmas.Option.{slice_get-get_or, slice_get-map}
@@ -18,6 +19,7 @@ use Rattle.node_core.specs.declared.sending.Sending.{Sending}
 use Rattle.node_core.specs.declared.sending.Sending.TheVariants as send
 use Rattle.once_core.specs.Addresses.{addresses_from, first_gateway_ip, gateway_address, gateway_at}
 use Rattle.once_core.specs.Expired.{begins, starts_in}
+use Rattle.once_core.proofs.NodeTurnLemmas.{addresses_length}
 
 -- ---- starts
 
@@ -95,7 +97,7 @@ counter_is first (Heard port gateway saying ∷ log) = hearing_keeps gateway say
 
 -- ---- gateways
 
-abbrev addresses : List Peer → List Addr
+abbrev pub addresses : List Peer → List Addr
 addresses peers = map (λ (peer : Peer). peer.address) peers
 
 place_keeps : (f : Peer → Peer) → ((peer : Peer) → (f peer).address ≡ peer.address) → (gateway : ℕ) (peers : List Peer) → addresses (at_place gateway f peers) ≡ addresses peers
@@ -128,7 +130,7 @@ anew : (gateways : List Addr) → addresses (map peer_anew gateways) ≡ gateway
 anew [] = refl
 anew (a ∷ gateways) = ap (λ (rest : List Addr). a ∷ rest) (anew gateways)
 
-addresses_stay : (gateways : List Addr) (log : List LogEntry) → addresses (peers_of gateways log) ≡ gateways
+pub addresses_stay : (gateways : List Addr) (log : List LogEntry) → addresses (peers_of gateways log) ≡ gateways
 addresses_stay gateways [] = anew gateways
 addresses_stay gateways (Began ∷ log) = anew gateways
 addresses_stay gateways (Halted ∷ log) = anew gateways
@@ -143,14 +145,6 @@ at_some from (suc count) zero lt = let same : from ≡ from + 0 = omega arith in
 at_some from (suc count) (suc place) lt =
     let same : suc from + place ≡ from + suc place = omega arith in
     at_some (suc from) count place (omega (arith, lt)) ∙ ap (λ (n : ℕ). Some (gateway_address n)) same
-
-pub as_many : (from count : ℕ) → length (addresses_from from count) ≡ count
-as_many from zero = refl
-as_many from (suc count) = let rest = as_many (suc from) count in omega (arith, rest)
-
-length_of_map : {A B : Type 0} (f : A → B) (xs : List A) → length (map f xs) ≡ length xs
-length_of_map f [] = refl
-length_of_map f (x ∷ xs) = let rest = length_of_map f xs in omega (arith, rest)
 
 module _ (gateways : ℕ) (log : List LogEntry) where
   there : (place : ℕ) → place < gateways → option_map (λ (peer : Peer). peer.address) (slice_get (peers_of (addresses_from 0 gateways) log) place) ≡ Some (gateway_address place)
@@ -175,8 +169,8 @@ module _ (gateways : ℕ) (log : List LogEntry) where
 
   pub size : length (peers_of (addresses_from 0 gateways) log) ≡ gateways
   size =
-      sym (length_of_map (λ (peer : Peer). peer.address) (peers_of (addresses_from 0 gateways) log))
-      ∙ ap length (addresses_stay (addresses_from 0 gateways) log) ∙ as_many 0 gateways
+      sym (length-map (peers_of (addresses_from 0 gateways) log) (λ (peer : Peer). peer.address))
+      ∙ ap length (addresses_stay (addresses_from 0 gateways) log) ∙ addresses_length 0 gateways
 
   pub place_is : (gateway place : ℕ) → place_of (peers_of (addresses_from 0 gateways) log) (gateway_address gateway).ip ≡ Some place → place ≡ gateway
   place_is gateway place e =

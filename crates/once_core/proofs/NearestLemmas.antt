@@ -1,5 +1,6 @@
 -- The number of an open copy is read as it is meant, where the gateway's present epoch is that of the node's start.
 use Rattle.std.proofs.Common.{◌≡◌, ◌⊎◌, inl, inr, ℕ, ◌+◌, ◌<◌, ◌≤◌, ◌%◌, ◌↔◌, Bool, true, false, List, [], Option, Some, None, Contains, refl, sym, ap, subst, ◌∙◌, arith}
+use Rattle.std.proofs.lemmas.Option.{same_Some}
 use Rattle.gateway_book.specs.Fit.{is_fresh}
 use Rattle.gw_base.specs.EntryLaws.{present_state_is}
 use Rattle.gw_base.specs.History.{epoch_of, state_of, top_of}
@@ -41,9 +42,6 @@ near_some : NearestIsTheOne → (t number : ℕ) → 65536 ≤ t → t ≤ numbe
 near_some law t number some low high =
     sym ((law t (number % 65536) number (omega arith) (omega (arith, some))).0 (record { congruent = refl; low = low; high = high }))
 
-some_is : (a b : ℕ) → Some a ≡ Some b → a ≡ b
-some_is a b e = ap (λ (o : Option ℕ). elim o [ None ↦ a | Some n ↦ n ]) e
-
 open_copy : (packets : List PacketState) (gateway number : ℕ) (is : HasCopy packets gateway number) → is_done is.packet.copies ≡ false → HasOpenCopy packets gateway number
 open_copy packets gateway number is open_yet = record {
   packet = is.packet;
@@ -69,7 +67,7 @@ module _ (law : NearestIsTheOne) (scene : Scene) (holds : SceneHolds scene) (nod
   below_top number known =
       let there : IsKnown h node start number =
       subst (λ (k : List HistoryEntry). IsKnown k node start number) (sym front.is) (known_on (scene.posts gateway).firm front.more node start number known) in
-      let epoch_is : there.epoch ≡ epoch_of node h = some_is there.epoch (epoch_of node h)
+      let epoch_is : there.epoch ≡ epoch_of node h = same_Some there.epoch (epoch_of node h)
       (sym there.begun ∙ subst (λ (s : ℕ). epoch_with node s h ≡ Some (epoch_of node h)) present (present_epoch node h (starts_rise scene.letters gateway h rests))) in
       covers scene.letters gateway node number h rests
       (ap is_fresh (sym (ap (λ (epoch : ℕ). state_of (key_in node number epoch) h) epoch_is ∙ present_state_is (record { 0 = node }) number h)) ∙ there.state_is)
@@ -120,6 +118,6 @@ module _ (law : NearestIsTheOne) (scene : Scene) (holds : SceneHolds scene) (nod
       by (Some t) e =
           let copy = top_copy t e in
           let range = near.range t copy in
-          let high = near.settled_near t (inr copy) (above_top t (λ n covered. let same = some_is t covered.greatest (sym e ∙ covered.is) in let below = covered.below in omega (arith, same, below))) in
+          let high = near.settled_near t (inr copy) (above_top t (λ n covered. let same = same_Some t covered.greatest (sym e ∙ covered.is) in let below = covered.below in omega (arith, same, below))) in
           let low = near.open_near number is in
           near_some law t number range.0 (omega (arith, range.1, low)) (omega (arith, mine.1, high))

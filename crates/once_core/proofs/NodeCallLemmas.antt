@@ -14,7 +14,6 @@ use Rattle.node_core.specs.Ticks.{due, tick_entries}
 use Rattle.node_core.specs.Value.{CanFollowAll, IsNode, NodeValue, befallen, logged}
 use Rattle.node_core.specs.declared.fault.SubmitFault.{SubmitFault}
 use Rattle.node_core.specs.declared.port.Port.{Port}
-use Rattle.once_core.proofs.FollowLemmas.{starts_more}
 use Rattle.once_core.specs.Addresses.{gateway_address, node_setup}
 use Rattle.once_core.specs.Expired.{begins, is_expired_at_node, starts_in}
 use Rattle.once_core.specs.KeptTurn.{started_again}
@@ -22,6 +21,7 @@ use Rattle.once_core.specs.NodeMoves.{answered_by, heard_by, submitted_entries, 
 use Rattle.once_core.specs.Standing.{NodeKept, node_kept}
 use Rattle.once_core.specs.World.{Called, answers_of, called, delivered_to_node, draft_of, hearing, node_value, submitting, submitting_form}
 use Rattle.once_core.specs.declared.message.Message.{Message}
+use Rattle.once_core.proofs.LogLemmas.{starts_again}
 
 -- what node_core says of logs
 abbrev pub NodeLaw : Type 0
@@ -133,7 +133,7 @@ module _ (law : NodeLaw) (gateways place : ℕ) where
       by_log (e ∷ es) down begun =
           let whole : List LogEntry = e ∷ es in
           let node : befallen (Began ∷ []) (value whole) ≡ value (Began ∷ whole) = law (node_setup gateways place) (Began ∷ []) whole (value whole) (refl, tt) refl in
-          let starts : starts_in whole + 1 ≡ starts_in (Began ∷ whole) = omega (arith, starts_more whole) in
+          let starts : starts_in whole + 1 ≡ starts_in (Began ∷ whole) = omega (arith, starts_again whole) in
           let grown : started_again (node_kept gateways place whole) ≡ node_kept gateways place (Began ∷ whole) = λ i. record { node = node i; starts = starts i } in
           grown ∙ ap (λ (es : List LogEntry). node_kept gateways place (logged es whole))
           (sym (ap (λ b. if b then entries_running (value whole) Start else entries_halted Start) down))

@@ -3,6 +3,7 @@
 use Rattle.std.proofs.Common.{◌≡◌, ◌≢◌, ℕ, ◌≤◌, ◌==◌, ◌&&◌, ◌||◌, nat_lt, not, Bool, true, false, if◌then◌else◌, List, length, Option, Some, None, refl, sym, ap, subst, ◌∙◌, arith}
 use Rattle.std.specs.Prelude.{option_map}
 use Rattle.std.proofs.lemmas.Bool.{eqb-false, false≢true, lt-ltb, ltb-false}
+use Rattle.std.proofs.lemmas.Option.{same_Some}
 use Rattle.gw_base.specs.Observed.{observed}
 use Rattle.gw_base.specs.Starts.{opening_of, start_by, start_of}
 use Rattle.gw_base.specs.declared.history.HistoryAct.{HistoryAct}
@@ -37,7 +38,8 @@ use Rattle.once_core.specs.Shown.{post_of}
 use Rattle.once_core.specs.declared.message.Message as world
 use Rattle.once_core.proofs.MeaningLemmas.{FromGateway, FromNode, GatewaySaid, IsWritten, ReadsBack, meaning_is, role_read_of}
 use Rattle.once_core.proofs.PlayLemmas.{Plays, Rightly, Stands, followed_plays, still_plays}
-use Rattle.once_core.proofs.ReplyPlays.{noted, noted_plays, quiet_plays, whole_history}
+use Rattle.once_core.proofs.ReplyPlays.{noted, noted_plays, quiet_plays}
+use Rattle.once_core.proofs.StopLemmas.{history_is}
 
 -- ---- a message of path management means nothing here
 
@@ -86,18 +88,15 @@ fresh_start h m fresh = by (nat_lt m.start (present_start h m)) refl fresh
     by true e isnt = absurd (false≢true (sym isnt))
     by false e isnt = ltb-false m.start (present_start h m) e
 
-pub some_number : (a b : ℕ) → Some a ≡ Some b → a ≡ b
-some_number a b e = ap (λ (o : Option ℕ). elim o [ None ↦ a | Some c ↦ c ]) e
-
 pub rises : (opening : Option Opening) (counter path : ℕ) → 1 ≤ counter → start_by opening ≤ counter
     → opened_by (option_map (λ o. o.counter) opening) counter ≡ Some path → nat_lt (start_by opening) path ≡ true
-rises None counter path some low e = let same = some_number counter path e in lt-ltb 0 path (omega (arith, some, same))
+rises None counter path some low e = let same = same_Some counter path e in lt-ltb 0 path (omega (arith, some, same))
 rises (Some o) counter path some low e = by (o.counter == counter) refl e
   where
     by : (b : Bool) → (o.counter == counter) ≡ b → (if b then None else Some counter) ≡ Some path → nat_lt o.counter path ≡ true
     by true same e = absurd (cc)
     by false apart e =
-        let same = some_number counter path e in
+        let same = same_Some counter path e in
         let differ : o.counter ≢ counter = eqb-false o.counter counter apart in
         lt-ltb o.counter path (omega (arith, low, differ, same))
 
@@ -146,7 +145,7 @@ module _ (back : ReadsBack) (roles : RolesRead) (rules : Rules) (now : ℕ) (m :
             (Opens m.gateway (node_at (node_ip m.node)) (port_number m.port) counter now no_caller)
             (ap (λ (b : Bool). with_post m.gateway (opening now no_caller (act.Path (node_id m.node) (port_number m.port) counter) b (scene.posts m.gateway)) scene)
             (ap (λ (p : Post). nat_lt (start_of (node_ip m.node) (history p)) counter) stands.post
-            ∙ ap (λ (h : List HistoryEntry). nat_lt (start_of (node_ip m.node) h) counter) (sym (whole_history g.book sound)) ∙ later))
+            ∙ ap (λ (h : List HistoryEntry). nat_lt (start_of (node_ip m.node) h) counter) (sym (history_is g.book sound)) ∙ later))
 
     opening_plays : (event : PathEvent) (counter : ℕ) (o : Option ℕ)
         → ((path : ℕ) → o ≡ Some path → nat_lt (start_of (node_ip m.node) (history_of g.book)) path ≡ true)

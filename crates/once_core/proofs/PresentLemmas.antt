@@ -37,11 +37,10 @@ use Rattle.once_core.specs.declared.event.WorldKind.{WorldKind}
 use Rattle.once_core.specs.declared.event.WorldKind.TheVariants.{NoMessage}
 use Rattle.once_core.specs.declared.message.Message.{Message}
 use Rattle.once_core.proofs.AliveLemmas.{AllAlive, copies_alive}
-use Rattle.once_core.proofs.DeliverPlays.{book_is}
-use Rattle.once_core.proofs.GrowingLemmas.{on, on_with}
+use Rattle.once_core.proofs.GrowingLemmas.{book_is, on, on_with}
 use Rattle.once_core.proofs.LifeWorlds.{Lives, world_lives}
 use Rattle.once_core.proofs.ListLemmas.{get_contains}
-use Rattle.once_core.proofs.LogLemmas.{as_many, gateway_is, size}
+use Rattle.once_core.proofs.LogLemmas.{gateway_is, size}
 use Rattle.once_core.proofs.MeantLemmas.{Numbers}
 use Rattle.once_core.proofs.NodePlays.{NodeRightly, appointed_paths}
 use Rattle.once_core.proofs.SentPlays.{OneCopyEach}
@@ -51,6 +50,7 @@ use Rattle.once_core.proofs.TurnPlays.{Laws, it_runs}
 use Rattle.once_core.proofs.WaitingLemmas.{of_map}
 use Rattle.once_core.proofs.WorldOnceLemmas.{world_made}
 use Rattle.once_core.proofs.WorldPlays.{Made}
+use Rattle.once_core.proofs.NodeTurnLemmas.{addresses_length}
 
 -- ---- a request goes to a gateway that is alive
 
@@ -79,7 +79,7 @@ module _ (laws : Laws) (sent : RequestsSent) (w : World) (values : ℕ → ℕ �
   ip = node_ip (node - 1)
 
   some_gateways : 1 ≤ length (node_setup (length w.gateways) (node - 1)).gateways
-  some_gateways = let least = made.sound.some in let many = as_many 0 (length w.gateways) in omega (arith, least, many)
+  some_gateways = let least = made.sound.some in let many = addresses_length 0 (length w.gateways) in omega (arith, least, many)
 
   log_there : log_at w (node - 1) ≡ log
   log_there = ap (λ (o : Option (List LogEntry)). option_map_or (λ l. l) o []) there

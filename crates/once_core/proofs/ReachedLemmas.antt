@@ -1,5 +1,5 @@
 -- What holds of what turns make of each first world of a gateway or more holds of each world that is reached.
-use Rattle.std.proofs.Common.{◌≡◌, ℕ, ◌≤◌, List, map, refl, subst}
+use Rattle.std.proofs.Common.{ℕ, ◌≤◌, List, map, refl, subst}
 use Rattle.once_core.specs.Beginning.{IsReached, first_world, world_of}
 use Rattle.once_core.specs.Gateway.{Rules}
 use Rattle.once_core.specs.Turn.{RuledTurn, Turn, ruled, ruled_turns, turns}

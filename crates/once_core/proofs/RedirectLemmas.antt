@@ -1,7 +1,7 @@
 -- Redirection Requests, one node after the other.
 use Rattle.std.proofs.Common.{◌≡◌, ℕ, suc, ◌+◌, ◌-◌, ◌<◌, ◌≤◌, ◌%◌, false, List, [], ◌∷◌, ◌++◌, length, drop, get_or, Option, Some, None, map, refl, ap, sym, ◌∙◌, arith, append_assoc}
 use Rattle.std.proofs.Math.Seq.{drop-cons}
-use Rattle.std.proofs.lemmas.List.{append-nil}
+use Rattle.std.proofs.lemmas.List.{append-nil, drop_all}
 use Rattle.std.specs.List.{cons_option, filter_map}
 use Rattle.std.specs.Option.{option_map, option_map_or}
 use Rattle.gateway_book.specs.Told.{path_of}
@@ -12,7 +12,6 @@ use Rattle.gw_base.specs.declared.address.NodeId.{NodeId}
 use Rattle.gw_base.specs.declared.history.HistoryEntry.{HistoryEntry}
 use Rattle.gw_base.specs.declared.history.Opening.{Opening}
 use Rattle.node_core.specs.declared.port.Port.{Port}
-use Rattle.once_core.proofs.GatewayTurnLemmas.{drop_past}
 use Rattle.once_core.proofs.HistoryKeptLemmas.{path_is_near}
 use Rattle.once_core.specs.Addresses.{first_node_ip, node_at, port_at}
 use Rattle.once_core.specs.Answers.{redirecting}
@@ -83,4 +82,4 @@ redirects_more gateway cause to g all k d so_far new first lt is one =
 pub redirects_end : (gateway cause : ℕ) (to : Option ℕ) (g : Gateway) (all : List NodeId) (k : ℕ) (so_far first : List Message) → length all ≤ k
     → so_far ++ all_of gateway cause to g (drop k all) ≡ first → so_far ≡ first
 redirects_end gateway cause to g all k so_far first le is =
-    sym (append-nil so_far) ∙ (ap (λ (ns : List NodeId). so_far ++ all_of gateway cause to g ns) (sym (drop_past k all le)) ∙ is)
+    sym (append-nil so_far) ∙ (ap (λ (ns : List NodeId). so_far ++ all_of gateway cause to g ns) (sym (drop_all k all le)) ∙ is)

@@ -5,7 +5,7 @@ use Rattle.std.proofs.lemmas.List.Elements.{Contains-append_right, Contains-push
 use Rattle.gw_base.specs.declared.history.HistoryAct.{HistoryAct}
 use Rattle.gw_base.specs.declared.history.HistoryEntry.{HistoryEntry}
 use Rattle.gateway_book.specs.Answered.{entry_by, no_caller}
-use Rattle.gateway_book.specs.Value.{BookValue, history_of, recorded}
+use Rattle.gateway_book.specs.Value.{history_of, recorded}
 use Rattle.once_core.specs.Answers as world
 use Rattle.once_core.specs.Answers.{replying}
 use Rattle.once_core.specs.Gateway.{Gateway, is_reached, still}
@@ -22,9 +22,7 @@ use Rattle.once_core.proofs.MeaningLemmas.{GatewaySaid}
 use Rattle.once_core.proofs.PlayLemmas.{Plays, Rightly, Stands, post_goes, same_at, settled_goes}
 use Rattle.once_core.proofs.SceneLemmas.{at_same}
 use Rattle.once_core.proofs.WaitingLemmas.{all_pass, letters_append, none_pass}
-
-pub whole_history : (v : BookValue) → v.is_broken ≡ false → history_of v ≡ v.firm ++ v.rest
-whole_history v e = ap (λ (b : Bool). if b then v.firm else v.firm ++ v.rest) e
+use Rattle.once_core.proofs.StopLemmas.{history_is}
 
 -- a gateway with one entry more
 abbrev pub noted : ℕ → HistoryAct → Gateway → Gateway
@@ -44,7 +42,7 @@ noted_plays gateway scene g stands sound now a next is = record {
   post =
       at_same gateway (noting now no_caller a (scene.posts gateway)) scene.posts ∙ ap (noting now no_caller a) stands.post
       ∙ ap (λ (h : List HistoryEntry). record { firm = g.book.firm; rest = g.book.rest ++ entry_by h now no_caller a ∷ []; waiting = waiting_letters g.waiting })
-      (sym (whole_history g.book sound));
+      (sym (history_is g.book sound));
   sends = λ m is speaking. absurd (in_none m is);
   said = λ m is. absurd (in_none m is);
   rightly = noted_rightly now a g stands.rightly;
@@ -135,11 +133,8 @@ module _ (g : Gateway) (m : Message) (rightly : Rightly g) where
       rightly = settled_rightly (record g { waiting = g.waiting ++ world.waiting_for g m ∷ [] }) sound (waiting_said from said);
     }
       where
-        history_is : history_of g.book ≡ g.book.firm ++ g.book.rest
-        history_is = whole_history g.book sound
-
         reached_is : (b : Bool) → nat_le (length (g.book.firm ++ g.book.rest)) (length g.book.firm) ≡ b → is_reached g.book (world.waiting_for g m) ≡ b
-        reached_is b e = ap (λ (h : List HistoryEntry). nat_le (length h) (length g.book.firm)) history_is ∙ e
+        reached_is b e = ap (λ (h : List HistoryEntry). nat_le (length h) (length g.book.firm)) (history_is g.book sound) ∙ e
 
         settled : Bool → Settled
         settled b =
@@ -152,7 +147,7 @@ module _ (g : Gateway) (m : Message) (rightly : Rightly g) where
         the_last : waiting_letters (world.waiting_for g m ∷ []) ≡ record { front = length (g.book.firm ++ g.book.rest); letter = letter_of m } ∷ []
         the_last =
             ap (λ (b : Bool). waiting_if b (world.waiting_for g m) ++ []) speaking
-            ∙ ap (λ (h : List HistoryEntry). record { front = length h; letter = letter_of m } ∷ []) history_is
+            ∙ ap (λ (h : List HistoryEntry). record { front = length h; letter = letter_of m } ∷ []) (history_is g.book sound)
 
         post_by : (b : Bool) → nat_le (length (g.book.firm ++ g.book.rest)) (length g.book.firm) ≡ b → (settled b).post ≡ post_of (replying g m).gateway
         post_by true e = ap (λ (ws : List did.WaitingLetter). record { firm = g.book.firm; rest = g.book.rest; waiting = ws })

@@ -1,7 +1,7 @@
 -- What a gateway answers to a request that is timely is what a coming request is in a scene.
-use Rattle.std.proofs.Common.{◌≡◌, ℕ, ◌%◌, ◌==◌, ◌&&◌, ◌||◌, not, nat_lt, Bool, true, false, if◌then◌else◌, List, [], ◌∷◌, ◌++◌, Option, Some, None, Contains, slice_get, refl, sym, ap, subst, ◌∙◌}
+use Rattle.std.proofs.Common.{◌≡◌, ℕ, ◌%◌, ◌==◌, ◌&&◌, not, nat_lt, Bool, true, false, if◌then◌else◌, List, [], ◌∷◌, ◌++◌, Option, Some, None, Contains, slice_get, refl, sym, ap, subst, ◌∙◌}
 use Rattle.std.specs.Option.{option_map_or}
-use Rattle.std.proofs.lemmas.Bool.{and_from, false≢true}
+use Rattle.std.proofs.lemmas.Bool.{and_from, not-false, or_parts}
 use Rattle.std.proofs.lemmas.Option.{slice_get-get_or}
 use Rattle.gw_base.specs.History.{top_of}
 use Rattle.gw_base.specs.Nearest.{nearest}
@@ -35,7 +35,8 @@ use Rattle.once_core.specs.Shown.{post_of, waiting_letters}
 use Rattle.once_core.specs.declared.message.Message as world
 use Rattle.once_core.proofs.MeaningLemmas.{IsAbout, IsWritten, ReadsBack, meaning_is, responds_means, responds_said, role_read_of, type_of}
 use Rattle.once_core.proofs.PlayLemmas.{Plays, Stands}
-use Rattle.once_core.proofs.ReplyPlays.{answer_plays, noted, noted_rightly, whole_history}
+use Rattle.once_core.proofs.ReplyPlays.{answer_plays, noted, noted_rightly}
+use Rattle.once_core.proofs.StopLemmas.{history_is}
 
 -- ---- the answer on octets is the answer on what they mean
 
@@ -84,27 +85,19 @@ asked_responds o may node number (Cancel numbers) = tabled_responds may number _
 
 -- ---- a request that isn't expired is timely
 
-pub both_false : (a b : Bool) → (a || b) ≡ false → (a ≡ false) × (b ≡ false)
-both_false true b e = absurd (false≢true (sym e))
-both_false false b e = (refl, e)
-
-pub not_false : (a : Bool) → not a ≡ false → a ≡ true
-not_false true e = refl
-not_false false e = absurd (false≢true (sym e))
-
 pub is_a_request : (octets : List ℕ) (number : ℕ) (body : TransferValue) → octets ≡ written number (TransferRequest body) → has_type TRANSFER_REQUEST octets ≡ true
 is_a_request octets number body e = ap (λ (o : Option ℕ). option_map_or (λ k. k == TRANSFER_REQUEST) o false) (type_of octets number (TransferRequest body) e)
 
 timely : (m : world.Message) (h : List HistoryEntry) (number : ℕ) (body : TransferValue) → m.octets ≡ written number (TransferRequest body) → IsAbout m body
     → is_expired h m ≡ false → is_timely h (letter_of m) (request_in (about m) body) ≡ true
 timely m h number body e is fresh =
-    let parts = both_false (nat_lt m.start (present_start h m)) (is_request m && is_expired_request h m) fresh in
+    let parts = or_parts (nat_lt m.start (present_start h m)) (is_request m && is_expired_request h m) fresh in
     let late : is_expired_request h m ≡ false = sym (ap (λ (b : Bool). b && is_expired_request h m) (is_a_request m.octets number body e)) ∙ parts.1 in
-    let both = both_false (not (m.start == present_start h m)) (not (taken_for h m == about m)) late in
+    let both = or_parts (not (m.start == present_start h m)) (not (taken_for h m == about m)) late in
     and_from (m.start == start_of (node_ip m.node) h)
     (nearest (top_of (node_ip m.node) h) (did.about (request_in (about m) body) m.number % 65536) == did.about (request_in (about m) body) m.number)
-    (not_false (m.start == present_start h m) both.0)
-    (ap (λ (n : ℕ). nearest (top_of (node_ip m.node) h) (n % 65536) == n) (about_is m body is) ∙ not_false (taken_for h m == about m) both.1)
+    (not-false (m.start == present_start h m) both.0)
+    (ap (λ (n : ℕ). nearest (top_of (node_ip m.node) h) (n % 65536) == n) (about_is m body is) ∙ not-false (taken_for h m == about m) both.1)
 
 -- ---- it comes
 
@@ -163,9 +156,9 @@ module _ (back : ReadsBack) (roles : RolesRead) (rules : Rules) (now : ℕ) (m :
         coming_is =
             ap (λ (b : Bool). if b then scenes.answering now no_caller (letter_of m) (given (history (post_of g)) (rules.may (history_of g.book) (node_id m.node)) (letter_of m) (request_in (about m) body)) (post_of g)
             else record { post = post_of g; sends = [] })
-            (subst (λ (q : List HistoryEntry). is_timely q (letter_of m) (request_in (about m) body) ≡ true) (whole_history g.book sound)
+            (subst (λ (q : List HistoryEntry). is_timely q (letter_of m) (request_in (about m) body) ≡ true) (history_is g.book sound)
             (timely m (history_of g.book) (m.number % 65536) body w.is is fresh))
-            ∙ ap (λ (given : Given). scenes.answering now no_caller (letter_of m) given (post_of g)) (given_is (history (post_of g)) (whole_history g.book sound))
+            ∙ ap (λ (given : Given). scenes.answering now no_caller (letter_of m) given (post_of g)) (given_is (history (post_of g)) (history_is g.book sound))
 
         reply_is : reply (letter_of m) (responding (m.number % 65536) cause act) ≡ letter_of (answering m octets)
         reply_is = ap (λ (says : Meaning). record { node = node_ip m.node; start = m.start; gateway = m.gateway; port = m.port; number = m.number; says = says }) (sym means)
@@ -193,5 +186,5 @@ module _ (back : ReadsBack) (roles : RolesRead) (rules : Rules) (now : ℕ) (m :
             (responds_said (answering m octets) cause (record { octets = refl }))
             (comes ∷ [])
             (happens (post_of (noted now a g)) (ap (λ (o : Option HistoryAct). noting_if now no_caller o (post_of g)) e
-            ∙ ap (λ (q : List HistoryEntry). record { firm = g.book.firm; rest = g.book.rest ++ entry_by q now no_caller a ∷ []; waiting = waiting_letters g.waiting }) (sym (whole_history g.book sound))))
+            ∙ ap (λ (q : List HistoryEntry). record { firm = g.book.firm; rest = g.book.rest ++ entry_by q now no_caller a ∷ []; waiting = waiting_letters g.waiting }) (sym (history_is g.book sound))))
             speaking

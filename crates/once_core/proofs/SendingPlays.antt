@@ -40,12 +40,12 @@ use Rattle.once_core.specs.Shown.{forms_ever}
 use Rattle.once_core.specs.World.{log_after, message_of, node_value}
 use Rattle.once_core.specs.declared.message.Message.{Message}
 use Rattle.once_core.proofs.FormLemmas.{GoodForm, packet_is, value_octets_are}
-use Rattle.once_core.proofs.ListLemmas.{get_contains, in_head}
+use Rattle.once_core.proofs.ListLemmas.{get_contains, in_flat, in_head}
 use Rattle.once_core.proofs.LogLemmas.{gateway_is, size, starts_same}
 use Rattle.once_core.proofs.MeaningLemmas.{IsAbout, IsWritten, ReadsBack, Said, meaning_is, said_by_node}
 use Rattle.once_core.proofs.NodePlays.{NodeRightly, appointed_ever, appointed_forms, appointed_runs, appointed_starts, appointed_submitted}
 use Rattle.once_core.proofs.NumberLemmas.{Values, ever, ever_at, numbered_in, present_packet}
-use Rattle.once_core.proofs.SentPlays.{NodesFollow, OneCopyEach, in_flat, sent_deed}
+use Rattle.once_core.proofs.SentPlays.{NodesFollow, OneCopyEach, sent_deed}
 use Rattle.once_core.proofs.WaitingLemmas.{in_map}
 
 -- ---- what a packet is sent in is short

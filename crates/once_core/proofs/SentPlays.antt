@@ -19,13 +19,6 @@ use Rattle.once_core.proofs.SceneLemmas.{at_same}
 
 -- ---- lists
 
-pub in_flat : {A B : Type 0} (f : A → List B) (xs : List A) (x : A) (y : B) → Contains xs x → Contains (f x) y → Contains (flat_map f xs) y
-in_flat f [] x y is there = absurd (in_none x is)
-in_flat {A} {B} f (z ∷ xs) x y is there = ⊎_elim
-    (λ e. Contains-append_left (f z) (flat_map f xs) y (subst (λ (v : A). Contains (f v) y) (sym e) there))
-    (λ later. Contains-append_right (f z) (flat_map f xs) y (in_flat f xs x y later there))
-    (in_cons z x xs is)
-
 pub of_flat : {A B : Type 0} (f : A → List B) (P : B → Type 0) → ((x : A) (y : B) → Contains (f x) y → P y) → (xs : List A) (y : B) → Contains (flat_map f xs) y → P y
 of_flat f P each [] y is = absurd (in_none y is)
 of_flat f P each (x ∷ xs) y is = ⊎_elim (λ here. each x y here) (λ later. of_flat f P each xs y later) (Contains-append_cases (f x) (flat_map f xs) y is)

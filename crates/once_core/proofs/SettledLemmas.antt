@@ -1,8 +1,8 @@
 -- The numbers of all copies of a packet that is done are known to their gateways.
-use Rattle.std.proofs.Common.{◌≡◌, ◌⊎◌, inl, inr, ⊎_elim, ℕ, ◌==◌, ◌||◌, Bool, true, false, if◌then◌else◌, List, [], ◌∷◌, Option, Some, None, IfSome, Contains, refl, sym, ap, subst, ◌∙◌}
+use Rattle.std.proofs.Common.{◌≡◌, ◌⊎◌, ⊎_elim, ℕ, ◌==◌, ◌||◌, Bool, true, false, if◌then◌else◌, List, [], ◌∷◌, Option, Some, None, IfSome, Contains, refl, sym, ap, subst, ◌∙◌}
 use Rattle.std.specs.List.{list_all, list_any}
 use Rattle.std.specs.Option.{option_map_or}
-use Rattle.std.proofs.lemmas.Bool.{and_parts, false≢true}
+use Rattle.std.proofs.lemmas.Bool.{and_parts, false≢true, or_cases}
 use Rattle.gw_base.specs.declared.cause.TheConstants.{ACCEPTED, ALREADY_FULFILLED, DUPLICATE_ALREADY_FULFILLED}
 use Rattle.node_core.specs.Copies.{is_answered, is_chosen, is_filed, is_filing, is_fulfilled, is_released, is_sealed, is_settled, is_unknown, told}
 use Rattle.node_core.specs.Packets.{PacketState, is_done}
@@ -80,10 +80,6 @@ filed_is_known verdict.Filed e = refl
 filed_is_known verdict.Sealed e = refl
 filed_is_known verdict.Held e = refl
 
-either_is : (a b : Bool) → (a || b) ≡ true → (a ≡ true) ⊎ (b ≡ true)
-either_is true b e = inl refl
-either_is false b e = inr e
-
 module _ (scene : Scene) (holds : SceneHolds scene) (node start : ℕ) (values : ℕ → List ℕ) (packets : List PacketState) (follows : Follows (scene.deeds node) start values packets) where
   abbrev Known : PacketCopy → Type 0
   Known copy = IsKnown (scene.posts copy.gateway).firm node start copy.number
@@ -147,7 +143,7 @@ module _ (scene : Scene) (holds : SceneHolds scene) (node start : ℕ) (values :
   settled_known packet copy is settled = ⊎_elim
       (λ sealed. by_verdict packet copy is (sealed_is_known copy.verdict sealed))
       (λ answered. answered_known packet copy is answered)
-      (either_is (is_sealed copy.verdict) (is_answered copy) settled)
+      (or_cases (is_sealed copy.verdict) (is_answered copy) settled)
 
   -- ---- a packet that is done
 
@@ -170,6 +166,6 @@ module _ (scene : Scene) (holds : SceneHolds scene) (node start : ℕ) (values :
           let choice = knows.choice_of scene holds node start values packets follows packet one.0 (whole one.0 (in_tail plain one.0 duplicates one.1)) chosen in
           let first : choice.plain ≡ plain = ap (λ (cs : List PacketCopy). elim cs [ [] ↦ plain | c ∷ rest ↦ c ]) (sym choice.whole ∙ e) in
           ap (λ (c : PacketCopy). is_unknown c.verdict) (sym first) ∙ ap is_unknown choice.sealed)
-          (either_is (is_filed plain.verdict) (list_any is_released duplicates) parts.0))))
+          (or_cases (is_filed plain.verdict) (list_any is_released duplicates) parts.0))))
           (λ later. settled_known packet copy (whole copy (in_tail plain copy duplicates later)) (all_at is_settled duplicates copy parts.1 later))
           (in_cons plain copy duplicates among)

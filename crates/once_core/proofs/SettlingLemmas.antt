@@ -1,9 +1,8 @@
 -- Answers that wait, parted one after the other.
 use Rattle.std.proofs.Common.{◌≡◌, ℕ, suc, ◌+◌, ◌<◌, ◌≤◌, List, [], ◌∷◌, ◌++◌, length, drop, get_or, refl, ap, sym, ◌∙◌, append_assoc, map, Bool, true, false, if◌then◌else◌, arith}
 use Rattle.std.proofs.Math.Seq.{drop-cons}
-use Rattle.std.proofs.lemmas.List.{append-nil}
+use Rattle.std.proofs.lemmas.List.{append-nil, drop_all}
 use Rattle.std.specs.Prelude.{filter, not, nat_le}
-use Rattle.once_core.proofs.GatewayTurnLemmas.{drop_past}
 use Rattle.once_core.specs.Moves.{HaveParted}
 use Rattle.once_core.specs.declared.message.Message.{Message}
 use Rattle.once_core.specs.declared.message.Waiting.{Waiting}
@@ -56,7 +55,7 @@ parting_on firm all k w so_far new first lt here parting parted =
 pub parting_ends : (firm : ℕ) (all : List Waiting) (k : ℕ) (so_far first : List Waiting × List Message) → length all ≤ k
     → IsParting firm (drop k all) so_far all first → HaveParted firm all first so_far
 parting_ends firm all k so_far first is parting =
-    let none : drop k all ≡ [] = drop_past k all is in
+    let none : drop k all ≡ [] = drop_all k all is in
     record {
       wait = sym (append-nil so_far.0) ∙ (ap (λ xs. so_far.0 ++ waits firm xs) (sym none) ∙ parting.wait);
       sends = sym (append-nil so_far.1) ∙ (ap (λ xs. so_far.1 ++ goes firm xs) (sym none) ∙ parting.sends);

@@ -1,5 +1,6 @@
 -- A turn of a world that is kept is the turn of the world that it stands for.
-use Rattle.std.proofs.Common.{◌≡◌, ℕ, ◌-◌, ◌≤◌, Bool, true, false, not, if◌then◌else◌, List, [], ◌∷◌, length, Option, Some, None, refl, ap, sym, ◌∙◌, subst, true≢false}
+use Rattle.std.proofs.Common.{◌≡◌, ℕ, ◌-◌, ◌≤◌, Bool, true, false, not, if◌then◌else◌, List, [], ◌∷◌, length, Option, Some, None, refl, ap, sym, ◌∙◌, subst}
+use Rattle.std.proofs.lemmas.Bool.{not-false}
 use Rattle.std.specs.Option.{option_map, option_map_or, option_or}
 use Rattle.std.specs.Prelude.{slice_get}
 use Rattle.node_core.specs.Log.{LogEntry, Halted, runs}
@@ -39,10 +40,6 @@ pub refusing_none : (b : Bool) (k : WorldKind) → refusing b k ≡ None → b �
 refusing_none true k is = absurd (cc is)
 refusing_none false k is = refl
 
-pub not_false : (b : Bool) → not b ≡ false → b ≡ true
-not_false true is = refl
-not_false false is = absurd (true≢false is)
-
 log_found : (w : World) (number : ℕ) (log : List LogEntry) → slice_get w.nodes (number - 1) ≡ Some log → log_in w number ≡ log
 log_found w number log is = ap (λ (o : Option (List LogEntry)). option_map_or (λ log. log) o []) is
 
@@ -50,7 +47,7 @@ module _ (law : NodeLaw) (w : World) (few : length w.gateways ≤ 256) where
   runs_where : (number : ℕ) (log : List LogEntry) → slice_get w.nodes (number - 1) ≡ Some log → option_or (no_node w number) (refusing (not (runs (log_in w number))) IsHalted) ≡ None → runs log ≡ true
   runs_where number log found allowed =
       ap runs (sym (log_found w number log found))
-      ∙ not_false (runs (log_in w number)) (refusing_none (not (runs (log_in w number))) IsHalted (or_none (no_node w number) (refusing (not (runs (log_in w number))) IsHalted) allowed))
+      ∙ not-false (runs (log_in w number)) (refusing_none (not (runs (log_in w number))) IsHalted (or_none (no_node w number) (refusing (not (runs (log_in w number))) IsHalted) allowed))
 
   reaches_gateway : (m : Message) → with_gateway (world_kept w) m.gateway (delivered default_rules w.now quiet m) ≡ world_kept (at_gateway w m.gateway (delivered default_rules w.now quiet m))
   reaches_gateway m = gateway_turns w m.gateway (delivered default_rules w.now quiet m) (delivered default_rules w.now quiet m)

@@ -1,7 +1,8 @@
 -- What a step gives, by what is kept.
 use Rattle.std.proofs.Common.{◌≡◌, ℕ, ◌+◌, ◌-◌, ◌≤◌, true, length, Some, None, ap, sym, ◌∙◌, subst, arith}
+use Rattle.std.proofs.lemmas.List.{length-map}
 use Rattle.once_core.proofs.ArmLemmas.{turn_stays}
-use Rattle.once_core.proofs.KeptTurnLemmas.{map_length, refusals_same, starts_same}
+use Rattle.once_core.proofs.KeptTurnLemmas.{refusals_same, starts_same}
 use Rattle.once_core.proofs.NodeCallLemmas.{NodeLaw}
 use Rattle.once_core.proofs.StepLemmas.{turn_is}
 use Rattle.once_core.specs.Beginning.{default_rules}
@@ -27,7 +28,7 @@ module _ (w : World) (e : Event) (old new : WorldKept) (stands : Stands w old) w
 
   few_gateways : length old.gateways ≤ 8 → length w.gateways ≤ 256
   few_gateways few =
-      let same : length old.gateways ≡ length w.gateways = ap (λ (k : WorldKept). length k.gateways) stands ∙ map_length gateway_kept w.gateways in
+      let same : length old.gateways ≡ length w.gateways = ap (λ (k : WorldKept). length k.gateways) stands ∙ length-map w.gateways gateway_kept in
       omega (arith, same, few)
 
   begun_in : HasBegun old e → (number : ℕ) → e ≡ event.Start number → 1 ≤ starts_in (log_in w number)

@@ -5,7 +5,7 @@ use Rattle.gw_base.specs.declared.history.HistoryEntry.{HistoryEntry}
 use Rattle.once_core.specs.Gateway.{Gateway, cut}
 use Rattle.once_core.specs.Growing.{HoldSame}
 
-history_is : (v : BookValue) → v.is_broken ≡ false → history_of v ≡ v.firm ++ v.rest
+pub history_is : (v : BookValue) → v.is_broken ≡ false → history_of v ≡ v.firm ++ v.rest
 history_is v e = ap (λ (b : Bool). if b then v.firm else v.firm ++ v.rest) e
 
 all_left : (xs ys : List HistoryEntry) → take (length (xs ++ ys) - length xs) ys ≡ ys

@@ -26,7 +26,7 @@ use Rattle.once_core.specs.Answers.{acting, answered, closing, delivered, delive
 use Rattle.once_core.specs.Beginning.{first_gateway, first_world, gateways_by}
 use Rattle.once_core.specs.Epochs.{EachBehind}
 use Rattle.once_core.specs.Expired.{is_expired}
-use Rattle.once_core.specs.Gateway.{Gateway, Moved, Rules, book_committing, committing, cut, followed, giving_up, opened, opened_holding, readying, settling, still, with_book, with_start}
+use Rattle.once_core.specs.Gateway.{Gateway, Moved, Rules, book_committing, committing, cut, followed, opened, opened_holding, readying, still, with_start}
 use Rattle.once_core.specs.Turn.{RuledTurn, Turn, at_gateway, at_node, delivering, gateway_moved, lost_if, node_called, refusal_of, ruled_turns, turn, turn_by, unless_refused}
 use Rattle.once_core.specs.World.{Called, World, called, delivered_to_node, submitting, ticking}
 use Rattle.once_core.specs.declared.event.Event.{Event}
@@ -35,6 +35,8 @@ use Rattle.once_core.specs.declared.event.WorldKind.{WorldKind}
 use Rattle.once_core.specs.declared.message.Message.{Message}
 use Rattle.once_core.proofs.EachLemmas.{each_also, each_front, each_more}
 use Rattle.once_core.proofs.MarkLemmas.{NoMark, answers_no_mark}
+use Rattle.once_core.proofs.GrowingLemmas.{book_is}
+use Rattle.once_core.proofs.StopLemmas.{history_is}
 
 -- what holds of the acts that gateways record by themselves, behind any history
 pub record IsPlain (P : List HistoryEntry → HistoryAct → Type 0) : Type 0 where
@@ -51,19 +53,9 @@ abbrev pub AllRecord : (List HistoryEntry → HistoryAct → Type 0) → List Ru
 AllRecord P [] = ⊤
 AllRecord P (t ∷ later) = Records P t.rules × AllRecord P later
 
-history_is : (v : BookValue) → v.is_broken ≡ false → history_of v ≡ v.firm ++ v.rest
-history_is v e = ap (λ (b : Bool). if b then v.firm else v.firm ++ v.rest) e
-
 -- one that is none
 no_mark : {P : Type 0} (a : HistoryAct) → is_mark a ≡ false → is_mark a ≡ true → P
 no_mark a isnt is = absurd (false≢true (sym isnt ∙ is))
-
-book_is : (book : BookValue) (g : Gateway) → (with_book book g).gateway.book ≡ book
-book_is book g = by_test book.is_broken
-  where
-    by_test : (b : Bool) → (if b then giving_up (record g { book = book }) else settling (record g { book = book })).gateway.book ≡ book
-    by_test true = refl
-    by_test false = refl
 
 -- a Tick is due only where a Close is
 tick_due : (open_time now : ℕ) (h : List HistoryEntry) (room : Bool) → (is_tick_due open_time now h && room) ≡ true → is_close_due h ≡ true

@@ -22,8 +22,9 @@ use Rattle.once_core.proofs.MeaningLemmas.{ReadsBack, Said}
 use Rattle.once_core.proofs.NodePlays.{NodePlays, NodeRightly, after_call, appointed_deeds, appointed_ever}
 use Rattle.once_core.proofs.NumberLemmas.{Values}
 use Rattle.once_core.proofs.SendingPlays.{after_tick, before_tick, same_start, sending_plays, tick_is}
-use Rattle.once_core.proofs.SentPlays.{NodesFollow, OneCopyEach, asks, in_flat, of_flat, sending_of, sent_all, sent_deed, sent_deeds, sent_is, sent_new, sent_old, sent_others, sent_posts}
+use Rattle.once_core.proofs.SentPlays.{NodesFollow, OneCopyEach, asks, of_flat, sending_of, sent_all, sent_deed, sent_deeds, sent_is, sent_new, sent_old, sent_others, sent_posts}
 use Rattle.once_core.proofs.WaitingLemmas.{of_map}
+use Rattle.once_core.proofs.ListLemmas.{in_flat}
 
 module _ (gateways place : ℕ) (log : List LogEntry) (rightly : NodeRightly gateways place log) (some : 1 ≤ gateways) (running : runs log ≡ true)
     (follow : NodesFollow) (one_each : OneCopyEach) (many : length (addresses_from 0 gateways) ≡ gateways) where

@@ -40,7 +40,7 @@ use Rattle.once_core.specs.declared.event.Event.TheVariants as event
 use Rattle.once_core.specs.declared.event.WorldKind.{WorldKind}
 use Rattle.once_core.specs.declared.message.Message.{Message}
 use Rattle.once_core.proofs.DueLemmas.{IsOfOpen, all_of_open, is_probe, one_packet, probes_are, stays_open}
-use Rattle.once_core.proofs.LogLemmas.{as_many, gateway_is, size, starts_same}
+use Rattle.once_core.proofs.LogLemmas.{gateway_is, size, starts_same}
 use Rattle.once_core.proofs.MeantLemmas.{Numbers, meant}
 use Rattle.once_core.proofs.NodePlays.{NodeRightly, appointed_runs, appointed_starts}
 use Rattle.once_core.proofs.NumberLemmas.{all_keep, ever, values_are}
@@ -49,6 +49,7 @@ use Rattle.once_core.proofs.TurnPlays.{Laws, it_runs, turn_made}
 use Rattle.once_core.proofs.WaitingLemmas.{in_map, of_map}
 use Rattle.once_core.proofs.WorldOnceLemmas.{world_made}
 use Rattle.once_core.proofs.WorldPlays.{Made, get_set}
+use Rattle.once_core.proofs.NodeTurnLemmas.{addresses_length}
 
 -- what the law of requests says
 abbrev pub RequestsSent : Type 0
@@ -218,7 +219,7 @@ module _ (laws : Laws) (numbers : Numbers) (sent : RequestsSent) (rules : ℕ �
         (turn_made laws (rules 0) values w before (λ place. values_are (log_at w place)) (calm (event.Tick node)))
 
     some_gateways : 1 ≤ length setup.gateways
-    some_gateways = let least = before.sound.some in let many = as_many 0 (length w.gateways) in omega (arith, least, many)
+    some_gateways = let least = before.sound.some in let many = addresses_length 0 (length w.gateways) in omega (arith, least, many)
 
     running : runs (log_of setup calls) ≡ true
     running =
@@ -240,7 +241,7 @@ module _ (laws : Laws) (numbers : Numbers) (sent : RequestsSent) (rules : ℕ �
         (subst (λ (l : List LogEntry). HasOpenCopy (packets_of l) gateway number) (sym (after_is sent laws.one_each setup calls some_gateways running)) is)
       where
         inside : gateway < length setup.gateways
-        inside = let within = slice_get_within w.gateways gateway g here in let many = as_many 0 (length w.gateways) in omega (arith, within, many)
+        inside = let within = slice_get_within w.gateways gateway g here in let many = addresses_length 0 (length w.gateways) in omega (arith, within, many)
 
         post_is : (scene_after made_after.happenings).posts gateway ≡ post_of g
         post_is =

@@ -23,7 +23,6 @@ use Rattle.once_core.proofs.DeliverPlays.{closed_plays, delivered_plays, opened_
 use Rattle.once_core.proofs.FormLemmas.{RecordsSpelled}
 use Rattle.once_core.proofs.HearPlays.{hear_plays, hear_rightly}
 use Rattle.once_core.proofs.ListLemmas.{get_contains}
-use Rattle.once_core.proofs.LogLemmas.{as_many}
 use Rattle.once_core.proofs.MeaningLemmas.{ReadsBack}
 use Rattle.once_core.proofs.NodePlays.{halt_plays, halt_rightly, start_plays, start_rightly, submit_plays, submit_rightly}
 use Rattle.once_core.proofs.NumberLemmas.{Values}
@@ -31,6 +30,8 @@ use Rattle.once_core.proofs.RedirectPlays.{redirected_plays}
 use Rattle.once_core.proofs.SentPlays.{NodesFollow, OneCopyEach}
 use Rattle.once_core.proofs.TickPlays.{tick_plays, tick_rightly}
 use Rattle.once_core.proofs.WorldPlays.{Made, gateway_made, log_is, lost_made, node_made}
+use Rattle.once_core.proofs.StepLemmas.{refusing_none}
+use Rattle.once_core.proofs.NodeTurnLemmas.{addresses_length}
 
 -- what the laws of messages and of nodes say
 pub record Laws : Type 0 where
@@ -46,12 +47,8 @@ both_none : (a b : Option WorldKind) → option_or a b ≡ None → (a ≡ None)
 both_none None b e = (refl, e)
 both_none (Some kind) b e = absurd (cc)
 
-not_refused : (b : Bool) (kind : WorldKind) → refusing b kind ≡ None → b ≡ false
-not_refused true kind e = absurd (cc)
-not_refused false kind e = refl
-
 pub it_runs : (w : World) (number : ℕ) → option_or (no_node w number) (refusing (not (runs (log_in w number))) Halted) ≡ None → runs (log_in w number) ≡ true
-it_runs w number e = by (runs (log_in w number)) (not_refused (not (runs (log_in w number))) Halted (both_none (no_node w number) (refusing (not (runs (log_in w number))) Halted) e).1)
+it_runs w number e = by (runs (log_in w number)) (refusing_none (not (runs (log_in w number))) Halted (both_none (no_node w number) (refusing (not (runs (log_in w number))) Halted) e).1)
   where
     by : (b : Bool) → not b ≡ false → b ≡ true
     by true isnt = refl
@@ -63,7 +60,7 @@ may_start : (w : World) (number : ℕ)
 may_start w number e =
     let second = (both_none (no_node w number) (option_or (refusing (runs (log_in w number)) Running) (refusing (nat_le most_starts (starts_in (log_in w number))) Restarts)) e).1 in
     let third = (both_none (refusing (runs (log_in w number)) Running) (refusing (nat_le most_starts (starts_in (log_in w number))) Restarts) second).1 in
-    let less = leb-false most_starts (starts_in (log_in w number)) (not_refused (nat_le most_starts (starts_in (log_in w number))) Restarts third) in
+    let less = leb-false most_starts (starts_in (log_in w number)) (refusing_none (nat_le most_starts (starts_in (log_in w number))) Restarts third) in
     omega (arith, less)
 
 -- ---- events
@@ -87,9 +84,9 @@ module _ (laws : Laws) (rules : Rules) (values : ℕ → ℕ → List ℕ) (w : 
       (λ log here rightly. submit_rightly (length w.gateways) (node - 1) log rightly laws.records packet)
   event_made t (event.Tick node) allowed = node_made values w made (node - 1) (ticking (length w.gateways) (node - 1))
       (λ log here deeds.
-      tick_plays (length w.gateways) (node - 1) log (made.sound.nodes (node - 1) log here) made.sound.some (running log here) laws.follow laws.one_each (as_many 0 (length w.gateways))
+      tick_plays (length w.gateways) (node - 1) log (made.sound.nodes (node - 1) log here) made.sound.some (running log here) laws.follow laws.one_each (addresses_length 0 (length w.gateways))
       laws.back (values (node - 1)) (subst (λ (l : List LogEntry). Values (values (node - 1)) (forms_ever l)) (log_is values w made (node - 1) log here) (are (node - 1))) made.scene deeds)
-      (λ log here rightly. tick_rightly (length w.gateways) (node - 1) log rightly made.sound.some (running log here) laws.follow laws.one_each (as_many 0 (length w.gateways)))
+      (λ log here rightly. tick_rightly (length w.gateways) (node - 1) log rightly made.sound.some (running log here) laws.follow laws.one_each (addresses_length 0 (length w.gateways)))
     where
       running : (log : List LogEntry) → slice_get w.nodes (node - 1) ≡ Some log → runs log ≡ true
       running log here = ap runs (sym (log_is values w made (node - 1) log here)) ∙ it_runs w node allowed

@@ -36,7 +36,6 @@ use Rattle.once_core.proofs.EpochLemmas.{start_is_one}
 use Rattle.once_core.proofs.FirstPlays.{first_made, same_world}
 use Rattle.once_core.proofs.FormLemmas.{GoodForm, value_octets_are}
 use Rattle.once_core.proofs.ListLemmas.{get_contains, in_cons, in_head, in_none, in_tail}
-use Rattle.once_core.proofs.LogLemmas.{as_many}
 use Rattle.once_core.proofs.NumberLemmas.{Values, all_followed_at, values_are, values_before}
 use Rattle.once_core.proofs.OnceLemmas.{each_is_filed_once}
 use Rattle.once_core.proofs.RoleLemmas.{among_copies, own_use}
@@ -44,6 +43,7 @@ use Rattle.once_core.proofs.SubmittedLemmas.{turns_forms}
 use Rattle.once_core.proofs.TurnPlays.{Laws, turn_made}
 use Rattle.once_core.proofs.WaitingLemmas.{in_map}
 use Rattle.once_core.proofs.WorldPlays.{Made, log_is}
+use Rattle.once_core.proofs.NodeTurnLemmas.{addresses_length}
 
 -- ---- turns
 
@@ -105,7 +105,7 @@ module _ (laws : Laws) (w : World) (made : Made (values_in w) w) where
       let rightly = made.sound.nodes node log there in
       let same : log_at w node ≡ log_of (node_setup (length w.gateways) node) rightly.calls = log_is (values_in w) w made node log there ∙ rightly.is in
       let some = made.sound.some in
-      let many = as_many 0 (length w.gateways) in
+      let many = addresses_length 0 (length w.gateways) in
       subst (λ (ds : List Deed). Follows ds start (values_in w node) (packets_in start (log_at w node))) (sym (made.shows.deeds node))
       (subst (λ (l : List LogEntry). Follows (deeds_of (node_ip node) (values_in w node) l) start (values_in w node) (packets_in start l)) (sym same)
       (laws.follow (node_setup (length w.gateways) node) rightly.calls (node_ip node) start (values_in w node) (omega (arith, some, many))))

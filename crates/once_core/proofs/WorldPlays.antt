@@ -51,7 +51,7 @@ pub record Made (values : ℕ → ℕ → List ℕ) (w : World) : Type 0 where
   pub strangers : (node : ℕ) → node < first_node_ip → scene.deeds node ≡ []
   pub sound : Sound w
 
-abbrev no_post : Post
+abbrev pub no_post : Post
 no_post = record { firm = []; rest = []; waiting = [] }
 
 -- fewer messages show no more
