@@ -1,5 +1,6 @@
 -- The area of a gateway that is down.
-use Rattle.std.proofs.Common.{◌⊎◌, inl, inr, ◌≡◌, ◌∙◌, refl, sym, ap, subst, ℕ, ◌+◌, ◌-◌, ◌<◌, ◌≤◌, Bool, true, false, ◌&&◌, if◌then◌else◌, List, [], ◌∷◌, ◌++◌, length, Option, None, Some, MatchOption, take}
+use Rattle.std.proofs.Common.{◌⊎◌, inl, inr, ◌≡◌, ◌∙◌, sym, ap, subst, ℕ, ◌+◌, ◌-◌, ◌<◌, ◌≤◌, Bool, true, false, ◌&&◌, if◌then◌else◌, List, [], ◌∷◌, ◌++◌, length, Option, None, Some, MatchOption, take}
+use Rattle.std.proofs.Math.Bool.{and-false}
 use Rattle.area_disk.specs.Armed.{Armed, IsArmed}
 use Rattle.area_disk.specs.Armed.Armed.{Nothing, Fail, Stop}
 use Rattle.area_disk.specs.Disk.{last_count}
@@ -65,12 +66,8 @@ armed_up header v a b at_last plan old new arms up same stays planned kept stop 
 }
 
 -- one that was stopped between two calls
-and_false : (b : Bool) → (b && false) ≡ false
-and_false true = refl
-and_false false = refl
-
 no_torn : (b at_last : Bool) → (b && (at_last && false)) ≡ false
-no_torn b at_last = ap (λ (c : Bool). b && c) (and_false at_last) ∙ and_false b
+no_torn b at_last = ap (λ (c : Bool). b && c) (and-false at_last) ∙ and-false b
 
 pub stopped_area : (setup : Setup) (place : ℕ) (v : BookValue) (at_last : Bool) (old new : MemoryArea) →
     StandsFitFor (header_at setup place) ((area_tells.fate old).leaves Old)

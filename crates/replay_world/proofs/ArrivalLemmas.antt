@@ -1,5 +1,5 @@
 -- A message that comes to a gateway.
-use Rattle.std.proofs.Common.{◌≡◌, ◌∙◌, refl, sym, ap, subst, ℕ, ◌+◌, ◌-◌, ◌≤◌, ◌<◌, ◌&&◌, Bool, true, false, not, if◌then◌else◌, List, [], ◌++◌, length, set, Option, Some, None, option_and_then, slice_get, arith, lt-ltb, le-leb, nat_lt, nat_le, append-nil}
+use Rattle.std.proofs.Common.{◌≡◌, ◌∙◌, refl, sym, ap, subst, ℕ, ◌+◌, ◌-◌, ◌≤◌, ◌<◌, ◌&&◌, Bool, true, false, not, if◌then◌else◌, List, [], ◌++◌, length, set, Option, Some, None, option_and_then, slice_get, arith, append-nil}
 use Rattle.std.specs.Option.{option_map_or, option_or}
 use Rattle.std.proofs.lemmas.Option.{slice_get_past, slice_get_within}
 use Rattle.gateway_book.specs.Comes.{Asked, AsksNothing, asked_to_ready}
@@ -7,7 +7,7 @@ use Rattle.gateway_book.specs.Value.{Fortune, history_of}
 use Rattle.once_core.specs.Answers.{delivered}
 use Rattle.once_core.specs.Expired.{is_expired}
 use Rattle.once_core.specs.Gateway.{Gateway, Moved}
-use Rattle.once_core.specs.Turn.{at_gateway, at_node, calm, delivering, gateway_moved, is_down_in, is_none_of, no_running_gateway, refusal_of, refusing, turn, turn_by, unless_refused}
+use Rattle.once_core.specs.Turn.{at_gateway, at_node, calm, delivering, gateway_moved, is_down_in, no_running_gateway, refusal_of, refusing, turn, turn_by, unless_refused}
 use Rattle.once_core.specs.World.{delivered_to_node}
 use Rattle.once_core.specs.declared.event.Event.{Event}
 use Rattle.once_core.specs.declared.event.Event.TheVariants as event
@@ -31,10 +31,7 @@ use Rattle.replay_world.specs.declared.taking.Delivery.{Delivery}
 use Rattle.replay_world.proofs.GatewayEventLemmas.{does_event, moves_at}
 use Rattle.replay_world.proofs.NodeHearLemmas.{does_nothing}
 use Rattle.replay_world.proofs.StepLemmas.{IsAt, site_is}
-
-both : (a b : Bool) → a ≡ true → b ≡ true → not (a && b) ≡ false
-both true b h k = ap not k
-both false b h k = absurd (cc)
+use Rattle.replay_world.proofs.TakenSteps.{is_there}
 
 module _ (v : ReplayValue) (number place : ℕ) (to : IsTo v number true place) where
   abbrev m : Message
@@ -66,9 +63,7 @@ module _ (v : ReplayValue) (number place : ℕ) (to : IsTo v number true place) 
   allowed =
       let within : number - 1 < length v.world.messages = slice_get_within v.world.messages (number - 1) m to.sent in
       let from_one : 1 ≤ number = to.numbered in
-      let there : is_none_of (length v.world.messages) number ≡ false =
-      both (nat_lt 0 number) (nat_le number (length v.world.messages)) (lt-ltb 0 number from_one)
-      (le-leb number (length v.world.messages) (omega (arith, within, from_one))) in
+      let there = is_there (length v.world.messages) number from_one (omega (arith, within, from_one)) in
       ap (λ (b : Bool). refusing b NoMessage) there
 
   moves : (f : Fortune) → turn_by (rules_in v.setup) v.world (record { event = e; fortune = f; is_lost = false; held = None }) e
@@ -91,9 +86,7 @@ module _ (v : ReplayValue) (number place : ℕ) (to : IsTo v number true place) 
     running : g.is_down ≡ false → no_running_gateway v.world at ≡ None
     running runs =
         let within : at - 1 < length v.world.gateways = slice_get_within v.world.gateways (at - 1) g has_gateway in
-        let there : is_none_of (length v.world.gateways) at ≡ false =
-        both (nat_lt 0 at) (nat_le at (length v.world.gateways)) (lt-ltb 0 at (omega arith))
-        (le-leb at (length v.world.gateways) (omega (arith, within))) in
+        let there = is_there (length v.world.gateways) at (omega arith) (omega (arith, within)) in
         let up : is_down_in v.world at ≡ false =
         ap (λ (o : Option Gateway). option_map_or (λ (h : Gateway). h.is_down) o true) has_gateway ∙ runs in
         ap (λ (b : Bool). option_or (refusing b NoGateway) (refusing (is_down_in v.world at) Stopped)) there

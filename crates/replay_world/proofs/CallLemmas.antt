@@ -1,5 +1,6 @@
 -- What a gateway stands for once its area was called and its answers were sent or given up.
 use Rattle.std.proofs.Common.{◌≡◌, ◌∙◌, refl, sym, ap, subst, ℕ, ◌-◌, nat_le, Bool, true, false, not, if◌then◌else◌, List, [], ◌++◌, All, length, map, filter, take, Option, Some, None, arith, length-append}
+use Rattle.std.proofs.lemmas.Bool.{not-true}
 use Rattle.std.proofs.lemmas.List.{append-nil, take_all}
 use Rattle.std.proofs.lemmas.List.Elements.{filter_passes}
 use Rattle.area_disk.specs.Armed.{Armed}
@@ -38,14 +39,10 @@ abbrev pub WrittenStays : Type 0
 WrittenStays = (settings : Settings) (f : Filing) (items more : List Item) (r : Files) → FilesStand settings f items r →
     FilesStand settings f (items ++ more) r
 
-not_true : (b : Bool) → not b ≡ true → b ≡ false
-not_true true is = cc
-not_true false is = refl
-
 -- of those that are left none is reached
 pub none_reached : (value : BookValue) (waiting : List Waiting) →
     All (λ w. is_reached value w ≡ false) (filter (λ w. not (is_reached value w)) waiting)
-none_reached value waiting = λ k d h. not_true _ (filter_passes (λ w. not (is_reached value w)) waiting k d h)
+none_reached value waiting = λ k d h. not-true _ (filter_passes (λ w. not (is_reached value w)) waiting k d h)
 
 module _ (setup : Setup) (place : ℕ) (g : Gateway) (m : Machine) (value : BookValue) where
   -- the site of a gateway whose book goes on

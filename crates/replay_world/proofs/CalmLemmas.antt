@@ -1,5 +1,5 @@
 -- Steps at gateways for whose areas and shelves nothing is armed.
-use Rattle.std.proofs.Common.{◌≡◌, ◌∙◌, refl, sym, ap, subst, ℕ, zero, suc, ◌-◌, ◌≤◌, ◌<◌, ◌&&◌, ◌||◌, nat_le, nat_lt, Bool, true, false, not, if◌then◌else◌, List, [], ◌∷◌, All, length, set, Option, Some, None, slice_get, arith, length-set, lt-ltb, le-leb}
+use Rattle.std.proofs.Common.{◌≡◌, ◌∙◌, refl, sym, ap, subst, ℕ, zero, suc, ◌-◌, ◌≤◌, ◌<◌, ◌||◌, Bool, true, false, if◌then◌else◌, List, [], ◌∷◌, All, length, set, Option, Some, None, slice_get, arith, length-set}
 use Rattle.std.specs.Option.{option_map_or, option_or}
 use Rattle.std.proofs.lemmas.List.Elements.{All-set}
 use Rattle.std.proofs.lemmas.Option.{get_or_from_slice_get, slice_get_within}
@@ -13,7 +13,7 @@ use Rattle.gw_base.specs.History.{is_close_due}
 use Rattle.gw_base.specs.declared.history.HistoryAct.TheVariants.{Close}
 use Rattle.once_core.specs.Answers.{making_close, marked}
 use Rattle.once_core.specs.Gateway.{Gateway, Moved, Rules, book_committing, committing, giving_up, readying, settling, still}
-use Rattle.once_core.specs.Turn.{is_down_in, is_none_of, no_running_gateway, refusing}
+use Rattle.once_core.specs.Turn.{is_down_in, no_running_gateway, refusing}
 use Rattle.once_core.specs.World.{World}
 use Rattle.once_core.specs.declared.event.Event.{Event}
 use Rattle.once_core.specs.declared.event.WorldKind.TheVariants.{NoGateway, Stopped}
@@ -26,6 +26,7 @@ use Rattle.once_core.specs.declared.message.Message.{Message}
 use Rattle.replay_world.proofs.MovedLemmas.{machines_are, moved}
 use Rattle.replay_world.proofs.SetLemmas.{Sets}
 use Rattle.replay_world.proofs.StepLemmas.{IsAt, site_is, world_moved}
+use Rattle.replay_world.proofs.TakenSteps.{is_there}
 
 -- Lists of which one element is set.
 
@@ -79,16 +80,10 @@ stays_then v u w k first later = record {
 }
 
 -- a gateway that is there and isn't down runs
-pub both : (a b : Bool) → a ≡ true → b ≡ true → not (a && b) ≡ false
-both true b h k = ap not k
-both false b h k = absurd (cc)
-
 pub running_there : (w : World) (number : ℕ) (g : Gateway) → 1 ≤ number → number ≤ length w.gateways →
     slice_get w.gateways (number - 1) ≡ Some g → g.is_down ≡ false → no_running_gateway w number ≡ None
 running_there w number g some few has runs =
-    let there : is_none_of (length w.gateways) number ≡ false =
-    both (nat_lt 0 number) (nat_le number (length w.gateways)) (lt-ltb 0 number some)
-    (le-leb number (length w.gateways) few) in
+    let there = is_there (length w.gateways) number some few in
     let up : is_down_in w number ≡ false =
     ap (λ (o : Option Gateway). option_map_or (λ (h : Gateway). h.is_down) o true) has ∙ runs in
     ap (λ (b : Bool). option_or (refusing b NoGateway) (refusing (is_down_in w number) Stopped)) there
@@ -96,12 +91,12 @@ running_there w number g some few has runs =
 
 -- What comes of a call where nothing is armed.
 
-nothing_on : (asked : Asked) (at_last : Bool) → sequel_of asked Nothing at_last ≡ GoesOn Nothing
+pub nothing_on : (asked : Asked) (at_last : Bool) → sequel_of asked Nothing at_last ≡ GoesOn Nothing
 nothing_on AsksNothing at_last = refl
 nothing_on AsksCommit at_last = refl
 nothing_on AsksReopening at_last = refl
 
-goes_on_then : (m : Machine) (asked : Asked) → m.armed ≡ Nothing → sequel_on m asked ≡ GoesOn Nothing
+pub goes_on_then : (m : Machine) (asked : Asked) → m.armed ≡ Nothing → sequel_on m asked ≡ GoesOn Nothing
 goes_on_then m asked is = ap (λ (a : Armed). sequel_of asked a m.at_last) is ∙ nothing_on asked m.at_last
 
 idle_with : (m : Machine) (s : Sequel) → s ≡ GoesOn Nothing → IsIdle m → IsIdle (machine_with m s)

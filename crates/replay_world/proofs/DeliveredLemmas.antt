@@ -3,7 +3,7 @@ use Rattle.std.proofs.Common.{◌≡◌, ◌∙◌, refl, sym, ap, subst, ℕ, �
 use Rattle.gateway_book.specs.Comes.{Asked, AsksNothing, asked_to_ready}
 use Rattle.gateway_book.specs.Up.{Sequel, GoesOn, Breaks, Stops, fortune_by}
 use Rattle.gateway_book.specs.Value.{Fortune, history_of, readied}
-use Rattle.once_core.specs.Answers.{delivered, delivered_broken, delivered_running, if_broken}
+use Rattle.once_core.specs.Answers.{answer_at, delivered, delivered_broken, delivered_running, if_broken}
 use Rattle.once_core.specs.Expired.{is_expired}
 use Rattle.once_core.specs.Gateway.{Gateway, Moved, still}
 use Rattle.once_core.specs.declared.message.Message.{Message}
@@ -14,7 +14,6 @@ use Rattle.replay_world.specs.Notices.{Down, Expired}
 use Rattle.replay_world.specs.Setup.{Setup, rules_in}
 use Rattle.replay_world.specs.Stands.{MachineStands}
 use Rattle.replay_world.specs.Telling.{gateway_notices, notices_by, silence_notices}
-use Rattle.once_core.specs.Answers.{answer_at}
 use Rattle.replay_world.specs.Value.{Machine}
 use Rattle.replay_world.specs.declared.machine.Came.TheVariants.{Went}
 use Rattle.replay_world.specs.declared.machine.Machine as real

@@ -1,5 +1,6 @@
 -- The files of a stream, by their numbers.
 use Rattle.std.proofs.Common.{◌≡◌, ◌∙◌, refl, sym, ap, ℕ, zero, suc, ◌+◌, ◌-◌, ◌≤◌, ◌==◌, ◌&&◌, Bool, true, false, cond, if◌then◌else◌, List, [], ◌∷◌, ◌++◌, length, take, Option, Some, None, option_map, slice_get, take_all, arith, append_assoc, append-nil, eq-eqb, ne_eqb}
+use Rattle.std.proofs.lemmas.Bool.{and_from, and_right}
 use Rattle.std.specs.List.{flat_map}
 use Rattle.cdr_file.specs.CdrFile.{FileSettings}
 use Rattle.cdr_shelf.specs.Files.{SealedFile, file_named, in_stream}
@@ -12,14 +13,6 @@ use Rattle.replay_world.specs.Report.{file_line}
 
 abbrev name_at : ℕ → ℕ → FileName
 name_at s n = record { stream = s; sequence = n }
-
-both : (a b : Bool) → a ≡ true → b ≡ true → (a && b) ≡ true
-both true b h k = k
-both false b h k = absurd (cc)
-
-and_false : (a b : Bool) → b ≡ false → (a && b) ≡ false
-and_false true b h = h
-and_false false b h = refl
 
 -- only the files of its stream may have a name
 named_by : (s n : ℕ) (f : SealedFile) (kept : List SealedFile) (later : Option (List ℕ)) (b : Bool) →
@@ -45,12 +38,12 @@ kth file s first k [] = refl
 kth file s first zero (run ∷ closed) =
     let same : first ≡ first + 0 = omega arith in
     ap (λ (b : Bool). if b then Some ((sealed_file file s first run).octets) else file_named (name_at s (first + 0)) (files_from file s (first + 1) closed))
-    (both (s == s) (first == first + 0) (eq-eqb s s refl) (eq-eqb first (first + 0) same))
+    (and_from (s == s) (first == first + 0) (eq-eqb s s refl) (eq-eqb first (first + 0) same))
 kth file s first (suc k) (run ∷ closed) =
     let other : (first == first + suc k) ≡ false = ne_eqb first (first + suc k) (λ same. absurd (omega (arith, same))) in
     let next : first + suc k ≡ first + 1 + k = omega arith in
     ap (λ (b : Bool). if b then Some ((sealed_file file s first run).octets) else file_named (name_at s (first + suc k)) (files_from file s (first + 1) closed))
-    (and_false (s == s) (first == first + suc k) other)
+    (and_right (s == s) (first == first + suc k) other)
     ∙ ap (λ (n : ℕ). file_named (name_at s n) (files_from file s (first + 1) closed)) next
     ∙ kth file s (first + 1) k closed
 

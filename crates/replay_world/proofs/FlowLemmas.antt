@@ -1,5 +1,5 @@
 -- Messages that are delivered one after the other.
-use Rattle.std.proofs.Common.{◌≡◌, ◌∙◌, refl, sym, ap, subst, ℕ, suc, ◌+◌, ◌%◌, ◌<◌, ◌≤◌, ◌==◌, ◌&&◌, nat_le, nat_lt, Bool, true, false, true≢false, not, cond, if◌then◌else◌, List, [], ◌∷◌, ◌++◌, All, length, map, drop, get_or, Some, None, arith, append-nil, drop-cons, eq-eqb, eqb-true, ne_eqb, lt-ltb, le-leb}
+use Rattle.std.proofs.Common.{◌≡◌, ◌∙◌, refl, sym, ap, subst, ℕ, suc, ◌+◌, ◌%◌, ◌<◌, ◌≤◌, ◌==◌, Bool, true, false, true≢false, not, cond, if◌then◌else◌, List, [], ◌∷◌, ◌++◌, All, length, map, drop, get_or, Some, None, arith, append-nil, drop-cons, eq-eqb, eqb-true, ne_eqb}
 use Rattle.std.specs.List.{AllByRecursion, IsDistinct, enumerate_from}
 use Rattle.std.specs.Set.{remove_key}
 use Rattle.once_core.specs.Turn.{is_none_of, refusal_of, refusing}
@@ -21,6 +21,7 @@ use Rattle.replay_world.specs.declared.replay.Replay.{Replay}
 use Rattle.replay_world.proofs.GatewayEventLemmas.{none_of}
 use Rattle.replay_world.proofs.NodeHearLemmas.{drop_all}
 use Rattle.replay_world.proofs.StepsLemmas.{does_one, steps_more}
+use Rattle.replay_world.proofs.TakenSteps.{is_there}
 
 -- A number that waits no more.
 
@@ -83,15 +84,10 @@ is_receiver v number m is = received_by v number m.gateway m.node m.to_gateway i
 
 -- A message that was sent may come, whatever steps were made before.
 
-both : (a b : Bool) → a ≡ true → b ≡ true → not (a && b) ≡ false
-both true b h k = ap not k
-both false b h k = absurd (true≢false (sym h))
-
 pub may_come : (w : World) (number : ℕ) → 1 ≤ number → number ≤ length w.messages →
     refusal_of w (event.Deliver number) ≡ None
 may_come w number some few =
-    ap (λ (b : Bool). refusing b NoMessage) (both (nat_lt 0 number) (nat_le number (length w.messages))
-    (lt-ltb 0 number some) (le-leb number (length w.messages) few))
+    ap (λ (b : Bool). refusing b NoMessage) (is_there (length w.messages) number some few)
 
 pub may_come_then : (v : ReplayValue) (steps : List Step) (sent : List ℕ) (k x : ℕ) → WereSent v sent → k < length sent →
     x ≡ get_or sent k x → refusal_of (after_steps v steps).world (event.Deliver x) ≡ None

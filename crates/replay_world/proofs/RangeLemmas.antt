@@ -2,7 +2,7 @@
 -- no more of them than there may be.
 use Rattle.std.proofs.Common.{◌≡◌, ℕ, zero, suc, ◌+◌, ◌-◌, ◌*◌, ◌≤◌, ◌<◌, Bool, true, false, ◌&&◌, ◌==◌, nat_le, nat_lt, if◌then◌else◌, List, [], ◌∷◌, ◌++◌, length, count_by, All, Option, Some, None, IsSome, is_some, option_and_then, Result, Ok, Err, IsUtf8, slice_index_or, refl, ap, ◌∙◌, subst, arith, codes, length-append, ℤ, pos, neg_ℤ}
 use Rattle.std.proofs.lemmas.Int.{ints}
-use Rattle.std.proofs.lemmas.Bool.{leb-true, ltb-true, ltb-false}
+use Rattle.std.proofs.lemmas.Bool.{leb-true, ltb-true, ltb-false, and_parts}
 use Rattle.std.proofs.lemmas.List.Elements.{All-append, All-cons}
 use Rattle.std.proofs.lemmas.List.Sums.{AllPass-from_list_all, sum_by-append, sum_by-cons}
 use Rattle.std.proofs.lemmas.Str.{IsUtf8-from_ascii}
@@ -11,6 +11,7 @@ use Rattle.std.specs.Char.{is_ascii_digit}
 use Rattle.std.specs.Int.{is_in_range}
 use Rattle.std.specs.List.{flat_map}
 use Rattle.std.proofs.lemmas.Grind.{flat_map-append}
+use Rattle.std.proofs.lemmas.Option.{same_Some}
 use Rattle.std.specs.Option.{ok_or, option_map_or}
 use Rattle.std.specs.Str.{bytes_eq}
 use Rattle.std.specs.Str.Parse.{digits_value}
@@ -57,13 +58,10 @@ then_some (Some x) f y h = (x, refl, h)
 
 -- ---- numbers
 
-same_number : (a b : ℕ) → Some a ≡ Some b → a ≡ b
-same_number a b e = cc
-
 at_most_within : (most v n : ℕ) → at_most most v ≡ Some n → n ≤ most
 at_most_within most v n h =
     let found = where_some (nat_le v most) (Some v) n h in
-    subst (λ m. m ≤ most) (same_number v n found.1) (leb-true v most found.0)
+    subst (λ m. m ≤ most) (same_Some v n found.1) (leb-true v most found.0)
 
 pub number_within : (most : ℕ) (word : List ℕ) (n : ℕ) → number_up_to most word ≡ Some n → n ≤ most
 number_within most word n h =
@@ -73,7 +71,7 @@ number_from : (least most : ℕ) (word : List ℕ) (n : ℕ) → number_between 
 number_from least most word n h =
     let found = then_some (number_up_to most word) (λ m. if nat_le least m then Some m else None) n h in
     let kept = where_some (nat_le least found.0) (Some found.0) n found.2 in
-    subst (λ k. (least ≤ k) × (k ≤ most)) (same_number found.0 n kept.1) (leb-true least found.0 kept.0, number_within most word found.0 found.1)
+    subst (λ k. (least ≤ k) × (k ≤ most)) (same_Some found.0 n kept.1) (leb-true least found.0 kept.0, number_within most word found.0 found.1)
 
 pub pos_within : (n : ℕ) → n ≤ 959 → IsWithin 959 (pos n)
 pos_within n h = (grind (arith, ints), grind (arith, ints))
@@ -240,10 +238,6 @@ offset_fine rules (word ∷ []) l h =
 offset_fine rules [] l h = no_line kind.Arity l h
 offset_fine rules (a ∷ b ∷ words) l h = no_line kind.Arity l h
 
-both_true : (a b : Bool) → (a && b) ≡ true → (a ≡ true) × (b ≡ true)
-both_true true b h = (refl, h)
-both_true false b h = let no : ⊥ = cc in absurd no
-
 -- printable octets are text
 is_text : (content : List ℕ) → is_printable content ≡ true → IsUtf8 content
 is_text content h = IsUtf8-from_ascii content (IsAscii-from_reads content (length content) (omega arith) low)
@@ -252,7 +246,7 @@ is_text content h = IsUtf8-from_ascii content (IsAscii-from_reads content (lengt
     low k below =
         let x : ℕ = slice_index_or content k 0 in
         let shown : is_in_range 32 126 x ≡ true = AllPass-from_list_all (λ y. is_in_range 32 126 y) content h k 0 below in
-        omega (arith, leb-true x 126 (both_true (nat_le 32 x) (nat_le x 126) shown).1)
+        omega (arith, leb-true x 126 (and_parts (nat_le 32 x) (nat_le x 126) shown).1)
 
 few_rules : (o : Option Rule) → length (option_map_or (λ rule. rule ∷ []) o []) ≤ 1
 few_rules None = omega arith
@@ -265,7 +259,7 @@ some_is (Some rule) h = refl
 ruled_fine : (rules : ℕ) (content : List ℕ) (l : Line) → is_printable content ≡ true → ruled rules content ≡ Ok l → IsFine rules l
 ruled_fine rules content l shown h =
     let found = taken (nat_lt rules most_rules && is_some (rule_of content)) kind.Rule (Ok (line.Rule content)) l h in
-    let tests = both_true (nat_lt rules most_rules) (is_some (rule_of content)) found.0 in
+    let tests = and_parts (nat_lt rules most_rules) (is_some (rule_of content)) found.0 in
     subst (IsFine rules) (same_line (line.Rule content) l found.1) (record {
       range = (some_is (rule_of content) tests.1, is_text content shown);
       few = few_rules (rule_of content);

@@ -1,5 +1,6 @@
 -- Messages that are sent one after the other.
 use Rattle.std.proofs.Common.{◌≡◌, ◌∙◌, refl, sym, ap, subst, ℕ, suc, ◌+◌, ◌≤◌, ◌<◌, ◌==◌, ◌||◌, Bool, false, if◌then◌else◌, List, [], ◌∷◌, ◌++◌, All, length, map, arith, append_assoc, append-nil, length-append}
+use Rattle.std.proofs.lemmas.List.{map-append}
 use Rattle.indexmap.specs.IndexSet.{insert_key}
 use Rattle.std.specs.List.{enumerate_from, list_any}
 use Rattle.std.proofs.lemmas.List.Elements.{All-append}
@@ -10,10 +11,6 @@ use Rattle.replay_world.specs.Telling.{sent_notices}
 use Rattle.replay_world.specs.declared.replay.Replay.{Replay}
 use Rattle.replay_world.proofs.MovedLemmas.{all_within, numbers_within}
 use Rattle.replay_world.proofs.PrintedLemmas.{lines_join}
-
-map_append : {A B : Type 0} (f : A → B) (xs ys : List A) → map f (xs ++ ys) ≡ map f xs ++ map f ys
-map_append f [] ys = refl
-map_append f (x ∷ xs) ys = ap (λ l. f x ∷ l) (map_append f xs ys)
 
 numbered_append : (first : ℕ) (a b : List Message) →
     enumerate_from first (a ++ b) ≡ enumerate_from first a ++ enumerate_from (first + length a) b
@@ -32,7 +29,7 @@ lines sent = notice_lines (sent_notices sent)
 
 lines_append : (a b : List (ℕ × Message)) → lines (a ++ b) ≡ lines a ++ lines b
 lines_append a b =
-    ap notice_lines (map_append (λ (s : ℕ × Message). Sent s.0 s.1) a b) ∙ lines_join (sent_notices a) (sent_notices b)
+    ap notice_lines (map-append (λ (s : ℕ × Message). Sent s.0 s.1) a b) ∙ lines_join (sent_notices a) (sent_notices b)
 
 module _ (a b : List Message) (t0 t1 t2 : List ℕ) (r0 r1 r2 : Replay) (first : HasSent a t0 t1 r0 r1)
     (later : HasSent b t1 t2 r1 r2) where
@@ -62,7 +59,7 @@ module _ (a b : List Message) (t0 t1 t2 : List ℕ) (r0 r1 r2 : Replay) (first :
       ∙ ap (λ (ks : List ℕ). ks ++ numbers (numbered_from most b)) middle
       ∙ append_assoc r0.waiting.keys (numbers (numbered_from count a)) (numbers (numbered_from most b))
       ∙ ap (λ (ks : List ℕ). r0.waiting.keys ++ ks)
-      (sym (map_append (λ (s : ℕ × Message). s.0) (numbered_from count a) (numbered_from most b)))
+      (sym (map-append (λ (s : ℕ × Message). s.0) (numbered_from count a) (numbered_from most b)))
       ∙ ap (λ (sent : List (ℕ × Message)). r0.waiting.keys ++ numbers sent) (sym both)
 
   pub sent_both : HasSent (a ++ b) t0 t2 r0 r2

@@ -1,6 +1,8 @@
 -- Settings, line by line.
-use Rattle.std.proofs.Common.{◌≡◌, All, subst, ℕ, zero, suc, ◌+◌, ◌<◌, List, [], ◌∷◌, ◌++◌, length, drop, Some, None, refl, sym, ap, ◌∙◌, arith, slice_get, append_assoc, append-nil}
+use Rattle.std.proofs.Common.{◌≡◌, All, subst, ℕ, zero, suc, ◌+◌, List, [], ◌∷◌, ◌++◌, drop, Some, None, refl, sym, ap, ◌∙◌, slice_get, append_assoc, append-nil}
+use Rattle.std.proofs.lemmas.List.{drop_more}
 use Rattle.std.proofs.lemmas.List.Elements.{recursion_from_All}
+use Rattle.std.proofs.lemmas.Option.{get_or_from_slice_get, slice_get_within}
 use Rattle.std.specs.List.{AllByRecursion, flat_map}
 use Rattle.route_filter.specs.declared.rule.Rule.{Rule}
 use Rattle.world_script.specs.declared.line.Line.{Line}
@@ -10,17 +12,7 @@ use Rattle.replay_world.specs.Setup.{Setup, after_setting, after_settings}
 
 -- the rest of a list from a place on
 pub rest_at : {X : Type 0} (xs : List X) (i : ℕ) (x : X) → slice_get xs i ≡ Some x → drop i xs ≡ x ∷ drop (i + 1) xs
-rest_at [] i x at = cc
-rest_at (y ∷ xs) zero x at = let same : y ≡ x = cc in ap (λ (z : _). z ∷ xs) same
-rest_at (y ∷ xs) (suc i) x at = rest_at xs i x at ∙ ap (λ (n : ℕ). x ∷ drop n (y ∷ xs)) (later i)
-  where
-    later : (k : ℕ) → suc (k + 1) ≡ suc k + 1
-    later k = omega arith
-
-pub below_at : {X : Type 0} (xs : List X) (i : ℕ) (x : X) → slice_get xs i ≡ Some x → i < length xs
-below_at [] i x at = cc
-below_at (y ∷ xs) zero x at = omega arith
-below_at (y ∷ xs) (suc i) x at = omega (arith, below_at xs i x at)
+rest_at xs i x at = drop_more xs i x (slice_get_within xs i x at) ∙ ap (λ (z : _). z ∷ drop (i + 1) xs) (get_or_from_slice_get xs i x x at)
 
 pub none_at : {X : Type 0} (xs : List X) (i : ℕ) → slice_get xs i ≡ None → drop i xs ≡ []
 none_at [] zero none = refl

@@ -1,5 +1,5 @@
 -- Gateways that settle.
-use Rattle.std.proofs.Common.{◌≡◌, ◌∙◌, refl, sym, ap, subst, ℕ, zero, suc, ◌+◌, ◌-◌, ◌%◌, ◌==◌, ◌≤◌, ◌<◌, nat_le, nat_lt, Bool, true, false, true≢false, not, if◌then◌else◌, List, [], ◌∷◌, ◌++◌, length, map, set, get_or, Option, Some, None, slice_get, arith, append_assoc, append-nil, length-set, lt-ltb, le-leb, eq-eqb, eqb-true, ltb-false, ltb-true}
+use Rattle.std.proofs.Common.{◌≡◌, ◌∙◌, refl, sym, ap, subst, ℕ, zero, suc, ◌+◌, ◌-◌, ◌%◌, ◌==◌, ◌≤◌, ◌<◌, nat_lt, Bool, true, false, true≢false, not, if◌then◌else◌, List, [], ◌∷◌, ◌++◌, length, map, set, get_or, Option, Some, None, slice_get, arith, append_assoc, append-nil, length-set, eq-eqb, eqb-true, ltb-false, ltb-true}
 use Rattle.std.specs.List.{flat_map, range_with_len}
 use Rattle.std.specs.Option.{option_map_or, option_or}
 use Rattle.std.proofs.lemmas.Option.{slice_get-get_or}
@@ -27,12 +27,13 @@ use Rattle.replay_world.specs.Stands.{Stands}
 use Rattle.replay_world.specs.Steps.{Step, Disarms, Plays, Writes, after_step, ends_line}
 use Rattle.replay_world.specs.Value.{Filing, Machine, ReplayValue, unarmed as unarmed_one}
 use Rattle.replay_world.specs.declared.replay.Replay.{Replay}
-use Rattle.replay_world.proofs.CalmLemmas.{both, close_stays_up, commit_stays_up, found, get_other, get_same, line_goes_on, running_there, runs_after, stays_at, stays_none, stays_set, stays_then, there_then, unarmed_there}
+use Rattle.replay_world.proofs.CalmLemmas.{close_stays_up, commit_stays_up, found, get_other, get_same, line_goes_on, running_there, runs_after, stays_at, stays_none, stays_set, stays_then, there_then, unarmed_there}
 use Rattle.replay_world.proofs.GatewayEventLemmas.{is_there, none_of, runs_there}
 use Rattle.replay_world.proofs.QuietLemmas.{filed_machine, machines_stay, plays, writes}
 use Rattle.replay_world.proofs.StandsLemmas.{each_lengths}
 use Rattle.replay_world.proofs.StepLemmas.{IsAt}
-use Rattle.replay_world.proofs.StepsLemmas.{SoFar, after_append, does_none, does_one, does_then, makes_then}
+use Rattle.replay_world.proofs.StepsLemmas.{SoFar, after_append, does_none, does_one, does_then, ends_either, makes_then}
+use Rattle.replay_world.proofs.TakenSteps.{is_there as number_there}
 
 -- One after the other.
 pub settles_then : (v : ReplayValue) (first later : List Step) (number : ℕ) (before middle after : List ℕ) (r s : Replay) →
@@ -64,10 +65,6 @@ settles_behind v steps number text r did = record {
 }
 
 -- one step
-either : (b : Bool) (u : ReplayValue) → (if b then u else u) ≡ u
-either true u = refl
-either false u = refl
-
 on_is : (on b : Bool) → on ≡ not b → b ≡ false → on ≡ true
 on_is on b is ends = is ∙ ap not ends
 
@@ -75,7 +72,7 @@ pub settles_one : (v : ReplayValue) (step : Step) (number : ℕ) (before after :
     DoesOrEnds v step before after r on → ends_line v step ≡ false → Stays v (after_step v step) (number - 1) →
     no_running_gateway (after_step v step).world number ≡ None → Settles v (step ∷ []) number before after r
 settles_one v step number before after r on done goes stays runs =
-    let is : after_steps v (step ∷ []) ≡ after_step v step = either (ends_line v step) (after_step v step) in
+    let is : after_steps v (step ∷ []) ≡ after_step v step = ends_either (ends_line v step) (after_step v step) in
     record {
       does = subst (λ (b : Bool). DoesAll v (step ∷ []) before after r b) (on_is on (ends_line v step) done.goes goes)
           (does_one v step before after r on done);
@@ -289,8 +286,7 @@ module _ (v : ReplayValue) (k : ℕ) (before middle after : List ℕ) (r s : Rep
   there_next =
       let few : k + 1 ≤ length u.world.gateways = omega (arith, less, to.count) in
       ap (λ (b : Bool). refusing b NoGateway)
-      (both (nat_lt 0 (k + 1)) (nat_le (k + 1) (length u.world.gateways)) (lt-ltb 0 (k + 1) (omega arith))
-      (le-leb (k + 1) (length u.world.gateways) few))
+      (number_there (length u.world.gateways) (k + 1) (omega arith) few)
 
   pub settled_next : Settles u (settling_steps u (k + 1)) (k + 1) middle after s → SettledTo v (k + 1) before after s
   settled_next did =

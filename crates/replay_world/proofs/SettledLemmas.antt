@@ -1,14 +1,13 @@
 -- What a settling leaves of each gateway.
-use Rattle.std.proofs.Common.{◌≡◌, ◌∙◌, refl, sym, ap, subst, ℕ, zero, suc, ◌+◌, ◌-◌, ◌==◌, ◌≤◌, ◌<◌, ◌||◌, nat_le, nat_lt, Bool, true, false, true≢false, if◌then◌else◌, List, [], ◌∷◌, ◌++◌, length, set, Option, Some, None, slice_get, arith, append_assoc, length-set, lt-ltb, le-leb, eq-eqb, eqb-true}
+use Rattle.std.proofs.Common.{◌≡◌, ◌∙◌, refl, sym, ap, subst, ℕ, zero, suc, ◌+◌, ◌-◌, ◌==◌, ◌≤◌, ◌<◌, ◌||◌, Bool, true, false, true≢false, if◌then◌else◌, List, [], ◌∷◌, ◌++◌, length, set, Option, Some, None, slice_get, arith, append_assoc, length-set, eq-eqb, eqb-true}
 use Rattle.std.specs.List.{flat_map, range_with_len}
 use Rattle.std.specs.Option.{option_map_or}
 use Rattle.std.proofs.lemmas.Option.{slice_get_within}
-use Rattle.area_disk.specs.Armed.{Armed}
 use Rattle.area_disk.specs.Armed.Armed.{Nothing}
 use Rattle.gateway_book.specs.Answered.{entry_by, no_caller}
-use Rattle.gateway_book.specs.Comes.{Asked, AsksCommit, AsksNothing, AsksReopening}
+use Rattle.gateway_book.specs.Comes.{Asked}
 use Rattle.gateway_book.specs.Items.{items_of}
-use Rattle.gateway_book.specs.Up.{Sequel, GoesOn, fortune_by, sequel_of}
+use Rattle.gateway_book.specs.Up.{Sequel, GoesOn, fortune_by}
 use Rattle.gateway_book.specs.Value.{BookValue, Fortune, Gone, Whole, committed, history_of, recorded, reopened}
 use Rattle.gw_base.specs.EntryLaws.{is_close_due-append}
 use Rattle.gw_base.specs.History.{is_close_due}
@@ -31,12 +30,13 @@ use Rattle.replay_world.specs.Settling.{AreUnarmed, IsIdle}
 use Rattle.replay_world.specs.Setup.{Setup, files_in, rules_in}
 use Rattle.replay_world.specs.Steps.{Step, Disarms, Plays, Writes, after_step, ends_line, machines_at, machines_in, site_of}
 use Rattle.replay_world.specs.Value.{Filing, Machine, ReplayValue, unarmed as unarmed_one}
-use Rattle.replay_world.proofs.CalmLemmas.{both, commit_stays_up, close_stays_up, found, get_other, get_same, line_goes_on, running_there, sets_at, stays_set, there_then, unarmed_after, unarmed_there}
+use Rattle.replay_world.proofs.CalmLemmas.{commit_stays_up, close_stays_up, found, get_other, get_same, line_goes_on, running_there, sets_at, stays_set, there_then, unarmed_after, unarmed_there, goes_on_then}
 use Rattle.replay_world.proofs.QuietLemmas.{filed_machine, machines_stay, plays, writes}
 use Rattle.replay_world.proofs.SetLemmas.{Sets}
 use Rattle.replay_world.proofs.SettleLemmas.{calm_filing, disarmed_world, disarms, lesser, may_open, unarmed_from}
 use Rattle.replay_world.proofs.StepLemmas.{IsAt}
 use Rattle.replay_world.proofs.StepsLemmas.{after_append, goes_append}
+use Rattle.replay_world.proofs.TakenSteps.{is_there}
 
 -- Steps that are all made, and what they come to.
 record Runs (v : ReplayValue) (steps : List Step) (u : ReplayValue) : Type 0 where
@@ -110,9 +110,7 @@ runs_at v number g m at runs = running_there v.world number g at.from_one at.few
 gateway_is_there : (v : ReplayValue) (number : ℕ) → 1 ≤ number → number ≤ length v.world.gateways →
     no_gateway v.world number ≡ None
 gateway_is_there v number some few =
-    ap (λ (b : Bool). refusing b NoGateway)
-    (both (nat_lt 0 number) (nat_le number (length v.world.gateways)) (lt-ltb 0 number some)
-    (le-leb number (length v.world.gateways) few))
+    ap (λ (b : Bool). refusing b NoGateway) (is_there (length v.world.gateways) number some few)
 
 -- A step that sets it.
 at_set : (v : ReplayValue) (step : Step) (number : ℕ) (h g : Gateway) (n m : Machine) (sends : List Message) →
@@ -133,14 +131,6 @@ at_set v step number h g n m sends at sets idle =
 abbrev calm_fortune : Machine → Fortune
 calm_fortune m = fortune_by m.at_last (GoesOn Nothing)
 
-calm_asked : (asked : Asked) (at_last : Bool) → sequel_of asked Nothing at_last ≡ GoesOn Nothing
-calm_asked AsksNothing at_last = refl
-calm_asked AsksCommit at_last = refl
-calm_asked AsksReopening at_last = refl
-
-calm_on : (m : Machine) (asked : Asked) → m.armed ≡ Nothing → sequel_on m asked ≡ GoesOn Nothing
-calm_on m asked is = ap (λ (a : Armed). sequel_of asked a m.at_last) is ∙ calm_asked asked m.at_last
-
 -- An event moved it.
 record MovedTo (v : ReplayValue) (e : Event) (number : ℕ) (g : Gateway) : Type 0 where
   pub machine : Machine
@@ -156,7 +146,7 @@ moves_to v e number g m move is same at =
     let asked : Asked = asked_of v.world g e in
     let n : Machine = machine_after asked m in
     let moved : moved_by (sequel_on m asked) move m g ≡ move (calm_fortune m) g =
-    ap (λ (s : Sequel). moved_by s move m g) (calm_on m asked idle.0) in
+    ap (λ (s : Sequel). moved_by s move m g) (goes_on_then m asked idle.0) in
     let done : Moved = moved_by (sequel_on m asked) move m g in
     let sets : Sets v (Plays e) (number - 1) done.gateway n done.sends = sets_at v e number g m move is same idle in
     let calm = unarmed_after asked m idle in

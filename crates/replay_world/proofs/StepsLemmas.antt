@@ -112,7 +112,7 @@ pub does_none : (v : ReplayValue) (text : List ℕ) (r : Replay) → Stands v r 
 does_none v text r stands =
     record { makes = record { stands = stands; prints = sym (append-nil text) }; goes = refl }
 
-ends_either : (b : Bool) (u : ReplayValue) → (if b then u else u) ≡ u
+pub ends_either : (b : Bool) (u : ReplayValue) → (if b then u else u) ≡ u
 ends_either true u = refl
 ends_either false u = refl
 

@@ -1,5 +1,5 @@
 -- Sums of what gateways and nodes count.
-use Rattle.std.proofs.Common.{◌≡◌, ◌∙◌, refl, sym, ap, ℕ, zero, suc, ◌+◌, ◌-◌, ◌*◌, ◌<◌, ◌^◌, List, [], ◌∷◌, ◌++◌, length, take, sum_by, Option, Some, None, slice_get, arith}
+use Rattle.std.proofs.Common.{◌≡◌, ◌∙◌, refl, sym, ap, ℕ, zero, suc, ◌+◌, ◌-◌, ◌*◌, ◌<◌, ◌^◌, List, [], ◌∷◌, ◌++◌, take, sum_by, Option, Some, None, slice_get, arith}
 use Rattle.std.proofs.lemmas.List.Sums.{sum_by-append, sum_by-cons}
 use Rattle.std.specs.List.{enumerate_from}
 use Rattle.node_core.specs.Counting.{counts_of}
@@ -101,10 +101,6 @@ numbered a (y ∷ xs) zero x is =
 numbered a (y ∷ xs) (suc k) x is =
     let next : a + 1 + k ≡ a + suc k = omega arith in
     numbered (a + 1) xs k x is ∙ ap (λ (n : ℕ). Some (n, x)) next
-
-pub enumerated_length : {A : Type 0} (a : ℕ) (xs : List A) → length (enumerate_from a xs) ≡ length xs
-enumerated_length a [] = refl
-enumerated_length a (x ∷ xs) = ap (λ n. suc n) (enumerated_length (a + 1) xs)
 
 module _ (gateways : ℕ) (logs : List (List LogEntry)) (k : ℕ) (log : List LogEntry) (counts : NodeCounts)
     (sums more : NodeSums) where

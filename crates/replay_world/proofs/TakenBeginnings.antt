@@ -1,6 +1,6 @@
 -- The beginning of a script, its settings, and all of its lines.
 use Rattle.std.proofs.Common.{◌≡◌, ℕ, zero, suc, ◌-◌, ◌<◌, ◌==◌, ◌||◌, not, nat_le, Bool, true, false, if◌then◌else◌, List, [], ◌∷◌, ◌++◌, length, None, slice_get, refl, sym, ap, subst, ◌∙◌, arith, leb-true}
-use Rattle.std.proofs.lemmas.Bool.{and_parts}
+use Rattle.std.proofs.lemmas.Bool.{and_parts, not-true, or_parts}
 use Rattle.std.specs.List.{AllByRecursion, list_any}
 use Rattle.std.specs.Option.{option_map_or}
 use Rattle.node_core.specs.Log.{LogEntry, Began, runs}
@@ -12,12 +12,13 @@ use Rattle.replay_world.specs.Report.{refused_from, refused_or, turns_from}
 use Rattle.replay_world.specs.Setup.{Setup, after_setting, after_settings, default_setup, rules_in}
 use Rattle.replay_world.specs.Taken.{Allows, IsAsSaid}
 use Rattle.replay_world.specs.Value.{ReplayValue, begun, first_machine, replay_of}
-use Rattle.replay_world.proofs.TakenSteps.{Unarmed, true_not}
+use Rattle.replay_world.proofs.TakenSteps.{Unarmed}
 use Rattle.world_script.specs.Script.{is_action_line, is_blank_line, is_setting_line}
 use Rattle.world_script.specs.World.{Scene, after_line, are_settings_first, first_scene, takes, takes_all}
 use Rattle.world_script.specs.declared.line.Line.{Line}
 use Rattle.world_script.specs.declared.line.Line.TheVariants as line
 use Rattle.replay_world.proofs.TakenScripts.{lines_taken}
+use Rattle.replay_world.proofs.BeginningLemmas.{times_length}
 
 -- ---- the beginning
 
@@ -25,10 +26,6 @@ times_get : {A B : Type 0} (get : A → B) (d : B) (a : A) (n p : ℕ) → p < n
 times_get get d a zero p h = absurd (omega (arith, h))
 times_get get d a (suc n) zero h = refl
 times_get get d a (suc n) (suc p) h = times_get get d a n p (omega (arith, h))
-
-length_times : {A : Type 0} (n : ℕ) (a : A) → length (times_of n a) ≡ n
-length_times zero a = refl
-length_times (suc n) a = ap suc (length_times n a)
 
 all_times : {A : Type 0} (P : A → Type 0) (n : ℕ) (a : A) → P a → AllByRecursion P (times_of n a)
 all_times P zero a h = tt
@@ -39,8 +36,8 @@ log_get n p h = times_get (λ (log : List LogEntry). log) [] (Began ∷ []) n p 
 
 begins_said : (s : Scene) (setup : Setup) → s.moment ≡ 0 → s.stopped ≡ [] → setup.gateways ≡ s.gateways → setup.nodes ≡ s.nodes → IsAsSaid s (begun setup)
 begins_said s setup moment none gateways nodes = record {
-  gateways = length_times setup.gateways (first_gateway (rules_in setup)) ∙ gateways;
-  nodes = length_times setup.nodes (Began ∷ []) ∙ nodes;
+  gateways = times_length setup.gateways (first_gateway (rules_in setup)) ∙ gateways;
+  nodes = times_length setup.nodes (Began ∷ []) ∙ nodes;
   moment = sym moment;
   stopped = λ gateway there.
       let parts = and_parts (nat_le 1 gateway) (nat_le gateway s.gateways) there in
@@ -134,14 +131,10 @@ setting_stays t (line.Stop gateway) h = refl
 setting_stays t (line.Open gateway) h = refl
 setting_stays t line.Blank h = refl
 
-neither_of : (a b : Bool) → (a || b) ≡ false → (a ≡ false) × (b ≡ false)
-neither_of true b h = absurd (cc)
-neither_of false b h = (refl, h)
-
 settings_stay : (t : Setup) (lines : List Line) → list_any is_setting_line lines ≡ false → after_settings t lines ≡ t
 settings_stay t [] h = refl
 settings_stay t (said ∷ later) h =
-    let kinds = neither_of (is_setting_line said) (list_any is_setting_line later) h in
+    let kinds = or_parts (is_setting_line said) (list_any is_setting_line later) h in
     ap (λ (u : Setup). after_settings u later) (setting_stays t said kinds.0) ∙ settings_stay t later kinds.1
 
 -- none of the lines is refused, and their turns are allowed
@@ -160,9 +153,9 @@ from_beginning s t place v (said ∷ later) is moment stopped gateways nodes fir
         → (b : Bool) → is_action_line said ≡ b → (if b then not (list_any is_setting_line later) else are_settings_first later) ≡ true
         → AreTaken place v (said ∷ later)
     by goes_on true e k =
-        let kinds = neither_of (is_setting_line said) (is_blank_line said) (true_not (is_setting_line said || is_blank_line said) e) in
+        let kinds = or_parts (is_setting_line said) (is_blank_line said) (not-true (is_setting_line said || is_blank_line said) e) in
         let actions : list_any is_setting_line (said ∷ later) ≡ false =
-        ap (λ (b : Bool). b || list_any is_setting_line later) kinds.0 ∙ true_not (list_any is_setting_line later) k in
+        ap (λ (b : Bool). b || list_any is_setting_line later) kinds.0 ∙ not-true (list_any is_setting_line later) k in
         let same = settings_stay t (said ∷ later) actions in
         let begins = begins_said s (after_settings t (said ∷ later)) moment stopped (ap (λ (u : Setup). u.gateways) same ∙ gateways) (ap (λ (u : Setup). u.nodes) same ∙ nodes) in
         let taken = lines_taken s v place (said ∷ later) actions there (subst (IsAsSaid s) is begins) in

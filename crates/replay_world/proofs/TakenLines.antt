@@ -1,6 +1,6 @@
 -- The lines that a world surely takes: none is refused, each of their turns is allowed, and the replay stays as they say.
 use Rattle.std.proofs.Common.{◌≡◌, ⊎_elim, ℕ, zero, suc, ◌+◌, ◌-◌, ◌%◌, ◌≤◌, ◌<◌, ◌==◌, ◌&&◌, not, nat_le, nat_lt, Bool, true, false, if◌then◌else◌, List, [], ◌∷◌, ◌++◌, length, map, Option, Some, None, slice_get, slice_set, refl, sym, ap, subst, ◌∙◌, arith, append-nil, eqb-true, eq-eqb, eq-or-lt_of_le, le-leb, leb-true, ltb-true, length-set}
-use Rattle.std.proofs.lemmas.Bool.{and_parts, eqb-false, ne_eqb}
+use Rattle.std.proofs.lemmas.Bool.{and_from, and_parts, eqb-false, ne_eqb, not-false}
 use Rattle.std.specs.List.{AllByRecursion, flat_map, range_with_len}
 use Rattle.std.specs.Option.{option_map_or, option_or}
 use Rattle.area_disk.specs.Armed.{Came}
@@ -22,7 +22,7 @@ use Rattle.replay_world.specs.Steps.{Disarms, Loses, Plays, Step, Tells, Writes,
 use Rattle.replay_world.specs.Taken.{IsAsSaid}
 use Rattle.replay_world.specs.Value.{Machine, ReplayValue, disarmed}
 use Rattle.replay_world.proofs.TakenPasses.{Facts, Holds, HoldsOf, Passes, calm_passes, disarms_passes, loses_passes, passes_none, quiet_passes, tells_passes, within, writes_passes}
-use Rattle.replay_world.proofs.TakenSteps.{Unarmed, all_get, both, calls_calm, is_calm, is_there, not_not, with_unarmed}
+use Rattle.replay_world.proofs.TakenSteps.{Unarmed, all_get, calls_calm, is_calm, is_there, with_unarmed}
 use Rattle.world_script.specs.World.{Scene, is_stopped}
 
 -- ---- what a scene says of a replay
@@ -94,7 +94,7 @@ module _ (f : Facts) (w : World) (h : HoldsOf f w) where
 
   message_there : (message : ℕ) → is_none_of f.messages message ≡ false → is_none_of (length w.messages) message ≡ false
   message_there message e =
-      let parts = and_parts (nat_lt 0 message) (nat_le message f.messages) (not_not (nat_lt 0 message && nat_le message f.messages) e) in
+      let parts = and_parts (nat_lt 0 message) (nat_le message f.messages) (not-false (nat_lt 0 message && nat_le message f.messages) e) in
       is_there (length w.messages) message (omega (arith, ltb-true 0 message parts.0)) (omega (arith, h.messages, leb-true message f.messages parts.1))
 
   pub moment_comes : (moment : ℕ) → nat_le f.moment moment ≡ true → refusal_of w (event.Moment moment) ≡ None
@@ -330,7 +330,7 @@ module _ (s : Scene) (messages : ℕ) where
       (λ u k. settles_from from (a + 1) n (changed a false down) u P (omega arith) (omega (arith, all)) lower higher k done)
     where
       here : within s.gateways a ≡ true
-      here = both (nat_le 1 a) (nat_le a s.gateways) (le-leb 1 a low) (le-leb a s.gateways (omega (arith, all)))
+      here = and_from (nat_le 1 a) (nat_le a s.gateways) (le-leb 1 a low) (le-leb a s.gateways (omega (arith, all)))
 
       lower : (gateway : ℕ) → 1 ≤ gateway → gateway < a + 1 → changed a false down gateway ≡ false
       lower gateway some less = by (a == gateway) refl

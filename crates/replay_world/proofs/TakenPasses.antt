@@ -1,5 +1,6 @@
 -- Steps that a world allows, one after the other, and what holds of the replay after them.
 use Rattle.std.proofs.Common.{◌≡◌, ℕ, suc, ◌≤◌, ◌==◌, ◌&&◌, not, nat_le, Bool, true, false, if◌then◌else◌, List, [], ◌∷◌, ◌++◌, length, map, drop, Option, Some, None, refl, sym, ap, subst, ◌∙◌, arith, length-drop}
+use Rattle.std.proofs.lemmas.Bool.{not-true}
 use Rattle.std.specs.List.{AllByRecursion, enumerate_from}
 use Rattle.std.specs.Option.{option_map_or}
 use Rattle.area_disk.specs.Armed.{Came}
@@ -21,7 +22,7 @@ use Rattle.replay_world.specs.Setup.{files_in, rules_in}
 use Rattle.replay_world.specs.Steps.{Plays, Loses, Arms, ArmsShelf, Disarms, Writes, Tells, files_written, Site, Step, after_step, ends_line, items_firm, machines_at, machines_after, machines_in, site_of, step_turns, turn_of, waiting_after, waiting_left, world_after}
 use Rattle.replay_world.specs.Taken.{Allows, arms_stop}
 use Rattle.replay_world.specs.Value.{Filing, ReplayValue, unarmed as unarmed_one}
-use Rattle.replay_world.proofs.TakenSteps.{Unarmed, after_unarmed, all_append, all_filter, all_weaker, calls_calm, event_is, is_calm, numbered, still_there, stops_none, true_not, with_unarmed}
+use Rattle.replay_world.proofs.TakenSteps.{Unarmed, after_unarmed, all_append, all_filter, all_weaker, calls_calm, event_is, is_calm, numbered, still_there, stops_none, with_unarmed}
 use Rattle.replay_world.proofs.TakenWorlds.{Same, is_quiet, turn_same}
 
 -- ---- a replay of which some of the world is known
@@ -188,7 +189,7 @@ filed_unarmed settings items f h =
     by (shelf_came settings items f) (calls_calm f.armed (length (shelf_calls settings items f)) h)
   where
     by : (c : Came) → is_calm c ≡ true → arms_stop (filing_after settings items f c).armed ≡ false
-    by (Ran a) is = true_not (arms_stop a) is
+    by (Ran a) is = not-true (arms_stop a) is
     by (FailedAt k) is = refl
     by (StoppedAt k outcome) is = refl
 

@@ -1,6 +1,6 @@
 -- Each line that a world surely takes, and lines one after the other.
 use Rattle.std.proofs.Common.{◌≡◌, ℕ, suc, ◌==◌, ◌||◌, not, nat_le, Bool, true, false, if◌then◌else◌, List, [], ◌∷◌, length, filter, None, Result, Ok, Err, refl, sym, ap, subst, ◌∙◌, arith, eqb-true, le-leb}
-use Rattle.std.proofs.lemmas.Bool.{and_parts}
+use Rattle.std.proofs.lemmas.Bool.{and_from, and_parts, not-true}
 use Rattle.std.specs.List.{flat_map, list_any, range_with_len}
 use Rattle.gtpp_message.specs.Packet.{PacketForm}
 use Rattle.node_core.specs.Drafts.{value_octets}
@@ -18,7 +18,6 @@ use Rattle.replay_world.specs.Value.{ReplayValue}
 use Rattle.replay_world.proofs.LineLemmas.{line_setup, line_world}
 use Rattle.replay_world.proofs.TakenLines.{changed, disarms_all, facts, flow_passes, gateway_opens, gateway_runs, holds_said, mix_passes, moment_comes, node_runs, opens_passes, said_holds, settles_from, stops_passes, write_passes}
 use Rattle.replay_world.proofs.TakenPasses.{Holds, Passes, allows_append, calm_passes, passes_none, quiet_passes, tells_passes, within}
-use Rattle.replay_world.proofs.TakenSteps.{both, true_not}
 use Rattle.world_script.specs.Sample.{seeded}
 use Rattle.world_script.specs.Script.{is_setting_line}
 use Rattle.world_script.specs.World.{Scene, after_line, has_gateway, has_node, has_running, is_stopped, takes, takes_all}
@@ -66,7 +65,7 @@ module _ (s : Scene) (v : ReplayValue) (is : IsAsSaid s v) where
   runs_there : (gateway : ℕ) → has_running s gateway ≡ true → (within s.gateways gateway ≡ true) × (is_stopped s gateway ≡ false)
   runs_there gateway there =
       let parts = and_parts (has_gateway s gateway) (not (is_stopped s gateway)) there in
-      (parts.0, true_not (is_stopped s gateway) parts.1)
+      (parts.0, not-true (is_stopped s gateway) parts.1)
 
   by_moment : (moment : ℕ) → takes s (line.At moment) ≡ true → IsTaken s v (line.At moment)
   by_moment moment there =
@@ -201,7 +200,7 @@ module _ (s : Scene) (v : ReplayValue) (is : IsAsSaid s v) where
       (λ u h. subst (λ (n : ℕ). Passes u (flat_map (settling_steps v) (range_with_len 1 n)) (IsAsSaid after)) (sym is.gateways)
       (settles_from s (length v.world.messages) v 1 s.gateways (is_stopped s) u (IsAsSaid after) (omega arith) (omega arith)
       (λ gateway low high. absurd (omega (arith, low, high)))
-      (λ gateway low high. is.stopped gateway (both (nat_le 1 gateway) (nat_le gateway s.gateways) (le-leb 1 gateway low) (le-leb gateway s.gateways high)))
+      (λ gateway low high. is.stopped gateway (and_from (nat_le 1 gateway) (nat_le gateway s.gateways) (le-leb 1 gateway low) (le-leb gateway s.gateways high)))
       h
       (λ w k. holds_said after (length v.world.messages) (λ gateway. false) w (λ gateway there. refl) k)))
 

@@ -1,6 +1,6 @@
 -- Steps of lines that a world allows, and what holds of the replay after them.
 use Rattle.std.proofs.Common.{◌≡◌, ℕ, zero, suc, ◌+◌, ◌≤◌, ◌&&◌, not, Bool, true, false, if◌then◌else◌, List, [], ◌∷◌, ◌++◌, length, map, filter, Option, Some, None, slice_get, slice_set, refl, ap, subst, ◌∙◌, arith, le-leb, lt-ltb, leb-true, nat_le, nat_lt}
-use Rattle.std.proofs.lemmas.Bool.{and_parts}
+use Rattle.std.proofs.lemmas.Bool.{and_from, and_parts, not-false, not-true}
 use Rattle.std.specs.List.{AllByRecursion, enumerate_from}
 use Rattle.std.specs.Option.{option_map_or}
 use Rattle.area_disk.specs.Armed.{Armed, Came, calls_under, one_later}
@@ -48,22 +48,14 @@ all_get P (z ∷ xs) (suc p) x e h = all_get P xs p x e h.1
 
 -- ---- numbers that are there
 
-pub both : (a b : Bool) → a ≡ true → b ≡ true → (a && b) ≡ true
-both true b h k = k
-both false b h k = h
-
-pub not_not : (b : Bool) → not b ≡ false → b ≡ true
-not_not true e = refl
-not_not false e = absurd (cc)
-
 pub is_there : (count number : ℕ) → 1 ≤ number → number ≤ count → is_none_of count number ≡ false
 is_there count number low high =
-    ap not (both (nat_lt 0 number) (nat_le number count) (lt-ltb 0 number low) (le-leb number count high))
+    ap not (and_from (nat_lt 0 number) (nat_le number count) (lt-ltb 0 number low) (le-leb number count high))
 
 pub still_there : (count more number : ℕ) → count ≤ more → is_none_of count number ≡ false → is_none_of more number ≡ false
 still_there count more number h e =
-    let parts = and_parts (nat_lt 0 number) (nat_le number count) (not_not (nat_lt 0 number && nat_le number count) e) in
-    ap not (both (nat_lt 0 number) (nat_le number more) parts.0
+    let parts = and_parts (nat_lt 0 number) (nat_le number count) (not-false (nat_lt 0 number && nat_le number count) e) in
+    ap not (and_from (nat_lt 0 number) (nat_le number more) parts.0
     (le-leb number more (omega (arith, h, leb-true number count parts.1))))
 
 pub numbered : (n first : ℕ) (xs : List Message) → 1 ≤ first → first + length xs ≤ suc n
@@ -121,12 +113,8 @@ no_stop (GoesOn armed) h = refl
 no_stop (Breaks last) h = refl
 no_stop (Stops stands) h = absurd (cc)
 
-pub true_not : (b : Bool) → not b ≡ true → b ≡ false
-true_not true e = absurd (cc)
-true_not false e = refl
-
 machine_unarmed : (m : Machine) (s : Sequel) → goes_calmly s ≡ true → Unarmed m → Unarmed (machine_with m s)
-machine_unarmed m (GoesOn armed) h u = (true_not (arms_stop armed) h, u.1)
+machine_unarmed m (GoesOn armed) h u = (not-true (arms_stop armed) h, u.1)
 machine_unarmed m (Breaks last) h u = (refl, u.1)
 machine_unarmed m (Stops stands) h u = (refl, refl)
 

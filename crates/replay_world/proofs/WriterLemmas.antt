@@ -2,6 +2,7 @@
 use Rattle.std.proofs.Common.{◌≡◌, ◌∙◌, refl, sym, ap, subst, ℕ, suc, ◌+◌, ◌-◌, ◌^◌, ◌<◌, ◌≤◌, ◌==◌, max, Bool, true, false, List, [], ◌∷◌, ◌++◌, length, take, drop, Result, Ok, Err, Option, Some, None, All, arith, append-nil, length-append, length-drop, length-take}
 use Rattle.std.proofs.lemmas.List.{take-append-drop, take-append-le, take_all}
 use Rattle.std.proofs.lemmas.List.Elements.{All-append, All-nil, All-weaker, filter-append}
+use Rattle.std.proofs.lemmas.Option.{same_Some}
 use Rattle.area_disk.specs.Armed.{Armed, Came, IsArmed, calls_under}
 use Rattle.area_disk.specs.Armed.Armed.{Nothing}
 use Rattle.area_disk.specs.Armed.Came.{Ran, FailedAt, StoppedAt}
@@ -84,9 +85,6 @@ all_fit items are = All-weaker IsWritable IsFit writable_fit items are
 
 last_of : (sealed n : ℕ) → sealed ≤ n → max sealed (0 + n) - 0 ≡ n
 last_of sealed n le = omega (arith, le)
-
-count_is : (a b : ℕ) → Some a ≡ Some b → a ≡ b
-count_is a b is = cc
 
 abbrev files_in : Writer MemoryShelf shelf_tells → List SealedFile
 files_in w = shelf_tells.files (writer.shelf_of w)
@@ -297,7 +295,7 @@ module _ (within : SealOfStreams) (items before later : List Item) (f : Filing)
         numbered = fits;
       };
       is_armed = is;
-      on = λ k has. subst (λ (j : ℕ). IsOn shelf_tells q items (λ s. closed_of q s items) j new) (count_is (length items) k has)
+      on = λ k has. subst (λ (j : ℕ). IsOn shelf_tells q items (λ s. closed_of q s items) j new) (same_Some (length items) k has)
           (record {
             some = omega arith;
             closed = λ s small. ap (λ (xs : List Item). closed_of q s xs) all_taken;
@@ -307,7 +305,7 @@ module _ (within : SealOfStreams) (items before later : List Item) (f : Filing)
 
     pub all_gone_on : (k : ℕ) → Some (length items) ≡ Some k → HasTaken q (take k items) new
     all_gone_on k has =
-        subst (λ (j : ℕ). HasTaken q (take j items) new) (count_is (length items) k has)
+        subst (λ (j : ℕ). HasTaken q (take j items) new) (same_Some (length items) k has)
         (subst (λ (xs : List Item). HasTaken q xs new) all_taken (record {
           at = subst (λ (xs : List Item). writer.IsAt new (λ s. 0) xs) joined done.at;
           sealed = later_sealed;
@@ -322,7 +320,7 @@ module _ (within : SealOfStreams) (items before later : List Item) (f : Filing)
         writes = subst (λ (w : Writer MemoryShelf shelf_tells). WriterStands shelf_tells q (all_filed q items a) items w)
             (sym is) (all_stands a comes.is_armed);
         taken = taken;
-        few = λ k has. omega (arith, few, count_is (length items) k has);
+        few = λ k has. omega (arith, few, same_Some (length items) k has);
         goes_on = λ k has. subst (λ (w : Writer MemoryShelf shelf_tells). HasTaken q (take k items) w) (sym is)
             (all_gone_on k has);
       },

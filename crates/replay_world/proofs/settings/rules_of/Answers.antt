@@ -1,19 +1,20 @@
 use Rattle.std.proofs.Common.{◌≡◌, ◌+◌, ◌++◌, List, [], ◌∷◌, length, drop, ap, sym, ◌∙◌, arith, append_assoc, append-nil, length-append}
+use Rattle.std.proofs.lemmas.Option.{slice_get_within}
 use Rattle.std.specs.List.{flat_map}
 use Rattle.route_filter.specs.declared.rule.Rule.{Rule}
 use Rattle.world_script.specs.declared.line.Line.{Line}
 use Rattle.replay_world.specs.Settings.{IsInRange, rules_in_line}
 use Rattle.replay_world.specs.Setup.{default_setup}
 use Rattle.replay_world.proofs.RangeLemmas.{back_in_range}
-use Rattle.replay_world.proofs.SettingLemmas.{all_at, below_at, none_at, rest_at, rules_after}
+use Rattle.replay_world.proofs.SettingLemmas.{all_at, none_at, rest_at, rules_after}
 use Rattle.replay_world.proofs.settings.rules_of.Goals as goal
 
 pub overflow_add-k : goal.overflow_add-k
 overflow_add-k c =
-    omega (arith, (back_in_range c.args.script.now c.kind-kind.ensures.reads).few, below_at c.args.script.now.lines c.loop-line.k c.in-Some.line.now (sym c.in-Some.ensures))
+    omega (arith, (back_in_range c.args.script.now c.kind-kind.ensures.reads).few, slice_get_within c.args.script.now.lines c.loop-line.k c.in-Some.line.now (sym c.in-Some.ensures))
 
 pub loop-line-smaller : goal.loop-line-smaller
-loop-line-smaller c = omega (arith, below_at c.args.script.now.lines c.loop-line.k c.in-Some.line.now (sym c.in-Some.ensures))
+loop-line-smaller c = omega (arith, slice_get_within c.args.script.now.lines c.loop-line.k c.in-Some.line.now (sym c.in-Some.ensures))
 
 pub add-requires-clause-range : goal.add-requires-clause-range
 add-requires-clause-range c =
@@ -44,7 +45,7 @@ loop-line-preserved c =
       rules = ap (λ (rules : List Rule). rules ++ flat_map rules_in_line later) c.in_ok-add.ensures
           ∙ append_assoc c.loop-line.rules (rules_in_line c.in-Some.line.now) (flat_map rules_in_line later)
           ∙ ap (λ (ls : List Line). c.loop-line.rules ++ flat_map rules_in_line ls) (sym rest) ∙ c.loop-line.invariant.rules;
-      within = omega (arith, below_at lines c.loop-line.k c.in-Some.line.now (sym c.in-Some.ensures));
+      within = omega (arith, slice_get_within lines c.loop-line.k c.in-Some.line.now (sym c.in-Some.ensures));
     }
 
 pub returns : goal.returns

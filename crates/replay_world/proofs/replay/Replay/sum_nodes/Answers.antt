@@ -1,4 +1,5 @@
 use Rattle.std.proofs.Common.{◌≡◌, ◌∙◌, ◌*◌, refl, ap, ℕ, ◌<◌, List, length, take, take_all, Some, slice_get, arith}
+use Rattle.std.proofs.lemmas.List.FromFn.{length-enumerate_from}
 use Rattle.std.specs.List.{enumerate_from}
 use Rattle.std.proofs.lemmas.Option.{slice_get_read}
 use Rattle.node_core.specs.Counting.{counts_of}
@@ -6,7 +7,7 @@ use Rattle.node_core.specs.Log.{LogEntry}
 use Rattle.node_core.specs.Value.{NodeValue}
 use Rattle.replay_world.specs.Summary.{node_sums}
 use Rattle.replay_world.proofs.RefusalLemmas.{node_at, nodes_count}
-use Rattle.replay_world.proofs.SummaryLemmas.{enumerated_length, nodes_few, nodes_more, nodes_next}
+use Rattle.replay_world.proofs.SummaryLemmas.{nodes_few, nodes_more, nodes_next}
 use Rattle.replay_world.proofs.replay.Replay.sum_nodes.Goals as goal
 
 pub loop-index-init : goal.loop-index-init
@@ -45,7 +46,7 @@ returns c = λ v stands.
       c.len-index-end.ensures,
       c.args.self.now.nodes.ok.0,
       nodes_count v c.args.self.now stands,
-      enumerated_length 0 v.world.nodes,
+      length-enumerate_from 0 v.world.nodes,
     )) in
     c.loop-index.invariant.done v stands
     ∙ ap (λ (ns : List (ℕ × List LogEntry)). node_sums (length v.world.gateways) ns) whole

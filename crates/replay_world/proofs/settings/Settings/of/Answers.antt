@@ -1,17 +1,18 @@
 use Rattle.std.proofs.Common.{◌≡◌, refl, ◌+◌, List, [], ◌∷◌, drop, ap, subst, sym, ◌∙◌, arith}
+use Rattle.std.proofs.lemmas.Option.{slice_get_within}
 use Rattle.world_script.specs.declared.line.Line.{Line}
 use Rattle.replay_world.specs.Settings.{AreSet, IsInRange}
 use Rattle.replay_world.specs.Setup.{Setup, after_setting, after_settings, default_setup, setup_of}
 use Rattle.replay_world.proofs.RangeLemmas.{back_in_range}
-use Rattle.replay_world.proofs.SettingLemmas.{all_at, below_at, none_at, rest_at}
+use Rattle.replay_world.proofs.SettingLemmas.{all_at, none_at, rest_at}
 use Rattle.replay_world.proofs.settings.Settings.of.Goals as goal
 
 pub overflow_add-k : goal.overflow_add-k
 overflow_add-k c =
-    omega (arith, (back_in_range c.args.script.now c.kind-kind.ensures.reads).few, below_at c.args.script.now.lines c.loop-line.k c.in-Some.line.now (sym c.in-Some.ensures))
+    omega (arith, (back_in_range c.args.script.now c.kind-kind.ensures.reads).few, slice_get_within c.args.script.now.lines c.loop-line.k c.in-Some.line.now (sym c.in-Some.ensures))
 
 pub loop-line-smaller : goal.loop-line-smaller
-loop-line-smaller c = omega (arith, below_at c.args.script.now.lines c.loop-line.k c.in-Some.line.now (sym c.in-Some.ensures))
+loop-line-smaller c = omega (arith, slice_get_within c.args.script.now.lines c.loop-line.k c.in-Some.line.now (sym c.in-Some.ensures))
 
 pub loop-line-preserved : goal.loop-line-preserved
 loop-line-preserved c =
@@ -26,7 +27,7 @@ loop-line-preserved c =
         c.set.ensures.set before.0 before.2,
       );
       sound = c.set.ensures.sound;
-      within = omega (arith, below_at lines c.loop-line.k c.in-Some.line.now (sym c.in-Some.ensures));
+      within = omega (arith, slice_get_within lines c.loop-line.k c.in-Some.line.now (sym c.in-Some.ensures));
     }
 
 pub returns-clause-set : goal.returns-clause-set
