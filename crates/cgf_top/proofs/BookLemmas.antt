@@ -1,5 +1,5 @@
 -- The book of a gateway whose device never fails: before each call and after it all entries are firm.
-use Rattle.std.proofs.Common.{◌≡◌, ◌≢◌, ℕ, ◌<◌, ◌^◌, min, Bool, true, false, if◌then◌else◌, List, [], ◌∷◌, ◌++◌, length, get_or, take, Option, Some, None, refl, ap, sym, ◌∙◌, arith, append-nil, zero, suc, inl, inr}
+use Rattle.std.proofs.Common.{◌≡◌, ℕ, ◌<◌, ◌^◌, min, Bool, true, false, if◌then◌else◌, List, [], ◌∷◌, ◌++◌, length, get_or, take, Option, Some, None, refl, ap, sym, ◌∙◌, arith, append-nil, zero, suc, inl, inr}
 use Rattle.std.specs.Prelude.{All, slice_index}
 use Rattle.std.proofs.lemmas.Bool.{false≢true}
 use Rattle.std.proofs.lemmas.List.{length-take, take_min}
@@ -130,10 +130,6 @@ module _ {A : Type 0} {tells : Ghosts A} (old middle new : Book A tells) (f : Fo
   taken_all_firm firm moved is =
       recorded_all_firm old middle new now (act_decided (decided (answer_to (value_of old).firm from datagram (size_of old))))
       (taken_records old middle f from datagram now firm moved) is
-
--- ---- marks
-
-module _ {A : Type 0} {tells : Ghosts A} (old new : Book A tells) (f : Fortune) (now : ℕ) where
 
 -- ---- the opening
 

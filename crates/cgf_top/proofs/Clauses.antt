@@ -7,7 +7,7 @@ use Rattle.cgf_top.specs.Ending.{HasCause, WordsDecide}
 use Rattle.cgf_top.specs.Run.{is_reported, may_have_written, status_number}
 use Rattle.cgf_top.specs.Steps.{IsReport, ended_by}
 use Rattle.cgf_top.specs.declared.command.Command.{Command}
-use Rattle.cgf_top.specs.declared.command.Command.TheVariants.{Feed, Show, Replay, Sample, Drill}
+use Rattle.cgf_top.specs.declared.command.Command.TheVariants.{Sample, Drill}
 use Rattle.cgf_top.specs.declared.input_kind.InputKind.{InputKind}
 use Rattle.cgf_top.specs.declared.report.Refusal.{Refusal}
 use Rattle.cgf_top.specs.declared.report.Report.{Report}
@@ -17,11 +17,9 @@ use Rattle.cgf_top.proofs.EndingLemmas.{some_is_none}
 
 -- a command without an input reads nothing
 none_read : (command : Command) → has_input command ≡ false → most_read command ≡ 0
-none_read Feed none = absurd (true≢false none)
-none_read Show none = absurd (true≢false none)
-none_read Replay none = absurd (true≢false none)
 none_read (Sample of) none = refl
 none_read (Drill of) none = refl
+none_read _ none = absurd (true≢false none)
 
 -- the words were of a form, and the end is another one than `Words`
 pub words_decide : {S : Type 0} (asked : Option Command) (command : Command) (ended : Status) (before after : S) →

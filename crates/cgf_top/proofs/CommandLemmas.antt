@@ -1,5 +1,6 @@
 -- What words ask for, by what clap found in them; and that it is nothing where one of them is an option.
-use Rattle.std.proofs.Common.{◌≡◌, ◌∙◌, refl, sym, ap, ap₂, ℕ, Bool, true, false, cond, ◌||◌, ◌==◌, true≢false, List, [], ◌∷◌, length, map, codes, Option, Some, None, ◌⊎◌, inl, inr, if◌then◌else◌, eqb-true, arith}
+use Rattle.std.proofs.Common.{◌≡◌, ◌∙◌, refl, sym, ap, ap₂, ℕ, Bool, true, false, cond, ◌||◌, ◌==◌, true≢false, List, [], ◌∷◌, length, map, codes, Option, Some, None, inl, inr, if◌then◌else◌, eqb-true, arith}
+use Rattle.std.proofs.lemmas.Bool.{or_cases}
 use Rattle.std.specs.Option.{option_and_then, option_map}
 use Rattle.std.specs.List.{list_any}
 use Rattle.clap.specs.Words.{Text, all_of, first_of, first_value, matched_of, raw_values, rows_of}
@@ -17,12 +18,9 @@ use Rattle.cgf_top.specs.declared.command.Seeded.{Seeded}
 -- values of another number ask for nothing
 pub other_values : {A : Type 0} (text : A → List ℕ) (name : List ℕ) (values : List A) → (length values ≡ 1 → ⊥) → (length values ≡ 4 → ⊥) →
     command_of (name ∷ map text values) ≡ None
-other_values text name [] one four = refl
 other_values text name (a ∷ []) one four = absurd (one refl)
-other_values text name (a ∷ b ∷ []) one four = refl
-other_values text name (a ∷ b ∷ c ∷ []) one four = refl
 other_values text name (a ∷ b ∷ c ∷ d ∷ []) one four = absurd (four refl)
-other_values text name (a ∷ b ∷ c ∷ d ∷ e ∷ more) one four = refl
+other_values text name _ one four = refl
 
 -- a value that is no option is a file's name
 pub file_value : {A : Type 0} (text : A → List ℕ) (name : List ℕ) (values : List A) → length values ≡ 1 →
@@ -38,9 +36,8 @@ file_value text name (a ∷ b ∷ more) one none = absurd (omega (arith, one))
 -- What is asked for by a name and values, where both are there.
 
 abbrev pub said_by : Option Text → Option (List Text) → Option Command
-said_by None values = None
-said_by (Some name) None = None
 said_by (Some name) (Some values) = command_of (name ∷ values)
+said_by _ _ = None
 
 said_rows : (words : List Text) → said_by (first_of (codes "COMMAND") (found_in words)) (all_of (codes "VALUES") (found_in words)) ≡ command_of words
 said_rows [] = refl
@@ -88,37 +85,30 @@ values_plain f words text values rows none are =
 
 -- Words with an option among them ask for nothing.
 
-either : (a b : Bool) → (a || b) ≡ true → (a ≡ true) ⊎ (b ≡ true)
-either true b is = inl refl
-either false b is = inr is
-
 no_number : (most : ℕ) (word : List ℕ) → is_option word ≡ true → number_up_to most word ≡ None
-no_number most [] is = absurd (true≢false (sym is))
-no_number most (x ∷ []) is = absurd (true≢false (sym is))
 no_number most (x ∷ y ∷ xs) is =
     ap (λ (z : ℕ). number_up_to most (z ∷ y ∷ xs)) (eqb-true x 45 is)
+no_number most _ is = absurd (true≢false (sym is))
 
 no_count : (most : ℕ) (word : List ℕ) → is_option word ≡ true → counted most word ≡ None
 no_count most word is = ap (option_and_then (λ (n : ℕ). if n == 0 then None else Some n)) (no_number most word is)
 
 no_file_command : (name : List ℕ) → is_option name ≡ true → command_named name ≡ None
-no_file_command [] is = absurd (true≢false (sym is))
-no_file_command (x ∷ []) is = absurd (true≢false (sym is))
 no_file_command (x ∷ y ∷ xs) is = ap (λ (z : ℕ). command_named (z ∷ y ∷ xs)) (eqb-true x 45 is)
+no_file_command _ is = absurd (true≢false (sym is))
 
 no_seed_command : (name : List ℕ) (seeded : Seeded) → is_option name ≡ true → seeded_named name seeded ≡ None
-no_seed_command [] seeded is = absurd (true≢false (sym is))
-no_seed_command (x ∷ []) seeded is = absurd (true≢false (sym is))
 no_seed_command (x ∷ y ∷ xs) seeded is = ap (λ (z : ℕ). seeded_named (z ∷ y ∷ xs) seeded) (eqb-true x 45 is)
+no_seed_command _ seeded is = absurd (true≢false (sym is))
 
 nothing : {A B : Type 0} (f : A → Option B) (of : Option A) → ((a : A) → f a ≡ None) → option_and_then f of ≡ None
 nothing f None none = refl
 nothing f (Some a) none = none a
 
 no_file : (name file : List ℕ) → (is_option name || (is_option file || false)) ≡ true → command_of (name ∷ file ∷ []) ≡ None
-no_file name file is = elim (either (is_option name) (is_option file || false) is) [
+no_file name file is = elim (or_cases (is_option name) (is_option file || false) is) [
   | inl first ↦ rw (no_file_command name first) (go (is_option file) None)
-  | inr more ↦ elim (either (is_option file) false more) [ inl second ↦ rw second refl | inr false_is ↦ absurd (true≢false (sym false_is)) ]
+  | inr more ↦ elim (or_cases (is_option file) false more) [ inl second ↦ rw second refl | inr false_is ↦ absurd (true≢false (sym false_is)) ]
 ]
   where
     go : (b : Bool) (of : Option Command) → cond b of of ≡ of
@@ -130,21 +120,21 @@ script s n g p = record { seed = s; nodes = n; gateways = g; packets = p }
 
 no_seeded : (seed nodes gateways packets : List ℕ) → (is_option seed || (is_option nodes || (is_option gateways || (is_option packets || false)))) ≡ true →
     seeded_of seed nodes gateways packets ≡ None
-no_seeded seed nodes gateways packets is = elim (either (is_option seed) (is_option nodes || (is_option gateways || (is_option packets || false))) is) [
+no_seeded seed nodes gateways packets is = elim (or_cases (is_option seed) (is_option nodes || (is_option gateways || (is_option packets || false))) is) [
   | inl at ↦ rw (no_number last_seed seed at) refl
   | inr later ↦ nothing _ (number_up_to last_seed seed) (λ s. by_nodes s later)
 ]
   where
     by_packets : (s n g : ℕ) → (is_option packets || false) ≡ true →
         option_map (λ (p : ℕ). script s n g p) (counted 20000 packets) ≡ None
-    by_packets s n g is = elim (either (is_option packets) false is) [
+    by_packets s n g is = elim (or_cases (is_option packets) false is) [
       | inl at ↦ rw (no_count 20000 packets at) refl
       | inr false_is ↦ absurd (true≢false (sym false_is))
     ]
 
     by_gateways : (s n : ℕ) → (is_option gateways || (is_option packets || false)) ≡ true →
         option_and_then (λ (g : ℕ). option_map (λ (p : ℕ). script s n g p) (counted 20000 packets)) (counted 8 gateways) ≡ None
-    by_gateways s n is = elim (either (is_option gateways) (is_option packets || false) is) [
+    by_gateways s n is = elim (or_cases (is_option gateways) (is_option packets || false) is) [
       | inl at ↦ rw (no_count 8 gateways at) refl
       | inr later ↦ nothing _ (counted 8 gateways) (λ g. by_packets s n g later)
     ]
@@ -152,7 +142,7 @@ no_seeded seed nodes gateways packets is = elim (either (is_option seed) (is_opt
     by_nodes : (s : ℕ) → (is_option nodes || (is_option gateways || (is_option packets || false))) ≡ true →
         option_and_then (λ (n : ℕ). option_and_then (λ (g : ℕ). option_map (λ (p : ℕ). script s n g p) (counted 20000 packets)) (counted 8 gateways))
         (counted 16 nodes) ≡ None
-    by_nodes s is = elim (either (is_option nodes) (is_option gateways || (is_option packets || false)) is) [
+    by_nodes s is = elim (or_cases (is_option nodes) (is_option gateways || (is_option packets || false)) is) [
       | inl at ↦ rw (no_count 16 nodes at) refl
       | inr later ↦ nothing _ (counted 16 nodes) (λ n. by_gateways s n later)
     ]
@@ -160,16 +150,12 @@ no_seeded seed nodes gateways packets is = elim (either (is_option seed) (is_opt
 no_seed : (name seed nodes gateways packets : List ℕ) →
     (is_option name || (is_option seed || (is_option nodes || (is_option gateways || (is_option packets || false))))) ≡ true →
     command_of (name ∷ seed ∷ nodes ∷ gateways ∷ packets ∷ []) ≡ None
-no_seed name seed nodes gateways packets is = elim (either (is_option name) (is_option seed || (is_option nodes || (is_option gateways || (is_option packets || false)))) is) [
+no_seed name seed nodes gateways packets is = elim (or_cases (is_option name) (is_option seed || (is_option nodes || (is_option gateways || (is_option packets || false)))) is) [
   | inl at ↦ nothing (seeded_named name) (seeded_of seed nodes gateways packets) (λ seeded. no_seed_command name seeded at)
   | inr later ↦ ap (option_and_then (seeded_named name)) (no_seeded seed nodes gateways packets later)
 ]
 
 pub option_asks : {A : Type 0} (text : A → List ℕ) (words : List A) → list_any (λ word. is_option (text word)) words ≡ true → None ≡ command_of (map text words)
-option_asks text [] is = refl
-option_asks text (a ∷ []) is = refl
 option_asks text (a ∷ b ∷ []) is = sym (no_file (text a) (text b) is)
-option_asks text (a ∷ b ∷ c ∷ []) is = refl
-option_asks text (a ∷ b ∷ c ∷ d ∷ []) is = refl
 option_asks text (a ∷ b ∷ c ∷ d ∷ e ∷ []) is = sym (no_seed (text a) (text b) (text c) (text d) (text e) is)
-option_asks text (a ∷ b ∷ c ∷ d ∷ e ∷ f ∷ more) is = refl
+option_asks text _ is = refl

@@ -1,10 +1,9 @@
 -- The messages of a stream, one after the other.
-use Rattle.std.proofs.Common.{◌≡◌, ℕ, ◌+◌, ◌-◌, ◌<◌, ◌≤◌, ◌⊎◌, ⊎_elim, inl, inr, Bool, true, false, if◌then◌else◌, List, [], ◌∷◌, ◌++◌, length, length-append, map, take, drop, Option, Some, None, Result, Ok, Err, refl, sym, ap, subst, ◌∙◌, append_assoc, append-nil, arith}
+use Rattle.std.proofs.Common.{◌≡◌, ℕ, ◌+◌, ◌<◌, ◌≤◌, ◌⊎◌, ⊎_elim, inl, inr, Bool, true, false, if◌then◌else◌, List, [], ◌∷◌, length, Option, None, refl, sym, ap, ◌∙◌, arith}
 use Rattle.std.proofs.lemmas.Bool.{cases_lt, lt-ltb}
 use Rattle.area_disk.specs.Disk.{counted, last_count}
 use Rattle.area_disk.specs.declared.area.Area as areas
 use Rattle.cgf_journal.specs.Trail.{is_closed}
-use Rattle.gate_journal.specs.Moments.{Told}
 use Rattle.gateway_book.specs.Answer.{Decided, Says, Silent, decided, failure_answer, failure_reply, reply_in}
 use Rattle.gateway_book.specs.Answered.{no_caller}
 use Rattle.gateway_book.specs.Book.{HasCause, IsLeft, Stays, area_of, fortune_of, size_of, value_of}
@@ -14,17 +13,16 @@ use Rattle.gateway_book.specs.Value.{BookValue, after_commit, readied}
 use Rattle.gateway_book.specs.declared.book.Book.{Book}
 use Rattle.gateway_book.specs.declared.outcome.Outcome.{Outcome}
 use Rattle.gateway_book.specs.declared.outcome.Outcome.TheVariants as outcome
-use Rattle.gtpp_stream.specs.Frames.{first_fault, frames, rest_of}
-use Rattle.gtpp_stream.specs.Stream.{Follows, Stream, pending}
+use Rattle.gtpp_stream.specs.Frames.{first_fault, rest_of}
+use Rattle.gtpp_stream.specs.Stream.{Follows, Stream}
 use Rattle.gtpp_stream.specs.declared.frame.FrameKind.{FrameKind}
 use Rattle.gw_base.specs.declared.address.Addr.{Addr}
 use Rattle.node_session.specs.Turns.{decided_by_fault}
-use Rattle.cgf_top.specs.Replies.{Tried, after_all, after_message, octets_said, sent_for, sent_for_all}
+use Rattle.cgf_top.specs.Replies.{Tried, after_message, octets_said}
 use Rattle.cgf_top.specs.StreamEnds.{end_by, most_stream, rest_end, rest_place, stream_end}
-use Rattle.cgf_top.specs.StreamSteps.{Answers, AnswersAll, CutsByFaults, HasAnsweredOne, HasGoneTo, IsGoingOn, IsSteady, reply_of}
+use Rattle.cgf_top.specs.StreamSteps.{Answers, CutsByFaults, IsGoingOn, reply_of}
 use Rattle.cgf_top.specs.declared.connection.Connection.{Connection}
 use Rattle.cgf_top.specs.declared.input_kind.InputKind.TheVariants as input
-use Rattle.cgf_top.specs.declared.status.Status.{Status}
 use Rattle.cgf_top.specs.declared.status.Status.TheVariants as status
 
 -- What a caller is told, as octets.

@@ -32,37 +32,7 @@ pub record EndsByEnd (lines : List Line) : Type 0 where
 
 is_end : (l : Line) → is_end_line l ≡ true → l ≡ line.End
 is_end line.End is = refl
-is_end line.Blank is = absurd (cc)
-is_end (line.Reserve length) is = absurd (cc)
-is_end (line.LimitRecords count) is = absurd (cc)
-is_end (line.LimitSize size) is = absurd (cc)
-is_end (line.LimitOpen seconds) is = absurd (cc)
-is_end (line.Offset minutes) is = absurd (cc)
-is_end (line.Profile profile) is = absurd (cc)
-is_end (line.Rule text) is = absurd (cc)
-is_end (line.Gateways count) is = absurd (cc)
-is_end (line.Nodes count) is = absurd (cc)
-is_end (line.At moment) is = absurd (cc)
-is_end (line.Datagram from octets) is = absurd (cc)
-is_end (line.Mark gateway) is = absurd (cc)
-is_end (line.Close gateway) is = absurd (cc)
-is_end (line.Submit node format version records) is = absurd (cc)
-is_end (line.Tick node) is = absurd (cc)
-is_end (line.Halt node) is = absurd (cc)
-is_end (line.Start node) is = absurd (cc)
-is_end (line.Deliver message) is = absurd (cc)
-is_end line.Flow is = absurd (cc)
-is_end (line.Mix seed) is = absurd (cc)
-is_end (line.Commit gateway) is = absurd (cc)
-is_end (line.Write gateway) is = absurd (cc)
-is_end (line.Redirect gateway cause to) is = absurd (cc)
-is_end (line.Stop gateway) is = absurd (cc)
-is_end (line.Open gateway) is = absurd (cc)
-is_end (line.Arm gateway call mode) is = absurd (cc)
-is_end (line.Fail gateway call) is = absurd (cc)
-is_end (line.ArmShelf gateway call mode) is = absurd (cc)
-is_end (line.FailShelf gateway call) is = absurd (cc)
-is_end line.Settle is = absurd (cc)
+is_end _ is = absurd (cc)
 
 -- Behind an `end` only blank lines are taken.
 

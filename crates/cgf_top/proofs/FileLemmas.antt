@@ -1,7 +1,6 @@
 -- The files that a writer leaves on a shelf that was empty.
-use Rattle.std.proofs.Common.{◌≡◌, ℕ, suc, ◌+◌, ◌-◌, ◌<◌, ◌≤◌, min, max, IsTrue, List, [], ◌∷◌, ◌++◌, length, take, Ok, refl, ap, sym, ◌∙◌, arith, append-nil}
-use Rattle.std.proofs.Math.Seq.{take-length}
-use Rattle.std.proofs.lemmas.List.{take_min}
+use Rattle.std.proofs.Common.{◌≡◌, ℕ, suc, ◌+◌, ◌-◌, ◌<◌, ◌≤◌, max, IsTrue, List, [], ◌∷◌, ◌++◌, length, take, Ok, refl, ap, sym, ◌∙◌, arith, append-nil}
+use Rattle.std.proofs.lemmas.List.{take_all}
 use Rattle.area_disk.specs.Disk.{Rose}
 use Rattle.cdr_file.specs.CdrFile.{FileSettings}
 use Rattle.cdr_shelf.specs.Files.{greatest_in, in_stream}
@@ -22,11 +21,6 @@ never_rose rose = omega (arith, rose)
 pub length-files_from : (settings : FileSettings) (s sequence : ℕ) (runs : List (ClosedRun (List ℕ))) → length (files_from settings s sequence runs) ≡ length runs
 length-files_from settings s sequence [] = refl
 length-files_from settings s sequence (run ∷ runs) = ap (λ (n : ℕ). suc n) (length-files_from settings s (sequence + 1) runs)
-
-take_all : {A : Type 0} (n : ℕ) (xs : List A) → length xs ≤ n → take n xs ≡ xs
-take_all n xs h =
-    let least : min n (length xs) ≡ length xs = omega (arith, h) in
-    sym (take_min n xs) ∙ ap (λ k. take k xs) least ∙ take-length xs
 
 -- what an empty shelf holds before the first item
 none_held : {A : Type 0} {tells : Ghosts A} (writer : Writer A tells) (all : List Item) → tells.files (shelf_of writer) ≡ []

@@ -1,5 +1,5 @@
 -- What is told of an address once links of it were given back.
-use Rattle.std.proofs.Common.{◌≡◌, ◌⊎◌, ⊎_elim, inl, inr, ℕ, zero, suc, ◌+◌, ◌-◌, ◌<◌, ◌≤◌, ◌^◌, List, [], ◌∷◌, ◌++◌, min, Option, None, Some, refl, sym, ap, subst, ◌∙◌, arith}
+use Rattle.std.proofs.Common.{◌≡◌, ◌⊎◌, ⊎_elim, inl, inr, ℕ, zero, suc, ◌-◌, ◌<◌, ◌≤◌, ◌^◌, List, [], ◌∷◌, ◌++◌, Option, None, Some, refl, sym, ap, subst, ◌∙◌, arith}
 use Rattle.std.specs.Prelude.{All, IfSome}
 use Rattle.std.specs.List.{Contains}
 use Rattle.std.proofs.lemmas.List.Elements.{All-append, All-head, All-nil, All-tail, All-weaker, Contains-append_right}
@@ -35,8 +35,7 @@ record Both (one other : Told) (list : List Datagram) : Type 0 where
 
 both : (one other : Told) (list : List Datagram) → joined one other ≡ Some list → Both one other list
 both (Some a) (Some b) list e = record { front = a; behind = b; one_is = refl; other_is = refl; list_is = sym (some_same (a ++ b) list e) }
-both (Some a) None list e = absurd (cc e)
-both None other list e = absurd (cc e)
+both _ _ list e = absurd (cc e)
 
 -- Counts of faults.
 

@@ -1,6 +1,5 @@
 -- The line that is written of a gateway that was settled.
-use Rattle.std.proofs.Common.{◌≡◌, ◌⊎◌, ⊎_elim, inl, inr, ℕ, ◌≤◌, Bool, true, false, List, [], ◌++◌, length, Option, None, Some, Result, Ok, Err, IfErr, IfOk, count_by, refl, sym, ap, subst, ◌∙◌, arith}
-use Rattle.area_disk.specs.Disk.{Rose}
+use Rattle.std.proofs.Common.{◌≡◌, inl, inr, ℕ, ◌≤◌, true, false, List, [], length, None, Result, Ok, Err, IfErr, IfOk, count_by, sym, ap, subst, ◌∙◌, arith}
 use Rattle.area_disk.specs.declared.area.Area as areas
 use Rattle.cdr_shelf.specs.declared.shelf.Shelf as shelves
 use Rattle.cgf_journal.specs.Trail.{is_closed}
@@ -14,7 +13,7 @@ use Rattle.gateway_book.specs.Filed.{filed}
 use Rattle.gateway_book.specs.Items.{items_of}
 use Rattle.gateway_book.specs.Read.{IsUnchanged}
 use Rattle.gateway_book.specs.Turning.{facts_of, tells_lists}
-use Rattle.gateway_book.specs.Value.{BookValue, standing_for}
+use Rattle.gateway_book.specs.Value.{BookValue}
 use Rattle.gateway_book.specs.declared.book.Book.{Book}
 use Rattle.gateway_book.specs.declared.told.Counts.{Counts}
 use Rattle.gw_base.specs.Facts.{WhereTold}
@@ -22,7 +21,7 @@ use Rattle.gw_base.specs.Owes.{base}
 use Rattle.gw_base.specs.declared.history.HistoryEntry.{HistoryEntry}
 use Rattle.node_session.specs.Settling.{Grows, HasSettled, HasTakenAll, closed_behind}
 use Rattle.node_session.specs.Writing.{KeepsFiles}
-use Rattle.replay_world.specs.Report.{counts_line, counts_text}
+use Rattle.replay_world.specs.Report.{counts_text}
 use Rattle.replay_world.specs.Tally.{is_part}
 use Rattle.loop_run.specs.Ending.{part_count}
 use Rattle.cgf_top.specs.ServeSteps.{FailsBy, HasLine, HasNoLine, HasSettledAll}

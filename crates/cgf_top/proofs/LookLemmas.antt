@@ -48,13 +48,7 @@ module _ {A F : Type 0} (tells : areas.Ghosts A) (files : shelves.Ghosts F) (of 
         (λ (r : Rose (files.faults looked) (files.faults shelf')). inr (subst (λ (n : ℕ). Rose n (files.faults shelf')) same r)) stops
     stops_before (status.Store (fault.NotOurs at)) same stops = stops
     stops_before status.Memory same stops = tt
-    stops_before status.Done same stops = absurd stops
-    stops_before status.Words same stops = absurd stops
-    stops_before (status.Input place why) same stops = absurd stops
-    stops_before status.Read same stops = absurd stops
-    stops_before (status.Audit packet places wanted) same stops = absurd stops
-    stops_before (status.Unfinished turns packet count) same stops = absurd stops
-    stops_before status.Write same stops = absurd stops
+    stops_before _ same stops = absurd stops
 
     pub stopped_before : {X : Type 0} (result : Result X Status) → files.faults looked ≡ files.faults shelf
         → IfErr result (StopsServing tells files of area area' looked shelf' links links' clock clock')

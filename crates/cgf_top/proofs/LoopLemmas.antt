@@ -63,35 +63,24 @@ module _ (setup : LoopSetup) (job : Job) (links links' : LinksState) (looped : L
   cause_of status.Link wrote read = (read, wrote.2)
   cause_of (status.Audit packet places wanted) wrote read = (read, wrote.3)
   cause_of (status.Unfinished turns packet count) wrote read = (read, wrote.5)
-  cause_of status.Words wrote read = absurd wrote
-  cause_of (status.Input place why) wrote read = absurd wrote
-  cause_of status.Read wrote read = absurd wrote
-  cause_of (status.Store why) wrote read = absurd wrote
+  cause_of _ wrote read = absurd wrote
 
   known_of : (ended : Status) → Wrote ended → IsLoopEnd ended
-  known_of status.Done wrote = tt
-  known_of status.Write wrote = tt
-  known_of status.Memory wrote = tt
-  known_of status.Link wrote = tt
-  known_of (status.Audit packet places wanted) wrote = tt
-  known_of (status.Unfinished turns packet count) wrote = tt
   known_of status.Words wrote = absurd wrote
   known_of (status.Input place why) wrote = absurd wrote
   known_of status.Read wrote = absurd wrote
   known_of (status.Store why) wrote = absurd wrote
+  known_of _ wrote = tt
 
   calm_of : (ended : Status) → Wrote ended → ¬ (Rose links.faults links'.faults)
       → ¬ (Rose job.written_before job.written_after) → IsCalmEnd ended
-  calm_of status.Done wrote no_link no_sink = tt
   calm_of status.Write wrote no_link no_sink = no_sink wrote.2
-  calm_of status.Memory wrote no_link no_sink = tt
   calm_of status.Link wrote no_link no_sink = no_link wrote.1
-  calm_of (status.Audit packet places wanted) wrote no_link no_sink = tt
-  calm_of (status.Unfinished turns packet count) wrote no_link no_sink = tt
   calm_of status.Words wrote no_link no_sink = absurd wrote
   calm_of (status.Input place why) wrote no_link no_sink = absurd wrote
   calm_of status.Read wrote no_link no_sink = absurd wrote
   calm_of (status.Store why) wrote no_link no_sink = absurd wrote
+  calm_of _ wrote no_link no_sink = tt
 
   pub loops_as : (ended : Status) → Wrote ended → job.read_after ≡ job.read_before
       → Loops setup job links links' ended looped None

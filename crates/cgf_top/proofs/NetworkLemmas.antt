@@ -1,11 +1,10 @@
 -- A network that is run line by line, and its report.
-use Rattle.std.proofs.Common.{◌≡◌, ◌∙◌, refl, sym, ap, subst, ℕ, suc, ◌+◌, ◌<◌, ◌≤◌, true, List, [], ◌∷◌, ◌++◌, drop, length, Option, Some, None, slice_get, Result, Ok, Err, append_assoc, append-nil, arith}
+use Rattle.std.proofs.Common.{◌≡◌, ◌∙◌, refl, sym, ap, subst, ℕ, suc, ◌+◌, ◌≤◌, true, List, [], ◌∷◌, ◌++◌, drop, Option, Some, None, slice_get, Result, Ok, Err, append_assoc, append-nil, arith}
 use Rattle.once_core.specs.StandsOnce.{StandsOnce}
 use Rattle.once_core.specs.declared.event.WorldKind.{WorldKind}
 use Rattle.replay_world.specs.Does.{LineRan}
 use Rattle.replay_world.specs.Lines.{line_after, refusal_of_line}
-use Rattle.replay_world.specs.Report.{Refusal as WorldRefusal, replayed}
-use Rattle.replay_world.specs.Report.{line_text, lines_after, printed_by, printed_unless, refusal_of_lines, refused_from, refused_or, report_of_lines}
+use Rattle.replay_world.specs.Report.{Refusal as WorldRefusal, line_text, lines_after, printed_by, printed_unless, refusal_of_lines, refused_from, refused_or, replayed, report_of_lines}
 use Rattle.replay_world.specs.Settled.{AreRead, AreWritten, HasPlayedOut, StandInFiles}
 use Rattle.replay_world.specs.Setup.{files_in, setup_of}
 use Rattle.replay_world.specs.Stands.{Stands}

@@ -1,7 +1,7 @@
 -- A piece of a stream is taken in, up to the end of a message or whole.
-use Rattle.std.proofs.Common.{◌≡◌, ◌≢◌, ℕ, zero, suc, ◌+◌, ◌-◌, ◌<◌, ◌≤◌, ◌⊎◌, inl, inr, Bool, true, false, if◌then◌else◌, List, [], ◌∷◌, ◌++◌, length, length-append, map, take, drop, Option, Some, None, Result, Ok, Err, refl, sym, ap, subst, ◌∙◌, append_assoc, append-nil, arith}
+use Rattle.std.proofs.Common.{◌≡◌, ℕ, ◌+◌, ◌-◌, ◌<◌, ◌≤◌, ◌⊎◌, inl, inr, Bool, true, false, if◌then◌else◌, List, [], ◌∷◌, ◌++◌, length, length-append, map, take, drop, Option, Some, None, Ok, Err, refl, sym, ap, subst, ◌∙◌, append_assoc, append-nil, arith}
 use Rattle.std.proofs.Math.Seq.{take-add, take-length}
-use Rattle.std.proofs.lemmas.List.{length-take}
+use Rattle.std.proofs.lemmas.List.{length-take, take-append-drop}
 use Rattle.std.specs.Prelude.{IsSome}
 use Rattle.std.specs.Io.KnownBytes.{Appends}
 use Rattle.area_disk.specs.Disk.{last_count}
@@ -10,29 +10,22 @@ use Rattle.gate_journal.specs.Moments.{Told}
 use Rattle.gateway_book.specs.Book.{Stays, area_of, size_of, value_of}
 use Rattle.gateway_book.specs.Value.{BookValue}
 use Rattle.gateway_book.specs.declared.book.Book.{Book}
-use Rattle.gtpp_stream.specs.Frames.{IsWhole, first_fault, frames, rest_of, whole_length}
+use Rattle.gtpp_stream.specs.Frames.{first_fault, frames, rest_of}
 use Rattle.gtpp_stream.specs.Kept.{IsPart}
-use Rattle.gtpp_stream.specs.Stream.{Follows, Stream, answer_of, earlier_fault, fault_before, standing}
+use Rattle.gtpp_stream.specs.Stream.{Follows, Stream, answer_of, earlier_fault, fault_before}
 use Rattle.gtpp_stream.specs.Taking.{IsBegun, Takes}
-use Rattle.gtpp_stream.specs.declared.frame.FrameEnd.{FrameEnd}
 use Rattle.gtpp_stream.specs.declared.frame.FrameEnd.TheVariants as ends
 use Rattle.gtpp_stream.specs.declared.frame.FrameKind.{FrameKind}
-use Rattle.gw_base.specs.Written.{AppendsFront}
 use Rattle.gw_base.specs.declared.address.Addr.{Addr}
 use Rattle.cgf_top.specs.Kinds.{of_frame}
 use Rattle.cgf_top.specs.Replies.{Tried, after_all, after_message, sent_for, sent_for_all}
-use Rattle.cgf_top.specs.StreamEnds.{end_by, most_stream, rest_place, stream_end}
+use Rattle.cgf_top.specs.StreamEnds.{end_by, most_stream, rest_place}
 use Rattle.cgf_top.specs.StreamSteps.{Answers, AnswersAll, CutsByFaults, HasAnsweredOne, HasGoneTo, IsGoingOn, IsSteady, StopsAtMessage, StopsIn}
 use Rattle.cgf_top.specs.declared.connection.Connection.{Connection}
 use Rattle.cgf_top.specs.declared.status.Status.{Status}
 use Rattle.cgf_top.specs.declared.status.Status.TheVariants as status
 use Rattle.cgf_top.proofs.ConnectionLemmas.{cuts_on, rest_is, stays_on}
 use Rattle.cgf_top.proofs.Streams.{appends_none}
-
-take_drop : (n : ℕ) (xs : List ℕ) → take n xs ++ drop n xs ≡ xs
-take_drop zero xs = refl
-take_drop (suc n) [] = refl
-take_drop (suc n) (x ∷ xs) = ap (λ (l : List ℕ). x ∷ l) (take_drop n xs)
 
 -- What an answer of the deframer says.
 
@@ -264,7 +257,7 @@ module _ {A : Type 0} (tells : areas.Ghosts A) where
         gone_with more one = record {
           messages = messages ++ d.octets ∷ [];
           unanswered = frames (rest_of (given ++ take used piece) ++ drop used piece);
-          frames_are = ap (λ (l : List ℕ). frames l) (ap (λ (l : List ℕ). given ++ l) (sym (take_drop used piece))
+          frames_are = ap (λ (l : List ℕ). frames l) (ap (λ (l : List ℕ). given ++ l) (sym (take-append-drop used piece))
               ∙ sym (append_assoc given (take used piece) (drop used piece)))
               ∙ frames_cut (given ++ take used piece) (drop used piece)
               ∙ ap (λ (l : List (List ℕ)). l ++ frames (rest_of (given ++ take used piece) ++ drop used piece)) frames_with;
@@ -276,15 +269,8 @@ module _ {A : Type 0} (tells : areas.Ghosts A) where
         pub stops_whole : (before after : Option (List ℕ)) (ended : Status) → StopsAtMessage tells (pushed o d used) n before after ended
             → StopsIn tells opened (given ++ piece) sent n before after ended
         stops_whole before after status.Link same = (gone_before (ap (λ (b : Book A tells). value_of b) same.1), same.0)
-        stops_whole before after status.Memory stops = absurd stops
         stops_whole before after status.Write stops = (stops.0, gone_with stops.0 stops.1, stops.2)
-        stops_whole before after status.Done stops = absurd stops
-        stops_whole before after status.Words stops = absurd stops
-        stops_whole before after (status.Input place kind) stops = absurd stops
-        stops_whole before after status.Read stops = absurd stops
-        stops_whole before after (status.Store why) stops = absurd stops
-        stops_whole before after (status.Audit packet places wanted) stops = absurd stops
-        stops_whole before after (status.Unfinished turns packet count) stops = absurd stops
+        stops_whole before after _ stops = absurd stops
 
     -- The next message begins with an octet that can't begin one.
     module _ (at : ℕ) (kind : FrameKind) (bad : fault_before o.deframer piece ≡ Some kind)
@@ -341,7 +327,7 @@ appends_two (Some us) (Some vs) (Some ws) xs ys h k = k ∙ ap (λ (l : List ℕ
 -- what was given before a place, and what comes behind it
 pub joined : (given octets rest : List ℕ) (at : ℕ) → rest ≡ drop at octets → (given ++ take at octets) ++ rest ≡ given ++ octets
 joined given octets rest at is = append_assoc given (take at octets) rest ∙ ap (λ (l : List ℕ). given ++ (take at octets ++ l)) is
-    ∙ ap (λ (l : List ℕ). given ++ l) (take_drop at octets)
+    ∙ ap (λ (l : List ℕ). given ++ l) (take-append-drop at octets)
 
 module _ {A : Type 0} (tells : areas.Ghosts A) where
   pub begins_going : (octets : List ℕ) (c : Connection A tells) (now : Option (List ℕ)) (opened : Book A tells) (given sent : List ℕ)

@@ -1,19 +1,11 @@
 -- Lists, place by place.
-use Rattle.std.proofs.Common.{◌≡◌, ℕ, zero, suc, ◌+◌, ◌<◌, List, [], ◌∷◌, length, drop, Some, None, refl, ap, ◌∙◌, arith, slice_get}
+use Rattle.std.proofs.Common.{◌≡◌, ℕ, zero, suc, ◌+◌, List, [], ◌∷◌, drop, Some, None, refl, ap, ◌∙◌, slice_get}
+use Rattle.std.proofs.lemmas.List.{drop_more}
+use Rattle.std.proofs.lemmas.Option.{get_or_from_slice_get, slice_get_within}
 
 -- the rest of a list from a place on
 pub rest_at : {X : Type 0} (xs : List X) (i : ℕ) (x : X) → slice_get xs i ≡ Some x → drop i xs ≡ x ∷ drop (i + 1) xs
-rest_at [] i x at = cc
-rest_at (y ∷ xs) zero x at = let same : y ≡ x = cc in ap (λ (z : _). z ∷ xs) same
-rest_at (y ∷ xs) (suc i) x at = rest_at xs i x at ∙ ap (λ (n : ℕ). x ∷ drop n (y ∷ xs)) (later i)
-  where
-    later : (k : ℕ) → suc (k + 1) ≡ suc k + 1
-    later k = omega arith
-
-pub below_at : {X : Type 0} (xs : List X) (i : ℕ) (x : X) → slice_get xs i ≡ Some x → i < length xs
-below_at [] i x at = cc
-below_at (y ∷ xs) zero x at = omega arith
-below_at (y ∷ xs) (suc i) x at = omega (arith, below_at xs i x at)
+rest_at xs i x at = drop_more xs i x (slice_get_within xs i x at) ∙ ap (λ (z : _). z ∷ drop (i + 1) xs) (get_or_from_slice_get xs i x x at)
 
 pub none_at : {X : Type 0} (xs : List X) (i : ℕ) → slice_get xs i ≡ None → drop i xs ≡ []
 none_at [] zero none = refl

@@ -7,9 +7,9 @@ use Rattle.gw_base.specs.declared.history.HistoryAct.TheVariants.{Start}
 use Rattle.gw_base.specs.declared.history.HistoryEntry.{HistoryEntry}
 use Rattle.gateway_book.specs.Answer.{decided}
 use Rattle.gateway_book.specs.Answered.{act_decided, entry_by, no_caller, room_for, with_act}
-use Rattle.gateway_book.specs.Calls.{given_at, left_by}
+use Rattle.gateway_book.specs.Calls.{given_at}
 use Rattle.gateway_book.specs.Preparing.{prepared_of}
-use Rattle.gateway_book.specs.Value.{BookValue, Fortune, Reopening, Whole, Gone, Refused, after_commit, committed, faulted, history_of, is_batch_full, opened, readied, recorded_if, reopened, tried, tried_with}
+use Rattle.gateway_book.specs.Value.{BookValue, Fortune, Reopening, Refused, after_commit, committed, faulted, history_of, is_batch_full, opened, readied, recorded_if, reopened, tried, tried_with}
 use Rattle.node_session.specs.Turns.{decided_at, decided_by_fault}
 use Rattle.cgf_top.specs.Replies.{Tried, after_all, after_message, behind_one, message_of, octets_said, replies, sent_for, sent_for_all}
 
@@ -44,9 +44,8 @@ tried_stood f v true e = absurd (counted_up v.cuts e)
 tried_stood f v false e = e
 
 reopened_stood : (v : BookValue) (r : Reopening) → (reopened v r).cuts ≡ 0 → v.cuts ≡ 0
-reopened_stood v Whole e = e
-reopened_stood v Gone e = e
 reopened_stood v Refused e = absurd (counted_up v.cuts e)
+reopened_stood v _ e = e
 
 rest_stood : (f : Fortune) (v : BookValue) (rest : Entries) → (tried_with f v rest).cuts ≡ 0 → v.cuts ≡ 0
 rest_stood f v [] e = e

@@ -1,25 +1,15 @@
 -- Which files a shelf has whose writer was given all items of a history.
-use Rattle.std.proofs.Common.{◌≡◌, ℕ, zero, suc, ◌+◌, ◌-◌, ◌<◌, ◌≤◌, true, false, List, [], ◌∷◌, ◌++◌, length, take, max, min, refl, sym, ap, subst, ◌∙◌, arith}
-use Rattle.std.specs.Prelude.{IsTrue}
-use Rattle.std.proofs.lemmas.Bool.{true≢false}
-use Rattle.std.proofs.Math.Seq.{take-length}
-use Rattle.std.proofs.lemmas.List.{take-append-le, take_min}
+use Rattle.std.proofs.Common.{◌≡◌, ℕ, ◌+◌, ◌-◌, ◌<◌, ◌≤◌, false, List, ◌++◌, length, take, max, min, sym, ap, subst, ◌∙◌, arith}
+use Rattle.std.proofs.lemmas.List.{take-append-le, take_all, take_min}
 use Rattle.cdr_shelf.specs.Files.{SealedFile, in_stream}
 use Rattle.cdr_shelf.specs.declared.shelf.Shelf.{Ghosts}
 use Rattle.file_writer.specs.Files.{later_files, stream_files}
-use Rattle.file_writer.specs.Holding.{IsBegun, files_after}
+use Rattle.file_writer.specs.Holding.{IsBegun}
 use Rattle.file_writer.specs.Streams.{Settings, closed_of, stream_count}
 use Rattle.file_writer.specs.Writer.{Holds, is_broken, sealed_in, settings_in, shelf_of, taken_of}
 use Rattle.file_writer.specs.declared.writer.Writer.{Writer}
-use Rattle.gateway_book.specs.Items.{items_of}
-use Rattle.gw_base.specs.declared.history.HistoryEntry.{HistoryEntry}
 use Rattle.gw_base.specs.declared.item.Item.{Item}
 use Rattle.node_session.specs.Writing.{HoldsFilesOf, none_closed, none_stood}
-
-take_all : {A : Type 0} (n : ℕ) (xs : List A) → length xs ≤ n → take n xs ≡ xs
-take_all n xs le =
-    let least : min n (length xs) ≡ length xs = omega (arith, le) in
-    sym (take_min n xs) ∙ ap (λ (k : ℕ). take k xs) least ∙ take-length xs
 
 record Front {A : Type 0} (n : ℕ) (xs ys : List A) : Type 0 where
   count : ℕ

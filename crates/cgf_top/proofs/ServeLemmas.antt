@@ -1,5 +1,5 @@
 -- What `serve` does, by what it read, how the gateway served, and what was written.
-use Rattle.std.proofs.Common.{◌≡◌, ◌≢◌, ◌⊎◌, ⊎_elim, inl, inr, ℕ, ◌+◌, Bool, true, false, true≢false, List, [], ◌∷◌, take, Option, None, Some, Result, Ok, Err, IfErr, IfOk, OnOk, refl, sym, ap, subst, ◌∙◌}
+use Rattle.std.proofs.Common.{◌≡◌, ◌⊎◌, ⊎_elim, inl, inr, ℕ, ◌+◌, Bool, true, false, true≢false, List, take, Option, None, Some, Result, Ok, Err, IfErr, IfOk, OnOk, refl, sym, ap, subst, ◌∙◌}
 use Rattle.std.specs.Io.KnownBytes.{Appends}
 use Rattle.area_disk.specs.declared.area.Area as areas
 use Rattle.cdr_shelf.specs.declared.shelf.Shelf as shelves
@@ -15,7 +15,6 @@ use Rattle.replay_world.specs.Setup.{Setup, setup_of}
 use Rattle.world_script.specs.Script.{Refusal, most_text, script_in}
 use Rattle.world_script.specs.declared.kind.ScriptKind.TheVariants as kind
 use Rattle.world_script.specs.declared.line.Line.{Line}
-use Rattle.cgf_top.specs.Command.{command_of}
 use Rattle.cgf_top.specs.Ending.{HasCause}
 use Rattle.cgf_top.specs.Job.{Job}
 use Rattle.cgf_top.specs.Kinds.{of_line}
@@ -23,27 +22,14 @@ use Rattle.cgf_top.specs.Run.{IsRead, TakesUpTo, may_have_written}
 use Rattle.cgf_top.specs.ServeEnds.{EndsBy, IsCalm, IsRefusedAt, ServedBy, Serves, may_have_opened}
 use Rattle.cgf_top.specs.ServeSteps.{AreOf, CausesRead, IsSetBy, RefusesAsForeign, RefusesSettings, RefusesText, StopsServing, WritesLine}
 use Rattle.cgf_top.specs.Served.{HasServed, LosesNothing, header_for, served_line}
-use Rattle.cgf_top.specs.Serving.{address_in, serving_of}
+use Rattle.cgf_top.specs.Serving.{address_in}
 use Rattle.cgf_top.specs.declared.input_kind.InputKind.{InputKind}
 use Rattle.cgf_top.specs.declared.serve.FileSettings.{FileSettings}
 use Rattle.cgf_top.specs.declared.serving.Serving.{Serving}
 use Rattle.cgf_top.specs.declared.status.Status.{Status}
 use Rattle.cgf_top.specs.declared.status.Status.TheVariants as status
 use Rattle.cgf_top.specs.declared.status.StoreFault.TheVariants as fault
-use Rattle.cgf_top.proofs.EndingLemmas.{some_is_none}
 use Rattle.cgf_top.proofs.Ends.{read_front}
-
--- words of `serve` are none of the other forms
-pub no_command : (words : List (List ℕ)) (of : Serving) → serving_of words ≡ Some of → command_of words ≡ None
-no_command [] of is = absurd (some_is_none of (sym is))
-no_command (a ∷ []) of is = absurd (some_is_none of (sym is))
-no_command (a ∷ b ∷ []) of is = absurd (some_is_none of (sym is))
-no_command (a ∷ b ∷ c ∷ []) of is = absurd (some_is_none of (sym is))
-no_command (a ∷ b ∷ c ∷ d ∷ []) of is = absurd (some_is_none of (sym is))
-no_command (a ∷ b ∷ c ∷ d ∷ e ∷ []) of is = absurd (some_is_none of (sym is))
-no_command (a ∷ b ∷ c ∷ d ∷ e ∷ f ∷ []) of is = absurd (some_is_none of (sym is))
-no_command (a ∷ b ∷ c ∷ d ∷ e ∷ f ∷ g ∷ []) of is = refl
-no_command (a ∷ b ∷ c ∷ d ∷ e ∷ f ∷ g ∷ h ∷ words) of is = absurd (some_is_none of (sym is))
 
 -- How a job ends that read no settings, by its end.
 abbrev Refuses : Job → Status → Type 0
@@ -99,13 +85,7 @@ module _ {A F : Type 0} (tells : areas.Ghosts A) (files : shelves.Ghosts F) (of 
   refused_cause status.Read r same = (r, same)
   refused_cause status.Memory r same = (r, same)
   refused_cause (status.Input place why) r same = (r.0, same)
-  refused_cause status.Done r same = absurd r
-  refused_cause status.Words r same = absurd r
-  refused_cause status.Write r same = absurd r
-  refused_cause (status.Store why) r same = absurd r
-  refused_cause status.Link r same = absurd r
-  refused_cause (status.Audit packet places wanted) r same = absurd r
-  refused_cause (status.Unfinished turns packet count) r same = absurd r
+  refused_cause _ r same = absurd r
 
   refused_complete : (ended : Status) → Refuses job ended → IsCalm tells files of job area area' shelf shelf' links links' clock clock' ended
       → (text : List ℕ) → job.left ≡ Some text
@@ -167,13 +147,7 @@ module _ {A F : Type 0} (tells : areas.Ghosts A) (files : shelves.Ghosts F) (of 
   stopped_cause status.Link s read same = (read, same)
   stopped_cause (status.Store why) s read same = (read, same)
   stopped_cause status.Memory s read same = (read, same)
-  stopped_cause status.Read s read same = absurd s
-  stopped_cause (status.Input place why) s read same = absurd s
-  stopped_cause status.Done s read same = absurd s
-  stopped_cause status.Words s read same = absurd s
-  stopped_cause status.Write s read same = absurd s
-  stopped_cause (status.Audit packet places wanted) s read same = absurd s
-  stopped_cause (status.Unfinished turns packet count) s read same = absurd s
+  stopped_cause _ s read same = absurd s
 
   -- an area that is found isn't another's
   abbrev Ours : Type 0
@@ -194,13 +168,7 @@ module _ {A F : Type 0} (tells : areas.Ghosts A) (files : shelves.Ghosts F) (of 
   stopped_calmly ours others (status.Store fault.Device) s calm told h stands = absurd (⊎_elim (λ r. calm.device r) (λ r. calm.shelf_runs r) s)
   stopped_calmly ours others (status.Store (fault.NotOurs at)) s calm told h stands = absurd (found_ours ours others h at stands (s told).0)
   stopped_calmly ours others status.Memory s calm told h stands = inl refl
-  stopped_calmly ours others status.Read s calm told h stands = absurd s
-  stopped_calmly ours others (status.Input place why) s calm told h stands = absurd s
-  stopped_calmly ours others status.Done s calm told h stands = absurd s
-  stopped_calmly ours others status.Words s calm told h stands = absurd s
-  stopped_calmly ours others status.Write s calm told h stands = absurd s
-  stopped_calmly ours others (status.Audit packet places wanted) s calm told h stands = absurd s
-  stopped_calmly ours others (status.Unfinished turns packet count) s calm told h stands = absurd s
+  stopped_calmly ours others _ s calm told h stands = absurd s
 
   -- what was read is the first of what was left
   same_script : (text left : List ℕ) (lines : List Line) → script_in kind.Serve text ≡ Ok lines → IsRead (most_text + 1) job.left job.rest text
@@ -257,39 +225,18 @@ module _ {A F : Type 0} (tells : areas.Ghosts A) (files : shelves.Ghosts F) (of 
       → HasCause ended job.read_before job.read_after job.written_before job.written_after
   written_cause line status.Done w read = (read, w.1)
   written_cause line status.Write w read = (read, w.1)
-  written_cause line status.Link w read = absurd w
-  written_cause line (status.Audit packet places wanted) w read = absurd w
-  written_cause line (status.Unfinished turns packet count) w read = absurd w
-  written_cause line (status.Store why) w read = absurd w
-  written_cause line status.Memory w read = absurd w
-  written_cause line status.Read w read = absurd w
-  written_cause line (status.Input place why) w read = absurd w
-  written_cause line status.Words w read = absurd w
+  written_cause line _ w read = absurd w
 
   written_calmly : (line : List ℕ) (ended : Status) → Writes job line ended → IsCalm tells files of job area area' shelf shelf' links links' clock clock' ended
       → ended ≡ status.Done
   written_calmly line status.Done w calm = refl
   written_calmly line status.Write w calm = absurd (calm.sink w.1)
-  written_calmly line status.Link w calm = absurd w
-  written_calmly line (status.Audit packet places wanted) w calm = absurd w
-  written_calmly line (status.Unfinished turns packet count) w calm = absurd w
-  written_calmly line (status.Store why) w calm = absurd w
-  written_calmly line status.Memory w calm = absurd w
-  written_calmly line status.Read w calm = absurd w
-  written_calmly line (status.Input place why) w calm = absurd w
-  written_calmly line status.Words w calm = absurd w
+  written_calmly line _ w calm = absurd w
 
   both_true : (line : List ℕ) (ended : Status) → Writes job line ended → (may_have_opened ended ≡ true) × (may_have_written ended ≡ true)
   both_true line status.Done w = (refl, refl)
   both_true line status.Write w = (refl, refl)
-  both_true line status.Link w = absurd w
-  both_true line (status.Audit packet places wanted) w = absurd w
-  both_true line (status.Unfinished turns packet count) w = absurd w
-  both_true line (status.Store why) w = absurd w
-  both_true line status.Memory w = absurd w
-  both_true line status.Read w = absurd w
-  both_true line (status.Input place why) w = absurd w
-  both_true line status.Words w = absurd w
+  both_true line _ w = absurd w
 
   module _ {X : Type 0} (octets : X → List ℕ) (result : Result X Status) (x : X) (line : List ℕ) (ended : Status) (text : List ℕ) (by : FileSettings) (is_ok : result ≡ Ok x)
       (is_line : line ≡ octets x) (read : IsRead (most_text + 1) job.left job.rest text)

@@ -1,27 +1,25 @@
 -- What a gateway hands back that was opened, served and was settled.
-use Rattle.std.proofs.Common.{◌≡◌, ℕ, ◌+◌, ◌<◌, ◌≤◌, Bool, true, false, if◌then◌else◌, List, [], ◌∷◌, ◌++◌, length, refl, sym, ap, subst, ◌∙◌, true≢false, arith}
+use Rattle.std.proofs.Common.{◌≡◌, ℕ, ◌<◌, ◌≤◌, Bool, true, false, if◌then◌else◌, List, [], ◌++◌, length, sym, ap, subst, ◌∙◌, true≢false, arith}
 use Rattle.std.specs.Prelude.{IsTrue}
 use Rattle.std.proofs.lemmas.List.{append-nil}
 use Rattle.area_disk.specs.AreaLaws.{AreaLaws}
 use Rattle.area_disk.specs.declared.area.Area as areas
-use Rattle.cdr_shelf.specs.Files.{SealedFile, in_stream}
 use Rattle.cdr_shelf.specs.declared.shelf.Shelf as shelves
-use Rattle.cgf_journal.specs.Trail.{is_closed}
 use Rattle.file_writer.specs.Files.{later_files, stream_files}
 use Rattle.file_writer.specs.Holding.{IsBegun}
 use Rattle.file_writer.specs.Streams.{Settings, closed_of, stream_count, stream_division}
 use Rattle.file_writer.specs.Writer.{is_broken, settings_in, shelf_of, taken_of}
 use Rattle.file_writer.specs.declared.writer.Writer.{Writer}
 use Rattle.gate_journal.specs.Moments.{Told}
-use Rattle.gateway_book.specs.Answered.{entry_by, no_caller}
+use Rattle.gateway_book.specs.Answered.{no_caller}
 use Rattle.gateway_book.specs.Book.{Stays, area_of, header_of, value_of}
 use Rattle.gateway_book.specs.Comes.{LeavesFit}
 use Rattle.gateway_book.specs.Filed.{along}
 use Rattle.gateway_book.specs.FitHistory.{StandsFitFor}
 use Rattle.gateway_book.specs.Items.{items_by, items_of}
-use Rattle.gateway_book.specs.Opened.{IsOpened, StandsOrStarts}
+use Rattle.gateway_book.specs.Opened.{IsOpened}
 use Rattle.gateway_book.specs.Turning.{facts_of, tells_lists}
-use Rattle.gateway_book.specs.Value.{BookValue, history_of, opened, torn_of}
+use Rattle.gateway_book.specs.Value.{BookValue, history_of, torn_of}
 use Rattle.gateway_book.specs.declared.book.Book.{Book}
 use Rattle.gw_base.specs.Facts.{joined}
 use Rattle.gw_base.specs.History.{is_close_due}
@@ -30,13 +28,12 @@ use Rattle.gw_base.specs.declared.history.HistoryAct.TheVariants as act
 use Rattle.gw_base.specs.declared.history.HistoryEntry.{HistoryEntry}
 use Rattle.gw_base.specs.declared.item.Item.{Item}
 use Rattle.net_link.specs.Making.{LinksState}
-use Rattle.node_session.specs.Settling.{closed_behind}
 use Rattle.node_session.specs.Writing as writing
 use Rattle.replay_world.specs.Settled.{AreShut}
 use Rattle.replay_world.specs.Setup.{Setup}
 use Rattle.session_run.specs.History.{GoesOnUntil}
 use Rattle.cgf_top.specs.ServeSteps.{AreOf, HasLine, HasServedAt}
-use Rattle.cgf_top.specs.Served.{HasAllFiles, HasFirstFiles, HasGrown, HasReplied, HasServed, IsAtMost, files_at, header_for, moment_of, served_line}
+use Rattle.cgf_top.specs.Served.{HasAllFiles, HasFirstFiles, HasGrown, HasReplied, HasServed, files_at, header_for, moment_of}
 use Rattle.cgf_top.specs.Serving.{address_in}
 use Rattle.cgf_top.specs.declared.serve.FileSettings.{FileSettings}
 use Rattle.cgf_top.specs.declared.serving.Serving.{Serving}

@@ -1,5 +1,5 @@
 -- What a service comes to, by what was run and what was given back.
-use Rattle.std.proofs.Common.{◌≡◌, ◌⊎◌, ⊎_elim, inl, inr, ℕ, ◌≤◌, Bool, true, List, [], ◌∷◌, arith, ◌++◌, Option, None, Some, refl, sym, ap, subst, ◌∙◌, append_assoc}
+use Rattle.std.proofs.Common.{◌≡◌, ⊎_elim, inl, inr, ℕ, Bool, true, List, [], arith, ◌++◌, Option, None, Some, refl, sym, ap, subst, ◌∙◌, append_assoc}
 use Rattle.std.specs.Prelude.{IfSome}
 use Rattle.std.proofs.lemmas.List.{append-nil}
 use Rattle.std.proofs.lemmas.List.Elements.{All-nil}
@@ -52,10 +52,9 @@ nothing_befell told heard f sound y = record {
 -- where nothing was sent it was sent in turn
 pub none_in_turn : (size : ℕ) (firm : List HistoryEntry) (before now : ℕ) (heard sent : Option (List Datagram)) → IsEmpty sent
     → ReplyInTurn size firm before now heard sent
-none_in_turn size firm before now None sent is session = tt
-none_in_turn size firm before now (Some asked) None is session = tt
 none_in_turn size firm before now (Some asked) (Some list) is session =
     subst (λ (l : List Datagram). InTurn (IsReplyTo session size firm before now) asked (those_of session l)) (sym is) tt
+none_in_turn size firm before now _ _ is session = tt
 
 -- What the laws of what is in turn say.
 abbrev pub StaysInTurn : Type 0

@@ -1,5 +1,5 @@
 -- What a service comes to on links that were made, and given back.
-use Rattle.std.proofs.Common.{◌≡◌, ◌⊎◌, ⊎_elim, inl, inr, ℕ, ◌+◌, ◌<◌, ◌≤◌, ◌^◌, Bool, true, false, true≢false, List, [], ◌∷◌, ◌++◌, length, Option, None, Some, refl, sym, ap, subst, ◌∙◌, arith}
+use Rattle.std.proofs.Common.{◌≡◌, ◌⊎◌, ⊎_elim, ℕ, ◌+◌, ◌<◌, ◌≤◌, ◌^◌, true, false, true≢false, List, [], ◌∷◌, Option, None, Some, refl, sym, ap, subst, ◌∙◌, arith}
 use Rattle.std.specs.Prelude.{All, IfSome}
 use Rattle.std.proofs.lemmas.List.Elements.{All-cons, All-nil, All-weaker}
 use Rattle.area_disk.specs.declared.area.Area as areas
@@ -11,7 +11,6 @@ use Rattle.gateway_book.specs.Turning.{facts_of, tells_lists}
 use Rattle.gateway_book.specs.declared.book.Book.{Book}
 use Rattle.gw_base.specs.Facts.{AreSound, WhereTold}
 use Rattle.gw_base.specs.Faults.{Rose}
-use Rattle.gw_base.specs.declared.address.Addr.{Addr}
 use Rattle.gw_base.specs.declared.history.HistoryEntry.{HistoryEntry}
 use Rattle.gw_base.specs.declared.moment.Moment.{Moment}
 use Rattle.net_link.specs.Datagrams.{Datagram, IsEmpty, added, joined}
@@ -28,7 +27,6 @@ use Rattle.cgf_top.specs.ServeSteps.{HasServedAt}
 use Rattle.cgf_top.specs.Served.{HasReplied}
 use Rattle.cgf_top.specs.Serving.{address_in}
 use Rattle.cgf_top.specs.declared.serving.Serving.{Serving}
-use Rattle.cgf_top.specs.declared.settling.Service.{Service}
 use Rattle.cgf_top.proofs.GivenBackLemmas.{all_sent, goes_on_there, heard_there, none_sent_by, reply_there, rose_before, rose_still, sent_grows, turns_none}
 use Rattle.cgf_top.proofs.ServiceLemmas.{HeardInTurn, ReplyLater, begins_self, none_in_turn, nothing_befell, same_facts}
 

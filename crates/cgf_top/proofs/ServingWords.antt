@@ -1,5 +1,5 @@
 -- Which words are those of `serve`.
-use Rattle.std.proofs.Common.{◌≡◌, ◌||◌, ℕ, Bool, true, false, if◌then◌else◌, List, [], ◌∷◌, length, map, codes, get_or, Option, None, Some, option_map, refl, sym, ap, ◌∙◌, arith}
+use Rattle.std.proofs.Common.{◌≡◌, ℕ, true, false, List, [], ◌∷◌, length, map, codes, get_or, Option, None, Some, option_map, refl, sym, ap, ◌∙◌, arith}
 use Rattle.std.specs.Str.{bytes_eq}
 use Rattle.cgf_top.specs.Command.{command_of}
 use Rattle.cgf_top.specs.Serving.{PlacesValue, places_in, places_of, serving_by, serving_of}
@@ -9,15 +9,8 @@ use Rattle.cgf_top.proofs.EndingLemmas.{some_is_none}
 
 -- words that aren't seven are none
 pub other_words : {A : Type 0} (text : A → List ℕ) (words : List A) → (length words ≡ 7 → ⊥) → serving_of (map text words) ≡ None
-other_words text [] not_seven = refl
-other_words text (a ∷ []) not_seven = refl
-other_words text (a ∷ b ∷ []) not_seven = refl
-other_words text (a ∷ b ∷ c ∷ []) not_seven = refl
-other_words text (a ∷ b ∷ c ∷ d ∷ []) not_seven = refl
-other_words text (a ∷ b ∷ c ∷ d ∷ e ∷ []) not_seven = refl
-other_words text (a ∷ b ∷ c ∷ d ∷ e ∷ f ∷ []) not_seven = refl
 other_words text (a ∷ b ∷ c ∷ d ∷ e ∷ f ∷ g ∷ []) not_seven = absurd (not_seven refl)
-other_words text (a ∷ b ∷ c ∷ d ∷ e ∷ f ∷ g ∷ h ∷ words) not_seven = refl
+other_words text _ not_seven = refl
 
 -- seven words are, where the paths are no options and the name is that
 pub chosen : (name ip port turns length area folder : List ℕ) → is_option area ≡ false → is_option folder ≡ false
@@ -30,39 +23,21 @@ pub seven_words : {A : Type 0} (text : A → List ℕ) (words : List A) (a b c d
     → a ≡ get_or words 0 a → b ≡ get_or words 1 b → c ≡ get_or words 2 c → d ≡ get_or words 3 d → e ≡ get_or words 4 e
     → f ≡ get_or words 5 f → g ≡ get_or words 6 g
     → map text words ≡ text a ∷ text b ∷ text c ∷ text d ∷ text e ∷ text f ∷ text g ∷ []
-seven_words text [] a b c d e f g seven pa pb pc pd pe pf pg = absurd (omega (arith, seven))
-seven_words text (u ∷ []) a b c d e f g seven pa pb pc pd pe pf pg = absurd (omega (arith, seven))
-seven_words text (u ∷ v ∷ []) a b c d e f g seven pa pb pc pd pe pf pg = absurd (omega (arith, seven))
-seven_words text (u ∷ v ∷ w ∷ []) a b c d e f g seven pa pb pc pd pe pf pg = absurd (omega (arith, seven))
-seven_words text (u ∷ v ∷ w ∷ x ∷ []) a b c d e f g seven pa pb pc pd pe pf pg = absurd (omega (arith, seven))
-seven_words text (u ∷ v ∷ w ∷ x ∷ y ∷ []) a b c d e f g seven pa pb pc pd pe pf pg = absurd (omega (arith, seven))
-seven_words text (u ∷ v ∷ w ∷ x ∷ y ∷ z ∷ []) a b c d e f g seven pa pb pc pd pe pf pg = absurd (omega (arith, seven))
 seven_words text (u ∷ v ∷ w ∷ x ∷ y ∷ z ∷ t ∷ []) a b c d e f g seven pa pb pc pd pe pf pg =
     λ i. text (sym pa i) ∷ text (sym pb i) ∷ text (sym pc i) ∷ text (sym pd i) ∷ text (sym pe i) ∷ text (sym pf i) ∷ text (sym pg i) ∷ []
-seven_words text (u ∷ v ∷ w ∷ x ∷ y ∷ z ∷ t ∷ s ∷ words) a b c d e f g seven pa pb pc pd pe pf pg = absurd (omega (arith, seven))
+seven_words text _ a b c d e f g seven pa pb pc pd pe pf pg = absurd (omega (arith, seven))
 
 -- the places that seven words name
 pub places_there : {A : Type 0} (text : A → List ℕ) (words : List A) (of : Serving) (f g : A) (area folder : List ℕ)
     → Some of ≡ serving_of (map text words) → f ≡ get_or words 5 f → g ≡ get_or words 6 g → area ≡ text f → folder ≡ text g
     → ◌≡◌ {A = Option PlacesValue} (Some (record { length = of.length; area = area; folder = folder })) (places_of (map text words))
-places_there text [] of f g area folder asked pf pg is_area is_folder = absurd (some_is_none of asked)
-places_there text (u ∷ []) of f g area folder asked pf pg is_area is_folder = absurd (some_is_none of asked)
-places_there text (u ∷ v ∷ []) of f g area folder asked pf pg is_area is_folder = absurd (some_is_none of asked)
-places_there text (u ∷ v ∷ w ∷ []) of f g area folder asked pf pg is_area is_folder = absurd (some_is_none of asked)
-places_there text (u ∷ v ∷ w ∷ x ∷ []) of f g area folder asked pf pg is_area is_folder = absurd (some_is_none of asked)
-places_there text (u ∷ v ∷ w ∷ x ∷ y ∷ []) of f g area folder asked pf pg is_area is_folder = absurd (some_is_none of asked)
-places_there text (u ∷ v ∷ w ∷ x ∷ y ∷ z ∷ []) of f g area folder asked pf pg is_area is_folder = absurd (some_is_none of asked)
-places_there text (u ∷ v ∷ w ∷ x ∷ y ∷ z ∷ t ∷ s ∷ words) of f g area folder asked pf pg is_area is_folder = absurd (some_is_none of asked)
 places_there text (u ∷ v ∷ w ∷ x ∷ y ∷ z ∷ t ∷ []) of f g area folder asked pf pg is_area is_folder =
     (λ i. Some (record { length = of.length; area = (is_area ∙ ap text pf) i; folder = (is_folder ∙ ap text pg) i }))
     ∙ ap (λ (o : Option Serving). option_map (places_in (map text (u ∷ v ∷ w ∷ x ∷ y ∷ z ∷ t ∷ []))) o) asked
+places_there text _ of f g area folder asked pf pg is_area is_folder = absurd (some_is_none of asked)
 
 -- those of `serve` ask for no job over files
 pub not_a_command : (words : List (List ℕ)) (of : Serving) → serving_of words ≡ Some of → command_of words ≡ None
-not_a_command [] of asked = refl
-not_a_command (a ∷ []) of asked = refl
 not_a_command (a ∷ b ∷ []) of asked = absurd (some_is_none of (sym asked))
-not_a_command (a ∷ b ∷ c ∷ []) of asked = refl
-not_a_command (a ∷ b ∷ c ∷ d ∷ []) of asked = refl
 not_a_command (a ∷ b ∷ c ∷ d ∷ e ∷ []) of asked = absurd (some_is_none of (sym asked))
-not_a_command (a ∷ b ∷ c ∷ d ∷ e ∷ f ∷ words) of asked = refl
+not_a_command _ of asked = refl

@@ -1,5 +1,5 @@
 -- How a gateway that was to serve ends: it wasn't opened, or it was settled.
-use Rattle.std.proofs.Common.{◌≡◌, ◌⊎◌, ⊎_elim, inl, inr, ℕ, ◌+◌, ◌≤◌, true, false, List, [], ◌++◌, Result, Ok, Err, IfErr, IfOk, refl, sym, ap, subst, ◌∙◌, arith}
+use Rattle.std.proofs.Common.{◌≡◌, ◌⊎◌, ⊎_elim, inl, inr, ℕ, ◌≤◌, true, false, List, [], ◌++◌, Result, Ok, Err, IfErr, IfOk, refl, sym, ap, subst, ◌∙◌, arith}
 use Rattle.area_disk.specs.AreaLaws.{AreaLaws}
 use Rattle.area_disk.specs.Disk.{Rose}
 use Rattle.area_disk.specs.declared.area.Area as areas
@@ -106,14 +106,7 @@ module _ {A F : Type 0} (tells : areas.Ghosts A) (files : shelves.Ghosts F) (of 
       (λ (r : Rose (tells.faults (area_of book')) (tells.faults (area_of book''))). inl (let a = device in omega (arith, a, r)))
       (λ (r : Rose (files.faults (shelf_of writer')) (files.faults (shelf_of writer''))). inr (let a = shelf_up in omega (arith, a, r))) none
   stops status.Memory none = tt
-  stops (status.Store (fault.NotOurs at)) none = absurd none
-  stops status.Done none = absurd none
-  stops status.Words none = absurd none
-  stops (status.Input place kind) none = absurd none
-  stops status.Read none = absurd none
-  stops status.Write none = absurd none
-  stops (status.Audit packet places wanted) none = absurd none
-  stops (status.Unfinished turns packet count) none = absurd none
+  stops _ none = absurd none
 
   by_err : (r : Result X Status) → IfErr r (HasNoLine tells files service book' book'' writer' writer'')
       → IfErr r (StopsServing tells files of area (area_of book'') shelf (shelf_of writer'') links links' clock clock')

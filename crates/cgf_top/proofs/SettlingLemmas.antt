@@ -1,5 +1,5 @@
 -- How the settling of a gateway that answered a stream is a commit of its value, and a Close behind it.
-use Rattle.std.proofs.Common.{◌≡◌, ℕ, Bool, true, false, if◌then◌else◌, List, [], ◌∷◌, ◌++◌, refl, sym, ap, subst, ◌∙◌, append-nil}
+use Rattle.std.proofs.Common.{◌≡◌, ℕ, Bool, true, false, if◌then◌else◌, List, [], ◌∷◌, ◌++◌, refl, ◌∙◌, append-nil}
 use Rattle.area_disk.specs.declared.area.Area as areas
 use Rattle.gateway_book.specs.Book.{value_of}
 use Rattle.gateway_book.specs.Turning.{facts_of}

@@ -1,5 +1,5 @@
 -- A stream from its beginning to its end.
-use Rattle.std.proofs.Common.{◌≡◌, ◌≢◌, ℕ, suc, ◌+◌, ◌<◌, ◌≤◌, ◌⊎◌, inl, inr, Bool, true, false, if◌then◌else◌, List, [], ◌∷◌, ◌++◌, length, length-append, take, Option, Some, None, Result, Ok, Err, IfErr, refl, sym, ap, subst, ◌∙◌, append_assoc, append-nil, arith}
+use Rattle.std.proofs.Common.{◌≡◌, ℕ, suc, ◌+◌, ◌<◌, ◌≤◌, ◌⊎◌, inl, inr, Bool, if◌then◌else◌, List, [], ◌∷◌, ◌++◌, length, length-append, take, Option, Some, None, Result, Ok, Err, IfErr, refl, sym, ap, subst, ◌∙◌, append-nil, arith}
 use Rattle.std.proofs.lemmas.Bool.{cases_lt, le-ltb}
 use Rattle.std.specs.Prelude.{IsSome}
 use Rattle.std.specs.Io.KnownBytes.{Appends, Consumes, IsAtEnd, Keeps}
@@ -225,10 +225,4 @@ served_stop tells opened text sent c left rest before now after status.Link cons
   front = λ is. absurd (cc);
   whole = λ no. subst (λ (o : Option (List ℕ)). Appends before o sent) (sym stops.1) written;
 }
-served_stop tells opened text sent c left rest before now after status.Done consumed short written stops = absurd stops
-served_stop tells opened text sent c left rest before now after status.Words consumed short written stops = absurd stops
-served_stop tells opened text sent c left rest before now after status.Read consumed short written stops = absurd stops
-served_stop tells opened text sent c left rest before now after status.Memory consumed short written stops = absurd stops
-served_stop tells opened text sent c left rest before now after (status.Store why) consumed short written stops = absurd stops
-served_stop tells opened text sent c left rest before now after (status.Audit packet places wanted) consumed short written stops = absurd stops
-served_stop tells opened text sent c left rest before now after (status.Unfinished turns packet count) consumed short written stops = absurd stops
+served_stop tells opened text sent c left rest before now after _ consumed short written stops = absurd stops

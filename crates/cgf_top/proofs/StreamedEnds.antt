@@ -1,6 +1,6 @@
 -- How the job ends that answers a stream, and why.
-use Rattle.std.proofs.Common.{◌≡◌, ◌≢◌, ℕ, ◌+◌, ◌-◌, ◌<◌, ◌≤◌, ◌⊎◌, ⊎_elim, inl, inr, Bool, true, false, if◌then◌else◌, List, [], ◌∷◌, ◌++◌, length, length-append, Option, Some, None, Result, Ok, Err, IfErr, IsErrAnd, refl, sym, ap, subst, ◌∙◌, append-nil, arith}
-use Rattle.std.specs.Io.KnownBytes.{Appends, Consumes, IsAtEnd}
+use Rattle.std.proofs.Common.{◌≡◌, ◌≢◌, ℕ, ◌≤◌, ◌⊎◌, ⊎_elim, inl, inr, true, false, List, [], ◌∷◌, ◌++◌, length, length-append, Option, Some, None, Result, Ok, Err, refl, sym, ap, subst, ◌∙◌, append-nil, arith}
+use Rattle.std.specs.Io.KnownBytes.{Appends, Consumes}
 use Rattle.area_disk.specs.AreaLaws.{AreaLaws}
 use Rattle.area_disk.specs.Disk as disk
 use Rattle.area_disk.specs.declared.area.Area as areas
@@ -22,7 +22,6 @@ use Rattle.gtpp_stream.specs.Frames.{first_fault, frames, rest_of}
 use Rattle.gtpp_stream.specs.declared.frame.FrameKind.{FrameKind}
 use Rattle.gw_base.specs.Faults.{Rose}
 use Rattle.gw_base.specs.History.{is_close_due}
-use Rattle.gw_base.specs.Written.{AppendsFront}
 use Rattle.gw_base.specs.declared.history.HistoryEntry.{HistoryEntry}
 use Rattle.replay_world.specs.Settings.{AreSet}
 use Rattle.replay_world.specs.Settled.{AreShut}
@@ -30,19 +29,15 @@ use Rattle.replay_world.specs.Setup.{default_setup}
 use Rattle.replay_world.specs.declared.replay.Played.{Played}
 use Rattle.replay_world.specs.declared.settings.Settings.{Settings as ReplaySettings}
 use Rattle.route_filter.specs.declared.rule.Rule.{Rule}
-use Rattle.cgf_top.specs.Ending.{HasCause}
 use Rattle.cgf_top.specs.Job.{Job}
 use Rattle.cgf_top.specs.Kinds.{of_frame}
-use Rattle.cgf_top.specs.Run.{TakesUpTo}
 use Rattle.cgf_top.specs.ServeSteps.{status_by}
 use Rattle.cgf_top.specs.Served.{HoldsHistory}
-use Rattle.cgf_top.specs.StreamEnds.{EndsAsSaid, IsStreamCalm, IsStreamRead, IsUnopened, KeepsAnswers, StandsBehind, Streams, end_by, header_at, most_stream, rest_place, stream_end, stream_settings}
-use Rattle.cgf_top.specs.StreamSteps.{CausesStop, HasClosed, HasGoneTo, HasServed, HasSettledStream, IsGoingOn, SettlesAs, ends_serving}
+use Rattle.cgf_top.specs.StreamEnds.{EndsAsSaid, IsStreamRead, IsUnopened, KeepsAnswers, StandsBehind, Streams, end_by, header_at, most_stream, rest_place, stream_end, stream_settings}
+use Rattle.cgf_top.specs.StreamSteps.{CausesStop, HasClosed, HasGoneTo, HasServed, HasSettledStream, IsGoingOn, SettlesAs}
 use Rattle.cgf_top.specs.declared.connection.Connection.{Connection}
-use Rattle.cgf_top.specs.declared.input_kind.InputKind.{InputKind}
 use Rattle.cgf_top.specs.declared.status.Status.{Status}
 use Rattle.cgf_top.specs.declared.status.Status.TheVariants as status
-use Rattle.cgf_top.specs.declared.status.StoreFault.{StoreFault}
 use Rattle.cgf_top.specs.declared.status.StoreFault.TheVariants as fault
 use Rattle.cgf_top.specs.declared.streaming.Streaming.{Streaming}
 use Rattle.cgf_top.proofs.PieceLemmas.{ok_not_err}
@@ -113,16 +108,7 @@ read_all rest_cut bad_ends left rest whole text is short read =
 
 abbrev fault_of : Status → BookFault
 fault_of (status.Store (fault.NotOurs n)) = of_book.NotOurs n
-fault_of (status.Store fault.Device) = of_book.Device
-fault_of status.Done = of_book.Device
-fault_of status.Words = of_book.Device
-fault_of (status.Input n kind) = of_book.Device
-fault_of status.Read = of_book.Device
-fault_of status.Write = of_book.Device
-fault_of status.Memory = of_book.Device
-fault_of status.Link = of_book.Device
-fault_of (status.Audit packet places wanted) = of_book.Device
-fault_of (status.Unfinished turns packet count) = of_book.Device
+fault_of _ = of_book.Device
 
 abbrev pub unread : List (List ℕ) → Option (List ℕ) → Option (List ℕ) → ℕ → ℕ → Job
 unread words left before read written = record {
@@ -420,14 +406,7 @@ module _ {A F : Type 0} (tells : areas.Ghosts A) (files : shelves.Ghosts F) (of 
       none = refl;
       complete = λ calm told whole is short. absurd (⊎_elim (λ rose. calm.device rose) (λ rose. calm.shelf_runs rose) (device_rose e));
     }
-    ends_well (status.Store (fault.NotOurs at)) e = absurd e
-    ends_well status.Words e = absurd e
-    ends_well (status.Input place kind) e = absurd e
-    ends_well status.Read e = absurd e
-    ends_well status.Write e = absurd e
-    ends_well status.Link e = absurd e
-    ends_well (status.Audit packet places wanted) e = absurd e
-    ends_well (status.Unfinished turns packet count) e = absurd e
+    ends_well _ e = absurd e
 
   -- something else ended it
   module _ (later : tells.faults (area_of c.book) ≤ tells.faults area') (keeps : Holds) (closes : Closes) where
@@ -526,12 +505,7 @@ module _ {A F : Type 0} (tells : areas.Ghosts A) (files : shelves.Ghosts F) (of 
       none = refl;
       complete = λ calm told whole is short. absurd (calm.time (causes.clock_failed refl));
     }
-    ends_badly status.Done served causes = absurd (cc served.err.1)
-    ends_badly status.Words served causes = absurd (cc served.err.1)
-    ends_badly status.Memory served causes = absurd (cc served.err.1)
-    ends_badly (status.Store why) served causes = absurd (cc served.err.1)
-    ends_badly (status.Audit packet places wanted) served causes = absurd (cc served.err.1)
-    ends_badly (status.Unfinished turns packet count) served causes = absurd (cc served.err.1)
+    ends_badly _ served causes = absurd (cc served.err.1)
 
   -- however it ended
   pub ends_streams : (served : Result Unit Status) (ended : Status) → HasServed tells book c job.left job.rest job.before job.after served

@@ -1,5 +1,5 @@
 -- What a gateway leaves that answered a stream: its replies, its journal and its files.
-use Rattle.std.proofs.Common.{◌≡◌, ℕ, ◌+◌, ◌<◌, ◌≤◌, ◌⊎◌, ⊎_elim, inl, inr, Bool, true, false, if◌then◌else◌, List, [], ◌∷◌, ◌++◌, length, map, Option, Some, None, Result, Ok, Err, IfErr, refl, sym, ap, subst, ◌∙◌, append-nil, true≢false, arith}
+use Rattle.std.proofs.Common.{◌≡◌, ℕ, ◌+◌, ◌<◌, ◌≤◌, ◌⊎◌, ⊎_elim, inl, inr, Bool, true, false, if◌then◌else◌, List, [], ◌∷◌, ◌++◌, length, Option, Some, None, Result, Ok, Err, IfErr, refl, sym, ap, subst, ◌∙◌, append-nil, true≢false, arith}
 use Rattle.std.specs.Prelude.{IsTrue}
 use Rattle.std.specs.Io.KnownBytes.{Appends, Consumes}
 use Rattle.area_disk.specs.AreaLaws.{AreaLaws}
@@ -9,7 +9,7 @@ use Rattle.cdr_shelf.specs.declared.shelf.Shelf as shelves
 use Rattle.file_writer.specs.Files.{stream_files}
 use Rattle.file_writer.specs.Holding.{IsBegun}
 use Rattle.file_writer.specs.Streams.{Settings, closed_of, stream_count, stream_division}
-use Rattle.file_writer.specs.Writer.{is_broken, settings_in, shelf_of, taken_of}
+use Rattle.file_writer.specs.Writer.{is_broken, settings_in, shelf_of}
 use Rattle.file_writer.specs.declared.writer.Writer.{Writer}
 use Rattle.gate_journal.specs.Moments.{Told}
 use Rattle.gateway_book.specs.Answer.{decided}
@@ -22,7 +22,7 @@ use Rattle.gateway_book.specs.Items.{items_of}
 use Rattle.gateway_book.specs.Opened.{IsOpened}
 use Rattle.gateway_book.specs.Preparing.{prepared_of}
 use Rattle.gateway_book.specs.Turning.{facts_of, tells_lists}
-use Rattle.gateway_book.specs.Value.{BookValue, Fortune, Reopening, Whole, Gone, Refused, after_commit, committed, faulted, history_of, is_batch_full, opened, readied, recorded_if, reopened, tried, tried_with}
+use Rattle.gateway_book.specs.Value.{BookValue, Fortune, Reopening, Whole, after_commit, committed, faulted, history_of, is_batch_full, opened, readied, recorded_if, reopened, tried, tried_with}
 use Rattle.gateway_book.specs.declared.book.Book.{Book}
 use Rattle.gw_base.specs.Facts.{WhereTold}
 use Rattle.gw_base.specs.History.{is_close_due}
@@ -63,8 +63,7 @@ Entries = List HistoryEntry
 
 reopened_front : (v : BookValue) (r : Reopening) → Begins v.firm (reopened v r).firm
 reopened_front v Whole = (v.rest, refl)
-reopened_front v Gone = begins_self v.firm
-reopened_front v Refused = begins_self v.firm
+reopened_front v _ = begins_self v.firm
 
 tried_front : (v : BookValue) (b : Bool) → Begins v.firm (if b then faulted v else committed v).firm
 tried_front v true = begins_self v.firm

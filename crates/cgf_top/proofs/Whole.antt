@@ -103,15 +103,7 @@ writes_refusal job command octets refusal same asked read refused = record {
 hands_none : (ended : Status) (command : Command) (octets : List ℕ) (played : Option Played) →
     HandsBack (lines_run ended command octets) played → ended ≢ status.Done → played ≡ None
 hands_none status.Done command octets played hands other = absurd (other refl)
-hands_none status.Words command octets played hands other = hands
-hands_none (status.Input place kind) command octets played hands other = hands
-hands_none status.Read command octets played hands other = hands
-hands_none status.Write command octets played hands other = hands
-hands_none status.Memory command octets played hands other = hands
-hands_none (status.Store why) command octets played hands other = hands
-hands_none status.Link command octets played hands other = hands
-hands_none (status.Audit packet places wanted) command octets played hands other = hands
-hands_none (status.Unfinished turns packet count) command octets played hands other = hands
+hands_none _ command octets played hands other = hands
 
 -- a job that isn't done hands nothing back
 pub keeps_none : (command : Command) (octets : List ℕ) (report : Report) → IsReport command octets report →

@@ -1,5 +1,4 @@
-use Rattle.std.proofs.Common.{◌∙◌, ap, refl, sym, subst, rules}
-use Rattle.gateway_book.specs.Preparing.{prepared_of}
+use Rattle.std.proofs.Common.{ap}
 use Rattle.cgf_top.specs.StreamSteps.{reply_of}
 use Rattle.cgf_top.proofs.ConnectionLemmas.{answers_fault, answers_firm, cuts_by_call, cuts_on}
 use Rattle.cgf_top.proofs.connection.answer.Goals as goal

@@ -1,7 +1,7 @@
 use Rattle.std.proofs.Common.{sym, ◌∙◌, arith}
+use Rattle.std.proofs.lemmas.Option.{slice_get_within}
 use Rattle.cgf_top.specs.Steps.{setup_seen, state_of}
 use Rattle.cgf_top.proofs.FeedLemmas.{feed_begins, feed_ends_if, feed_goes_on, feed_stops, is_seen}
-use Rattle.cgf_top.proofs.PlaceLemmas.{below_at}
 use Rattle.cgf_top.proofs.feed.report.Goals as goal
 
 pub loop-line-init : goal.loop-line-init
@@ -13,13 +13,13 @@ loop-line-init c = record {
 }
 
 pub overflow_add-at : goal.overflow_add-at
-overflow_add-at c = omega (arith, c.requires, below_at c.args.script.lines c.loop-line.at c.in-Some.line.now (sym c.in-Some.ensures))
+overflow_add-at c = omega (arith, c.requires, slice_get_within c.args.script.lines c.loop-line.at c.in-Some.line.now (sym c.in-Some.ensures))
 
 pub refused-requires : goal.refused-requires
-refused-requires c = omega (arith, c.requires, below_at c.args.script.lines c.loop-line.at c.in-Some.line.now (sym c.in-Some.ensures))
+refused-requires c = omega (arith, c.requires, slice_get_within c.args.script.lines c.loop-line.at c.in-Some.line.now (sym c.in-Some.ensures))
 
 pub loop-line-smaller : goal.loop-line-smaller
-loop-line-smaller c = omega (arith, below_at c.args.script.lines c.loop-line.at c.in-Some.line.now (sym c.in-Some.ensures))
+loop-line-smaller c = omega (arith, slice_get_within c.args.script.lines c.loop-line.at c.in-Some.line.now (sym c.in-Some.ensures))
 
 pub loop-line-preserved : goal.loop-line-preserved
 loop-line-preserved c = record {
@@ -27,7 +27,7 @@ loop-line-preserved c = record {
       c.in-Some.line.now c.run.new.self.printed.items (sym c.in-Some.ensures) (sym c.is_earlier.ensures ∙ c.if-is_earlier.false)
       c.in_ok-run.ensures.state c.in_ok-run.ensures.printed c.loop-line.invariant.fed;
   sound = c.loop-line.invariant.sound;
-  within = omega (arith, below_at c.args.script.lines c.loop-line.at c.in-Some.line.now (sym c.in-Some.ensures));
+  within = omega (arith, slice_get_within c.args.script.lines c.loop-line.at c.in-Some.line.now (sym c.in-Some.ensures));
 }
 
 pub returns-then-is_earlier : goal.returns-then-is_earlier

@@ -1,11 +1,11 @@
 use Rattle.std.proofs.Common.{◌∙◌, refl, sym, ap, ℕ, List, ◌++◌, arith}
+use Rattle.std.proofs.lemmas.Option.{slice_get_within}
 use Rattle.replay_world.specs.Setup.{setup_of}
 use Rattle.replay_world.specs.Value.{replay_of}
 use Rattle.cgf_top.proofs.EndingLemmas.{ended_told, ended_written, reads_ends}
 use Rattle.replay_world.specs.Summary.{summary_text}
 use Rattle.replay_world.specs.declared.summary.Summary.{Summary}
 use Rattle.cgf_top.proofs.NetworkLemmas.{at_end, at_first, at_next, never_refused, ran_network}
-use Rattle.cgf_top.proofs.PlaceLemmas.{below_at}
 use Rattle.world_script.specs.Printing.{printed}
 use Rattle.cgf_top.proofs.network.drill.Goals as goal
 
@@ -18,11 +18,11 @@ loop-line-init g c = record {
 
 pub overflow_add-at : goal.overflow_add-at
 overflow_add-at g c =
-    omega (arith, c.requires.few, below_at c.args.script.now.lines c.loop-line.at c.in-Some.line.now (sym c.in-Some.ensures))
+    omega (arith, c.requires.few, slice_get_within c.args.script.now.lines c.loop-line.at c.in-Some.line.now (sym c.in-Some.ensures))
 
 pub loop-line-smaller : goal.loop-line-smaller
 loop-line-smaller g c =
-    omega (arith, below_at c.args.script.now.lines c.loop-line.at c.in-Some.line.now (sym c.in-Some.ensures))
+    omega (arith, slice_get_within c.args.script.now.lines c.loop-line.at c.in-Some.line.now (sym c.in-Some.ensures))
 
 pub loop-line-preserved : goal.loop-line-preserved
 loop-line-preserved g c =
@@ -31,7 +31,7 @@ loop-line-preserved g c =
     record {
       run = at_next c.args.script.now.lines c.loop-line.at c.in-Some.line.now (sym c.in-Some.ensures) c.loop-line.replay
           c.run_line.new.self here ran.allowed ran.stands;
-      within = omega (arith, below_at c.args.script.now.lines c.loop-line.at c.in-Some.line.now (sym c.in-Some.ensures));
+      within = omega (arith, slice_get_within c.args.script.now.lines c.loop-line.at c.in-Some.line.now (sym c.in-Some.ensures));
     }
 
 -- the world refuses none

@@ -1,9 +1,9 @@
 use Rattle.std.proofs.Common.{◌∙◌, refl, sym, ℕ, suc, arith}
+use Rattle.std.proofs.lemmas.Option.{slice_get_within}
 use Rattle.replay_world.specs.Setup.{setup_of}
 use Rattle.replay_world.specs.Value.{replay_of}
 use Rattle.cgf_top.proofs.EndingLemmas.{ended_told, ended_written, reads_ends}
 use Rattle.cgf_top.proofs.NetworkLemmas.{all_printed, at_end, line_ran, line_refused, none_refused, refused_at, replayed_front, replayed_whole, run_first}
-use Rattle.cgf_top.proofs.PlaceLemmas.{below_at}
 use Rattle.world_script.specs.Printing.{printed}
 use Rattle.cgf_top.proofs.network.replay.Goals as goal
 
@@ -16,22 +16,22 @@ loop-line-init g c = record {
 
 pub overflow_add-at : goal.overflow_add-at
 overflow_add-at g c =
-    omega (arith, c.requires, below_at c.args.script.now.lines c.loop-line.at c.in-Some.line.now (sym c.in-Some.ensures))
+    omega (arith, c.requires, slice_get_within c.args.script.now.lines c.loop-line.at c.in-Some.line.now (sym c.in-Some.ensures))
 
 pub refused-requires : goal.refused-requires
 refused-requires g c =
-    omega (arith, c.requires, below_at c.args.script.now.lines c.loop-line.at c.in-Some.line.now (sym c.in-Some.ensures))
+    omega (arith, c.requires, slice_get_within c.args.script.now.lines c.loop-line.at c.in-Some.line.now (sym c.in-Some.ensures))
 
 pub loop-line-smaller : goal.loop-line-smaller
 loop-line-smaller g c =
-    omega (arith, below_at c.args.script.now.lines c.loop-line.at c.in-Some.line.now (sym c.in-Some.ensures))
+    omega (arith, slice_get_within c.args.script.now.lines c.loop-line.at c.in-Some.line.now (sym c.in-Some.ensures))
 
 pub loop-line-preserved : goal.loop-line-preserved
 loop-line-preserved g c = record {
   run = line_ran c.args.script.now.lines c.loop-line.at c.in-Some.line.now (sym c.in-Some.ensures) c.loop-line.replay
       c.run_line.new.self c.loop-line.printed c.run_line.new.out c.loop-line.invariant.run
       (c.in-Ran.ensures.ran c.loop-line.invariant.run.here.v c.loop-line.invariant.run.here.stands refl);
-  within = omega (arith, below_at c.args.script.now.lines c.loop-line.at c.in-Some.line.now (sym c.in-Some.ensures));
+  within = omega (arith, slice_get_within c.args.script.now.lines c.loop-line.at c.in-Some.line.now (sym c.in-Some.ensures));
 }
 
 pub returns-in-Refused : goal.returns-in-Refused

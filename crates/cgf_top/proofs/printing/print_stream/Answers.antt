@@ -1,16 +1,16 @@
 use Rattle.std.proofs.Common.{◌++◌, sym, arith}
+use Rattle.std.proofs.lemmas.Option.{slice_get_within}
 use Rattle.cdr_shelf.specs.Files.{file_of}
 use Rattle.cgf_top.proofs.PrintLemmas.{line_printed, lines_in, lines_printed}
-use Rattle.cgf_top.proofs.PlaceLemmas.{below_at}
 use Rattle.cgf_top.proofs.printing.print_stream.Goals as goal
 
 pub overflow_add-at : goal.overflow_add-at
 overflow_add-at c =
-    omega (arith, c.in-Some.ensures.few, below_at c.args.shelf.now.contents.files c.loop-name.at (file_of c.in-Some.name c.in-Some.octets.now) (sym c.in-Some.ensures.file))
+    omega (arith, c.in-Some.ensures.few, slice_get_within c.args.shelf.now.contents.files c.loop-name.at (file_of c.in-Some.name c.in-Some.octets.now) (sym c.in-Some.ensures.file))
 
 pub loop-name-smaller : goal.loop-name-smaller
 loop-name-smaller c =
-    omega (arith, below_at c.args.shelf.now.contents.files c.loop-name.at (file_of c.in-Some.name c.in-Some.octets.now) (sym c.in-Some.ensures.file))
+    omega (arith, slice_get_within c.args.shelf.now.contents.files c.loop-name.at (file_of c.in-Some.name c.in-Some.octets.now) (sym c.in-Some.ensures.file))
 
 pub loop-name-preserved : goal.loop-name-preserved
 loop-name-preserved c = record {
@@ -18,7 +18,7 @@ loop-name-preserved c = record {
       c.loop-name.printed.items c.print_if_in.new.printed.items
       (c.args.printed.now.items ++ lines_in c.args.stream c.args.shelf.now.contents.files)
       (sym c.in-Some.ensures.file) c.loop-name.invariant.printed c.in_ok-print_if_in.ensures;
-  within = omega (arith, below_at c.args.shelf.now.contents.files c.loop-name.at (file_of c.in-Some.name c.in-Some.octets.now) (sym c.in-Some.ensures.file));
+  within = omega (arith, slice_get_within c.args.shelf.now.contents.files c.loop-name.at (file_of c.in-Some.name c.in-Some.octets.now) (sym c.in-Some.ensures.file));
 }
 
 pub returns : goal.returns

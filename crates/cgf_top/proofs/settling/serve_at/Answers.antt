@@ -1,4 +1,3 @@
-use Rattle.std.proofs.Common.{refl}
 use Rattle.cgf_top.specs.Serving.{address_in}
 use Rattle.cgf_top.proofs.ServingLemmas.{served, unserved}
 use Rattle.cgf_top.proofs.settling.serve_at.Goals as goal

@@ -1,4 +1,4 @@
-use Rattle.std.proofs.Common.{◌∙◌, refl}
+use Rattle.std.proofs.Common.{◌∙◌}
 use Rattle.cgf_top.proofs.ServedLemmas.{settings_at}
 use Rattle.cgf_top.proofs.SettledLemmas.{keeps_as, serves_as, settled_foreign, stops_as, unopened_keeps, unopened_stops}
 use Rattle.cgf_top.proofs.settling.serve_on.Goals as goal

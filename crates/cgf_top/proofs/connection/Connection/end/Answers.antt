@@ -1,5 +1,4 @@
 use Rattle.cgf_top.proofs.ConnectionLemmas.{ends_within}
-use Rattle.cgf_top.proofs.ReplyLemmas.{plain_replies}
 use Rattle.cgf_top.proofs.connection.Connection.end.Goals as goal
 
 pub returns-then-self-clause-ended : goal.returns-then-self-clause-ended

@@ -1,4 +1,4 @@
-use Rattle.std.proofs.Common.{◌≡◌, ◌+◌, ◌-◌, ◌≤◌, ◌<◌, ◌++◌, ◌∙◌, ℕ, List, [], drop, length, take, refl, sym, ap, subst, append_assoc, append-nil, arith}
+use Rattle.std.proofs.Common.{◌++◌, ◌∙◌, ℕ, List, take, refl, subst, arith}
 use Rattle.std.proofs.lemmas.Result.{err_from_is_err_and}
 use Rattle.cgf_top.specs.StreamSteps.{StopsIn}
 use Rattle.cgf_top.specs.declared.status.Status.TheVariants as status

@@ -1,4 +1,4 @@
-use Rattle.std.proofs.Common.{◌≡◌, ◌≤◌, ◌++◌, ◌∙◌, ℕ, List, [], take, Option, IfErr, length, refl, sym, ap, subst, append-nil, arith, rules}
+use Rattle.std.proofs.Common.{◌++◌, ◌∙◌, ℕ, List, [], take, refl, sym, subst, append-nil, arith}
 use Rattle.std.proofs.lemmas.Result.{err_from_is_err_and}
 use Rattle.gtpp_stream.specs.Stream.{fault_before}
 use Rattle.cgf_top.specs.StreamSteps.{IsGoingOn, StopsIn}

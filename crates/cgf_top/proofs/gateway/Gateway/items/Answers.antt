@@ -1,4 +1,4 @@
-use Rattle.std.proofs.Common.{◌≡◌, ◌<◌, ◌^◌, length, refl, ap, ◌∙◌, arith}
+use Rattle.std.proofs.Common.{refl, ap, ◌∙◌, arith}
 use Rattle.gateway_book.specs.Book.{value_of}
 use Rattle.gateway_book.specs.Items.{items_of}
 use Rattle.cgf_top.specs.Gateway.{GatewayValue}
