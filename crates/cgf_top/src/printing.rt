@@ -34,12 +34,8 @@ fn print_octets(printed: &mut Vec<u8>, octets: &[u8]) -> Result<(), NoMemory>
     ensures { OnOk result (printed.new.items ≡ printed.old.items ++ octets_line octets.now) }
 {
     let start = printed.len();
-    let Some(digits) = octets.len().checked_mul(2) else {
-        return Err(NoMemory);
-    };
-    let Some(end) = digits.checked_add(start + 1) else {
-        return Err(NoMemory);
-    };
+    // Past 64 bits it is the greatest number, for which `resize` has no room.
+    let end = octets.len().saturating_mul(2).saturating_add(start + 1);
     printed.resize(end, 0)?;
     let (_, line) = printed.as_mut_slice().split_at_mut(start);
     spell_line(line, octets);
