@@ -1,5 +1,5 @@
 -- The lines that are printed, step by step.
-use Rattle.std.proofs.Common.{◌≡◌, ℕ, zero, suc, ◌+◌, ◌-◌, ◌*◌, ◌/◌, ◌%◌, ◌≤◌, ◌==◌, List, [], ◌∷◌, ◌++◌, length, length-append, take, drop, slice_set, Some, None, slice_get, refl, ap, sym, ◌∙◌, arith, append_assoc, append-nil}
+use Rattle.std.proofs.Common.{◌≡◌, ℕ, zero, suc, ◌+◌, ◌-◌, ◌*◌, ◌/◌, ◌%◌, ◌^◌, ◌<◌, ◌≤◌, min, ◌==◌, List, [], ◌∷◌, ◌++◌, length, length-append, take, drop, slice_set, Some, None, slice_get, refl, ap, sym, ◌∙◌, arith, append_assoc, append-nil}
 use Rattle.std.specs.List.{flat_map}
 use Rattle.std.proofs.lemmas.Grind.{flat_map-append}
 use Rattle.std.proofs.lemmas.List.Elements.{filter-append}
@@ -9,6 +9,7 @@ use Rattle.cdr_shelf.specs.Files.{SealedFile, in_stream}
 use Rattle.file_writer.specs.Files.{files_below, stream_files}
 use Rattle.file_writer.specs.Streams.{Settings}
 use Rattle.gw_base.specs.declared.item.Item.{Item}
+use Rattle.cgf_top.specs.FeedReport.{lines_size}
 use Rattle.replay_world.specs.Report.{digits, file_line}
 use Rattle.cgf_top.proofs.PlaceLemmas.{none_at, rest_at}
 
@@ -75,6 +76,24 @@ pub lines_printed : (s at : ℕ) (files : List SealedFile) (before all : List �
     → before ++ lines_in s (drop at files) ≡ all → before ≡ all
 lines_printed s at files before all none whole =
     sym (append-nil before) ∙ ap (λ (fs : List SealedFile). before ++ lines_in s fs) (sym (none_at files at none)) ∙ whole
+
+-- the octets of one more line were counted, and those of the lines behind it are left
+pub size_more : (size next at : ℕ) (files : List SealedFile) (f : SealedFile) → slice_get files at ≡ Some f
+    → min (size + lines_size (drop at files)) (2 ^ 64 - 1) ≡ min (lines_size files) (2 ^ 64 - 1)
+    → next ≡ min (size + (2 * length f.octets + 26)) (2 ^ 64 - 1)
+    → min (next + lines_size (drop (at + 1) files)) (2 ^ 64 - 1) ≡ min (lines_size files) (2 ^ 64 - 1)
+size_more size next at files f found so_far more =
+    let left : lines_size (drop at files) ≡ 2 * length f.octets + 26 + lines_size (drop (at + 1) files) =
+    ap lines_size (rest_at files at f found) in
+    omega (arith, left, so_far, more)
+
+-- all were, where the sum isn't the greatest number
+pub size_counted : (size at : ℕ) (files : List SealedFile) → slice_get files at ≡ None
+    → min (size + lines_size (drop at files)) (2 ^ 64 - 1) ≡ min (lines_size files) (2 ^ 64 - 1)
+    → size < 2 ^ 63 → size ≡ lines_size files
+size_counted size at files none so_far small =
+    let left : lines_size (drop at files) ≡ 0 = ap lines_size (none_at files at none) in
+    omega (arith, left, so_far, small)
 
 -- the lines of one more stream
 pub stream_printed : (settings : Settings) (items : List Item) (s : ℕ) (files : List SealedFile) (start before now : List ℕ)

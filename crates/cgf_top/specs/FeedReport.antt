@@ -1,7 +1,8 @@
 -- What `feed` prints: the reply to each datagram, then what a replay reports of its first gateway, with the settings of
 -- the script: the CDR files of the records, and the gateway's counts.
-use Rattle.std.specs.Prelude.{ℕ, ◌+◌, nat_lt, Bool, false, if◌then◌else◌, List, [], ◌∷◌, ◌++◌, Option, Some, None, codes}
+use Rattle.std.specs.Prelude.{ℕ, ◌+◌, ◌*◌, length, nat_lt, Bool, false, if◌then◌else◌, List, [], ◌∷◌, ◌++◌, Option, Some, None, codes}
 use Rattle.hex.specs.Hex.{encode_upper}
+use Rattle.cdr_shelf.specs.Files.{SealedFile}
 use Rattle.gateway_book.specs.Answer.{Decided, Says, Silent}
 use Rattle.gateway_book.specs.Items.{items_of}
 use Rattle.gateway_book.specs.Value.{standing_for}
@@ -36,6 +37,11 @@ after_line s _ = s
 -- octets in hexadecimal, as a line
 abbrev pub octets_line : List ℕ → List ℕ
 octets_line octets = encode_upper octets ++ 10 ∷ []
+
+-- how many octets the lines of files have: `file 1 `, a name of 17, a space, two digits an octet and a line feed
+abbrev pub lines_size : List SealedFile → ℕ
+lines_size [] = 0
+lines_size (file ∷ files) = 2 * length file.octets + 26 + lines_size files
 
 -- the line of a datagram that isn't answered
 abbrev pub drop_line : Why → List ℕ

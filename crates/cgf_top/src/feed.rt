@@ -11,7 +11,7 @@ ghost use Rattle.cgf_top.specs.Steps.{IsFed, refusal_at, setup_seen, state_of};
 use crate::files::write_files;
 use crate::gateway::Gateway;
 use crate::input_kind::InputKind;
-use crate::printing::{print_counts, print_outcome, print_stream};
+use crate::printing::{make_room, print_counts, print_outcome, print_stream};
 use crate::report::{Refusal, Report};
 use gw_base::{Addr, Item, Moment, NoMemory};
 use replay_world::{Settings, record_count, rules_of};
@@ -178,6 +178,7 @@ fn print_files(
 {
     let shelf = write_files(alloc, settings, rules, &items)?;
     drop(items);
+    make_room(printed, &shelf)?;
     for stream in 0..STREAMS {
         print_stream(printed, &shelf, stream)?;
     }

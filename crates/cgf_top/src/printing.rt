@@ -1,9 +1,9 @@
 //! The lines that `feed` prints.
-ghost use Rattle.std.specs.Prelude.{◌≡◌, ◌+◌, ◌*◌, ◌++◌, ◌∷◌, [], OnOk, length};
+ghost use Rattle.std.specs.Prelude.{◌≡◌, ◌+◌, ◌-◌, ◌*◌, ◌^◌, ◌≤◌, ◌++◌, ◌∷◌, [], OnOk, length, min, vec_capacity};
 ghost use Rattle.std.specs.List.{flat_map};
 ghost use Rattle.cdr_shelf.specs.Files.{file_of, in_stream};
 ghost use Rattle.replay_world.specs.Report.{counts_text, digits, file_line, file_name};
-ghost use Rattle.cgf_top.specs.FeedReport.{octets_line};
+ghost use Rattle.cgf_top.specs.FeedReport.{lines_size, octets_line};
 ghost use Rattle.cgf_top.specs.Steps.{outcome_line};
 
 use cdr_shelf::{FileName, QuietShelf, Shelf};
@@ -53,6 +53,30 @@ fn spell_line(line: &mut [u8], octets: &[u8])
         line[2 * k + 1] = DIGITS[(octet & 0x0F) as usize];
     }
     line[2 * octets.len()] = b'\n';
+}
+
+/// Takes room for the lines of all files at once, so that what was printed isn't copied again and again.
+pub fn make_room(printed: &mut Vec<u8>, shelf: &QuietShelf) -> Result<(), NoMemory>
+    ensures same { printed.new.items ≡ printed.old.items }
+    ensures room { OnOk result (length printed.new.items
+        + lines_size (⟦<QuietShelf as Shelf>⟧.files shelf.now) ≤ vec_capacity printed.new) }
+{
+    let mut size: usize = 0;
+    let mut at = 0;
+    while let Some(file) = shelf.nth(at) {
+        size = size.saturating_add(line_size(file.1.len()));
+        at += 1;
+    }
+    printed.reserve(size)?;
+    Ok(())
+}
+
+/// How many octets the line of a file of so many has: its digits, and those of `file 1 `, of the name, of a space and
+/// of the line feed.
+fn line_size(octets: usize) -> usize
+    ensures { result ≡ min (2 * octets + 26) (2 ^ 64 - 1) }
+{
+    octets.saturating_mul(2).saturating_add(26)
 }
 
 /// Appends the lines of the sealed files of a stream, in the order in which they were sealed.

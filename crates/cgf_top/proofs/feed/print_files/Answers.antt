@@ -7,7 +7,7 @@ use Rattle.cgf_top.proofs.PrintLemmas.{stream_printed}
 use Rattle.cgf_top.proofs.feed.print_files.Goals as goal
 
 pub loop-stream-init : goal.loop-stream-init
-loop-stream-init c = sym (append-nil c.args.printed.now.items)
+loop-stream-init c = c.in_ok-make_room.ensures.same ∙ sym (append-nil c.args.printed.now.items)
 
 pub loop-stream-preserved : goal.loop-stream-preserved
 loop-stream-preserved c =
