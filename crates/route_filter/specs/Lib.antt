@@ -1,3 +1,4 @@
 -- What public clauses cite.
 pub mod Words
 pub mod Rules
+pub mod Starts
