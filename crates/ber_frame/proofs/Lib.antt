@@ -3,6 +3,7 @@ pub mod Values
 pub mod Walks
 pub mod Stops
 pub mod Fates
+pub mod Flats
 pub mod Identifiers
 pub mod Octets
 pub mod Checks

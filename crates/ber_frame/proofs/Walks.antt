@@ -27,7 +27,7 @@ fate_ends at window = record { steps = 1; comes = refl }
 
 -- ---- steps
 
-step_over : (at : ℕ) (window : List ℕ) (o : Opened) (outer : List Opened) → are_over o.endless window ≡ true → step_from (place at window (o ∷ outer)) (o ∷ outer) ≡ Ok (closed (place at window (o ∷ outer)) o outer)
+pub step_over : (at : ℕ) (window : List ℕ) (o : Opened) (outer : List Opened) → are_over o.endless window ≡ true → step_from (place at window (o ∷ outer)) (o ∷ outer) ≡ Ok (closed (place at window (o ∷ outer)) o outer)
 unfolding step_from
 step_over at window o outer over = rw over refl
 

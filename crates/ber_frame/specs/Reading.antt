@@ -1,6 +1,6 @@
 -- Reading identifier and length from left to right: what stands in front, and the octets after it.
 -- A step of proofs: of it public contracts see no more than the head that `checked` reads, and `whole_identifier`.
-use Rattle.std.specs.Prelude.{◌≡◌, ℕ, ◌+◌, ◌*◌, ◌-◌, ◌%◌, ◌^◌, Bool, true, false, List, [], ◌∷◌, length, take, drop, fold, min, Option, Some, None, Result, Ok, Err, nat_lt, ◌==◌, if◌then◌else◌}
+use Rattle.std.specs.Prelude.{◌≡◌, ℕ, zero, suc, ◌+◌, ◌*◌, ◌-◌, ◌%◌, ◌^◌, Bool, true, false, List, [], ◌∷◌, length, take, drop, fold, min, Option, Some, None, Result, Ok, Err, nat_lt, ◌==◌, if◌then◌else◌}
 use Rattle.gw_base.specs.declared.tag.Tag.{Tag}
 use Rattle.ber_frame.specs.declared.fault.BerKind.{BerKind}
 use Rattle.ber_frame.specs.declared.fault.BerKind.TheVariants.{Cut, Trailing, Indefinite, LengthTooBig, TagTooBig}
@@ -80,3 +80,41 @@ whole_tag count (Ok (tag, octet ∷ octets)) = Err (fault_at (count - length (oc
 
 abbrev pub whole_identifier : List ℕ → Result Tag BerFault
 whole_identifier octets = whole_tag (length octets) (identifier_at octets)
+
+-- the octets behind a value, where it is primitive and not cut
+abbrev pub behind_value : Result (Tag × Option ℕ × List ℕ) BerKind → Option (List ℕ)
+behind_value (Err kind) = None
+behind_value (Ok (tag, None, rest)) = None
+behind_value (Ok (tag, Some size, rest)) =
+    if tag.constructed then None else (if nat_lt (length rest) size then None else Some (drop size rest))
+
+-- the octets behind the first value
+unfoldable pub behind_primitive : List ℕ → Option (List ℕ)
+behind_primitive octets = behind_value (head_at octets)
+
+abbrev pub go_behind : (List ℕ → Bool) → Option (List ℕ) → Bool
+go_behind go None = false
+go_behind go (Some rest) = go rest
+
+abbrev pub from_here : (List ℕ → Bool) → List ℕ → Bool
+from_here go [] = true
+from_here go (octet ∷ octets) = go_behind go (behind_primitive (octet ∷ octets))
+
+-- whether octets are fewer primitive values than so many, one after the other
+unfoldable pub fewer_primitive : ℕ → List ℕ → Bool
+fewer_primitive zero octets = false
+fewer_primitive (suc count) octets = from_here (fewer_primitive count) octets
+
+-- whether octets are primitive values, one after the other
+unfoldable pub are_primitive : List ℕ → Bool
+are_primitive octets = fewer_primitive (suc (length octets)) octets
+
+-- the tag of a value that ends with the octets, where it is primitive or its inner values are
+abbrev pub flat_value : Result (Tag × Option ℕ × List ℕ) BerKind → Option Tag
+flat_value (Err kind) = None
+flat_value (Ok (tag, None, rest)) = None
+flat_value (Ok (tag, Some size, rest)) =
+    if size == length rest then (if tag.constructed then (if are_primitive rest then Some tag else None) else Some tag) else None
+
+unfoldable pub flat : List ℕ → Option Tag
+flat octets = flat_value (head_at octets)

@@ -1,10 +1,11 @@
-ghost use Rattle.std.specs.Prelude.{◌≡◌, ◌↔◌, Ok, Err, IfSome};
+ghost use Rattle.std.specs.Prelude.{◌≡◌, ◌↔◌, ◌<◌, Ok, Err, IfSome, length};
+ghost use Rattle.std.specs.Option.{option_map};
 ghost use Rattle.gw_base.specs.declared.tag.Tag.{Tag};
 ghost use Rattle.ber_frame.specs.declared.fault.BerFault.{BerFault};
 ghost use Rattle.ber_frame.specs.Head.{IsIdentifier};
 ghost use Rattle.ber_frame.specs.Value.{BerValue};
 ghost use Rattle.ber_frame.specs.Faults.{IdentifierRefused, BerFails};
-ghost use Rattle.ber_frame.specs.Reading.{whole_identifier};
+ghost use Rattle.ber_frame.specs.Reading.{behind_primitive, are_primitive, flat, whole_identifier};
 ghost use Rattle.ber_frame.specs.Checked.{checked};
 ghost use Rattle.ber_frame.specs.Walk.{Walks};
 
@@ -24,24 +25,61 @@ pub fn check(octets: &[u8]) -> Result<Tag, BerFault>
     walk_through(octets)
 }
 
-/// The tag of octets that are exactly one primitive value, where they are that.
-fn primitive(octets: &[u8]) -> Option<Tag>
-    ensures { IfSome result (λ tag. Walks octets.now (Ok tag)) }
+/// The octets behind the first value, where it is primitive.
+#[tactic(auto, unfolding(crate::specs::Reading::behind_primitive))]
+fn behind_primitive(octets: &[u8]) -> Option<&[u8]>
+    ensures value { option_map (λ rest. rest.now) result ≡ behind_primitive octets.now }
+    ensures shorter { IfSome result (λ rest. length rest.now < length octets.now) }
 {
     let Ok((tag, size, rest)) = head(octets) else {
         return None;
     };
-    if tag.constructed || size != Some(rest.len()) {
+    let size = size?;
+    if tag.constructed || rest.len() < size {
+        return None;
+    }
+    Some(rest.split_at(size).1)
+}
+
+/// Whether the octets are primitive values, one after the other.
+fn are_primitive(octets: &[u8]) -> bool
+    ensures { result ≡ are_primitive octets.now }
+{
+    let mut rest = octets;
+    while !rest.is_empty() {
+        let Some(behind) = behind_primitive(rest) else {
+            return false;
+        };
+        rest = behind;
+    }
+    true
+}
+
+/// The tag of octets that are exactly one value, which is primitive or has primitive inner values alone, where they are
+/// that.
+#[tactic(auto, unfolding(crate::specs::Reading::flat))]
+fn flat(octets: &[u8]) -> Option<Tag>
+    ensures { result ≡ flat octets.now }
+{
+    let Ok((tag, size, rest)) = head(octets) else {
+        return None;
+    };
+    let size = size?;
+    if size != rest.len() {
+        return None;
+    }
+    if tag.constructed && !are_primitive(rest) {
         return None;
     }
     Some(tag)
 }
 
-/// Enters the outer value, goes on until it is over, and looks whether octets follow. A primitive value takes no walk.
+/// Enters the outer value, goes on until it is over, and looks whether octets follow. A value in which none but primitive
+/// ones lie takes no walk, whose levels would all be made first.
 fn walk_through(octets: &[u8]) -> Result<Tag, BerFault>
     ensures { Walks octets.now result }
 {
-    if let Some(tag) = primitive(octets) {
+    if let Some(tag) = flat(octets) {
         return Ok(tag);
     }
     let mut walk = Walk::new(octets);
