@@ -158,7 +158,9 @@ pub(crate) fn items_from<A: Area>(
 {
     cursor.rewind(alloc, from);
     let skip = from - cursor.items;
-    let mut gathering = Gathering::new(alloc, skip, max as usize);
+    // Most entries make an item or more.
+    let left = trail.firm().saturating_sub(cursor.entry);
+    let mut gathering = Gathering::new(alloc, skip, max as usize, left as usize);
     gather(alloc, trail, cursor, &mut gathering)?;
     Ok(gathering.into_items())
 }

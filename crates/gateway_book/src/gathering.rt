@@ -34,15 +34,25 @@ impl Model for Gathering {
     ghost invariant = { λ g. All IsWritable g.items.items };
 }
 
+/// No items, and memory for so many, where there is that.
+fn room_for(alloc: Global, count: usize) -> Vec<Item>
+    ensures { result.items ≡ [] }
+{
+    match Vec::with_capacity(alloc, count) {
+        Ok(items) => items,
+        Err(_) => Vec::new(alloc),
+    }
+}
+
 impl Gathering {
-    /// No items yet.
-    pub(crate) fn new(alloc: Global, skip: u64, room: usize) -> Gathering
+    /// No items yet, of which so many are likely to come.
+    pub(crate) fn new(alloc: Global, skip: u64, room: usize, likely: usize) -> Gathering
         ensures { result ≡ record { skip = skip; room = room; items = [] } }
     {
         Gathering {
             skip,
             room,
-            items: Vec::new(alloc),
+            items: room_for(alloc, likely.min(room)),
             alloc,
         }
     }
